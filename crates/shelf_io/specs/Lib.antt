@@ -1,2 +1,5 @@
 pub mod Outside
 pub mod HeldTexts
+pub mod FailPlan
+pub mod SinkMemory
+pub mod ShelfMemory
