@@ -1,10 +1,7 @@
 -- Calls that fail on demand.
-use Rattle.std.specs.Prelude.{◌≡◌, ℕ, ◌+◌, ◌-◌, ◌^◌, List, min, Contains}
+use Rattle.std.specs.Prelude.{◌≡◌, ℕ, List, Contains}
+use Rattle.shelf_io.specs.Outside.{counted}
 use Rattle.shelf_io.specs.declared.memory.FailPlan.{FailPlan}
-
--- one more, up to the last u64
-abbrev pub counted : ℕ → ℕ
-counted n = min (n + 1) (2 ^ 64 - 1)
 
 -- whether the next call is one that was listed
 abbrev pub NextFails : FailPlan → Type 0

@@ -3,3 +3,4 @@ pub mod HeldTexts
 pub mod FailPlan
 pub mod SinkMemory
 pub mod ShelfMemory
+pub mod ShelfReal

@@ -78,7 +78,7 @@ impl SinkMemory {
 impl Sink for SinkMemory {
     ghost use Rattle.std.specs.Prelude.{Some};
     ghost use Rattle.shelf_io.specs.FailPlan.{NextFails, plan_after};
-    ghost use Rattle.shelf_io.specs.Outside.{Rose, Appends};
+    ghost use Rattle.shelf_io.specs.Outside.{Rose, Appends, counted};
     ghost use Rattle.shelf_io.specs.SinkMemory.{plan_of, step_of, room_left};
 
     ghost written = { λ s. Some s.bytes.items };
@@ -95,6 +95,8 @@ impl Sink for SinkMemory {
         ensures never_falls { ⟦<SinkMemory as Sink>⟧.faults self.old ≤ ⟦<SinkMemory as Sink>⟧.faults self.new }
 
         ensures refused { IsErr result ↔ (NextFails (plan_of self.old) ⊎ (room_left self.old ≡ 0)) }
+        ensures one_fault { OnErr result (⟦<SinkMemory as Sink>⟧.faults self.new ≡ counted (⟦<SinkMemory as Sink>⟧.faults self.old)) }
+        ensures no_fault { OnOk result (⟦<SinkMemory as Sink>⟧.faults self.new ≡ ⟦<SinkMemory as Sink>⟧.faults self.old) }
         ensures most { IfOk result (λ n. n ≡ min (min (length bytes.now) (step_of self.old)) (room_left self.old)) }
         ensures room { IfOk result (λ n. room_left self.old ≡ room_left self.new + n) }
         ensures kept_room { OnErr result (room_left self.new ≡ room_left self.old) }
@@ -154,7 +156,7 @@ impl Shelf for ShelfMemory {
     ghost use Rattle.std.specs.Prelude.{Some};
     ghost use Rattle.shelf_io.specs.FailPlan.{NextFails, plan_after};
     ghost use Rattle.shelf_io.specs.HeldTexts.{text_of, left_of, has_name};
-    ghost use Rattle.shelf_io.specs.Outside.{Rose, OpensText, Takes};
+    ghost use Rattle.shelf_io.specs.Outside.{Rose, OpensText, Takes, counted};
     ghost use Rattle.shelf_io.specs.ShelfMemory.{plan_of, step_of, held_by};
 
     ghost held = { λ s. Some (λ name. text_of s.texts.items name) };
@@ -175,6 +177,8 @@ impl Shelf for ShelfMemory {
         ensures never_falls { (n : List ℕ) → ⟦<ShelfMemory as Shelf>⟧.faults self.old n ≤ ⟦<ShelfMemory as Shelf>⟧.faults self.new n }
 
         ensures refused { IsErr result ↔ (NextFails (plan_of self.old) ⊎ (held_by self.old name.now ≡ None)) }
+        ensures one_fault { OnErr result ((n : List ℕ) → ⟦<ShelfMemory as Shelf>⟧.faults self.new n ≡ counted (⟦<ShelfMemory as Shelf>⟧.faults self.old n)) }
+        ensures no_fault { OnOk result ((n : List ℕ) → ⟦<ShelfMemory as Shelf>⟧.faults self.new n ≡ ⟦<ShelfMemory as Shelf>⟧.faults self.old n) }
         ensures step { step_of self.new ≡ step_of self.old }
         ensures plan { plan_of self.new ≡ plan_after (plan_of self.old) }
     {
@@ -203,6 +207,8 @@ impl Shelf for ShelfMemory {
         ensures never_falls { (n : List ℕ) → ⟦<ShelfMemory as Shelf>⟧.faults self.old n ≤ ⟦<ShelfMemory as Shelf>⟧.faults self.new n }
 
         ensures refused { IsErr result ↔ NextFails (plan_of self.old) }
+        ensures one_fault { OnErr result ((n : List ℕ) → ⟦<ShelfMemory as Shelf>⟧.faults self.new n ≡ counted (⟦<ShelfMemory as Shelf>⟧.faults self.old n)) }
+        ensures no_fault { OnOk result ((n : List ℕ) → ⟦<ShelfMemory as Shelf>⟧.faults self.new n ≡ ⟦<ShelfMemory as Shelf>⟧.faults self.old n) }
         ensures most { IfOk result (λ n. (text : List ℕ) → ⟦<ShelfMemory as Shelf>⟧.left self.old ≡ Some text → n ≡ min (min (length text) (length buf.old)) (step_of self.old)) }
         ensures step { step_of self.new ≡ step_of self.old }
         ensures plan { plan_of self.new ≡ plan_after (plan_of self.old) }
