@@ -115,3 +115,19 @@ one_fits kind w n m within c =
     let mine = Level-from w m n c in
     let its = Level-from w (fit_of kind w n) n (fit_congruent kind w n) in
     same_in_range kind w m (fit_of kind w n) within (fit_in_range kind w n) (Level-trans w m n _ mine (Level-sym w _ n its))
+
+Level-refl : (w : ℕ) (a : ℤ) → Level w a a
+Level-refl w a = record { left = 0; right = 0; same = refl }
+
+-- an integer in range stays
+pub fit_same : (kind : Kind) (w : ℕ) (n : ℤ) → InRange kind w n → fit_of kind w n ≡ n
+fit_same kind w n within = sym (one_fits kind w n n within (Congruent-from w n n (Level-refl w n)))
+
+-- the bits of the integer that bits mean
+pub bits_back : (kind : Kind) (w bits : ℕ) → bits < 2 ^ w → bits_of w (integer kind w bits) ≡ bits
+bits_back kind w bits below =
+    let n = integer kind w bits in
+    let mine = bits_level w n in
+    let its = integer_level kind w bits below in
+    let same = same_in_range Unsigned w (pos (bits_of w n)) (pos bits) (integer_in_range Unsigned w (bits_of w n) (bits_below w n)) (integer_in_range Unsigned w bits below) (Level-trans w _ n _ mine its) in
+    cc

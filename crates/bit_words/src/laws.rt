@@ -3,7 +3,7 @@
 ghost use Rattle.std.specs.Prelude.{◌≡◌, ℕ, ℤ, Bool, List};
 ghost use Rattle.bit_words.specs.declared.value.Kind.{Kind};
 ghost use Rattle.bit_words.specs.declared.value.Value.{Value};
-ghost use Rattle.bit_words.specs.Values.{InRange, Congruent, integer_of, fit_of};
+ghost use Rattle.bit_words.specs.Values.{InRange, Congruent, integer_of, fit_of, bits_of};
 ghost use Rattle.bit_words.specs.Numbers.{IsNumber};
 
 /// For each kind and width an integer is fitted to the one integer in range that is congruent to it.
@@ -13,9 +13,15 @@ pub fn fits_to_one_congruent_in_range()
     ensures one { (kind : Kind) (width : ℕ) (n m : ℤ) → InRange kind width m → Congruent width m n → m ≡ fit_of kind width n }
 {}
 
-/// The integer of a value is in the range of its kind and width.
+/// Fitting changes no integer that is in range already.
+pub fn fitting_keeps_what_is_in_range()
+    ensures { (kind : Kind) (width : ℕ) (n : ℤ) → InRange kind width n → fit_of kind width n ≡ n }
+{}
+
+/// The integer of a value is in the range of its kind and width, and its bits are those of the value.
 pub fn values_are_in_range()
-    ensures { (value : Value) → InRange value.kind value.width (integer_of value) }
+    ensures in_range { (value : Value) → InRange value.kind value.width (integer_of value) }
+    ensures bits { (value : Value) → bits_of value.width (integer_of value) ≡ value.bits }
 {}
 
 /// A text is read as one number at most.

@@ -4,6 +4,7 @@ use crate::{
     Base, Boxed, Kind, List, Number, NumberFault, Value, digits_value, fit, fits, from_words,
     high_word, low_word, push_decimal, read_magnitude, read_number,
 };
+use std::test::Fail;
 
 #[test]
 fn values_have_decimal_texts(rt: HostRuntime) -> Result<(), Fail> {
