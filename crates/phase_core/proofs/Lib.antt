@@ -1,0 +1,6 @@
+pub mod Lists
+pub mod Totals
+pub mod Values
+pub mod Facts
+pub mod Keeps
+pub mod Runs
