@@ -13,6 +13,7 @@ use Rattle.phase_core.specs.Script.{owner, publications, published, values, IsSc
 use Rattle.phase_core.specs.Sound.{view, covers, width, weight, total, Live, Cover, Counts, DoneBound, WordsHold, shown, Sound}
 use Rattle.phase_core.specs.Steps.{left_part, right_part, after_pass, after_arrival, after_publication, both}
 use Rattle.phase_core.proofs.Facts.{Shaped, Facts, shape, sound}
+use Rattle.phase_core.proofs.Shapes.{own_part, owner_below}
 use Rattle.phase_core.proofs.Lists.{at_set, at_snoc, at_below, take_next, set_else}
 use Rattle.phase_core.proofs.Totals.{total-set, total-gone, total-snoc, total_some, total_one, total_two, total_missing, some_passed}
 use Rattle.phase_core.proofs.Values.{length-published, length-values, published-append, values-next}
@@ -167,7 +168,7 @@ module _ (s : Script) (is : IsScript s) where
       → get_elem? (publications s (v.passed / 2) v.low) v.done ≡ some p
       → Sound s K (set ws p.word p.value) (set vs id (Some (after_publication v)))
   publishes K ws vs id v p o at single here od next = let f = shape s _ _ _ o id v at in let c : ℕ = v.passed / 2 in let ps = publications s c v.low in
-      let owned = is.own c v.low v.done p next in let room = at_below ps v.done p next in
+      let owned = own_part s is c v.low v.done p next in let room = at_below ps v.done p next in
       moved K K ws (set ws p.word p.value) vs id v v.arrivals v.passed (v.done + 1) o at
       record {
         covers_some = f.covers_some;
@@ -199,7 +200,7 @@ module _ (s : Script) (is : IsScript s) where
       ∙ sym (get_or-set_other before p.word i p.value 0 other) ∙ ap (λ l. get_or l i 0) (sym more))))
       (λ j i u n e h a b. get_or-set_other ws p.word i p.value 0
       (λ same. let mine : owner s i ≡ v.low = ap (owner s) same ∙ owned.1 in
-      apart vs (owner s i) j id u v (o.cover.each (owner s i) (is.owners i h)) n e at (omega arith) (omega arith) a b))
+      apart vs (owner s i) j id u v (o.cover.each (owner s i) (owner_below s is i h)) n e at (omega arith) (omega arith) a b))
 
   -- Split
   pub splits : (K : ℕ) (ws : List ℕ) (vs : Views) (id : ℕ) (v : View) (at : ℕ) → Sound s K ws vs → Live vs id v → v.arrivals ≡ 0 → v.low < at → at < v.high
@@ -290,7 +291,7 @@ module _ (s : Script) (is : IsScript s) where
   -- Load: what a word shows in an even phase
   pub loads : (K : ℕ) (ws : List ℕ) (vs : Views) (id : ℕ) (v : View) (i : ℕ) → Sound s K ws vs → Live vs id v → v.arrivals ≡ v.passed → v.passed % 2 ≡ 0 → i < length s.first
       → get_or ws i 0 ≡ get_or (values s (v.passed / 2)) i 0
-  loads K ws vs id v i o here rest ev h = let w = owner s i in let c = covering vs w (o.cover.each w (is.owners i h)) in let u = c.1 in let f = shape s _ _ _ o c.0 u c.2 in
+  loads K ws vs id v i o here rest ev h = let w = owner s i in let c = covering vs w (o.cover.each w (owner_below s is i h)) in let u = c.1 in let f = shape s _ _ _ o c.0 u c.2 in
       let shows = o.words_hold.each c.0 i u c.2 h c.3 c.4 in
       let up = o.none_far_ahead id c.0 v u here c.2 in let down = o.none_far_ahead c.0 id u v c.2 here in
       dite (ℕ_discrete u.passed v.passed)

@@ -1,4 +1,5 @@
 pub mod Lists
+pub mod Shapes
 pub mod Totals
 pub mod Values
 pub mod Facts

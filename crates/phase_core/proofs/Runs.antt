@@ -15,6 +15,7 @@ use Rattle.phase_core.specs.Script.{publications, values, IsScript}
 use Rattle.phase_core.specs.Sound.{part_of, Live}
 use Rattle.phase_core.specs.Steps.{SoundState, live_view, may_split, may_stay, may_pass, may_arrive, may_load, may_publish, may_join, may_close, next_of, left_part, right_part, after_pass, after_arrival, after_publication, both, put, on_live, on_next, when, split_step, stepped, or_else, run, begun}
 use Rattle.phase_core.proofs.Keeps.{arrives, passes, publishes, splits, joins, counted_low, begins, loads}
+use Rattle.phase_core.proofs.Shapes.{own_part, owner_below}
 use Rattle.phase_core.proofs.Lists.{at_below, at_index, take_next, set-snoc}
 use Rattle.phase_core.proofs.Values.{length-values}
 
@@ -113,7 +114,7 @@ module _ (s : Script) (is : IsScript s) where
       (omega (arith, a, g), omega (arith, m, g, k, l))
 
   pub publication_room : (t : PhaseState) (v : View) (p : Publication) → SoundState s t → next_of s v ≡ Some p → p.word < length t.words
-  publication_room t v p o e = let own = is.own (v.passed / 2) v.low v.done p (next_at (part_of s v) v.done p e) in let z = o.words_hold.size in let w = own.0 in omega arith
+  publication_room t v p o e = let own = own_part s is (v.passed / 2) v.low v.done p (next_at (part_of s v) v.done p e) in let z = o.words_hold.size in let w = own.0 in omega arith
 
 pub begun_sound : (s : Script) → IsScript s → SoundState s (begun s)
 begun_sound s is = begins s is
@@ -133,7 +134,7 @@ split_done t j at v a b live fresh low high within pushed put_in =
     let is : b ≡ set t.views j (Some (left_part v at)) ++ Some (right_part v at) ∷ [] = put_in ∙ ap (λ l. set l j (Some (left_part v at))) pushed ∙ set-snoc t.views j (Some (left_part v at)) (Some (right_part v at)) within in
     let made : View → PhaseState = λ u. record t { views = set t.views j (Some (left_part u at)) ++ Some (right_part u at) ∷ [] } in
     subst (λ o. record t { views = b } ≡ or_else (on_live o (λ u. when (may_split u at) (made u))) t) live
-        (subst (λ c. record t { views = b } ≡ or_else (when c (made v)) t) (sym may) (ap (λ l. record t { views = l }) is))
+    (subst (λ c. record t { views = b } ≡ or_else (when c (made v)) t) (sym may) (ap (λ l. record t { views = l }) is))
 
 -- the laws
 pub loads_cycle : (s : Script) (t : PhaseState) (j c i : ℕ) (v : View) → IsScript s → SoundState s t → Live t.views j v → v.passed ≡ 2 * c → v.arrivals ≡ 2 * c → i < length t.words

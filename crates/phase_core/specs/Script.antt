@@ -36,12 +36,23 @@ values s (suc c) = published_all (round_of s c) (values s c)
 abbrev pub OwnedBy : Script → ℕ → List Publication → Type 0
 OwnedBy s w ps = (k : ℕ) (p : Publication) → get_elem? ps k ≡ some p → (p.word < length s.first) × (owner s p.word ≡ w)
 
+-- the parts of a round are of words of their workers
+abbrev pub OwnRound : Script → List (List Publication) → Type 0
+OwnRound s r = (w : ℕ) → OwnedBy s w (slice_index_or r w [])
+
+-- each cycle has a part for each worker
+abbrev pub OwnRounds : Script → Type 0
+OwnRounds s = (c : ℕ) → c < length s.rounds → (length (round_of s c) ≡ s.workers) × OwnRound s (round_of s c)
+
+-- each owner is a worker
+abbrev pub HasOwners : Script → Type 0
+HasOwners s = (i : ℕ) → i < length s.owners → owner s i < s.workers
+
 -- the shape of a script
 pub record IsScript (s : Script) : Type 0 where
   pub workers : 1 ≤ s.workers
   pub fits : 2 * s.cycles * s.workers < 2 ^ 64
   pub owned : length s.owners ≡ length s.first
-  pub owners : (i : ℕ) → i < length s.first → owner s i < s.workers
+  pub owners : HasOwners s
   pub rounds : length s.rounds ≡ s.cycles
-  pub parts : (c : ℕ) → c < s.cycles → length (round_of s c) ≡ s.workers
-  pub own : (c w : ℕ) → OwnedBy s w (publications s c w)
+  pub own : OwnRounds s

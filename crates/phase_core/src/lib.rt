@@ -7,10 +7,12 @@
 
 mod laws;
 mod model;
+mod shape;
 mod steps;
 #[cfg(test)]
 mod tests;
 
 pub use laws::{ends_with_the_last, loads_the_cycle};
 pub use model::{PhaseState, Publication, Script, Step, View};
+pub use shape::is_script;
 pub use steps::{apply, begin, run_steps};

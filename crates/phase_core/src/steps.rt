@@ -89,8 +89,7 @@ fn allows_pass(script: &Script, state: &PhaseState, held: View) -> bool
     ensures { result ≡ may_pass script.now state.now held }
 {
     let phases = held.passed as u128 + 1;
-    held.arrivals as u128 == phases
-        && script.workers as u128 * phases <= state.barrier as u128
+    held.arrivals as u128 == phases && script.workers as u128 * phases <= state.barrier as u128
 }
 
 fn allows_arrive(script: &Script, held: View) -> bool
@@ -122,7 +121,9 @@ fn split(state: &mut PhaseState, index: u32, at: u32) -> Result<bool, AllocError
         done: 0,
     };
     state.views.push(Some(rest))?;
-    state.views.set(index as usize, Some(View { high: at, ..held }));
+    state
+        .views
+        .set(index as usize, Some(View { high: at, ..held }));
     Ok(true)
 }
 
@@ -134,8 +135,7 @@ fn stay(script: &Script, state: &PhaseState, index: u32) -> bool
         return false;
     };
     let phases = held.passed as u128 + 1;
-    held.arrivals as u128 == phases
-        && (state.barrier as u128) < script.workers as u128 * phases
+    held.arrivals as u128 == phases && (state.barrier as u128) < script.workers as u128 * phases
 }
 
 fn pass(script: &Script, state: &mut PhaseState, index: u32) -> bool
@@ -185,9 +185,7 @@ fn load(state: &PhaseState, index: u32, word: u32) -> bool
     let Some(held) = live(state, index) else {
         return false;
     };
-    held.arrivals == held.passed
-        && held.passed % 2 == 0
-        && (word as usize) < state.words.len()
+    held.arrivals == held.passed && held.passed % 2 == 0 && (word as usize) < state.words.len()
 }
 
 fn publish(script: &Script, state: &mut PhaseState, index: u32) -> bool
