@@ -56,3 +56,7 @@ pub record IsScript (s : Script) : Type 0 where
   pub owners : HasOwners s
   pub rounds : length s.rounds ≡ s.cycles
   pub own : OwnRounds s
+
+-- a worker publishes less than 2 ^ 64 times in a cycle, as is so of every list in memory
+abbrev pub IsCounted : Script → Type 0
+IsCounted s = (c w : ℕ) → length (publications s c w) < 2 ^ 64
