@@ -87,9 +87,7 @@ impl<T: Drop> List<T> {
         self.items.push(item)?;
         Ok(())
     }
-}
 
-impl<T: Drop> List<T> {
     /// Puts an item in the place of another, from 0.
     pub fn set(&mut self, at: usize, item: T)
         requires { at < length self.old }
