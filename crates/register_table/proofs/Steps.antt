@@ -88,7 +88,7 @@ may_arrive_is s v one rest before all = dite (ℕ_discrete (v.passed % 2) 0)
 pub arrives_is : ArrivesAsArrive
 arrives_is s t id v a one rest before all =
     let k = counted_low s a.script (a.rule.barrier + 1) a.rule.data_words (set (map view_of t.views) id (Some (after_arrival v)))
-        (arrives s a.script a.rule.barrier a.rule.data_words (map view_of t.views) id v a.rule.sound (live s t id v a) one rest before all) in
+    (arrives s a.script a.rule.barrier a.rule.data_words (map view_of t.views) id v a.rule.sound (live s t id v a) one rest before all) in
     let fits = a.script.fits in
     let sum : (a.rule.barrier + 1) % 18446744073709551616 ≡ a.rule.barrier + 1 = omega (arith, k, fits) in
     ap (λ u. stepped s u (Arrive id)) (seen s t id v a)

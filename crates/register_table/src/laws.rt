@@ -15,5 +15,4 @@ pub fn calls_are_steps()
     ensures publishes { PublishesAsPublish }
     ensures unites { UnitesAsJoin }
     ensures finishes { FinishesAsClose }
-{
-}
+{}
