@@ -3,6 +3,10 @@
 
 pub mod boxed;
 pub mod list;
+pub mod number;
+pub mod value;
 
 pub use boxed::Boxed;
 pub use list::List;
+pub use number::Number;
+pub use value::Kind;

@@ -1,10 +1,10 @@
 -- The primitive operations: their names, and how many operands and parameters they take.
 use Rattle.std.specs.Prelude.{ℕ, List, codes}
-use Rattle.prim_ops.specs.declared.operation.Prim.{Prim}
-use Rattle.prim_ops.specs.declared.operation.Prim.TheVariants.{Add, Sub, Mul, Div, Rem, Lt, Leq, Gt, Geq, Eq, Neq, Pad, AsUInt, AsSInt, Shl, Shr, Dshl, Dshr, Cvt, Neg, Not, And, Or, Xor, Andr, Orr, Xorr, Cat, Bits, Head, Tail}
+use Rattle.prim_ops.specs.declared.operation.PrimOp.{PrimOp}
+use Rattle.prim_ops.specs.declared.operation.PrimOp.TheVariants.{Add, Sub, Mul, Div, Rem, Lt, Leq, Gt, Geq, Eq, Neq, Pad, AsUInt, AsSInt, Shl, Shr, Dshl, Dshr, Cvt, Neg, Not, And, Or, Xor, Andr, Orr, Xorr, Cat, Bits, Head, Tail}
 
 -- the name, as bytes
-abbrev pub name_of : Prim → List ℕ
+abbrev pub name_of : PrimOp → List ℕ
 name_of Add = codes "add"
 name_of Sub = codes "sub"
 name_of Mul = codes "mul"
@@ -38,7 +38,7 @@ name_of Head = codes "head"
 name_of Tail = codes "tail"
 
 -- the number of operands, and of parameters behind them
-abbrev pub arity_of : Prim → ℕ × ℕ
+abbrev pub arity_of : PrimOp → ℕ × ℕ
 arity_of Add = (2, 0)
 arity_of Sub = (2, 0)
 arity_of Mul = (2, 0)

@@ -4,4 +4,4 @@
 
 pub mod operation;
 
-pub use operation::{Prim, arity, named};
+pub use operation::{PrimOp as Prim, arity, named};

@@ -5,7 +5,7 @@ ghost use Rattle.prim_ops.specs.Operations.{arity_of, name_of};
 
 /// A primitive operation.
 #[derive(Clone, Copy, Debug, PartialEq, Eq)]
-pub enum Prim {
+pub enum PrimOp {
     /// The sum.
     Add,
     /// The difference.
@@ -70,119 +70,119 @@ pub enum Prim {
     Tail,
 }
 
-impl Prim {
+impl PrimOp {
     /// The operation's name as a circuit writes it.
     pub fn name(self) -> &'static str
         ensures { result.now ≡ name_of self }
     {
         match self {
-            Prim::Add => "add",
-            Prim::Sub => "sub",
-            Prim::Mul => "mul",
-            Prim::Div => "div",
-            Prim::Rem => "rem",
-            Prim::Lt => "lt",
-            Prim::Leq => "leq",
-            Prim::Gt => "gt",
-            Prim::Geq => "geq",
-            Prim::Eq => "eq",
-            Prim::Neq => "neq",
-            Prim::Pad => "pad",
-            Prim::AsUInt => "asUInt",
-            Prim::AsSInt => "asSInt",
-            Prim::Shl => "shl",
-            Prim::Shr => "shr",
-            Prim::Dshl => "dshl",
-            Prim::Dshr => "dshr",
-            Prim::Cvt => "cvt",
-            Prim::Neg => "neg",
-            Prim::Not => "not",
-            Prim::And => "and",
-            Prim::Or => "or",
-            Prim::Xor => "xor",
-            Prim::Andr => "andr",
-            Prim::Orr => "orr",
-            Prim::Xorr => "xorr",
-            Prim::Cat => "cat",
-            Prim::Bits => "bits",
-            Prim::Head => "head",
-            Prim::Tail => "tail",
+            PrimOp::Add => "add",
+            PrimOp::Sub => "sub",
+            PrimOp::Mul => "mul",
+            PrimOp::Div => "div",
+            PrimOp::Rem => "rem",
+            PrimOp::Lt => "lt",
+            PrimOp::Leq => "leq",
+            PrimOp::Gt => "gt",
+            PrimOp::Geq => "geq",
+            PrimOp::Eq => "eq",
+            PrimOp::Neq => "neq",
+            PrimOp::Pad => "pad",
+            PrimOp::AsUInt => "asUInt",
+            PrimOp::AsSInt => "asSInt",
+            PrimOp::Shl => "shl",
+            PrimOp::Shr => "shr",
+            PrimOp::Dshl => "dshl",
+            PrimOp::Dshr => "dshr",
+            PrimOp::Cvt => "cvt",
+            PrimOp::Neg => "neg",
+            PrimOp::Not => "not",
+            PrimOp::And => "and",
+            PrimOp::Or => "or",
+            PrimOp::Xor => "xor",
+            PrimOp::Andr => "andr",
+            PrimOp::Orr => "orr",
+            PrimOp::Xorr => "xorr",
+            PrimOp::Cat => "cat",
+            PrimOp::Bits => "bits",
+            PrimOp::Head => "head",
+            PrimOp::Tail => "tail",
         }
     }
 }
 
 /// How many operands an operation takes, and how many parameters (numbers) behind them.
-pub fn arity(prim: Prim) -> (u32, u32)
+pub fn arity(prim: PrimOp) -> (u32, u32)
     ensures { result ≡ arity_of prim }
 {
     match prim {
-        Prim::Add
-        | Prim::Sub
-        | Prim::Mul
-        | Prim::Div
-        | Prim::Rem
-        | Prim::Lt
-        | Prim::Leq
-        | Prim::Gt
-        | Prim::Geq
-        | Prim::Eq
-        | Prim::Neq
-        | Prim::Dshl
-        | Prim::Dshr
-        | Prim::And
-        | Prim::Or
-        | Prim::Xor
-        | Prim::Cat => (2, 0),
-        Prim::Pad | Prim::Shl | Prim::Shr | Prim::Head | Prim::Tail => (1, 1),
-        Prim::Bits => (1, 2),
-        Prim::AsUInt
-        | Prim::AsSInt
-        | Prim::Cvt
-        | Prim::Neg
-        | Prim::Not
-        | Prim::Andr
-        | Prim::Orr
-        | Prim::Xorr => (1, 0),
+        PrimOp::Add
+        | PrimOp::Sub
+        | PrimOp::Mul
+        | PrimOp::Div
+        | PrimOp::Rem
+        | PrimOp::Lt
+        | PrimOp::Leq
+        | PrimOp::Gt
+        | PrimOp::Geq
+        | PrimOp::Eq
+        | PrimOp::Neq
+        | PrimOp::Dshl
+        | PrimOp::Dshr
+        | PrimOp::And
+        | PrimOp::Or
+        | PrimOp::Xor
+        | PrimOp::Cat => (2, 0),
+        PrimOp::Pad | PrimOp::Shl | PrimOp::Shr | PrimOp::Head | PrimOp::Tail => (1, 1),
+        PrimOp::Bits => (1, 2),
+        PrimOp::AsUInt
+        | PrimOp::AsSInt
+        | PrimOp::Cvt
+        | PrimOp::Neg
+        | PrimOp::Not
+        | PrimOp::Andr
+        | PrimOp::Orr
+        | PrimOp::Xorr => (1, 0),
     }
 }
 
 /// The operation of this name, if there is one.
-pub fn named(text: &[u8]) -> Option<Prim>
+pub fn named(text: &[u8]) -> Option<PrimOp>
     ensures found { IfSome result (λ prim. text.now ≡ name_of prim) }
-    ensures only { (prim : Prim) → text.now ≡ name_of prim → result ≡ Some prim }
+    ensures only { (prim : PrimOp) → text.now ≡ name_of prim → result ≡ Some prim }
 {
     match text {
-        b"add" => Some(Prim::Add),
-        b"sub" => Some(Prim::Sub),
-        b"mul" => Some(Prim::Mul),
-        b"div" => Some(Prim::Div),
-        b"rem" => Some(Prim::Rem),
-        b"lt" => Some(Prim::Lt),
-        b"leq" => Some(Prim::Leq),
-        b"gt" => Some(Prim::Gt),
-        b"geq" => Some(Prim::Geq),
-        b"eq" => Some(Prim::Eq),
-        b"neq" => Some(Prim::Neq),
-        b"pad" => Some(Prim::Pad),
-        b"asUInt" => Some(Prim::AsUInt),
-        b"asSInt" => Some(Prim::AsSInt),
-        b"shl" => Some(Prim::Shl),
-        b"shr" => Some(Prim::Shr),
-        b"dshl" => Some(Prim::Dshl),
-        b"dshr" => Some(Prim::Dshr),
-        b"cvt" => Some(Prim::Cvt),
-        b"neg" => Some(Prim::Neg),
-        b"not" => Some(Prim::Not),
-        b"and" => Some(Prim::And),
-        b"or" => Some(Prim::Or),
-        b"xor" => Some(Prim::Xor),
-        b"andr" => Some(Prim::Andr),
-        b"orr" => Some(Prim::Orr),
-        b"xorr" => Some(Prim::Xorr),
-        b"cat" => Some(Prim::Cat),
-        b"bits" => Some(Prim::Bits),
-        b"head" => Some(Prim::Head),
-        b"tail" => Some(Prim::Tail),
+        b"add" => Some(PrimOp::Add),
+        b"sub" => Some(PrimOp::Sub),
+        b"mul" => Some(PrimOp::Mul),
+        b"div" => Some(PrimOp::Div),
+        b"rem" => Some(PrimOp::Rem),
+        b"lt" => Some(PrimOp::Lt),
+        b"leq" => Some(PrimOp::Leq),
+        b"gt" => Some(PrimOp::Gt),
+        b"geq" => Some(PrimOp::Geq),
+        b"eq" => Some(PrimOp::Eq),
+        b"neq" => Some(PrimOp::Neq),
+        b"pad" => Some(PrimOp::Pad),
+        b"asUInt" => Some(PrimOp::AsUInt),
+        b"asSInt" => Some(PrimOp::AsSInt),
+        b"shl" => Some(PrimOp::Shl),
+        b"shr" => Some(PrimOp::Shr),
+        b"dshl" => Some(PrimOp::Dshl),
+        b"dshr" => Some(PrimOp::Dshr),
+        b"cvt" => Some(PrimOp::Cvt),
+        b"neg" => Some(PrimOp::Neg),
+        b"not" => Some(PrimOp::Not),
+        b"and" => Some(PrimOp::And),
+        b"or" => Some(PrimOp::Or),
+        b"xor" => Some(PrimOp::Xor),
+        b"andr" => Some(PrimOp::Andr),
+        b"orr" => Some(PrimOp::Orr),
+        b"xorr" => Some(PrimOp::Xorr),
+        b"cat" => Some(PrimOp::Cat),
+        b"bits" => Some(PrimOp::Bits),
+        b"head" => Some(PrimOp::Head),
+        b"tail" => Some(PrimOp::Tail),
         _ => None,
     }
 }
