@@ -1,8 +1,10 @@
-//! Values of a kind.
+//! Values of a kind and a width.
 
-/// Whether the bits of a value are read without or with a sign.
-#[derive(Clone, Copy, Debug, PartialEq, Eq)]
+/// How the bits of a value are read.
+#[derive(Clone, Copy, Debug, PartialEq, Eq, Drop)]
 pub enum Kind {
+    /// As a number from 0.
     Unsigned,
+    /// In two's complement.
     Signed,
 }
