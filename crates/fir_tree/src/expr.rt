@@ -33,8 +33,8 @@ pub enum Form {
 pub enum Suffix {
     /// `.f`
     Field(Name),
-    /// `[3]`: the element of this number, with the place of the `[`.
-    At(Place, u128),
+    /// `[3]`: the element of this number, with the place of the `[` and that of the number.
+    At(Place, Place, u128),
     /// `[e]`: the element that the expression gives, with the place of the `[`.
     Index(Place, Expr),
 }

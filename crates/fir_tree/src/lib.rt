@@ -5,6 +5,7 @@
 pub mod circuit;
 pub mod expr;
 pub mod fault;
+pub mod laws;
 pub mod names;
 pub mod stmt;
 

@@ -1,0 +1,19 @@
+//! Laws of the grammar.
+
+ghost use Rattle.std.specs.Prelude.{ℕ, List, [], ◌∷◌, take};
+ghost use Rattle.fir_layout.specs.declared.laid.Laid.{Laid as LaidPart};
+ghost use Rattle.fir_layout.specs.Pieces.{Piece, pieces_of};
+ghost use Rattle.fir_tree.specs.declared.circuit.Circuit.{Circuit as TheCircuit};
+ghost use Rattle.fir_tree.specs.Grammar.{Symbol, A, Text, Derives, Front, IsCircuit};
+
+/// Every prefix of a derived list is a front.
+pub fn prefixes_are_fronts()
+    ensures { (symbols : List Symbol) (pieces : List Piece) (k : ℕ) → Derives symbols pieces → Front symbols (take k pieces) }
+{
+}
+
+/// The laid list that spells a circuit is derived as a text.
+pub fn spelled_is_derived()
+    ensures { (text : List ℕ) (list : List LaidPart) (circuit : TheCircuit) → IsCircuit text list circuit → Derives (A Text ∷ []) (pieces_of text list) }
+{
+}
