@@ -5,6 +5,7 @@ ghost use Rattle.fir_layout.specs.declared.laid.Laid.{Laid as LaidPart};
 ghost use Rattle.fir_layout.specs.Pieces.{Piece, pieces_of};
 ghost use Rattle.fir_tree.specs.declared.circuit.Circuit.{Circuit as TheCircuit};
 ghost use Rattle.fir_tree.specs.Grammar.{Symbol, A, Text, Derives, Front, IsCircuit};
+ghost use Rattle.fir_tree.specs.Reading.{Stands, IsSettled};
 
 /// Every prefix of a derived list is a front.
 pub fn prefixes_are_fronts()
@@ -15,5 +16,12 @@ pub fn prefixes_are_fronts()
 /// The laid list that spells a circuit is derived as a text.
 pub fn spelled_is_derived()
     ensures { (text : List ℕ) (list : List LaidPart) (circuit : TheCircuit) → IsCircuit text list circuit → Derives (A Text ∷ []) (pieces_of text list) }
+{
+}
+
+/// What may stand behind a type, an expression or another rule begins with no piece that the rule could go on with: a type
+/// is followed by no `<` and no `[`, an expression by no `.`, `[` and `<`, a statement by no `else` and no block.
+pub fn wanted_is_settled()
+    ensures { (symbols : List Symbol) → Stands symbols → IsSettled symbols }
 {
 }
