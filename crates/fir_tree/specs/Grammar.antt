@@ -172,7 +172,7 @@ close_block = Is Nothing Closes
 -- The cases of the rules, in the order of the rules. A name is a word or a quoted name; EOL is the end of a line.
 pub data IsCase : Rule → List Symbol → Type 0 where
   -- text = "FIRRTL" "version" 3 "." num "." num EOL "circuit" name ":" EOL [Open {module} Close] End
-  text : IsCase Text (word "FIRRTL" ∷ word "version" ∷ Is Nothing Three ∷ mark 46 ∷ Is Nothing A_number ∷ mark 46 ∷ Is Nothing A_number ∷ line_end
+  a_text : IsCase Text (word "FIRRTL" ∷ word "version" ∷ Is Nothing Three ∷ mark 46 ∷ Is Nothing A_number ∷ mark 46 ∷ Is Nothing A_number ∷ line_end
       ∷ word "circuit" ∷ name ∷ colon ∷ line_end ∷ A Circuit_body ∷ Is Nothing Ends ∷ [])
   no_modules : IsCase Circuit_body []
   some_modules : IsCase Circuit_body (open_block ∷ A Modules ∷ [])
@@ -349,7 +349,7 @@ vectors typ (n ∷ ns) = vectors (record { place = typ.place; shape = shape.Vect
 
 -- The tree of each case, in the order of the cases. A type and an expression have the place of their first piece.
 abbrev pub tree : {r : Rule} {body : List Symbol} → IsCase r body → Values body → Tree r
-tree text (main, (modules, _)) = (main, modules)
+tree a_text (main, (modules, _)) = (main, modules)
 tree no_modules _ = []
 tree some_modules (modules, _) = modules
 tree last_module _ = []
