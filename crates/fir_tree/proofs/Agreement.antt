@@ -1,5 +1,5 @@
 -- Two readings of one piece agree: numbers, and the numbers of names.
-use Rattle.std.proofs.Common.{◌≡◌, ℕ, suc, ◌+◌, ◌-◌, ◌<◌, ◌≤◌, Bool, true, false, List, [], ◌∷◌, ◌++◌, length, take, get_or, slice_get, Some, None, Option, if◌then◌else◌, ◌==◌, eqb, nat_lt, ◌⊎◌, inl, inr, ⊎_elim, refl, sym, ap, ◌∙◌, subst, arith, Contains, bytes_eq, length-append}
+use Rattle.std.proofs.Common.{◌≡◌, ℕ, suc, ◌+◌, ◌-◌, ◌<◌, ◌≤◌, Bool, true, false, List, [], ◌∷◌, ◌++◌, length, take, get_or, slice_get, Some, None, Option, if◌then◌else◌, ◌==◌, eqb, nat_lt, ◌⊎◌, inl, inr, ⊎_elim, refl, sym, ap, ◌∙◌, subst, arith, Contains, bytes_eq, length-append, codes}
 use Rattle.std.proofs.lemmas.Grind.{common_steps}
 use Rattle.std.specs.Char.{digit_value}
 use Rattle.std.specs.Str.Parse.{AllDigits}
@@ -14,7 +14,7 @@ use Rattle.bit_words.specs.declared.number.Base.TheVariants.{Binary, Octal, Deci
 use Rattle.bit_words.specs.declared.number.Number.{Number}
 use Rattle.bit_words.specs.Numbers.{radix, letter, value_of_digits, WritesDigits, IsMagnitude, plain, prefixed}
 use Rattle.fir_tree.specs.Numbered.{AddsName}
-use Rattle.fir_tree.specs.Grammar.{IsQuotedNumber, quoted, quoted_minus}
+use Rattle.fir_tree.specs.Grammar.{IsQuotedNumber, quoted, quoted_minus, field_names}
 
 -- numbers
 
@@ -166,3 +166,33 @@ names_agree old m n t i j d a b = ⊎_elim known unknown (contains_or_not old t)
 
     unknown : ¬ (Contains old t) → NamesAgree m n i j
     unknown none = agree (old ++ t ∷ []) (distinct_push old t d none) (a.added none) (b.added none)
+
+-- a text that none of these is equal to
+abbrev is_fresh : List (List ℕ) → List ℕ → Bool
+is_fresh [] t = true
+is_fresh (x ∷ xs) t = if bytes_eq x t then false else is_fresh xs t
+
+fresh_at : (x t : List ℕ) (xs : List (List ℕ)) → ¬ (Contains xs t) → (b : Bool) → bytes_eq x t ≡ b → (if b then false else true) ≡ true → ¬ (Contains (x ∷ xs) t)
+fresh_at x t xs none true e h = cc
+fresh_at x t xs none false e h = λ c.
+    ⊎_elim (λ one. let same : bytes_eq x t ≡ true = (bytes_eq-Decides x t).1 (only_one x t one) in cc) (λ more. none more) (Contains-append_cases (x ∷ []) xs t c)
+
+split_fresh : (b c : Bool) → (if b then false else c) ≡ true → (b ≡ false) × (c ≡ true)
+split_fresh true c h = cc
+split_fresh false c h = (refl, h)
+
+fresh_none : (xs : List (List ℕ)) (t : List ℕ) → is_fresh xs t ≡ true → ¬ (Contains xs t)
+fresh_none [] t h = λ c. let within : c.0 < 0 = c.1 in omega arith
+fresh_none (x ∷ xs) t h = let s = split_fresh (bytes_eq x t) (is_fresh xs t) h in fresh_at x t xs (fresh_none xs t s.1) false s.0 refl
+
+no_names : IsDistinct []
+no_names = record { same = λ i j t a b. let within : i < 0 = slice_get_within [] i t a in omega arith }
+
+one_more_name : (xs : List (List ℕ)) (t : List ℕ) → IsDistinct xs → is_fresh xs t ≡ true → IsDistinct (xs ++ t ∷ [])
+one_more_name xs t d h = distinct_push xs t d (fresh_none xs t h)
+
+-- the fields of memory ports are nine different texts
+pub fields_distinct : IsDistinct field_names
+fields_distinct =
+    one_more_name _ (codes "wmask") (one_more_name _ (codes "wdata") (one_more_name _ (codes "wmode") (one_more_name _ (codes "rdata") (one_more_name _ (codes "mask")
+    (one_more_name _ (codes "data") (one_more_name _ (codes "clk") (one_more_name _ (codes "en") (one_more_name [] (codes "addr") no_names refl) refl) refl) refl) refl) refl) refl) refl) refl

@@ -8,11 +8,12 @@ use Rattle.fir_layout.specs.declared.laid.Laid.{Laid}
 use Rattle.fir_layout.specs.Pieces.{Piece, pieces_of, bytes_of}
 use Rattle.bit_words.specs.declared.number.Number.{Number}
 use Rattle.fir_types.specs.declared.name.Name.{Name}
-use Rattle.fir_tree.specs.Grammar.{Rule, Symbol, Is, A, IsCase, Tree, Values, tree, Derives, start_of, name_in, Spells, no_symbol, a_rule, a_piece, a_place, a_name, a_magnitude, a_placed_magnitude, a_quoted}
+use Rattle.fir_tree.specs.declared.circuit.Circuit.{Circuit}
+use Rattle.fir_tree.specs.Grammar.{Rule, Symbol, Is, A, IsCase, Tree, Values, tree, Derives, done, Text, IsCircuit, start_of, name_in, Spells, no_symbol, a_rule, a_piece, a_place, a_name, a_magnitude, a_placed_magnitude, a_quoted}
 use Rattle.fir_tree.specs.Reading.{IsSettled}
 use Rattle.fir_tree.proofs.Fronts.{spelled_derives}
 use Rattle.fir_tree.proofs.Follows.{settled_case}
-use Rattle.fir_tree.proofs.Agreement.{IsDistinct, magnitudes_agree, quoted_agree, names_agree}
+use Rattle.fir_tree.proofs.Agreement.{IsDistinct, fields_distinct, magnitudes_agree, quoted_agree, names_agree}
 use Rattle.fir_tree.proofs.Cases.{Chosen, same_case}
 
 pub record Agree (ss : List Symbol) (v w : Values ss) (rest rest' : List Laid) (after after' : List (List ℕ)) : Type 0 where
@@ -76,3 +77,11 @@ module _ (text : List ℕ) where
   one_spelling others settled distinct (a_quoted {ss} {token} {n} h is more) d (a_quoted {n = n'} h' is' more') e =
       let r = one_spelling others settled distinct more d more' e in
       record { values = ap₂ (λ (i : Number) (x : Values ss). (i, x)) (quoted_agree (bytes_of text token) n n' is is') r.values; rest_is = r.rest_is; names = r.names; distinct = r.distinct }
+
+abbrev circuit_from : List (List ℕ) → Values (A Text ∷ []) → Circuit
+circuit_from names v = record { names = names; main = v.0.0; modules = v.0.1 }
+
+pub one_circuit : (text : List ℕ) (list : List Laid) (a b : Circuit) → IsCircuit text list a → IsCircuit text list b → a ≡ b
+one_circuit text list a b x y =
+    let r = one_spelling text [] (tt, tt) fields_distinct x.spelled done y.spelled done in
+    ap₂ (λ (n : List (List ℕ)) (v : Values (A Text ∷ [])). circuit_from n v) r.names r.values

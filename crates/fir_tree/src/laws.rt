@@ -1,6 +1,6 @@
 //! Laws of the grammar.
 
-ghost use Rattle.std.specs.Prelude.{ℕ, List, [], ◌∷◌, take};
+ghost use Rattle.std.specs.Prelude.{◌≡◌, ℕ, List, [], ◌∷◌, take};
 ghost use Rattle.fir_layout.specs.declared.laid.Laid.{Laid as LaidPart};
 ghost use Rattle.fir_layout.specs.Pieces.{Piece, pieces_of};
 ghost use Rattle.fir_tree.specs.declared.circuit.Circuit.{Circuit as TheCircuit};
@@ -23,5 +23,11 @@ pub fn spelled_is_derived()
 /// is followed by no `<` and no `[`, an expression by no `.`, `[` and `<`, a statement by no `else` and no block.
 pub fn wanted_is_settled()
     ensures { (symbols : List Symbol) → Stands symbols → IsSettled symbols }
+{
+}
+
+/// A laid list spells at most one circuit.
+pub fn one_circuit()
+    ensures { (text : List ℕ) (list : List LaidPart) (first second : TheCircuit) → IsCircuit text list first → IsCircuit text list second → first ≡ second }
 {
 }
