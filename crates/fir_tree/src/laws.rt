@@ -5,7 +5,9 @@ ghost use Rattle.fir_layout.specs.declared.laid.Laid.{Laid as LaidPart};
 ghost use Rattle.fir_layout.specs.Pieces.{Piece, pieces_of};
 ghost use Rattle.fir_tree.specs.declared.circuit.Circuit.{Circuit as TheCircuit};
 ghost use Rattle.fir_tree.specs.Grammar.{Symbol, A, Text, Derives, Front, IsCircuit};
+ghost use Rattle.fir_tree.specs.Faults.{FaultOf, IsDeepAt};
 ghost use Rattle.fir_tree.specs.Reading.{Stands, IsSettled};
+ghost use Rattle.fir_tree.specs.declared.fault.ParseFault.{ParseFault as TheFault};
 
 /// Every prefix of a derived list is a front.
 pub fn prefixes_are_fronts()
@@ -29,5 +31,17 @@ pub fn wanted_is_settled()
 /// A laid list spells at most one circuit.
 pub fn one_circuit()
     ensures { (text : List ℕ) (list : List LaidPart) (first second : TheCircuit) → IsCircuit text list first → IsCircuit text list second → first ≡ second }
+{
+}
+
+/// A laid list has at most one fault.
+pub fn one_fault()
+    ensures { (text : List ℕ) (list : List LaidPart) (first second : TheFault) → FaultOf text list first → FaultOf text list second → first ≡ second }
+{
+}
+
+/// A laid list that spells a circuit, and goes nowhere too deep, has no fault.
+pub fn circuits_have_no_fault()
+    ensures { (text : List ℕ) (list : List LaidPart) (circuit : TheCircuit) (fault : TheFault) → IsCircuit text list circuit → ((k : ℕ) → ¬ (IsDeepAt (pieces_of text list) k)) → ¬ (FaultOf text list fault) }
 {
 }
