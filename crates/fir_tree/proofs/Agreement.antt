@@ -134,7 +134,7 @@ push_cases xs t s i h =
     let value : get_or (xs ++ t ∷ []) i s ≡ s = get_or_from_slice_get (xs ++ t ∷ []) i s s h in
     ⊎_elim (λ below. let here : get_or xs i s ≡ s = sym (get_or_append_left xs (t ∷ []) s i below) ∙ value in inl (slice_get-get_or xs i s below ∙ ap Some here))
     (λ past. let last : i ≡ length xs = omega arith in
-        inr (last, sym (get_or-append_seam xs t [] s) ∙ subst (λ (n : ℕ). get_or (xs ++ t ∷ []) n s ≡ s) last value))
+    inr (last, sym (get_or-append_seam xs t [] s) ∙ subst (λ (n : ℕ). get_or (xs ++ t ∷ []) n s ≡ s) last value))
     (cases_lt i (length xs))
 
 distinct_push : (xs : List (List ℕ)) (t : List ℕ) → IsDistinct xs → ¬ (Contains xs t) → IsDistinct (xs ++ t ∷ [])
@@ -168,7 +168,7 @@ names_agree old m n t i j d a b = ⊎_elim known unknown (contains_or_not old t)
     unknown none = agree (old ++ t ∷ []) (distinct_push old t d none) (a.added none) (b.added none)
 
 -- a text that none of these is equal to
-abbrev is_fresh : List (List ℕ) → List ℕ → Bool
+abbrev pub is_fresh : List (List ℕ) → List ℕ → Bool
 is_fresh [] t = true
 is_fresh (x ∷ xs) t = if bytes_eq x t then false else is_fresh xs t
 
@@ -181,7 +181,7 @@ split_fresh : (b c : Bool) → (if b then false else c) ≡ true → (b ≡ fals
 split_fresh true c h = cc
 split_fresh false c h = (refl, h)
 
-fresh_none : (xs : List (List ℕ)) (t : List ℕ) → is_fresh xs t ≡ true → ¬ (Contains xs t)
+pub fresh_none : (xs : List (List ℕ)) (t : List ℕ) → is_fresh xs t ≡ true → ¬ (Contains xs t)
 fresh_none [] t h = λ c. let within : c.0 < 0 = c.1 in omega arith
 fresh_none (x ∷ xs) t h = let s = split_fresh (bytes_eq x t) (is_fresh xs t) h in fresh_at x t xs (fresh_none xs t s.1) false s.0 refl
 
@@ -196,3 +196,10 @@ pub fields_distinct : IsDistinct field_names
 fields_distinct =
     one_more_name _ (codes "wmask") (one_more_name _ (codes "wdata") (one_more_name _ (codes "wmode") (one_more_name _ (codes "rdata") (one_more_name _ (codes "mask")
     (one_more_name _ (codes "data") (one_more_name _ (codes "clk") (one_more_name _ (codes "en") (one_more_name [] (codes "addr") no_names refl) refl) refl) refl) refl) refl) refl) refl) refl
+
+-- adding a text gives at most one more
+pub AddsName-length : (old new : List (List ℕ)) (t : List ℕ) (i : ℕ) → AddsName old new t i → length new ≤ length old + 1
+AddsName-length old new t i a =
+    ⊎_elim (λ known. let same : new ≡ old = a.known known in rw same (omega arith))
+    (λ none. let grown : new ≡ old ++ t ∷ [] = a.added none in let longer : length (old ++ t ∷ []) ≡ length old + 1 = length-append old (t ∷ []) in rw grown (omega arith))
+    (contains_or_not old t)

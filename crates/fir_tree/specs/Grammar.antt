@@ -43,13 +43,13 @@ use Rattle.fir_tree.specs.Numbered.{AddsName}
 -- what the grammar asks of one piece
 
 pub data Terminal : Type 0 where
-  The_word : List ℕ → Terminal      -- a word with this text: a quoted name never is one
-  The_call : List ℕ → Terminal      -- a word with this text and a `(` directly behind it
-  A_name : Terminal                 -- any word, or a name between backquotes
-  A_field : Terminal                -- a name, or digits
-  A_number : Terminal               -- digits that are a number
-  Three : Terminal                  -- digits that are the number 3, in any base
-  A_quoted_number : Terminal        -- a string of quoted number form
+  The_word : List ℕ → Terminal  -- a word with this text: a quoted name never is one
+  The_call : List ℕ → Terminal  -- a word with this text and a `(` directly behind it
+  A_name : Terminal  -- any word, or a name between backquotes
+  A_field : Terminal  -- a name, or digits
+  A_number : Terminal  -- digits that are a number
+  Three : Terminal  -- digits that are the number 3, in any base
+  A_quoted_number : Terminal  -- a string of quoted number form
   The_mark : ℕ → Terminal
   The_arrow : Terminal
   Line_ends : Terminal
@@ -178,23 +178,19 @@ pub data IsCase : Rule → List Symbol → Type 0 where
   some_modules : IsCase Circuit_body (open_block ∷ A Modules ∷ [])
   last_module : IsCase Modules (close_block ∷ [])
   next_module : IsCase Modules (A Module ∷ A Modules ∷ [])
-
   -- module = "module" name ":" EOL [Open {port EOL} {stmt} Close]
   a_module : IsCase Module (word "module" ∷ name ∷ colon ∷ line_end ∷ A Module_body ∷ [])
   no_module_body : IsCase Module_body []
   a_module_body : IsCase Module_body (open_block ∷ A Ports ∷ [])
   next_port : IsCase Ports (A Port ∷ line_end ∷ A Ports ∷ [])
   last_port : IsCase Ports (A Statements ∷ [])
-
   -- port = ("input" or "output") name ":" type
   an_input : IsCase Port (word "input" ∷ name ∷ colon ∷ A Type_of ∷ [])
   an_output : IsCase Port (word "output" ∷ name ∷ colon ∷ A Type_of ∷ [])
-
   -- type = base {"[" num "]"}
   a_type : IsCase Type_of (A Base_type ∷ A Lengths ∷ [])
   last_length : IsCase Lengths []
   next_length : IsCase Lengths (mark 91 ∷ number ∷ mark 93 ∷ A Lengths ∷ [])
-
   -- base = ("UInt" or "SInt") ["<" num ">"] | "Clock" | "Reset" | "{" {["flip"] field ":" type} "}"
   an_unsigned : IsCase Base_type (word_at "UInt" ∷ A Width ∷ [])
   a_signed : IsCase Base_type (word_at "SInt" ∷ A Width ∷ [])
@@ -207,11 +203,9 @@ pub data IsCase : Rule → List Symbol → Type 0 where
   next_field : IsCase Fields (A Field ∷ A Fields ∷ [])
   plain_field : IsCase Field (field ∷ colon ∷ A Type_of ∷ [])
   flipped_field : IsCase Field (word "flip" ∷ field ∷ colon ∷ A Type_of ∷ [])
-
   -- {stmt} Close
   last_statement : IsCase Statements (close_block ∷ [])
   next_statement : IsCase Statements (A Statement ∷ A Statements ∷ [])
-
   -- stmt = "wire" name ":" type EOL
   a_wire : IsCase Statement (word "wire" ∷ name ∷ colon ∷ A Type_of ∷ line_end ∷ [])
   -- | "reg" name ":" type expr EOL
@@ -235,15 +229,12 @@ pub data IsCase : Rule → List Symbol → Type 0 where
   no_branch : IsCase Branches []
   else_when : IsCase Branches (word "else" ∷ word "when" ∷ A Expression ∷ colon ∷ line_end ∷ A Block ∷ A Branches ∷ [])
   else_ : IsCase Branches (word "else" ∷ colon ∷ line_end ∷ A Block ∷ [])
-
   -- block = Open {stmt} Close
   no_block : IsCase Block []
   a_block : IsCase Block (open_block ∷ A Statements ∷ [])
-
   -- {memline EOL} Close
   last_memory_line : IsCase Memory_lines (close_block ∷ [])
   next_memory_line : IsCase Memory_lines (A Memory_line ∷ line_end ∷ A Memory_lines ∷ [])
-
   -- memline = "data-type" Arrow type
   a_data_type : IsCase Memory_line (word_at "data-type" ∷ arrow ∷ A Type_of ∷ [])
   -- | ("depth" or "read-latency" or "write-latency") Arrow num
@@ -259,7 +250,6 @@ pub data IsCase : Rule → List Symbol → Type 0 where
   a_reader : IsCase Memory_line (word_at "reader" ∷ arrow ∷ name ∷ [])
   a_writer : IsCase Memory_line (word_at "writer" ∷ arrow ∷ name ∷ [])
   a_readwriter : IsCase Memory_line (word_at "readwriter" ∷ arrow ∷ name ∷ [])
-
   -- expr = ref | literal | mux( expr expr expr ")"
   a_reference : IsCase Expression (A Reference ∷ [])
   a_mux : IsCase Expression (call_at "mux" ∷ A (Expressions 3) ∷ close ∷ [])
@@ -270,20 +260,17 @@ pub data IsCase : Rule → List Symbol → Type 0 where
   one_more_expression : (n : ℕ) → IsCase (Expressions (suc n)) (A Expression ∷ A (Expressions n) ∷ [])
   no_more_numbers : IsCase (Numbers 0) []
   one_more_number : (n : ℕ) → IsCase (Numbers (suc n)) (number ∷ A (Numbers n) ∷ [])
-
   -- ref = name {"." field | "[" num "]" | "[" expr "]"}
   a_component : IsCase Reference (name ∷ A Suffixes ∷ [])
   no_suffix : IsCase Suffixes []
   a_field_suffix : IsCase Suffixes (mark 46 ∷ field ∷ A Suffixes ∷ [])
   an_element_suffix : IsCase Suffixes (mark_at 91 ∷ Is Its_place_and_magnitude A_number ∷ mark 93 ∷ A Suffixes ∷ [])
   an_index_suffix : IsCase Suffixes (mark_at 91 ∷ A Expression ∷ mark 93 ∷ A Suffixes ∷ [])
-
   -- literal = UInt( or SInt( int ")" | ("UInt" or "SInt") "<" num ">" "(" int ")"
   an_unsigned_literal : IsCase Expression (call_at "UInt" ∷ A Integer ∷ close ∷ [])
   a_signed_literal : IsCase Expression (call_at "SInt" ∷ A Integer ∷ close ∷ [])
   a_wide_unsigned_literal : IsCase Expression (word_at "UInt" ∷ mark 60 ∷ number ∷ mark 62 ∷ mark 40 ∷ A Integer ∷ close ∷ [])
   a_wide_signed_literal : IsCase Expression (word_at "SInt" ∷ mark 60 ∷ number ∷ mark 62 ∷ mark 40 ∷ A Integer ∷ close ∷ [])
-
   -- int = ["-"] num | a string of quoted number form
   a_plain_integer : IsCase Integer (number ∷ [])
   a_negative_integer : IsCase Integer (mark 45 ∷ number ∷ [])

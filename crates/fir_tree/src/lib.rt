@@ -14,3 +14,6 @@ pub use expr::{Expr, Form, Suffix};
 pub use fault::ParseFault;
 pub use names::Names;
 pub use stmt::{Arm, Stmt};
+
+#[cfg(test)]
+mod tests;

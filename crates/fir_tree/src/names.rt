@@ -1,6 +1,6 @@
 //! The texts of names.
 
-ghost use Rattle.std.specs.Prelude.{◌≡◌, ◌<◌, ◌^◌, ◌-◌, [], length, Some, slice_get, IfOk, OnErr};
+ghost use Rattle.std.specs.Prelude.{◌≡◌, ◌<◌, ◌≤◌, ◌^◌, ◌+◌, ◌-◌, [], length, Some, slice_get, IfOk, OnErr};
 ghost use Rattle.fir_tree.specs.Numbered.{AddsName};
 
 use indexmap::IndexSet;
@@ -41,6 +41,7 @@ impl Names {
         requires { length self.old < 2 ^ 32 - 1 }
         ensures added { IfOk result (λ id. AddsName self.old self.new text.now id) }
         ensures unchanged { OnErr result (self.new ≡ self.old) }
+        ensures grows { length self.new ≤ length self.old + 1 }
     {
         let owned = String::from_str(self.alloc, text)?;
         let (id, _) = self.texts.insert_full(owned)?;
