@@ -3,6 +3,7 @@ use bit_words::{Boxed, Kind, List, Number};
 use fir_types::{FirType, Name, Shape};
 use place_text::Place;
 use std::alloc::{AllocError, Global};
+use std::test::Fail;
 
 const PLACE: Place = Place { line: 1, column: 1 };
 
