@@ -1,5 +1,5 @@
 -- What is spelled is derived, and the prefixes of what is derived are fronts.
-use Rattle.std.proofs.Common.{◌≡◌, ℕ, zero, suc, ◌+◌, List, [], ◌∷◌, ◌++◌, take, refl}
+use Rattle.std.proofs.Common.{ℕ, zero, suc, List, ◌∷◌, ◌++◌, take}
 use Rattle.std.proofs.Math.Seq.{take-nil}
 use Rattle.fir_layout.specs.declared.laid.Laid.{Laid}
 use Rattle.fir_layout.specs.Pieces.{Piece, pieces_of}

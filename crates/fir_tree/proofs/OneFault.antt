@@ -1,17 +1,16 @@
 -- A laid list has at most one fault, and none where it spells a circuit and goes nowhere too deep.
-use Rattle.std.proofs.Common.{◌≡◌, ℕ, zero, suc, ◌+◌, ◌<◌, ◌≤◌, List, [], ◌∷◌, take, length, slice_get, Some, map, refl, sym, ap, ◌∙◌, subst, arith, add-one, ⊎_elim, ◌⊎◌, inl, inr, option_map}
+use Rattle.std.proofs.Common.{◌≡◌, ℕ, zero, suc, ◌+◌, ◌<◌, ◌≤◌, List, [], ◌∷◌, take, slice_get, Some, refl, sym, ap, subst, arith, ⊎_elim}
 use Rattle.std.proofs.lemmas.Bool.{cases_lt}
 use Rattle.std.proofs.Math.Seq.{take-nil}
 use Rattle.std.proofs.lemmas.Grind.{common_steps}
-use Rattle.std.proofs.lemmas.Option.{slice_get-map}
 use Rattle.place_text.specs.Places.{place}
 use Rattle.fir_layout.specs.declared.laid.Laid.{Laid}
 use Rattle.fir_layout.specs.Pieces.{Piece, piece_of, pieces_of}
 use Rattle.fir_tree.specs.declared.circuit.Circuit.{Circuit}
 use Rattle.fir_tree.specs.declared.fault.ParseFault.{ParseFault}
-use Rattle.fir_tree.specs.declared.fault.ParseFault.TheVariants.{BadSyntax, BadVersion, Unsupported, TooDeep}
-use Rattle.fir_tree.specs.Grammar.{Symbol, A, Text, Takes, A_number, Front, cut, takes_on, goes_into, Derives, done, IsCircuit, start_of}
-use Rattle.fir_tree.specs.Faults.{IsDeepAt, IsShallow, IsBad, IsTooDeep, IsListed, IsNamed, listed, unlisted, FaultOf, a_version, a_bad_piece, a_deep_piece}
+use Rattle.fir_tree.specs.declared.fault.ParseFault.TheVariants.{BadVersion, TooDeep}
+use Rattle.fir_tree.specs.Grammar.{Symbol, A, Text, Takes, A_number, Front, cut, takes_on, goes_into, done, IsCircuit, start_of}
+use Rattle.fir_tree.specs.Faults.{IsDeepAt, IsBad, IsTooDeep, IsNamed, listed, unlisted, FaultOf, a_version, a_bad_piece, a_deep_piece}
 use Rattle.fir_tree.proofs.Fronts.{Derives-front, spelled_derives}
 
 -- a prefix of a shorter prefix is one of the whole

@@ -1,15 +1,14 @@
 -- One laid list is the spelling of at most one circuit.
-use Rattle.std.proofs.Common.{◌≡◌, ℕ, List, [], ◌∷◌, ◌++◌, refl, sym, ap, ap₂, ◌∙◌, subst}
+use Rattle.std.proofs.Common.{◌≡◌, ℕ, List, [], ◌∷◌, ◌++◌, refl, sym, ap, ap₂, subst}
 use Rattle.std.proofs.Math.Path.{Path}
 use Rattle.place_text.specs.declared.place.Place.{Place}
 use Rattle.place_text.specs.Places.{place}
-use Rattle.fir_lexer.specs.declared.token.Token.{Token}
 use Rattle.fir_layout.specs.declared.laid.Laid.{Laid}
-use Rattle.fir_layout.specs.Pieces.{Piece, pieces_of, bytes_of}
+use Rattle.fir_layout.specs.Pieces.{pieces_of, bytes_of}
 use Rattle.bit_words.specs.declared.number.Number.{Number}
 use Rattle.fir_types.specs.declared.name.Name.{Name}
 use Rattle.fir_tree.specs.declared.circuit.Circuit.{Circuit}
-use Rattle.fir_tree.specs.Grammar.{Rule, Symbol, Is, A, IsCase, Tree, Values, tree, Derives, done, Text, IsCircuit, start_of, name_in, Spells, no_symbol, a_rule, a_piece, a_place, a_name, a_magnitude, a_placed_magnitude, a_quoted}
+use Rattle.fir_tree.specs.Grammar.{Rule, Symbol, A, Tree, Values, tree, Derives, done, Text, IsCircuit, start_of, name_in, Spells, no_symbol, a_rule, a_piece, a_place, a_name, a_magnitude, a_placed_magnitude, a_quoted}
 use Rattle.fir_tree.specs.Reading.{IsSettled}
 use Rattle.fir_tree.proofs.Fronts.{spelled_derives}
 use Rattle.fir_tree.proofs.Follows.{settled_case}

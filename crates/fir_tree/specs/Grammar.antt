@@ -20,7 +20,6 @@ use Rattle.fir_layout.specs.declared.laid.Laid.{Laid}
 use Rattle.fir_layout.specs.declared.laid.Laid.TheVariants as laid
 use Rattle.fir_types.specs.declared.name.Name.{Name}
 use Rattle.fir_types.specs.declared.fir_type.FirType.{FirType}
-use Rattle.fir_types.specs.declared.fir_type.Shape.{Shape}
 use Rattle.fir_types.specs.declared.fir_type.Shape.TheVariants as shape
 use Rattle.fir_types.specs.declared.fir_type.Field.{Field as BundleField}
 use Rattle.fir_types.specs.declared.port.Port.{Port as ModulePort}
