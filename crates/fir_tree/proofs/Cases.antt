@@ -14,35 +14,35 @@ use Rattle.fir_tree.specs.Reading.{CannotBegin, IsSettled}
 
 -- tests of the first piece
 
-abbrev starts_word : String → List Piece → Bool
+abbrev pub starts_word : String → List Piece → Bool
 starts_word text (A_token kind.Word bytes ∷ ps) = bytes_eq bytes (codes text)
 starts_word text _ = false
 
-abbrev starts_call : List ℕ → List Piece → Bool
+abbrev pub starts_call : List ℕ → List Piece → Bool
 starts_call text (A_token kind.Call bytes ∷ ps) = bytes_eq bytes (text ++ codes "(")
 starts_call text _ = false
 
-abbrev starts_mark : ℕ → List Piece → Bool
+abbrev pub starts_mark : ℕ → List Piece → Bool
 starts_mark m (A_token (kind.Mark n) bytes ∷ ps) = eqb n m
 starts_mark m _ = false
 
-abbrev starts_digits : List Piece → Bool
+abbrev pub starts_digits : List Piece → Bool
 starts_digits (A_token kind.Digits bytes ∷ ps) = true
 starts_digits _ = false
 
-abbrev starts_string : List Piece → Bool
+abbrev pub starts_string : List Piece → Bool
 starts_string (A_token kind.Text bytes ∷ ps) = true
 starts_string _ = false
 
-abbrev opens : List Piece → Bool
+abbrev pub opens : List Piece → Bool
 opens (A_block_opens ∷ ps) = true
 opens _ = false
 
-abbrev closes : List Piece → Bool
+abbrev pub closes : List Piece → Bool
 closes (A_block_closes ∷ ps) = true
 closes _ = false
 
-abbrev behind : List Piece → List Piece
+abbrev pub behind : List Piece → List Piece
 behind [] = []
 behind (p ∷ ps) = ps
 
@@ -50,14 +50,14 @@ behind (p ∷ ps) = ps
 abbrev pub Chosen : Rule → Type 0
 Chosen r = (body : List Symbol) × IsCase r body
 
-abbrev operation_in : List PrimOp → List Piece → Option (Chosen Expression) → Option (Chosen Expression)
+abbrev pub operation_in : List PrimOp → List Piece → Option (Chosen Expression) → Option (Chosen Expression)
 operation_in [] ps other = other
 operation_in (prim ∷ prims) ps other = if starts_call (name_of prim) ps then Some (_, an_operation prim) else operation_in prims ps other
 
-abbrev operations : List PrimOp
+abbrev pub operations : List PrimOp
 operations = Add ∷ Sub ∷ Mul ∷ Div ∷ Rem ∷ Lt ∷ Leq ∷ Gt ∷ Geq ∷ Eq ∷ Neq ∷ Pad ∷ AsUInt ∷ AsSInt ∷ Shl ∷ Shr ∷ Dshl ∷ Dshr ∷ Cvt ∷ Neg ∷ Not ∷ And ∷ Or ∷ Xor ∷ Andr ∷ Orr ∷ Xorr ∷ Cat ∷ Bits ∷ Head ∷ Tail ∷ []
 
-abbrev choose : (r : Rule) → List Piece → Option (Chosen r)
+abbrev pub choose : (r : Rule) → List Piece → Option (Chosen r)
 choose Text ps = Some (_, a_text)
 choose Circuit_body ps = if opens ps then Some (_, some_modules) else Some (_, no_modules)
 choose Modules ps = if closes ps then Some (_, last_module) else Some (_, next_module)
@@ -486,7 +486,7 @@ chooses ss ps h a_plain_integer d = ap (choose Integer) (digits_first d).is
 chooses ss ps h a_negative_integer d = ap (choose Integer) (mark_first d).is
 chooses ss ps h a_quoted_integer d = ap (choose Integer) (string_first d).is
 
-some_injective : {X : Type 0} {x y : X} → Some x ≡ Some y → x ≡ y
+pub some_injective : {X : Type 0} {x y : X} → Some x ≡ Some y → x ≡ y
 some_injective {X} {x} {y} e = ap (λ (o : Option X). unwrap_or o x) e
 
 -- where two cases of a rule derive one list, they are one case

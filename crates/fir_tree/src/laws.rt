@@ -1,6 +1,6 @@
 //! Laws of the grammar.
 
-ghost use Rattle.std.specs.Prelude.{◌≡◌, ℕ, List, [], ◌∷◌, take};
+ghost use Rattle.std.specs.Prelude.{◌≡◌, ℕ, List, [], ◌∷◌, ◌++◌, take};
 ghost use Rattle.fir_layout.specs.declared.laid.Laid.{Laid as LaidPart};
 ghost use Rattle.fir_layout.specs.Pieces.{Piece, pieces_of};
 ghost use Rattle.fir_tree.specs.declared.circuit.Circuit.{Circuit as TheCircuit};
@@ -39,3 +39,9 @@ pub fn one_fault()
 pub fn circuits_have_no_fault()
     ensures { (text : List ℕ) (list : List LaidPart) (circuit : TheCircuit) (fault : TheFault) → IsCircuit text list circuit → ((k : ℕ) → ¬ (IsDeepAt (pieces_of text list) k)) → ¬ (FaultOf text list fault) }
 {}
+
+/// Every front goes on to a derived list, so the fronts are just the prefixes of what is derived.
+pub fn fronts_are_prefixes()
+    ensures { (symbols : List Symbol) (pieces : List Piece) → Front symbols pieces → (others : List Piece) × Derives symbols (pieces ++ others) }
+{
+}
