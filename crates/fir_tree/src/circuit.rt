@@ -1,0 +1,24 @@
+//! Circuits and modules (FIRRTL specification 3.0, "Circuits and Modules").
+
+use crate::{Names, Stmt};
+use bit_words::List;
+use fir_types::{Name, Port};
+
+/// A circuit as its text says it.
+#[derive(Drop)]
+pub struct Circuit {
+    /// The texts of all names. The fields of memory ports have the numbers 0 to 8: `addr`, `en`, `clk`, `data`,
+    /// `mask`, `rdata`, `wmode`, `wdata`, `wmask`.
+    pub names: Names,
+    /// The circuit's name, which is that of its main module.
+    pub main: Name,
+    pub modules: List<Module>,
+}
+
+/// A module.
+#[derive(Debug, Drop)]
+pub struct Module {
+    pub name: Name,
+    pub ports: List<Port>,
+    pub body: List<Stmt>,
+}

@@ -1,0 +1,41 @@
+//! Types (FIRRTL specification 3.0, "Types").
+
+use crate::Name;
+use bit_words::{Boxed, List};
+use place_text::Place;
+
+/// A type as a circuit writes it, with the place of its first token.
+#[cycle(fir_type)]
+#[derive(Debug, Drop)]
+pub struct FirType {
+    pub place: Place,
+    pub shape: Shape,
+}
+
+/// What a type is. A width is in bits, and None where the circuit leaves it to be inferred.
+#[cycle(fir_type)]
+#[derive(Debug, Drop)]
+pub enum Shape {
+    /// `UInt` or `UInt<w>`.
+    Unsigned(Option<u128>),
+    /// `SInt` or `SInt<w>`.
+    Signed(Option<u128>),
+    /// `Clock`.
+    Clock,
+    /// `Reset`, which is equivalent to `UInt<1>`.
+    Reset,
+    /// `{ field : type .. }`, the fields in text order.
+    Bundle(List<Field>),
+    /// `type[n]`: n elements of one type. The length may be 0.
+    Vector(Boxed<FirType>, u128),
+}
+
+/// A field of a bundle.
+#[cycle(fir_type)]
+#[derive(Debug, Drop)]
+pub struct Field {
+    /// Whether the field's direction is turned round.
+    pub flip: bool,
+    pub name: Name,
+    pub typ: FirType,
+}

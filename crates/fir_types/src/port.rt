@@ -1,0 +1,12 @@
+//! The ports of a module.
+
+use crate::{FirType, Name};
+
+/// A port of a module.
+#[derive(Debug, Drop)]
+pub struct Port {
+    /// An `output`; else an `input`.
+    pub output: bool,
+    pub name: Name,
+    pub typ: FirType,
+}
