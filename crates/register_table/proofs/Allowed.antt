@@ -11,7 +11,7 @@ use Rattle.phase_core.specs.declared.model.Script.{Script}
 use Rattle.phase_core.specs.declared.model.Publication.{Publication}
 use Rattle.phase_core.specs.declared.model.View.{View}
 use Rattle.phase_core.specs.Script.{publications, values, IsScript}
-use Rattle.phase_core.specs.Sound.{view, part_of, Live, Sound}
+use Rattle.phase_core.specs.Sound.{view, Live, Sound}
 use Rattle.phase_core.specs.Steps.{left_part, right_part, after_pass, after_arrival, after_publication, both}
 use Rattle.phase_core.proofs.Lists.{at_set, at_snoc, at_below, at_index, at-get_or}
 use Rattle.std.proofs.lemmas.List.{ext_get_or}

@@ -1,5 +1,5 @@
 -- The change that each call makes on the table is a step of the core.
-use Rattle.std.proofs.Common.{◌≡◌, ℕ, zero, suc, ◌+◌, ◌*◌, ◌/◌, ◌%◌, ◌^◌, ◌<◌, ◌≤◌, Bool, true, false, List, [], ◌∷◌, ◌++◌, map, length, drop, get_or, set, sym, refl, ap, ◌∙◌, subst, arith, Option, Some, None, add-one}
+use Rattle.std.proofs.Common.{◌≡◌, ℕ, zero, suc, ◌+◌, ◌*◌, ◌%◌, ◌<◌, ◌≤◌, Bool, true, false, List, [], ◌∷◌, ◌++◌, map, length, drop, get_or, set, sym, ap, ◌∙◌, arith, Option, Some, None, add-one}
 use Rattle.std.specs.Prelude.{slice_get}
 use mathlib.Core.Option.{none, some, some-ne-none}
 use mathlib.Core.List.{map-append}
@@ -13,17 +13,14 @@ use Rattle.phase_core.specs.declared.model.Script.{Script}
 use Rattle.phase_core.specs.declared.model.Publication.{Publication}
 use Rattle.phase_core.specs.declared.model.View.{View}
 use Rattle.phase_core.specs.declared.model.PhaseState.{PhaseState}
-use Rattle.phase_core.specs.declared.model.Step.{Step}
-use Rattle.phase_core.specs.declared.model.Step.TheVariants.{Split, Stay, Pass, Arrive, Load, Publish, Join, Close}
-use Rattle.phase_core.specs.Script.{publications, IsScript}
-use Rattle.phase_core.specs.Sound.{part_of, Live, Sound}
-use Rattle.phase_core.specs.Steps.{left_part, right_part, after_pass, after_arrival, after_publication, both, may_split, may_stay, may_pass, may_arrive, may_load, may_publish, may_join, may_close, next_of, live_view, put, on_live, on_next, when, stepped}
+use Rattle.phase_core.specs.declared.model.Step.TheVariants.{Split, Stay, Pass, Arrive, Load, Publish, Join}
+use Rattle.phase_core.specs.Sound.{part_of, Live}
+use Rattle.phase_core.specs.Steps.{left_part, right_part, after_pass, after_arrival, after_publication, may_split, may_stay, may_pass, may_arrive, may_load, may_publish, may_join, may_close, next_of, put, on_live, on_next, when, stepped}
 use Rattle.phase_core.proofs.Lists.{at_index, at-get_or}
 use Rattle.phase_core.proofs.Keeps.{arrives, counted_low}
 use Rattle.phase_core.proofs.Runs.{stored, joined}
-use Rattle.register_table.specs.declared.plays.Held.{Held}
 use Rattle.register_table.specs.Rule.{view_of, seated, left_of, right_of, both_of, spent_of}
-use Rattle.register_table.specs.Laws.{Table, core_state, changed, Seated, OpensAsBegin, SharesAsSplit, LooksAsStay, LooksAsPass, ArrivesAsArrive, ReadsAsLoad, PublishesAsPublish, UnitesAsJoin, FinishesAsClose}
+use Rattle.register_table.specs.Laws.{Table, core_state, changed, Seated, SharesAsSplit, LooksAsStay, LooksAsPass, ArrivesAsArrive, ReadsAsLoad, PublishesAsPublish, UnitesAsJoin, FinishesAsClose}
 
 abbrev Views : Type 0
 Views = List (Option View)

@@ -1,7 +1,6 @@
-use Rattle.std.proofs.Common.{◌≡◌, ◌<◌, ◌+◌, ◌*◌, ◌/◌, length, ap, sym, ◌∙◌, arith}
+use Rattle.std.proofs.Common.{◌≡◌, ◌+◌, ◌*◌, ◌/◌, ap, sym, ◌∙◌, arith}
 use lib.ListN.{get_elem?}
 use Rattle.phase_core.specs.declared.model.Script.{Script}
-use Rattle.phase_core.specs.declared.model.Publication.{Publication}
 use Rattle.phase_core.specs.declared.model.View.{View}
 use Rattle.phase_core.specs.Script.{publications}
 use Rattle.phase_core.specs.Sound.{part_of}
