@@ -1,6 +1,6 @@
 -- A text has at most one list of pieces, and it has none where it has a fault.
-use Rattle.std.proofs.Common.{◌≡◌, ◌≢◌, ℕ, zero, suc, ◌+◌, ◌-◌, ◌<◌, ◌≤◌, Bool, true, false, cond, List, [], ◌∷◌, ◌++◌, length, take, drop, get_or, refl, ap, sym, ◌∙◌, arith, ◌⊎◌, inl, inr, ⊎_elim, length-drop, append-nil, append_assoc, add-zero, zero-add, add_assoc}
-use Rattle.std.specs.Prelude.{◌==◌, ◌&&◌, Result, Ok, Err, IfOk, IfErr, MatchResult}
+use Rattle.std.proofs.Common.{◌≡◌, ℕ, zero, suc, ◌+◌, ◌<◌, ◌≤◌, true, false, cond, List, [], ◌∷◌, ◌++◌, length, take, drop, get_or, refl, ap, sym, ◌∙◌, arith, ◌⊎◌, inl, inr, ⊎_elim, length-drop, append-nil, append_assoc, add-zero, zero-add, add_assoc}
+use Rattle.std.specs.Prelude.{◌==◌, Result, Ok, Err, IfOk, IfErr, MatchResult}
 use Rattle.place_text.specs.declared.place.Place.{Place}
 use Rattle.fir_lexer.specs.declared.lexing.LexFault.{LexFault}
 use Rattle.fir_lexer.specs.declared.lexing.LexFault.TheVariants.{NoMemory}
@@ -14,9 +14,9 @@ use Rattle.fir_lexer.specs.declared.token.TokenKind.TheVariants.{Word, Call, Quo
 use Rattle.fir_lexer.specs.declared.pieces.PieceKind.{PieceKind}
 use Rattle.fir_lexer.specs.declared.pieces.PieceKind.TheVariants.{Blank, Return, LineFeed, Comment, Info, Annotation, TokenOf}
 use Rattle.fir_lexer.specs.Bytes.{one_of, begins_word, is_digit, in_word, is_mark}
-use Rattle.fir_lexer.specs.Pieces.{begins, GoesOn, IsOf, IsLongest, BeginsNone}
+use Rattle.fir_lexer.specs.Pieces.{begins, GoesOn, IsOf, IsLongest}
 use Rattle.fir_lexer.specs.Scan.{front_kind}
-use Rattle.fir_lexer.specs.Tokens.{IsPiece, Lexes, no_piece, then_piece, tokens_of, token_of, joined, AreTokens, IsPastRange, IsWrong, IsFault, FaultKind, Bad_byte, Bad_token, Number_range, fault_at}
+use Rattle.fir_lexer.specs.Tokens.{IsPiece, Lexes, no_piece, then_piece, tokens_of, token_of, joined, AreTokens, IsWrong, IsFault, FaultKind, Bad_byte, Bad_token, Number_range, fault_at}
 use Rattle.fir_lexer.proofs.Rests.{alike_cases}
 use Rattle.fir_lexer.proofs.Runs.{run_to_end}
 
