@@ -1,8 +1,7 @@
 -- Where strings and brackets close: what a byte does to what is open, and steps put together.
-use Rattle.std.proofs.Common.{◌≡◌, ◌≢◌, ℕ, zero, suc, ◌+◌, ◌-◌, ◌<◌, ◌≤◌, Bool, true, false, List, [], ◌∷◌, length, take, drop, get_or, refl, ap, sym, arith, one-add, add-one, add_assoc, zero-add, ◌⊎◌, inl, inr, ⊎_elim, length-drop, length-take}
+use Rattle.std.proofs.Common.{◌≡◌, ◌≢◌, ℕ, zero, suc, ◌+◌, ◌-◌, ◌<◌, ◌≤◌, Bool, true, false, List, [], ◌∷◌, length, take, drop, get_or, refl, arith, one-add, add-one, add_assoc, zero-add, ◌⊎◌, ⊎_elim, length-drop}
 use Rattle.std.proofs.lemmas.List.{drop-drop, get_or-take, length-take-le}
-use Rattle.std.proofs.lemmas.Bool.{cases_eq, cases_order, cases_lt}
-use Rattle.std.proofs.lemmas.Grind.{common_steps}
+use Rattle.std.proofs.lemmas.Bool.{cases_order, cases_lt}
 use Rattle.fir_lexer.specs.Bytes.{Closes, all_closed, bracket_opens, bracket_closes, string_begins, outside, string_ends, taken_along, inside, ClosesInfo, IsInfoRest}
 use Rattle.fir_lexer.specs.Scan.{Only, Never, Follows}
 

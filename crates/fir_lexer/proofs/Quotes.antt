@@ -1,8 +1,8 @@
 -- Numbers that strings quote, and numbers past the range.
-use Rattle.std.proofs.Common.{◌≡◌, ◌≢◌, ℕ, zero, suc, ◌+◌, ◌-◌, ◌<◌, ◌≤◌, ◌^◌, Bool, true, false, List, [], ◌∷◌, ◌++◌, length, take, drop, get_or, refl, ap, sym, ◌∙◌, arith, ◌⊎◌, inl, inr, ⊎_elim, append-nil}
-use Rattle.std.specs.Prelude.{Result, Ok, Err, IsTrue}
+use Rattle.std.proofs.Common.{◌≡◌, ◌≢◌, ℕ, ◌+◌, ◌-◌, ◌<◌, ◌≤◌, ◌^◌, Bool, List, [], ◌∷◌, ◌++◌, length, take, drop, get_or, refl, ap, sym, ◌∙◌, arith, ◌⊎◌, inl, inr, ⊎_elim}
+use Rattle.std.specs.Prelude.{Result, Err, IsTrue}
 use Rattle.std.proofs.lemmas.List.{append_cancel_right, take_more, take_all, take_rest}
-use Rattle.bit_words.specs.Numbers.{radix, letter, WritesDigits, AnswersMagnitude}
+use Rattle.bit_words.specs.Numbers.{letter, WritesDigits, AnswersMagnitude}
 use Rattle.bit_words.specs.declared.number.Base.{Base}
 use Rattle.bit_words.specs.declared.number.Base.TheVariants.{Binary, Octal, Decimal, Hexadecimal}
 use Rattle.bit_words.specs.declared.number.NumberFault.{NumberFault}

@@ -1,6 +1,6 @@
 -- A text has at most one list of pieces, and it has none where it has a fault.
-use Rattle.std.proofs.Common.{◌≡◌, ◌≢◌, ℕ, zero, suc, ◌+◌, ◌-◌, ◌<◌, ◌≤◌, Bool, true, false, cond, List, [], ◌∷◌, ◌++◌, length, take, drop, get_or, refl, ap, sym, ◌∙◌, arith, ◌⊎◌, inl, inr, ⊎_elim, length-drop, append-nil, append_assoc, add-zero, zero-add, add_assoc}
-use Rattle.std.specs.Prelude.{◌==◌, ◌&&◌, Result, Ok, Err, IfOk, IfErr, MatchResult}
+use Rattle.std.proofs.Common.{◌≡◌, ℕ, zero, suc, ◌+◌, ◌<◌, ◌≤◌, true, false, cond, List, [], ◌∷◌, ◌++◌, length, take, drop, get_or, refl, ap, sym, ◌∙◌, arith, ◌⊎◌, inl, inr, ⊎_elim, length-drop, append-nil, append_assoc, add-zero, zero-add, add_assoc}
+use Rattle.std.specs.Prelude.{◌==◌, Result, Ok, Err, IfOk, IfErr, MatchResult}
 use Rattle.place_text.specs.declared.place.Place.{Place}
 use Rattle.fir_lexer.specs.declared.lexing.LexFault.{LexFault}
 use Rattle.fir_lexer.specs.declared.lexing.LexFault.TheVariants.{NoMemory}
@@ -14,9 +14,9 @@ use Rattle.fir_lexer.specs.declared.token.TokenKind.TheVariants.{Word, Call, Quo
 use Rattle.fir_lexer.specs.declared.pieces.PieceKind.{PieceKind}
 use Rattle.fir_lexer.specs.declared.pieces.PieceKind.TheVariants.{Blank, Return, LineFeed, Comment, Info, Annotation, TokenOf}
 use Rattle.fir_lexer.specs.Bytes.{one_of, begins_word, is_digit, in_word, is_mark}
-use Rattle.fir_lexer.specs.Pieces.{begins, GoesOn, IsOf, IsLongest, BeginsNone}
+use Rattle.fir_lexer.specs.Pieces.{begins, GoesOn, IsOf, IsLongest}
 use Rattle.fir_lexer.specs.Scan.{front_kind}
-use Rattle.fir_lexer.specs.Tokens.{IsPiece, Lexes, no_piece, then_piece, tokens_of, token_of, joined, AreTokens, IsPastRange, IsWrong, IsFault, FaultKind, Bad_byte, Bad_token, Number_range, fault_at}
+use Rattle.fir_lexer.specs.Tokens.{IsPiece, Lexes, no_piece, then_piece, tokens_of, token_of, joined, AreTokens, IsWrong, IsFault, FaultKind, Bad_byte, Bad_token, Number_range, fault_at}
 use Rattle.fir_lexer.proofs.Rests.{alike_cases}
 use Rattle.fir_lexer.proofs.Runs.{run_to_end}
 
@@ -103,7 +103,7 @@ longest_unique bytes k j n m a b =
     let same : m ≡ n = omega arith in
     (same_kind k j (take n bytes) (drop n bytes) a.is (rw same at b.is), omega arith)
 
-no_longest_of_none : (k : PieceKind) (n : ℕ) → IsLongest [] k n → ⊥
+pub no_longest_of_none : (k : PieceKind) (n : ℕ) → IsLongest [] k n → ⊥
 no_longest_of_none k zero a = a.is
 no_longest_of_none k (suc n) a = a.is
 
@@ -129,7 +129,7 @@ compare (then_piece k n ps bytes mid one more) (then_piece j m qs _ rest two fur
     let step : GoOn mid ((j, m) ∷ ps) rest ((j, m) ∷ qs) = one_more j m (compare more' further) in
     rw (same.0, same.1) step
 
-nothing_from_none : {pieces : List (PieceKind × ℕ)} {bytes rest : List ℕ} → Lexes bytes pieces rest → bytes ≡ [] → (pieces ≡ []) × (rest ≡ [])
+pub nothing_from_none : {pieces : List (PieceKind × ℕ)} {bytes rest : List ℕ} → Lexes bytes pieces rest → bytes ≡ [] → (pieces ≡ []) × (rest ≡ [])
 nothing_from_none (no_piece rest) e = (refl, e)
 nothing_from_none (then_piece k n pieces bytes rest one more) e = absurd (no_longest_of_none k n (rw e at one.longest))
 

@@ -1,11 +1,10 @@
 -- The rest of a piece, kind by kind.
-use Rattle.std.proofs.Common.{◌≡◌, ◌≢◌, ℕ, zero, suc, ◌+◌, ◌-◌, ◌<◌, ◌≤◌, Bool, true, false, List, [], ◌∷◌, ◌++◌, length, take, drop, get_or, refl, ap, sym, arith, one-add, add-one, ◌⊎◌, inl, inr, ⊎_elim}
+use Rattle.std.proofs.Common.{◌≡◌, ◌≢◌, ℕ, zero, suc, ◌+◌, ◌-◌, ◌<◌, ◌≤◌, true, false, List, [], ◌∷◌, ◌++◌, length, take, drop, get_or, refl, sym, arith, add-one, ◌⊎◌, inl, inr, ⊎_elim}
 use Rattle.std.specs.List.{prefix_len, take_while, AllPass}
-use Rattle.std.proofs.lemmas.List.{get_or-take, length-take-le, take_rest}
+use Rattle.std.proofs.lemmas.List.{length-take-le, take_rest}
 use Rattle.std.proofs.lemmas.List.Sums.{prefix_len-le-length}
 use Rattle.std.specs.Prelude.{◌==◌}
 use Rattle.std.proofs.lemmas.Bool.{and_parts, or_left}
-use Rattle.fir_lexer.specs.declared.token.TokenKind.{TokenKind}
 use Rattle.fir_lexer.specs.declared.token.TokenKind.TheVariants.{Word, Call, Quoted, Digits, Text, Arrow, Mark}
 use Rattle.fir_lexer.specs.declared.pieces.PieceKind.{PieceKind}
 use Rattle.fir_lexer.specs.declared.pieces.PieceKind.TheVariants.{Blank, Return, LineFeed, Comment, Info, Annotation, TokenOf}

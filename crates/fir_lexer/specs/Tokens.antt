@@ -1,5 +1,5 @@
 -- A text as the list of its pieces, each the longest that begins where it stands; its tokens, and its first fault.
-use Rattle.std.specs.Prelude.{◌≡◌, ◌≢◌, ℕ, ◌+◌, ◌<◌, ◌≤◌, ◌^◌, ◌⊎◌, Bool, true, false, List, [], ◌∷◌, ◌++◌, take, drop, length, slice_index, codes}
+use Rattle.std.specs.Prelude.{◌≡◌, ℕ, ◌+◌, ◌<◌, ◌≤◌, ◌^◌, ◌⊎◌, true, false, List, [], ◌∷◌, ◌++◌, take, drop, length, slice_index, codes}
 use Rattle.place_text.specs.declared.place.Place.{Place}
 use Rattle.bit_words.specs.Numbers.{IsMagnitude, WritesDigits, letter}
 use Rattle.bit_words.specs.declared.number.Base.{Base}

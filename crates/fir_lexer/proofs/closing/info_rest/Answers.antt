@@ -1,4 +1,4 @@
-use Rattle.std.proofs.Common.{arith, ◌≡◌, ◌≢◌, get_or, inl, inr, ◌-◌}
+use Rattle.std.proofs.Common.{arith, inl, inr}
 use Rattle.fir_lexer.proofs.Ends.{info_only, info_never}
 use Rattle.fir_lexer.proofs.closing.info_rest.Goals as goal
 

@@ -1,4 +1,4 @@
-use Rattle.std.proofs.Common.{arith, rules}
+use Rattle.std.proofs.Common.{arith}
 use Rattle.fir_lexer.proofs.Ends.{end_follows, slash_follows, inside_follows}
 use Rattle.fir_lexer.proofs.closing.pass_in_string.Goals as goal
 

@@ -1,4 +1,4 @@
-use Rattle.std.proofs.Common.{arith, rules}
+use Rattle.std.proofs.Common.{arith}
 use Rattle.fir_lexer.proofs.Quotes.{quote_form, quotes_iff}
 use Rattle.fir_lexer.proofs.lexing.quoted_digits.Goals as goal
 

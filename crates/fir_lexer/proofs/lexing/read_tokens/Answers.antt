@@ -1,4 +1,4 @@
-use Rattle.std.proofs.Common.{arith, length-drop, length, drop, take, ◌-◌}
+use Rattle.std.proofs.Common.{arith, length-drop}
 use Rattle.fir_lexer.proofs.Readings.{none_lexed, piece_lexed}
 use Rattle.fir_lexer.proofs.lexing.read_tokens.Goals as goal
 

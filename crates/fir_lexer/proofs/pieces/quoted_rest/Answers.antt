@@ -1,4 +1,4 @@
-use Rattle.std.proofs.Common.{arith, rules, length, get_or, ◌≡◌, ◌<◌}
+use Rattle.std.proofs.Common.{arith, length, get_or, ◌≡◌, ◌<◌}
 use Rattle.std.proofs.lemmas.Grind.{common_steps}
 use Rattle.std.proofs.lemmas.Option.{gets}
 use Rattle.fir_lexer.proofs.Rests.{quoted_rest_is, quoted_rest_none}
