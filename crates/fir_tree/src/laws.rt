@@ -43,5 +43,4 @@ pub fn circuits_have_no_fault()
 /// Every front goes on to a derived list, so the fronts are just the prefixes of what is derived.
 pub fn fronts_are_prefixes()
     ensures { (symbols : List Symbol) (pieces : List Piece) → Front symbols pieces → (others : List Piece) × Derives symbols (pieces ++ others) }
-{
-}
+{}
