@@ -6,3 +6,6 @@ pub mod list;
 
 pub use boxed::Boxed;
 pub use list::List;
+
+/// The bytes of a text.
+pub type Text = List<u8>;

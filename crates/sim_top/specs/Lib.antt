@@ -1,0 +1,4 @@
+pub mod SmallCircuits
+pub mod SmallStimuli
+pub mod Cycles
+pub mod Pieces

@@ -1,0 +1,6 @@
+//! The top call.
+#![tactic(auto)]
+
+pub mod circuit;
+pub mod piece;
+pub mod stimulus;
