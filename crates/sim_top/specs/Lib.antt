@@ -1,3 +1,4 @@
+pub mod StimulusLine
 pub mod SmallCircuits
 pub mod SmallStimuli
 pub mod Cycles

@@ -3,4 +3,5 @@
 
 pub mod circuit;
 pub mod piece;
+pub mod split;
 pub mod stimulus;
