@@ -7,9 +7,9 @@ use Rattle.std.proofs.lemmas.Option.{slice_get_within}
 use Rattle.sim_top.specs.StimulusLine.{IsStimulusLine, BeginsLine, StandsAt, NoneBefore, HasNone, EndsFirst, IsSplit}
 
 slice_get-drop : (n : ℕ) (l : List ℕ) (k : ℕ) → slice_get (drop n l) k ≡ slice_get l (n + k)
-slice_get-drop zero l k = refl
+slice_get-drop zero l k = let e : k ≡ 0 + k = omega arith in ap (slice_get l) e
 slice_get-drop (suc n) [] k = refl
-slice_get-drop (suc n) (x ∷ l) k = slice_get-drop n l k
+slice_get-drop (suc n) (x ∷ l) k = let e : suc (n + k) ≡ suc n + k = omega arith in slice_get-drop n l k ∙ ap (slice_get (x ∷ l)) e
 
 -- Where the search stands: at the beginning of a line, with no line `%stimulus` before.
 pub record Searched (text : List ℕ) (start : ℕ) : Type 0 where
