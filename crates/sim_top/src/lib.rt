@@ -2,6 +2,8 @@
 #![tactic(auto)]
 
 pub mod circuit;
+pub mod command;
+pub mod fault;
 pub mod piece;
 pub mod split;
 pub mod stimulus;
