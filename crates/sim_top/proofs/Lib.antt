@@ -1,1 +1,3 @@
 pub mod StimulusLines
+pub mod Splitting
+pub mod Judging

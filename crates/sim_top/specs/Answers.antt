@@ -13,7 +13,7 @@ use Rattle.sim_top.specs.declared.fault.Fault.{Fault}
 use Rattle.sim_top.specs.declared.circuit.SmallCircuit.{SmallCircuit}
 use Rattle.sim_top.specs.declared.stimulus.SmallStimulus.{SmallStimulus}
 use Rattle.sim_top.specs.StimulusLine.{IsSplit, HasNone}
-use Rattle.sim_top.specs.CircuitText.{IsLaid, IsTextFault}
+use Rattle.sim_top.specs.CircuitText.{IsLaid, IsTextFault, IsFaultOnly}
 use Rattle.sim_top.specs.SmallCircuits.{IsSmallCircuit}
 use Rattle.sim_top.specs.SmallStimuli.{IsSmallStimulus}
 use Rattle.sim_top.specs.Cycles.{trace}
@@ -63,26 +63,33 @@ pub record IsTaken (command : Command) (joined circuit : List ℕ) : Type 0 wher
   pub part : IsPart command joined circuit
   pub short : length circuit ≤ circuit_limit
 
--- The first fault of the circuit, stage by stage.
-pub data IsCircuitFault : Command → List ℕ → Fault → Type 0 where
-  joined_too_long : (command : Command) (joined : List ℕ) → joined_limit < length joined → IsCircuitFault command joined (at_front TooLong)
-  no_stimulus : (joined : List ℕ) → length joined ≤ joined_limit → HasNone joined → IsCircuitFault Run joined (at_front NoStimulus)
-  circuit_too_long : (command : Command) (joined circuit : List ℕ) → length joined ≤ joined_limit → IsPart command joined circuit
-      → circuit_limit < length circuit → IsCircuitFault command joined (at_front TooLong)
-  text_fault : (command : Command) (joined circuit : List ℕ) (fault : Fault) → IsTaken command joined circuit → IsTextFault circuit fault
-      → IsCircuitFault command joined fault
-  not_built : (joined circuit stimulus : List ℕ) (laid : List Laid) → IsTaken Run joined circuit → IsSplit joined circuit stimulus → IsLaid circuit laid
-      → ((c : SmallCircuit) (s : SmallStimulus) → IsSmallCircuit (pieces_of circuit laid) c → IsSmallStimulus c stimulus s → ⊥)
-      → IsCircuitFault Run joined (at_front NotBuilt)
+-- the line that names a fault of the circuit
+abbrev pub fault_bytes : Fault → List ℕ
+fault_bytes fault = fault_line_bytes Circuit (kind_name fault.kind) fault.place
 
--- What a command answers to the text of standard input.
+-- the circuit and the stimulus are small ones
+abbrev pub AreSmall : List Piece → List ℕ → SmallCircuit → SmallStimulus → Type 0
+AreSmall pieces stimulus c s = IsSmallCircuit pieces c × IsSmallStimulus c stimulus s
+
+-- What a command answers where the circuit's text was taken: the first fault of the text; or for `check` that there is none;
+-- or for `run` the trace of the small circuit under the small stimulus, and that it is not built where they are not small.
+pub data JudgesTaken : Command → List ℕ → List ℕ → ℕ → List ℕ → Type 0 where
+  text_fault : (command : Command) (joined circuit : List ℕ) (fault : Fault) → IsTextFault circuit fault → JudgesTaken command joined circuit 2 (fault_bytes fault)
+  accepted : (joined circuit : List ℕ) (laid : List Laid) → IsLaid circuit laid → JudgesTaken Check joined circuit 0 (codes "ok\n")
+  traced : (joined circuit stimulus : List ℕ) (laid : List Laid) (c : SmallCircuit) (s : SmallStimulus) → IsSplit joined circuit stimulus
+      → IsLaid circuit laid → AreSmall (pieces_of circuit laid) stimulus c s → JudgesTaken Run joined circuit 0 (trace c s)
+  not_built : (joined circuit stimulus : List ℕ) (laid : List Laid) → IsSplit joined circuit stimulus → IsLaid circuit laid
+      → ((c : SmallCircuit) (s : SmallStimulus) → AreSmall (pieces_of circuit laid) stimulus c s → ⊥)
+      → JudgesTaken Run joined circuit 2 (fault_bytes (at_front NotBuilt))
+
+-- What a command answers to the text of standard input. Of the faults of the text as a whole the first in this order counts.
 pub data Judges : Command → List ℕ → ℕ → List ℕ → Type 0 where
-  refused : (command : Command) (joined : List ℕ) (fault : Fault) → IsCircuitFault command joined fault
-      → Judges command joined 2 (fault_line_bytes Circuit (kind_name fault.kind) fault.place)
-  accepted : (joined circuit : List ℕ) (laid : List Laid) → IsTaken Check joined circuit → IsLaid circuit laid → Judges Check joined 0 (codes "ok\n")
-  traced : (joined circuit stimulus : List ℕ) (laid : List Laid) (c : SmallCircuit) (s : SmallStimulus) → IsTaken Run joined circuit
-      → IsSplit joined circuit stimulus → IsLaid circuit laid → IsSmallCircuit (pieces_of circuit laid) c → IsSmallStimulus c stimulus s
-      → Judges Run joined 0 (trace c s)
+  joined_too_long : (command : Command) (joined : List ℕ) → joined_limit < length joined → Judges command joined 2 (fault_bytes (at_front TooLong))
+  no_stimulus : (joined : List ℕ) → length joined ≤ joined_limit → HasNone joined → Judges Run joined 2 (fault_bytes (at_front NoStimulus))
+  circuit_too_long : (command : Command) (joined circuit : List ℕ) → length joined ≤ joined_limit → IsPart command joined circuit
+      → circuit_limit < length circuit → Judges command joined 2 (fault_bytes (at_front TooLong))
+  taken : (command : Command) (joined circuit : List ℕ) (status : ℕ) (bytes : List ℕ) → IsTaken command joined circuit
+      → JudgesTaken command joined circuit status bytes → Judges command joined status bytes
 
 -- The answer to a command line, where the texts that it needs are held.
 pub data Answers : List (List ℕ) → (List ℕ → Option (List ℕ)) → ℕ → List ℕ → Type 0 where
@@ -95,3 +102,32 @@ pub record Needs (words : List (List ℕ)) (name : List ℕ) : Type 0 where
   pub command : Command
   pub reads : command_of words ≡ Some command
   pub input : name ≡ input_name
+
+-- The command answers this to the text, and nothing else.
+pub record Settles (command : Command) (joined : List ℕ) (status : ℕ) (bytes : List ℕ) : Type 0 where
+  pub is : Judges command joined status bytes
+  pub only : (other : ℕ) (others : List ℕ) → Judges command joined other others → (other ≡ status) × (others ≡ bytes)
+
+-- the same where the circuit's text was taken
+pub record SettlesTaken (command : Command) (joined circuit : List ℕ) (status : ℕ) (bytes : List ℕ) : Type 0 where
+  pub is : JudgesTaken command joined circuit status bytes
+  pub only : (other : ℕ) (others : List ℕ) → JudgesTaken command joined circuit other others → (other ≡ status) × (others ≡ bytes)
+
+-- and for words and texts
+pub record Replies (words : List (List ℕ)) (texts : List ℕ → Option (List ℕ)) (status : ℕ) (bytes : List ℕ) : Type 0 where
+  pub is : Answers words texts status bytes
+  pub only : (other : ℕ) (others : List ℕ) → Answers words texts other others → (other ≡ status) × (others ≡ bytes)
+
+-- a circuit's text that is refused: it is too long, or has this first fault
+pub data IsRefusedText : List ℕ → Fault → Type 0 where
+  too_long : (text : List ℕ) → circuit_limit < length text → IsRefusedText text (at_front TooLong)
+  has_fault : (text : List ℕ) (fault : Fault) → length text ≤ circuit_limit → IsFaultOnly text fault → IsRefusedText text fault
+
+-- The circuit and the stimulus are small ones, and no others are.
+pub record AreSmallOnly (circuit : List ℕ) (laid : List Laid) (stimulus : List ℕ) (c : SmallCircuit) (s : SmallStimulus) : Type 0 where
+  pub are : AreSmall (pieces_of circuit laid) stimulus c s
+  pub only : (d : SmallCircuit) (t : SmallStimulus) → AreSmall (pieces_of circuit laid) stimulus d t → (d ≡ c) × (t ≡ s)
+
+-- no circuit and no stimulus are
+abbrev pub NoneSmall : List ℕ → List Laid → List ℕ → Type 0
+NoneSmall circuit laid stimulus = (c : SmallCircuit) (s : SmallStimulus) → AreSmall (pieces_of circuit laid) stimulus c s → ⊥

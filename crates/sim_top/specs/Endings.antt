@@ -1,6 +1,6 @@
 -- How a call of the program ends.
 use Rattle.std.specs.Prelude.{◌≡◌, ◌≢◌, ℕ, ◌≤◌, List, [], ◌++◌, Option, Some, ◌⊎◌, take}
-use Rattle.shelf_io.specs.Outside.{Rose}
+use Rattle.shelf_io.specs.Outside.{Appends}
 use Rattle.sim_top.specs.Answers.{Answers, Needs}
 
 -- Where the shelf tells its texts and the sink its bytes: `before` stood there, and now stands `after`.
@@ -17,3 +17,8 @@ pub record Ends (words : List (List ℕ)) (texts : List ℕ → Option (List ℕ
       × ((code : ℕ) (bytes : List ℕ) → Answers words texts code bytes → written ≡ take n bytes)
       × (((code : ℕ) (bytes : List ℕ) → Answers words texts code bytes → ⊥) → written ≡ [])
   pub within : status ≤ 6
+
+-- A reply was written, all of it or a prefix.
+pub record IsSaid (result status : ℕ) (bytes : List ℕ) (old new : Option (List ℕ)) : Type 0 where
+  pub all : result ≢ 5 → (result ≡ status) × Appends old new bytes
+  pub part : result ≡ 5 → (n : ℕ) × Appends old new (take n bytes)

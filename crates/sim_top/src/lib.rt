@@ -4,6 +4,9 @@
 pub mod circuit;
 pub mod command;
 pub mod fault;
+pub mod front;
+pub mod judge;
 pub mod piece;
 pub mod split;
 pub mod stimulus;
+pub mod top;
