@@ -1,3 +1,4 @@
 pub mod StimulusLines
 pub mod Splitting
 pub mod Judging
+pub mod Replying
