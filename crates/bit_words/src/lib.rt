@@ -2,10 +2,30 @@
 #![tactic(auto)]
 
 pub mod boxed;
+pub mod decimal;
+pub mod fitting;
+pub mod laws;
 pub mod list;
+pub mod number;
+pub mod value;
+pub mod words;
 
 pub use boxed::Boxed;
+pub use decimal::push_decimal;
+pub use fitting::fit;
 pub use list::List;
+pub use number::{Base, Number, NumberFault, digits_value, fits, read_magnitude, read_number};
+pub use value::{Kind, Value};
+pub use words::{from_words, high_word, low_word};
 
-/// The bytes of a text.
+/// Bytes of a text.
 pub type Text = List<u8>;
+
+/// Values side by side.
+pub type Row = List<Value>;
+
+/// Rows one after another.
+pub type Rows = List<Row>;
+
+#[cfg(test)]
+mod tests;

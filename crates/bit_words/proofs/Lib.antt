@@ -1,0 +1,4 @@
+pub mod Complement
+pub mod Congruence
+pub mod Digits
+pub mod Readings

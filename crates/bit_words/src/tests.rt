@@ -1,0 +1,127 @@
+//! Values and texts whose answers are known from outside.
+
+use crate::{
+    Base, Boxed, Kind, List, Number, NumberFault, Value, digits_value, fit, fits, from_words,
+    high_word, low_word, push_decimal, read_magnitude, read_number,
+};
+use std::test::Fail;
+
+#[test]
+fn values_have_decimal_texts(rt: HostRuntime) -> Result<(), Fail> {
+    for (value, text) in [
+        (from_words(Kind::Unsigned, 128, 0, 0), "0"),
+        (
+            from_words(Kind::Unsigned, 128, u64::MAX, u64::MAX),
+            "340282366920938463463374607431768211455",
+        ),
+        (from_words(Kind::Signed, 1, 1, 0), "-1"),
+        (
+            from_words(Kind::Signed, 64, 1 << 63, 0),
+            "-9223372036854775808",
+        ),
+        (
+            from_words(Kind::Signed, 128, 0, 1 << 63),
+            "-170141183460469231731687303715884105728",
+        ),
+        (from_words(Kind::Signed, 5, 13, 0), "13"),
+    ] {
+        let mut out = Vec::from_slice(rt.alloc(), b"= ")?;
+        push_decimal(&mut out, value)?;
+        assert_eq!(rt; &out[..2], b"= ".as_slice());
+        assert_eq!(rt; &out[2..], text.as_bytes());
+    }
+    Ok(())
+}
+
+#[test]
+fn values_are_fitted(rt: HostRuntime) {
+    let minus_one = from_words(Kind::Signed, 4, 15, 0);
+    assert_eq!(rt; fit(Kind::Unsigned, 8, minus_one).bits, 255);
+    assert_eq!(rt; fit(Kind::Signed, 8, minus_one).bits, 255);
+    assert_eq!(rt; fit(Kind::Unsigned, 2, minus_one).bits, 3);
+    assert_eq!(rt; fit(Kind::Signed, 0, minus_one).bits, 0);
+    let fifteen = from_words(Kind::Unsigned, 4, 15, 0);
+    assert_eq!(rt; fit(Kind::Signed, 8, fifteen).bits, 15);
+    let wide = from_words(Kind::Unsigned, 100, 7, 1 << 40);
+    assert_eq!(rt; low_word(wide), 7);
+    assert_eq!(rt; high_word(wide), 0);
+}
+
+#[test]
+fn words_are_numbers(rt: HostRuntime) {
+    let over = Err(NumberFault::Over);
+    let none = Err(NumberFault::NotNumber);
+    for (word, reading) in [
+        ("0", number(false, 0)),
+        ("00", number(false, 0)),
+        ("0d12", number(false, 12)),
+        ("-0h1F", number(true, 31)),
+        ("0b101", number(false, 5)),
+        ("-0o17", number(true, 15)),
+        (
+            "340282366920938463463374607431768211455",
+            number(false, u128::MAX),
+        ),
+        ("340282366920938463463374607431768211456", over),
+        ("-0h100000000000000000000000000000000", over),
+        ("9999999999999999999999999999999999999999x", none),
+        ("0H1", none),
+        ("0x1", none),
+        ("12ab", none),
+        ("0b", none),
+        ("0b2", none),
+        ("", none),
+        ("-", none),
+        ("--1", none),
+        ("+1", none),
+    ] {
+        assert_eq!(rt; read_number(word.as_bytes()), reading, "at {word}");
+    }
+    assert_eq!(rt; read_magnitude(b"0hfF"), Ok(255));
+    assert_eq!(rt; digits_value(Base::Octal, b"777"), Ok(511));
+}
+
+fn number(negative: bool, magnitude: u128) -> Result<Number, NumberFault> {
+    Ok(Number {
+        negative,
+        magnitude,
+    })
+}
+
+#[test]
+fn numbers_fit_widths(rt: HostRuntime) {
+    for (negative, magnitude, kind, width, answer) in [
+        (true, 0, Kind::Unsigned, 0, true),
+        (false, 0, Kind::Signed, 0, true),
+        (false, 1, Kind::Unsigned, 0, false),
+        (false, 255, Kind::Unsigned, 8, true),
+        (false, 256, Kind::Unsigned, 8, false),
+        (true, 1, Kind::Unsigned, 8, false),
+        (true, 128, Kind::Signed, 8, true),
+        (true, 129, Kind::Signed, 8, false),
+        (false, 127, Kind::Signed, 8, true),
+        (false, 128, Kind::Signed, 8, false),
+        (true, u128::MAX, Kind::Signed, u128::MAX, true),
+    ] {
+        let number = Number {
+            negative,
+            magnitude,
+        };
+        assert_eq!(rt; fits(number, kind, width), answer);
+    }
+}
+
+#[test]
+fn lists_and_boxes(rt: HostRuntime) -> Result<(), Fail> {
+    let mut row: List<Value> = List::new(rt.alloc());
+    assert!(rt; row.is_empty());
+    row.push(from_words(Kind::Unsigned, 8, 200, 0))?;
+    assert_eq!(rt; row.len(), 1);
+    assert_eq!(rt; row.get(0).map(|value| value.bits), Some(200));
+    assert_eq!(rt; row.get(1).is_none(), true);
+    let again = List::from_vec(row.into_vec());
+    assert_eq!(rt; again.as_slice().len(), 1);
+    let boxed = Boxed::new(rt.alloc(), 7_u32)?;
+    assert_eq!(rt; *boxed.get(), 7);
+    Ok(())
+}
