@@ -1,4 +1,4 @@
-pub mod StimulusLines
+pub mod Searching
 pub mod Splitting
 pub mod Judging
 pub mod Replying

@@ -53,16 +53,6 @@ ends_said words texts status result bytes before old new replies few said told =
 nothing : (new : Option (List ℕ)) (before : List ℕ) → new ≡ Some before → new ≡ Some (before ++ [])
 nothing new before e = e ∙ ap Some (grind (arith, common_steps))
 
-pub ends_unread : (words : List (List ℕ)) (texts : List ℕ → Option (List ℕ)) (before : List ℕ) (new : Option (List ℕ)) → new ≡ Some before → Ends words texts 4 before new
-ends_unread words texts before new e = record {
-  answered = λ le. absurd (omega (arith, le));
-  only = λ le. absurd (omega (arith, le));
-  shelf_faulted = λ _. e;
-  sink_faulted = λ f. absurd (omega (arith, f));
-  memory_wanted = λ f. absurd (omega (arith, f));
-  within = omega arith;
-}
-
 pub ends_wanting : (words : List (List ℕ)) (texts : List ℕ → Option (List ℕ)) (before : List ℕ) (new : Option (List ℕ)) → new ≡ Some before → Ends words texts 6 before new
 ends_wanting words texts before new e = record {
   answered = λ le. absurd (omega (arith, le));
@@ -79,12 +69,3 @@ pub unheld_unanswered : (words : List (List ℕ)) (texts : List ℕ → Option (
 unheld_unanswered words texts name _ _ needs none (no_command _ _ e) = let f : None ≡ Some needs.command = sym e ∙ needs.reads in cc
 unheld_unanswered words texts name s b needs none (judged _ _ command joined _ _ e t j) =
     let f : None ≡ Some joined = sym none ∙ ap texts needs.input ∙ t in cc
-
-pub ends_unheld : (words : List (List ℕ)) (texts : List ℕ → Option (List ℕ)) (name : List ℕ) (status : ℕ) (before : List ℕ) (after : Option (List ℕ))
-    → Ends words texts status before after → Needs words name → texts name ≡ None → (status ≡ 4) ⊎ (status ≡ 6)
-ends_unheld words texts name status before after ends needs none =
-    ⊎_elim (λ four. inl four)
-    (λ not4. ⊎_elim (λ five. let f = ends.sink_faulted five in absurd (unheld_unanswered words texts name f.0 f.1 needs none f.3))
-      (λ not5. ⊎_elim (λ six. inr six)
-        (λ not6. let w = ends.within in let le : status ≤ 3 = omega arith in let a = ends.answered le in absurd (unheld_unanswered words texts name status a.0 needs none a.1))
-        (cases_eq status 6)) (cases_eq status 5)) (cases_eq status 4)

@@ -1,5 +1,5 @@
 use Rattle.std.proofs.Common.{length, ◌-◌}
-use Rattle.sim_top.proofs.StimulusLines.{Searched}
+use Rattle.sim_top.proofs.Searching.{Searched}
 use Rattle.sim_top.proofs.split.split.Given as goal
 
 abbrev pub invariant-lines : goal.invariant-lines
