@@ -2,3 +2,5 @@ pub mod SmallCircuits
 pub mod SmallStimuli
 pub mod Cycles
 pub mod Pieces
+pub mod Evaluation
+pub mod Examples
