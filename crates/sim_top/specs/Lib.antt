@@ -6,3 +6,5 @@ pub mod Pieces
 pub mod CircuitText
 pub mod Answers
 pub mod Endings
+pub mod Evaluation
+pub mod Examples
