@@ -1,6 +1,10 @@
 //! The top call.
 #![tactic(auto)]
 
+pub mod check_circuit;
+mod check_names;
+mod check_statements;
+pub mod check_stimulus;
 pub mod circuit;
 pub mod piece;
 pub mod stimulus;

@@ -1,0 +1,3 @@
+mod Lookups
+mod Names_of
+mod Splits
