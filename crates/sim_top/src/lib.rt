@@ -2,5 +2,6 @@
 #![tactic(auto)]
 
 pub mod circuit;
+pub mod decimal;
 pub mod piece;
 pub mod stimulus;
