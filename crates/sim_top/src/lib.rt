@@ -6,5 +6,6 @@ mod check_names;
 mod check_statements;
 pub mod check_stimulus;
 pub mod circuit;
+pub mod decimal;
 pub mod piece;
 pub mod stimulus;
