@@ -1,6 +1,10 @@
 //! The top call.
 #![tactic(auto)]
 
+pub mod check_circuit;
+mod check_names;
+mod check_statements;
+pub mod check_stimulus;
 pub mod circuit;
 pub mod command;
 pub mod fault;
@@ -8,6 +12,7 @@ pub mod front;
 pub mod judge;
 mod evaluate;
 pub mod example;
+pub mod decimal;
 pub mod piece;
 pub mod split;
 pub mod stimulus;
