@@ -8,6 +8,6 @@ pub mod Placed
 pub mod Steps
 pub mod Settings
 pub mod Lines
-mod Lookups
-mod Names_of
-mod Splits
+pub mod Memberships
+pub mod Names_of
+pub mod Splits

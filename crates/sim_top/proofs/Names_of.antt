@@ -4,7 +4,7 @@ use Rattle.std.specs.Prelude.{Contains, All, if◌then◌else◌, MatchBool}
 use Rattle.std.specs.List.{AllWithin, HoldsAt}
 use Rattle.std.proofs.lemmas.Bool.{false≢true}
 use Rattle.std.proofs.lemmas.List.Elements.{All-contains, Contains-get_or, All-nil, All-cons, All-head, All-tail, All-append, All-from_all_within, AllWithin-from_all, Contains-append_cases, Contains-append_left, Contains-append_right}
-use Rattle.sim_top.proofs.Lookups.{Contains-cons}
+use Rattle.sim_top.proofs.Memberships.{Contains-cons}
 use Rattle.sim_top.specs.SmallCircuits.{IsName, Differ, output_names, register_names, targets}
 use Rattle.sim_top.specs.declared.circuit.Port.{Port}
 use Rattle.sim_top.specs.declared.circuit.Statement.{Statement}

@@ -2,7 +2,7 @@ use Rattle.std.proofs.Common.{rules, tests, ◌∙◌}
 use Rattle.std.proofs.lemmas.Iterator.{YieldsList-from_slice}
 use Rattle.std.proofs.lemmas.Iterator.Search.{any_from_yields_List}
 use Rattle.std.proofs.lemmas.Bool.Decides.{Decides-at}
-use Rattle.sim_top.proofs.Lookups.{register_named, register_looked_up}
+use Rattle.sim_top.proofs.Memberships.{register_named, register_looked_up}
 use Rattle.sim_top.proofs.check_names.has_register.Goals as goal
 
 pub returns : goal.returns
