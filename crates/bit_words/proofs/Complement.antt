@@ -1,9 +1,9 @@
 -- Two's complement.
-use Rattle.std.proofs.Common.{◌≡◌, ℕ, ◌+◌, ◌-◌, ◌*◌, ◌/◌, ◌%◌, ◌^◌, ◌<◌, ◌≤◌, refl, ap, sym, ◌∙◌, arith, pow-add, pow_pos, pow_mono, mod-lt, div-add-mod', div-lt_iff_lt-mul, negsuc}
+use Rattle.std.proofs.Common.{◌≡◌, ℕ, ◌+◌, ◌-◌, ◌*◌, ◌/◌, ◌%◌, ◌^◌, ◌<◌, ◌≤◌, ap, sym, ◌∙◌, arith, pow-add, pow_pos, pow_mono, mod-lt, div-add-mod', div-lt_iff_lt-mul, negsuc}
 use Rattle.std.proofs.lemmas.Nat.{mod-mul-add}
 use Rattle.std.proofs.lemmas.Bool.Decides.{nat_tests}
 use Rattle.bit_words.specs.declared.value.Kind.{Kind}
-use Rattle.bit_words.specs.declared.value.Kind.TheVariants.{Unsigned, Signed}
+use Rattle.bit_words.specs.declared.value.Kind.TheVariants.{Signed}
 use Rattle.bit_words.specs.Values.{integer, bits_of}
 
 flipped : (m p q r h w : ℕ) → m ≡ q * w + r → r < w → h ≡ p + q + 1 → h * w - 1 - m ≡ p * w + (w - 1 - r)

@@ -121,6 +121,9 @@ fn lists_and_boxes(rt: HostRuntime) -> Result<(), Fail> {
     assert_eq!(rt; row.get(1).is_none(), true);
     let again = List::from_vec(row.into_vec());
     assert_eq!(rt; again.as_slice().len(), 1);
+    let mut copied: List<u32> = List::from_slice(rt.alloc(), &[3, 4])?;
+    copied.set(1, 9);
+    assert_eq!(rt; copied.as_slice(), [3, 9].as_slice());
     let boxed = Boxed::new(rt.alloc(), 7_u32)?;
     assert_eq!(rt; *boxed.get(), 7);
     Ok(())

@@ -1,10 +1,14 @@
 -- What calls on the outside do.
-use Rattle.std.specs.Prelude.{◌≡◌, ℕ, ◌-◌, ◌<◌, ◌^◌, ◌⊎◌, List, [], ◌++◌, Option, Some}
+use Rattle.std.specs.Prelude.{◌≡◌, ℕ, ◌+◌, ◌-◌, ◌<◌, ◌^◌, ◌⊎◌, min, List, [], ◌++◌, Option, Some}
 use Rattle.std.specs.Option.{option_map}
 
 -- a count of faults is greater than before, or stands at its last value
 abbrev pub Rose : ℕ → ℕ → Type 0
 Rose old new = (old < new) ⊎ (new ≡ 2 ^ 64 - 1)
+
+-- one more, up to the last u64
+abbrev pub counted : ℕ → ℕ
+counted n = min (n + 1) (2 ^ 64 - 1)
 
 -- what each name holds: told or not, and then a text or none
 abbrev pub Texts : Type 0

@@ -1,4 +1,4 @@
-use Rattle.std.proofs.Common.{◌≤◌, ◌<◌, ◌^◌, arith, pow_mono}
+use Rattle.std.proofs.Common.{◌≤◌, ◌^◌, arith, pow_mono}
 use Rattle.std.proofs.lemmas.Bool.{le-leb}
 use Rattle.bit_words.proofs.number.is_below_power.Goals as goal
 

@@ -1,0 +1,4 @@
+pub mod Script
+pub mod Sound
+pub mod Steps
+pub mod Laws

@@ -1,0 +1,20 @@
+-- What clauses see of a table, a post and a closed table.
+use Rattle.std.specs.Prelude.{◌≡◌, ℕ}
+use Rattle.phase_core.specs.declared.model.Script.{Script}
+use Rattle.register_table.specs.declared.plan.Plan.{Ghosts}
+use Rattle.register_table.specs.declared.table.RegisterTable.{RegisterTable}
+use Rattle.register_table.specs.declared.table.Post.{Post}
+use Rattle.register_table.specs.declared.table.Closed.{Closed}
+
+module _ {N : Type 0} {p : Ghosts N} where
+  -- the post is one of this table
+  abbrev pub ComesFrom : Post N p → RegisterTable N p → Type 0
+  ComesFrom post table = post.seat.table_id ≡ table.table.shared.table_id
+
+  -- the number of data words
+  abbrev pub word_count : RegisterTable N p → ℕ
+  word_count table = table.size.words
+
+-- the script of the table that was closed
+abbrev pub closed_script : Closed → Script
+closed_script c = c.last.value.me.0.script

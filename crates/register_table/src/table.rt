@@ -1,0 +1,51 @@
+//! The table and the posts.
+
+ghost use Rattle.std.specs.Prelude.{◌≡◌, ◌+◌, [], length};
+ghost use Rattle.phase_core.specs.Script.{IsScript, IsCounted};
+ghost use Rattle.register_table.specs.Rule.{seated};
+
+use crate::plan::Plan;
+use crate::plays::{Held, Rule};
+use atomic_table::{Seat, Table};
+use phase_core::View;
+use std::alloc::Global;
+use std::marker::PhantomData;
+use std::snapshot::Snapshot;
+
+// The numbers of the script, and its shape. They stand apart since a ghost field names no member of a parameter that the
+// type of another field takes.
+#[derive(Drop)]
+pub(crate) struct Size<N: Plan> {
+    pub(crate) workers: u32,
+    pub(crate) words: usize,
+    pub(crate) of: PhantomData<N>,
+    ghost workers_are: { workers ≡ N.script.workers },
+    ghost words_are: { words ≡ length N.script.first },
+    ghost shape: { IsScript N.script },
+    ghost counted: { IsCounted N.script },
+}
+
+/// A barrier word and the words of the script, shared by posts.
+#[derive(Drop)]
+pub struct RegisterTable<N: Plan> {
+    pub(crate) table: Table<(), Held, (), Rule<N>, Global>,
+    pub(crate) size: Size<N>,
+    ghost words_are: { table.shared.table_id.words ≡ size.words + 1 },
+    ghost no_slots: { table.shared.table_id.slots ≡ 0 },
+}
+
+/// A place at a table, for the workers of its view. One that is dropped takes no further step.
+#[derive(Drop)]
+pub struct Post<N: Plan> {
+    pub(crate) seat: Seat<(), Held>,
+    /// The workers, and where they stand.
+    pub view: View,
+    pub(crate) of: PhantomData<N>,
+    ghost held: { seat.me ≡ (seated view N.script, []) },
+}
+
+/// A table that was closed behind its last cycle. `RegisterTable::finish` alone makes one.
+#[derive(Drop)]
+pub struct Closed {
+    pub(crate) last: Snapshot<Seat<(), Held>>,
+}
