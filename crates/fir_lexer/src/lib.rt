@@ -1,6 +1,17 @@
 //! The tokens of a circuit text: what a token is, and the reader that cuts a text into them by the longest match.
+//! Keeps the contract that a text is the list of its pieces, and that its tokens, or its first fault, are exactly theirs.
 #![tactic(auto)]
 
+mod closing;
+mod laws;
+pub mod lexing;
+pub mod pieces;
 pub mod token;
 
+pub use laws::{texts_have_one_fault, texts_have_one_reading};
+pub use lexing::{lex, LexFault};
+pub use pieces::{piece, PieceKind};
 pub use token::{Token, TokenKind};
+
+#[cfg(test)]
+mod tests;
