@@ -3,5 +3,6 @@
 
 pub mod circuit;
 pub mod decimal;
+pub mod line;
 pub mod piece;
 pub mod stimulus;

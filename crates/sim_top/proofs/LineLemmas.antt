@@ -1,0 +1,52 @@
+-- Lists of pieces, and the lines that they make.
+use Rattle.std.proofs.Common.{◌≡◌, ◌≢◌, ℕ, zero, suc, ◌+◌, ◌-◌, ◌<◌, ◌≤◌, List, [], ◌∷◌, ◌++◌, length, map, take, drop, get_or, true, false, refl, ap, ◌∙◌, sym, Bool, cond, arith, one-add, ⊎_elim, Some, None, rules}
+use Rattle.std.specs.List.{prefix_len}
+use Rattle.std.proofs.lemmas.Grind.{common_steps}
+use Rattle.std.proofs.lemmas.List.{take-map, drop-map, get_or-map}
+use Rattle.std.proofs.lemmas.Bool.{cases_Bool}
+use Rattle.fir_layout.specs.Pieces.{Piece, A_token, A_line_end}
+use Rattle.sim_top.specs.declared.piece.Piece.{Piece as Lent}
+use Rattle.sim_top.specs.declared.piece.Piece.TheVariants.{Token, LineEnd, BlockOpens, BlockCloses, TheEnd}
+use Rattle.sim_top.specs.Pieces.{shown}
+use Rattle.sim_top.specs.Lines.{tokens, is_token}
+use Rattle.sim_top.specs.SmallCircuits.{Ink, Gap, Inked}
+
+-- lists that show the same do so at each place
+pub shown_at : (ps qs : List Lent) (at : ℕ) (d e : Lent) → at < length ps → at < length qs → map shown ps ≡ map shown qs → shown (get_or ps at d) ≡ shown (get_or qs at e)
+shown_at ps qs at d e h k same =
+    sym (get_or-map shown ps at d (shown d) h) ∙ ap (λ xs. get_or xs at (shown d)) same ∙ get_or-map shown qs at e (shown d) k
+
+-- how many tokens stand in front of the first mark
+prefix_shown : (ps : List Lent) → prefix_len (λ p. is_token (shown p)) ps ≡ prefix_len is_token (map shown ps)
+prefix_shown [] = refl
+prefix_shown (p ∷ ps) = ap (λ n. cond (is_token (shown p)) (1 + n) 0) (prefix_shown ps)
+
+prefix_of_line : (inks : List Ink) (more : List Piece) → prefix_len is_token (tokens inks ++ A_line_end ∷ more) ≡ length (tokens inks)
+prefix_of_line [] more = refl
+prefix_of_line (Gap bytes ∷ inks) more = prefix_of_line inks more
+prefix_of_line (Inked kind bytes ∷ inks) more = omega (arith, prefix_of_line inks more)
+
+pub prefix_within : (ps : List Lent) → prefix_len (λ p. is_token (shown p)) ps ≤ length ps
+prefix_within [] = omega arith
+prefix_within (p ∷ ps) = ⊎_elim (λ yes. rw yes (omega (arith, prefix_within ps))) (λ no. rw no (omega arith)) (cases_Bool (is_token (shown p)))
+
+-- a line's tokens are those in front of the first mark, and behind them are its end and the rest
+pub line_cut : (ps : List Lent) (inks : List Ink) (more : List Piece) (n : ℕ) → n ≡ prefix_len (λ p. is_token (shown p)) ps → map shown ps ≡ tokens inks ++ A_line_end ∷ more
+    → (map shown (take n ps) ≡ tokens inks) × (map shown (drop n ps) ≡ A_line_end ∷ more)
+line_cut ps inks more n counted e =
+    let at : n ≡ length (tokens inks) = counted ∙ prefix_shown ps ∙ ap (prefix_len is_token) e ∙ prefix_of_line inks more in (
+      sym (take-map shown n ps) ∙ ap (take n) e ∙ rw at (grind (arith, common_steps)),
+      sym (drop-map shown n ps) ∙ ap (drop n) e ∙ rw at (grind (arith, common_steps)),
+    )
+
+-- pieces that begin with the end of a line
+pub ended : (rest : List Lent) (more : List Piece) → map shown rest ≡ A_line_end ∷ more → (rest ≡ LineEnd ∷ drop 1 rest) × (map shown (drop 1 rest) ≡ more)
+ended [] more e = absurd (cc e)
+ended (LineEnd ∷ rest) more e = (refl, cc e)
+ended (Token kind bytes ∷ rest) more e = absurd (cc e)
+ended (BlockOpens ∷ rest) more e = absurd (cc e)
+ended (BlockCloses ∷ rest) more e = absurd (cc e)
+ended (TheEnd ∷ rest) more e = absurd (cc e)
+
+pub rest_of : {A : Type 0} (i : ℕ) (xs : List A) → take (length xs - i) (drop i xs) ≡ drop i xs
+rest_of i xs = grind (arith, common_steps)
