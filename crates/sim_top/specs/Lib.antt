@@ -3,3 +3,4 @@ pub mod SmallStimuli
 pub mod Cycles
 pub mod Pieces
 pub mod Lines
+pub mod Writable

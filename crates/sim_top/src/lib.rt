@@ -5,4 +5,5 @@ pub mod circuit;
 pub mod decimal;
 pub mod line;
 pub mod piece;
+pub mod read_line;
 pub mod stimulus;

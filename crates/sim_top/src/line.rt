@@ -11,7 +11,7 @@ ghost use Rattle.sim_top.specs.SmallCircuits.{Ink};
 use crate::piece::Piece;
 
 /// Whether two pieces are the same mark, or tokens of one kind with the same bytes.
-fn is_same(piece: &Piece<'_>, other: &Piece<'_>) -> bool
+pub fn is_same(piece: &Piece<'_>, other: &Piece<'_>) -> bool
     ensures { IsTrue result ↔ (shown piece.now ≡ shown other.now) }
 {
     match *piece {
