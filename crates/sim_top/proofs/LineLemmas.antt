@@ -1,8 +1,8 @@
 -- Lists of pieces, and the lines that they make.
-use Rattle.std.proofs.Common.{◌≡◌, ◌≢◌, ℕ, zero, suc, ◌+◌, ◌-◌, ◌<◌, ◌≤◌, List, [], ◌∷◌, ◌++◌, length, map, take, drop, get_or, true, false, refl, ap, ◌∙◌, sym, Bool, cond, arith, one-add, ⊎_elim, Some, None, rules}
+use Rattle.std.proofs.Common.{◌≡◌, ◌≢◌, ℕ, zero, suc, ◌+◌, ◌-◌, ◌<◌, ◌≤◌, List, [], ◌∷◌, ◌++◌, length, map, take, drop, get_or, true, false, refl, ap, ◌∙◌, sym, Bool, cond, arith, one-add, ⊎_elim, Some, None, rules, length-append}
 use Rattle.std.specs.List.{prefix_len}
 use Rattle.std.proofs.lemmas.Grind.{common_steps}
-use Rattle.std.proofs.lemmas.List.{take-map, drop-map, get_or-map}
+use Rattle.std.proofs.lemmas.List.{take-map, drop-map, get_or-map, length-map, map-append}
 use Rattle.std.proofs.lemmas.Bool.{cases_Bool}
 use Rattle.fir_layout.specs.Pieces.{Piece, A_token, A_line_end}
 use Rattle.sim_top.specs.declared.piece.Piece.{Piece as Lent}
@@ -50,3 +50,30 @@ ended (TheEnd ∷ rest) more e = absurd (cc e)
 
 pub rest_of : {A : Type 0} (i : ℕ) (xs : List A) → take (length xs - i) (drop i xs) ≡ drop i xs
 rest_of i xs = grind (arith, common_steps)
+
+-- the parts of a slice that was cut in two
+pub front_shown : (xs front : List Lent) (n : ℕ) (ps : List Piece) → front ≡ take n xs → map shown xs ≡ ps → map shown front ≡ take n ps
+front_shown xs front n ps cut e = ap (map shown) cut ∙ sym (take-map shown n xs) ∙ ap (take n) e
+
+pub back_shown : (xs back : List Lent) (n : ℕ) (ps : List Piece) → back ≡ drop n xs → map shown xs ≡ ps → map shown back ≡ drop n ps
+back_shown xs back n ps cut e = ap (map shown) cut ∙ sym (drop-map shown n xs) ∙ ap (drop n) e
+
+take_all : {A : Type 0} (xs ys : List A) (n : ℕ) → n ≡ length xs → take n (xs ++ ys) ≡ xs
+take_all xs ys n e = rw e (grind (arith, common_steps))
+
+drop_all : {A : Type 0} (xs ys : List A) (n : ℕ) → n ≡ length xs → drop n (xs ++ ys) ≡ ys
+drop_all xs ys n e = rw e (grind (arith, common_steps))
+
+pub cut_shown : (xs front back : List Lent) (n : ℕ) (ps qs : List Piece) → front ≡ take n xs → back ≡ drop n xs → map shown xs ≡ ps ++ qs → n ≡ length ps
+    → (map shown front ≡ ps) × (map shown back ≡ qs)
+cut_shown xs front back n ps qs first second e at =
+    (front_shown xs front n _ first e ∙ take_all ps qs n at, back_shown xs back n _ second e ∙ drop_all ps qs n at)
+
+pub length_shown : (xs : List Lent) (ps qs : List Piece) → map shown xs ≡ ps ++ qs → length xs ≡ length ps + length qs
+length_shown xs ps qs e = sym (length-map xs shown) ∙ ap length e ∙ length-append ps qs
+
+pub joined_shown : (xs front back : List Lent) (ps qs : List Piece) → xs ≡ front ++ back → map shown front ≡ ps → map shown back ≡ qs → map shown xs ≡ ps ++ qs
+joined_shown xs front back ps qs e first second = ap (map shown) e ∙ map-append shown front back ∙ ap (λ f. f ++ map shown back) first ∙ ap (λ b. ps ++ b) second
+
+pub some_same : {A : Type 0} (x y : A) → Some x ≡ Some y → x ≡ y
+some_same x y e = cc e

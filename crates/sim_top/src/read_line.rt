@@ -1,6 +1,6 @@
 //! The lines of a small circuit: what the tokens of a line spell, and nothing where they spell none.
 
-ghost use Rattle.std.specs.Prelude.{◌≡◌, ◌++◌, ◌<◌, ◌^◌, ℕ, length, map, IfOk, IfSome, decimal};
+ghost use Rattle.std.specs.Prelude.{◌≡◌, ◌++◌, ◌<◌, ◌^◌, ◌↔◌, ℕ, length, map, IfOk, IfSome, IsTrue, codes, decimal};
 ghost use Rattle.sim_top.specs.Pieces.{shown};
 ghost use Rattle.sim_top.specs.SmallCircuits.{literal_inks, operand_inks, expression_inks, port_line, register_line, connect_line, statement_line, direction};
 ghost use Rattle.sim_top.specs.Lines.{tokens};
@@ -98,7 +98,11 @@ fn read_sum(alloc: Global, line: &[Piece<'_>]) -> Result<Option<Expression>, All
     let (front, rest) = line.split_at(2);
     let (operands, back) = rest.split_at(rest.len() - 3);
     let (first, second) = operands.split_at(operand_length(operands).min(operands.len()));
-    let end = [Token(Mark(b')'), b")"), Token(Digits, b"1"), Token(Mark(b')'), b")")];
+    let end = [
+        Token(Mark(b')'), b")"),
+        Token(Digits, b"1"),
+        Token(Mark(b')'), b")"),
+    ];
     if !are_same(front, &[Token(Call, b"tail("), Token(Call, b"add(")]) || !are_same(back, &end) {
         return Ok(None);
     }
@@ -152,7 +156,12 @@ fn read_register(alloc: Global, line: &[Piece<'_>]) -> Result<Option<Register>, 
         return Ok(None);
     }
     let (front, initial) = line.split_at(9);
-    let (name, width, clock, reset) = (bytes_at(front, 1), bytes_at(front, 5), bytes_at(front, 7), bytes_at(front, 8));
+    let (name, width, clock, reset) = (
+        bytes_at(front, 1),
+        bytes_at(front, 5),
+        bytes_at(front, 7),
+        bytes_at(front, 8),
+    );
     let form = [
         Token(Word, b"regreset"),
         Token(Word, name),
@@ -176,7 +185,13 @@ fn read_register(alloc: Global, line: &[Piece<'_>]) -> Result<Option<Register>, 
     let name = text_of(alloc, name)?;
     let clock = text_of(alloc, clock)?;
     let reset = text_of(alloc, reset)?;
-    Ok(Some(Register { name, width, clock, reset, initial }))
+    Ok(Some(Register {
+        name,
+        width,
+        clock,
+        reset,
+        initial,
+    }))
 }
 
 /// The line of a statement.
@@ -200,12 +215,19 @@ fn direction_word(output: bool) -> &'static [u8]
     if output { b"output" } else { b"input" }
 }
 
+/// Whether the word is `output`.
+fn is_output(word: &[u8]) -> bool
+    ensures { IsTrue result ↔ (word.now ≡ codes "output") }
+{
+    word == b"output".as_slice()
+}
+
 /// The line of a port.
 pub fn read_port(alloc: Global, line: &[Piece<'_>]) -> Result<Option<Port>, AllocError>
     ensures sound { IfOk result (λ read. IfSome read (λ port. map shown line.now ≡ tokens (port_line port))) }
     ensures complete { (port : Port) → port.width < 2 ^ 8 → map shown line.now ≡ tokens (port_line port) → IfOk result (λ read. read ≡ Some port) }
 {
-    let output = bytes_at(line, 0) == b"output".as_slice();
+    let output = is_output(bytes_at(line, 0));
     let name = bytes_at(line, 1);
     let width = bytes_at(line, 5);
     let form = [
@@ -224,5 +246,9 @@ pub fn read_port(alloc: Global, line: &[Piece<'_>]) -> Result<Option<Port>, Allo
         return Ok(None);
     };
     let name = text_of(alloc, name)?;
-    Ok(Some(Port { output, name, width }))
+    Ok(Some(Port {
+        output,
+        name,
+        width,
+    }))
 }
