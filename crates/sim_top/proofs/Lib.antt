@@ -1,3 +1,4 @@
 pub mod LineLemmas
 pub mod SumLemmas
 pub mod PortLemmas
+pub mod FrontLemmas

@@ -5,5 +5,6 @@ pub mod circuit;
 pub mod decimal;
 pub mod line;
 pub mod piece;
+pub mod read_circuit;
 pub mod read_line;
 pub mod stimulus;
