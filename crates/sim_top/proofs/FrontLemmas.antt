@@ -1,5 +1,5 @@
 -- Lines of items at the front of a list of pieces.
-use Rattle.std.proofs.Common.{◌≡◌, ◌≢◌, ℕ, zero, suc, ◌+◌, ◌-◌, ◌<◌, ◌≤◌, List, [], ◌∷◌, ◌++◌, length, map, take, drop, refl, ap, ◌∙◌, sym, subst, arith, append_assoc, append-nil, length-append}
+use Rattle.std.proofs.Common.{◌≡◌, ◌≢◌, ℕ, zero, suc, ◌+◌, ◌-◌, ◌<◌, ◌≤◌, List, [], ◌∷◌, ◌++◌, length, map, take, drop, refl, ap, ◌∙◌, sym, subst, arith, append_assoc, append-nil, length-append, length-drop}
 use Rattle.std.specs.Prelude.{All}
 use Rattle.std.proofs.lemmas.Grind.{common_steps}
 use Rattle.std.proofs.lemmas.List.{drop-drop}
@@ -50,15 +50,20 @@ one_more line Fits rest item count (other ∷ less) more first fit none e =
     let same = first.only other (lines_of line less ++ more) (All-head Fits other less fit) (e ∙ append_assoc (line_pieces (line other)) (lines_of line less) more) in
     (less, All-tail Fits other less fit, rw same.0 refl, same.1)
 
+lines_push : {A : Type 0} (line : A → List Ink) (items : List A) (item : A) → lines_of line (items ++ item ∷ []) ≡ lines_of line items ++ line_pieces (line item)
+lines_push line items item =
+    flat_map-append (λ x. line_pieces (line x)) items (item ∷ []) ∙ ap (λ last. lines_of line items ++ last) (append-nil (line_pieces (line item)))
+
 pub ReadTo-more : {A : Type 0} (line : A → List Ink) (Fits : A → Type 0) (pieces : List Piece) (items : List A) (at : ℕ) (item : A) (count : ℕ) → ReadTo line Fits pieces items at
     → IsFirst line Fits (drop at pieces) item count → ReadTo line Fits pieces (items ++ item ∷ []) (at + count)
-ReadTo-more line Fits pieces items at item count read first = record {
-  spelled = ?;
-  within = ?;
+ReadTo-more line Fits pieces items at item count read first = let further : drop count (drop at pieces) ≡ drop (at + count) pieces = grind (arith, common_steps) in record {
+  spelled = read.spelled ∙ ap (λ rest. lines_of line items ++ rest) (first.spelled ∙ ap (λ rest. line_pieces (line item) ++ rest) further)
+      ∙ sym (append_assoc (lines_of line items) (line_pieces (line item)) (drop (at + count) pieces)) ∙ ap (λ front. front ++ drop (at + count) pieces) (sym (lines_push line items item));
+  within = omega (arith, first.within, read.within, length-drop at pieces);
   onward = λ all more fit none e.
       let so_far = read.onward all more fit none e in
       let next = one_more line Fits (drop at pieces) item count so_far.0 more first so_far.1 none so_far.3 in
-      (next.0, next.1, ?, ?);
+      (next.0, next.1, so_far.2 ∙ ap (λ left. items ++ left) next.2 ∙ sym (append_assoc items (item ∷ []) next.0), sym further ∙ next.3);
 }
 
 pub ReadTo-end : {A : Type 0} (line : A → List Ink) (Fits : A → Type 0) (pieces : List Piece) (items : List A) (at : ℕ) → ReadTo line Fits pieces items at

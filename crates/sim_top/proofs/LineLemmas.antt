@@ -77,3 +77,6 @@ joined_shown xs front back ps qs e first second = ap (map shown) e ∙ map-appen
 
 pub some_same : {A : Type 0} (x y : A) → Some x ≡ Some y → x ≡ y
 some_same x y e = cc e
+
+pub rest_shown : (at : ℕ) (xs : List Lent) → map shown (take (length xs - at) (drop at xs)) ≡ drop at (map shown xs)
+rest_shown at xs = ap (map shown) (rest_of at xs) ∙ sym (drop-map shown at xs)

@@ -37,7 +37,12 @@ pub fn read_circuit(alloc: Global, pieces: &[Piece<'_>]) -> Result<Option<SmallC
     }
     let name = text_of(alloc, name)?;
     let clock = text_of(alloc, clock)?;
-    Ok(Some(SmallCircuit { name, clock, ports, statements }))
+    Ok(Some(SmallCircuit {
+        name,
+        clock,
+        ports,
+        statements,
+    }))
 }
 
 /// Whether the pieces are those above the ports of a circuit of this name and clock.
@@ -99,7 +104,10 @@ fn read_ports(alloc: Global, pieces: &[Piece<'_>]) -> Result<(List<Port>, usize)
 }
 
 /// The statement whose line comes first, and how many pieces the line has.
-fn first_statement(alloc: Global, pieces: &[Piece<'_>]) -> Result<Option<(Statement, usize)>, AllocError>
+fn first_statement(
+    alloc: Global,
+    pieces: &[Piece<'_>],
+) -> Result<Option<(Statement, usize)>, AllocError>
     ensures { IfOk result (ReadsFirst statement_line IsWritableStatement (map shown pieces.now)) }
 {
     let Some((line, rest)) = next_line(pieces) else {
@@ -112,7 +120,10 @@ fn first_statement(alloc: Global, pieces: &[Piece<'_>]) -> Result<Option<(Statem
 }
 
 /// The statements whose lines come first, and how many pieces the lines have.
-fn read_statements(alloc: Global, pieces: &[Piece<'_>]) -> Result<(List<Statement>, usize), AllocError>
+fn read_statements(
+    alloc: Global,
+    pieces: &[Piece<'_>],
+) -> Result<(List<Statement>, usize), AllocError>
     ensures { IfOk result (λ read. IsFront statement_line IsWritableStatement (map shown pieces.now) read.0 read.1) }
 {
     let mut statements = Vec::new(alloc);
