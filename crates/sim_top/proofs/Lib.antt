@@ -4,3 +4,4 @@ pub mod PortLemmas
 pub mod FrontLemmas
 pub mod CircuitLemmas
 pub mod WritableLemmas
+pub mod RoomLemmas

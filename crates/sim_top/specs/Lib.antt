@@ -4,3 +4,4 @@ pub mod Cycles
 pub mod Pieces
 pub mod Lines
 pub mod Writable
+pub mod Room

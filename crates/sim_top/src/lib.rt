@@ -7,4 +7,5 @@ pub mod line;
 pub mod piece;
 pub mod read_circuit;
 pub mod read_line;
+pub mod short;
 pub mod stimulus;
