@@ -11,3 +11,10 @@ pub mod Lines
 pub mod Memberships
 pub mod Names_of
 pub mod Splits
+pub mod LineLemmas
+pub mod SumLemmas
+pub mod PortLemmas
+pub mod FrontLemmas
+pub mod CircuitLemmas
+pub mod WritableLemmas
+pub mod RoomLemmas

@@ -8,3 +8,6 @@ pub mod Answers
 pub mod Endings
 pub mod Evaluation
 pub mod Examples
+pub mod Lines
+pub mod Writable
+pub mod Room
