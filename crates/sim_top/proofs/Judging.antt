@@ -10,7 +10,8 @@ use Rattle.sim_top.specs.declared.fault.FaultKind.TheVariants.{TooLong, NoStimul
 use Rattle.sim_top.specs.declared.circuit.SmallCircuit.{SmallCircuit}
 use Rattle.sim_top.specs.declared.stimulus.SmallStimulus.{SmallStimulus}
 use Rattle.sim_top.specs.StimulusLine.{HasNone, IsSplit}
-use Rattle.sim_top.specs.CircuitText.{IsLaid, IsTextFault, IsLaidOnly, IsFaultOnly}
+use Rattle.fir_layout.specs.Layout.{IsLaidOut}
+use Rattle.sim_top.specs.CircuitText.{IsTextFault, IsLaidOnly, IsFaultOnly}
 use Rattle.sim_top.specs.SmallCircuits.{IsSmallCircuit}
 use Rattle.sim_top.specs.SmallStimuli.{IsSmallStimulus}
 use Rattle.sim_top.specs.Cycles.{trace}

@@ -18,3 +18,4 @@ pub mod FrontLemmas
 pub mod CircuitLemmas
 pub mod WritableLemmas
 pub mod RoomLemmas
+pub mod Fronts

@@ -13,7 +13,8 @@ use Rattle.sim_top.specs.declared.fault.Fault.{Fault}
 use Rattle.sim_top.specs.declared.circuit.SmallCircuit.{SmallCircuit}
 use Rattle.sim_top.specs.declared.stimulus.SmallStimulus.{SmallStimulus}
 use Rattle.sim_top.specs.StimulusLine.{IsSplit, HasNone}
-use Rattle.sim_top.specs.CircuitText.{IsLaid, IsTextFault, IsFaultOnly}
+use Rattle.fir_layout.specs.Layout.{IsLaidOut}
+use Rattle.sim_top.specs.CircuitText.{IsTextFault, IsFaultOnly}
 use Rattle.sim_top.specs.SmallCircuits.{IsSmallCircuit}
 use Rattle.sim_top.specs.SmallStimuli.{IsSmallStimulus}
 use Rattle.sim_top.specs.Cycles.{trace}
@@ -75,10 +76,10 @@ AreSmall pieces stimulus c s = IsSmallCircuit pieces c × IsSmallStimulus c stim
 -- or for `run` the trace of the small circuit under the small stimulus, and that it is not built where they are not small.
 pub data JudgesTaken : Command → List ℕ → List ℕ → ℕ → List ℕ → Type 0 where
   text_fault : (command : Command) (joined circuit : List ℕ) (fault : Fault) → IsTextFault circuit fault → JudgesTaken command joined circuit 2 (fault_bytes fault)
-  accepted : (joined circuit : List ℕ) (laid : List Laid) → IsLaid circuit laid → JudgesTaken Check joined circuit 0 (codes "ok\n")
+  accepted : (joined circuit : List ℕ) (laid : List Laid) → IsLaidOut circuit laid → JudgesTaken Check joined circuit 0 (codes "ok\n")
   traced : (joined circuit stimulus : List ℕ) (laid : List Laid) (c : SmallCircuit) (s : SmallStimulus) → IsSplit joined circuit stimulus
-      → IsLaid circuit laid → AreSmall (pieces_of circuit laid) stimulus c s → JudgesTaken Run joined circuit 0 (trace c s)
-  not_built : (joined circuit stimulus : List ℕ) (laid : List Laid) → IsSplit joined circuit stimulus → IsLaid circuit laid
+      → IsLaidOut circuit laid → AreSmall (pieces_of circuit laid) stimulus c s → JudgesTaken Run joined circuit 0 (trace c s)
+  not_built : (joined circuit stimulus : List ℕ) (laid : List Laid) → IsSplit joined circuit stimulus → IsLaidOut circuit laid
       → ((c : SmallCircuit) (s : SmallStimulus) → AreSmall (pieces_of circuit laid) stimulus c s → ⊥)
       → JudgesTaken Run joined circuit 2 (fault_bytes (at_front NotBuilt))
 
