@@ -1,3 +1,4 @@
 mod Lookups
 mod Names_of
 mod Splits
+mod StimulusLines

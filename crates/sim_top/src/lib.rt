@@ -8,4 +8,5 @@ pub mod check_stimulus;
 pub mod circuit;
 pub mod decimal;
 pub mod piece;
+pub mod read_stimulus;
 pub mod stimulus;
