@@ -1,4 +1,4 @@
 mod Lookups
-mod Names_of
+mod DeclaredNames
 mod Splits
 mod StimulusLines

@@ -8,7 +8,7 @@ use Rattle.std.proofs.lemmas.Bool.{cases_lt, false≢true}
 use Rattle.std.proofs.lemmas.List.{get_or_at, take_at, drop_at, length-append, get_or_append_left, get_or_default, drop_more, take_all, append-nil, nil_from_length, flat_map_more}
 use Rattle.std.proofs.lemmas.List.Elements.{All-nil, All-cons, All-head, All-tail, All-push, All-contains}
 use Rattle.sim_top.proofs.Lookups.{Contains-cons}
-use Rattle.sim_top.proofs.Names_of.{All-left, All-right, ports_named}
+use Rattle.sim_top.proofs.DeclaredNames.{All-left, All-right, ports_named}
 use Rattle.sim_top.proofs.Splits.{to_place}
 use Rattle.sim_top.specs.SmallCircuits.{IsWellFormed, IsName, IsWidth, is_name_byte, register_names}
 use Rattle.sim_top.specs.SmallStimuli.{setting_line, cycles_line, IsSetting, IsStimulusOf}
@@ -131,7 +131,7 @@ pub spelled_more : (bytes : List ℕ) (settings after : List Setting) (rest left
     → after ≡ settings ++ t ∷ [] → bytes ≡ flat_map setting_line after ++ left
 spelled_more bytes settings after rest left t spelled line grown =
     spelled ∙ ap (λ xs. flat_map setting_line settings ++ xs) line ∙ sym (append_assoc (flat_map setting_line settings) (setting_line t) left)
-      ∙ ap (λ xs. xs ++ left) (flat_map_more setting_line [] settings t ∙ ap (flat_map setting_line) (sym grown))
+    ∙ ap (λ xs. xs ++ left) (flat_map_more setting_line [] settings t ∙ ap (flat_map setting_line) (sym grown))
 
 pub same_stimulus : (s : SmallStimulus) (cycles : ℕ) (settings : List Setting) → cycles ≡ s.cycles → settings ≡ s.settings → Some (record s { cycles = cycles; settings = settings }) ≡ Some s
 same_stimulus s cycles settings first second =

@@ -5,6 +5,8 @@ pub mod check_circuit;
 mod check_names;
 mod check_statements;
 pub mod check_stimulus;
+#[cfg(test)]
+mod check_tests;
 pub mod circuit;
 pub mod decimal;
 pub mod piece;

@@ -9,11 +9,10 @@ ghost use Rattle.sim_top.specs.declared.circuit.SmallCircuit.{SmallCircuit as On
 ghost use Rattle.sim_top.specs.declared.stimulus.Setting.{Setting as OneSetting};
 ghost use Rattle.sim_top.specs.declared.stimulus.SmallStimulus.{SmallStimulus as OneStimulus};
 
-use bit_words::List;
-use std::alloc::{AllocError, Global};
-
 use crate::decimal::read_decimal;
 use crate::stimulus::{Setting, SmallStimulus};
+use bit_words::List;
+use std::alloc::{AllocError, Global};
 
 /// The small stimulus that the bytes spell, or none. Each stimulus that is one of a well-formed circuit's is read.
 /// Whether it is one of a circuit's is for `is_stimulus_of` to say.

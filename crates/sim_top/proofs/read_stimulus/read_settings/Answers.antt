@@ -21,7 +21,7 @@ loop-rest-preserved c =
     let t : Setting = record { cycle = line.cycle; input = line.input.now; value = line.value } in
     let input : c.from_vec-input.result ≡ line.input.now = c.from_vec-input.ensures ∙ c.in_ok-from_slice.ensures.items in
     let grown : c.push.new.self ≡ c.loop-rest.settings ++ t ∷ [] =
-      c.in_ok-push.ensures.ok ∙ ap (λ (name : List ℕ). c.loop-rest.settings ++ record t { input = name } ∷ []) input in
+    c.in_ok-push.ensures.ok ∙ ap (λ (name : List ℕ). c.loop-rest.settings ++ record t { input = name } ∷ []) input in
     record {
       spelled = spelled_more c.args.bytes.now c.loop-rest.settings c.push.new.self c.loop-rest.rest.now line.rest.now t c.loop-rest.invariant.spelled c.in-Some.ensures.sound grown;
       wanted = rw grown (wanted_more c.args.bytes.now c.loop-rest.settings c.loop-rest.rest.now line.rest.now t c.loop-rest.invariant.wanted some c.in-Some.ensures.complete);

@@ -9,7 +9,7 @@ use Rattle.sim_top.proofs.read_stimulus.read_settings.Given as goal
 abbrev pub invariant-loop-rest : goal.invariant-loop-rest
 invariant-loop-rest l = record {
   spelled : l.bytes ≡ flat_map setting_line l.settings ++ l.rest;
-  wanted : (ss : List Setting) → All IsPlain ss → l.bytes ≡ flat_map setting_line ss → (more : List Setting) × (ss ≡ l.settings ++ more) × (l.rest ≡ flat_map setting_line more)
+  wanted : (ss : List Setting) → All IsPlain ss → l.bytes ≡ flat_map setting_line ss → (more : List Setting) × (ss ≡ l.settings ++ more) × (l.rest ≡ flat_map setting_line more);
 }
 
 abbrev pub decreases-loop-rest : goal.decreases-loop-rest
