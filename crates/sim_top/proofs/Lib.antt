@@ -9,8 +9,9 @@ pub mod Steps
 pub mod Settings
 pub mod Lines
 pub mod Memberships
-pub mod Names_of
+pub mod DeclaredNames
 pub mod Splits
+pub mod StimulusLines
 pub mod LineLemmas
 pub mod SumLemmas
 pub mod PortLemmas

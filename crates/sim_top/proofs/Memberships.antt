@@ -37,9 +37,10 @@ looked_up f test n none gives (x ∷ xs) = step (test x) refl (gives x xs) (look
     step : (b : Bool) → test x ≡ b → Gives f test n x xs → Decides (list_any test xs) (Contains (f xs) n) → Decides (list_any test (x ∷ xs)) (Contains (f (x ∷ xs)) n)
     step true is (inl (m, grown, same)) rest =
         (λ h. rw grown (Contains-first m (f xs) n ((bytes_eq-Decides m n).0 (sym same ∙ is))), λ h. ap (λ b. b || list_any test xs) is)
-    step false is (inl (m, grown, same)) rest =
-        (λ h. rw grown (Contains-later m (f xs) n (rest.0 (sym (ap (λ b. b || list_any test xs) is) ∙ h))),
-         λ h. ap (λ b. b || list_any test xs) is ∙ ⊎_elim (λ e. absurd (differ e)) rest.1 (Contains-cons m (f xs) n (rw grown at h)))
+    step false is (inl (m, grown, same)) rest = (
+      λ h. rw grown (Contains-later m (f xs) n (rest.0 (sym (ap (λ b. b || list_any test xs) is) ∙ h))),
+      λ h. ap (λ b. b || list_any test xs) is ∙ ⊎_elim (λ e. absurd (differ e)) rest.1 (Contains-cons m (f xs) n (rw grown at h)),
+    )
       where
         differ : m ≡ n → ⊥
         differ e = let yes : bytes_eq m n ≡ true = (bytes_eq-Decides m n).1 e in cc

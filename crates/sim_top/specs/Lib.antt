@@ -11,3 +11,4 @@ pub mod Examples
 pub mod Lines
 pub mod Writable
 pub mod Room
+pub mod PlainSettings

@@ -73,7 +73,8 @@ fn have_different_names(circuit: &SmallCircuit) -> bool
 {
     let ports = circuit.ports.as_slice();
     let statements = circuit.statements.as_slice();
-    !is_declared(ports, statements, circuit.clock.as_slice()) && are_ports_different(ports, statements)
+    !is_declared(ports, statements, circuit.clock.as_slice())
+        && are_ports_different(ports, statements)
 }
 
 /// Whether a port or a register has the name.

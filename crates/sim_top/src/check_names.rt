@@ -38,14 +38,18 @@ pub fn has_port(ports: &[Port], name: &[u8]) -> bool
 pub fn has_output(ports: &[Port], name: &[u8]) -> bool
     ensures { IsTrue result ↔ Contains (output_names ports.now) name.now }
 {
-    ports.iter().any(|port| port.output && port.name.as_slice() == name)
+    ports
+        .iter()
+        .any(|port| port.output && port.name.as_slice() == name)
 }
 
 /// Whether an input other than the clock has the name.
 pub fn has_input(ports: &[Port], name: &[u8]) -> bool
     ensures { IsTrue result ↔ Contains (input_names ports.now) name.now }
 {
-    ports.iter().any(|port| !port.output && port.name.as_slice() == name)
+    ports
+        .iter()
+        .any(|port| !port.output && port.name.as_slice() == name)
 }
 
 /// Whether a register has the name.

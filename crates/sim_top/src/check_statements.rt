@@ -6,7 +6,9 @@ ghost use Rattle.sim_top.specs.declared.circuit.Port.{Port as OnePort};
 ghost use Rattle.sim_top.specs.declared.circuit.Statement.{Statement as OneStatement};
 
 use crate::check_names::{has_input, has_output, has_register};
-use crate::circuit::{Connect, Expression, Literal, Operand, Port, Register, SmallCircuit, Statement};
+use crate::circuit::{
+    Connect, Expression, Literal, Operand, Port, Register, SmallCircuit, Statement,
+};
 
 /// Whether each statement may stand behind those above it.
 pub fn are_placed(circuit: &SmallCircuit) -> bool
@@ -52,7 +54,8 @@ fn is_connect_placed(circuit: &SmallCircuit, above: &[Statement], connect: &Conn
 {
     let ports = circuit.ports.as_slice();
     let target = connect.target.as_slice();
-    (has_output(ports, target) || has_register(above, target)) && is_expression(ports, above, &connect.source)
+    (has_output(ports, target) || has_register(above, target))
+        && is_expression(ports, above, &connect.source)
 }
 
 fn is_expression(ports: &[Port], above: &[Statement], expression: &Expression) -> bool
@@ -60,7 +63,8 @@ fn is_expression(ports: &[Port], above: &[Statement], expression: &Expression) -
 {
     match expression {
         Expression::Operand(operand) => is_operand(ports, above, operand),
-        Expression::Sum(first, second) => is_operand(ports, above, first) && is_operand(ports, above, second),
+        Expression::Sum(first, second) => is_operand(ports, above, first)
+            && is_operand(ports, above, second),
     }
 }
 

@@ -53,7 +53,9 @@ fn is_behind(above: &[Setting], cycle: u64) -> bool
 fn has_value(ports: &[Port], name: &[u8], value: u64) -> bool
     ensures { IsTrue result ↔ ((p : OnePort) × Contains ports.now p × (p.output ≡ false) × (p.name ≡ name.now) × (value < 2 ^ p.width)) }
 {
-    ports.iter().any(|port| !port.output && port.name.as_slice() == name && is_within(value, port.width))
+    ports.iter().any(|port| !port.output
+        && port.name.as_slice() == name
+        && is_within(value, port.width))
 }
 
 /// Whether one of the settings sets the input in the cycle.

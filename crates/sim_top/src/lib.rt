@@ -5,6 +5,8 @@ mod check_circuit;
 mod check_names;
 mod check_statements;
 mod check_stimulus;
+#[cfg(test)]
+mod check_tests;
 mod circuit;
 mod command;
 mod decimal;

@@ -1,7 +1,7 @@
 use Rattle.std.proofs.Common.{map, ◌++◌}
 use Rattle.std.proofs.lemmas.List.Elements.{All-cons, All-head, All-tail}
 use Rattle.sim_top.specs.SmallCircuits.{IsName, register_names}
-use Rattle.sim_top.proofs.Names_of.{both_or_none, not_first}
+use Rattle.sim_top.proofs.DeclaredNames.{both_or_none, not_first}
 use Rattle.sim_top.proofs.check_circuit.are_declared_named.Goals as goal
 
 pub returns-then-is_name : goal.returns-then-is_name

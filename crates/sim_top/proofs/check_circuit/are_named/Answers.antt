@@ -1,7 +1,7 @@
 use Rattle.std.proofs.Common.{map}
 use Rattle.std.proofs.lemmas.List.Elements.{All-append}
 use Rattle.sim_top.specs.SmallCircuits.{IsName, register_names}
-use Rattle.sim_top.proofs.Names_of.{both_or_none, not_first, All-left, All-right}
+use Rattle.sim_top.proofs.DeclaredNames.{both_or_none, not_first, All-left, All-right}
 use Rattle.sim_top.proofs.check_circuit.are_named.Goals as goal
 
 pub returns-then-are_ports_named : goal.returns-then-are_ports_named

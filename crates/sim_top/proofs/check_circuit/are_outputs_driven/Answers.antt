@@ -1,7 +1,7 @@
 use Rattle.std.proofs.Common.{rules, tests}
 use Rattle.std.proofs.lemmas.Iterator.{cases_from_all, YieldsList-from_slice}
 use Rattle.std.proofs.lemmas.Bool.Decides.{Decides-like}
-use Rattle.sim_top.proofs.Names_of.{all_decided, outputs_driven, PortDriven}
+use Rattle.sim_top.proofs.DeclaredNames.{all_decided, outputs_driven, PortDriven}
 use Rattle.sim_top.proofs.check_circuit.are_outputs_driven.Goals as goal
 
 pub returns : goal.returns

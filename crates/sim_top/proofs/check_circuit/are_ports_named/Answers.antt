@@ -3,7 +3,7 @@ use Rattle.std.proofs.lemmas.Iterator.{cases_from_all, YieldsList-from_slice}
 use Rattle.std.proofs.lemmas.Bool.Decides.{Decides-like}
 use Rattle.sim_top.specs.SmallCircuits.{IsName}
 use Rattle.sim_top.specs.declared.circuit.Port.{Port}
-use Rattle.sim_top.proofs.Names_of.{all_decided, ports_named}
+use Rattle.sim_top.proofs.DeclaredNames.{all_decided, ports_named}
 use Rattle.sim_top.proofs.check_circuit.are_ports_named.Goals as goal
 
 pub returns : goal.returns

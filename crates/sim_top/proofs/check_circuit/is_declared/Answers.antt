@@ -1,7 +1,7 @@
 use Rattle.std.proofs.Common.{map}
 use Rattle.std.proofs.lemmas.List.Elements.{Contains-append_cases, Contains-append_right}
 use Rattle.sim_top.specs.SmallCircuits.{register_names}
-use Rattle.sim_top.proofs.Names_of.{either_of}
+use Rattle.sim_top.proofs.DeclaredNames.{either_of}
 use Rattle.sim_top.proofs.check_circuit.is_declared.Goals as goal
 
 pub returns-else-has_port : goal.returns-else-has_port

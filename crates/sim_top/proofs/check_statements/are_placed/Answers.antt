@@ -10,11 +10,13 @@ returns-then-not-is_placed c =
     let statements = c.as_slice-statements.result.now in
     let i = c.loop-i.i in
     let item = c.index-statements-i.result in
-    let within : i < length statements = omega arith in
-    (λ h. absurd (false≢true h), λ all.
-      let here : IsPlaced circuit (take i statements) (get_or statements i item) = to_place (IsPlaced circuit) statements (λ above below s e. all above below s (sym c.as_slice-statements.ensures ∙ e)) i item within in
-      let yes = c.is_placed.ensures.1 (subst (IsPlaced circuit (take i statements)) (sym c.index-statements-i.is) here) in
-      absurd (let no = c.if-not-is_placed.true in cc))
+    let within : i < length statements = omega arith in (
+      λ h. absurd (false≢true h),
+      λ all.
+          let here : IsPlaced circuit (take i statements) (get_or statements i item) = to_place (IsPlaced circuit) statements (λ above below s e. all above below s (sym c.as_slice-statements.ensures ∙ e)) i item within in
+          let yes = c.is_placed.ensures.1 (subst (IsPlaced circuit (take i statements)) (sym c.index-statements-i.is) here) in
+          absurd (let no = c.if-not-is_placed.true in cc),
+    )
 
 pub returns : goal.returns
 returns c =

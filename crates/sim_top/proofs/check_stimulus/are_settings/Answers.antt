@@ -11,11 +11,13 @@ returns-then-not-is_setting c =
     let settings = c.as_slice-settings.result.now in
     let i = c.loop-i.i in
     let item = c.index-settings-i.result in
-    let within : i < length settings = omega arith in
-    (λ h. absurd (false≢true h), λ all.
-      let here : IsSetting circuit cycles (take i settings) (get_or settings i item) = to_place (IsSetting circuit cycles) settings (λ above below s e. all above below s (sym c.as_slice-settings.ensures ∙ e)) i item within in
-      let yes = c.is_setting.ensures.1 (subst (IsSetting circuit cycles (take i settings)) (sym c.index-settings-i.is) here) in
-      absurd (let no = c.if-not-is_setting.true in cc))
+    let within : i < length settings = omega arith in (
+      λ h. absurd (false≢true h),
+      λ all.
+          let here : IsSetting circuit cycles (take i settings) (get_or settings i item) = to_place (IsSetting circuit cycles) settings (λ above below s e. all above below s (sym c.as_slice-settings.ensures ∙ e)) i item within in
+          let yes = c.is_setting.ensures.1 (subst (IsSetting circuit cycles (take i settings)) (sym c.index-settings-i.is) here) in
+          absurd (let no = c.if-not-is_setting.true in cc),
+    )
 
 pub loop-i-preserved : goal.loop-i-preserved
 loop-i-preserved c =

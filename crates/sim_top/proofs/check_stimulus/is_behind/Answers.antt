@@ -2,7 +2,7 @@ use Rattle.std.proofs.Common.{rules, tests, ◌≤◌}
 use Rattle.std.proofs.lemmas.Iterator.{cases_from_all, YieldsList-from_slice}
 use Rattle.std.proofs.lemmas.Bool.Decides.{Decides-like}
 use Rattle.sim_top.specs.declared.stimulus.Setting.{Setting}
-use Rattle.sim_top.proofs.Names_of.{all_decided, each_item}
+use Rattle.sim_top.proofs.DeclaredNames.{all_decided, each_item}
 use Rattle.sim_top.proofs.check_stimulus.is_behind.Goals as goal
 
 pub returns : goal.returns

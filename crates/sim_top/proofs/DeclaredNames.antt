@@ -26,9 +26,10 @@ all_named f P Q none named [] = (λ h. rw none (All-nil P), λ h. All-nil Q)
 all_named f P Q none named (x ∷ xs) = step (named x xs) (all_named f P Q none named xs)
   where
     step : Named f P Q x xs → (All Q xs → All P (f xs)) × (All P (f xs) → All Q xs) → (All Q (x ∷ xs) → All P (f (x ∷ xs))) × (All P (f (x ∷ xs)) → All Q (x ∷ xs))
-    step (inl (m, grown, to, from)) rest =
-        (λ h. rw grown (All-cons P m (f xs) (to (All-head Q x xs h)) (rest.0 (All-tail Q x xs h))),
-         λ h. let g = rw grown at h in All-cons Q x xs (from (All-head P m (f xs) g)) (rest.1 (All-tail P m (f xs) g)))
+    step (inl (m, grown, to, from)) rest = (
+      λ h. rw grown (All-cons P m (f xs) (to (All-head Q x xs h)) (rest.0 (All-tail Q x xs h))),
+      λ h. let g = rw grown at h in All-cons Q x xs (from (All-head P m (f xs) g)) (rest.1 (All-tail P m (f xs) g)),
+    )
     step (inr (kept, has)) rest =
         (λ h. rw kept (rest.0 (All-tail Q x xs h)), λ h. All-cons Q x xs has (rest.1 (rw kept at h)))
 
