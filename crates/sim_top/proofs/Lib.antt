@@ -4,3 +4,4 @@ pub mod Placed
 pub mod Steps
 pub mod Settings
 pub mod Lines
+pub mod CounterFormed
