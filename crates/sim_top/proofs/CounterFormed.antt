@@ -113,7 +113,3 @@ settings = (
 pub counter_stimulus_formed : IsStimulusOf counter counter_stimulus
 unfolding counter_stimulus
 counter_stimulus_formed = record { cycles = omega arith; settings = λ above below t e. each_set counter 4 [] counter_stimulus.settings settings above below t e }
-
--- a stimulus of no cycles
-pub nothing_formed : (c : SmallCircuit) (s : SmallStimulus) → s.cycles ≡ 0 → s.settings ≡ [] → IsStimulusOf c s
-nothing_formed c s none no_settings = record { cycles = omega arith; settings = λ above below t e. each_set c s.cycles [] [] tt above below t (sym no_settings ∙ e) }
