@@ -20,3 +20,4 @@ pub mod CircuitLemmas
 pub mod WritableLemmas
 pub mod RoomLemmas
 pub mod Fronts
+pub mod CounterFormed

@@ -24,13 +24,13 @@ range_more n = sym (map-id (range_with_len 0 (n + 1))) ∙ map-range_with_len_mo
 pub one_more : (f : ℕ → List ℕ) (out : List ℕ) (n : ℕ) → (out ++ flat_map f (range_with_len 0 n)) ++ f n ≡ out ++ flat_map f (range_with_len 0 (n + 1))
 one_more f out n =
     append_assoc out (flat_map f (range_with_len 0 n)) (f n)
-      ∙ ap (λ t. out ++ t) (sym (ap (flat_map f) (range_more n) ∙ flat_map-append f (range_with_len 0 n) (n ∷ []) ∙ ap (λ t. flat_map f (range_with_len 0 n) ++ t) (append-nil (f n))))
+    ∙ ap (λ t. out ++ t) (sym (ap (flat_map f) (range_more n) ∙ flat_map-append f (range_with_len 0 n) (n ∷ []) ∙ ap (λ t. flat_map f (range_with_len 0 n) ++ t) (append-nil (f n))))
 
 -- a whole line: what is in front, what the outputs add, and a line feed
 pub line_joined : (out front : List ℕ) (f : List ℕ → List ℕ) (ports seen : List Port) → seen ≡ ports
     → ((out ++ front) ++ flat_map (λ (p : Port). if p.output then f p.name else []) seen) ++ 10 ∷ [] ≡ out ++ ((front ++ flat_map f (output_names ports)) ++ 10 ∷ [])
 line_joined out front f ports seen e =
     ap (λ (ps : List Port). ((out ++ front) ++ flat_map (λ (p : Port). if p.output then f p.name else []) ps) ++ 10 ∷ []) e
-      ∙ ap (λ (t : List ℕ). ((out ++ front) ++ t) ++ 10 ∷ []) (of_outputs f ports)
-      ∙ ap (λ (t : List ℕ). t ++ 10 ∷ []) (append_assoc out front (flat_map f (output_names ports)))
-      ∙ append_assoc out (front ++ flat_map f (output_names ports)) (10 ∷ [])
+    ∙ ap (λ (t : List ℕ). ((out ++ front) ++ t) ++ 10 ∷ []) (of_outputs f ports)
+    ∙ ap (λ (t : List ℕ). t ++ 10 ∷ []) (append_assoc out front (flat_map f (output_names ports)))
+    ∙ append_assoc out (front ++ flat_map f (output_names ports)) (10 ∷ [])

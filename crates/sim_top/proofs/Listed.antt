@@ -42,9 +42,11 @@ other_text a b n = false_from_ne_true (bytes_eq a b) (λ e. n ((bytes_eq-Decides
 pub differ_parts : (xs ys : List (List ℕ)) → Differ (xs ++ ys) → Differ xs × Differ ys × ((name : List ℕ) → Contains xs name → Contains ys name → ⊥)
 differ_parts [] ys d = (tt, d, λ name c. absurd (none_in name c))
 differ_parts (x ∷ xs) ys d =
-    let rest = differ_parts xs ys d.1 in
-    ((λ c. d.0 (Contains-append_left xs ys x c), rest.0), rest.1,
-      λ name c other. ⊎_elim (λ e. d.0 (Contains-append_right xs ys x (subst (λ (n : List ℕ). Contains ys n) (sym e) other))) (λ more. rest.2 name more other) (cons_cases x xs name c))
+    let rest = differ_parts xs ys d.1 in (
+      (λ c. d.0 (Contains-append_left xs ys x c), rest.0),
+      rest.1,
+      λ name c other. ⊎_elim (λ e. d.0 (Contains-append_right xs ys x (subst (λ (n : List ℕ). Contains ys n) (sym e) other))) (λ more. rest.2 name more other) (cons_cases x xs name c),
+    )
 
 -- what is kept of the first element that passes
 pub found : {X : Type 0} (f : X → ℕ) (p : X → Bool) (v : ℕ) → ((x : X) → p x ≡ true → f x ≡ v) → (xs : List X) (i d : ℕ) → position p xs ≡ Some i → get_or (map f xs) i d ≡ v

@@ -96,4 +96,4 @@ pub unwritten : (rho : Valuation) (name : List ℕ) (v : ℕ) (ports : List Port
 unwritten rho name v ports numbers d e none =
     let beyond : length (map (input_number rho) ports) ≤ position_or_len (is_input_named name) ports = rw length-map (past (is_input_named name) ports none) in
     e ∙ sym (set_past (map (input_number rho) ports) (position_or_len (is_input_named name) ports) v beyond)
-      ∙ set_first (input_number rho) (input_number (put rho name v)) (is_input_named name) v (put_at rho name v) (put_other rho name v) ports (once_named name ports d)
+    ∙ set_first (input_number rho) (input_number (put rho name v)) (is_input_named name) v (put_at rho name v) (put_other rho name v) ports (once_named name ports d)

@@ -57,7 +57,7 @@ usable_source c formed name e h =
     let at = source_at c.statements name e h in
     let p = placed_at c formed (statement.Connect at.0) at.1 in
     subst (λ (x : Expression). IsExpression c.ports c.statements x) at.2
-      (subst (λ (xs : List Statement). IsExpression c.ports xs at.0.source) (sym p.2) (expression_weaker c.ports p.0 (statement.Connect at.0 ∷ p.1) at.0.source p.3.1))
+    (subst (λ (xs : List Statement). IsExpression c.ports xs at.0.source) (sym p.2) (expression_weaker c.ports p.0 (statement.Connect at.0 ∷ p.1) at.0.source p.3.1))
 
 -- widths are at most 64
 port_width_small : (ports : List Port) (name : List ℕ) (other : ℕ) → All (λ p. IsWidth p.width) ports → other ≤ 64 → port_width ports name other ≤ 64

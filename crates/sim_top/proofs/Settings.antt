@@ -36,7 +36,7 @@ at_zero x (s ∷ ss) rho h e = by (cases_eq s.cycle 0) (at_zero x ss)
     by : ((s.cycle ≡ 0) ⊎ (s.cycle ≡ 0 → ⊥)) → ((sigma : Valuation) (g : ℕ) → sigma x ≡ g → set_in ss 0 sigma x ≡ set_value ss 0 x g) → set_in (s ∷ ss) 0 rho x ≡ set_value (s ∷ ss) 0 x h
     by (inl same) rest =
         rw (eq-eqb s.cycle 0 same, le-leb s.cycle 0 (omega arith))
-          (rest (put rho s.input s.value) (if bytes_eq s.input x then s.value else h) (ap (λ v. if bytes_eq s.input x then s.value else v) e))
+        (rest (put rho s.input s.value) (if bytes_eq s.input x then s.value else h) (ap (λ v. if bytes_eq s.input x then s.value else v) e))
     by (inr other) rest = rw (ne_eqb s.cycle 0 other, lt-leb s.cycle 0 (omega arith)) (rest rho h e)
 
 in_cycle : (n : ℕ) (x : List ℕ) (ss : List Setting) → InOrder ss → (rho : Valuation) (h : ℕ) → rho x ≡ set_value ss n x h → set_in ss (suc n) rho x ≡ set_value ss (suc n) x h
@@ -49,11 +49,11 @@ in_cycle n x (s ∷ ss) o rho h e = by (cases_order s.cycle (suc n)) (in_cycle n
         let none : (v : ℕ) → set_value ss n x v ≡ v = λ v. late ss n x v (λ t c. let first = head_first s ss o t c in omega arith) in
         let before = rw (lt-leb s.cycle n (omega arith)) at e in
         rw (eq-eqb s.cycle (suc n) same, le-leb s.cycle (suc n) (omega arith))
-          (rest (put rho s.input s.value) (if bytes_eq s.input x then s.value else h)
-            (ap (λ v. if bytes_eq s.input x then s.value else v) (before ∙ none h) ∙ sym (none (if bytes_eq s.input x then s.value else h))))
+        (rest (put rho s.input s.value) (if bytes_eq s.input x then s.value else h)
+        (ap (λ v. if bytes_eq s.input x then s.value else v) (before ∙ none h) ∙ sym (none (if bytes_eq s.input x then s.value else h))))
     by (inr (inl earlier)) rest =
         rw (ne_eqb s.cycle (suc n) (λ same. omega arith), le-leb s.cycle (suc n) (omega arith))
-          (rest rho (if bytes_eq s.input x then s.value else h) (rw (le-leb s.cycle n (omega arith)) at e))
+        (rest rho (if bytes_eq s.input x then s.value else h) (rw (le-leb s.cycle n (omega arith)) at e))
     by (inr (inr after)) rest =
         rw (ne_eqb s.cycle (suc n) (λ same. omega arith), lt-leb s.cycle (suc n) (omega arith)) (rest rho h (rw (lt-leb s.cycle n (omega arith)) at e))
 

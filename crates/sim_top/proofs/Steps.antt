@@ -34,6 +34,7 @@ port_found (q ∷ qs) p d c out = ⊎_elim first (λ more. behind more (port_fou
   where
     first : q ≡ p → is_input (q ∷ qs) p.name ≡ true
     first same = rw (same_text q.name p.name (ap (λ (x : Port). x.name) same), ap (λ (x : Port). x.output) same ∙ out) refl
+
     behind : Contains qs p → is_input qs p.name ≡ true → is_input (q ∷ qs) p.name ≡ true
     behind more rest = rw (other_text q.name p.name (λ same. d.0 (subst (λ (n : List ℕ). Contains (map (λ q. q.name) qs) n) (sym same) (contains_map (λ (q : Port). q.name) qs p more)))) rest
 
@@ -41,7 +42,7 @@ not_found : (ps : List Port) (name : List ℕ) → (Contains (map (λ q. q.name)
 not_found [] name n = refl
 not_found (q ∷ qs) name n =
     rw (other_text q.name name (λ same. n (subst (λ (x : List ℕ). Contains (map (λ q. q.name) (q ∷ qs)) x) same (here q.name (map (λ q. q.name) qs)))))
-      (not_found qs name (λ c. n (later q.name name (map (λ q. q.name) qs) c)))
+    (not_found qs name (λ c. n (later q.name name (map (λ q. q.name) qs) c)))
 
 -- each input has its last setting
 inputs_set : (c : SmallCircuit) (s : SmallStimulus) (n : ℕ) → IsWellFormed c → (p : Port) → Contains c.ports p → input_number (values_in c s n) p ≡ input_number (set_before s.settings (suc n)) p
@@ -80,6 +81,7 @@ next_found c rho (statement.Register q ∷ xs) r d stands =
   where
     first : statement.Register q ≡ statement.Register r → next_value c rho (statement.Register q ∷ xs) r.name ≡ register_next c rho r
     first e = let same : q ≡ r = cc in rw (same_text q.name r.name (ap (λ (x : Register). x.name) same)) (ap (λ (x : Register). register_next c rho x) same)
+
     behind : Contains xs (statement.Register r) → next_value c rho xs r.name ≡ register_next c rho r → next_value c rho (statement.Register q ∷ xs) r.name ≡ register_next c rho r
     behind more rest = rw (other_text q.name r.name (λ same. d.0 (subst (λ (n : List ℕ). Contains (register_names xs) n) (sym same) (named_register xs r more)))) rest
 

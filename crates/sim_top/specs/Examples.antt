@@ -13,7 +13,7 @@ counter = record {
   clock = codes "clock";
   ports = record { output = false; name = codes "reset"; width = 1 } ∷ record { output = true; name = codes "out"; width = 4 } ∷ [];
   statements =
-    statement.Register (record { name = codes "r"; width = 4; clock = codes "clock"; reset = codes "reset"; initial = record { width = 4; value = 0 } })
+      statement.Register (record { name = codes "r"; width = 4; clock = codes "clock"; reset = codes "reset"; initial = record { width = 4; value = 0 } })
       ∷ statement.Connect (record { target = codes "r"; source = expression.Sum (operand.Name (codes "r")) (operand.Literal (record { width = 4; value = 1 })) })
       ∷ statement.Connect (record { target = codes "out"; source = expression.Operand (operand.Name (codes "r")) })
       ∷ [];

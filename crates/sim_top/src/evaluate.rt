@@ -21,7 +21,11 @@ pub struct Values {
 
 impl Values {
     /// The values that a run starts from: all are 0.
-    pub fn start(alloc: Global, circuit: &SmallCircuit, stimulus: &SmallStimulus) -> Result<Values, AllocError>
+    pub fn start(
+        alloc: Global,
+        circuit: &SmallCircuit,
+        stimulus: &SmallStimulus,
+    ) -> Result<Values, AllocError>
         ensures { IfOk result (λ v. Enters circuit.now stimulus.now 0 v) }
     {
         Ok(Values {
@@ -37,7 +41,8 @@ impl Values {
         requires enters { Enters circuit.now stimulus.now cycle self.old }
         ensures { Holds circuit.now self.new (values_in circuit.now stimulus.now cycle) }
     {
-        set_all(circuit, &mut self.inputs, stimulus.settings.as_slice(), cycle);
+        let settings = stimulus.settings.as_slice();
+        set_all(circuit, &mut self.inputs, settings, cycle);
     }
 
     /// Goes over the edge at the end of a cycle: the registers take their next values.
@@ -130,7 +135,11 @@ impl Values {
             Expression::Operand(operand) => self.operand_value(circuit, operand),
             Expression::Sum(first, second) => {
                 let width = operand_width(circuit, first).max(operand_width(circuit, second));
-                sum(self.operand_value(circuit, first), self.operand_value(circuit, second), width)
+                sum(
+                    self.operand_value(circuit, first),
+                    self.operand_value(circuit, second),
+                    width,
+                )
             }
         }
     }
@@ -195,14 +204,18 @@ fn set_one(circuit: &SmallCircuit, inputs: &mut Vec<u64>, setting: &Setting, cyc
 fn input_at(ports: &[Port], name: &[u8]) -> Option<usize>
     ensures { result ≡ position (is_input_named name.now) ports.now }
 {
-    ports.iter().position(|port| !port.output && port.name.as_slice() == name)
+    ports
+        .iter()
+        .position(|port| !port.output && port.name.as_slice() == name)
 }
 
 /// The place of the register of this name among the statements.
 fn register_at(statements: &[Statement], name: &[u8]) -> Option<usize>
     ensures { result ≡ position (is_register_named name.now) statements.now }
 {
-    statements.iter().position(|statement| is_register(statement, name))
+    statements
+        .iter()
+        .position(|statement| is_register(statement, name))
 }
 
 /// Whether a statement is the register of this name.

@@ -13,7 +13,11 @@ use itoa::Buffer;
 use std::alloc::{AllocError, Global};
 
 /// The trace of a circuit under a stimulus.
-pub fn trace_of(alloc: Global, circuit: &SmallCircuit, stimulus: &SmallStimulus) -> Result<Vec<u8>, AllocError>
+pub fn trace_of(
+    alloc: Global,
+    circuit: &SmallCircuit,
+    stimulus: &SmallStimulus,
+) -> Result<Vec<u8>, AllocError>
     requires formed { IsWellFormed circuit.now }
     requires stimulus { IsStimulusOf circuit.now stimulus.now }
     ensures { IfOk result (λ v. v.items ≡ trace circuit.now stimulus.now) }
@@ -54,7 +58,12 @@ fn push_title(out: &mut Vec<u8>, port: &Port) -> Result<(), AllocError>
 }
 
 /// Appends the line of a cycle.
-fn push_line(out: &mut Vec<u8>, circuit: &SmallCircuit, values: &Values, cycle: u64) -> Result<(), AllocError>
+fn push_line(
+    out: &mut Vec<u8>,
+    circuit: &SmallCircuit,
+    values: &Values,
+    cycle: u64,
+) -> Result<(), AllocError>
     requires formed { IsWellFormed circuit.now }
     requires shaped { IsShaped circuit.now values.now }
     ensures { OnOk result ((rho : Valuation) → Holds circuit.now values.now rho
@@ -70,7 +79,12 @@ fn push_line(out: &mut Vec<u8>, circuit: &SmallCircuit, values: &Values, cycle: 
 }
 
 /// Appends the value of a port, where it is an output.
-fn push_output(out: &mut Vec<u8>, circuit: &SmallCircuit, values: &Values, port: &Port) -> Result<(), AllocError>
+fn push_output(
+    out: &mut Vec<u8>,
+    circuit: &SmallCircuit,
+    values: &Values,
+    port: &Port,
+) -> Result<(), AllocError>
     requires formed { IsWellFormed circuit.now }
     requires shaped { IsShaped circuit.now values.now }
     ensures { OnOk result ((rho : Valuation) → Holds circuit.now values.now rho
@@ -90,3 +104,6 @@ fn push_decimal(out: &mut Vec<u8>, number: u64) -> Result<(), AllocError>
     let mut buffer = Buffer::new();
     out.extend_from_slice(buffer.format(number).as_bytes())
 }
+
+#[cfg(test)]
+mod tests;

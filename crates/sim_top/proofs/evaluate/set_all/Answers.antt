@@ -9,8 +9,8 @@ pub loop-setting-preserved : goal.loop-setting-preserved
 loop-setting-preserved c = record {
   shaped = c.set_one.ensures.shaped;
   set = λ rho h.
-    c.set_one.ensures.made (set_in (take c.loop-setting.setting-index c.args.settings.now) c.args.cycle rho) (c.loop-setting.invariant.set rho h)
+      c.set_one.ensures.made (set_in (take c.loop-setting.setting-index c.args.settings.now) c.args.cycle rho) (c.loop-setting.invariant.set rho h)
       ∙ ap (λ (v : Valuation). map (input_number v) c.args.circuit.now.ports)
-        (ap (λ (s : Setting). made s c.args.cycle (set_in (take c.loop-setting.setting-index c.args.settings.now) c.args.cycle rho)) c.setting-item.is
-          ∙ set_in_more c.args.settings.now c.loop-setting.setting-index c.setting-item.result c.args.cycle rho c.loop-setting-test.true);
+      (ap (λ (s : Setting). made s c.args.cycle (set_in (take c.loop-setting.setting-index c.args.settings.now) c.args.cycle rho)) c.setting-item.is
+      ∙ set_in_more c.args.settings.now c.loop-setting.setting-index c.setting-item.result c.args.cycle rho c.loop-setting-test.true);
 }

@@ -10,11 +10,11 @@ loop-cycle-preserved c =
     let rho = values_in c.args.circuit.now c.args.stimulus.now c.loop-cycle.cycle in
     record {
       written =
-        c.in_ok-push_line.ensures rho c.set_inputs.ensures
+          c.in_ok-push_line.ensures rho c.set_inputs.ensures
           ∙ ap (λ (t : List ℕ). t ++ trace_line c.args.circuit.now c.args.stimulus.now c.loop-cycle.cycle) c.loop-cycle.invariant.written
           ∙ one_more (trace_line c.args.circuit.now c.args.stimulus.now) (header_line c.args.circuit.now) c.loop-cycle.cycle;
       enters =
-        subst (λ (n : ℕ). Enters c.args.circuit.now c.args.stimulus.now n c.advance.new.self) (sym (add-one c.loop-cycle.cycle))
+          subst (λ (n : ℕ). Enters c.args.circuit.now c.args.stimulus.now n c.advance.new.self) (sym (add-one c.loop-cycle.cycle))
           (enters_next c.args.circuit.now c.args.stimulus.now c.loop-cycle.cycle c.set_inputs.new.self c.advance.new.self c.requires.formed c.set_inputs.ensures c.in_ok-advance.ensures.inputs
-            (c.in_ok-advance.ensures.registers rho c.set_inputs.ensures));
+          (c.in_ok-advance.ensures.registers rho c.set_inputs.ensures));
     }
