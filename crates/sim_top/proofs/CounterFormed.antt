@@ -1,5 +1,5 @@
 -- The counter of the worked example is well formed, and its stimulus is one for it.
-use Rattle.std.proofs.Common.{◌≡◌, ℕ, ◌+◌, ◌^◌, ◌<◌, ◌≤◌, Bool, true, false, ◌||◌, List, [], ◌∷◌, ◌++◌, map, length, codes, refl, sym, ap, subst, ◌∙◌, inl, inr, ◌⊎◌, ⊎_elim, arith}
+use Rattle.std.proofs.Common.{◌≡◌, ℕ, ◌≤◌, false, List, [], ◌∷◌, ◌++◌, codes, refl, sym, ap, subst, inl, inr, ⊎_elim, arith}
 use Rattle.std.specs.Prelude.{Contains, All}
 use Rattle.std.specs.List.{list_any}
 use Rattle.std.specs.Str.{bytes_eq}
@@ -13,9 +13,8 @@ use Rattle.sim_top.specs.Examples.{counter, counter_stimulus}
 use Rattle.sim_top.specs.declared.circuit.SmallCircuit.{SmallCircuit}
 use Rattle.sim_top.specs.declared.circuit.Port.{Port}
 use Rattle.sim_top.specs.declared.circuit.Statement.{Statement}
-use Rattle.sim_top.specs.declared.stimulus.SmallStimulus.{SmallStimulus}
 use Rattle.sim_top.specs.declared.stimulus.Setting.{Setting}
-use Rattle.sim_top.proofs.Listed.{here, later, none_in, cons_cases, same_text}
+use Rattle.sim_top.proofs.Listed.{none_in, cons_cases, same_text}
 
 absent : (names : List (List ℕ)) (x : List ℕ) → list_any (λ name. bytes_eq name x) names ≡ false → Contains names x → ⊥
 absent [] x e c = none_in x c

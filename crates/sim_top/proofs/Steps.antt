@@ -1,11 +1,10 @@
 -- From the numbers before a cycle to its values, and over the edge to the next.
-use Rattle.std.proofs.Common.{◌≡◌, ℕ, zero, suc, ◌+◌, ◌<◌, ◌≤◌, Bool, true, false, eqb, if◌then◌else◌, List, [], ◌∷◌, ◌++◌, map, length, replicate, refl, sym, ap, subst, ◌∙◌, inl, inr, ◌⊎◌, ⊎_elim, arith}
+use Rattle.std.proofs.Common.{◌≡◌, ℕ, suc, Bool, true, false, List, [], ◌∷◌, map, length, replicate, refl, sym, ap, subst, ◌∙◌, ⊎_elim}
 use Rattle.std.specs.Prelude.{Contains}
-use Rattle.std.specs.Str.{bytes_eq}
 use Rattle.std.proofs.lemmas.List.{length-map}
 use Rattle.sim_top.specs.SmallCircuits.{IsWellFormed, Differ, register_names}
 use Rattle.sim_top.specs.SmallStimuli.{IsStimulusOf}
-use Rattle.sim_top.specs.Cycles.{Valuation, is_input, set_value, next_value, register_next, held_before, values_in}
+use Rattle.sim_top.specs.Cycles.{Valuation, is_input, next_value, register_next, held_before, values_in}
 use Rattle.sim_top.specs.Evaluation.{input_number, register_number, next_number, set_in, set_before, Holds, Enters, IsShaped}
 use Rattle.sim_top.specs.declared.circuit.SmallCircuit.{SmallCircuit}
 use Rattle.sim_top.specs.declared.circuit.Port.{Port}

@@ -1,5 +1,5 @@
 -- A worked example: a counter of four bits, held at 0 in the first cycle.
-use Rattle.std.specs.Prelude.{ℕ, true, false, List, [], ◌∷◌, codes}
+use Rattle.std.specs.Prelude.{true, false, [], ◌∷◌, codes}
 use Rattle.sim_top.specs.declared.circuit.SmallCircuit.{SmallCircuit}
 use Rattle.sim_top.specs.declared.circuit.Statement.TheVariants as statement
 use Rattle.sim_top.specs.declared.circuit.Expression.TheVariants as expression

@@ -1,4 +1,4 @@
-use Rattle.std.proofs.Common.{◌≡◌, ◌∙◌, ap, map, take}
+use Rattle.std.proofs.Common.{◌∙◌, ap, map, take}
 use Rattle.sim_top.specs.Cycles.{Valuation}
 use Rattle.sim_top.specs.Evaluation.{input_number, made, set_in}
 use Rattle.sim_top.specs.declared.stimulus.Setting.{Setting}

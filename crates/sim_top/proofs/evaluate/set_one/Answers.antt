@@ -1,4 +1,4 @@
-use Rattle.std.proofs.Common.{◌≡◌, ◌∙◌, ℕ, List, ap, sym, map}
+use Rattle.std.proofs.Common.{◌∙◌, ℕ, List, ap, sym, map}
 use Rattle.std.specs.List.{position}
 use Rattle.sim_top.specs.Cycles.{Valuation}
 use Rattle.sim_top.specs.Evaluation.{is_input_named, input_number}

@@ -1,4 +1,4 @@
-use Rattle.std.proofs.Common.{◌≡◌, ◌∙◌, ℕ, List, [], ◌∷◌, ◌++◌, ap, codes, take}
+use Rattle.std.proofs.Common.{◌∙◌, ℕ, List, [], ◌∷◌, ◌++◌, ap, codes, take}
 use Rattle.std.proofs.lemmas.List.{take_all}
 use Rattle.sim_top.proofs.Lines.{line_joined}
 use Rattle.sim_top.proofs.trace.push_header.Goals as goal

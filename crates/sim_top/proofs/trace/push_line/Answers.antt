@@ -1,4 +1,4 @@
-use Rattle.std.proofs.Common.{◌≡◌, ◌∙◌, ℕ, List, [], ◌∷◌, ◌++◌, ap, decimal, take}
+use Rattle.std.proofs.Common.{◌∙◌, ℕ, List, [], ◌∷◌, ◌++◌, ap, decimal, take}
 use Rattle.std.proofs.lemmas.List.{take_all}
 use Rattle.sim_top.specs.Cycles.{output_value}
 use Rattle.sim_top.proofs.Lines.{line_joined}

@@ -1,4 +1,4 @@
-use Rattle.std.proofs.Common.{◌≡◌, ◌∙◌, ℕ, List, ◌++◌, ap, sym, subst, add-one}
+use Rattle.std.proofs.Common.{◌∙◌, ℕ, List, ◌++◌, ap, sym, subst, add-one}
 use Rattle.sim_top.specs.Cycles.{header_line, trace_line, values_in}
 use Rattle.sim_top.specs.Evaluation.{Enters}
 use Rattle.sim_top.proofs.Lines.{one_more}

@@ -1,4 +1,4 @@
-use Rattle.std.proofs.Common.{◌≡◌, ◌∙◌, ℕ, ◌%◌, ◌^◌, List, Some, None, ap, sym}
+use Rattle.std.proofs.Common.{◌∙◌, ℕ, ◌%◌, ◌^◌, List, ap, sym}
 use Rattle.std.specs.Option.{option_copied}
 use Rattle.sim_top.specs.Cycles.{value}
 use Rattle.sim_top.specs.Evaluation.{source_of}

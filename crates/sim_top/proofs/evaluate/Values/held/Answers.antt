@@ -1,4 +1,4 @@
-use Rattle.std.proofs.Common.{◌≡◌, ◌∙◌, ap, sym}
+use Rattle.std.proofs.Common.{◌∙◌, ap, sym}
 use Rattle.std.specs.List.{position}
 use Rattle.sim_top.specs.Evaluation.{is_input_named, is_register_named}
 use Rattle.sim_top.proofs.Lookups.{held_input, held_register, known_found}

@@ -1,7 +1,6 @@
-use Rattle.std.proofs.Common.{◌≡◌, List, subst}
+use Rattle.std.proofs.Common.{subst}
 use Rattle.std.specs.Prelude.{Contains}
 use Rattle.sim_top.specs.declared.circuit.Statement.{Statement}
-use Rattle.sim_top.specs.declared.circuit.Statement.TheVariants as statement
 use Rattle.sim_top.proofs.Placed.{register_small, reset_stands, named_register}
 use Rattle.sim_top.proofs.evaluate.Values.next_number.Goals as goal
 

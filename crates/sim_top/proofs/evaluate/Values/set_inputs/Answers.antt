@@ -1,4 +1,4 @@
-use Rattle.std.proofs.Common.{◌≡◌, ◌∙◌, List, ap, map, refl}
+use Rattle.std.proofs.Common.{◌∙◌, List, ap, map, refl}
 use Rattle.sim_top.specs.Evaluation.{input_number, set_in, set_before}
 use Rattle.sim_top.specs.declared.stimulus.Setting.{Setting}
 use Rattle.sim_top.proofs.Steps.{holds_set}

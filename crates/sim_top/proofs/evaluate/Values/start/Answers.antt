@@ -1,4 +1,4 @@
-use Rattle.std.proofs.Common.{◌≡◌, ◌∙◌, ℕ, ap, replicate}
+use Rattle.std.proofs.Common.{◌∙◌, ℕ, ap, replicate}
 use Rattle.sim_top.proofs.Steps.{enters_first}
 use Rattle.sim_top.proofs.evaluate.Values.start.Goals as goal
 

@@ -1,4 +1,4 @@
-use Rattle.std.proofs.Common.{◌≡◌, ◌≤◌, subst, arith}
+use Rattle.std.proofs.Common.{◌≤◌, subst, arith}
 use Rattle.sim_top.specs.SmallCircuits.{IsExpression}
 use Rattle.sim_top.specs.Cycles.{operand_width}
 use Rattle.sim_top.specs.declared.circuit.Expression.{Expression}

@@ -1,4 +1,4 @@
-use Rattle.std.proofs.Common.{◌≡◌, sym, subst}
+use Rattle.std.proofs.Common.{sym, subst}
 use Rattle.sim_top.specs.SmallCircuits.{IsWellFormed}
 use Rattle.sim_top.specs.SmallStimuli.{IsStimulusOf}
 use Rattle.sim_top.specs.Examples.{counter}
