@@ -20,6 +20,8 @@ mod piece;
 mod read_circuit;
 mod read_line;
 mod read_stimulus;
+#[cfg(test)]
+mod reader_tests;
 mod short;
 mod small;
 mod split;
@@ -28,13 +30,3 @@ mod top;
 mod trace;
 
 pub use top::run_program;
-pub mod circuit;
-pub mod decimal;
-pub mod line;
-pub mod piece;
-pub mod read_circuit;
-pub mod read_line;
-#[cfg(test)]
-mod reader_tests;
-pub mod short;
-pub mod stimulus;
