@@ -1,4 +1,7 @@
-//! The top call.
+//! The top call `run_program`: it reads what the words name from a shelf, and writes the answer to a sink.
+//!
+//! Its clauses say for every command line and every text which status and which bytes come. The private parts read small
+//! circuits and small stimuli, and evaluate them.
 #![tactic(auto)]
 
 mod check_circuit;
@@ -26,6 +29,8 @@ mod short;
 mod small;
 mod split;
 mod stimulus;
+#[cfg(test)]
+mod tests;
 mod top;
 mod trace;
 
