@@ -1,6 +1,10 @@
 //! The layout of a circuit text: its tokens line by line, with a mark where a block opens and closes.
+//! Keeps the contract that the laid list, or the first bad indent, is exactly that of the text's lines.
 #![tactic(auto)]
 
 pub mod laid;
+pub mod layout;
+mod lines;
 
 pub use laid::Laid;
+pub use layout::{LayoutFault, lay_out};

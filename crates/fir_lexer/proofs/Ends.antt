@@ -91,8 +91,10 @@ slash_follows k (b ∷ c ∷ bytes) some e = record {
   where
     two-add : (m : ℕ) → 2 + m ≡ suc (suc m)
     two-add m = omega arith
+
     rest_is : (m : ℕ) (d : ℕ) (rest : List ℕ) → c ∷ take m bytes ≡ d ∷ rest → Closes true k rest → Closes true k (take m bytes)
     rest_is m d rest same more = let same_rest : rest ≡ take m bytes = cc in rw same_rest at more
+
     from_front : (m : ℕ) → m ≤ length (b ∷ c ∷ bytes) → Closes true k (take m (b ∷ c ∷ bytes)) → (j : ℕ) × (m ≡ 2 + j) × Closes true k (take j (drop 2 (b ∷ c ∷ bytes)))
     from_front zero h p = absurd (string_has_more p)
     from_front (suc zero) h p = let t = behind_slash p e in let bad : [] ≡ t.0 ∷ t.1 = t.2 in cc
@@ -122,7 +124,7 @@ outside_follows zero bytes any some no_begin no_open no_close = absurd (omega ar
 outside_follows (suc k) [] any some no_begin no_open no_close = absurd (omega arith)
 outside_follows (suc k) (b ∷ bytes) any some no_begin no_open no_close =
     one_byte (Closes false (suc k)) (Closes false (suc k)) b bytes brackets_have_more (λ xs q. outside k b xs no_open no_close no_begin q)
-      (λ xs p. behind_outside p no_begin no_open no_close)
+    (λ xs p. behind_outside p no_begin no_open no_close)
 
 -- Steps put together.
 
@@ -238,7 +240,7 @@ info_never bytes at before stop = record { never = never }
         let ends : ClosesInfo bytes (m - 1) = ClosesInfo-take bytes m (m - 1) (omega arith) (rw end at i.closed) in
         let not_before : m - 1 < at → ⊥ = λ below. (before (m - 1) below).1 ends in
         let feed : at ≤ m - 1 → get_or bytes at 0 ≡ 10 → ⊥ = λ behind is_feed. ⊎_elim
-              (λ (e : m - 1 ≡ at). (let here : get_or bytes at 0 ≡ 93 = rw e at ends.bracket in cc))
-              (λ other. ⊎_elim (λ below. not_before below) (λ (below : at < m - 1). (let at_in : at < m = omega arith in (i.first at (omega (arith, end))).0 (rw get_or-take is_feed))) other)
-              (cases_order (m - 1) at) in
+        (λ (e : m - 1 ≡ at). (let here : get_or bytes at 0 ≡ 93 = rw e at ends.bracket in cc))
+        (λ other. ⊎_elim (λ below. not_before below) (λ (below : at < m - 1). (let at_in : at < m = omega arith in (i.first at (omega (arith, end))).0 (rw get_or-take is_feed))) other)
+        (cases_order (m - 1) at) in
         ⊎_elim not_before (λ behind. ⊎_elim (λ past. not_before (omega arith)) (feed behind) stop) (cases_lt (m - 1) at)

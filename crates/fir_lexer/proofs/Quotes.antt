@@ -73,16 +73,19 @@ quotes_iff bytes inner digits base m quoted form sign = (to, from sign)
         let tails : (q.sign ++ q.digits) ++ 34 ∷ [] ≡ inner ++ 34 ∷ [] = cc in
         let heads : letter q.base ≡ letter base = cc in
         (append_cancel_right _ _ (34 ∷ []) tails, letter_same _ _ heads)
+
     to_digits : (s ds : List ℕ) → WritesDigits base ds m → s ++ ds ≡ inner → (s ≡ []) ⊎ (s ≡ 45 ∷ []) → WritesDigits base digits m
     to_digits s ds w e sg = ⊎_elim
         (λ none. (let same : ds ≡ inner = rw none at e in ⊎_elim
-            (λ minus. (let full : ds ≡ 45 ∷ digits = same ∙ minus in absurd (no_minus_digit base digits m (rw full at w))))
-            (λ plain. rw (plain.1, sym same) w) sign))
+        (λ minus. (let full : ds ≡ 45 ∷ digits = same ∙ minus in absurd (no_minus_digit base digits m (rw full at w))))
+        (λ plain. rw (plain.1, sym same) w) sign))
         (λ one. (let same : 45 ∷ ds ≡ inner = rw one at e in ⊎_elim
-            (λ minus. (let d : ds ≡ digits = cc in rw d at w))
-            (λ plain. absurd (plain.0 (sym (ap (λ xs. get_or xs 0 0) same)))) sign)) sg
+        (λ minus. (let d : ds ≡ digits = cc in rw d at w))
+        (λ plain. absurd (plain.0 (sym (ap (λ xs. get_or xs 0 0) same)))) sign)) sg
+
     to : QuotesNumber bytes m → WritesDigits base digits m
     to q = let u = unsigned q in to_digits q.sign q.digits (rw u.1 at q.written) u.0 q.signed
+
     from : (inner ≡ 45 ∷ digits) ⊎ ((get_or inner 0 0 ≢ 45) × (digits ≡ inner)) → WritesDigits base digits m → QuotesNumber bytes m
     from sg w = ⊎_elim
         (λ minus. record { base = base; quoted = quoted; sign = 45 ∷ []; signed = inr refl; digits = digits; form = rw minus at form; written = w })

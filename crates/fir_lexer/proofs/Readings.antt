@@ -55,7 +55,7 @@ begun_lead (TokenOf Arrow) b h = listed (λ x. lead x ≡ TokenOf (Mark 61)) b (
 begun_lead (TokenOf (Mark mark)) b h =
     let same : b ≡ mark = eqb-true b mark (and_parts (b == mark) (is_mark b) h).0 in
     let here = listed (λ x. lead x ≡ TokenOf (Mark x)) b (58 ∷ 46 ∷ 91 ∷ 93 ∷ 40 ∷ 41 ∷ 60 ∷ 62 ∷ 123 ∷ 125 ∷ 61 ∷ 45 ∷ 124 ∷ [])
-        (refl, (refl, (refl, (refl, (refl, (refl, (refl, (refl, (refl, (refl, (refl, (refl, (refl, tt))))))))))))) (and_parts (b == mark) (is_mark b) h).1 in
+    (refl, (refl, (refl, (refl, (refl, (refl, (refl, (refl, (refl, (refl, (refl, (refl, (refl, tt))))))))))))) (and_parts (b == mark) (is_mark b) h).1 in
     here ∙ ap (λ x. TokenOf (Mark x)) same
 
 no_word_and_call : (rest : List ℕ) → AllPass in_word rest → rest ≡ take_while in_word rest ++ 40 ∷ [] → ⊥
@@ -78,15 +78,19 @@ same_kind k j (b ∷ rest) behind p q = by_k (alike_cases k (front_kind j) (sym 
   where
     F : Type 0
     F = (j ≡ front_kind j) ⊎ (((j ≡ TokenOf Call) × (front_kind j ≡ TokenOf Word)) ⊎ ((j ≡ TokenOf Arrow) × (front_kind j ≡ TokenOf (Mark 61))))
+
     as_front : k ≡ front_kind j → F → k ≡ j
     as_front kf f = ⊎_elim (λ jf. kf ∙ sym jf)
         (λ two. ⊎_elim (λ c. absurd (clash_word k j rest behind (kf ∙ c.1) c.0 p.1 q.1)) (λ a. absurd (clash_mark k j rest behind (kf ∙ a.1) a.0 p.1 q.1)) two) f
+
     as_call : k ≡ TokenOf Call → front_kind j ≡ TokenOf Word → F → k ≡ j
     as_call kc w f = ⊎_elim (λ jf. absurd (clash_word j k rest behind (jf ∙ w) kc q.1 p.1))
         (λ two. ⊎_elim (λ c. kc ∙ sym c.0) (λ a. absurd (let no : TokenOf Word ≡ TokenOf (Mark 61) = sym w ∙ a.1 in cc)) two) f
+
     as_arrow : k ≡ TokenOf Arrow → front_kind j ≡ TokenOf (Mark 61) → F → k ≡ j
     as_arrow ka m f = ⊎_elim (λ jf. absurd (clash_mark j k rest behind (jf ∙ m) ka q.1 p.1))
         (λ two. ⊎_elim (λ c. absurd (let no : TokenOf (Mark 61) ≡ TokenOf Word = sym m ∙ c.1 in cc)) (λ a. ka ∙ sym a.0) two) f
+
     by_k : (k ≡ front_kind j) ⊎ (((k ≡ TokenOf Call) × (front_kind j ≡ TokenOf Word)) ⊎ ((k ≡ TokenOf Arrow) × (front_kind j ≡ TokenOf (Mark 61)))) → k ≡ j
     by_k h = let f : F = alike_cases j (front_kind j) refl in
         ⊎_elim (λ kf. as_front kf f) (λ two. ⊎_elim (λ c. as_call c.0 c.1 f) (λ a. as_arrow a.0 a.1 f) two) h
@@ -167,6 +171,7 @@ no_tokens bytes at kind tokens f t = from_both (compare f.before.1 t.lexed) refl
   where
     long : (left : List ℕ) → left ≡ drop at bytes → left ≡ [] → ⊥
     long left e none = let size : length (drop at bytes) ≡ 0 = rw (sym e, none) refl in omega (arith, size, f.within, length-drop at bytes)
+
     from_both : {mid rest : List ℕ} {ps qs : List (PieceKind × ℕ)} → GoOn mid ps rest qs → mid ≡ drop at bytes → rest ≡ [] → ⊥
     from_both (first_goes_on ps more qs mid rest e l) m r = long mid m (nothing_from_none l r).1
     from_both (second_goes_on ps more qs mid rest e l) m r = long mid m (stuck kind (rw m f.here) l ∙ r)

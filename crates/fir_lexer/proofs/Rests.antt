@@ -65,6 +65,7 @@ word_rest_is rest n e no_bracket = record {
   where
     call : (m : ℕ) → m ≤ length rest → take m rest ≡ take_while in_word (take m rest) ++ 40 ∷ [] → m ≤ n
     call m h same = let t = run_to_end in_word 40 rest m h same in absurd (no_bracket (omega (arith, t.0)) (rw e t.1))
+
     longest : (other : PieceKind) (m : ℕ) → front_kind other ≡ TokenOf Word → m ≤ length rest → GoesOn other (take m rest) (drop m rest) → m ≤ n
     longest other m f h goes = ⊎_elim (λ same. omega (arith, passes_no_more in_word rest m h (rw same at goes)))
         (λ two. ⊎_elim (λ w. call m h (rw w.0 at goes)) (λ a. absurd (let no : TokenOf Word ≡ TokenOf (Mark 61) = a.1 in cc)) two) (alike_cases other (TokenOf Word) f)
@@ -80,6 +81,7 @@ call_rest_is rest n e short at = record {
   where
     call : (m : ℕ) → m ≤ length rest → take m rest ≡ take_while in_word (take m rest) ++ 40 ∷ [] → m ≤ n + 1
     call m h same = let t = run_to_end in_word 40 rest m h same in omega (arith, t.0)
+
     longest : (other : PieceKind) (m : ℕ) → front_kind other ≡ TokenOf Word → m ≤ length rest → GoesOn other (take m rest) (drop m rest) → m ≤ n + 1
     longest other m f h goes = ⊎_elim (λ same. omega (arith, passes_no_more in_word rest m h (rw same at goes)))
         (λ two. ⊎_elim (λ w. call m h (rw w.0 at goes)) (λ a. absurd (let no : TokenOf Word ≡ TokenOf (Mark 61) = a.1 in cc)) two) (alike_cases other (TokenOf Word) f)
@@ -139,6 +141,7 @@ annotation_rest_not rest other = no_rest Annotation rest (λ e. cc) (λ e. cc) n
     first_is bytes more zero e = cc
     first_is [] more (suc m) e = cc
     first_is (b ∷ bytes) more (suc m) e = (omega arith, cc)
+
     never : (m : ℕ) → m ≤ length rest → (more : List ℕ) × (take m rest ≡ 91 ∷ more) × Closes false 1 more → ⊥
     never m h t = let f = first_is rest t.0 m t.1 in other f.0 f.1
 

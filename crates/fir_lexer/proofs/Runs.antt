@@ -25,7 +25,7 @@ passes_no_more p bytes m h all = ⊎_elim past (λ le. le) (cases_lt (prefix_len
 
 run_with_end_by : (p : ℕ → Bool) (end b : ℕ) (bytes : List ℕ) (v : Bool) → p b ≡ v
     → (prefix_len p bytes < length bytes → get_or bytes (prefix_len p bytes) 0 ≡ end
-        → take (prefix_len p bytes + 1) bytes ≡ take_while p (take (prefix_len p bytes + 1) bytes) ++ end ∷ [])
+    → take (prefix_len p bytes + 1) bytes ≡ take_while p (take (prefix_len p bytes + 1) bytes) ++ end ∷ [])
     → cond v (1 + prefix_len p bytes) 0 < length (b ∷ bytes) → get_or (b ∷ bytes) (cond v (1 + prefix_len p bytes) 0) 0 ≡ end
     → take (cond v (1 + prefix_len p bytes) 0 + 1) (b ∷ bytes) ≡ take_while p (take (cond v (1 + prefix_len p bytes) 0 + 1) (b ∷ bytes)) ++ end ∷ []
 run_with_end_by p end b bytes true passes more h at =

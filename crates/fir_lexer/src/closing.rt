@@ -65,9 +65,18 @@ fn pass_in_string(brackets: usize, bytes: &[u8]) -> Option<(Unclosed, usize)>
     ensures counted { IfSome result (λ p. (0 < p.1) × (p.0.brackets ≤ brackets + p.1)) }
     ensures none { IfNone result (Never (Closes true brackets) bytes.now) }
 {
-    let unclosed = Unclosed { string: true, brackets };
+    let unclosed = Unclosed {
+        string: true,
+        brackets,
+    };
     match bytes {
-        [b'"', ..] => Some((Unclosed { string: false, brackets }, 1)),
+        [b'"', ..] => Some((
+            Unclosed {
+                string: false,
+                brackets,
+            },
+            1,
+        )),
         [b'\\', _, ..] => Some((unclosed, 2)),
         [b'\\'] => None,
         [_, ..] => Some((unclosed, 1)),
@@ -83,10 +92,34 @@ fn pass_in_brackets(brackets: usize, bytes: &[u8]) -> Option<(Unclosed, usize)>
     ensures none { IfNone result (Never (Closes false brackets) bytes.now) }
 {
     match bytes {
-        [b'"', ..] => Some((Unclosed { string: true, brackets }, 1)),
-        [b'[', ..] => Some((Unclosed { string: false, brackets: brackets + 1 }, 1)),
-        [b']', ..] => Some((Unclosed { string: false, brackets: brackets - 1 }, 1)),
-        [_, ..] => Some((Unclosed { string: false, brackets }, 1)),
+        [b'"', ..] => Some((
+            Unclosed {
+                string: true,
+                brackets,
+            },
+            1,
+        )),
+        [b'[', ..] => Some((
+            Unclosed {
+                string: false,
+                brackets: brackets + 1,
+            },
+            1,
+        )),
+        [b']', ..] => Some((
+            Unclosed {
+                string: false,
+                brackets: brackets - 1,
+            },
+            1,
+        )),
+        [_, ..] => Some((
+            Unclosed {
+                string: false,
+                brackets,
+            },
+            1,
+        )),
         [] => None,
     }
 }

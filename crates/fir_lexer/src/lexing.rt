@@ -9,10 +9,10 @@ ghost use Rattle.fir_lexer.specs.Tokens.{IsPiece, IsPastRange, AreTokens, IsWron
 ghost use Rattle.fir_lexer.specs.declared.lexing.LexFault.TheVariants.{NoMemory};
 ghost use Rattle.fir_lexer.specs.declared.token.Token.{Token as TheToken};
 
-use crate::pieces::{piece, PieceKind};
+use crate::pieces::{PieceKind, piece};
 use crate::token::{Token, TokenKind};
-use bit_words::{digits_value, read_magnitude, Base, NumberFault};
-use place_text::{place_of, Place};
+use bit_words::{Base, NumberFault, digits_value, read_magnitude};
+use place_text::{Place, place_of};
 use std::alloc::{AllocError, AllocFailed, Global};
 use thiserror::Error;
 

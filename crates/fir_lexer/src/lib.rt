@@ -9,8 +9,8 @@ pub mod pieces;
 pub mod token;
 
 pub use laws::{texts_have_one_fault, texts_have_one_reading};
-pub use lexing::{lex, LexFault};
-pub use pieces::{piece, PieceKind};
+pub use lexing::{LexFault, lex};
+pub use pieces::{PieceKind, piece};
 pub use token::{Token, TokenKind};
 
 #[cfg(test)]

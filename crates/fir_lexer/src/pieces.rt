@@ -62,9 +62,8 @@ fn kind_begun(byte: u8) -> Option<PieceKind>
         b'"' => Some(PieceKind::TokenOf(TokenKind::Text)),
         b'A'..=b'Z' | b'a'..=b'z' | b'_' | b'$' => Some(PieceKind::TokenOf(TokenKind::Word)),
         b'0'..=b'9' => Some(PieceKind::TokenOf(TokenKind::Digits)),
-        b':' | b'.' | b'[' | b']' | b'(' | b')' | b'<' | b'>' | b'{' | b'}' | b'=' | b'-' | b'|' => {
-            Some(PieceKind::TokenOf(TokenKind::Mark(byte)))
-        }
+        b':' | b'.' | b'[' | b']' | b'(' | b')' | b'<' | b'>' | b'{' | b'}' | b'=' | b'-' | b'|' =>
+            { Some(PieceKind::TokenOf(TokenKind::Mark(byte))) }
         _ => None,
     }
 }

@@ -1,13 +1,22 @@
 //! Texts whose tokens and faults are known from the rules of the language.
 
-use crate::{LexFault, PieceKind, Token, TokenKind, lex, piece, texts_have_one_fault, texts_have_one_reading};
 use crate::TokenKind::{Arrow, Call, Digits, Mark, Quoted, Text, Word};
+use crate::{
+    LexFault, PieceKind, Token, TokenKind, lex, piece, texts_have_one_fault, texts_have_one_reading,
+};
 use place_text::Place;
+use std::alloc::Global;
+use std::process::Abort;
 use std::test::Fail;
 
-fn has_tokens(rt: &HostRuntime, text: &[u8], wanted: &[(TokenKind, u32, u32)]) -> Result<(), Fail> {
-    let tokens = lex(rt.alloc(), text)?;
-    let mut all = Vec::new(rt.alloc());
+fn has_tokens(
+    rt: &impl Abort,
+    alloc: Global,
+    text: &[u8],
+    wanted: &[(TokenKind, u32, u32)],
+) -> Result<(), Fail> {
+    let tokens = lex(alloc, text)?;
+    let mut all = Vec::new(alloc);
     for (kind, start, end) in wanted {
         all.push(Token {
             kind: *kind,
@@ -19,8 +28,8 @@ fn has_tokens(rt: &HostRuntime, text: &[u8], wanted: &[(TokenKind, u32, u32)]) -
     Ok(())
 }
 
-fn has_fault(rt: &HostRuntime, text: &[u8], wanted: LexFault) -> Result<(), Fail> {
-    match lex(rt.alloc(), text) {
+fn has_fault(rt: &impl Abort, alloc: Global, text: &[u8], wanted: LexFault) -> Result<(), Fail> {
+    match lex(alloc, text) {
         Ok(_) => assert_eq!(rt; text, b"refused".as_slice()),
         Err(fault) => assert_eq!(rt; fault, wanted),
     }
@@ -35,11 +44,18 @@ fn at(line: u32, column: u32) -> Place {
 fn tokens_are_the_longest(rt: HostRuntime) -> Result<(), Fail> {
     has_tokens(
         &rt,
+        rt.alloc(),
         b"tail(x, 1)",
-        &[(Call, 0, 5), (Word, 5, 6), (Digits, 8, 9), (Mark(b')'), 9, 10)],
+        &[
+            (Call, 0, 5),
+            (Word, 5, 6),
+            (Digits, 8, 9),
+            (Mark(b')'), 9, 10),
+        ],
     )?;
     has_tokens(
         &rt,
+        rt.alloc(),
         b"a<=b =>c",
         &[
             (Word, 0, 1),
@@ -52,6 +68,7 @@ fn tokens_are_the_longest(rt: HostRuntime) -> Result<(), Fail> {
     )?;
     has_tokens(
         &rt,
+        rt.alloc(),
         b"`a$-b` data-type 0x1 12ab -3",
         &[
             (Quoted, 0, 6),
@@ -62,46 +79,107 @@ fn tokens_are_the_longest(rt: HostRuntime) -> Result<(), Fail> {
             (Digits, 27, 28),
         ],
     )?;
-    has_tokens(&rt, b"\"a\\\"]\" x", &[(Text, 0, 6), (Word, 7, 8)])?;
-    has_tokens(&rt, b"", &[])
+    has_tokens(
+        &rt,
+        rt.alloc(),
+        b"\"a\\\"]\" x",
+        &[(Text, 0, 6), (Word, 7, 8)],
+    )?;
+    has_tokens(&rt, rt.alloc(), b"", &[])
 }
 
 #[test]
 fn white_space_is_free(rt: HostRuntime) -> Result<(), Fail> {
-    has_tokens(&rt, b",\t a\r\n;x \" @[\nb", &[(Word, 3, 4), (Word, 15, 16)])?;
-    has_tokens(&rt, b"@[a\\]%[\"]x @[]y", &[(Word, 9, 10), (Word, 14, 15)])?;
-    has_tokens(&rt, b"%[[\n\"]\\\"]\", ;[\n]]]x", &[(Mark(b']'), 17, 18), (Word, 18, 19)])
+    has_tokens(
+        &rt,
+        rt.alloc(),
+        b",\t a\r\n;x \" @[\nb",
+        &[(Word, 3, 4), (Word, 14, 15)],
+    )?;
+    has_tokens(
+        &rt,
+        rt.alloc(),
+        b"@[a\\]%[\"]x @[]y",
+        &[(Word, 9, 10), (Word, 14, 15)],
+    )?;
+    has_tokens(
+        &rt,
+        rt.alloc(),
+        b"%[[\n\"]\\\"]\", ;\n]]]x",
+        &[(Mark(b']'), 16, 17), (Word, 17, 18)],
+    )
 }
 
 #[test]
 fn first_faults_have_their_places(rt: HostRuntime) -> Result<(), Fail> {
-    has_fault(&rt, b"a\n  #", LexFault::BadByte(at(2, 3)))?;
-    has_fault(&rt, b"skip\r", LexFault::BadByte(at(1, 5)))?;
-    has_fault(&rt, b"node \xc3\xa9", LexFault::BadByte(at(1, 6)))?;
-    has_fault(&rt, b"`x", LexFault::BadToken(at(1, 1)))?;
-    has_fault(&rt, b"``", LexFault::BadToken(at(1, 1)))?;
-    has_fault(&rt, b"x\n %a", LexFault::BadToken(at(2, 2)))?;
-    has_fault(&rt, b"@", LexFault::BadToken(at(1, 1)))?;
-    has_fault(&rt, b"@[a\\]", LexFault::BadToken(at(1, 1)))?;
-    has_fault(&rt, b"@[a\n]", LexFault::BadToken(at(1, 1)))?;
-    has_fault(&rt, b"skip @[a\\\\]", LexFault::BadToken(at(1, 6)))?;
-    has_fault(&rt, b"%[[\n]", LexFault::BadToken(at(1, 1)))?;
-    has_fault(&rt, b"%[\"]", LexFault::BadToken(at(1, 1)))?;
-    has_fault(&rt, b"x \"a\\\n\"", LexFault::BadToken(at(1, 3)))
+    has_fault(&rt, rt.alloc(), b"a\n  #", LexFault::BadByte(at(2, 3)))?;
+    has_fault(&rt, rt.alloc(), b"skip\r", LexFault::BadByte(at(1, 5)))?;
+    has_fault(
+        &rt,
+        rt.alloc(),
+        b"node \xc3\xa9",
+        LexFault::BadByte(at(1, 6)),
+    )?;
+    has_fault(&rt, rt.alloc(), b"`x", LexFault::BadToken(at(1, 1)))?;
+    has_fault(&rt, rt.alloc(), b"``", LexFault::BadToken(at(1, 1)))?;
+    has_fault(&rt, rt.alloc(), b"x\n %a", LexFault::BadToken(at(2, 2)))?;
+    has_fault(&rt, rt.alloc(), b"@", LexFault::BadToken(at(1, 1)))?;
+    has_fault(&rt, rt.alloc(), b"@[a\\]", LexFault::BadToken(at(1, 1)))?;
+    has_fault(&rt, rt.alloc(), b"@[a\n]", LexFault::BadToken(at(1, 1)))?;
+    has_fault(
+        &rt,
+        rt.alloc(),
+        b"skip @[a\\\\]",
+        LexFault::BadToken(at(1, 6)),
+    )?;
+    has_fault(&rt, rt.alloc(), b"%[[\n]", LexFault::BadToken(at(1, 1)))?;
+    has_fault(&rt, rt.alloc(), b"%[\"]", LexFault::BadToken(at(1, 1)))?;
+    has_fault(
+        &rt,
+        rt.alloc(),
+        b"x \"a\\\n\"",
+        LexFault::BadToken(at(1, 3)),
+    )
 }
 
 #[test]
 fn numbers_have_a_range(rt: HostRuntime) -> Result<(), Fail> {
-    has_fault(&rt, b"0hfffffffffffffffffffffffffffffffff", LexFault::NumberRange(at(1, 1)))?;
     has_fault(
         &rt,
+        rt.alloc(),
+        b"0hfffffffffffffffffffffffffffffffff",
+        LexFault::NumberRange(at(1, 1)),
+    )?;
+    has_fault(
+        &rt,
+        rt.alloc(),
         b"a.340282366920938463463374607431768211456 #",
         LexFault::NumberRange(at(1, 3)),
     )?;
-    has_fault(&rt, b"\"h-100000000000000000000000000000000\"", LexFault::NumberRange(at(1, 1)))?;
-    has_tokens(&rt, b"340282366920938463463374607431768211455", &[(Digits, 0, 39)])?;
-    has_tokens(&rt, b"\"d340282366920938463463374607431768211456\"", &[(Text, 0, 42)])?;
-    has_tokens(&rt, b"0Hfffffffffffffffffffffffffffffffff", &[(Digits, 0, 35)])
+    has_fault(
+        &rt,
+        rt.alloc(),
+        b"\"h-100000000000000000000000000000000\"",
+        LexFault::NumberRange(at(1, 1)),
+    )?;
+    has_tokens(
+        &rt,
+        rt.alloc(),
+        b"340282366920938463463374607431768211455",
+        &[(Digits, 0, 39)],
+    )?;
+    has_tokens(
+        &rt,
+        rt.alloc(),
+        b"\"d340282366920938463463374607431768211456\"",
+        &[(Text, 0, 42)],
+    )?;
+    has_tokens(
+        &rt,
+        rt.alloc(),
+        b"0Hfffffffffffffffffffffffffffffffff",
+        &[(Digits, 0, 35)],
+    )
 }
 
 #[test]

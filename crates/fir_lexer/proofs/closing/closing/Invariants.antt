@@ -6,7 +6,7 @@ use Rattle.fir_lexer.proofs.closing.closing.Given as goal
 abbrev pub invariant-loop-unclosed : goal.invariant-loop-unclosed
 invariant-loop-unclosed l = record {
   follows : Follows (Closes l.fn.string l.fn.brackets) (Closes l.unclosed.string l.unclosed.brackets) l.bytes l.at;
-  counted : l.unclosed.brackets ≤ l.at + 1
+  counted : l.unclosed.brackets ≤ l.at + 1;
 }
 
 abbrev pub decreases-loop-unclosed : goal.decreases-loop-unclosed
