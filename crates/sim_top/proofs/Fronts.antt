@@ -12,8 +12,14 @@ use Rattle.fir_layout.specs.declared.laid.Laid.{Laid}
 use Rattle.fir_layout.specs.declared.laid.Laid.TheVariants.{Item, LineEnd, Open, Close, End}
 use Rattle.fir_layout.specs.declared.layout.LayoutFault.{LayoutFault}
 use Rattle.fir_layout.specs.declared.layout.LayoutFault.TheVariants.{BadIndent as Bad_indent, NoMemory}
+use Rattle.fir_lexer.specs.Tokens.{fault_at}
+use Rattle.fir_lexer.specs.declared.lexing.LexFault.{LexFault}
+use Rattle.fir_lexer.specs.declared.lexing.LexFault.TheVariants.{NoMemory as Lex_memory}
+use Rattle.sim_top.specs.declared.front.TextFault.{TextFault}
+use Rattle.sim_top.specs.declared.front.TextFault.TheVariants.{Fault as Named, NoMemory as No_memory}
 use Rattle.sim_top.specs.declared.fault.Fault.{Fault}
 use Rattle.sim_top.specs.declared.fault.FaultKind.TheVariants.{BadIndent}
+use Rattle.sim_top.specs.Answers.{IsRefusedText, has_fault, circuit_limit}
 use Rattle.sim_top.specs.CircuitText.{lexing_kind, IsTextFault, of_tokens, of_layout, IsInside, IsLaidOnly, IsFaultOnly}
 
 -- a laid text and a text with a bad indent have tokens
@@ -24,7 +30,7 @@ tokens_indented : (text : List ℕ) (at : ℕ) → IsBadIndent text at → (toke
 tokens_indented text at b = (tokens_of 0 b.pieces, record { pieces = b.pieces; lexed = b.lexed; made = refl })
 
 -- a fault of the tokens
-token_fault : (text : List ℕ) (at : ℕ) (kind : FaultKind) → Fault
+abbrev token_fault : (text : List ℕ) (at : ℕ) (kind : FaultKind) → Fault
 token_fault text at kind = record { kind = lexing_kind kind; place = place text at }
 
 token_fault_only : (text : List ℕ) (at : ℕ) (kind : FaultKind) → IsFault text at kind → (other : Fault) → IsTextFault text other → other ≡ token_fault text at kind
@@ -39,10 +45,13 @@ token_faults text at kind f = record {
   none = λ laid l. let t = tokens_laid text laid l in no_tokens text at kind t.0 f t.1;
 }
 
--- a fault of the layout
-indent_fault : (text : List ℕ) (at : ℕ) → Fault
-indent_fault text at = record { kind = BadIndent; place = place text at }
+same_error : {V : Type 0} (x y : TextFault) → ◌≡◌ {A = Result V TextFault} (Err x) (Err y) → x ≡ y
+same_error x y e = cc
 
+same_named : (x y : Fault) → Named x ≡ Named y → x ≡ y
+same_named x y e = cc
+
+-- a fault of the layout
 same_place : (p q : Place) → Bad_indent p ≡ Bad_indent q → p ≡ q
 same_place p q e = cc
 
@@ -56,7 +65,7 @@ layout_fault_only text tokens p lexed refuses _ (of_tokens at kind f) = absurd (
 layout_fault_only text tokens p lexed refuses _ (of_layout at b) =
     ⊎_elim (λ m. absurd (no_place p m)) (λ e. ap (λ q. record { kind = BadIndent; place = q }) (sym (same_place p (place text at) e))) (refuses at b)
 
-pub layout_faults : (text : List ℕ) (tokens : List Token) (p : Place) → AreTokens text tokens
+layout_faults : (text : List ℕ) (tokens : List Token) (p : Place) → AreTokens text tokens
     → (Bad_indent p ≡ NoMemory) ⊎ ((at : ℕ) × IsBadIndent text at × (Bad_indent p ≡ Bad_indent (place text at)))
     → ((laid : List Laid) → IsLaidOut text laid → Bad_indent p ≡ NoMemory)
     → ((at : ℕ) → IsBadIndent text at → (Bad_indent p ≡ NoMemory) ⊎ (Bad_indent p ≡ Bad_indent (place text at)))
@@ -66,6 +75,17 @@ layout_faults text tokens p lexed found accepts refuses = ⊎_elim (λ m. absurd
   only = layout_fault_only text tokens p lexed refuses;
   none = λ laid l. no_place p (accepts laid l);
 }) found
+
+-- the same for a fault that is one of the layout
+pub layout_faults_of : (text : List ℕ) (tokens : List Token) (p : Place) (f : LayoutFault) → f ≡ Bad_indent p → AreTokens text tokens
+    → (f ≡ NoMemory) ⊎ ((at : ℕ) × IsBadIndent text at × (f ≡ Bad_indent (place text at)))
+    → ((laid : List Laid) → IsLaidOut text laid → f ≡ NoMemory)
+    → ((at : ℕ) → IsBadIndent text at → (f ≡ NoMemory) ⊎ (f ≡ Bad_indent (place text at)))
+    → IsFaultOnly text (record { kind = BadIndent; place = p })
+layout_faults_of text tokens p f e lexed found accepts refuses = layout_faults text tokens p lexed
+    (subst (λ x. (x ≡ NoMemory) ⊎ ((at : ℕ) × IsBadIndent text at × (x ≡ Bad_indent (place text at)))) e found)
+    (subst (λ x. (laid : List Laid) → IsLaidOut text laid → x ≡ NoMemory) e accepts)
+    (subst (λ x. (at : ℕ) → IsBadIndent text at → (x ≡ NoMemory) ⊎ (x ≡ Bad_indent (place text at))) e refuses)
 
 -- a text without a fault
 inside : (text : List ℕ) (part : Laid) → Stands (length text) part → IsInside text part
@@ -94,3 +114,21 @@ laid_only text tokens laid lexed is accepts refuses ends = record {
   none = laid_none text tokens lexed refuses;
   inside = all_inside text laid ends;
 }
+
+-- an answer names one fault
+pub named_fault : {V : Type 0} (x y : Fault) → ◌≡◌ {A = Result V TextFault} (Err (Named x)) (Err (Named y)) → x ≡ y
+named_fault x y e = cc
+
+-- the fault that the lexer found
+pub refused_tokens : {V : Type 0} (text : List ℕ) (lexed : LexFault) (given : TextFault) (fault : Fault) → length text ≤ circuit_limit
+    → (lexed ≡ Lex_memory) ⊎ ((at : ℕ) × (kind : FaultKind) × IsFault text at kind × (lexed ≡ fault_at kind (place text at)))
+    → ((kind : FaultKind) (p : Place) → lexed ≡ fault_at kind p → given ≡ Named (record { kind = lexing_kind kind; place = p }))
+    → (lexed ≡ Lex_memory → given ≡ No_memory)
+    → ◌≡◌ {A = Result V TextFault} (Err given) (Err (Named fault)) → IsRefusedText text fault
+refused_tokens text lexed given fault short found placed wanting e = ⊎_elim
+    (λ m. let g = wanting m in absurd (let h : No_memory ≡ Named fault = sym g ∙ same_error given (Named fault) e in cc))
+    (λ (f : (at : ℕ) × (kind : FaultKind) × IsFault text at kind × (lexed ≡ fault_at kind (place text at))).
+      let g = placed f.1 (place text f.0) f.3 in
+      let h : token_fault text f.0 f.1 ≡ fault = same_named (token_fault text f.0 f.1) fault (sym g ∙ same_error given (Named fault) e) in
+      subst (IsRefusedText text) h (has_fault text (token_fault text f.0 f.1) short (token_faults text f.0 f.1 f.2)))
+    found
