@@ -4,12 +4,19 @@ ghost use Rattle.std.specs.Prelude.{◌≡◌, ℕ, List, ◌≤◌, length, IfO
 ghost use Rattle.sim_top.specs.StimulusLine.{IsSplit};
 ghost use Rattle.sim_top.specs.CircuitText.{IsLaidOnly};
 ghost use Rattle.sim_top.specs.Answers.{fault_bytes, at_front, joined_limit, IsPart, Settles, SettlesTaken};
+ghost use Rattle.sim_top.specs.SmallCircuits.{IsWellFormed};
+ghost use Rattle.sim_top.specs.SmallStimuli.{IsStimulusOf};
+ghost use Rattle.sim_top.specs.Cycles.{trace};
 ghost use Rattle.sim_top.specs.declared.command.Command.TheVariants.{Run, Check};
 
+use crate::circuit::SmallCircuit;
 use crate::command::Command;
 use crate::fault::{Fault, FaultKind};
 use crate::front::{TextFault, lay_text};
+use crate::small::read_small;
 use crate::split::split;
+use crate::stimulus::SmallStimulus;
+use crate::trace::trace_of;
 use fir_layout::Laid;
 use place_text::{Place, TextPart, fault_line};
 use std::alloc::{AllocError, Global};
@@ -76,7 +83,26 @@ fn run_laid(
     requires { IsLaidOnly circuit.now laid.now }
     ensures { IfOk result (λ r. (joined : List ℕ) → IsSplit joined circuit.now stimulus.now → SettlesTaken Run joined circuit.now r.status r.bytes.items) }
 {
-    Err(AllocError)
+    match read_small(alloc, circuit, laid, stimulus)? {
+        Some((small, settings)) => Ok(traced(alloc, &small, &settings)?),
+        None => Ok(refuse_whole(alloc, FaultKind::NotBuilt)?),
+    }
+}
+
+/// The trace of a small circuit.
+fn traced(
+    alloc: Global,
+    circuit: &SmallCircuit,
+    stimulus: &SmallStimulus,
+) -> Result<Reply, AllocError>
+    requires formed { IsWellFormed circuit.now }
+    requires stimulus { IsStimulusOf circuit.now stimulus.now }
+    ensures { IfOk result (λ r. (r.status ≡ 0) × (r.bytes.items ≡ trace circuit.now stimulus.now)) }
+{
+    Ok(Reply {
+        status: 0,
+        bytes: trace_of(alloc, circuit, stimulus)?,
+    })
 }
 
 /// The line of a fault of the text as a whole.
