@@ -7,7 +7,7 @@ ghost use Rattle.fir_lexer.specs.Tokens.{AreTokens};
 ghost use Rattle.fir_layout.specs.declared.laid.Laid.{Laid as ALaid};
 ghost use Rattle.fir_layout.specs.declared.laid.Laid.TheVariants.{Close as A_close, End as An_end};
 ghost use Rattle.fir_layout.specs.declared.layout.LayoutFault.TheVariants.{BadIndent as Bad_indent, NoMemory};
-ghost use Rattle.fir_layout.specs.Layout.{Line, Turns, OfLine, items, level, deeper_count, content, IsLaidOut, IsBadIndent, tokens_in, EndsOnce};
+ghost use Rattle.fir_layout.specs.Layout.{Line, Turns, OfLine, items, level, deeper_count, content, end_of, IsLaidOut, IsBadIndent, tokens_in, EndsOnce};
 
 use crate::laid::Laid;
 use crate::lines::line_end;
@@ -87,20 +87,33 @@ fn lay_line(
     ensures ok { OnOk result ((more : List ALaid) × OfLine bytes.now blocks.old.items (record { start = start; tokens = tokens.now }) more blocks.new.items × (laid.new.items ≡ laid.old.items ++ more)) }
     ensures fault { IfErr result (λ fault. (fault ≡ NoMemory) ⊎ (((more : List ALaid) (after : List ℕ) → ¬ (OfLine bytes.now blocks.old.items (record { start = start; tokens = tokens.now }) more after)) × (fault ≡ Bad_indent (place bytes.now (content bytes.now (record { start = start; tokens = tokens.now })))))) }
 {
-    let Some(last) = tokens.last() else {
+    if tokens.is_empty() {
         return Ok(());
-    };
-    let indent = spaces(&bytes[start..]);
+    }
+    let indent = spaces(bytes, start);
     let content = start + indent;
-    if is_tab(bytes, content) || !turn(laid, blocks, indent as u32, content as u32)? {
+    if is_tab(bytes, content) {
         return Err(LayoutFault::BadIndent(place_of(bytes, content)));
     }
-    push_items(laid, tokens, last.end)?;
-    Ok(())
+    let fits = turn(laid, blocks, indent as u32, content as u32)?;
+    if fits {
+        push_items(laid, tokens)?;
+        Ok(())
+    } else {
+        Err(LayoutFault::BadIndent(place_of(bytes, content)))
+    }
 }
 
-/// How many spaces stand at the front.
-fn spaces(bytes: &[u8]) -> usize
+/// How many spaces stand from an offset on.
+fn spaces(bytes: &[u8], start: usize) -> usize
+    requires { start ≤ length bytes.now }
+    ensures count { result ≡ prefix_len (λ b. b == 32) (drop start bytes.now) }
+    ensures within { start + result ≤ length bytes.now }
+{
+    space_count(&bytes[start..])
+}
+
+fn space_count(bytes: &[u8]) -> usize
     ensures count { result ≡ prefix_len (λ b. b == 32) bytes.now }
     ensures within { result ≤ length bytes.now }
 {
@@ -177,12 +190,29 @@ fn end(laid: &mut Vec<Laid>, count: usize, at: u32) -> Result<(), AllocError>
 }
 
 /// Adds a line's tokens and its end.
-fn push_items(laid: &mut Vec<Laid>, tokens: &[Token], end: u32) -> Result<(), AllocError>
-    ensures { OnOk result (laid.new.items ≡ laid.old.items ++ (map Laid.Item tokens.now ++ Laid.LineEnd end ∷ [])) }
+fn push_items(laid: &mut Vec<Laid>, tokens: &[Token]) -> Result<(), AllocError>
+    ensures { OnOk result (laid.new.items ≡ laid.old.items ++ items tokens.now) }
+{
+    push_tokens(laid, tokens)?;
+    laid.push(Laid::LineEnd(end_of(tokens)))?;
+    Ok(())
+}
+
+fn push_tokens(laid: &mut Vec<Laid>, tokens: &[Token]) -> Result<(), AllocError>
+    ensures { OnOk result (laid.new.items ≡ laid.old.items ++ map Laid.Item tokens.now) }
 {
     for token in tokens {
         laid.push(Laid::Item(*token))?;
     }
-    laid.push(Laid::LineEnd(end))?;
     Ok(())
+}
+
+/// The offset behind the last token.
+fn end_of(tokens: &[Token]) -> u32
+    ensures { result ≡ end_of tokens.now }
+{
+    match tokens.last() {
+        Some(token) => token.end,
+        None => 0,
+    }
 }

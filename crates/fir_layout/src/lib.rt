@@ -8,3 +8,6 @@ mod lines;
 
 pub use laid::Laid;
 pub use layout::{LayoutFault, lay_out};
+
+#[cfg(test)]
+mod tests;

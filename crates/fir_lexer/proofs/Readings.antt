@@ -103,7 +103,7 @@ longest_unique bytes k j n m a b =
     let same : m ≡ n = omega arith in
     (same_kind k j (take n bytes) (drop n bytes) a.is (rw same at b.is), omega arith)
 
-no_longest_of_none : (k : PieceKind) (n : ℕ) → IsLongest [] k n → ⊥
+pub no_longest_of_none : (k : PieceKind) (n : ℕ) → IsLongest [] k n → ⊥
 no_longest_of_none k zero a = a.is
 no_longest_of_none k (suc n) a = a.is
 
@@ -129,7 +129,7 @@ compare (then_piece k n ps bytes mid one more) (then_piece j m qs _ rest two fur
     let step : GoOn mid ((j, m) ∷ ps) rest ((j, m) ∷ qs) = one_more j m (compare more' further) in
     rw (same.0, same.1) step
 
-nothing_from_none : {pieces : List (PieceKind × ℕ)} {bytes rest : List ℕ} → Lexes bytes pieces rest → bytes ≡ [] → (pieces ≡ []) × (rest ≡ [])
+pub nothing_from_none : {pieces : List (PieceKind × ℕ)} {bytes rest : List ℕ} → Lexes bytes pieces rest → bytes ≡ [] → (pieces ≡ []) × (rest ≡ [])
 nothing_from_none (no_piece rest) e = (refl, e)
 nothing_from_none (then_piece k n pieces bytes rest one more) e = absurd (no_longest_of_none k n (rw e at one.longest))
 

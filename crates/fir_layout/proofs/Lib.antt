@@ -1,0 +1,4 @@
+pub mod Layouts
+pub mod Parts
+pub mod Turning
+pub mod Walks
