@@ -10,9 +10,9 @@ use Rattle.phase_core.specs.declared.model.Script.{Script}
 use Rattle.phase_core.specs.declared.model.Publication.{Publication}
 use Rattle.phase_core.specs.declared.model.View.{View}
 use Rattle.phase_core.specs.Script.{owner, publications, published, values, IsScript}
-use Rattle.phase_core.specs.Sound.{view, covers, width, weight, total, Live, Cover, Counts, DoneBound, WordsHold, shown, Sound}
+use Rattle.phase_core.specs.Sound.{view, covers, width, weight, total, Live, shown, Sound}
 use Rattle.phase_core.specs.Steps.{left_part, right_part, after_pass, after_arrival, after_publication, both}
-use Rattle.phase_core.proofs.Facts.{Shaped, Facts, shape, sound}
+use Rattle.phase_core.proofs.Facts.{Shaped, shape, sound}
 use Rattle.phase_core.proofs.Shapes.{own_part, owner_below}
 use Rattle.phase_core.proofs.Lists.{at_set, at_snoc, at_below, take_next, set_else}
 use Rattle.phase_core.proofs.Totals.{total-set, total-gone, total-snoc, total_some, total_one, total_two, total_missing, some_passed}

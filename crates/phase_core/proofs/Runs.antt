@@ -15,8 +15,8 @@ use Rattle.phase_core.specs.Script.{publications, values, IsScript}
 use Rattle.phase_core.specs.Sound.{part_of, Live}
 use Rattle.phase_core.specs.Steps.{SoundState, live_view, may_split, may_stay, may_pass, may_arrive, may_load, may_publish, may_join, may_close, next_of, left_part, right_part, after_pass, after_arrival, after_publication, both, put, on_live, on_next, when, split_step, stepped, or_else, run, begun}
 use Rattle.phase_core.proofs.Keeps.{arrives, passes, publishes, splits, joins, counted_low, begins, loads}
-use Rattle.phase_core.proofs.Shapes.{own_part, owner_below}
-use Rattle.phase_core.proofs.Lists.{at_below, at_index, take_next, set-snoc}
+use Rattle.phase_core.proofs.Shapes.{own_part}
+use Rattle.phase_core.proofs.Lists.{at_index, take_next, set-snoc}
 use Rattle.phase_core.proofs.Values.{length-values}
 
 pub live_at : (vs : List (Option View)) (j : ℕ) (v : View) → get_or vs j None ≡ Some v → Live vs j v
@@ -39,10 +39,10 @@ next_at (x ∷ xs) (suc n) p e = next_at xs n p e
 unsome : (a b : View) → Some a ≡ Some b → a ≡ b
 unsome a b e = ap (λ (o : Option View). elim o [ Some x ↦ x | None ↦ a ]) e
 
-abbrev stored : PhaseState → ℕ → View → Publication → PhaseState
+abbrev pub stored : PhaseState → ℕ → View → Publication → PhaseState
 stored t j v p = record t { words = set t.words p.word p.value; views = set t.views j (Some (after_publication v)) }
 
-abbrev joined : PhaseState → ℕ → ℕ → View → View → PhaseState
+abbrev pub joined : PhaseState → ℕ → ℕ → View → View → PhaseState
 joined t j i v u = record t { views = set (set t.views j (Some (both v u))) i None }
 
 module _ (s : Script) (is : IsScript s) where

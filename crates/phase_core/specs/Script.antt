@@ -36,9 +36,14 @@ values s (suc c) = published_all (round_of s c) (values s c)
 abbrev pub OwnedBy : Script → ℕ → List Publication → Type 0
 OwnedBy s w ps = (k : ℕ) (p : Publication) → get_elem? ps k ≡ some p → (p.word < length s.first) × (owner s p.word ≡ w)
 
--- the parts of a round are of words of their workers
+-- a part of the worker w: of words that it owns, and less than 2 ^ 64 publications, as in every list in memory
+pub record IsPart (s : Script) (w : ℕ) (ps : List Publication) : Type 0 where
+  pub own : OwnedBy s w ps
+  pub counted : length ps < 2 ^ 64
+
+-- a part for each worker
 abbrev pub OwnRound : Script → List (List Publication) → Type 0
-OwnRound s r = (w : ℕ) → OwnedBy s w (slice_index_or r w [])
+OwnRound s r = (w : ℕ) → IsPart s w (slice_index_or r w [])
 
 -- each cycle has a part for each worker
 abbrev pub OwnRounds : Script → Type 0
@@ -56,7 +61,3 @@ pub record IsScript (s : Script) : Type 0 where
   pub owners : HasOwners s
   pub rounds : length s.rounds ≡ s.cycles
   pub own : OwnRounds s
-
--- a worker publishes less than 2 ^ 64 times in a cycle, as is so of every list in memory
-abbrev pub IsCounted : Script → Type 0
-IsCounted s = (c w : ℕ) → length (publications s c w) < 2 ^ 64

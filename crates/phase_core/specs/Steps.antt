@@ -1,5 +1,5 @@
 -- The eight kinds of step, each with its condition and its change, and lists of steps.
-use Rattle.std.specs.Prelude.{ℕ, ◌+◌, ◌*◌, ◌/◌, ◌%◌, Bool, true, false, if◌then◌else◌, ◌&&◌, ◌||◌, ◌==◌, nat_lt, nat_le, List, [], ◌∷◌, ◌++◌, length, slice_get, slice_index_or, slice_set, Option, Some, None}
+use Rattle.std.specs.Prelude.{ℕ, ◌+◌, ◌*◌, ◌%◌, Bool, true, false, if◌then◌else◌, ◌&&◌, ◌||◌, ◌==◌, nat_lt, nat_le, List, [], ◌∷◌, ◌++◌, length, slice_get, slice_index, slice_index_or, slice_set, Option, Some, None}
 use Rattle.phase_core.specs.declared.model.Script.{Script}
 use Rattle.phase_core.specs.declared.model.Publication.{Publication}
 use Rattle.phase_core.specs.declared.model.View.{View}
@@ -81,6 +81,10 @@ may_load t v word = v.arrivals == v.passed && v.passed % 2 == 0 && nat_lt word (
 
 abbrev pub load_step : PhaseState → ℕ → ℕ → Option PhaseState
 load_step t j word = on_live (live_view t j) (λ v. when (may_load t v word) t)
+
+-- what a load of the word gives
+abbrev pub loaded : PhaseState → ℕ → ℕ
+loaded t word = slice_index t.words word
 
 -- Publish: in an odd phase one worker stores its next publication
 abbrev pub next_of : Script → View → Option Publication

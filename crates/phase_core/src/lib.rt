@@ -12,7 +12,7 @@ mod steps;
 #[cfg(test)]
 mod tests;
 
-pub use laws::{ends_with_the_last, loads_the_cycle};
+pub use laws::{ends_with_the_last, loads_the_cycle, stays_sound};
 pub use model::{PhaseState, Publication, Script, Step, View};
 pub use shape::is_script;
 pub use steps::{apply, begin, run_steps};

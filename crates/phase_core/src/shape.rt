@@ -1,7 +1,7 @@
 //! Whether a script has its shape, for callers that were given one.
 
 ghost use Rattle.std.specs.Prelude.{◌≡◌, ◌*◌, ◌^◌, ◌<◌, ◌≤◌, ◌↔◌, ℕ, [], length, slice_index_or, IsTrue};
-ghost use Rattle.phase_core.specs.Script.{owner, round_of, OwnedBy, OwnRound, OwnRounds, HasOwners, IsScript};
+ghost use Rattle.phase_core.specs.Script.{owner, round_of, IsPart, OwnRound, OwnRounds, HasOwners, IsScript};
 
 use crate::model::{Publication, Script};
 use bit_words::List;
@@ -24,10 +24,11 @@ fn owns(script: &Script, worker: usize, word: u32) -> bool
 }
 
 fn owns_part(script: &Script, worker: usize, part: &[Publication]) -> bool
-    ensures { IsTrue result ↔ (OwnedBy script.now worker part.now) }
+    ensures { IsTrue result ↔ IsPart script.now worker part.now }
 {
-    for publication in part {
-        if !owns(script, worker, publication.word) {
+    let count = part.len();
+    for i in 0..count {
+        if !owns(script, worker, part[i].word) {
             return false;
         }
     }
@@ -35,7 +36,7 @@ fn owns_part(script: &Script, worker: usize, part: &[Publication]) -> bool
 }
 
 fn owns_round(script: &Script, round: &[List<Publication>]) -> bool
-    ensures { IsTrue result ↔ (OwnRound script.now round.now) }
+    ensures { IsTrue result ↔ OwnRound script.now round.now }
 {
     for worker in 0..round.len() {
         if !owns_part(script, worker, round[worker].as_slice()) {

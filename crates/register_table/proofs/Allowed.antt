@@ -10,13 +10,14 @@ use Rattle.atomic_table.proofs.Lists.{at_map, set_again, set_else}
 use Rattle.phase_core.specs.declared.model.Script.{Script}
 use Rattle.phase_core.specs.declared.model.Publication.{Publication}
 use Rattle.phase_core.specs.declared.model.View.{View}
-use Rattle.phase_core.specs.Script.{publications, values, IsScript, IsCounted}
-use Rattle.phase_core.specs.Sound.{view, part_of, Live, Sound}
+use Rattle.phase_core.specs.Script.{publications, values, IsScript}
+use Rattle.phase_core.specs.Sound.{view, Live, Sound}
 use Rattle.phase_core.specs.Steps.{left_part, right_part, after_pass, after_arrival, after_publication, both}
 use Rattle.phase_core.proofs.Lists.{at_set, at_snoc, at_below, at_index, at-get_or}
 use Rattle.std.proofs.lemmas.List.{ext_get_or}
 use Rattle.phase_core.proofs.Values.{length-values}
 use Rattle.phase_core.proofs.Keeps.{arrives, passes, publishes, splits, joins, loads, begins, counted_low}
+use Rattle.phase_core.proofs.Shapes.{counted_part}
 use Rattle.phase_core.proofs.Runs.{last_words}
 use Rattle.phase_core.specs.declared.model.PhaseState.{PhaseState}
 use Rattle.register_table.specs.declared.plays.Held.{Held}
@@ -96,12 +97,12 @@ module _ (s : Script) (script : IsScript s) where
             (refl, loads s script b ws vs id v i o live rest ev inside ∙ ap (λ k. get_or (values s (v.passed / 2)) k 0) (let q : i ≡ suc i - 1 = omega arith in q)),
       )))
 
-  pub publish-allowed : IsCounted s → (slots id n : ℕ) (me : Sat) (v : View) (p : Publication) → n ≡ suc p.word → me ≡ (seated v s, []) → v.high ≡ v.low + 1 → v.arrivals ≡ v.passed → v.passed % 2 ≡ 1
+  pub publish-allowed : (slots id n : ℕ) (me : Sat) (v : View) (p : Publication) → n ≡ suc p.word → me ≡ (seated v s, []) → v.high ≡ v.low + 1 → v.arrivals ≡ v.passed → v.passed % 2 ≡ 1
       → get_elem? (publications s (v.passed / 2) v.low) v.done ≡ some p
       → Allows Rule slots id me n (λ _. p.value) (λ _. published (step slots n p.value 0 none) me p.value)
-  publish-allowed counted slots id n me v p at is single rest od next = subst (λ k. Allows Rule slots id me k (λ _. p.value) (λ _. published (step slots k p.value 0 none) me p.value)) (sym at)
+  publish-allowed slots id n me v p at is single rest od next = subst (λ k. Allows Rule slots id me k (λ _. p.value) (λ _. published (step slots k p.value 0 none) me p.value)) (sym at)
       (allowed slots id (suc p.word) me v (λ _. p.value) (λ _. published (step slots (suc p.word) p.value 0 none) me p.value) is
-      (λ b ws vs o live small. let room = counted (v.passed / 2) v.low in let below = at_below (publications s (v.passed / 2) v.low) v.done p next in (
+      (λ b ws vs o live small. let room = counted_part s script (v.passed / 2) v.low in let below = at_below (publications s (v.passed / 2) v.low) v.done p next in (
         after_publication v,
         b,
         set ws p.word p.value,

@@ -1,6 +1,7 @@
 -- What clauses see of a table, a post and a closed table.
 use Rattle.std.specs.Prelude.{◌≡◌, ℕ}
 use Rattle.phase_core.specs.declared.model.Script.{Script}
+use Rattle.phase_core.specs.Sound.{view}
 use Rattle.register_table.specs.declared.plan.Plan.{Ghosts}
 use Rattle.register_table.specs.declared.table.RegisterTable.{RegisterTable}
 use Rattle.register_table.specs.declared.table.Post.{Post}
@@ -10,6 +11,11 @@ module _ {N : Type 0} {p : Ghosts N} where
   -- the post is one of this table
   abbrev pub ComesFrom : Post N p → RegisterTable N p → Type 0
   ComesFrom post table = post.seat.table_id ≡ table.table.shared.table_id
+
+  -- the post is one of this table, for the workers from low to high, with these counts
+  pub record Stands (table : RegisterTable N p) (post : Post N p) (low high arrivals passed done : ℕ) : Type 0 where
+    pub table_is : ComesFrom post table
+    pub view_is : post.view ≡ view low high arrivals passed done
 
   -- the number of data words
   abbrev pub word_count : RegisterTable N p → ℕ

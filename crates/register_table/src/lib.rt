@@ -8,10 +8,14 @@
 //! carries. No step takes a lock, and `pass` alone waits.
 #![tactic(auto)]
 
+mod laws;
 mod plan;
 mod plays;
 mod post;
 mod table;
+#[cfg(test)]
+mod tests;
 
+pub use laws::calls_are_steps;
 pub use plan::Plan;
 pub use table::{Closed, Post, RegisterTable};

@@ -4,7 +4,7 @@ ghost use Rattle.std.specs.Prelude.{◌≡◌, ℕ, ◌+◌, ◌*◌, ◌/◌, �
 ghost use mathlib.Core.Option.{some};
 ghost use lib.ListN.{get_elem?};
 ghost use Rattle.std.specs.Mem.Slots.{slots_items, slots_len, IsFull};
-ghost use Rattle.phase_core.specs.Script.{values, publications, IsScript, IsCounted};
+ghost use Rattle.phase_core.specs.Script.{values, publications, IsScript};
 ghost use Rattle.phase_core.specs.Sound.{part_of};
 ghost use Rattle.phase_core.specs.Steps.{left_part, right_part, after_pass, after_arrival, after_publication, both};
 ghost use Rattle.register_table.specs.Shown.{ComesFrom, word_count, closed_script};
@@ -45,7 +45,6 @@ impl<N: Plan> RegisterTable<N> {
         first: &[u64],
     ) -> Result<(RegisterTable<N>, Post<N>), AllocError>
         requires script { IsScript N.script }
-        requires counted { IsCounted N.script }
         requires numbers { (workers ≡ N.script.workers) × (cycles ≡ N.script.cycles) }
         requires words { first.now ≡ N.script.first }
         ensures table { IfOk result (λ r. ComesFrom r.1 r.0) }

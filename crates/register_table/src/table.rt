@@ -1,7 +1,7 @@
 //! The table and the posts.
 
 ghost use Rattle.std.specs.Prelude.{◌≡◌, ◌+◌, [], length};
-ghost use Rattle.phase_core.specs.Script.{IsScript, IsCounted};
+ghost use Rattle.phase_core.specs.Script.{IsScript};
 ghost use Rattle.register_table.specs.Rule.{seated};
 
 use crate::plan::Plan;
@@ -22,7 +22,6 @@ pub(crate) struct Size<N: Plan> {
     ghost workers_are: { workers ≡ N.script.workers },
     ghost words_are: { words ≡ length N.script.first },
     ghost shape: { IsScript N.script },
-    ghost counted: { IsCounted N.script },
 }
 
 /// A barrier word and the words of the script, shared by posts.

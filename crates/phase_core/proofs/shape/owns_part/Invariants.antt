@@ -5,5 +5,5 @@ use Rattle.phase_core.specs.declared.model.Publication.{Publication}
 use Rattle.phase_core.specs.Script.{owner}
 use Rattle.phase_core.proofs.shape.owns_part.Given as goal
 
-abbrev pub invariant-loop-publication : goal.invariant-loop-publication
-invariant-loop-publication l = (k : ℕ) → k < l.publication-index → (p : Publication) → get_elem? l.part k ≡ some p → (p.word < length l.script.first) × (owner l.script p.word ≡ l.worker)
+abbrev pub invariant-loop-i : goal.invariant-loop-i
+invariant-loop-i l = (k : ℕ) → k < l.i → (p : Publication) → get_elem? l.part k ≡ some p → (p.word < length l.script.first) × (owner l.script p.word ≡ l.worker)

@@ -1,5 +1,5 @@
-use Rattle.std.proofs.Common.{◌≡◌, ◌<◌, ◌≤◌, [], length, get_or, refl, subst, sym, ap, ◌∙◌, arith, below_more}
-use Rattle.phase_core.specs.Script.{OwnRound, round_of}
+use Rattle.std.proofs.Common.{◌<◌, ◌≤◌, [], length, get_or, refl, subst, sym, ap, ◌∙◌, arith, below_more}
+use Rattle.phase_core.specs.Script.{OwnRound}
 use Rattle.phase_core.proofs.Shapes.{untrue, any_default}
 use Rattle.phase_core.proofs.shape.owns_rounds.Goals as goal
 

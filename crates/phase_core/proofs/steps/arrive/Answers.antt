@@ -1,4 +1,4 @@
-use Rattle.std.proofs.Common.{arith, ap, sym}
+use Rattle.std.proofs.Common.{arith, sym}
 use Rattle.phase_core.proofs.Runs.{arrival_room}
 use Rattle.phase_core.proofs.steps.arrive.Goals as goal
 

@@ -1,4 +1,4 @@
-use Rattle.std.proofs.Common.{None, false, cond, get_or, ◌≡◌, subst, sym}
+use Rattle.std.proofs.Common.{None, cond, get_or, ◌≡◌, subst, sym}
 use Rattle.phase_core.proofs.Lists.{default_at}
 use Rattle.phase_core.proofs.steps.live.Goals as goal
 
