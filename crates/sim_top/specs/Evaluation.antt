@@ -73,6 +73,10 @@ pub record Enters (c : SmallCircuit) (s : SmallStimulus) (cycle : ℕ) (v : Valu
   pub inputs : v.inputs.items ≡ map (input_number (set_before s.settings cycle)) c.ports
   pub registers : v.registers.items ≡ map (register_number (held_before c s cycle)) c.statements
 
+-- the numbers before the first cycle, under whatever stimulus
+abbrev pub EntersFirst : SmallCircuit → Values → Type 0
+EntersFirst c v = (s : SmallStimulus) → Enters c s 0 v
+
 -- the line of a cycle in which this is the valuation
 abbrev pub line_of : SmallCircuit → Valuation → ℕ → List ℕ
 line_of c rho n = decimal n ++ flat_map (λ name. 32 ∷ decimal (output_value c rho name)) (output_names c.ports) ++ 10 ∷ []

@@ -1,11 +1,11 @@
 //! The values of a small circuit in a cycle, and what they make of the next.
 
-ghost use Rattle.std.specs.Prelude.{◌≡◌, ◌+◌, ◌%◌, ◌^◌, ◌≤◌, max, map, length, Contains, IfOk, OnOk, position, unwrap_or, ℕ, ◌⊎◌};
+ghost use Rattle.std.specs.Prelude.{◌≡◌, ◌+◌, ◌%◌, ◌^◌, ◌≤◌, map, length, Contains, IfOk, OnOk, position, unwrap_or, ℕ, ◌⊎◌};
 ghost use Rattle.std.specs.Option.{option_copied};
 ghost use Rattle.sim_top.specs.SmallCircuits.{IsWellFormed, IsOperand, IsExpression, input_names, register_names};
 ghost use Rattle.sim_top.specs.SmallStimuli.{IsStimulusOf};
-ghost use Rattle.sim_top.specs.Cycles.{Valuation, port_width, register_width, width_of, operand_width, operand_value, value, driven, output_value, register_next, values_in, held_before};
-ghost use Rattle.sim_top.specs.Evaluation.{IsShaped, Holds, Enters, is_input_named, is_register_named, source_of, input_number, made, set_in, next_number, register_number};
+ghost use Rattle.sim_top.specs.Cycles.{Valuation, port_width, register_width, width_of, operand_width, operand_value, value, driven, output_value, register_next, values_in};
+ghost use Rattle.sim_top.specs.Evaluation.{IsShaped, Holds, Enters, EntersFirst, is_input_named, is_register_named, source_of, input_number, made, set_in, next_number};
 
 use crate::circuit::{Expression, Operand, Port, Register, SmallCircuit, Statement};
 use crate::stimulus::{Setting, SmallStimulus};
@@ -21,12 +21,8 @@ pub struct Values {
 
 impl Values {
     /// The values that a run starts from: all are 0.
-    pub fn start(
-        alloc: Global,
-        circuit: &SmallCircuit,
-        stimulus: &SmallStimulus,
-    ) -> Result<Values, AllocError>
-        ensures { IfOk result (λ v. Enters circuit.now stimulus.now 0 v) }
+    pub fn start(alloc: Global, circuit: &SmallCircuit) -> Result<Values, AllocError>
+        ensures { IfOk result (λ v. EntersFirst circuit.now v) }
     {
         Ok(Values {
             inputs: vec![in alloc; 0; circuit.ports.len()]?,

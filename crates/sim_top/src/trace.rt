@@ -24,7 +24,7 @@ pub fn trace_of(
 {
     let mut out = Vec::new(alloc);
     push_header(&mut out, circuit)?;
-    let mut values = Values::start(alloc, circuit, stimulus)?;
+    let mut values = Values::start(alloc, circuit)?;
     for cycle in 0..stimulus.cycles {
         values.set_inputs(circuit, stimulus, cycle);
         push_line(&mut out, circuit, &values, cycle)?;

@@ -1,9 +1,16 @@
 use Rattle.std.proofs.Common.{◌∙◌, ℕ, List, ◌++◌, ap, sym, subst, add-one}
+use Rattle.std.proofs.lemmas.List.{append-nil}
 use Rattle.sim_top.specs.Cycles.{header_line, trace_line, values_in}
 use Rattle.sim_top.specs.Evaluation.{Enters}
 use Rattle.sim_top.proofs.Lines.{one_more}
 use Rattle.sim_top.proofs.Steps.{enters_next}
 use Rattle.sim_top.proofs.trace.trace_of.Goals as goal
+
+pub loop-cycle-init : goal.loop-cycle-init
+loop-cycle-init c = record {
+  written = c.in_ok-push_header.ensures ∙ ap (λ (t : List ℕ). t ++ header_line c.args.circuit.now) c.new-out.ensures.items ∙ sym (append-nil (header_line c.args.circuit.now));
+  enters = c.in_ok-values.ensures c.args.stimulus.now;
+}
 
 pub loop-cycle-preserved : goal.loop-cycle-preserved
 loop-cycle-preserved c =

@@ -6,4 +6,4 @@ pub returns : goal.returns
 returns c =
     let inputs = c.in_ok-vec.ensures.items_if_clones_equal (λ y e. e) in
     let registers = c.in_ok-vec-2.ensures.items_if_clones_equal (λ y e. e) in
-    enters_first c.args.circuit.now c.args.stimulus.now _ (inputs ∙ ap (λ (n : ℕ). replicate n 0) c.len.ensures) (registers ∙ ap (λ (n : ℕ). replicate n 0) c.len-2.ensures)
+    λ s. enters_first c.args.circuit.now s _ (inputs ∙ ap (λ (n : ℕ). replicate n 0) c.len.ensures) (registers ∙ ap (λ (n : ℕ). replicate n 0) c.len-2.ensures)
