@@ -1,14 +1,14 @@
 -- Lines one behind the other, and that a text has at most one layout.
-use Rattle.std.proofs.Common.{◌≡◌, ◌≢◌, ℕ, zero, suc, ◌+◌, ◌-◌, ◌<◌, ◌≤◌, Bool, true, false, List, [], ◌∷◌, ◌++◌, length, take, drop, get_or, refl, ap, sym, ◌∙◌, arith, append_assoc, append-nil, inl, inr, ⊎_elim, ◌⊎◌}
+use Rattle.std.proofs.Common.{◌≡◌, ℕ, ◌-◌, ◌≤◌, List, [], ◌∷◌, ◌++◌, length, take, drop, refl, ap, sym, ◌∙◌, arith, append_assoc, append-nil, inl, inr, ⊎_elim, ◌⊎◌}
 use Rattle.std.specs.Prelude.{Result, Ok, Err, IfOk, IfErr, MatchResult, replicate}
 use Rattle.place_text.specs.declared.place.Place.{Place}
 use Rattle.fir_lexer.specs.declared.token.Token.{Token}
 use Rattle.fir_lexer.specs.declared.pieces.PieceKind.{PieceKind}
-use Rattle.fir_lexer.specs.Tokens.{Lexes, AreTokens, tokens_of}
+use Rattle.fir_lexer.specs.Tokens.{Lexes, AreTokens}
 use Rattle.fir_lexer.proofs.Readings.{one_reading, nothing_from_none}
 use Rattle.std.proofs.lemmas.List.{drop_all}
 use Rattle.fir_layout.specs.declared.laid.Laid.{Laid}
-use Rattle.fir_layout.specs.declared.laid.Laid.TheVariants.{Item, LineEnd, Open, Close, End}
+use Rattle.fir_layout.specs.declared.laid.Laid.TheVariants.{Close, End}
 use Rattle.fir_layout.specs.declared.layout.LayoutFault.{LayoutFault}
 use Rattle.fir_layout.specs.declared.layout.LayoutFault.TheVariants.{BadIndent, NoMemory}
 use Rattle.fir_layout.specs.Layout.{Line, OfLine, OfLines, no_line, then_line, IsLaidOut, IsBadIndent, lines_of, content}

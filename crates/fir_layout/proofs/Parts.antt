@@ -1,7 +1,6 @@
 -- The parts of a laid list: its tokens in order, and that all stand in the text.
-use Rattle.std.proofs.Common.{◌≡◌, ◌≢◌, ℕ, zero, suc, ◌+◌, ◌-◌, ◌<◌, ◌≤◌, Bool, true, false, List, [], ◌∷◌, ◌++◌, length, take, drop, get_or, refl, ap, sym, ◌∙◌, arith, append_assoc, append-nil, length-drop}
+use Rattle.std.proofs.Common.{◌≡◌, ℕ, zero, suc, ◌+◌, ◌<◌, ◌≤◌, List, [], ◌∷◌, ◌++◌, length, drop, get_or, refl, ap, sym, ◌∙◌, arith, append_assoc, append-nil, length-drop}
 use Rattle.std.specs.Prelude.{if◌then◌else◌, map, replicate, ◌==◌, Result, Ok, Err, IfOk}
-use Rattle.std.specs.List.{flat_map, prefix_len}
 use Rattle.std.proofs.lemmas.List.Sums.{prefix_len-le-length}
 use Rattle.fir_lexer.specs.declared.token.Token.{Token}
 use Rattle.fir_lexer.specs.declared.pieces.PieceKind.{PieceKind}
@@ -9,8 +8,8 @@ use Rattle.fir_lexer.specs.declared.pieces.PieceKind.TheVariants.{Blank, Return,
 use Rattle.fir_lexer.specs.Tokens.{Lexes, no_piece, then_piece, AreTokens, token_of, tokens_of}
 use Rattle.fir_lexer.proofs.Readings.{one_reading, longest_some}
 use Rattle.fir_layout.specs.declared.laid.Laid.{Laid}
-use Rattle.fir_layout.specs.declared.laid.Laid.TheVariants.{Item, LineEnd, Open, Close, End}
-use Rattle.fir_layout.specs.Layout.{Line, Turns, greater, equal, smaller, OfLine, skipped, filled, OfLines, no_line, then_line, IsLaidOut, ends_line, begun_with, lines_of, items, end_of, deeper_count, indent, content, token_in, tokens_in, IsInside, EndsOnce}
+use Rattle.fir_layout.specs.declared.laid.Laid.TheVariants.{Item, LineEnd, Close, End}
+use Rattle.fir_layout.specs.Layout.{Line, Turns, greater, equal, smaller, OfLine, skipped, filled, OfLines, no_line, then_line, IsLaidOut, ends_line, begun_with, lines_of, items, end_of, deeper_count, content, token_in, tokens_in, IsInside, EndsOnce}
 
 tokens_in-append : (xs ys : List Laid) → tokens_in (xs ++ ys) ≡ tokens_in xs ++ tokens_in ys
 tokens_in-append [] ys = refl

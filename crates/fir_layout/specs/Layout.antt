@@ -4,7 +4,7 @@ use Rattle.std.specs.List.{prefix_len, suffix_len, flat_map}
 use Rattle.fir_lexer.specs.declared.token.Token.{Token}
 use Rattle.fir_lexer.specs.declared.pieces.PieceKind.{PieceKind}
 use Rattle.fir_lexer.specs.declared.pieces.PieceKind.TheVariants.{Blank, Return, LineFeed, Comment, Info, Annotation, TokenOf}
-use Rattle.fir_lexer.specs.Tokens.{Lexes, token_of, tokens_of}
+use Rattle.fir_lexer.specs.Tokens.{Lexes, token_of}
 use Rattle.fir_layout.specs.declared.laid.Laid.{Laid}
 use Rattle.fir_layout.specs.declared.laid.Laid.TheVariants.{Item, LineEnd, Open, Close, End}
 

@@ -1,9 +1,9 @@
 -- What the functions say that go from line to line.
-use Rattle.std.specs.Prelude.{◌≡◌, ℕ, ◌+◌, ◌-◌, ◌<◌, ◌≤◌, List, [], ◌∷◌, length, take, drop}
+use Rattle.std.specs.Prelude.{◌≡◌, ℕ, ◌-◌, ◌<◌, ◌≤◌, List, [], ◌∷◌, length, take, drop}
 use Rattle.fir_lexer.specs.declared.token.Token.{Token}
 use Rattle.fir_lexer.specs.declared.pieces.PieceKind.{PieceKind}
 use Rattle.fir_lexer.specs.Tokens.{Lexes, tokens_of}
-use Rattle.fir_layout.specs.Layout.{Line, lines_of}
+use Rattle.fir_layout.specs.Layout.{lines_of}
 
 -- from an offset on the text has these pieces, and the tokens from an index on are theirs
 pub record Ahead (text : List ℕ) (tokens : List Token) (at index : ℕ) (pieces : List (PieceKind × ℕ)) : Type 0 where

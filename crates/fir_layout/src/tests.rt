@@ -1,5 +1,7 @@
 //! Texts whose layout and faults are known from the rules of the language.
 
+ghost use Rattle.std.specs.Prelude.{◌<◌};
+
 use crate::{Laid, LayoutFault, lay_out};
 use fir_lexer::TokenKind::{Mark, Word};
 use fir_lexer::{Token, lex};
@@ -9,11 +11,10 @@ use std::process::Abort;
 use std::test::Fail;
 
 fn has_layout(rt: &impl Abort, alloc: Global, text: &[u8], wanted: &[Laid]) -> Result<(), Fail> {
-    if text.len() < 1000 {
-        let tokens = lex(alloc, text)?;
-        let laid = lay_out(alloc, text, &tokens)?;
-        assert_eq!(rt; laid.as_slice(), wanted);
-    }
+    assert!(rt; text.len() < 1000);
+    let tokens = lex(alloc, text)?;
+    let laid = lay_out(alloc, text, &tokens)?;
+    assert_eq!(rt; laid.as_slice(), wanted);
     Ok(())
 }
 
@@ -24,17 +25,18 @@ fn has_fault(
     line: u32,
     column: u32,
 ) -> Result<(), Fail> {
-    if text.len() < 1000 {
-        let tokens = lex(alloc, text)?;
-        match lay_out(alloc, text, &tokens) {
-            Ok(_) => assert_eq!(rt; text, b"refused".as_slice()),
-            Err(fault) => assert_eq!(rt; fault, LayoutFault::BadIndent(Place { line, column })),
-        }
+    assert!(rt; text.len() < 1000);
+    let tokens = lex(alloc, text)?;
+    match lay_out(alloc, text, &tokens) {
+        Ok(_) => assert_eq!(rt; text, b"refused".as_slice()),
+        Err(fault) => assert_eq!(rt; fault, LayoutFault::BadIndent(Place { line, column })),
     }
     Ok(())
 }
 
-fn word(start: u32) -> Laid {
+fn word(start: u32) -> Laid
+    requires { start < 1000 }
+{
     Laid::Item(Token {
         kind: Word,
         start,

@@ -15,6 +15,7 @@ fn has_tokens(
     text: &[u8],
     wanted: &[(TokenKind, u32, u32)],
 ) -> Result<(), Fail> {
+    assert!(rt; text.len() < 1000);
     let tokens = lex(alloc, text)?;
     let mut all = Vec::new(alloc);
     for (kind, start, end) in wanted {
@@ -29,6 +30,7 @@ fn has_tokens(
 }
 
 fn has_fault(rt: &impl Abort, alloc: Global, text: &[u8], wanted: LexFault) -> Result<(), Fail> {
+    assert!(rt; text.len() < 1000);
     match lex(alloc, text) {
         Ok(_) => assert_eq!(rt; text, b"refused".as_slice()),
         Err(fault) => assert_eq!(rt; fault, wanted),

@@ -1,4 +1,4 @@
-use Rattle.std.proofs.Common.{length, ◌-◌, ◌≤◌}
+use Rattle.std.proofs.Common.{length, ◌-◌}
 use Rattle.fir_layout.proofs.Layouts.{LaidTo}
 use Rattle.fir_layout.proofs.layout.walk.Given as goal
 

@@ -1,4 +1,4 @@
-use Rattle.std.proofs.Common.{arith, sym, ◌∙◌, length-drop, length, drop}
+use Rattle.std.proofs.Common.{arith, sym, ◌∙◌, length-drop}
 use Rattle.std.proofs.lemmas.List.{take_rest}
 use Rattle.fir_lexer.proofs.Readings.{longest_some}
 use Rattle.fir_layout.proofs.Walks.{going_start, going_more, going_feed, going_end, going_none}
