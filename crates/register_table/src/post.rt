@@ -51,6 +51,7 @@ impl<N: Plan> RegisterTable<N> {
         ensures view { IfOk result (λ r. r.1.view ≡ begin_view N.script) }
         ensures words { IfOk result (λ r. word_count r.0 ≡ length first.now) }
     {
+        // Only the contract speaks of the number of cycles.
         let _ = cycles;
         let words = new_words(alloc, first)?;
         let (table, seat) = Table::of_words(alloc, words.as_slice(), &())?;
