@@ -12,11 +12,14 @@ use Rattle.sim_top.specs.Answers.{AreSmall, AreSmallOnly, NoneSmall}
 some_is : {A : Type 0} (x y : A) → Some x ≡ Some y → x ≡ y
 some_is x y e = cc
 
+ok_is : {A E : Type 0} (x y : A) → ◌≡◌ {A = Result (Option A) E} (Ok (Some x)) (Ok (Some y)) → x ≡ y
+ok_is x y e = cc
+
 none_is : {A : Type 0} (x : A) → None ≡ Some x → ⊥
 none_is x e = cc
 
-pair_is : {A B : Type 0} (a c : A) (b d : B) → (a, b) ≡ (c, d) → (a ≡ c) × (b ≡ d)
-pair_is a c b d e = (ap (λ p. p.0) e, ap (λ p. p.1) e)
+pair_is : {A B : Type 0} (a c : A) (b d : B) → ◌≡◌ {A = A × B} (a, b) (c, d) → (a ≡ c) × (b ≡ d)
+pair_is {A} {B} a c b d e = (ap (λ (p : A × B). p.0) e, ap (λ (p : A × B). p.1) e)
 
 -- both were read
 pub both_read : (text : List ℕ) (laid : List Laid) (stimulus : List ℕ) (pieces : List Piece) (c : SmallCircuit) (s : SmallStimulus) → pieces ≡ pieces_of text laid
@@ -29,6 +32,12 @@ both_read text laid stimulus pieces c s e is only settings once = record {
       let same : c ≡ d = some_is c d (only d (subst (λ p. IsSmallCircuit p d) (sym e) a.0)) in
       (sym same, sym (some_is s t (once t (subst (λ x. IsSmallStimulus x stimulus t) (sym same) a.1))));
 }
+
+-- the same for those that an answer gives
+pub these_only : {E : Type 0} (text : List ℕ) (laid : List Laid) (stimulus : List ℕ) (a c : SmallCircuit) (b s : SmallStimulus)
+    → ◌≡◌ {A = Result (Option (SmallCircuit × SmallStimulus)) E} (Ok (Some (a, b))) (Ok (Some (c, s))) → AreSmallOnly text laid stimulus a b → AreSmallOnly text laid stimulus c s
+these_only text laid stimulus a c b s e are =
+    let p = pair_is a c b s (ok_is (a, b) (c, s) e) in subst (λ y. AreSmallOnly text laid stimulus c y) p.1 (subst (λ x. AreSmallOnly text laid stimulus x b) p.0 are)
 
 -- no circuit was read
 pub no_circuit : (text : List ℕ) (laid : List Laid) (stimulus : List ℕ) (pieces : List Piece) → pieces ≡ pieces_of text laid
