@@ -1,0 +1,40 @@
+-- A joined text is split in one way.
+use Rattle.std.proofs.Common.{◌≡◌, ℕ, ◌<◌, ◌≤◌, List, [], ◌∷◌, ◌++◌, ◌⊎◌, ⊎_elim, drop, take, refl, sym, ap, ◌∙◌, subst, arith, lt_of_not-le}
+use native.Mathlib.Decide.{dec_le}
+use Rattle.sim_top.specs.declared.command.Command.TheVariants.{Run, Check}
+use Rattle.sim_top.specs.declared.command.Command.{Command}
+use Rattle.sim_top.specs.StimulusLine.{IsStimulusLine, StandsAt, NoneBefore, HasNone, IsSplit}
+use Rattle.sim_top.specs.Answers.{IsPart, before_line, all_of_it, IsTaken}
+
+-- what stands behind the line
+line_once : (bytes a b : List ℕ) → IsStimulusLine bytes a → IsStimulusLine bytes b → a ≡ b
+line_once bytes a b p q =
+    ⊎_elim (λ pf. ⊎_elim (λ qf. cc) (λ q'. ⊎_elim (λ qr. cc) (λ qe. let e = qe.0 in cc) q') q)
+    (λ p'. ⊎_elim (λ pr. ⊎_elim (λ qf. cc) (λ q'. ⊎_elim (λ qr. cc) (λ qe. let e = qe.0 in cc) q') q)
+      (λ pe. let e = pe.0 in let n = pe.1 in ⊎_elim (λ qf. cc) (λ q'. ⊎_elim (λ qr. cc) (λ qe. let m = qe.1 in cc) q') q) p') p
+
+not_before : (text : List ℕ) (i j : ℕ) (a : List ℕ) → NoneBefore text j → StandsAt text i a → j ≤ i
+not_before text i j a none stands = elim (dec_le j i) [ | yes le ↦ le | no n ↦ absurd (none i a (lt_of_not-le n) stands) ]
+
+pub split_once : (text a b a' b' : List ℕ) → IsSplit text a b → IsSplit text a' b' → (a ≡ a') × (b ≡ b')
+split_once text a b a' b' p q =
+    let le = not_before text q.at p.at b' p.first q.stands in
+    let ge = not_before text p.at q.at b q.first p.stands in
+    let same : p.at ≡ q.at = omega arith in
+    (
+      p.front ∙ ap (λ n. take n text) same ∙ sym q.front,
+      line_once (drop q.at text) b b' (subst (λ n. IsStimulusLine (drop n text) b) same p.stands.line) q.stands.line,
+    )
+
+pub split_or_none : (text a b : List ℕ) → IsSplit text a b → HasNone text → ⊥
+split_or_none text a b p none = none p.at b p.stands
+
+pub part_once : (command : Command) (text a b : List ℕ) → IsPart command text a → IsPart command text b → a ≡ b
+part_once command text a b (before_line _ _ _ s p) (before_line _ _ _ t q) = (split_once text a s b t p q).0
+part_once Check text a _ (before_line _ _ _ s p) (all_of_it _ n) = absurd (split_or_none text a s p n)
+part_once Check text _ b (all_of_it _ n) (before_line _ _ _ t q) = absurd (split_or_none text b t q n)
+part_once Check text _ _ (all_of_it _ n) (all_of_it _ m) = refl
+
+-- `run` has no part where there is no line
+pub run_has_line : (text a : List ℕ) → IsPart Run text a → HasNone text → ⊥
+run_has_line text a (before_line _ _ _ s p) none = split_or_none text a s p none

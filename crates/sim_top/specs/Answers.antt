@@ -1,0 +1,134 @@
+-- What the program is to answer: a status and the bytes that are written.
+use Rattle.std.specs.Prelude.{◌≡◌, ℕ, ◌<◌, ◌≤◌, List, [], ◌∷◌, ◌++◌, length, Option, Some, None, if◌then◌else◌, codes, ◌⊎◌}
+use Rattle.std.specs.Str.{bytes_eq}
+use Rattle.place_text.specs.Places.{fault_line_bytes, first_place}
+use Rattle.place_text.specs.declared.place.TextPart.TheVariants.{Circuit}
+use Rattle.fir_layout.specs.declared.laid.Laid.{Laid}
+use Rattle.fir_layout.specs.Pieces.{Piece, pieces_of}
+use Rattle.sim_top.specs.declared.command.Command.{Command}
+use Rattle.sim_top.specs.declared.command.Command.TheVariants.{Run, Check}
+use Rattle.sim_top.specs.declared.fault.FaultKind.{FaultKind}
+use Rattle.sim_top.specs.declared.fault.FaultKind.TheVariants.{TooLong, NoStimulus, BadByte, BadToken, NumberRange, BadIndent, NotBuilt}
+use Rattle.sim_top.specs.declared.fault.Fault.{Fault}
+use Rattle.sim_top.specs.declared.circuit.SmallCircuit.{SmallCircuit}
+use Rattle.sim_top.specs.declared.stimulus.SmallStimulus.{SmallStimulus}
+use Rattle.sim_top.specs.StimulusLine.{IsSplit, HasNone}
+use Rattle.fir_layout.specs.Layout.{IsLaidOut}
+use Rattle.sim_top.specs.CircuitText.{IsTextFault, IsFaultOnly}
+use Rattle.sim_top.specs.SmallCircuits.{IsSmallCircuit}
+use Rattle.sim_top.specs.SmallStimuli.{IsSmallStimulus}
+use Rattle.sim_top.specs.Cycles.{trace}
+
+-- The words: a command by itself, or a command and `-`, which is standard input.
+abbrev pub named_command : List ℕ → Option Command
+named_command word = if bytes_eq word (codes "run") then Some Run else (if bytes_eq word (codes "check") then Some Check else None)
+
+abbrev pub command_of : List (List ℕ) → Option Command
+command_of [] = None
+command_of (word ∷ []) = named_command word
+command_of (word ∷ name ∷ []) = if bytes_eq name (codes "-") then named_command word else None
+command_of (word ∷ name ∷ more ∷ rest) = None
+
+-- standard input's name
+abbrev pub input_name : List ℕ
+input_name = codes "-"
+
+abbrev pub kind_name : FaultKind → List ℕ
+kind_name TooLong = codes "TooLong"
+kind_name NoStimulus = codes "NoStimulus"
+kind_name BadByte = codes "BadByte"
+kind_name BadToken = codes "BadToken"
+kind_name NumberRange = codes "NumberRange"
+kind_name BadIndent = codes "BadIndent"
+kind_name NotBuilt = codes "NotBuilt"
+
+-- a fault of the text as a whole
+abbrev pub at_front : FaultKind → Fault
+at_front kind = record { kind = kind; place = first_place }
+
+-- The circuit's text: what stands before the line `%stimulus`, and for `check` all of it where there is no such line.
+pub data IsPart : Command → List ℕ → List ℕ → Type 0 where
+  before_line : (command : Command) (joined circuit stimulus : List ℕ) → IsSplit joined circuit stimulus → IsPart command joined circuit
+  all_of_it : (joined : List ℕ) → HasNone joined → IsPart Check joined joined
+
+-- the greatest lengths of a joined text and of a circuit's text, in bytes
+abbrev pub joined_limit : ℕ
+joined_limit = 5242880
+
+abbrev pub circuit_limit : ℕ
+circuit_limit = 1048576
+
+-- the circuit's text was taken: all is within its limit
+pub record IsTaken (command : Command) (joined circuit : List ℕ) : Type 0 where
+  pub within : length joined ≤ joined_limit
+  pub part : IsPart command joined circuit
+  pub short : length circuit ≤ circuit_limit
+
+-- the line that names a fault of the circuit
+abbrev pub fault_bytes : Fault → List ℕ
+fault_bytes fault = fault_line_bytes Circuit (kind_name fault.kind) fault.place
+
+-- the circuit and the stimulus are small ones
+abbrev pub AreSmall : List Piece → List ℕ → SmallCircuit → SmallStimulus → Type 0
+AreSmall pieces stimulus c s = IsSmallCircuit pieces c × IsSmallStimulus c stimulus s
+
+-- What a command answers where the circuit's text was taken: the first fault of the text; or for `check` that there is none;
+-- or for `run` the trace of the small circuit under the small stimulus, and that it is not built where they are not small.
+pub data JudgesTaken : Command → List ℕ → List ℕ → ℕ → List ℕ → Type 0 where
+  text_fault : (command : Command) (joined circuit : List ℕ) (fault : Fault) → IsTextFault circuit fault → JudgesTaken command joined circuit 2 (fault_bytes fault)
+  accepted : (joined circuit : List ℕ) (laid : List Laid) → IsLaidOut circuit laid → JudgesTaken Check joined circuit 0 (codes "ok\n")
+  traced : (joined circuit stimulus : List ℕ) (laid : List Laid) (c : SmallCircuit) (s : SmallStimulus) → IsSplit joined circuit stimulus
+      → IsLaidOut circuit laid → AreSmall (pieces_of circuit laid) stimulus c s → JudgesTaken Run joined circuit 0 (trace c s)
+  not_built : (joined circuit stimulus : List ℕ) (laid : List Laid) → IsSplit joined circuit stimulus → IsLaidOut circuit laid
+      → ((c : SmallCircuit) (s : SmallStimulus) → AreSmall (pieces_of circuit laid) stimulus c s → ⊥)
+      → JudgesTaken Run joined circuit 2 (fault_bytes (at_front NotBuilt))
+
+-- What a command answers to the text of standard input. Of the faults of the text as a whole the first in this order counts.
+pub data Judges : Command → List ℕ → ℕ → List ℕ → Type 0 where
+  joined_too_long : (command : Command) (joined : List ℕ) → joined_limit < length joined → Judges command joined 2 (fault_bytes (at_front TooLong))
+  no_stimulus : (joined : List ℕ) → length joined ≤ joined_limit → HasNone joined → Judges Run joined 2 (fault_bytes (at_front NoStimulus))
+  circuit_too_long : (command : Command) (joined circuit : List ℕ) → length joined ≤ joined_limit → IsPart command joined circuit
+      → circuit_limit < length circuit → Judges command joined 2 (fault_bytes (at_front TooLong))
+  taken : (command : Command) (joined circuit : List ℕ) (status : ℕ) (bytes : List ℕ) → IsTaken command joined circuit
+      → JudgesTaken command joined circuit status bytes → Judges command joined status bytes
+
+-- The answer to a command line, where the texts that it needs are held.
+pub data Answers : List (List ℕ) → (List ℕ → Option (List ℕ)) → ℕ → List ℕ → Type 0 where
+  no_command : (words : List (List ℕ)) (texts : List ℕ → Option (List ℕ)) → command_of words ≡ None → Answers words texts 1 (codes "usage\n")
+  judged : (words : List (List ℕ)) (texts : List ℕ → Option (List ℕ)) (command : Command) (joined : List ℕ) (status : ℕ) (bytes : List ℕ)
+      → command_of words ≡ Some command → texts input_name ≡ Some joined → Judges command joined status bytes → Answers words texts status bytes
+
+-- whether the answer needs the text of this name
+pub record Needs (words : List (List ℕ)) (name : List ℕ) : Type 0 where
+  pub command : Command
+  pub reads : command_of words ≡ Some command
+  pub input : name ≡ input_name
+
+-- The command answers this to the text, and nothing else.
+pub record Settles (command : Command) (joined : List ℕ) (status : ℕ) (bytes : List ℕ) : Type 0 where
+  pub is : Judges command joined status bytes
+  pub only : (other : ℕ) (others : List ℕ) → Judges command joined other others → (other ≡ status) × (others ≡ bytes)
+
+-- the same where the circuit's text was taken
+pub record SettlesTaken (command : Command) (joined circuit : List ℕ) (status : ℕ) (bytes : List ℕ) : Type 0 where
+  pub is : JudgesTaken command joined circuit status bytes
+  pub only : (other : ℕ) (others : List ℕ) → JudgesTaken command joined circuit other others → (other ≡ status) × (others ≡ bytes)
+
+-- and for words and texts
+pub record Replies (words : List (List ℕ)) (texts : List ℕ → Option (List ℕ)) (status : ℕ) (bytes : List ℕ) : Type 0 where
+  pub is : Answers words texts status bytes
+  pub only : (other : ℕ) (others : List ℕ) → Answers words texts other others → (other ≡ status) × (others ≡ bytes)
+
+-- a circuit's text that is refused: it is too long, or has this first fault
+pub data IsRefusedText : List ℕ → Fault → Type 0 where
+  too_long : (text : List ℕ) → circuit_limit < length text → IsRefusedText text (at_front TooLong)
+  has_fault : (text : List ℕ) (fault : Fault) → length text ≤ circuit_limit → IsFaultOnly text fault → IsRefusedText text fault
+
+-- The circuit and the stimulus are small ones, and no others are.
+pub record AreSmallOnly (circuit : List ℕ) (laid : List Laid) (stimulus : List ℕ) (c : SmallCircuit) (s : SmallStimulus) : Type 0 where
+  pub are : AreSmall (pieces_of circuit laid) stimulus c s
+  pub only : (d : SmallCircuit) (t : SmallStimulus) → AreSmall (pieces_of circuit laid) stimulus d t → (d ≡ c) × (t ≡ s)
+
+-- no circuit and no stimulus are
+abbrev pub NoneSmall : List ℕ → List Laid → List ℕ → Type 0
+NoneSmall circuit laid stimulus = (c : SmallCircuit) (s : SmallStimulus) → AreSmall (pieces_of circuit laid) stimulus c s → ⊥

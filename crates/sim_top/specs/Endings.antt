@@ -1,0 +1,24 @@
+-- How a call of the program ends.
+use Rattle.std.specs.Prelude.{◌≡◌, ◌≢◌, ℕ, ◌≤◌, List, [], ◌++◌, Option, Some, ◌⊎◌, take}
+use Rattle.shelf_io.specs.Outside.{Appends}
+use Rattle.sim_top.specs.Answers.{Answers, Needs}
+
+-- Where the shelf tells its texts and the sink its bytes: `before` stood there, and now stands `after`.
+-- answered: the status and the bytes are the definition's, and the definition has no other.
+-- shelf_faulted: nothing was written.
+-- sink_faulted: a prefix of the definition's bytes was written.
+-- memory_wanted: a prefix of the definition's bytes was written, and nothing where the definition has no answer.
+pub record Ends (words : List (List ℕ)) (texts : List ℕ → Option (List ℕ)) (status : ℕ) (before : List ℕ) (after : Option (List ℕ)) : Type 0 where
+  pub answered : status ≤ 3 → (bytes : List ℕ) × Answers words texts status bytes × (after ≡ Some (before ++ bytes))
+  pub only : status ≤ 3 → (other : ℕ) (bytes : List ℕ) → Answers words texts other bytes → (other ≡ status) × (after ≡ Some (before ++ bytes))
+  pub shelf_faulted : status ≡ 4 → after ≡ Some before
+  pub sink_faulted : status ≡ 5 → (code : ℕ) × (bytes : List ℕ) × (n : ℕ) × Answers words texts code bytes × (after ≡ Some (before ++ take n bytes))
+  pub memory_wanted : status ≡ 6 → (n : ℕ) × (written : List ℕ) × (after ≡ Some (before ++ written))
+      × ((code : ℕ) (bytes : List ℕ) → Answers words texts code bytes → written ≡ take n bytes)
+      × (((code : ℕ) (bytes : List ℕ) → Answers words texts code bytes → ⊥) → written ≡ [])
+  pub within : status ≤ 6
+
+-- A reply was written, all of it or a prefix.
+pub record IsSaid (result status : ℕ) (bytes : List ℕ) (old new : Option (List ℕ)) : Type 0 where
+  pub all : result ≢ 5 → (result ≡ status) × Appends old new bytes
+  pub part : result ≡ 5 → (n : ℕ) × Appends old new (take n bytes)

@@ -1,0 +1,14 @@
+pub mod StimulusLine
+pub mod SmallCircuits
+pub mod SmallStimuli
+pub mod Cycles
+pub mod Pieces
+pub mod CircuitText
+pub mod Answers
+pub mod Endings
+pub mod Evaluation
+pub mod Examples
+pub mod Lines
+pub mod Writable
+pub mod Room
+pub mod PlainSettings

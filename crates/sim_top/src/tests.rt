@@ -1,0 +1,91 @@
+//! The top call over shelves and sinks in memory.
+
+use crate::run_program;
+use shelf_io::{ShelfMemory, SinkMemory};
+use std::alloc::{AllocError, Global};
+use std::test::Fail;
+
+const COUNTER: &str = "FIRRTL version 3.0.0
+circuit M :
+  module M :
+    input clock : Clock
+    input reset : UInt<1>
+    output out : UInt<4>
+    regreset r : UInt<4>, clock, reset, UInt<4>(0)
+    connect r, tail(add(r, UInt<4>(1)), 1)
+    connect out, r
+%stimulus
+cycles 4
+0 reset 1
+1 reset 0
+";
+
+/// A call of the program over texts and bytes in memory.
+#[derive(Clone, Copy)]
+struct Call<'a> {
+    words: &'a [&'a str],
+    input: &'a str,
+    shelf_fails: &'a [u64],
+    sink_fails: &'a [u64],
+}
+
+/// The status of the call and what it wrote, with pieces of one byte.
+fn answer(alloc: Global, call: Call<'_>) -> Result<(u8, Vec<u8>), AllocError> {
+    let mut words = Vec::new(alloc);
+    for word in call.words {
+        words.push(String::from_str(alloc, word)?)?;
+    }
+    let mut texts = Vec::new(alloc);
+    texts.push((
+        String::from_str(alloc, "-")?,
+        Vec::from_slice(alloc, call.input.as_bytes())?,
+    ))?;
+    let mut shelf = ShelfMemory::new(texts, 1, Vec::from_slice(alloc, call.shelf_fails)?);
+    let mut sink = SinkMemory::new(alloc, 100, 1, Vec::from_slice(alloc, call.sink_fails)?)?;
+    let status = run_program(alloc, &words, &mut shelf, &mut sink);
+    Ok((status, Vec::from_slice(alloc, sink.bytes())?))
+}
+
+#[test]
+fn runs_small_circuits(rt: HostRuntime) -> Result<(), Fail> {
+    let clock = "FIRRTL version 3.0.0\ncircuit M :\n  module M :\n    input clock : Clock\n%stimulus\ncycles 2\n";
+    for (words, input, status, bytes) in [
+        (["run", "-"].as_slice(), COUNTER, 0, "cycle out\n0 0\n1 0\n2 1\n3 2\n"),
+        (["run"].as_slice(), clock, 0, "cycle\n0\n1\n"),
+        (["check"].as_slice(), COUNTER, 0, "ok\n"),
+        (["run"].as_slice(), "", 2, "circuit NoStimulus 1:1\n"),
+        (["run"].as_slice(), "%stimulus\n", 2, "circuit NotBuilt 1:1\n"),
+        (["simulate"].as_slice(), COUNTER, 1, "usage\n"),
+        ([].as_slice(), COUNTER, 1, "usage\n"),
+    ] {
+        let call = Call {
+            words,
+            input,
+            shelf_fails: &[],
+            sink_fails: &[],
+        };
+        let (given, written) = answer(rt.alloc(), call)?;
+        assert_eq!(rt; given, status);
+        assert_eq!(rt; written.as_slice(), bytes.as_bytes());
+    }
+    Ok(())
+}
+
+#[test]
+fn names_the_side_that_failed(rt: HostRuntime) -> Result<(), Fail> {
+    for (shelf_fails, sink_fails, status, bytes) in [
+        ([3].as_slice(), [].as_slice(), 4, ""),
+        ([].as_slice(), [3].as_slice(), 5, "cy"),
+    ] {
+        let call = Call {
+            words: &["run"],
+            input: COUNTER,
+            shelf_fails,
+            sink_fails,
+        };
+        let (given, written) = answer(rt.alloc(), call)?;
+        assert_eq!(rt; given, status);
+        assert_eq!(rt; written.as_slice(), bytes.as_bytes());
+    }
+    Ok(())
+}

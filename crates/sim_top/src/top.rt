@@ -1,0 +1,83 @@
+//! The top call.
+
+ghost use Rattle.std.specs.Prelude.{◌≡◌, ◌≢◌, ℕ, ◌≤◌, ◌⊎◌, List, Option, Some, None, map, string_bytes, take, IfOk, IfErr, Err};
+ghost use Rattle.shelf_io.specs.Outside.{Rose, Appends};
+ghost use Rattle.sim_top.specs.Answers.{command_of, Needs, Replies};
+ghost use Rattle.sim_top.specs.Endings.{Ends, IsSaid};
+
+use crate::command::read_words;
+use crate::fault::FaultKind;
+use crate::judge::{Reply, judge, refuse_whole};
+use shelf_io::{Shelf, Sink, TakeFault, put_all, take_text};
+use std::alloc::{AllocError, Global};
+
+/// The greatest length of a joined text in bytes.
+pub const JOINED_LIMIT: usize = 5_242_880;
+
+/// Reads the texts that the words name from the shelf, writes the answer to the sink, and gives the status: 0 where the
+/// texts are accepted, 1 where the words are no command, 2 where the circuit has a fault, 4 where the shelf failed, 5 where
+/// the sink failed, 6 where memory was wanted.
+pub fn run_program<H: Shelf, K: Sink>(
+    alloc: Global,
+    words: &[String],
+    shelf: &mut H,
+    sink: &mut K,
+) -> u8
+    // Where the shelf tells its texts and the sink its bytes, status and bytes are those of the definition.
+    ensures ends { (texts : List ℕ → Option (List ℕ)) (before : List ℕ) → H.held shelf.old ≡ Some texts → K.written sink.old ≡ Some before
+        → Ends (map string_bytes words.now) texts result before (K.written sink.new) }
+
+    // Over every shelf and sink:
+    ensures usage { result ≡ 1 → command_of (map string_bytes words.now) ≡ None }
+    ensures no_command { command_of (map string_bytes words.now) ≡ None → (result ≡ 1) ⊎ (result ≡ 5) ⊎ (result ≡ 6) }
+    ensures shelf_fault { result ≡ 4 → (name : List ℕ) × Needs (map string_bytes words.now) name × Rose (H.faults shelf.old name) (H.faults shelf.new name) }
+    ensures sink_fault { result ≡ 5 → Rose (K.faults sink.old) (K.faults sink.new) }
+
+    // Where no count of a needed name and not the sink's rose, the answer is the definition's, or memory was wanted.
+    ensures complete { ((name : List ℕ) → Needs (map string_bytes words.now) name → Rose (H.faults shelf.old name) (H.faults shelf.new name) → ⊥)
+        → (Rose (K.faults sink.old) (K.faults sink.new) → ⊥) → (result ≤ 3) ⊎ (result ≡ 6) }
+    // Where a needed text isn't held, the shelf failed or memory was wanted.
+    ensures unheld { (texts : List ℕ → Option (List ℕ)) (name : List ℕ) → H.held shelf.old ≡ Some texts → Needs (map string_bytes words.now) name → texts name ≡ None
+        → (result ≡ 4) ⊎ (result ≡ 6) }
+{
+    match decide(alloc, words, shelf) {
+        Ok(reply) => say(sink, &reply),
+        Err(TakeFault::NoMemory) => 6,
+        Err(_) => 4,
+    }
+}
+
+/// The answer to a command line.
+fn decide<H: Shelf>(alloc: Global, words: &[String], shelf: &mut H) -> Result<Reply, TakeFault>
+    ensures reply { IfOk result (λ r. (texts : List ℕ → Option (List ℕ)) → H.held shelf.old ≡ Some texts → Replies (map string_bytes words.now) texts r.status r.bytes.items) }
+    ensures few { IfOk result (λ r. r.status ≤ 3) }
+    ensures usage { IfOk result (λ r. r.status ≡ 1 → command_of (map string_bytes words.now) ≡ None) }
+    ensures no_command { command_of (map string_bytes words.now) ≡ None → IfOk result (λ r. r.status ≡ 1) }
+    ensures no_fault { command_of (map string_bytes words.now) ≡ None → IfErr result (λ f. f ≡ TakeFault.NoMemory) }
+    ensures fault { result ≡ Err TakeFault.ReadFault → (name : List ℕ) × Needs (map string_bytes words.now) name × Rose (H.faults shelf.old name) (H.faults shelf.new name) }
+    ensures short { result ≢ Err TakeFault.TooLong }
+{
+    let Some(command) = read_words(words) else {
+        return Ok(Reply {
+            status: 1,
+            bytes: Vec::from_slice(alloc, b"usage\n")?,
+        });
+    };
+    match take_text(alloc, shelf, "-", JOINED_LIMIT) {
+        Ok(text) => Ok(judge(alloc, command, &text)?),
+        Err(TakeFault::TooLong) => Ok(refuse_whole(alloc, FaultKind::TooLong)?),
+        Err(fault) => Err(fault),
+    }
+}
+
+/// Writes a reply, and gives its status, or 5.
+fn say<K: Sink>(sink: &mut K, reply: &Reply) -> u8
+    requires { reply.now.status ≤ 3 }
+    ensures said { IsSaid result reply.now.status reply.now.bytes.items (K.written sink.old) (K.written sink.new) }
+    ensures rose { result ≢ reply.now.status → Rose (K.faults sink.old) (K.faults sink.new) }
+{
+    match put_all(sink, &reply.bytes) {
+        Ok(()) => reply.status,
+        Err(_) => 5,
+    }
+}

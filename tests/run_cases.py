@@ -1,0 +1,53 @@
+"""Runs a program on end-to-end cases and compares what it writes and its status.
+
+usage: run_cases.py PROGRAM FOLDER
+
+A case is a line of JSON in FOLDER/cases.jsonl: its name, the words of the command line, the bytes of standard input
+(each character is a byte), the bytes that are written and the status.
+"""
+import json
+import subprocess
+import sys
+from pathlib import Path
+
+
+def run(program, words, text):
+    return subprocess.run([program, *words], input=text, capture_output=True, timeout=60)
+
+
+def fault_of(program, case):
+    done = run(program, case["words"], case["stdin"].encode("latin-1"))
+    if done.stderr:
+        return f"standard error: {done.stderr[:200]!r}"
+    if done.returncode != case["status"]:
+        return f"status {done.returncode}, not {case['status']}; wrote {done.stdout[:200]!r}"
+    wanted = case["stdout"].encode("latin-1")
+    return None if done.stdout == wanted else f"wrote {done.stdout[:300]!r}, not {wanted[:300]!r}"
+
+
+def bad_prefix(program, text):
+    """The first prefix of the text to which `check` does not answer one line with status 0 or 2, or none."""
+    for length in range(len(text) + 1):
+        done = run(program, ["check"], text[:length])
+        if done.returncode not in (0, 2) or done.stdout.count(b"\n") != 1 or not done.stdout.endswith(b"\n"):
+            return f"{length} bytes: status {done.returncode}, wrote {done.stdout[:200]!r}"
+    return None
+
+
+def main():
+    program, folder = sys.argv[1], Path(sys.argv[2])
+    cases = [json.loads(line) for line in (folder / "cases.jsonl").read_text().splitlines()]
+    run(program, ["check"], b"")  # builds the program where that has still to be done
+    faults = [(case["name"], fault_of(program, case)) for case in cases]
+    counter = (folder / "../examples/counter.fir").read_bytes()
+    faults.append(("every prefix of the counter gives one line", bad_prefix(program, counter)))
+    too_long = {"words": ["check"], "stdin": " " * 5_242_881, "status": 2, "stdout": "circuit TooLong 1:1\n"}
+    faults.append(("a text over 5,242,880 bytes is too long", fault_of(program, too_long)))
+    failed = [(name, fault) for name, fault in faults if fault]
+    for name, fault in failed:
+        print(f"FAILED {name}: {fault}")
+    print(f"tests: {len(faults) - len(failed)} passed, {len(failed)} failed")
+    sys.exit(1 if failed else 0)
+
+
+main()
