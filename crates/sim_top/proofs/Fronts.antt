@@ -128,7 +128,7 @@ pub refused_tokens : {V : Type 0} (text : List ℕ) (lexed : LexFault) (given : 
 refused_tokens text lexed given fault short found placed wanting e = ⊎_elim
     (λ m. let g = wanting m in absurd (let h : No_memory ≡ Named fault = sym g ∙ same_error given (Named fault) e in cc))
     (λ (f : (at : ℕ) × (kind : FaultKind) × IsFault text at kind × (lexed ≡ fault_at kind (place text at))).
-      let g = placed f.1 (place text f.0) f.3 in
-      let h : token_fault text f.0 f.1 ≡ fault = same_named (token_fault text f.0 f.1) fault (sym g ∙ same_error given (Named fault) e) in
-      subst (IsRefusedText text) h (has_fault text (token_fault text f.0 f.1) short (token_faults text f.0 f.1 f.2)))
+    let g = placed f.1 (place text f.0) f.3 in
+    let h : token_fault text f.0 f.1 ≡ fault = same_named (token_fault text f.0 f.1) fault (sym g ∙ same_error given (Named fault) e) in
+    subst (IsRefusedText text) h (has_fault text (token_fault text f.0 f.1) short (token_faults text f.0 f.1 f.2)))
     found

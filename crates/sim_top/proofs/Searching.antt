@@ -42,12 +42,12 @@ searched_on text start n s not_here line = record {
 pub searched_all : (text : List ℕ) (start : ℕ) → Searched text start → ((after : List ℕ) → IsStimulusLine (drop start text) after → ⊥)
     → ((k : ℕ) → slice_get (drop start text) k ≢ Some 10) → HasNone text
 searched_all text start s not_here no_feed at after stands = elim (dec_le start at) [
-    | yes le ↦ elim (dec_le at start) [
-      | yes ge ↦ let e : at ≡ start = omega arith in not_here after (subst (λ k. IsStimulusLine (drop k text) after) e stands.line)
-      | no more ↦ no_feed (at - 1 - start) (between text start at (lt_of_not-le more) stands.begins)
-    ]
-    | no less ↦ s.none at after (lt_of_not-le less) stands
+  | yes le ↦ elim (dec_le at start) [
+    | yes ge ↦ let e : at ≡ start = omega arith in not_here after (subst (λ k. IsStimulusLine (drop k text) after) e stands.line)
+    | no more ↦ no_feed (at - 1 - start) (between text start at (lt_of_not-le more) stands.begins)
   ]
+  | no less ↦ s.none at after (lt_of_not-le less) stands
+]
 
 -- the end of the text begins no such line
 pub searched_to_end : (text : List ℕ) (start : ℕ) → Searched text start → length text ≤ start → HasNone text

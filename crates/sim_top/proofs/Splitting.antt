@@ -11,17 +11,16 @@ line_once : (bytes a b : List ℕ) → IsStimulusLine bytes a → IsStimulusLine
 line_once bytes a b p q =
     ⊎_elim (λ pf. ⊎_elim (λ qf. cc) (λ q'. ⊎_elim (λ qr. cc) (λ qe. let e = qe.0 in cc) q') q)
     (λ p'. ⊎_elim (λ pr. ⊎_elim (λ qf. cc) (λ q'. ⊎_elim (λ qr. cc) (λ qe. let e = qe.0 in cc) q') q)
-      (λ pe. let e = pe.0 in let n = pe.1 in ⊎_elim (λ qf. cc) (λ q'. ⊎_elim (λ qr. cc) (λ qe. let m = qe.1 in cc) q') q) p') p
+    (λ pe. let e = pe.0 in let n = pe.1 in ⊎_elim (λ qf. cc) (λ q'. ⊎_elim (λ qr. cc) (λ qe. let m = qe.1 in cc) q') q) p') p
 
 not_before : (text : List ℕ) (i j : ℕ) (a : List ℕ) → NoneBefore text j → StandsAt text i a → j ≤ i
-not_before text i j a none stands = elim (dec_le j i) [ | yes le ↦ le | no n ↦ absurd (none i a (lt_of_not-le n) stands) ]
+not_before text i j a none stands = elim (dec_le j i) [ yes le ↦ le | no n ↦ absurd (none i a (lt_of_not-le n) stands) ]
 
 pub split_once : (text a b a' b' : List ℕ) → IsSplit text a b → IsSplit text a' b' → (a ≡ a') × (b ≡ b')
 split_once text a b a' b' p q =
     let le = not_before text q.at p.at b' p.first q.stands in
     let ge = not_before text p.at q.at b q.first p.stands in
-    let same : p.at ≡ q.at = omega arith in
-    (
+    let same : p.at ≡ q.at = omega arith in (
       p.front ∙ ap (λ n. take n text) same ∙ sym q.front,
       line_once (drop q.at text) b b' (subst (λ n. IsStimulusLine (drop n text) b) same p.stands.line) q.stands.line,
     )

@@ -48,13 +48,24 @@ fn answer(alloc: Global, call: Call<'_>) -> Result<(u8, Vec<u8>), AllocError> {
 
 #[test]
 fn runs_small_circuits(rt: HostRuntime) -> Result<(), Fail> {
-    let clock = "FIRRTL version 3.0.0\ncircuit M :\n  module M :\n    input clock : Clock\n%stimulus\ncycles 2\n";
+    let clock =
+        "FIRRTL version 3.0.0\ncircuit M :\n  module M :\n    input clock : Clock\n%stimulus\ncycles 2\n";
     for (words, input, status, bytes) in [
-        (["run", "-"].as_slice(), COUNTER, 0, "cycle out\n0 0\n1 0\n2 1\n3 2\n"),
+        (
+            ["run", "-"].as_slice(),
+            COUNTER,
+            0,
+            "cycle out\n0 0\n1 0\n2 1\n3 2\n",
+        ),
         (["run"].as_slice(), clock, 0, "cycle\n0\n1\n"),
         (["check"].as_slice(), COUNTER, 0, "ok\n"),
         (["run"].as_slice(), "", 2, "circuit NoStimulus 1:1\n"),
-        (["run"].as_slice(), "%stimulus\n", 2, "circuit NotBuilt 1:1\n"),
+        (
+            ["run"].as_slice(),
+            "%stimulus\n",
+            2,
+            "circuit NotBuilt 1:1\n",
+        ),
         (["simulate"].as_slice(), COUNTER, 1, "usage\n"),
         ([].as_slice(), COUNTER, 1, "usage\n"),
     ] {

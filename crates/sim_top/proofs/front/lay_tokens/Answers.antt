@@ -11,4 +11,4 @@ pub returns-in-Err-BadIndent-clause-fault : goal.returns-in-Err-BadIndent-clause
 returns-in-Err-BadIndent-clause-fault c = λ fault e.
     subst (IsFaultOnly c.args.text.now) (named_fault _ fault e)
     (layout_faults_of c.args.text.now c.args.tokens.now c.in-Err-BadIndent.place c.in-Err-BadIndent.field-0 c.in-Err-BadIndent.field-0-is c.requires.tokens
-      c.in-Err-BadIndent.ensures.fault c.in-Err-BadIndent.ensures.accepts c.in-Err-BadIndent.ensures.refuses)
+    c.in-Err-BadIndent.ensures.fault c.in-Err-BadIndent.ensures.accepts c.in-Err-BadIndent.ensures.refuses)

@@ -12,7 +12,7 @@ pub returns-in_ok-traced-in-Some : goal.returns-in_ok-traced-in-Some
 returns-in_ok-traced-in-Some c = λ joined p.
     rw (c.in_ok-traced-in-Some.ensures.0, c.in_ok-traced-in-Some.ensures.1)
     (settles_traced joined c.args.circuit.now c.args.stimulus.now c.args.laid.now c.in-Some.small c.in-Some.settings p c.requires
-      (c.in_ok-small.ensures.some c.in-Some.small c.in-Some.settings (ap Ok c.in-Some.is)))
+    (c.in_ok-small.ensures.some c.in-Some.small c.in-Some.settings (ap Ok c.in-Some.is)))
 
 pub returns-in_ok-refuse_whole-in-None : goal.returns-in_ok-refuse_whole-in-None
 returns-in_ok-refuse_whole-in-None c = λ joined p.
