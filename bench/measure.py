@@ -35,14 +35,23 @@ def best_seconds(command, path):
 
 
 def peak_bytes(command, path):
+    """The greatest memory of the process, as the system tells it while it runs."""
+    peak = 0
     with open(path, "rb") as text:
         process = subprocess.Popen(command, stdin=text, stdout=subprocess.DEVNULL)
-        _, _, usage = os.wait4(process.pid, 0)
-    return usage.ru_maxrss * 1024
+        while process.poll() is None:
+            try:
+                for line in open(f"/proc/{process.pid}/status"):
+                    if line.startswith("VmHWM:") and command[0] == os.readlink(f"/proc/{process.pid}/exe"):
+                        peak = max(peak, int(line.split()[1]) * 1024)
+            except OSError:
+                break
+        process.wait()
+    return peak
 
 
 def main():
-    check = [sys.argv[1], "check"]
+    check = [os.path.realpath(sys.argv[1]), "check"]
     base = peak_bytes(check, "/dev/null")
     print(f"{'text':42} {'check ms':>9} {'md5sum ms':>9} {'ratio':>7} {'bytes of memory a byte':>23}")
     with tempfile.TemporaryDirectory() as folder:
@@ -51,7 +60,7 @@ def main():
             with open(path, "wb") as file:
                 file.write(text)
             ours, theirs = best_seconds(check, path), best_seconds(["md5sum"], path)
-            memory = (peak_bytes(check, path) - base) / len(text)
+            memory = max(0, max(peak_bytes(check, path) for _ in range(5)) - base) / len(text)
             print(f"{name:42} {ours * 1000:9.1f} {theirs * 1000:9.1f} {ours / theirs:7.1f} {memory:23.1f}")
 
 
