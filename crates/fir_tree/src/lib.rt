@@ -7,12 +7,14 @@ pub mod expr;
 pub mod fault;
 pub mod laws;
 pub mod names;
+pub mod scope;
 pub mod stmt;
 
 pub use circuit::{Circuit, Module};
 pub use expr::{Expr, Form, Suffix};
 pub use fault::ParseFault;
 pub use names::Names;
+pub use scope::{Checked, Fitted, Scope, Types};
 pub use stmt::{Arm, Stmt};
 
 #[cfg(test)]
