@@ -1,0 +1,8 @@
+//! Types and expressions read from a laid list: the longest one from a place, or the first token that can't continue it.
+//! The contract of each call is that of a reader of the grammar: what it takes is the spelling of its answer, and a
+//! refusal is the grammar's token, with its kind and place.
+#![tactic(auto)]
+
+pub mod reader;
+
+pub use reader::{Reader, read_expr, read_reference, read_type};

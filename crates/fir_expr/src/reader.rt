@@ -1,0 +1,103 @@
+//! The reader and its calls.
+
+ghost use Rattle.std.specs.Prelude.{◌≡◌, ◌≤◌, ◌<◌, ◌+◌, ◌-◌, ◌^◌, [], length, IfOk};
+ghost use Rattle.fir_layout.specs.Pieces.{pieces_of};
+ghost use Rattle.fir_tree.specs.Grammar.{Type_of, Expression, Reference};
+ghost use Rattle.fir_tree.specs.Reading.{Reads as ReadsRule};
+ghost use Rattle.fir_expr.specs.Standing.{IsLaidFrom, StandsIn, BeginsType, IsWhole, wanted};
+
+use fir_layout::Laid;
+use fir_tree::{Expr, Names, ParseFault};
+use fir_types::FirType;
+use std::alloc::Global;
+
+/// A place in a laid list, with the names read so far.
+#[derive(Drop)]
+pub struct Reader<'a> {
+    /// The text.
+    pub bytes: &'a [u8],
+    /// The laid list of the text.
+    pub laid: &'a [Laid],
+    /// The part of the list that is read next, from 0.
+    pub at: usize,
+    /// The texts of the names read so far.
+    pub names: Names,
+    /// How many brackets are open at `at`: each `(`, `[`, `{` and word with its `(` opens one.
+    pub brackets: u32,
+}
+
+impl<'a> Reader<'a> {
+    /// A reader at the beginning of the list that holds no names.
+    pub fn new(alloc: Global, bytes: &'a [u8], laid: &'a [Laid]) -> Reader<'a>
+        ensures bytes { result.bytes.now ≡ bytes.now }
+        ensures laid { result.laid.now ≡ laid.now }
+        ensures at { result.at ≡ 0 }
+        ensures names { result.names ≡ [] }
+        ensures brackets { result.brackets ≡ 0 }
+    {
+        Reader {
+            bytes,
+            laid,
+            at: 0,
+            names: Names::new(alloc),
+            brackets: 0,
+        }
+    }
+}
+
+/// The longest type from the reader's place on (FIRRTL specification 3.0, "Types"). A vector's lengths stand behind its
+/// element type, the innermost first.
+///
+/// The reader stands where a type may begin, and moves behind it; names that are new are added. The refusal is the first
+/// token that can't continue the type, or that goes too deep, and then the reader isn't used again. Takes time in proportion
+/// to the tokens of the type, and reads each of them once.
+pub fn read_type(alloc: Global, reader: &mut Reader) -> Result<FirType, ParseFault>
+    requires short { length reader.old.bytes.now < 2 ^ 32 - 1 }
+    requires laid { IsLaidFrom reader.old.bytes.now reader.old.laid.now }
+    requires within { reader.old.at ≤ length reader.old.laid.now }
+    requires room { wanted reader.old.names reader.old.laid.now reader.old.at < 2 ^ 32 - 1 }
+    requires begins { BeginsType (pieces_of reader.old.bytes.now reader.old.laid.now) reader.old.at reader.old.brackets }
+    ensures read { ReadsRule Type_of reader.old.bytes.now reader.old.laid.now reader.old.at reader.old.names result reader.new.at reader.new.names }
+    ensures bytes { reader.new.bytes.now ≡ reader.old.bytes.now }
+    ensures laid { reader.new.laid.now ≡ reader.old.laid.now }
+    ensures brackets { reader.new.brackets ≡ reader.old.brackets }
+    ensures whole { IfOk result (λ _. IsWhole (pieces_of reader.old.bytes.now reader.old.laid.now) reader.old.at reader.new.at) }
+    ensures room { IfOk result (λ _. wanted reader.new.names reader.old.laid.now reader.new.at ≤ wanted reader.old.names reader.old.laid.now reader.old.at) }
+{
+    Err(ParseFault::NoMemory)
+}
+
+/// The longest expression from the reader's place on (FIRRTL specification 3.0, "Expressions"). As `read_type` otherwise.
+pub fn read_expr(alloc: Global, reader: &mut Reader) -> Result<Expr, ParseFault>
+    requires short { length reader.old.bytes.now < 2 ^ 32 - 1 }
+    requires laid { IsLaidFrom reader.old.bytes.now reader.old.laid.now }
+    requires within { reader.old.at ≤ length reader.old.laid.now }
+    requires room { wanted reader.old.names reader.old.laid.now reader.old.at < 2 ^ 32 - 1 }
+    requires stands { StandsIn (pieces_of reader.old.bytes.now reader.old.laid.now) reader.old.at reader.old.brackets }
+    ensures read { ReadsRule Expression reader.old.bytes.now reader.old.laid.now reader.old.at reader.old.names result reader.new.at reader.new.names }
+    ensures bytes { reader.new.bytes.now ≡ reader.old.bytes.now }
+    ensures laid { reader.new.laid.now ≡ reader.old.laid.now }
+    ensures brackets { reader.new.brackets ≡ reader.old.brackets }
+    ensures whole { IfOk result (λ _. IsWhole (pieces_of reader.old.bytes.now reader.old.laid.now) reader.old.at reader.new.at) }
+    ensures room { IfOk result (λ _. wanted reader.new.names reader.old.laid.now reader.new.at ≤ wanted reader.old.names reader.old.laid.now reader.old.at) }
+{
+    Err(ParseFault::NoMemory)
+}
+
+/// The longest reference from the reader's place on: a component and the way to one of its parts (FIRRTL specification 3.0,
+/// "Expressions"). As `read_type` otherwise.
+pub fn read_reference(alloc: Global, reader: &mut Reader) -> Result<Expr, ParseFault>
+    requires short { length reader.old.bytes.now < 2 ^ 32 - 1 }
+    requires laid { IsLaidFrom reader.old.bytes.now reader.old.laid.now }
+    requires within { reader.old.at ≤ length reader.old.laid.now }
+    requires room { wanted reader.old.names reader.old.laid.now reader.old.at < 2 ^ 32 - 1 }
+    requires stands { StandsIn (pieces_of reader.old.bytes.now reader.old.laid.now) reader.old.at reader.old.brackets }
+    ensures read { ReadsRule Reference reader.old.bytes.now reader.old.laid.now reader.old.at reader.old.names result reader.new.at reader.new.names }
+    ensures bytes { reader.new.bytes.now ≡ reader.old.bytes.now }
+    ensures laid { reader.new.laid.now ≡ reader.old.laid.now }
+    ensures brackets { reader.new.brackets ≡ reader.old.brackets }
+    ensures whole { IfOk result (λ _. IsWhole (pieces_of reader.old.bytes.now reader.old.laid.now) reader.old.at reader.new.at) }
+    ensures room { IfOk result (λ _. wanted reader.new.names reader.old.laid.now reader.new.at ≤ wanted reader.old.names reader.old.laid.now reader.old.at) }
+{
+    Err(ParseFault::NoMemory)
+}
