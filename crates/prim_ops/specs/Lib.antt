@@ -1,1 +1,4 @@
 pub mod Operations
+pub mod Kinds
+pub mod Widths
+pub mod Results

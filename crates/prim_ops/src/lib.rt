@@ -2,6 +2,10 @@
 //! The contracts give for each operation exactly its row of the table.
 #![tactic(auto)]
 
+pub mod kinds;
 pub mod operation;
+pub mod widths;
 
+pub use kinds::kind_of;
 pub use operation::{PrimOp as Prim, arity, named};
+pub use widths::{Width, params_fit, width_of};
