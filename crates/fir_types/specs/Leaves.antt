@@ -47,6 +47,9 @@ leaves = fold-FirType (Place → List TypeLeaf) (List TypeLeaf) (List TypeLeaf) 
 abbrev pub field_leaves : Field → List TypeLeaf
 field_leaves = fold-Field (Place → List TypeLeaf) (List TypeLeaf) (List TypeLeaf) of_shape of_field of_type
 
+abbrev pub shape_leaves : Shape → Place → List TypeLeaf
+shape_leaves = fold-Shape (Place → List TypeLeaf) (List TypeLeaf) (List TypeLeaf) of_shape of_field of_type
+
 -- The number of leaves, without a list of them: a bundle has the sum over its fields, and a vector its length times what
 -- an element has.
 abbrev pub count_of_shape : Shape-F ℕ ℕ ℕ → ℕ
@@ -62,3 +65,6 @@ count = fold-FirType ℕ ℕ ℕ count_of_shape (λ f. f.typ) (λ t. t.shape)
 
 abbrev pub field_count : Field → ℕ
 field_count = fold-Field ℕ ℕ ℕ count_of_shape (λ f. f.typ) (λ t. t.shape)
+
+abbrev pub shape_count : Shape → ℕ
+shape_count = fold-Shape ℕ ℕ ℕ count_of_shape (λ f. f.typ) (λ t. t.shape)
