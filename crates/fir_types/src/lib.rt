@@ -3,6 +3,7 @@
 #![tactic(auto)]
 
 pub mod fir_type;
+pub mod laws;
 pub mod leaf;
 pub mod memory;
 pub mod name;

@@ -1,0 +1,81 @@
+-- Types with their leaves, types that are and aren't equivalent, and the bundle of a reader.
+use Rattle.std.proofs.Common.{◌≡◌, ℕ, true, false, List, [], ◌∷◌, refl, Some, None, Bool, rules, arith}
+use Rattle.place_text.specs.declared.place.Place.{Place}
+use Rattle.fir_types.specs.declared.name.Name.{Name}
+use Rattle.fir_types.specs.declared.fir_type.FirType.{FirType, the_lemmas}
+use Rattle.fir_types.specs.declared.fir_type.Shape.{Shape}
+use Rattle.fir_types.specs.declared.fir_type.Shape.TheVariants as shape
+use Rattle.fir_types.specs.declared.fir_type.Field.{Field}
+use Rattle.fir_types.specs.declared.leaf.PathStep.TheVariants as step
+use Rattle.fir_types.specs.declared.memory.PortMode.TheVariants as mode
+use Rattle.fir_types.specs.Leaves.{leaves, count}
+use Rattle.fir_types.specs.Passivity.{has_flip, IsPassive}
+use Rattle.fir_types.specs.Equivalence.{Equivalent, unsigned, vectors, bundles, no_fields, same_field, a_uint, a_reset}
+use Rattle.fir_types.specs.Bundles.{port_type, address_bits, least_reaching, mask_of}
+
+abbrev place : Place
+place = record { line = 1; column = 1 }
+
+abbrev typ : Shape → FirType
+typ s = record { place = place; shape = s }
+
+abbrev uint : ℕ → FirType
+uint width = typ (shape.Unsigned (Some width))
+
+abbrev field : Bool → ℕ → FirType → Field
+field flip id t = record { flip = flip; name = record { id = id; place = place }; typ = t }
+
+-- { a : UInt<1>, flip b : { c : SInt, flip d : Clock }[2] }, with the names numbered in this order
+abbrev nested : FirType
+nested = typ (shape.Bundle (field false 0 (uint 1)
+    ∷ field true 1 (typ (shape.Vector (typ (shape.Bundle (field false 2 (typ (shape.Signed None)) ∷ field true 3 (typ shape.Clock) ∷ []))) 2)) ∷ []))
+
+-- A flip within what is flipped turns back.
+nested_leaves : leaves nested ≡
+    record { path = step.Field 0 ∷ []; flip = false; typ = uint 1 }
+    ∷ record { path = step.Field 1 ∷ step.Element 0 ∷ step.Field 2 ∷ []; flip = true; typ = typ (shape.Signed None) }
+    ∷ record { path = step.Field 1 ∷ step.Element 0 ∷ step.Field 3 ∷ []; flip = false; typ = typ shape.Clock }
+    ∷ record { path = step.Field 1 ∷ step.Element 1 ∷ step.Field 2 ∷ []; flip = true; typ = typ (shape.Signed None) }
+    ∷ record { path = step.Field 1 ∷ step.Element 1 ∷ step.Field 3 ∷ []; flip = false; typ = typ shape.Clock } ∷ []
+nested_leaves = grind (arith, the_lemmas)
+
+nested_count : count nested ≡ 5
+nested_count = simp the_lemmas
+
+-- A vector of length 0 has no leaf, and its text still holds what its element holds.
+no_leaves : leaves (typ (shape.Vector nested 0)) ≡ []
+no_leaves = grind (arith, the_lemmas)
+
+flip_within : has_flip (typ (shape.Vector nested 0)) ≡ true
+flip_within = simp the_lemmas
+
+uint_passive : IsPassive (uint 4)
+uint_passive = simp the_lemmas
+
+-- UInt[2] and Reset[2] are equivalent, UInt<4> and UInt too, and bundles go by orientation.
+vectors_of_unsigned : Equivalent (typ (shape.Vector (uint 4) 2)) (typ (shape.Vector (typ shape.Reset) 2))
+vectors_of_unsigned = vectors _ _ _ refl refl (unsigned (a_uint _ refl) (a_reset refl))
+
+-- A depth of 5 wants 3 bits of address, one of 4 wants 2, and one of 1 still has 1.
+bits_of_5 : address_bits 5 ≡ 3
+unfolding address_bits least_reaching
+bits_of_5 = refl
+
+bits_of_4 : address_bits 4 ≡ 2
+unfolding address_bits least_reaching
+bits_of_4 = refl
+
+bits_of_1 : address_bits 1 ≡ 1
+unfolding address_bits least_reaching
+bits_of_1 = refl
+
+-- { addr : UInt<3>, en : UInt<1>, clk : Clock, flip data : UInt<4> }
+reader : port_type (uint 4) 5 mode.Reader place ≡
+    typ (shape.Bundle (field false 0 (uint 3) ∷ field false 1 (uint 1) ∷ field false 2 (typ shape.Clock) ∷ field true 3 (uint 4) ∷ []))
+unfolding address_bits least_reaching
+reader = refl
+
+-- the mask of { a : SInt<8>, b : UInt[2] } is { a : UInt<1>, b : UInt<1>[2] }
+a_mask : mask_of (typ (shape.Bundle (field false 0 (typ (shape.Signed (Some 8))) ∷ field false 1 (typ (shape.Vector (typ (shape.Unsigned None)) 2)) ∷ []))) ≡
+    typ (shape.Bundle (field false 0 (uint 1) ∷ field false 1 (typ (shape.Vector (uint 1) 2)) ∷ []))
+a_mask = simp the_lemmas
