@@ -1,1 +1,5 @@
 pub mod Formulas
+pub mod Residues
+pub mod Rows
+pub mod Moves
+pub mod Divisions

@@ -2,9 +2,15 @@
 //! The contracts give for each operation exactly its row of the table.
 #![tactic(auto)]
 
+mod bitwise;
 pub mod kinds;
 pub mod operation;
+mod orders;
+mod places;
+mod quotients;
+mod sums;
 pub mod widths;
+mod words;
 
 pub use kinds::kind_of;
 pub use operation::{PrimOp as Prim, arity, named};
