@@ -1,12 +1,12 @@
 -- Bits that are moved.
-use Rattle.std.proofs.Common.{◌≡◌, ℕ, ◌+◌, ◌-◌, ◌*◌, ◌/◌, ◌%◌, ◌^◌, ◌<◌, ◌≤◌, ℤ, pos, Some, bit_and, bit_or, bit_xor, refl, ap, sym, ◌∙◌, arith, pow_mono, pow_pos, ⊎_elim}
+use Rattle.std.proofs.Common.{◌≡◌, ℕ, ◌+◌, ◌-◌, ◌*◌, ◌%◌, ◌^◌, ◌<◌, ◌≤◌, ℤ, Some, bit_and, bit_or, bit_xor, ap, sym, ◌∙◌, arith, pow_mono, pow_pos, ⊎_elim}
 use Rattle.std.proofs.lemmas.Bool.{cases_lt}
 use Rattle.std.proofs.lemmas.Nat.{or_shifted, and_mod, or_mod, xor_mod, shl_below, one_shl}
 use Rattle.std.proofs.Math.Nat.{mod-mod, mod-eq_of_lt}
 use Rattle.bit_words.specs.declared.value.Kind.TheVariants.{Signed}
 use Rattle.bit_words.specs.declared.value.Value.{Value}
 use Rattle.bit_words.specs.Values.{bits_of}
-use Rattle.bit_words.proofs.Congruence.{fit_same, integer_in_range, bits_below}
+use Rattle.bit_words.proofs.Congruence.{fit_same, integer_in_range}
 use Rattle.prim_ops.specs.declared.operation.PrimOp.TheVariants.{Cvt}
 use Rattle.prim_ops.specs.Results.{IsOnOne}
 use Rattle.prim_ops.proofs.Residues.{word_low}

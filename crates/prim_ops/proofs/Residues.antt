@@ -1,13 +1,12 @@
 -- What integers leave modulo powers of two.
-use Rattle.std.proofs.Common.{◌≡◌, ℕ, suc, ◌+◌, ◌-◌, ◌*◌, ◌/◌, ◌%◌, ◌^◌, ◌<◌, ◌≤◌, ℤ, pos, negsuc, neg_ℤ, ◌+ℤ◌, ◌-ℤ◌, ◌*ℤ◌, refl, ap, sym, ◌∙◌, arith, pow-add, pow_pos}
+use Rattle.std.proofs.Common.{◌≡◌, ℕ, ◌+◌, ◌-◌, ◌*◌, ◌%◌, ◌^◌, ◌<◌, ◌≤◌, ℤ, pos, neg_ℤ, ◌+ℤ◌, ◌-ℤ◌, ◌*ℤ◌, refl, ap, sym, ◌∙◌, arith, pow-add}
 use Rattle.std.proofs.lemmas.Int.{ints}
-use Rattle.std.proofs.lemmas.Nat.{and_mod, or_mod, xor_mod}
-use Rattle.std.proofs.Math.Nat.{zero-mod, mod-mod}
+use Rattle.std.proofs.Math.Nat.{zero-mod}
 use lib.IntN.{*ℤ_comm}
 use borrow.Author.Differences.{up, down, same_in, same_out, sum_is_lem, product_is}
 use Rattle.bit_words.specs.declared.value.Kind.TheVariants.{Unsigned}
 use Rattle.bit_words.specs.Values.{bits_of}
-use Rattle.bit_words.proofs.Congruence.{Level, Level-trans, Level-sym, Level-refl, bits_below, bits_level, integer_in_range, same_in_range}
+use Rattle.bit_words.proofs.Congruence.{Level, Level-trans, Level-sym, bits_below, bits_level, integer_in_range, same_in_range}
 
 -- integers that differ by a multiple of the power have the same bits
 pub same_low : (w : ℕ) (a b : ℤ) → Level w a b → bits_of w a ≡ bits_of w b

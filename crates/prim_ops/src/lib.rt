@@ -9,9 +9,11 @@ mod orders;
 mod places;
 mod quotients;
 mod sums;
+pub mod values;
 pub mod widths;
 mod words;
 
 pub use kinds::kind_of;
 pub use operation::{PrimOp as Prim, arity, named};
+pub use values::value_of;
 pub use widths::{Width, params_fit, width_of};

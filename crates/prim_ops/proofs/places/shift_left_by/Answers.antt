@@ -1,4 +1,4 @@
-use Rattle.std.proofs.Common.{refl, ◌∙◌}
+use Rattle.std.proofs.Common.{◌∙◌}
 use Rattle.prim_ops.specs.declared.operation.PrimOp.TheVariants.{Dshl}
 use Rattle.prim_ops.proofs.Rows.{two, row_unsigned}
 use Rattle.prim_ops.proofs.Residues.{shifted_low}
