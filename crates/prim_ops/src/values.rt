@@ -91,3 +91,8 @@ fn on_two(prim: PrimOp, first: Value, second: Value) -> Value
         _ => unreachable!(),
     }
 }
+
+#[cfg(test)]
+mod cases;
+#[cfg(test)]
+mod tests;
