@@ -3,3 +3,4 @@ pub mod Residues
 pub mod Rows
 pub mod Moves
 pub mod Divisions
+pub mod Examples

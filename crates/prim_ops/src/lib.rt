@@ -1,9 +1,10 @@
-//! The primitive operations: which there are, how they are written, and how many operands and parameters each takes.
-//! The contracts give for each operation exactly its row of the table.
+//! The primitive operations: how they are written, how many operands and parameters each takes, and the kind, the width and
+//! the value of its result. The contracts give for each operation exactly its row of the table.
 #![tactic(auto)]
 
 mod bitwise;
 pub mod kinds;
+pub mod laws;
 pub mod operation;
 mod orders;
 mod places;

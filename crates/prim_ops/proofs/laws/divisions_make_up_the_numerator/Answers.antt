@@ -1,0 +1,11 @@
+use Rattle.prim_ops.proofs.Divisions.{whole, small, sign}
+use Rattle.prim_ops.proofs.laws.divisions_make_up_the_numerator.Goals as goal
+
+pub returns-clause-whole : goal.returns-clause-whole
+returns-clause-whole c = whole
+
+pub returns-clause-small : goal.returns-clause-small
+returns-clause-small c = small
+
+pub returns-clause-sign : goal.returns-clause-sign
+returns-clause-sign c = sign
