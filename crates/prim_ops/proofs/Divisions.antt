@@ -1,5 +1,5 @@
 -- Quotients and remainders by sign and magnitude.
-use Rattle.std.proofs.Common.{◌≢◌, ◌+◌, ◌*◌, ◌≤◌, true, false, cond, ◌+ℤ◌, ◌*ℤ◌, ◌≤ℤ◌, ◌<ℤ◌, int_div, int_rem, div-add-mod', mod-lt, ◌≡◌, ℕ, zero, suc, ◌/◌, ◌%◌, ◌<◌, Bool, not, ℤ, pos, negsuc, neg_ℤ, unsigned_abs, if◌then◌else◌, ◌==◌, refl, ap, sym, ◌∙◌, arith}
+use Rattle.std.proofs.Common.{◌≢◌, true, false, ◌+ℤ◌, ◌*ℤ◌, ◌≤ℤ◌, ◌<ℤ◌, int_div, int_rem, div-add-mod', mod-lt, ◌≡◌, ℕ, zero, suc, ◌/◌, ◌%◌, ◌<◌, Bool, not, ℤ, pos, negsuc, neg_ℤ, unsigned_abs, if◌then◌else◌, ◌==◌, refl, ap, sym, ◌∙◌, arith}
 use Rattle.std.proofs.lemmas.Bool.{cond-false, ne_eqb}
 use Rattle.std.proofs.lemmas.Int.{ints, quot-rem, rem_below}
 use Rattle.std.proofs.Math.Nat.{pos_of_ne-zero}

@@ -2,11 +2,11 @@
 use Rattle.std.proofs.Common.{◌≡◌, [], ◌∷◌, Some, None, pos, negsuc, refl, lit≤, lit<}
 use Rattle.bit_words.specs.declared.value.Kind.TheVariants.{Unsigned, Signed}
 use Rattle.bit_words.specs.declared.value.Value.{Value}
-use Rattle.bit_words.specs.Values.{integer_of, fit_of}
+use Rattle.bit_words.specs.Values.{fit_of}
 use Rattle.prim_ops.specs.declared.operation.PrimOp.TheVariants as op
 use Rattle.prim_ops.specs.declared.widths.Width.TheVariants.{Bits, Over}
 use Rattle.prim_ops.specs.Kinds.{row_kind}
-use Rattle.prim_ops.specs.Widths.{row_width, width_number, ParamsFit}
+use Rattle.prim_ops.specs.Widths.{row_width, width_number}
 use Rattle.prim_ops.specs.Results.{quotient, remainder, floor_div, integer_on_one, integer_on_two}
 
 -- kinds: operands of one kind, and a shift by a UInt

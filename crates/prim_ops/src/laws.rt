@@ -2,11 +2,12 @@
 
 ghost use Rattle.std.specs.Prelude.{◌≡◌, ◌≢◌, ℕ, ◌<◌, List, map, true, ℤ, pos, ◌+ℤ◌, ◌*ℤ◌, ◌≤ℤ◌, ◌<ℤ◌, unsigned_abs};
 ghost use Rattle.bit_words.specs.declared.value.Kind.{Kind};
+ghost use Rattle.bit_words.specs.declared.value.Value.{Value};
 ghost use Rattle.prim_ops.specs.declared.operation.PrimOp.{PrimOp};
 ghost use Rattle.prim_ops.specs.declared.widths.Width.TheVariants.{Bits as bits_width};
 ghost use Rattle.prim_ops.specs.Integers.{is_below};
 ghost use Rattle.prim_ops.specs.Widths.{width_number, bounded, row_width};
-ghost use Rattle.prim_ops.specs.Results.{quotient, remainder, floor_div};
+ghost use Rattle.prim_ops.specs.Results.{quotient, remainder, floor_div, IsResult};
 
 /// Over operands whose widths are in bits the width of a result is its formula's number, and `Over` above 128.
 pub fn widths_in_bits_follow_the_formula()
@@ -25,4 +26,11 @@ pub fn divisions_make_up_the_numerator()
 pub fn shifts_round_down()
     ensures least { (n : ℤ) (by : ℕ) → 0 < by → (floor_div n by *ℤ pos by) ≤ℤ n }
     ensures greatest { (n : ℤ) (by : ℕ) → 0 < by → n <ℤ (floor_div n by *ℤ pos by +ℤ pos by) }
+{}
+
+/// An operation has one result on its operands and parameters.
+pub fn operations_have_one_result()
+    ensures kind { (prim : PrimOp) (values : List Value) (params : List ℕ) (a b : Value) → IsResult prim values params a → IsResult prim values params b → a.kind ≡ b.kind }
+    ensures width { (prim : PrimOp) (values : List Value) (params : List ℕ) (a b : Value) → IsResult prim values params a → IsResult prim values params b → a.width ≡ b.width }
+    ensures bits { (prim : PrimOp) (values : List Value) (params : List ℕ) (a b : Value) → IsResult prim values params a → IsResult prim values params b → a.bits ≡ b.bits }
 {}

@@ -31,10 +31,16 @@ pub fn value_of(prim: PrimOp, values: &[Value], params: &[u128]) -> Value
     requires narrow { width_number prim (kinds_of values.now) (widths_of values.now) params.now ≤ 128 }
     ensures { IsResult prim values.now params.now result }
 {
-    match values {
+    let value = match values {
         [operand] => on_one(prim, *operand, parameter(params, 0), parameter(params, 1)),
         [first, second] => on_two(prim, *first, *second),
         _ => unreachable!(),
+    };
+    // Field by field, so that no padding is copied.
+    Value {
+        kind: value.kind,
+        width: value.width,
+        bits: value.bits,
     }
 }
 
