@@ -1,6 +1,6 @@
 -- Quotients and remainders by sign and magnitude.
 use Rattle.std.proofs.Common.{◌≢◌, true, false, ◌+ℤ◌, ◌*ℤ◌, ◌≤ℤ◌, ◌<ℤ◌, int_div, int_rem, div-add-mod', mod-lt, ◌≡◌, ℕ, zero, suc, ◌/◌, ◌%◌, ◌<◌, Bool, not, ℤ, pos, negsuc, neg_ℤ, unsigned_abs, if◌then◌else◌, ◌==◌, refl, ap, sym, ◌∙◌, arith}
-use Rattle.std.proofs.lemmas.Bool.{cond-false, ne_eqb}
+use Rattle.std.proofs.lemmas.Bool.{cond-false, ne_eqb, false≢true}
 use Rattle.std.proofs.lemmas.Int.{ints, quot-rem, rem_below}
 use Rattle.std.proofs.Math.Nat.{pos_of_ne-zero}
 use mathlib.Core.Bool.{beq}
@@ -59,6 +59,14 @@ not_negative false m n below = below
 pub sign : (a b : ℤ) → is_below (remainder a b) ≡ true → is_below a ≡ true
 sign (pos a) b below = not_negative (unsigned_abs b == 0) 0 (a % unsigned_abs b) below
 sign (negsuc a) b below = refl
+
+not_above : (t : Bool) (n : ℕ) → (if t then pos 0 else neg_ℤ (pos n)) ≤ℤ pos 0
+not_above true n = omega (arith, ints)
+not_above false n = omega (arith, ints)
+
+pub no_more : (a b : ℤ) → is_below a ≡ true → remainder a b ≤ℤ pos 0
+no_more (pos a) b below = absurd (false≢true below)
+no_more (negsuc a) b below = not_above (unsigned_abs b == 0) (suc a % unsigned_abs b)
 
 -- rounded down
 pub floor_least : (n : ℤ) (by : ℕ) → 0 < by → (floor_div n by *ℤ pos by) ≤ℤ n

@@ -14,12 +14,13 @@ pub fn widths_in_bits_follow_the_formula()
     ensures { (prim : PrimOp) (kinds : List Kind) (widths params : List ℕ) → row_width prim kinds (map (λ w. bits_width w) widths) params ≡ bounded (width_number prim kinds widths params) }
 {}
 
-/// For each divisor but 0 the quotient and the remainder make up the numerator, the remainder is nearer to 0 than the divisor,
-/// and it is below 0 only where the numerator is. So the quotient is rounded toward 0.
+/// For each divisor but 0 the quotient and the remainder make up the numerator, and the remainder is nearer to 0 than the
+/// divisor. It is below 0 only where the numerator is, and not above 0 there. So the quotient is rounded toward 0.
 pub fn divisions_make_up_the_numerator()
     ensures whole { (a b : ℤ) → unsigned_abs b ≢ 0 → quotient a b *ℤ b +ℤ remainder a b ≡ a }
     ensures small { (a b : ℤ) → unsigned_abs b ≢ 0 → unsigned_abs (remainder a b) < unsigned_abs b }
-    ensures sign { (a b : ℤ) → is_below (remainder a b) ≡ true → is_below a ≡ true }
+    ensures below { (a b : ℤ) → is_below (remainder a b) ≡ true → is_below a ≡ true }
+    ensures above { (a b : ℤ) → is_below a ≡ true → remainder a b ≤ℤ pos 0 }
 {}
 
 /// A division that is rounded down leaves less than the divisor, and nothing below 0.
