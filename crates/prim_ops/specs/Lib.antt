@@ -2,3 +2,4 @@ pub mod Operations
 pub mod Kinds
 pub mod Widths
 pub mod Results
+pub mod Integers
