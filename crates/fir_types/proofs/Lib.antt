@@ -1,2 +1,4 @@
 pub mod Examples
-pub mod Counting
+pub mod Counts
+pub mod Layers
+pub mod Cases

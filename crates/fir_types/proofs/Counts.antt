@@ -12,7 +12,7 @@ use Rattle.fir_types.specs.declared.fir_type.Shape.TheViews.{roll-Shape, roll-Fi
 use Rattle.fir_types.specs.declared.fir_type.Field.{Field}
 use Rattle.fir_types.specs.declared.leaf.TypeLeaf.{TypeLeaf}
 use Rattle.fir_types.specs.declared.leaf.PathStep.TheVariants as step
-use Rattle.fir_types.specs.Leaves.{leaves, count, field_leaves, field_count, shape_leaves, shape_count, elements, within}
+use Rattle.fir_types.specs.Leaves.{leaves, count, field_leaves, field_count, shape_leaves, shape_count, elements}
 
 abbrev ShapeCounted : Shape → Type 0
 ShapeCounted s = (place : Place) → shape_count s ≡ length (shape_leaves s place)
