@@ -2,3 +2,4 @@ pub mod Examples
 pub mod Counts
 pub mod Layers
 pub mod Cases
+pub mod Walks

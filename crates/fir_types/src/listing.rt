@@ -45,7 +45,7 @@ fn push_leaves(
         }
         Shape::Bundle(fields) => push_field_leaves(alloc, listed, path, flip, fields.as_slice()),
         Shape::Vector(element, length) => {
-            if leaf_count(element.get()) > 0 {
+            if leaf_count(typ) > 0 {
                 push_elements(alloc, listed, path, flip, element.get(), *length as u32)?;
             }
             Ok(())
