@@ -57,7 +57,7 @@ pub data IsVectorLike (e : FirType) (n : ℕ) (r : FirType) : Type 0 where
 pub of_vector : {l r : FirType} (e : FirType) (n : ℕ) → l.shape ≡ shape.Vector e n → Equivalent l r → IsVectorLike e n r
 of_vector {l} {r} e n h (vectors d o m f g q) =
     vector_like o (subst (λ x. r.shape ≡ shape.Vector o x) (sym (vector_length e d n m (sym h ∙ f))) g)
-      (subst (λ x. Equivalent x o) (sym (vector_element e d n m (sym h ∙ f))) q)
+    (subst (λ x. Equivalent x o) (sym (vector_element e d n m (sym h ∙ f))) q)
 of_vector e n h (unsigned (a_uint v f) _) = absurd cc
 of_vector e n h (unsigned (a_reset f) _) = absurd cc
 of_vector e n h (signed (a_sint v f) _) = absurd cc

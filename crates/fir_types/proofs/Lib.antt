@@ -3,3 +3,4 @@ pub mod Counts
 pub mod Layers
 pub mod Cases
 pub mod Walks
+pub mod Lines

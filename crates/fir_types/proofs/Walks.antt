@@ -45,7 +45,7 @@ pub elements_more : (ls : List TypeLeaf) (i : ℕ) (path way walked : List PathS
 elements_more ls i path way walked flip before listed after h w v a =
     let e = leaves_within path (step.Element i) flip false ls ∙ ap (λ b. map (under (path ++ step.Element i ∷ []) b) ls) (flip_stays flip) in
     let there : map (under path flip) (elements ls (i + 1)) ≡ map (under path flip) (elements ls i) ++ map (under (path ++ step.Element i ∷ []) flip) ls =
-        rw add-one (map-append (under path flip) (elements ls i) (map (under (step.Element i ∷ []) false) ls) ∙ ap (λ x. map (under path flip) (elements ls i) ++ x) e) in
+    rw add-one (map-append (under path flip) (elements ls i) (map (under (step.Element i ∷ []) false) ls) ∙ ap (λ x. map (under path flip) (elements ls i) ++ x) e) in
     let a2 = subst (λ x. after ≡ listed ++ map (under x flip) ls) (v ∙ ap (λ x. x ++ step.Element i ∷ []) w) a in
     let assoc = append_assoc before (map (under path flip) (elements ls i)) (map (under (path ++ step.Element i ∷ []) flip) ls) in
     cc
@@ -66,10 +66,10 @@ pub fields_more : (fs : List Field) (i : ℕ) (f : Field) (path way walked : Lis
 fields_more fs i f path way walked flip before listed after l q h w v a =
     let s = step.Field f.name.id ∷ [] in
     let e : map (under path flip) (field_leaves f) ≡ map (under (path ++ step.Field f.name.id ∷ []) (if flip then not f.flip else f.flip)) (leaves f.typ) =
-        ap (map (under path flip)) (leaves-field f) ∙ leaves_within path (step.Field f.name.id) flip f.flip (leaves f.typ) in
+    ap (map (under path flip)) (leaves-field f) ∙ leaves_within path (step.Field f.name.id) flip f.flip (leaves f.typ) in
     let split : flat_map field_leaves (take (i + 1) fs) ≡ flat_map field_leaves (take i fs) ++ field_leaves f = grind (arith, common_steps) in
     let there : map (under path flip) (flat_map field_leaves (take (i + 1) fs)) ≡ map (under path flip) (flat_map field_leaves (take i fs)) ++ map (under path flip) (field_leaves f) =
-        ap (map (under path flip)) split ∙ map-append (under path flip) (flat_map field_leaves (take i fs)) (field_leaves f) in
+    ap (map (under path flip)) split ∙ map-append (under path flip) (flat_map field_leaves (take i fs)) (field_leaves f) in
     let a2 = subst (λ x. after ≡ listed ++ map (under x (not (beq flip f.flip))) (leaves f.typ)) (v ∙ ap (λ x. x ++ step.Field f.name.id ∷ []) w) a in
     let a3 = subst (λ b. after ≡ listed ++ map (under (path ++ step.Field f.name.id ∷ []) b) (leaves f.typ)) (xor_is flip f.flip) a2 in
     let assoc = append_assoc before (map (under path flip) (flat_map field_leaves (take i fs))) (map (under path flip) (field_leaves f)) in

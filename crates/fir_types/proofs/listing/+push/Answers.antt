@@ -8,10 +8,10 @@ use Rattle.fir_types.proofs.listing.+push.Goals as goal
 
 pub push_elements-loop-index-preserved : goal.push_elements-loop-index-preserved
 push_elements-loop-index-preserved t c = record {
-    listed = elements_more (leaves c.args.element.now) c.loop-index.index c.args.path.now.items c.push.new.self.items c.loop-index.path.items c.args.flip c.args.listed.now.items
+  listed = elements_more (leaves c.args.element.now) c.loop-index.index c.args.path.now.items c.push.new.self.items c.loop-index.path.items c.args.flip c.args.listed.now.items
       c.loop-index.listed.items c.push_leaves.new.listed.items c.loop-index.invariant.listed c.loop-index.invariant.path c.in_ok-push.ensures.items c.in_ok-push_leaves.ensures.listed;
-    path = grind (arith, common_steps);
-  }
+  path = grind (arith, common_steps);
+}
 
 pub push_field_leaves-push_leaves-requires : goal.push_field_leaves-push_leaves-requires
 push_field_leaves-push_leaves-requires t c =
@@ -21,11 +21,11 @@ push_field_leaves-push_leaves-requires t c =
 
 pub push_field_leaves-loop-field-preserved : goal.push_field_leaves-loop-field-preserved
 push_field_leaves-loop-field-preserved t c = record {
-    listed = fields_more c.args.fields.now c.loop-field.field-index c.field-item.result c.args.path.now.items c.push.new.self.items c.loop-field.path.items c.args.flip
+  listed = fields_more c.args.fields.now c.loop-field.field-index c.field-item.result c.args.path.now.items c.push.new.self.items c.loop-field.path.items c.args.flip
       c.args.listed.now.items c.loop-field.listed.items c.push_leaves.new.listed.items (grind (arith, common_steps)) (grind (arith, common_steps)) c.loop-field.invariant.listed
       c.loop-field.invariant.path c.in_ok-push.ensures.items c.in_ok-push_leaves.ensures.listed;
-    path = grind (arith, common_steps);
-  }
+  path = grind (arith, common_steps);
+}
 
 pub push_leaves-push_elements-requires : goal.push_leaves-push_elements-requires
 push_leaves-push_elements-requires t c =
