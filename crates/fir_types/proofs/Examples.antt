@@ -1,7 +1,6 @@
 -- Types with their leaves, types that are and aren't equivalent, and the bundle of a reader.
-use Rattle.std.proofs.Common.{◌≡◌, ℕ, true, false, List, [], ◌∷◌, refl, Some, None, Bool, rules, arith}
+use Rattle.std.proofs.Common.{◌≡◌, ℕ, true, false, [], ◌∷◌, refl, Some, None, Bool, arith}
 use Rattle.place_text.specs.declared.place.Place.{Place}
-use Rattle.fir_types.specs.declared.name.Name.{Name}
 use Rattle.fir_types.specs.declared.fir_type.FirType.{FirType, the_lemmas}
 use Rattle.fir_types.specs.declared.fir_type.Shape.{Shape}
 use Rattle.fir_types.specs.declared.fir_type.Shape.TheVariants as shape
@@ -10,7 +9,7 @@ use Rattle.fir_types.specs.declared.leaf.PathStep.TheVariants as step
 use Rattle.fir_types.specs.declared.memory.PortMode.TheVariants as mode
 use Rattle.fir_types.specs.Leaves.{leaves, count}
 use Rattle.fir_types.specs.Passivity.{has_flip, IsPassive}
-use Rattle.fir_types.specs.Equivalence.{Equivalent, unsigned, vectors, bundles, no_fields, same_field, a_uint, a_reset}
+use Rattle.fir_types.specs.Equivalence.{Equivalent, unsigned, vectors, a_uint, a_reset}
 use Rattle.fir_types.specs.Bundles.{port_type, address_bits, least_reaching, mask_of}
 
 abbrev place : Place

@@ -5,7 +5,6 @@ use Rattle.std.proofs.lemmas.List.{take_more}
 use Rattle.std.proofs.lemmas.List.Elements.{filter_map-append}
 use Rattle.std.proofs.lemmas.Nat.{pow_below, pow-add}
 use borrow.Author.Tests.{leb-true, leb-false, eqb-true, eqb-false}
-use Rattle.std.proofs.lemmas.Grind.{common_steps}
 use Rattle.fir_types.specs.declared.memory.MemLine.{MemLine}
 use Rattle.fir_types.specs.declared.memory.MemLine.TheVariants as line
 use Rattle.fir_types.specs.declared.fir_type.FirType.{FirType}
@@ -84,7 +83,7 @@ unfolding least_reaching
 least_is depth from zero w f m r below = omega arith
 least_is depth from (suc more) w f m r below =
     reached depth from more w (nat_le depth (2 ^ from)) refl f r below
-      (λ l. least_is depth (suc from) more w l (omega arith) r (λ v g h. below v (omega arith) h))
+    (λ l. least_is depth (suc from) more w l (omega arith) r (λ v g h. below v (omega arith) h))
 
 below_power : (depth r v : ℕ) (b : Bool) → eqb v r ≡ b → v < r + 1 → 2 ^ r < depth → 2 ^ v < depth
 below_power depth r v true e l p = subst (λ x. 2 ^ x < depth) (sym (eqb-true v r e)) p

@@ -1,5 +1,4 @@
-use Rattle.std.proofs.Common.{sym, ap, arith}
-use Rattle.std.proofs.lemmas.Grind.{common_steps}
+use Rattle.std.proofs.Common.{sym, ap}
 use Rattle.fir_types.specs.Memories.{depth_in}
 use Rattle.fir_types.proofs.Lines.{first_line, none_more, not_depth}
 use Rattle.fir_types.proofs.bundles.depth.Goals as goal

@@ -1,5 +1,4 @@
-use Rattle.std.proofs.Common.{sym, ap, ◌++◌, ◌∙◌, option_to_list, arith}
-use Rattle.std.proofs.lemmas.Grind.{common_steps}
+use Rattle.std.proofs.Common.{sym, ap, ◌++◌, ◌∙◌, option_to_list}
 use Rattle.fir_types.specs.Bundles.{port_field}
 use Rattle.fir_types.proofs.Lines.{lines_more}
 use Rattle.fir_types.proofs.bundles.port_fields.Goals as goal

@@ -1,7 +1,5 @@
-use Rattle.std.proofs.Common.{ap, ◌∙◌, arith, sym}
+use Rattle.std.proofs.Common.{arith}
 use Rattle.std.proofs.lemmas.Grind.{common_steps}
-use Rattle.std.specs.List.{list_any}
-use Rattle.fir_types.specs.Leaves.{leaves, is_clock}
 use Rattle.fir_types.proofs.Layers.{clock-fields, clock-elements, clock-field, leaves-bundle, leaves-vector}
 use Rattle.fir_types.proofs.counting.+clock.Goals as goal
 

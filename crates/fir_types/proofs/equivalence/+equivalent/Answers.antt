@@ -1,9 +1,7 @@
-use Rattle.std.proofs.Common.{◌≡◌, refl, sym, ◌∙◌, inl, inr, IsTrue, subst, length, arith}
+use Rattle.std.proofs.Common.{refl, inl, inr, length, arith}
 use Rattle.std.proofs.lemmas.Grind.{common_steps}
 use Rattle.std.proofs.lemmas.Slice.Zip.{zip_turn, zip_end}
-use Rattle.fir_types.specs.declared.fir_type.FirType.{FirType}
-use Rattle.fir_types.specs.declared.fir_type.Shape.TheVariants as shape
-use Rattle.fir_types.specs.Equivalence.{Equivalent, AreSame, IsUnsigned, SameFields, unsigned, signed, clocks, vectors, bundles, a_uint, a_reset, a_sint}
+use Rattle.fir_types.specs.Equivalence.{AreSame, IsUnsigned, unsigned, signed, clocks, a_uint, a_reset, a_sint}
 use Rattle.fir_types.proofs.Cases.{of_unsigned, of_vectors, of_bundles, vectors_from, bundles_from, same_length, same_at, same_from_places, are_same_at, places_more, not_both}
 use Rattle.fir_types.proofs.equivalence.+equivalent.Goals as goal
 

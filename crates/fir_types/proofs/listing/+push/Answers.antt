@@ -1,8 +1,8 @@
-use Rattle.std.proofs.Common.{◌≡◌, ◌≤◌, arith, rules}
+use Rattle.std.proofs.Common.{◌≤◌, arith, rules}
 use Rattle.std.proofs.lemmas.Grind.{common_steps}
 use Rattle.fir_types.specs.declared.fir_type.FirType.{the_lemmas}
 use Rattle.fir_types.specs.Leaves.{leaves, count}
-use Rattle.fir_types.proofs.Layers.{leaves-bundle, leaves-vector, count-bundle, count-vector, count-field}
+use Rattle.fir_types.proofs.Layers.{leaves-bundle, count-vector, count-field}
 use Rattle.fir_types.proofs.Walks.{elements_more, fields_more, field_within, element_within, no_leaves}
 use Rattle.fir_types.proofs.listing.+push.Goals as goal
 
