@@ -1,5 +1,5 @@
 -- Types with their leaves, types that are and aren't equivalent, and the bundle of a reader.
-use Rattle.std.proofs.Common.{◌≡◌, ℕ, true, false, [], ◌∷◌, refl, Some, None, Bool, arith}
+use Rattle.std.proofs.Common.{◌≡◌, ℕ, Bool, true, false, List, [], ◌∷◌, refl, Some, None, arith}
 use Rattle.place_text.specs.declared.place.Place.{Place}
 use Rattle.fir_types.specs.declared.fir_type.FirType.{FirType, the_lemmas}
 use Rattle.fir_types.specs.declared.fir_type.Shape.{Shape}
@@ -10,6 +10,7 @@ use Rattle.fir_types.specs.declared.memory.PortMode.TheVariants as mode
 use Rattle.fir_types.specs.Leaves.{leaves, count}
 use Rattle.fir_types.specs.Passivity.{has_flip, IsPassive}
 use Rattle.fir_types.specs.Equivalence.{Equivalent, unsigned, vectors, a_uint, a_reset}
+use Rattle.fir_types.proofs.Cases.{of_vectors, of_bundles, same_at}
 use Rattle.fir_types.specs.Bundles.{port_type, address_bits, least_reaching, mask_of}
 
 abbrev place : Place
@@ -51,9 +52,24 @@ flip_within = simp the_lemmas
 uint_passive : IsPassive (uint 4)
 uint_passive = simp the_lemmas
 
--- UInt[2] and Reset[2] are equivalent, UInt<4> and UInt too, and bundles go by orientation.
+-- UInt<4>[2] and Reset[2] are equivalent. Vectors go by their length, and bundles by their orientation.
 vectors_of_unsigned : Equivalent (typ (shape.Vector (uint 4) 2)) (typ (shape.Vector (typ shape.Reset) 2))
 vectors_of_unsigned = vectors _ _ _ refl refl (unsigned (a_uint _ refl) (a_reset refl))
+
+vectors_of_two_lengths : Equivalent (typ (shape.Vector (uint 4) 2)) (typ (shape.Vector (uint 4) 3)) → ⊥
+vectors_of_two_lengths e =
+    let s = of_vectors {e = uint 4} {o = uint 4} {n = 2} {m = 3} (uint 4) (uint 4) refl refl refl refl e in
+    let n : ◌≡◌ {A = ℕ} 2 3 = s.0 in
+    absurd (omega arith)
+
+abbrev one : Bool → List Field
+one flip = field flip 0 (uint 1) ∷ []
+
+bundles_of_two_orientations : Equivalent (typ (shape.Bundle (one false))) (typ (shape.Bundle (one true))) → ⊥
+bundles_of_two_orientations e =
+    let s = same_at (of_bundles {fs = one false} {gs = one true} (one false) (one true) refl refl refl refl e) 0 (field false 0 (uint 1)) (omega arith) in
+    let f : ◌≡◌ {A = Bool} false true = s.1 in
+    absurd cc
 
 -- A depth of 5 wants 3 bits of address, one of 4 wants 2, and one of 1 still has 1.
 bits_of_5 : address_bits 5 ≡ 3

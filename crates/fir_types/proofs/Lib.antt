@@ -4,3 +4,5 @@ pub mod Layers
 pub mod Cases
 pub mod Walks
 pub mod Lines
+pub mod Ways
+pub mod Equivalences

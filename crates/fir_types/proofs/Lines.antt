@@ -103,3 +103,27 @@ one_above depth r d low high small =
 pub at_least_one : (depth : ℕ) → depth ≤ 2 → 1 ≡ address_bits depth
 unfolding address_bits
 at_least_one depth d = sym (least_is depth 1 127 1 (omega arith) (omega arith) (omega arith) (λ v f l. absurd (omega arith)))
+
+-- the least number from one on, to the power of which 2 reaches the depth
+pub record IsLeast (depth from least : ℕ) : Type 0 where
+  pub above : from ≤ least
+  pub reaches : depth ≤ 2 ^ least
+  pub lowest : (w : ℕ) → from ≤ w → depth ≤ 2 ^ w → least ≤ w
+
+least_by : (depth from more : ℕ) (b : Bool) → nat_le depth (2 ^ from) ≡ b → (2 ^ from < depth → IsLeast depth (suc from) (least_reaching depth (suc from) more))
+    → IsLeast depth from (if b then from else least_reaching depth (suc from) more)
+least_by depth from more true t next = record { above = omega arith; reaches = leb-true depth (2 ^ from) t; lowest = λ w f r. f }
+least_by depth from more false t next =
+    let g = leb-false depth (2 ^ from) t in
+    let n = next g in
+    record { above = omega (arith, n.above); reaches = n.reaches; lowest = λ w f r. n.lowest w (later depth from w (eqb from w) refl f r g) r }
+
+is_least : (depth from more : ℕ) → depth ≤ 2 ^ (from + more) → IsLeast depth from (least_reaching depth from more)
+unfolding least_reaching
+is_least depth from zero r = record { above = omega arith; reaches = subst (λ x. depth ≤ 2 ^ x) (omega arith) r; lowest = λ w f s. f }
+is_least depth from (suc more) r =
+    least_by depth from more (nat_le depth (2 ^ from)) refl (λ g. is_least depth (suc from) more (subst (λ x. depth ≤ 2 ^ x) (omega arith) r))
+
+pub bits_least : (depth : ℕ) → depth ≤ 2 ^ 128 → IsLeast depth 1 (address_bits depth)
+unfolding address_bits
+bits_least depth r = is_least depth 1 127 r

@@ -76,3 +76,7 @@ is_clock_shape _ = false
 -- whether a leaf is a clock
 abbrev pub is_clock : TypeLeaf → Bool
 is_clock leaf = is_clock_shape leaf.typ.shape
+
+-- where a leaf stands, and whether it is turned round
+abbrev pub way_of : TypeLeaf → List PathStep × Bool
+way_of leaf = (leaf.path, leaf.flip)
