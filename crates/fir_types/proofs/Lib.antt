@@ -6,3 +6,4 @@ pub mod Walks
 pub mod Lines
 pub mod Ways
 pub mod Equivalences
+pub mod Masks

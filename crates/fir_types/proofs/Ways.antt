@@ -1,5 +1,5 @@
 -- The leaves of equivalent types are the same but for their ground types.
-use Rattle.std.proofs.Common.{◌≡◌, ℕ, zero, suc, Bool, true, false, not, if◌then◌else◌, Option, List, [], ◌∷◌, ◌++◌, map, refl, sym, ap, ◌∙◌, subst, arith}
+use Rattle.std.proofs.Common.{◌≡◌, ℕ, zero, suc, Bool, false, not, if◌then◌else◌, List, [], ◌∷◌, ◌++◌, map, refl, sym, ap, ◌∙◌, arith}
 use Rattle.std.specs.List.{flat_map}
 use Rattle.std.proofs.lemmas.Grind.{common_steps}
 use Rattle.std.proofs.lemmas.List.{map-append}
@@ -23,16 +23,16 @@ ways_under : (path : List PathStep) (flip : Bool) (ls : List TypeLeaf) → map w
 ways_under path flip [] = refl
 ways_under path flip (l ∷ ls) = ap (λ ws. (path ++ l.path, if flip then not l.flip else l.flip) ∷ ws) (ways_under path flip ls)
 
-abbrev SameWays : List TypeLeaf → List TypeLeaf → Type 0
+abbrev pub SameWays : List TypeLeaf → List TypeLeaf → Type 0
 SameWays ls ms = map way_of ls ≡ map way_of ms
 
 same_under : (path : List PathStep) (flip : Bool) (ls ms : List TypeLeaf) → SameWays ls ms → SameWays (map (under path flip) ls) (map (under path flip) ms)
 same_under path flip ls ms e = ways_under path flip ls ∙ ap (map (shifted path flip)) e ∙ sym (ways_under path flip ms)
 
-same_append : (xs bs cs ds : List TypeLeaf) → SameWays xs bs → SameWays cs ds → SameWays (xs ++ cs) (bs ++ ds)
+pub same_append : (xs bs cs ds : List TypeLeaf) → SameWays xs bs → SameWays cs ds → SameWays (xs ++ cs) (bs ++ ds)
 same_append xs bs cs ds e f = map-append way_of xs cs ∙ ap (λ ws. ws ++ map way_of cs) e ∙ ap (λ ws. map way_of bs ++ ws) f ∙ sym (map-append way_of bs ds)
 
-same_elements : (ls ms : List TypeLeaf) (n : ℕ) → SameWays ls ms → SameWays (elements ls n) (elements ms n)
+pub same_elements : (ls ms : List TypeLeaf) (n : ℕ) → SameWays ls ms → SameWays (elements ls n) (elements ms n)
 same_elements ls ms zero e = refl
 same_elements ls ms (suc n) e =
     same_append (elements ls n) (elements ms n) (map (under (step.Element n ∷ []) false) ls) (map (under (step.Element n ∷ []) false) ms)
@@ -48,7 +48,7 @@ signed_way {t} (a_sint w e) = grind (arith, common_steps, the_lemmas)
 clock_way : (t : FirType) → t.shape ≡ shape.Clock → map way_of (leaves t) ≡ ([], false) ∷ []
 clock_way t e = grind (arith, common_steps, the_lemmas)
 
-same_field_ways : (f g : Field) → f.name.id ≡ g.name.id → f.flip ≡ g.flip → SameWays (leaves f.typ) (leaves g.typ) → SameWays (field_leaves f) (field_leaves g)
+pub same_field_ways : (f g : Field) → f.name.id ≡ g.name.id → f.flip ≡ g.flip → SameWays (leaves f.typ) (leaves g.typ) → SameWays (field_leaves f) (field_leaves g)
 same_field_ways f g a b e =
     ap (map way_of) (leaves-field f) ∙ same_under (step.Field f.name.id ∷ []) f.flip (leaves f.typ) (leaves g.typ) e
     ∙ ap (λ n. map way_of (map (under (step.Field n ∷ []) f.flip) (leaves g.typ))) a ∙ ap (λ x. map way_of (map (under (step.Field g.name.id ∷ []) x) (leaves g.typ))) b
