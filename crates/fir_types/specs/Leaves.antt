@@ -19,17 +19,17 @@ abbrev pub elements : List TypeLeaf → ℕ → List TypeLeaf
 elements leaves zero = []
 elements leaves (suc n) = elements leaves n ++ map (under (step.Element n ∷ []) false) leaves
 
--- A ground type is its own one leaf.
-abbrev pub ground : Place → Shape → List TypeLeaf
-ground place s = record { path = []; flip = false; typ = record { place = place; shape = s } } ∷ []
+-- A type without parts is its own one leaf.
+abbrev pub one_leaf : Place → Shape → List TypeLeaf
+one_leaf place s = record { path = []; flip = false; typ = record { place = place; shape = s } } ∷ []
 
 -- One layer, with the leaves of each part in its place. A bundle has those of its fields in order, and a vector those of
 -- its elements, from 0.
 abbrev pub of_shape : Shape-F (Place → List TypeLeaf) (List TypeLeaf) (List TypeLeaf) → Place → List TypeLeaf
-of_shape (Shape-F.Unsigned width) place = ground place (shape.Unsigned width)
-of_shape (Shape-F.Signed width) place = ground place (shape.Signed width)
-of_shape Shape-F.Clock place = ground place shape.Clock
-of_shape Shape-F.Reset place = ground place shape.Reset
+of_shape (Shape-F.Unsigned width) place = one_leaf place (shape.Unsigned width)
+of_shape (Shape-F.Signed width) place = one_leaf place (shape.Signed width)
+of_shape Shape-F.Clock place = one_leaf place shape.Clock
+of_shape Shape-F.Reset place = one_leaf place shape.Reset
 of_shape (Shape-F.Bundle fields) place = flat_map (λ leaves. leaves) fields
 of_shape (Shape-F.Vector element n) place = elements element n
 
