@@ -1,4 +1,4 @@
--- Types with their leaves, types that are and aren't equivalent, and the bundle of a reader.
+-- Types with their leaves, types that are and aren't equivalent, memories that are and aren't valid, and the bundles of instances and memories.
 use Rattle.std.proofs.Common.{◌≡◌, ℕ, Bool, true, false, List, [], ◌∷◌, refl, Some, None, arith}
 use Rattle.place_text.specs.declared.place.Place.{Place}
 use Rattle.fir_types.specs.declared.fir_type.FirType.{FirType, the_lemmas}
@@ -6,12 +6,17 @@ use Rattle.fir_types.specs.declared.fir_type.Shape.{Shape}
 use Rattle.fir_types.specs.declared.fir_type.Shape.TheVariants as shape
 use Rattle.fir_types.specs.declared.fir_type.Field.{Field}
 use Rattle.fir_types.specs.declared.leaf.PathStep.TheVariants as step
+use Rattle.fir_types.specs.declared.memory.Memory.{Memory}
+use Rattle.fir_types.specs.declared.memory.MemLine.{MemLine}
+use Rattle.fir_types.specs.declared.memory.MemLine.TheVariants as line
+use Rattle.fir_types.specs.declared.memory.Under.TheVariants as under
 use Rattle.fir_types.specs.declared.memory.PortMode.TheVariants as mode
+use Rattle.fir_types.specs.Memories.{IsValid}
 use Rattle.fir_types.specs.Leaves.{leaves, count}
 use Rattle.fir_types.specs.Passivity.{has_flip, IsPassive}
 use Rattle.fir_types.specs.Equivalence.{Equivalent, unsigned, vectors, a_uint, a_reset}
 use Rattle.fir_types.proofs.Cases.{of_vectors, of_bundles, same_at}
-use Rattle.fir_types.specs.Bundles.{port_type, address_bits, least_reaching, mask_of}
+use Rattle.fir_types.specs.Bundles.{instance_of, memory_of, port_type, address_bits, least_reaching, mask_of}
 
 abbrev place : Place
 place = record { line = 1; column = 1 }
@@ -94,3 +99,37 @@ reader = refl
 a_mask : mask_of (typ (shape.Bundle (field false 0 (typ (shape.Signed (Some 8))) ∷ field false 1 (typ (shape.Vector (typ (shape.Unsigned None)) 2)) ∷ []))) ≡
     typ (shape.Bundle (field false 0 (uint 1) ∷ field false 1 (typ (shape.Vector (uint 1) 2)) ∷ []))
 a_mask = simp the_lemmas
+
+-- mem m : data-type => UInt<4>, depth => 5, read-latency => 0, write-latency => 1, read-under-write => old, reader => r
+abbrev small_lines : List MemLine
+small_lines = line.Element place (uint 4) ∷ line.Depth place 5 ∷ line.ReadLatency place 0 ∷ line.WriteLatency place 1 ∷ line.ReadUnder place under.Old
+    ∷ line.MemPort place mode.Reader (record { id = 10; place = place }) ∷ []
+
+abbrev memory : List MemLine → Memory
+memory lines = record { name = record { id = 9; place = place }; lines = lines }
+
+small_is_valid : IsValid (memory small_lines)
+small_is_valid = record {
+  element = (uint 4, refl, tt);
+  depth = (5, refl, omega arith);
+  read_latency = (0, refl, omega arith);
+  write_latency = (1, refl, refl);
+  under = (under.Old, refl, tt);
+  ports = (λ k d h. absurd (omega arith), tt);
+}
+
+small_type : memory_of (memory small_lines) ≡ typ (shape.Bundle (field true 10 (port_type (uint 4) 5 mode.Reader place) ∷ []))
+small_type = refl
+
+-- A second line of a kind is not valid, and no second port of a name.
+two_depths : IsValid (memory (line.Depth place 5 ∷ small_lines)) → ⊥
+two_depths v = let e = v.depth.1 in absurd cc
+
+two_ports : IsValid (memory (line.MemPort place mode.Writer (record { id = 10; place = place }) ∷ small_lines)) → ⊥
+two_ports v = v.ports.0 0 0 (omega arith) refl
+
+-- inputs are flipped: { flip clock : Clock, out : UInt<3> }
+an_instance : instance_of
+    (record { output = false; name = record { id = 0; place = place }; typ = typ shape.Clock } ∷ record { output = true; name = record { id = 1; place = place }; typ = uint 3 } ∷ [])
+    ≡ typ (shape.Bundle (field true 0 (typ shape.Clock) ∷ field false 1 (uint 3) ∷ []))
+an_instance = refl
