@@ -3,9 +3,8 @@
 --
 -- Places: what is made for a port of a memory, and has no place in the text, has the place of the port's name. A bundle of
 -- all ports has line 1, column 1. A mask has the places of the type that it is made from.
-use Rattle.std.specs.Prelude.{ℕ, zero, suc, ◌+◌, ◌^◌, nat_le, Bool, true, false, not, if◌then◌else◌, List, [], ◌∷◌, map, filter_map, Option, Some, None}
+use Rattle.std.specs.Prelude.{ℕ, zero, suc, ◌^◌, nat_le, true, false, not, if◌then◌else◌, List, [], ◌∷◌, map, filter_map, Option, Some, None}
 use Rattle.place_text.specs.declared.place.Place.{Place}
-use Rattle.fir_types.specs.declared.name.Name.{Name}
 use Rattle.fir_types.specs.declared.port.Port.{Port}
 use Rattle.fir_types.specs.declared.memory.Memory.{Memory}
 use Rattle.fir_types.specs.declared.memory.MemLine.{MemLine}

@@ -28,3 +28,6 @@ mutual
     no_fields : SameFields [] []
     same_field : {field other : Field} {rest others : List Field} → field.name.id ≡ other.name.id → field.flip ≡ other.flip
         → Equivalent field.typ other.typ → SameFields rest others → SameFields (field ∷ rest) (other ∷ others)
+
+abbrev pub AreSame : Field → Field → Type 0
+AreSame field other = (field.name.id ≡ other.name.id) × (field.flip ≡ other.flip) × Equivalent field.typ other.typ

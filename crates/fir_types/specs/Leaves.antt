@@ -10,31 +10,31 @@ use Rattle.fir_types.specs.declared.leaf.TypeLeaf.{TypeLeaf}
 use Rattle.fir_types.specs.declared.leaf.PathStep.{PathStep}
 use Rattle.fir_types.specs.declared.leaf.PathStep.TheVariants as step
 
--- A leaf of a part, as a leaf of the whole that the step leads from. A flip turns round what was turned round.
-abbrev pub within : PathStep → Bool → TypeLeaf → TypeLeaf
-within way flip leaf = record { path = way ∷ leaf.path; flip = if flip then not leaf.flip else leaf.flip; typ = leaf.typ }
+-- A leaf of a part, as a leaf of the whole that the path leads from. A flip turns round what was turned round.
+abbrev pub under : List PathStep → Bool → TypeLeaf → TypeLeaf
+under path flip leaf = record { path = path ++ leaf.path; flip = if flip then not leaf.flip else leaf.flip; typ = leaf.typ }
 
 -- the leaves of the elements below a length, from 0, where an element has these
 abbrev pub elements : List TypeLeaf → ℕ → List TypeLeaf
 elements leaves zero = []
-elements leaves (suc n) = elements leaves n ++ map (within (step.Element n) false) leaves
+elements leaves (suc n) = elements leaves n ++ map (under (step.Element n ∷ []) false) leaves
 
--- A ground type is its own one leaf.
-abbrev pub ground : Place → Shape → List TypeLeaf
-ground place s = record { path = []; flip = false; typ = record { place = place; shape = s } } ∷ []
+-- A type without parts is its own one leaf.
+abbrev pub one_leaf : Place → Shape → List TypeLeaf
+one_leaf place s = record { path = []; flip = false; typ = record { place = place; shape = s } } ∷ []
 
 -- One layer, with the leaves of each part in its place. A bundle has those of its fields in order, and a vector those of
 -- its elements, from 0.
 abbrev pub of_shape : Shape-F (Place → List TypeLeaf) (List TypeLeaf) (List TypeLeaf) → Place → List TypeLeaf
-of_shape (Shape-F.Unsigned width) place = ground place (shape.Unsigned width)
-of_shape (Shape-F.Signed width) place = ground place (shape.Signed width)
-of_shape Shape-F.Clock place = ground place shape.Clock
-of_shape Shape-F.Reset place = ground place shape.Reset
+of_shape (Shape-F.Unsigned width) place = one_leaf place (shape.Unsigned width)
+of_shape (Shape-F.Signed width) place = one_leaf place (shape.Signed width)
+of_shape Shape-F.Clock place = one_leaf place shape.Clock
+of_shape Shape-F.Reset place = one_leaf place shape.Reset
 of_shape (Shape-F.Bundle fields) place = flat_map (λ leaves. leaves) fields
 of_shape (Shape-F.Vector element n) place = elements element n
 
 abbrev pub of_field : Field-F (Place → List TypeLeaf) (List TypeLeaf) (List TypeLeaf) → List TypeLeaf
-of_field f = map (within (step.Field f.name.id) f.flip) f.typ
+of_field f = map (under (step.Field f.name.id ∷ []) f.flip) f.typ
 
 abbrev pub of_type : FirType-F (Place → List TypeLeaf) (List TypeLeaf) (List TypeLeaf) → List TypeLeaf
 of_type t = t.shape t.place
@@ -68,3 +68,15 @@ field_count = fold-Field ℕ ℕ ℕ count_of_shape (λ f. f.typ) (λ t. t.shape
 
 abbrev pub shape_count : Shape → ℕ
 shape_count = fold-Shape ℕ ℕ ℕ count_of_shape (λ f. f.typ) (λ t. t.shape)
+
+abbrev pub is_clock_shape : Shape → Bool
+is_clock_shape shape.Clock = true
+is_clock_shape _ = false
+
+-- whether a leaf is a clock
+abbrev pub is_clock : TypeLeaf → Bool
+is_clock leaf = is_clock_shape leaf.typ.shape
+
+-- where a leaf stands, and whether it is turned round
+abbrev pub way_of : TypeLeaf → List PathStep × Bool
+way_of leaf = (leaf.path, leaf.flip)

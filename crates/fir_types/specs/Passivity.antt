@@ -1,8 +1,8 @@
 -- Passive types (FIRRTL specification 3.0, "Passive Types").
-use Rattle.std.specs.Prelude.{◌≡◌, Bool, true, false, ◌||◌, List}
+use Rattle.std.specs.Prelude.{◌≡◌, Bool, false, ◌||◌}
 use Rattle.std.specs.List.{list_any}
 use Rattle.fir_types.specs.declared.fir_type.FirType.{FirType, fold-FirType}
-use Rattle.fir_types.specs.declared.fir_type.Shape.TheOpen.{Shape-F, Field-F, FirType-F}
+use Rattle.fir_types.specs.declared.fir_type.Shape.TheOpen.{Shape-F}
 use Rattle.fir_types.specs.declared.fir_type.Field.{Field, fold-Field}
 
 -- One layer, with the answer for each part in its place.

@@ -1,4 +1,4 @@
-use Rattle.fir_types.proofs.Counting.{counted}
+use Rattle.fir_types.proofs.Counts.{counted}
 use Rattle.fir_types.proofs.laws.leaves_are_counted.Goals as goal
 
 pub returns : goal.returns

@@ -1,5 +1,5 @@
 -- The number of leaves is the length of their list.
-use Rattle.std.proofs.Common.{◌≡◌, ℕ, zero, suc, ◌+◌, ◌*◌, List, [], ◌∷◌, ◌++◌, map, sum, length, refl, sym, ap, ◌∙◌, subst, arith}
+use Rattle.std.proofs.Common.{◌≡◌, ℕ, zero, suc, ◌*◌, List, [], ◌∷◌, map, sum, length, refl, subst, arith}
 use Rattle.std.specs.List.{flat_map}
 use Rattle.std.proofs.lemmas.Grind.{common_steps}
 use Rattle.std.proofs.lemmas.List.Folds.{flat_map-map}
@@ -11,8 +11,7 @@ use Rattle.fir_types.specs.declared.fir_type.Shape.TheFolds.{map-Shape, map-Fiel
 use Rattle.fir_types.specs.declared.fir_type.Shape.TheViews.{roll-Shape, roll-Field, roll-FirType}
 use Rattle.fir_types.specs.declared.fir_type.Field.{Field}
 use Rattle.fir_types.specs.declared.leaf.TypeLeaf.{TypeLeaf}
-use Rattle.fir_types.specs.declared.leaf.PathStep.TheVariants as step
-use Rattle.fir_types.specs.Leaves.{leaves, count, field_leaves, field_count, shape_leaves, shape_count, elements, within}
+use Rattle.fir_types.specs.Leaves.{leaves, count, field_leaves, field_count, shape_leaves, shape_count, elements}
 
 abbrev ShapeCounted : Shape → Type 0
 ShapeCounted s = (place : Place) → shape_count s ≡ length (shape_leaves s place)
