@@ -1,6 +1,6 @@
 -- What a command answers is settled by what the text is.
-use Rattle.std.proofs.Common.{◌≡◌, ℕ, ◌<◌, ◌≤◌, List, [], ◌∷◌, ◌++◌, ◌⊎◌, ⊎_elim, inl, inr, length, refl, sym, ap, ◌∙◌, subst, arith}
-use Rattle.std.specs.Prelude.{codes, Option, Some, None}
+use Rattle.std.proofs.Common.{◌≡◌, ℕ, ◌<◌, ◌≤◌, List, ◌⊎◌, ⊎_elim, inl, inr, length, refl, sym, ap, subst, arith}
+use Rattle.std.specs.Prelude.{codes, Some, None}
 use Rattle.fir_layout.specs.Pieces.{pieces_of}
 use Rattle.fir_layout.specs.declared.laid.Laid.{Laid}
 use Rattle.sim_top.specs.declared.command.Command.{Command}
@@ -12,12 +12,12 @@ use Rattle.fir_tree.specs.declared.circuit.Circuit.{Circuit}
 use Rattle.sim_top.specs.declared.circuit.SmallCircuit.{SmallCircuit}
 use Rattle.sim_top.specs.declared.stimulus.SmallStimulus.{SmallStimulus}
 use Rattle.sim_top.specs.StimulusLine.{HasNone, IsSplit}
-use Rattle.sim_top.specs.CircuitText.{IsAccepted, IsAcceptedOnly, IsFaultOnly}
+use Rattle.sim_top.specs.CircuitText.{IsAcceptedOnly, IsFaultOnly}
 use Rattle.sim_top.specs.SmallCircuits.{IsSmallCircuit}
 use Rattle.sim_top.specs.SmallStimuli.{IsSmallStimulus}
 use Rattle.sim_top.specs.Cycles.{trace}
-use Rattle.sim_top.specs.Answers.{fault_bytes, stimulus_fault_bytes, at_front, unsupported, joined_limit, circuit_limit, IsPart, before_line, all_of_it, IsTaken, RunsSmall, traced, bad_stimulus, JudgesTaken, refused, accepted, runs, not_small, Judges, joined_too_long, no_stimulus, circuit_too_long, taken, Settles, SettlesTaken, SettlesSmall, IsRefusedText, too_long, has_fault, IsAcceptedText}
-use Rattle.sim_top.proofs.Splitting.{split_once, split_or_none, part_once, run_has_line}
+use Rattle.sim_top.specs.Answers.{fault_bytes, stimulus_fault_bytes, at_front, unsupported, joined_limit, circuit_limit, IsPart, before_line, IsTaken, RunsSmall, traced, bad_stimulus, JudgesTaken, refused, accepted, runs, not_small, Judges, joined_too_long, no_stimulus, circuit_too_long, taken, Settles, SettlesTaken, SettlesSmall, IsRefusedText, too_long, has_fault, IsAcceptedText}
+use Rattle.sim_top.proofs.Splitting.{split_once, part_once, run_has_line}
 
 -- the joined text is too long
 long_only : (command : Command) (joined : List ℕ) → joined_limit < length joined → (s : ℕ) (b : List ℕ) → Judges command joined s b → (s ≡ 2) × (b ≡ fault_bytes (at_front TooLong))

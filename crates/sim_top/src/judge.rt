@@ -159,6 +159,11 @@ fn refuse_stimulus(alloc: Global, fault: StimulusFault) -> Result<Reply, AllocEr
 {
     Ok(Reply {
         status: 3,
-        bytes: fault_line(alloc, TextPart::Stimulus, fault.name(), Place { line: 1, column: 1 })?,
+        bytes: fault_line(
+            alloc,
+            TextPart::Stimulus,
+            fault.name(),
+            Place { line: 1, column: 1 },
+        )?,
     })
 }

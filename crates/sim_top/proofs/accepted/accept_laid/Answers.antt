@@ -1,6 +1,3 @@
-use Rattle.std.proofs.Common.{◌≡◌, List, subst}
-use Rattle.fir_layout.specs.declared.laid.Laid.{Laid}
-use Rattle.sim_top.specs.CircuitText.{IsLaidOnly}
 use Rattle.sim_top.specs.declared.front.TextFault.TheVariants.{Fault as Named}
 use Rattle.sim_top.proofs.Fronts.{same_error}
 use Rattle.sim_top.proofs.Accepting.{accepted_text, refused_text}
