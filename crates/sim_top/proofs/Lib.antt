@@ -22,3 +22,4 @@ pub mod RoomLemmas
 pub mod Fronts
 pub mod CounterFormed
 pub mod Accepting
+pub mod EmptyText

@@ -1,5 +1,5 @@
--- The circuit's text, stage by stage: its tokens, its layout and its grammar (FIRRTL specification 3.0, "Lexical structure"
--- and "Grammar"). A stage judges only what the stages before it let pass.
+-- The circuit's text, stage by stage: its tokens, its layout and its grammar (FIRRTL specification 3.0, "FIRRTL Language
+-- Definition"). A stage judges only what the stages before it let pass.
 use Rattle.std.specs.Prelude.{◌≡◌, ℕ, ◌≤◌, List, length, All, Option, Some, None}
 use Rattle.place_text.specs.Places.{place}
 use Rattle.fir_lexer.specs.Tokens.{IsFault, FaultKind as LexKind, Bad_byte, Bad_token, Number_range}
