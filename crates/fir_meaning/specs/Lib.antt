@@ -1,0 +1,4 @@
+pub mod Components
+pub mod Values
+pub mod Drives
+pub mod MemoryPorts

@@ -1,0 +1,2 @@
+//! What an accepted circuit means, cycle by cycle.
+#![tactic(auto)]
