@@ -56,7 +56,7 @@ set_at flip None values = []
 abbrev pub set_by_connect : Scene → Expr → Expr → List Setting
 set_by_connect scene left right = set_at false (spot_of scene left) (value right scene) ++ set_at true (spot_of scene right) (value left scene)
 
--- An `invalidate` sets every leaf of its reference to 0, those that are only sources aside: these nothing drives.
+-- An `invalidate` sets each leaf of its reference to 0. Of what is set in a leaf that is only a source nothing is ever asked.
 abbrev pub zeros : List Value → List Value
 zeros = map (λ v. fitted v.kind v.width (pos 0))
 
