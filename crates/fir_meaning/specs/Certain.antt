@@ -1,5 +1,5 @@
 -- Leaves that are driven whatever the values are (FIRRTL specification 3.0, "Initialization" under "Conditionals").
-use Rattle.std.specs.Prelude.{◌≡◌, ℕ, ◌++◌, ◌&&◌, ◌||◌, not, Bool, true, false, List, Option, Some, None, map, if◌then◌else◌}
+use Rattle.std.specs.Prelude.{◌≡◌, ℕ, ◌&&◌, ◌||◌, not, Bool, true, false, List, Option, Some, None, if◌then◌else◌}
 use Rattle.std.specs.List.{list_any, list_all}
 use Rattle.fir_types.specs.declared.leaf.TypeLeaf.{TypeLeaf}
 use Rattle.fir_types.specs.Leaves.{leaves}
@@ -14,9 +14,13 @@ use Rattle.fir_meaning.specs.States.{Stands, leaf_of}
 abbrev pub is_turned : Bool → TypeLeaf → Bool
 is_turned flip leaf = if flip then leaf.flip else not leaf.flip
 
--- The leaf may be one of this orientation in what the reference names.
+-- The part of this orientation may be the leaf: it is, for some element that an index may pick.
+abbrev pub may_be : Bool → Region → Leaf → TypeLeaf → Bool
+may_be flip region leaf part = is_turned flip part && list_any (λ at. same_leaf at leaf) (leaves_at region part.path)
+
+-- The reference may name the leaf, as a part of this orientation.
 abbrev pub may_name : Bool → Option Region → Leaf → Bool
-may_name flip (Some region) leaf = list_any (λ part. is_turned flip part && list_any (λ at. same_leaf at leaf) (leaves_at region part.path)) (leaves region.typ)
+may_name flip (Some region) leaf = list_any (may_be flip region leaf) (leaves region.typ)
 may_name flip None leaf = false
 
 -- There is no dynamic index in the reference.
@@ -24,7 +28,7 @@ abbrev pub is_static : Option Region → Bool
 is_static (Some region) = not region.dynamic
 is_static None = false
 
--- It is one of them whatever the values are.
+-- It names the leaf whatever the values are.
 abbrev pub surely_names : Bool → Option Region → Leaf → Bool
 surely_names flip region leaf = is_static region && may_name flip region leaf
 

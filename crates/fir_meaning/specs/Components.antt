@@ -3,7 +3,7 @@
 --
 -- All declarations of a module have different names, wherever they stand, so a component is known by the number of its name.
 -- A leaf of a module is a component and the way to one of its ground parts. Where two have one name, the first counts.
-use Rattle.std.specs.Prelude.{ℕ, ◌==◌, ◌++◌, ◌||◌, drop, length, Bool, true, false, List, [], ◌∷◌, map, flat_map, find, zip, Option, Some, None, option_map, option_and_then, if◌then◌else◌}
+use Rattle.std.specs.Prelude.{◌≡◌, ℕ, ◌==◌, ◌++◌, drop, length, Bool, true, false, List, [], ◌∷◌, map, filter_map, flat_map, find, zip, Option, Some, None, option_and_then, if◌then◌else◌}
 use Rattle.bit_words.specs.declared.value.Kind.{Kind}
 use Rattle.bit_words.specs.declared.value.Kind.TheVariants.{Unsigned, Signed}
 use Rattle.fir_types.specs.declared.fir_type.FirType.{FirType}
@@ -17,7 +17,9 @@ use Rattle.fir_types.specs.declared.leaf.PathStep.{PathStep}
 use Rattle.fir_types.specs.declared.leaf.PathStep.TheVariants as step
 use Rattle.fir_types.specs.declared.memory.Memory.{Memory}
 use Rattle.fir_types.specs.declared.port.Port.{Port}
-use Rattle.fir_types.specs.Bundles.{nowhere}
+use Rattle.fir_types.specs.Leaves.{leaves}
+use Rattle.fir_types.specs.Memories.{depth_of}
+use Rattle.fir_types.specs.Bundles.{nowhere, instance_of, port_field}
 use Rattle.fir_tree.specs.declared.circuit.Module.{Module}
 use Rattle.fir_tree.specs.declared.scope.Fitted.{Fitted}
 use Rattle.fir_tree.specs.declared.expr.Expr.{Expr}
@@ -156,6 +158,26 @@ type_or_empty None = record { place = nowhere; shape = shape.Bundle [] }
 
 abbrev pub type_in : TypedModule → ℕ → FirType
 type_in m name = type_or_empty (component_named m name)
+
+abbrev pub port_of : Component → Sort → Option Port
+port_of c An_input = Some (record { output = false; name = record { id = c.declaration.name; place = nowhere }; typ = c.typ })
+port_of c An_output = Some (record { output = true; name = record { id = c.declaration.name; place = nowhere }; typ = c.typ })
+port_of c _ = None
+
+-- The ports of a module with their types.
+abbrev pub typed_ports : TypedModule → List Port
+typed_ports m = filter_map (λ c. port_of c c.declaration.sort) m.components
+
+-- The bundle of a memory's ports, where its elements have this type.
+abbrev pub ports_bundle : Memory → FirType → FirType
+ports_bundle memory element = record { place = nowhere; shape = shape.Bundle (filter_map (port_field element (depth_of memory)) memory.lines) }
+
+-- In an accepted circuit an instance has the leaves of its module's ports, inputs flipped, and a memory those of its ports.
+pub record HasBundles (design : Design) : Type 0 where
+  pub instances : (path : List ℕ) (m n : TypedModule) (c : Component) (target : ℕ) → module_at design path ≡ Some m → component_named m c.declaration.name ≡ Some c → c.declaration.sort ≡ An_instance target
+      → module_named design target ≡ Some n → leaves c.typ ≡ leaves (instance_of (typed_ports n))
+  pub memories : (path : List ℕ) (m : TypedModule) (c : Component) (memory : Memory) → module_at design path ≡ Some m → component_named m c.declaration.name ≡ Some c → c.declaration.sort ≡ A_memory memory
+      → (element : FirType) × (leaves c.typ ≡ leaves (ports_bundle memory element))
 
 -- How a leaf may be used: as a source, as a sink, or as both.
 pub data Flow : Type 0 where

@@ -5,3 +5,5 @@ pub mod MemoryPorts
 pub mod States
 pub mod Mentions
 pub mod Certain
+pub mod Loops
+pub mod ClockRoot

@@ -1,7 +1,7 @@
 -- The ports of a memory (FIRRTL specification 3.0, "Memories"): what they write and read in a cycle.
 --
 -- The leaves of a memory are seen as integers by their way: the port, its field, and the way within the field.
-use Rattle.std.specs.Prelude.{ℕ, ◌==◌, ◌&&◌, not, nat_lt, Bool, true, false, List, [], ◌∷◌, fold, find, filter_map, ℤ, pos, Option, Some, None, if◌then◌else◌, unsigned_abs}
+use Rattle.std.specs.Prelude.{ℕ, ◌==◌, ◌&&◌, not, nat_lt, Bool, false, List, [], ◌∷◌, fold, find, filter_map, ℤ, pos, Option, Some, None, if◌then◌else◌, unsigned_abs}
 use Rattle.std.specs.Ordering.{int_eq}
 use Rattle.fir_types.specs.declared.leaf.PathStep.{PathStep}
 use Rattle.fir_types.specs.declared.leaf.PathStep.TheVariants as step
@@ -75,7 +75,7 @@ mask_field _ = mask_name
 abbrev pub after_port : Memory → Leaves → Contents → MemoryPort → Contents
 after_port memory leaves before port element way =
     if (asks_to_write leaves port port.mode && is_within memory leaves port)
-        && ((address leaves port == element) && int_eq (field leaves port (mask_field port.mode) way) (pos 1))
+    && ((address leaves port == element) && int_eq (field leaves port (mask_field port.mode) way) (pos 1))
     then field leaves port (written_field port.mode) way
     else before element way
 

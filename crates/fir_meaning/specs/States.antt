@@ -1,6 +1,6 @@
 -- The cycle (FIRRTL specification 3.0, "Registers", "Memories" and "Last Connect Semantics"): the state between cycles, the
 -- valuation that settles in a cycle, the next state, and what is watched from cycle to cycle.
-use Rattle.std.specs.Prelude.{◌≡◌, ℕ, ◌&&◌, not, Bool, true, false, List, [], ◌∷◌, map, filter, flat_map, Contains, ℤ, pos, Option, Some, None, option_map, option_and_then, if◌then◌else◌}
+use Rattle.std.specs.Prelude.{◌≡◌, ◌≢◌, ℕ, ◌&&◌, not, Bool, true, false, List, [], ◌∷◌, map, filter, flat_map, Contains, ℤ, pos, Option, Some, None, option_map, option_and_then, if◌then◌else◌}
 use Rattle.bit_words.specs.Values.{integer_of}
 use Rattle.fir_types.specs.declared.leaf.TypeLeaf.{TypeLeaf}
 use Rattle.fir_types.specs.declared.leaf.PathStep.{PathStep}
@@ -11,7 +11,7 @@ use Rattle.fir_types.specs.declared.memory.Under.TheVariants as under
 use Rattle.fir_types.specs.Leaves.{leaves}
 use Rattle.fir_types.specs.Memories.{read_latency_of, under_of}
 use Rattle.fir_tree.specs.declared.expr.Expr.{Expr}
-use Rattle.fir_meaning.specs.Components.{Design, TypedModule, Component, Leaf, Sort, An_input, An_output, A_register, A_reset_register, A_memory, A_node, Flow, Source, Sink, Duplex, flow_of, is_clock, module_at, module_named, component_named}
+use Rattle.fir_meaning.specs.Components.{Design, TypedModule, Component, Leaf, Sort, An_input, An_output, A_register, A_reset_register, A_memory, A_node, Flow, Source, flow_of, is_clock, module_at, module_named, component_named}
 use Rattle.fir_meaning.specs.Values.{Valuation, Scene, scene_of, value, whole, is_one}
 use Rattle.fir_meaning.specs.Drives.{drives, set_at, left_in}
 use Rattle.fir_meaning.specs.MemoryPorts.{Contents, after_writes, read_by}
@@ -63,8 +63,7 @@ is_driven c leaf = not (is_source (flow_of c.declaration.sort leaf.flip)) && (no
 abbrev pub leaf_of : Component → TypeLeaf → Leaf
 leaf_of c leaf = record { component = c.declaration.name; way = leaf.path }
 
--- A valuation is settled in a cycle that begins with this state and has these inputs. What no field names is free: no leaf of
--- an accepted circuit is.
+-- A valuation is settled in a cycle that begins with this state and has these inputs: each leaf has what its sort asks for.
 pub record Settled (design : Design) (s : State) (given : Inputs) (rho : Valuation) : Type 0 where
   -- a Clock has no value: 0 stands for it
   pub clocks : (path : List ℕ) (m : TypedModule) (c : Component) (leaf : TypeLeaf) → Stands design path m c leaf → is_clock leaf ≡ true
@@ -85,7 +84,7 @@ pub record Settled (design : Design) (s : State) (given : Inputs) (rho : Valuati
       → seen m path rho c leaf ≡ read_by memory ((scene_of m path rho).integers c.declaration.name) (s.contents path c.declaration.name) port way
   -- a read of latency 1 shows what was captured at the end of the cycle before
   pub captured : (path : List ℕ) (m : TypedModule) (c : Component) (leaf : TypeLeaf) (memory : Memory) (port field : ℕ) (way : List PathStep)
-      → Stands design path m c leaf → c.declaration.sort ≡ A_memory memory → read_latency_of memory ≡ 1 → leaf.flip ≡ false
+      → Stands design path m c leaf → c.declaration.sort ≡ A_memory memory → read_latency_of memory ≢ 0 → leaf.flip ≡ false
       → leaf.path ≡ step.Field port ∷ step.Field field ∷ way → seen m path rho c leaf ≡ s.captured path c.declaration.name port way
   -- every other leaf has what the statements of its component's block leave in it
   pub driven : (path : List ℕ) (m : TypedModule) (c : Component) (leaf : TypeLeaf) → Stands design path m c leaf → is_driven c leaf ≡ true
@@ -105,8 +104,8 @@ next_of_register scene c (A_register clock) way held =
 next_of_register scene c (A_reset_register clock reset init) way held =
     let leaf : Leaf = record { component = c.declaration.name; way = way } in
     or_else held (if is_one (value reset scene)
-        then left_in leaf None (set_at false (Some (whole scene c.declaration.name)) (value init scene))
-        else drives scene leaf c.declaration.block)
+    then left_in leaf None (set_at false (Some (whole scene c.declaration.name)) (value init scene))
+    else drives scene leaf c.declaration.block)
 next_of_register scene c _ way held = held
 
 -- What a memory holds next.

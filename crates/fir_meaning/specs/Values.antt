@@ -2,13 +2,12 @@
 --
 -- The value of an expression is a list of values, one for each leaf of its type. It is told in a scene: the types of a
 -- module's components, and an integer for each of their leaves.
-use Rattle.std.specs.Prelude.{ℕ, suc, ◌+◌, ◌^◌, ◌<◌, min, max, nat_lt, Bool, true, false, List, [], ◌∷◌, ◌++◌, map, fold, zip, ℤ, pos, negsuc, Option, Some, None, option_map, if◌then◌else◌, find, ◌==◌}
+use Rattle.std.specs.Prelude.{ℕ, suc, min, max, nat_lt, Bool, List, [], ◌∷◌, ◌++◌, map, fold, zip, ℤ, pos, negsuc, Option, Some, None, option_map, if◌then◌else◌, find, ◌==◌}
 use Rattle.std.specs.Ordering.{int_eq}
 use Rattle.std.proofs.Math.Nat.{min-le_right}
 use Rattle.bit_words.specs.declared.value.Kind.{Kind}
 use Rattle.bit_words.specs.declared.value.Kind.TheVariants.{Unsigned, Signed}
 use Rattle.bit_words.specs.declared.value.Value.{Value}
-use Rattle.bit_words.specs.declared.number.Number.{Number}
 use Rattle.bit_words.specs.Values.{bits_of, integer_of}
 use Rattle.bit_words.specs.Numbers.{integer_of_number}
 use Rattle.bit_words.proofs.Congruence.{bits_below}
@@ -31,7 +30,7 @@ use Rattle.fir_tree.specs.declared.expr.Form.{Form}
 use Rattle.fir_tree.specs.declared.expr.Suffix.{Suffix, fold-Suffix}
 use Rattle.fir_tree.specs.declared.expr.Form.TheOpen.{Form-F, Suffix-F, Expr-F}
 use Rattle.fir_tree.specs.declared.expr.Form.TheViews.{out-Form}
-use Rattle.fir_meaning.specs.Components.{TypedModule, Leaf, kind_of_leaf, width_of_leaf, type_in, target_of}
+use Rattle.fir_meaning.specs.Components.{TypedModule, kind_of_leaf, width_of_leaf, type_in, target_of}
 
 -- An integer for each leaf of the run: by the instances that lead to its module, its component and the way to it.
 abbrev pub Valuation : Type 0
@@ -157,7 +156,7 @@ kind_or_unsigned None = Unsigned
 abbrev pub operation : PrimOp → List Value → List ℕ → Value
 operation prim operands params =
     fitted (kind_or_unsigned (row_kind prim (kinds_of operands))) (width_number prim (kinds_of operands) (widths_of operands) params)
-        (integer_result prim operands params)
+    (integer_result prim operands params)
 
 -- Leaf by leaf the first or the second value, at the greater of their widths.
 abbrev pub one_of_two : Bool → Value → Value → Value
