@@ -1,2 +1,6 @@
+mod Equations
 mod Samples
 mod Examples
+mod ExamplesOfParts
+mod ExamplesOfMemories
+mod ExamplesOfLoops
