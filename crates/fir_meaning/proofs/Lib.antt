@@ -1,3 +1,4 @@
+mod Tracking
 mod Equations
 mod Samples
 mod Examples

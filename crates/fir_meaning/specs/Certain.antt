@@ -6,13 +6,9 @@ use Rattle.fir_types.specs.Leaves.{leaves}
 use Rattle.fir_tree.specs.declared.stmt.Stmt.{Stmt, fold-Stmt}
 use Rattle.fir_tree.specs.declared.stmt.Stmt.TheOpen.{Stmt-F, Arm-F}
 use Rattle.fir_meaning.specs.Components.{Design, TypedModule, Component, Leaf, Sort, A_wire, Flow, Sink, flow_of, type_in}
-use Rattle.fir_meaning.specs.Drives.{same_leaf}
+use Rattle.fir_meaning.specs.Drives.{same_leaf, is_turned}
 use Rattle.fir_meaning.specs.Mentions.{Scope, Region, region_of, leaves_at}
 use Rattle.fir_meaning.specs.States.{Stands, leaf_of}
-
--- the leaf is flipped, or it isn't
-abbrev pub is_turned : Bool → TypeLeaf → Bool
-is_turned flip leaf = if flip then leaf.flip else not leaf.flip
 
 -- The part of this orientation may be the leaf: it is, for some element that an index may pick.
 abbrev pub may_be : Bool → Region → Leaf → TypeLeaf → Bool

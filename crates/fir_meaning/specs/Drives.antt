@@ -2,7 +2,7 @@
 --
 -- The statements of a block are taken in text order, and of a `when` only the first arm whose condition is 1, or else the
 -- `else`. What they leave in a leaf is the last integer that one of them sets.
-use Rattle.std.specs.Prelude.{ℕ, ◌==◌, ◌&&◌, ◌++◌, not, Bool, true, false, List, [], ◌∷◌, map, fold, filter, zip, ℤ, pos, Option, Some, None, if◌then◌else◌}
+use Rattle.std.specs.Prelude.{ℕ, ◌==◌, ◌&&◌, ◌++◌, not, Bool, true, false, List, [], ◌∷◌, map, fold, filter, ℤ, pos, Option, Some, None, if◌then◌else◌}
 use Rattle.bit_words.specs.declared.value.Value.{Value}
 use Rattle.bit_words.specs.Values.{integer_of}
 use Rattle.fir_types.specs.declared.leaf.TypeLeaf.{TypeLeaf}
@@ -13,7 +13,7 @@ use Rattle.fir_tree.specs.declared.expr.Expr.{Expr}
 use Rattle.fir_tree.specs.declared.stmt.Stmt.{Stmt, fold-Stmt}
 use Rattle.fir_tree.specs.declared.stmt.Stmt.TheOpen.{Stmt-F, Arm-F}
 use Rattle.fir_meaning.specs.Components.{Leaf}
-use Rattle.fir_meaning.specs.Values.{Scene, Spot, value, spot_of, is_one, fitted, fitted_to}
+use Rattle.fir_meaning.specs.Values.{Scene, Spot, value, spot_of, beside, lone, is_one, fitted, fitted_to}
 
 abbrev pub same_step : PathStep → PathStep → Bool
 same_step (step.Field m) (step.Field n) = m == n
@@ -37,12 +37,15 @@ abbrev pub setting : ℕ → List PathStep → TypeLeaf × Value → Setting
 setting component way both =
     record { leaf = record { component = component; way = way ++ both.0.path }; integer = integer_of (fitted_to both.0 (integer_of both.1)) }
 
--- the leaves that are flipped, or those that aren't
+-- the leaf is flipped, or it isn't
+abbrev pub is_turned : Bool → TypeLeaf → Bool
+is_turned flip leaf = if flip then leaf.flip else not leaf.flip
+
 abbrev pub of_orientation : Bool → List (TypeLeaf × Value) → List (TypeLeaf × Value)
-of_orientation flip = filter (λ both. if flip then both.0.flip else not both.0.flip)
+of_orientation flip = filter (λ both. is_turned flip both.0)
 
 abbrev pub set_along : Bool → Spot → Option (List PathStep) → List Value → List Setting
-set_along flip spot (Some way) values = map (setting spot.component way) (of_orientation flip (zip (leaves spot.typ) values))
+set_along flip spot (Some way) values = map (setting spot.component way) (of_orientation flip (beside (lone []) (leaves spot.typ) values))
 set_along flip spot None values = []
 
 -- The leaves of one orientation at a spot are set, each to the value beside it, fitted to the leaf's own kind and width.

@@ -2,7 +2,7 @@
 --
 -- A connect is live for a leaf where no later statement of its own block, or of a block around it within the leaf's block, is
 -- certain for the leaf. An `invalidate` counts as a connect whose source mentions nothing.
-use Rattle.std.specs.Prelude.{◌≡◌, ℕ, ◌++◌, Bool, true, false, List, [], ◌∷◌, map, filter_map, zip, slice_get, Contains, Option, Some, None, if◌then◌else◌}
+use Rattle.std.specs.Prelude.{◌≡◌, ℕ, ◌++◌, Bool, true, false, List, [], ◌∷◌, map, filter_map, slice_get, Contains, Option, Some, None, if◌then◌else◌}
 use Rattle.std.specs.List.{list_any}
 use Rattle.fir_types.specs.declared.leaf.TypeLeaf.{TypeLeaf}
 use Rattle.fir_types.specs.declared.leaf.PathStep.{PathStep}
@@ -18,6 +18,7 @@ use Rattle.fir_tree.specs.declared.stmt.Stmt.{Stmt, fold-Stmt}
 use Rattle.fir_tree.specs.declared.stmt.Stmt.TheOpen.{Stmt-F, Arm-F}
 use Rattle.fir_tree.specs.declared.stmt.Stmt.TheFolds.{map-Stmt}
 use Rattle.fir_meaning.specs.Components.{Design, TypedModule, Component, Leaf, FlatLeaf, flat, A_memory, A_node, is_clock, type_in}
+use Rattle.fir_meaning.specs.Values.{beside}
 use Rattle.fir_meaning.specs.MemoryPorts.{MemoryPort, port_named}
 use Rattle.fir_meaning.specs.Mentions.{Scope, Region, joined, mentions, region_of}
 use Rattle.fir_meaning.specs.Certain as certainty
@@ -43,7 +44,7 @@ pub record DrivingArm : Type 0 where
 -- place, and the indices of the driven side.
 abbrev pub driven_from : Bool → Leaf → List (List Leaf) → Option Region → List Mentioned
 driven_from flip leaf sources (Some region) =
-    filter_map (λ both. if may_be flip region leaf both.0 then Some (region.indices ++ both.1) else None) (zip (leaves region.typ) sources)
+    filter_map (λ both. if may_be flip region leaf both.0 then Some (region.indices ++ both.1) else None) (beside [] (leaves region.typ) sources)
 driven_from flip leaf sources None = []
 
 -- A source that mentions nothing, for each leaf of the reference.

@@ -1,6 +1,6 @@
 -- What expressions mention (FIRRTL specification 3.0, "References" and "Expressions"), leaf by leaf, whatever the values are:
 -- an index over a vector may lead to each of its elements.
-use Rattle.std.specs.Prelude.{ℕ, ◌++◌, Bool, true, false, List, [], ◌∷◌, map, fold, flat_map, zip, Option, Some, None}
+use Rattle.std.specs.Prelude.{◌≡◌, ℕ, Contains, ◌++◌, Bool, true, false, List, [], ◌∷◌, map, fold, flat_map, zip, Option, Some, None}
 use Rattle.std.specs.List.{range_with_len}
 use Rattle.fir_types.specs.declared.fir_type.FirType.{FirType}
 use Rattle.fir_types.specs.declared.leaf.PathStep.{PathStep}
@@ -12,7 +12,7 @@ use Rattle.fir_tree.specs.declared.expr.Suffix.{Suffix, fold-Suffix}
 use Rattle.fir_tree.specs.declared.expr.Form.TheOpen.{Form-F, Suffix-F, Expr-F}
 use Rattle.fir_tree.specs.declared.expr.Form.TheViews.{out-Form}
 use Rattle.fir_meaning.specs.Components.{Leaf}
-use Rattle.fir_meaning.specs.Values.{field_type, element_type, vector_length}
+use Rattle.fir_meaning.specs.Values.{Integers, field_type, element_type, vector_length}
 
 -- The types of a module's components.
 abbrev pub Scope : Type 0
@@ -94,3 +94,7 @@ region_of_form types _ = None
 -- What an expression may name, where it is a reference.
 abbrev pub region_of : Scope → Expr → Option Region
 region_of types e = region_of_form types (out-Form e.form)
+
+-- Two integers for each leaf, which are the same for these leaves.
+pub record Agree (f g : Integers) (leaves : List Leaf) : Type 0 where
+  pub agree : (y : Leaf) → Contains leaves y → f y.component y.way ≡ g y.component y.way

@@ -36,10 +36,17 @@ use Rattle.fir_meaning.specs.Components.{TypedModule, kind_of_leaf, width_of_lea
 abbrev pub Valuation : Type 0
 Valuation = List ℕ → ℕ → List PathStep → ℤ
 
+-- An integer for each leaf of a module.
+abbrev pub Integers : Type 0
+Integers = ℕ → List PathStep → ℤ
+
 -- The types of a module's components, and an integer for each of their leaves.
 pub record Scene : Type 0 where
   pub types : ℕ → FirType
-  pub integers : ℕ → List PathStep → ℤ
+  pub integers : Integers
+
+abbrev pub scene_with : (ℕ → FirType) → Integers → Scene
+scene_with types integers = record { types = types; integers = integers }
 
 -- A leaf of an instance's port is that leaf of the port in the module of the instance.
 abbrev pub seen_through : Valuation → List ℕ → ℕ → Option ℕ → List PathStep → ℤ
@@ -48,7 +55,7 @@ seen_through rho path i _ way = rho path i way
 
 -- What the module at a path sees of a valuation.
 abbrev pub scene_of : TypedModule → List ℕ → Valuation → Scene
-scene_of m path rho = record { types = type_in m; integers = λ c way. seen_through rho path c (target_of m c) way }
+scene_of m path rho = scene_with (type_in m) (λ c way. seen_through rho path c (target_of m c) way)
 
 -- The value of a kind and a width that an integer is fitted to. No width of an accepted circuit is over 128.
 abbrev pub fitted : Kind → ℕ → ℤ → Value
@@ -68,6 +75,13 @@ fitted_to leaf n = fitted (kind_of_leaf leaf) (width_of_leaf leaf) n
 abbrev pub lone : List Value → Value
 lone [] = fitted Unsigned 0 (pos 0)
 lone (v ∷ vs) = v
+
+-- Each item of a list with the one at its place in another, and with this one where there is none. Between the leaves of a type
+-- and the values of an expression of that type each has one.
+abbrev pub beside : {A B : Type 0} → B → List A → List B → List (A × B)
+beside other [] bs = []
+beside other (a ∷ rest) [] = (a, other) ∷ beside other rest []
+beside other (a ∷ rest) (b ∷ bs) = (a, b) ∷ beside other rest bs
 
 -- A condition holds where its value is 1.
 abbrev pub is_one : List Value → Bool
