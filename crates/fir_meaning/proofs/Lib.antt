@@ -1,3 +1,4 @@
+mod Covering
 mod Tracking
 mod Equations
 mod Samples
