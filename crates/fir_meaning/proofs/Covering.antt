@@ -3,6 +3,7 @@ use Rattle.std.proofs.Common.{◌≡◌, ℕ, Bool, true, false, ◌&&◌, ◌||
 use Rattle.std.specs.Prelude.{Contains}
 use Rattle.std.specs.List.{flat_map, list_any, list_all}
 use Rattle.std.proofs.lemmas.Grind.{common_steps}
+use Rattle.std.proofs.lemmas.List.Elements.{Contains-append_cases}
 use Rattle.std.proofs.lemmas.List.Concat.{flat_map-cons}
 use Rattle.fir_meaning.specs.Components.{Leaf}
 use Rattle.fir_meaning.specs.Values.{Integers}
@@ -125,3 +126,127 @@ two_before f g d e e' ds es es' t later = record {
 pub block_two : {f g : Integers} {ds : List Driving} {es es' : List Effect} → Each f g ds es es' → Two f g (block_of ds) (in_turn es) (in_turn es')
 block_two no_more = record { here = nothing_one; there = nothing_one; same = λ a last. refl }
 block_two {f} {g} (one_more {d} {e} {e'} {ds} {es} {es'} t later) = two_before f g d e e' ds es es' t (block_two later)
+
+-- Agreement through crossed conditions
+
+agree_both : {f g : Integers} (xs ys : List Leaf) → Agree f g xs → Agree f g ys → Agree f g (xs ++ ys)
+agree_both xs ys a b = record { agree = λ y c. ⊎_elim (a.agree y) (b.agree y) (Contains-append_cases xs ys y c) }
+
+agree_first : {f g : Integers} (m : List Leaf) (ms : List (List Leaf)) → Agree f g (joined (m ∷ ms)) → Agree f g (m ++ joined ms)
+agree_first {f} {g} m ms a = subst (Agree f g) (flat_map-cons (λ l. l) m ms) a
+
+uncrossed : {f g : Integers} (cs : List Leaf) (live : List Mentioned) → Agree f g (joined (crossing cs live)) → Agree f g (joined live)
+uncrossed cs [] a = a
+uncrossed {f} {g} cs (m ∷ ms) a =
+    let split : Agree f g ((cs ++ m) ++ joined (crossing cs ms)) = agree_first (cs ++ m) (crossing cs ms) a in
+    let here : Agree f g m = agree-right cs m (agree-left (cs ++ m) (joined (crossing cs ms)) split) in
+    let later : Agree f g (joined ms) = uncrossed cs ms (agree-right (cs ++ m) (joined (crossing cs ms)) split) in
+    subst (Agree f g) (sym (flat_map-cons (λ l. l) m ms)) (agree_both m (joined ms) here later)
+
+-- there is a live connect, which crosses the conditions, or none
+crossed_or_none : (f g : Integers) (cs : List Leaf) (live : List Mentioned) → (live ≡ []) ⊎ (Agree f g (joined (crossing cs live)) → Agree f g cs)
+crossed_or_none f g cs [] = inl refl
+crossed_or_none f g cs (m ∷ ms) = inr (λ a. agree-left cs m (agree-left (cs ++ m) (joined (crossing cs ms)) (agree_first (cs ++ m) (crossing cs ms) a)))
+
+through_or_none : (f g : Integers) (cs : List Leaf) (arms : List DrivingArm) (other : List Mentioned)
+    → (through_arms cs arms other ≡ []) ⊎ (Agree f g (joined (through_arms cs arms other)) → Agree f g cs)
+through_or_none f g cs [] other = ⊎_elim (λ n. inl (ap (crossing cs) n)) inr (crossed_or_none f g cs other)
+through_or_none f g cs (arm ∷ arms) other =
+    let here : List Mentioned = crossing (cs ++ arm.condition) arm.live in
+    let later : List Mentioned = through_arms (cs ++ arm.condition) arms other in
+    ⊎_elim
+      (λ n. ⊎_elim
+          (λ m. inl (ap (λ l. crossing (cs ++ arm.condition) l ++ later) n ∙ m))
+          (λ h. inr (λ a. agree-left cs arm.condition (h (agree-right (joined here) (joined later) (subst (Agree f g) (joined-append here later) a)))))
+          (through_or_none f g (cs ++ arm.condition) arms other))
+      (λ h. inr (λ a. agree-left cs arm.condition (h (agree-left (joined here) (joined later) (subst (Agree f g) (joined-append here later) a)))))
+      (crossed_or_none f g (cs ++ arm.condition) arm.live)
+
+-- The arms of a `when`
+
+abbrev pub arm_driving : DrivingArm → Driving
+arm_driving arm = record { certain = arm.certain; live = arm.live }
+
+abbrev pub when_driving : Mentioned → List DrivingArm → Driving → Driving
+when_driving cs arms other = record { certain = list_all (λ a. a.certain) arms && other.certain; live = through_arms cs arms other.live }
+
+pub data Arms (f g : Integers) : List DrivingArm → List (Bool × Effect) → List (Bool × Effect) → Type 0 where
+  no_arm : Arms f g [] [] []
+  one_arm : {arm : DrivingArm} {p q : Bool} {e e' : Effect} {arms : List DrivingArm} {ps qs : List (Bool × Effect)} → (Agree f g arm.condition → p ≡ q)
+      → Two f g (arm_driving arm) e e' → Arms f g arms ps qs → Arms f g (arm ∷ arms) ((p, e) ∷ ps) ((q, e') ∷ qs)
+
+map_nil : {A B : Type 0} (h : A → B) (xs : List A) → map h xs ≡ [] → xs ≡ []
+map_nil h [] e = refl
+map_nil h (x ∷ xs) e = absurd (cons_nil (h x) (map h xs) e)
+
+else_one : (cs : Mentioned) (d : Driving) (e : Effect) → One d e → One (when_driving cs [] d) e
+else_one cs d e o = record {
+  quiet = λ n last. o.quiet (map_nil (λ l. cs ++ l) d.live n) last;
+  fixed = λ c last other. o.fixed c last other;
+  some = λ c last. o.some c last;
+  keeps = λ last h. o.keeps last h;
+  alive = λ c n. o.alive c (map_nil (λ l. cs ++ l) d.live n);
+}
+
+either_branch : (P : Effect → Type 0) (p : Bool) (x y : Effect) → P x → P y → P (if p then x else y)
+either_branch P true x y h k = h
+either_branch P false x y h k = k
+
+all_and : (a b c : Bool) → ((a && b) && c) ≡ true → (b && c) ≡ true
+all_and true b c e = e
+all_and false b c e = absurd (true≢false (sym e))
+
+arm_one : (cs : Mentioned) (arm : DrivingArm) (arms : List DrivingArm) (d : Driving) (p : Bool) (e later : Effect) → One (arm_driving arm) e
+    → One (when_driving (cs ++ arm.condition) arms d) later → One (when_driving cs (arm ∷ arms) d) (if p then e else later)
+arm_one cs arm arms d p e later o rest =
+    let here : List Mentioned = crossing (cs ++ arm.condition) arm.live in
+    let behind : List Mentioned = through_arms (cs ++ arm.condition) arms d.live in
+    record {
+      quiet = λ n. either_branch (λ x. (last : Option ℤ) → x last ≡ last) p e later
+          (o.quiet (map_nil (λ l. (cs ++ arm.condition) ++ l) arm.live (append_nil_left here behind n))) (rest.quiet (append_nil_right here behind n));
+      fixed = λ c. either_branch (λ x. (last other : Option ℤ) → x last ≡ x other) p e later
+          (o.fixed (and_left arm.certain (list_all (λ a. a.certain) arms) (and_left (arm.certain && list_all (λ a. a.certain) arms) d.certain c)))
+          (rest.fixed (all_and arm.certain (list_all (λ a. a.certain) arms) d.certain c));
+      some = λ c. either_branch (λ x. (last : Option ℤ) → is_some (x last) ≡ true) p e later
+          (o.some (and_left arm.certain (list_all (λ a. a.certain) arms) (and_left (arm.certain && list_all (λ a. a.certain) arms) d.certain c)))
+          (rest.some (all_and arm.certain (list_all (λ a. a.certain) arms) d.certain c));
+      keeps = either_branch (λ x. (last : Option ℤ) → is_some last ≡ true → is_some (x last) ≡ true) p e later o.keeps rest.keeps;
+      alive = λ c n. rest.alive (all_and arm.certain (list_all (λ a. a.certain) arms) d.certain c) (append_nil_right here behind n);
+    }
+
+branches_same : (p q : Bool) → p ≡ q → (x y u v : Effect) (last : Option ℤ) → x last ≡ y last → u last ≡ v last → (if p then x else u) last ≡ (if q then y else v) last
+branches_same true true e x y u v last h k = h
+branches_same true false e x y u v last h k = absurd (true≢false e)
+branches_same false true e x y u v last h k = absurd (true≢false (sym e))
+branches_same false false e x y u v last h k = k
+
+-- A `when` does what one statement does.
+pub when_two : {f g : Integers} {arms : List DrivingArm} {ps qs : List (Bool × Effect)} → Arms f g arms ps qs → (cs : Mentioned) (d : Driving) (e e' : Effect) → Two f g d e e'
+    → Two f g (when_driving cs arms d) (first_holding ps e) (first_holding qs e')
+when_two no_arm cs d e e' t = record { here = else_one cs d e t.here; there = else_one cs d e' t.there; same = λ a last. t.same (uncrossed cs d.live a) last }
+when_two {f} {g} (one_arm {arm} {p} {q} {e = x} {e' = x'} {arms} {ps} {qs} condition body rest) cs d e e' t =
+    let later : Two f g (when_driving (cs ++ arm.condition) arms d) (first_holding ps e) (first_holding qs e') = when_two rest (cs ++ arm.condition) d e e' t in
+    let front : List Mentioned = crossing (cs ++ arm.condition) arm.live in
+    let behind : List Mentioned = through_arms (cs ++ arm.condition) arms d.live in
+    let first : One (when_driving cs (arm ∷ arms) d) (if p then x else first_holding ps e) = arm_one cs arm arms d p x (first_holding ps e) body.here later.here in
+    let second : One (when_driving cs (arm ∷ arms) d) (if q then x' else first_holding qs e') = arm_one cs arm arms d q x' (first_holding qs e') body.there later.there in
+    record {
+      here = first;
+      there = second;
+      same = λ a last.
+          let split : Agree f g (joined front ++ joined behind) = subst (Agree f g) (joined-append front behind) a in
+          let left : Agree f g (joined front) = agree-left (joined front) (joined behind) split in
+          let right : Agree f g (joined behind) = agree-right (joined front) (joined behind) split in
+          let known : Agree f g (cs ++ arm.condition) → (if p then x else first_holding ps e) last ≡ (if q then x' else first_holding qs e') last =
+              λ all. branches_same p q (condition (agree-right cs arm.condition all)) x x' (first_holding ps e) (first_holding qs e') last
+                  (body.same (uncrossed (cs ++ arm.condition) arm.live left) last) (later.same right last) in
+          ⊎_elim
+            (λ n. ⊎_elim
+                (λ m.
+                    let none : front ++ behind ≡ [] = ap (λ l. crossing (cs ++ arm.condition) l ++ behind) n ∙ m in
+                    first.quiet none last ∙ sym (second.quiet none last))
+                (λ h. known (h right))
+                (through_or_none f g (cs ++ arm.condition) arms d.live))
+            (λ h. known (h left))
+            (crossed_or_none f g (cs ++ arm.condition) arm.live);
+    }
