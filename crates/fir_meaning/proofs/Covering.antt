@@ -43,11 +43,11 @@ is_empty (x ∷ xs) = false
 pub cons_nil : {A : Type 0} (x : A) (xs : List A) → x ∷ xs ≡ [] → ⊥
 cons_nil x xs e = true≢false (ap is_empty (sym e))
 
-append_nil_left : {A : Type 0} (xs ys : List A) → xs ++ ys ≡ [] → xs ≡ []
+pub append_nil_left : {A : Type 0} (xs ys : List A) → xs ++ ys ≡ [] → xs ≡ []
 append_nil_left [] ys e = refl
 append_nil_left (x ∷ xs) ys e = absurd (cons_nil x (xs ++ ys) e)
 
-append_nil_right : {A : Type 0} (xs ys : List A) → xs ++ ys ≡ [] → ys ≡ []
+pub append_nil_right : {A : Type 0} (xs ys : List A) → xs ++ ys ≡ [] → ys ≡ []
 append_nil_right [] ys e = e
 append_nil_right (x ∷ xs) ys e = absurd (cons_nil x (xs ++ ys) e)
 
@@ -59,7 +59,7 @@ pub true_or_false : (b : Bool) → (b ≡ true) ⊎ (b ≡ false)
 true_or_false true = inl refl
 true_or_false false = inr refl
 
-or_false : (a b : Bool) → b ≡ false → (a || b) ≡ true → a ≡ true
+pub or_false : (a b : Bool) → b ≡ false → (a || b) ≡ true → a ≡ true
 or_false true b q e = refl
 or_false false b q e = absurd (true≢false (sym e ∙ q))
 

@@ -1,3 +1,4 @@
+mod Sides
 mod Covering
 mod Tracking
 mod Equations

@@ -91,7 +91,7 @@ pub record Paired (f g : Integers) (region : Region) (s t : Spot) : Type 0 where
   pub within : (w : List PathStep) → s.way ≡ Some w → Contains region.ways w
   pub static : region.dynamic ≡ false → (w : List PathStep) × (s.way ≡ Some w) × (region.ways ≡ w ∷ [])
 
-Contains-map : {A B : Type 0} (h : A → B) (xs : List A) (x : A) → Contains xs x → Contains (map h xs) (h x)
+pub Contains-map : {A B : Type 0} (h : A → B) (xs : List A) (x : A) → Contains xs x → Contains (map h xs) (h x)
 Contains-map h [] x (k, below, is) = (k, below, refl)
 Contains-map h (y ∷ ys) x (zero, below, is) = (0, omega arith, ap h is)
 Contains-map h (y ∷ ys) x (suc k, below, is) =
@@ -114,10 +114,10 @@ Contains-range a (suc n) (suc k) below =
     let there : Contains (range_with_len (a + 1) n) (a + suc k) = subst (Contains (range_with_len (a + 1) n)) same rest in
     (suc there.0, omega arith, there.2)
 
-none_some : {A : Type 0} {x : A} → None ≡ Some x → ⊥
+pub none_some : {A : Type 0} {x : A} → None ≡ Some x → ⊥
 none_some e = true≢false (ap is_some (sym e))
 
-some_same : {A : Type 0} (x y : A) → Some x ≡ Some y → x ≡ y
+pub some_same : {A : Type 0} (x y : A) → Some x ≡ Some y → x ≡ y
 some_same x y e = ap (λ o. unwrap_or o x) e
 
 -- a fixed step
