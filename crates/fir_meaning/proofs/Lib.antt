@@ -1,3 +1,4 @@
+mod Blocks
 mod Sides
 mod Covering
 mod Tracking

@@ -2,7 +2,7 @@
 --
 -- The statements of a block are taken in text order, and of a `when` only the first arm whose condition is 1, or else the
 -- `else`. What they leave in a leaf is the last integer that one of them sets.
-use Rattle.std.specs.Prelude.{ℕ, ◌==◌, ◌&&◌, ◌++◌, not, Bool, true, false, List, [], ◌∷◌, map, fold, filter, ℤ, pos, Option, Some, None, if◌then◌else◌}
+use Rattle.std.specs.Prelude.{ℕ, ◌==◌, ◌&&◌, ◌++◌, not, Bool, true, false, List, [], ◌∷◌, map, fold, filter, ℤ, Option, Some, None, if◌then◌else◌}
 use Rattle.bit_words.specs.declared.value.Value.{Value}
 use Rattle.bit_words.specs.Values.{integer_of}
 use Rattle.fir_types.specs.declared.leaf.TypeLeaf.{TypeLeaf}
@@ -13,7 +13,7 @@ use Rattle.fir_tree.specs.declared.expr.Expr.{Expr}
 use Rattle.fir_tree.specs.declared.stmt.Stmt.{Stmt, fold-Stmt}
 use Rattle.fir_tree.specs.declared.stmt.Stmt.TheOpen.{Stmt-F, Arm-F}
 use Rattle.fir_meaning.specs.Components.{Leaf}
-use Rattle.fir_meaning.specs.Values.{Scene, Spot, value, spot_of, beside, lone, is_one, fitted, fitted_to}
+use Rattle.fir_meaning.specs.Values.{Scene, Spot, value, spot_of, beside, lone, is_one, fitted_to}
 
 abbrev pub same_step : PathStep → PathStep → Bool
 same_step (step.Field m) (step.Field n) = m == n
@@ -48,7 +48,8 @@ abbrev pub set_along : Bool → Spot → Option (List PathStep) → List Value �
 set_along flip spot (Some way) values = map (setting spot.component way) (of_orientation flip (beside (lone []) (leaves spot.typ) values))
 set_along flip spot None values = []
 
--- The leaves of one orientation at a spot are set, each to the value beside it, fitted to the leaf's own kind and width.
+-- The leaves of one orientation at a spot are set, each to the value beside it, fitted to the leaf's own kind and width, and to 0
+-- where there is none.
 -- Nothing is set where an index is out of its vector, and nothing by an expression that is no reference.
 abbrev pub set_at : Bool → Option Spot → List Value → List Setting
 set_at flip (Some spot) values = set_along flip spot spot.way values
@@ -59,12 +60,10 @@ set_at flip None values = []
 abbrev pub set_by_connect : Scene → Expr → Expr → List Setting
 set_by_connect scene left right = set_at false (spot_of scene left) (value right scene) ++ set_at true (spot_of scene right) (value left scene)
 
--- An `invalidate` sets each leaf of its reference to 0. Of what is set in a leaf that is only a source nothing is ever asked.
-abbrev pub zeros : List Value → List Value
-zeros = map (λ v. fitted v.kind v.width (pos 0))
-
+-- An `invalidate` sets each leaf of its reference to 0, as no value stands beside it. Of what is set in a leaf that is only a source
+-- nothing is ever asked.
 abbrev pub set_by_invalidate : Scene → Expr → List Setting
-set_by_invalidate scene target = set_at false (spot_of scene target) (zeros (value target scene)) ++ set_at true (spot_of scene target) (zeros (value target scene))
+set_by_invalidate scene target = set_at false (spot_of scene target) [] ++ set_at true (spot_of scene target) []
 
 -- What the settings leave in a leaf that held the last integer before.
 abbrev pub left_in : Leaf → Option ℤ → List Setting → Option ℤ

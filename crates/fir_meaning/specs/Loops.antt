@@ -47,10 +47,6 @@ driven_from flip leaf sources (Some region) =
     filter_map (λ both. if may_be flip region leaf both.0 then Some (region.indices ++ both.1) else None) (beside [] (leaves region.typ) sources)
 driven_from flip leaf sources None = []
 
--- A source that mentions nothing, for each leaf of the reference.
-abbrev pub nothing : List (List Leaf) → List (List Leaf)
-nothing = map (λ leaves. [])
-
 -- What later statements cover counts for nothing.
 abbrev pub live_from : List Driving → List Mentioned
 live_from [] = []
@@ -70,7 +66,7 @@ module _ (types : Scope) (leaf : Leaf) where
   live_in (Stmt-F.Connect left right) =
       driven_from false leaf (mentions right types) (region_of types left) ++ driven_from true leaf (mentions left types) (region_of types right)
   live_in (Stmt-F.Invalidate target) =
-      driven_from false leaf (nothing (mentions target types)) (region_of types target) ++ driven_from true leaf (nothing (mentions target types)) (region_of types target)
+      driven_from false leaf [] (region_of types target) ++ driven_from true leaf [] (region_of types target)
   live_in (Stmt-F.When arms other) = through_arms [] arms (live_from other)
   live_in _ = []
 
