@@ -16,11 +16,11 @@ use Rattle.fir_meaning.specs.Components.{Leaf}
 use Rattle.fir_meaning.specs.Values.{Integers, Scene, scene_with, value, spot_of, is_one}
 use Rattle.fir_meaning.specs.Mentions.{Scope, Agree, joined, mentions, region_of}
 use Rattle.fir_meaning.specs.Drives as drive
-use Rattle.fir_meaning.specs.Drives.{Effect, effect, in_turn, set_at, set_by_connect, set_by_invalidate, left_in}
+use Rattle.fir_meaning.specs.Drives.{Effect, effect, drives, in_turn, set_at, set_by_connect, set_by_invalidate, left_in}
 use Rattle.fir_meaning.specs.Certain as certainty
 use Rattle.fir_meaning.specs.Certain.{certain, is_certain}
 use Rattle.fir_meaning.specs.Loops as loop
-use Rattle.fir_meaning.specs.Loops.{Driving, DrivingArm, driving}
+use Rattle.fir_meaning.specs.Loops.{Driving, DrivingArm, driving, live}
 use Rattle.fir_meaning.proofs.Tracking.{tracked, all_same, tracks_none}
 use Rattle.fir_meaning.proofs.Covering.{One, Two, Each, no_more, one_more, block_of, block_two, Arms, no_arm, one_arm, arm_driving, when_driving, when_two}
 use Rattle.fir_meaning.proofs.Sides.{named_by, side, side_two, both_of, both_two, left_in-append}
@@ -209,3 +209,29 @@ pub understood : (s : Stmt) → Understood s
 understood = ind-Stmt Understood ArmUnderstood
     (λ x y is. subst (λ z. Understood (roll-Stmt z)) is (statement_case y))
     (λ x y is. subst (λ z. ArmUnderstood (roll-Arm z)) is (arm_case y))
+
+-- A block
+
+block_each : (types : Scope) (leaf : Leaf) (f g : Integers) (block : List Stmt)
+    → Each f g (map (driving types leaf) block) (map (effect (scene_with types f) leaf) block) (map (effect (scene_with types g) leaf) block)
+block_each types leaf f g [] = no_more
+block_each types leaf f g (s ∷ block) = one_more ((understood s).two types leaf f g) (block_each types leaf f g block)
+
+certain_block : (types : Scope) (leaf : Leaf) (block : List Stmt) → is_certain types leaf block ≡ list_any (λ d. d.certain) (map (driving types leaf) block)
+certain_block types leaf [] = refl
+certain_block types leaf (s ∷ block) =
+    ap (λ b. b || is_certain types leaf block) ((understood s).agrees types leaf) ∙ ap (λ b. (driving types leaf s).certain || b) (certain_block types leaf block)
+
+pub block_does : (types : Scope) (leaf : Leaf) (f g : Integers) (block : List Stmt)
+    → Two f g (block_of (map (driving types leaf) block)) (in_turn (map (effect (scene_with types f) leaf) block)) (in_turn (map (effect (scene_with types g) leaf) block))
+block_does types leaf f g block = block_two (block_each types leaf f g block)
+
+pub certain_drives : (types : Scope) (leaf : Leaf) (block : List Stmt) (f : Integers) → is_certain types leaf block ≡ true → is_some (drives (scene_with types f) leaf block) ≡ true
+certain_drives types leaf block f c = (block_does types leaf f f block).here.some (sym (certain_block types leaf block) ∙ c) None
+
+pub drives_same : (types : Scope) (leaf : Leaf) (block : List Stmt) (f g : Integers) → Agree f g (joined (live types leaf block))
+    → drives (scene_with types f) leaf block ≡ drives (scene_with types g) leaf block
+drives_same types leaf block f g a = (block_does types leaf f g block).same a None
+
+pub drives_none : (types : Scope) (leaf : Leaf) (block : List Stmt) (f : Integers) → live types leaf block ≡ [] → drives (scene_with types f) leaf block ≡ None
+drives_none types leaf block f n = (block_does types leaf f f block).here.quiet n None

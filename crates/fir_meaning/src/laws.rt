@@ -1,14 +1,34 @@
 //! Laws of the definitions. The functions do nothing.
 
-ghost use Rattle.std.specs.Prelude.{◌≡◌, ℕ, List, slice_get, Some};
+ghost use Rattle.std.specs.Prelude.{◌≡◌, ℕ, List, [], slice_get, Some, None, IsSome, true};
 ghost use Rattle.fir_types.specs.declared.leaf.PathStep.{PathStep as Step};
 ghost use Rattle.fir_tree.specs.declared.expr.Expr.{Expr as TheExpr};
+ghost use Rattle.fir_tree.specs.declared.stmt.Stmt.{Stmt as TheStmt};
 ghost use Rattle.fir_meaning.specs.Components.{Leaf};
 ghost use Rattle.fir_meaning.specs.Values.{Integers, scene_with, value};
 ghost use Rattle.fir_meaning.specs.Mentions.{Scope, Agree, joined, mentions};
+ghost use Rattle.fir_meaning.specs.Drives.{drives};
+ghost use Rattle.fir_meaning.specs.Certain.{is_certain};
+ghost use Rattle.fir_meaning.specs.Loops.{live};
 
 /// The value of an expression depends only on the leaves that it mentions, leaf by leaf.
 pub fn values_follow_mentions()
     ensures whole { (e : TheExpr) (types : Scope) (f g : Integers) → Agree f g (joined (mentions e types)) → value e (scene_with types f) ≡ value e (scene_with types g) }
     ensures each { (e : TheExpr) (types : Scope) (f g : Integers) (k : ℕ) (mentioned : List Leaf) → slice_get (mentions e types) k ≡ Some mentioned → Agree f g mentioned → slice_get (value e (scene_with types f)) k ≡ slice_get (value e (scene_with types g)) k }
+{}
+
+/// What the statements of a block leave in a leaf depends only on the leaves that its live connects mention, in an index, in a
+/// condition or in their sources.
+pub fn drives_follow_live_connects()
+    ensures { (block : List TheStmt) (leaf : Leaf) (types : Scope) (f g : Integers) → Agree f g (joined (live types leaf block)) → drives (scene_with types f) leaf block ≡ drives (scene_with types g) leaf block }
+{}
+
+/// A block without a live connect of a leaf leaves nothing in it.
+pub fn undriven_without_live_connects()
+    ensures { (block : List TheStmt) (leaf : Leaf) (types : Scope) (f : Integers) → live types leaf block ≡ [] → drives (scene_with types f) leaf block ≡ None }
+{}
+
+/// Statements that are certain for a leaf leave something in it, whatever the leaves of the module are.
+pub fn certain_statements_drive()
+    ensures { (block : List TheStmt) (leaf : Leaf) (types : Scope) (f : Integers) → is_certain types leaf block ≡ true → IsSome (drives (scene_with types f) leaf block) }
 {}
