@@ -1,3 +1,4 @@
+mod Chains
 mod Blocks
 mod Sides
 mod Covering

@@ -3,7 +3,7 @@
 --
 -- All declarations of a module have different names, wherever they stand, so a component is known by the number of its name.
 -- A leaf of a module is a component and the way to one of its ground parts. Where two have one name, the first counts.
-use Rattle.std.specs.Prelude.{◌≡◌, ℕ, ◌==◌, ◌++◌, drop, length, Bool, true, false, List, [], ◌∷◌, map, filter_map, flat_map, find, zip, Option, Some, None, option_and_then, if◌then◌else◌}
+use Rattle.std.specs.Prelude.{◌≡◌, ℕ, Contains, ◌==◌, ◌++◌, drop, length, Bool, true, false, List, [], ◌∷◌, map, filter_map, flat_map, find, zip, Option, Some, None, option_and_then, if◌then◌else◌}
 use Rattle.bit_words.specs.declared.value.Kind.{Kind}
 use Rattle.bit_words.specs.declared.value.Kind.TheVariants.{Unsigned, Signed}
 use Rattle.fir_types.specs.declared.fir_type.FirType.{FirType}
@@ -172,12 +172,14 @@ typed_ports m = filter_map (λ c. port_of c c.declaration.sort) m.components
 abbrev pub ports_bundle : Memory → FirType → FirType
 ports_bundle memory element = record { place = nowhere; shape = shape.Bundle (filter_map (port_field element (depth_of memory)) memory.lines) }
 
--- In an accepted circuit an instance has the leaves of its module's ports, inputs flipped, and a memory those of its ports.
+-- In an accepted circuit each component is the one of its name, an instance has the leaves of its module's ports, inputs flipped,
+-- and a memory those of its ports.
 pub record HasBundles (design : Design) : Type 0 where
-  pub instances : (path : List ℕ) (m n : TypedModule) (c : Component) (target : ℕ) → module_at design path ≡ Some m → component_named m c.declaration.name ≡ Some c → c.declaration.sort ≡ An_instance target
-      → module_named design target ≡ Some n → leaves c.typ ≡ leaves (instance_of (typed_ports n))
-  pub memories : (path : List ℕ) (m : TypedModule) (c : Component) (memory : Memory) → module_at design path ≡ Some m → component_named m c.declaration.name ≡ Some c → c.declaration.sort ≡ A_memory memory
-      → (element : FirType) × (leaves c.typ ≡ leaves (ports_bundle memory element))
+  pub names : (path : List ℕ) (m : TypedModule) (c : Component) → module_at design path ≡ Some m → Contains m.components c → component_named m c.declaration.name ≡ Some c
+  pub instances : (path : List ℕ) (m : TypedModule) (c : Component) (target : ℕ) → module_at design path ≡ Some m → component_named m c.declaration.name ≡ Some c
+      → c.declaration.sort ≡ An_instance target → (n : TypedModule) × (module_named design target ≡ Some n) × (leaves c.typ ≡ leaves (instance_of (typed_ports n)))
+  pub memories : (path : List ℕ) (m : TypedModule) (c : Component) (memory : Memory) → module_at design path ≡ Some m → component_named m c.declaration.name ≡ Some c
+      → c.declaration.sort ≡ A_memory memory → (element : FirType) × (leaves c.typ ≡ leaves (ports_bundle memory element))
 
 -- How a leaf may be used: as a source, as a sink, or as both.
 pub data Flow : Type 0 where

@@ -111,3 +111,17 @@ pub data ReadsThrough (design : Design) : FlatLeaf → FlatLeaf → Type 0 where
 -- A loop is a chain of reads from a leaf to itself.
 pub record HasNoLoop (design : Design) : Type 0 where
   pub none : (x : FlatLeaf) → ¬ (ReadsThrough design x x)
+
+-- The leaf of the run is a leaf of a component.
+pub record IsLeafOf (design : Design) (x : FlatLeaf) : Type 0 where
+  pub path : List ℕ
+  pub m : TypedModule
+  pub c : Component
+  pub leaf : TypeLeaf
+  pub stands : Stands design path m c leaf
+  pub is : flat m path (leaf_of c leaf) ≡ x
+
+-- These are all leaves of the run, and what a leaf reads is one of them: so it is in an accepted circuit, whose instances end.
+pub record HasLeaves (design : Design) (all : List FlatLeaf) : Type 0 where
+  pub listed : (x : FlatLeaf) → IsLeafOf design x → Contains all x
+  pub closed : (x y : FlatLeaf) → ReadsLeaf design x y → IsLeafOf design y
