@@ -1,3 +1,4 @@
+mod Ports
 mod Chains
 mod Blocks
 mod Sides

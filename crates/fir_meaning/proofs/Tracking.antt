@@ -98,7 +98,7 @@ Contains-map h (y ∷ ys) x (suc k, below, is) =
     let rest = Contains-map h ys x (k, omega arith, is) in
     (suc rest.0, omega arith, rest.2)
 
-Contains-flat_map : {A B : Type 0} (h : A → List B) (xs : List A) (x : A) (y : B) → Contains xs x → Contains (h x) y → Contains (flat_map h xs) y
+pub Contains-flat_map : {A B : Type 0} (h : A → List B) (xs : List A) (x : A) (y : B) → Contains xs x → Contains (h x) y → Contains (flat_map h xs) y
 Contains-flat_map h [] x y (k, below, is) c = absurd (omega arith)
 Contains-flat_map h (z ∷ zs) x y (zero, below, is) c =
     subst (λ l. Contains l y) (sym (flat_map-cons h z zs)) (Contains-append_left (h z) (flat_map h zs) y (subst (λ a. Contains (h a) y) (sym is) c))
