@@ -1,3 +1,4 @@
+mod Settling
 mod Ports
 mod Chains
 mod Blocks

@@ -26,7 +26,7 @@ use Rattle.fir_meaning.proofs.Covering.{true_or_false}
 one_later : {A : Type 0} (z : A) (xs : List A) (x : A) → Contains xs x → Contains (z ∷ xs) x
 one_later z xs x (k, below, is) = (suc k, omega arith, is)
 
-from_map : {A B : Type 0} (h : A → B) (xs : List A) (y : B) → Contains (map h xs) y → (x : A) × Contains xs x × (h x ≡ y)
+pub from_map : {A B : Type 0} (h : A → B) (xs : List A) (y : B) → Contains (map h xs) y → (x : A) × Contains xs x × (h x ≡ y)
 from_map h [] y (k, below, is) = absurd (omega arith)
 from_map h (x ∷ xs) y (zero, below, is) = (x, (0, omega arith, refl), is)
 from_map h (x ∷ xs) y (suc k, below, is) =
@@ -96,7 +96,7 @@ at_snoc : (design : Design) (path : List ℕ) (i : ℕ) → module_at design (pa
 at_snoc design path i =
     and_within (λ n. module_within design n path) (λ n. inside design n i) (λ n. module_within design n (path ++ i ∷ [])) (λ n. within_snoc design n path i) (module_named design design.main)
 
-last_of_path : (path : List ℕ) → (path ≡ []) ⊎ ((front : List ℕ) × (i : ℕ) × (path ≡ front ++ i ∷ []))
+pub last_of_path : (path : List ℕ) → (path ≡ []) ⊎ ((front : List ℕ) × (i : ℕ) × (path ≡ front ++ i ∷ []))
 last_of_path [] = inl refl
 last_of_path (j ∷ path) = inr (⊎_elim
     (λ e. ([], j, ap (λ p. j ∷ p) e))
@@ -105,14 +105,14 @@ last_of_path (j ∷ path) = inr (⊎_elim
 
 -- Components
 
-found : {A : Type 0} (test : A → Bool) (xs : List A) (x : A) → find test xs ≡ Some x → (test x ≡ true) × Contains xs x
+pub found : {A : Type 0} (test : A → Bool) (xs : List A) (x : A) → find test xs ≡ Some x → (test x ≡ true) × Contains xs x
 found test [] x e = absurd (none_some e)
 found {A} test (y ∷ ys) x e = by_test (test y) refl e (λ f. found test ys x f) where
   by_test : (b : Bool) → test y ≡ b → cond b (Some y) (find test ys) ≡ Some x → (find test ys ≡ Some x → (test x ≡ true) × Contains ys x) → (test x ≡ true) × Contains (y ∷ ys) x
   by_test true q e h = (ap test (sym (some_same y x e)) ∙ q, (0, omega arith, some_same y x e))
   by_test false q e h = let rest = h e in (rest.0, one_later y ys x rest.1)
 
-same_number : (a b : ℕ) → (a == b) ≡ true → a ≡ b
+pub same_number : (a b : ℕ) → (a == b) ≡ true → a ≡ b
 same_number a b e = grind (arith, common_steps)
 
 pub component_found : (m : TypedModule) (name : ℕ) (c : Component) → component_named m name ≡ Some c → (c.declaration.name ≡ name) × Contains m.components c
