@@ -119,3 +119,96 @@ memory_way memory element leaf c =
     let inner = from_flat_map (λ f. map (within (step.Field f.name.id) f.flip) (leaves f.typ)) bundle.1 part.0 (subst (λ l. Contains l part.0) (bundle_leaves bundle.0 bundle.1) there) in
     let last = from_map (within (step.Field inner.0.name.id) inner.0.flip) (leaves inner.0.typ) part.0 inner.2 in
     (port.name.id, inner.0.name.id, last.0.path, sym (ap (λ l. l.path) part.2) ∙ ap (λ p. step.Field port.name.id ∷ p) (sym (ap (λ l. l.path) last.2)))
+
+-- One leaf, where what it reads is the same
+
+port_target : (sort : Sort) → is_port sort ≡ true → target_in sort ≡ None
+port_target An_input e = refl
+port_target An_output e = refl
+port_target A_wire e = refl
+port_target (A_register clock) e = refl
+port_target (A_reset_register clock reset init) e = refl
+port_target (A_memory memory) e = refl
+port_target (An_instance target) e = absurd (true≢false (sym e))
+port_target (A_node expr) e = refl
+
+flat_none : (path : List ℕ) (i : ℕ) (way : List PathStep) → flat_through path i None way ≡ record { path = path; component = i; way = way }
+flat_none path i [] = refl
+flat_none path i (step.Field x ∷ way) = refl
+flat_none path i (step.Element n ∷ way) = refl
+
+-- a leaf of an instance, and that of the port inside, are one leaf of the run
+one_leaf : (path : List ℕ) (m n : TypedModule) (c p : Component) (leaf part : TypeLeaf) (target : ℕ) → component_named m c.declaration.name ≡ Some c → c.declaration.sort ≡ An_instance target
+    → component_named n p.declaration.name ≡ Some p → is_port p.declaration.sort ≡ true → leaf.path ≡ step.Field p.declaration.name ∷ part.path
+    → flat m path (leaf_of c leaf) ≡ flat n (path ++ c.declaration.name ∷ []) (leaf_of p part)
+one_leaf path m n c p leaf part target declared sort inner is way =
+    let none : target_of n p.declaration.name ≡ None = ap (option_and_then (λ x. target_in x.declaration.sort)) inner ∙ port_target p.declaration.sort is in
+    ap (λ o. flat_through path c.declaration.name o leaf.path) (target_is m c target declared sort)
+    ∙ (ap (flat_through path c.declaration.name (Some target)) way
+    ∙ sym (ap (λ o. flat_through (path ++ c.declaration.name ∷ []) p.declaration.name o part.path) none ∙ flat_none (path ++ c.declaration.name ∷ []) p.declaration.name part.path))
+
+driven_by : (c : Component) (leaf : TypeLeaf) → is_source (flow_of c.declaration.sort leaf.flip) ≡ false → is_register c.declaration.sort ≡ false → is_clock leaf ≡ false → is_driven c leaf ≡ true
+driven_by c leaf s r k =
+    ap (λ b. not b && (not (is_register c.declaration.sort) && not (is_clock leaf))) s ∙ (ap (λ b. not b && not (is_clock leaf)) r ∙ ap not k)
+
+port_register : (sort : Sort) → is_port sort ≡ true → is_register sort ≡ false
+port_register An_input e = refl
+port_register An_output e = refl
+port_register A_wire e = refl
+port_register (A_register clock) e = absurd (true≢false (sym e))
+port_register (A_reset_register clock reset init) e = absurd (true≢false (sym e))
+port_register (A_memory memory) e = refl
+port_register (An_instance target) e = refl
+port_register (A_node expr) e = refl
+
+instance_flip : (flip : Bool) (target : ℕ) → is_source (flow_of (An_instance target) flip) ≡ not flip
+instance_flip true target = refl
+instance_flip false target = refl
+
+memory_flip : (flip : Bool) (memory : Memory) → is_source (flow_of (A_memory memory) flip) ≡ not flip
+memory_flip true memory = refl
+memory_flip false memory = refl
+
+not_turned : (b : Bool) → not b ≡ true → b ≡ false
+not_turned true e = absurd (true≢false (sym e))
+not_turned false e = refl
+
+module _ (design : Design) (has : HasBundles design) (s : State) (given : Inputs) (rho other : Valuation) (one : Settled design s given rho) (two : Settled design s given other) where
+  abbrev Below : FlatLeaf → Type 0
+  Below x = (y : FlatLeaf) → ReadsLeaf design x y → at rho y ≡ at other y
+
+  by_seen : (path : List ℕ) (m : TypedModule) (c : Component) (leaf : TypeLeaf) → seen m path rho c leaf ≡ seen m path other c leaf
+      → at rho (flat m path (leaf_of c leaf)) ≡ at other (flat m path (leaf_of c leaf))
+  by_seen path m c leaf e = sym (seen_at m path rho c leaf) ∙ (e ∙ seen_at m path other c leaf)
+
+  driven_same : (path : List ℕ) (m : TypedModule) (c : Component) (leaf : TypeLeaf) → Stands design path m c leaf → is_driven c leaf ≡ true → Below (flat m path (leaf_of c leaf))
+      → at rho (flat m path (leaf_of c leaf)) ≡ at other (flat m path (leaf_of c leaf))
+  driven_same path m c leaf stands d below =
+      let agree : Agree (local m path rho) (local m path other) (joined (live (type_in m) (leaf_of c leaf) c.declaration.block)) =
+          agree_at m path rho other (joined (live (type_in m) (leaf_of c leaf) c.declaration.block)) (λ y r. below (flat m path y) (by_connect path m c leaf y stands d r)) in
+      let same = drives_same (type_in m) (leaf_of c leaf) c.declaration.block (local m path rho) (local m path other) agree in
+      by_seen path m c leaf (some_same _ _ (sym (one.driven path m c leaf stands d) ∙ (same ∙ two.driven path m c leaf stands d)))
+
+  by_mention : (path : List ℕ) (m : TypedModule) (c : Component) (leaf : TypeLeaf) (e : Expr) → Stands design path m c leaf → c.declaration.sort ≡ A_node e → is_clock leaf ≡ false
+      → Below (flat m path (leaf_of c leaf)) → (k : ℕ) → slice_get (leaves c.typ) k ≡ Some leaf → (vs ws : List Value)
+      → Tracks (local m path rho) (local m path other) (mentions e (type_in m)) vs ws → {x y : ℤ} → slice_get (map integer_of vs) k ≡ Some x → slice_get (map integer_of ws) k ≡ Some y
+      → (o : Option Mentioned) → slice_get (mentions e (type_in m)) k ≡ o → x ≡ y
+  by_mention path m c leaf e stands sort clock below k there vs ws tracks {x} {y} a b (Some mentioned) q =
+      let agree : Agree (local m path rho) (local m path other) mentioned =
+          agree_at m path rho other mentioned (λ z r. below (flat m path z) (by_node path m c leaf e k mentioned z stands sort clock there q r)) in
+      some_same x y (sym a ∙ (get-map integer_of vs k ∙ (ap (option_map integer_of) (each_same tracks k mentioned q agree) ∙ (sym (get-map integer_of ws k) ∙ b))))
+  by_mention path m c leaf e stands sort clock below k there vs ws tracks {x} {y} a b None q =
+      absurd (none_some (sym (ap (option_map integer_of) (none_at tracks k q)) ∙ (sym (get-map integer_of vs k) ∙ a)))
+
+  node_same : (path : List ℕ) (m : TypedModule) (c : Component) (leaf : TypeLeaf) (e : Expr) → Stands design path m c leaf → c.declaration.sort ≡ A_node e → is_clock leaf ≡ false
+      → Below (flat m path (leaf_of c leaf)) → at rho (flat m path (leaf_of c leaf)) ≡ at other (flat m path (leaf_of c leaf))
+  node_same path m c leaf e stands sort clock below =
+      let k : ℕ = stands.listed.0 in
+      let there : slice_get (leaves c.typ) k ≡ Some leaf = get_there (leaves c.typ) leaf stands.listed in
+      let values : Valuation → List Value = λ r. value e (scene_of m path r) in
+      let at_rho : slice_get (map integer_of (values rho)) k ≡ Some (seen m path rho c leaf) =
+          sym (ap (λ l. slice_get l k) (one.nodes path m c e stands.reached stands.declared sort)) ∙ (get-map (seen m path rho c) (leaves c.typ) k ∙ ap (option_map (seen m path rho c)) there) in
+      let at_other : slice_get (map integer_of (values other)) k ≡ Some (seen m path other c leaf) =
+          sym (ap (λ l. slice_get l k) (two.nodes path m c e stands.reached stands.declared sort)) ∙ (get-map (seen m path other c) (leaves c.typ) k ∙ ap (option_map (seen m path other c)) there) in
+      let tracks = tracked e (type_in m) (local m path rho) (local m path other) in
+      by_seen path m c leaf (by_mention path m c leaf e stands sort clock below k there (values rho) (values other) tracks at_rho at_other (slice_get (mentions e (type_in m)) k) refl)
