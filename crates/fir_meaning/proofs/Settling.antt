@@ -1,5 +1,5 @@
 -- Two valuations that settle in one cycle agree on every leaf, where no leaf reads itself.
-use Rattle.std.proofs.Common.{◌≡◌, ◌≢◌, ℕ, zero, suc, ◌+◌, ◌<◌, Bool, true, false, not, ◌&&◌, cond, List, [], ◌∷◌, ◌++◌, map, length, slice_get, filter_map, Option, Some, None, option_map, option_and_then, ℤ, pos, nat_lt, unsigned_abs, refl, sym, ap, ap₂, ◌∙◌, subst, arith, true≢false, if◌then◌else◌, ◌⊎◌, inl, inr, ⊎_elim, int_eq}
+use Rattle.std.proofs.Common.{◌≡◌, ◌≢◌, ℕ, zero, suc, ◌+◌, ◌<◌, ◌==◌, Bool, true, false, not, ◌&&◌, cond, List, [], ◌∷◌, ◌++◌, map, length, slice_get, filter_map, Option, Some, None, option_map, option_and_then, ℤ, pos, nat_lt, unsigned_abs, refl, sym, ap, ap₂, ◌∙◌, subst, arith, true≢false, if◌then◌else◌, ◌⊎◌, inl, inr, ⊎_elim, int_eq}
 use Rattle.std.specs.Prelude.{Contains}
 use Rattle.std.proofs.lemmas.Grind.{common_steps}
 use Rattle.place_text.specs.declared.place.Place.{Place}
@@ -212,3 +212,95 @@ module _ (design : Design) (has : HasBundles design) (s : State) (given : Inputs
           sym (ap (λ l. slice_get l k) (two.nodes path m c e stands.reached stands.declared sort)) ∙ (get-map (seen m path other c) (leaves c.typ) k ∙ ap (option_map (seen m path other c)) there) in
       let tracks = tracked e (type_in m) (local m path rho) (local m path other) in
       by_seen path m c leaf (by_mention path m c leaf e stands sort clock below k there (values rho) (values other) tracks at_rho at_other (slice_get (mentions e (type_in m)) k) refl)
+
+  memory_same : (path : List ℕ) (m : TypedModule) (c : Component) (leaf : TypeLeaf) (memory : Memory) → Stands design path m c leaf → c.declaration.sort ≡ A_memory memory → leaf.flip ≡ false
+      → Below (flat m path (leaf_of c leaf)) → at rho (flat m path (leaf_of c leaf)) ≡ at other (flat m path (leaf_of c leaf))
+  memory_same path m c leaf memory stands sort turned below =
+      let bundle = has.memories path m c memory stands.reached stands.declared sort in
+      let way = memory_way memory bundle.0 leaf (subst (λ l. Contains l leaf) bundle.1 stands.listed) in
+      by_seen path m c leaf (by_latency (read_latency_of memory) refl way)
+    where
+    by_latency : (latency : ℕ) → read_latency_of memory ≡ latency → (port : ℕ) × (inner : ℕ) × (way : List PathStep) × (leaf.path ≡ step.Field port ∷ step.Field inner ∷ way)
+        → seen m path rho c leaf ≡ seen m path other c leaf
+    by_latency zero e (port, inner, way, is) =
+        let same = read_same memory (local m path rho c.declaration.name) (local m path other c.declaration.name) (s.contents path c.declaration.name) port way (port_named memory port) refl
+            (λ q named by goes.
+                let name : q.name ≡ port = same_number q.name port (found (λ x. x.name == port) (memory_ports memory) q named).0 in
+                let y : Leaf = record { component = c.declaration.name; way = step.Field port ∷ step.Field by ∷ [] } in
+                let here : local m path rho c.declaration.name (step.Field port ∷ step.Field by ∷ []) ≡ local m path other c.declaration.name (step.Field port ∷ step.Field by ∷ []) =
+                    local_at m path rho y ∙ (below (flat m path y) (by_port path m c leaf memory q port inner way stands sort e turned is named by goes) ∙ sym (local_at m path other y)) in
+                subst (λ z. local m path rho c.declaration.name (step.Field z ∷ step.Field by ∷ []) ≡ local m path other c.declaration.name (step.Field z ∷ step.Field by ∷ [])) (sym name) here) in
+        one.reads path m c leaf memory port inner way stands sort e turned is ∙ (same ∙ sym (two.reads path m c leaf memory port inner way stands sort e turned is))
+    by_latency (suc n) e (port, inner, way, is) =
+        let later : read_latency_of memory ≢ 0 = λ z. let bad : suc n ≡ 0 = sym e ∙ z in absurd (omega arith) in
+        one.captured path m c leaf memory port inner way stands sort later turned is ∙ sym (two.captured path m c leaf memory port inner way stands sort later turned is)
+
+  -- a port's leaf that is a source inside
+  port_same : (path : List ℕ) (m : TypedModule) (c : Component) (leaf : TypeLeaf) → Stands design path m c leaf → is_port c.declaration.sort ≡ true
+      → is_source (flow_of c.declaration.sort leaf.flip) ≡ true → is_clock leaf ≡ false → Below (flat m path (leaf_of c leaf))
+      → at rho (flat m path (leaf_of c leaf)) ≡ at other (flat m path (leaf_of c leaf))
+  port_same path m c leaf stands is source clock below = ⊎_elim
+      (λ e.
+          let here : Stands design [] m c leaf = subst (λ p. Stands design p m c leaf) e stands in
+          by_seen path m c leaf
+              (subst (λ p. seen m p rho c leaf ≡ seen m p other c leaf) (sym e) (one.inputs m c leaf here is source clock ∙ sym (two.inputs m c leaf here is source clock))))
+      (λ above.
+          let there : Stands design (above.0 ++ above.1 ∷ []) m c leaf = subst (λ p. Stands design p m c leaf) above.2 stands in
+          let out = port_outside design has above.0 above.1 m c leaf there is in
+          let same : flat out.0 above.0 (leaf_of out.1 out.2) ≡ flat m path (leaf_of c leaf) =
+              one_leaf above.0 out.0 m out.1 c out.2 leaf out.3 out.4.declared out.6 stands.declared is out.8
+              ∙ ap (λ p. flat m p (leaf_of c leaf)) (ap (λ i. above.0 ++ i ∷ []) out.5 ∙ sym above.2) in
+          let flow : is_source (flow_of out.1.declaration.sort out.2.flip) ≡ false =
+              ap (λ sort. is_source (flow_of sort out.2.flip)) out.6 ∙ (instance_flip out.2.flip out.3 ∙ ap not (out.7 ∙ source)) in
+          let driven : is_driven out.1 out.2 ≡ true = driven_by out.1 out.2 flow (ap is_register out.6) (out.9 ∙ clock) in
+          subst (λ x. at rho x ≡ at other x) same (driven_same above.0 out.0 out.1 out.2 out.4 driven (subst Below (sym same) below)))
+      (last_of_path path)
+
+  -- an instance's leaf that is a source outside
+  instance_same : (path : List ℕ) (m : TypedModule) (c : Component) (leaf : TypeLeaf) (target : ℕ) → Stands design path m c leaf → c.declaration.sort ≡ An_instance target → leaf.flip ≡ false
+      → is_clock leaf ≡ false → Below (flat m path (leaf_of c leaf)) → at rho (flat m path (leaf_of c leaf)) ≡ at other (flat m path (leaf_of c leaf))
+  instance_same path m c leaf target stands sort turned clock below =
+      let within_it = instance_inside design has path m c leaf target stands sort in
+      let same : flat m path (leaf_of c leaf) ≡ flat within_it.0 (path ++ c.declaration.name ∷ []) (leaf_of within_it.1 within_it.2) =
+          one_leaf path m within_it.0 c within_it.1 leaf within_it.2 target stands.declared sort within_it.3.declared within_it.4 within_it.6 in
+      let driven : is_driven within_it.1 within_it.2 ≡ true =
+          driven_by within_it.1 within_it.2 (within_it.5 ∙ turned) (port_register within_it.1.declaration.sort within_it.4) (sym within_it.7 ∙ clock) in
+      subst (λ x. at rho x ≡ at other x) (sym same) (driven_same (path ++ c.declaration.name ∷ []) within_it.0 within_it.1 within_it.2 within_it.3 driven (subst Below same below))
+
+  source_same : (path : List ℕ) (m : TypedModule) (c : Component) (leaf : TypeLeaf) → Stands design path m c leaf → is_source (flow_of c.declaration.sort leaf.flip) ≡ true
+      → is_clock leaf ≡ false → Below (flat m path (leaf_of c leaf)) → (sort : Sort) → c.declaration.sort ≡ sort → at rho (flat m path (leaf_of c leaf)) ≡ at other (flat m path (leaf_of c leaf))
+  source_same path m c leaf stands source clock below An_input e = port_same path m c leaf stands (ap is_port e) source clock below
+  source_same path m c leaf stands source clock below An_output e = port_same path m c leaf stands (ap is_port e) source clock below
+  source_same path m c leaf stands source clock below A_wire e = absurd (true≢false (sym source ∙ ap (λ x. is_source (flow_of x leaf.flip)) e))
+  source_same path m c leaf stands source clock below (A_register k) e = absurd (true≢false (sym source ∙ ap (λ x. is_source (flow_of x leaf.flip)) e))
+  source_same path m c leaf stands source clock below (A_reset_register k reset init) e = absurd (true≢false (sym source ∙ ap (λ x. is_source (flow_of x leaf.flip)) e))
+  source_same path m c leaf stands source clock below (A_memory memory) e =
+      memory_same path m c leaf memory stands e (not_turned leaf.flip (sym (memory_flip leaf.flip memory) ∙ (ap (λ x. is_source (flow_of x leaf.flip)) (sym e) ∙ source))) below
+  source_same path m c leaf stands source clock below (An_instance target) e =
+      instance_same path m c leaf target stands e (not_turned leaf.flip (sym (instance_flip leaf.flip target) ∙ (ap (λ x. is_source (flow_of x leaf.flip)) (sym e) ∙ source))) clock below
+  source_same path m c leaf stands source clock below (A_node expr) e = node_same path m c leaf expr stands e clock below
+
+  leaf_same : (path : List ℕ) (m : TypedModule) (c : Component) (leaf : TypeLeaf) → Stands design path m c leaf → Below (flat m path (leaf_of c leaf))
+      → at rho (flat m path (leaf_of c leaf)) ≡ at other (flat m path (leaf_of c leaf))
+  leaf_same path m c leaf stands below = ⊎_elim
+      (λ clock. by_seen path m c leaf (one.clocks path m c leaf stands clock ∙ sym (two.clocks path m c leaf stands clock)))
+      (λ clock. ⊎_elim
+          (λ source. source_same path m c leaf stands source clock below c.declaration.sort refl)
+          (λ flow. ⊎_elim
+              (λ register. by_seen path m c leaf (one.registers path m c leaf stands register ∙ sym (two.registers path m c leaf stands register)))
+              (λ register. driven_same path m c leaf stands (driven_by c leaf flow register clock) below)
+              (true_or_false (is_register c.declaration.sort)))
+          (true_or_false (is_source (flow_of c.declaration.sort leaf.flip))))
+      (true_or_false (is_clock leaf))
+
+  all_same_from : (all : List FlatLeaf) → HasLeaves design all → (x : FlatLeaf) → Ends design x → IsLeafOf design x → at rho x ≡ at other x
+  all_same_from all leaves_of x (ends h) l =
+      subst (λ z. at rho z ≡ at other z) l.is
+          (leaf_same l.path l.m l.c l.leaf l.stands
+              (λ y r. let read : ReadsLeaf design x y = subst (λ z. ReadsLeaf design z y) l.is r in all_same_from all leaves_of y (h y read) (leaves_of.closed x y read)))
+
+-- Any two settled valuations agree on every leaf.
+pub settled_agree : (design : Design) (all : List FlatLeaf) → HasBundles design → HasNoLoop design → HasLeaves design all → (s : State) (given : Inputs) (rho other : Valuation)
+    → Settled design s given rho → Settled design s given other → (x : FlatLeaf) → IsLeafOf design x → at rho x ≡ at other x
+settled_agree design all has none leaves_of s given rho other one two x l =
+    all_same_from design has s given rho other one two all leaves_of x (chains_end design all none leaves_of x l) l

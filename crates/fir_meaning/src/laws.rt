@@ -4,12 +4,13 @@ ghost use Rattle.std.specs.Prelude.{◌≡◌, ℕ, List, [], slice_get, Some, N
 ghost use Rattle.fir_types.specs.declared.leaf.PathStep.{PathStep as Step};
 ghost use Rattle.fir_tree.specs.declared.expr.Expr.{Expr as TheExpr};
 ghost use Rattle.fir_tree.specs.declared.stmt.Stmt.{Stmt as TheStmt};
-ghost use Rattle.fir_meaning.specs.Components.{Leaf};
-ghost use Rattle.fir_meaning.specs.Values.{Integers, scene_with, value};
+ghost use Rattle.fir_meaning.specs.Components.{Design, Leaf, FlatLeaf, HasBundles};
+ghost use Rattle.fir_meaning.specs.Values.{Integers, Valuation, scene_with, value};
 ghost use Rattle.fir_meaning.specs.Mentions.{Scope, Agree, joined, mentions};
 ghost use Rattle.fir_meaning.specs.Drives.{drives};
 ghost use Rattle.fir_meaning.specs.Certain.{is_certain};
-ghost use Rattle.fir_meaning.specs.Loops.{live};
+ghost use Rattle.fir_meaning.specs.States.{State, Inputs, Settled};
+ghost use Rattle.fir_meaning.specs.Loops.{live, HasNoLoop, IsLeafOf, HasLeaves};
 
 /// The value of an expression depends only on the leaves that it mentions, leaf by leaf.
 pub fn values_follow_mentions()
@@ -31,4 +32,11 @@ pub fn undriven_without_live_connects()
 /// Statements that are certain for a leaf leave something in it, whatever the leaves of the module are.
 pub fn certain_statements_drive()
     ensures { (block : List TheStmt) (leaf : Leaf) (types : Scope) (f : Integers) → is_certain types leaf block ≡ true → IsSome (drives (scene_with types f) leaf block) }
+{}
+
+/// Where no leaf reads itself through a chain, any two valuations that are settled for one state and the same inputs agree on
+/// every leaf of the run. The circuit's leaves are finitely many, what a leaf reads is one of them, and instances and memories
+/// have the leaves of their ports, as in every accepted circuit.
+pub fn settled_valuations_agree()
+    ensures { (design : Design) (all : List FlatLeaf) → HasBundles design → HasNoLoop design → HasLeaves design all → (state : State) (given : Inputs) (rho other : Valuation) → Settled design state given rho → Settled design state given other → (x : FlatLeaf) → IsLeafOf design x → rho x.path x.component x.way ≡ other x.path x.component x.way }
 {}
