@@ -1,3 +1,4 @@
+mod ExampleOfARun
 mod Settling
 mod Ports
 mod Chains

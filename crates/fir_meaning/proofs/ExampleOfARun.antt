@@ -1,0 +1,220 @@
+-- A whole run: the counter
+--   input clock : Clock
+--   input reset : UInt<1>
+--   output out : UInt<4>
+--   regreset r : UInt<4>, clock, reset, UInt<4>(0)
+--   connect r, tail(add(r, UInt<4>(1)), 1)
+--   connect out, r
+-- with the reset at 1 in the first cycle shows 0, 0, 1 and 2. The names are 10 to 13, and 30 is the module.
+use Rattle.std.proofs.Common.{◌≡◌, ℕ, zero, suc, ◌<◌, Bool, true, false, cond, List, [], ◌∷◌, map, length, slice_index_or, refl, Some, None, Option, option_and_then, arith, ℤ, pos, ap, sym, ◌∙◌, subst, ◌==◌, if◌then◌else◌, true≢false}
+use Rattle.std.specs.Prelude.{Contains}
+use Rattle.std.proofs.lemmas.Grind.{common_steps}
+use Rattle.fir_types.specs.declared.fir_type.FirType.{FirType, the_lemmas as type_lemmas}
+use Rattle.fir_types.specs.declared.leaf.TypeLeaf.{TypeLeaf}
+use Rattle.fir_types.specs.declared.leaf.PathStep.{PathStep}
+use Rattle.fir_types.specs.Leaves.{leaves}
+use Rattle.fir_tree.specs.declared.expr.Expr.{Expr, the_lemmas as expr_lemmas}
+use Rattle.fir_tree.specs.declared.stmt.Stmt.{Stmt, the_lemmas as stmt_lemmas}
+use Rattle.fir_tree.specs.declared.stmt.Stmt.TheVariants as stmt
+use Rattle.prim_ops.specs.declared.operation.PrimOp.TheVariants.{Add, Tail}
+use Rattle.fir_meaning.specs.Components.{Design, TypedModule, Component, Sort, An_input, An_output, A_reset_register, A_node, A_memory, Leaf, flow_of, is_clock, target_in, target_of, module_at, module_within, module_named, component_named, with_types}
+use Rattle.fir_meaning.specs.Values.{Valuation, scene_of}
+use Rattle.fir_meaning.specs.Drives.{drives}
+use Rattle.fir_meaning.specs.States.{State, Inputs, Stands, Settled, Trace, ended, cycle, first_state, next, next_of_register, row, watched, is_register, is_port, is_driven, is_source, seen, leaf_of}
+use Rattle.fir_meaning.proofs.Samples.{place, name, uint, clock_type, ref, literal, op, connect, leaf, input, output}
+use Rattle.fir_meaning.proofs.Tracking.{none_some, some_same}
+use Rattle.fir_meaning.proofs.Ports.{component_found}
+
+abbrev later : List Stmt
+later = connect (ref 13) (op Tail (op Add (ref 13 ∷ literal 4 1 ∷ []) [] ∷ []) (1 ∷ [])) ∷ connect (ref 12) (ref 13) ∷ []
+
+abbrev body : List Stmt
+body = stmt.RegReset (name 13) (uint 4) (ref 10) (ref 11) (literal 4 0) ∷ later
+
+abbrev clock : Component
+clock = record { declaration = record { name = 10; sort = An_input; block = body; behind = body }; typ = clock_type }
+
+abbrev reset : Component
+reset = record { declaration = record { name = 11; sort = An_input; block = body; behind = body }; typ = uint 1 }
+
+abbrev out : Component
+out = record { declaration = record { name = 12; sort = An_output; block = body; behind = body }; typ = uint 4 }
+
+abbrev register : Component
+register = record { declaration = record { name = 13; sort = A_reset_register (ref 10) (ref 11) (literal 4 0); block = body; behind = later }; typ = uint 4 }
+
+abbrev counter : TypedModule
+counter = record { name = 30; components = clock ∷ reset ∷ out ∷ register ∷ [] }
+
+abbrev design : Design
+design = record { main = 30; modules = counter ∷ [] }
+
+-- It is the design of the text's module with these types.
+is_of_text : with_types (record { name = name 30; ports = input 10 clock_type ∷ input 11 (uint 1) ∷ output 12 (uint 4) ∷ []; body = body } ∷ [])
+    (clock_type ∷ uint 1 ∷ uint 4 ∷ uint 4 ∷ []) ≡ counter ∷ []
+is_of_text = grind (arith, common_steps, stmt_lemmas)
+
+-- Its leaves are four.
+
+abbrev whole_leaf : FirType → TypeLeaf
+whole_leaf t = record { path = []; flip = false; typ = t }
+
+clock_leaves : leaves clock_type ≡ whole_leaf clock_type ∷ []
+clock_leaves = grind (arith, common_steps, type_lemmas)
+
+uint_leaves : (width : ℕ) → leaves (uint width) ≡ whole_leaf (uint width) ∷ []
+uint_leaves width = grind (arith, common_steps, type_lemmas)
+
+the_one : {A : Type 0} (x y : A) → Contains (x ∷ []) y → x ≡ y
+the_one x y (zero, below, is) = is
+the_one x y (suc k, below, is) = absurd (omega arith)
+
+no_target : (a b c d : Bool) → option_and_then (λ x. target_in x.declaration.sort) (cond a (Some clock) (cond b (Some reset) (cond c (Some out) (cond d (Some register) None)))) ≡ None
+no_target true b c d = refl
+no_target false true c d = refl
+no_target false false true d = refl
+no_target false false false true = refl
+no_target false false false false = refl
+
+only_main : (path : List ℕ) (m : TypedModule) → module_at design path ≡ Some m → (path ≡ []) × (m ≡ counter)
+only_main [] m e = (refl, sym (some_same _ _ e))
+only_main (i ∷ path) m e = absurd (none_some (sym (ap (λ o. option_and_then (λ n. module_within design n path) (option_and_then (module_named design) o)) (no_target (10 == i) (11 == i) (12 == i) (13 == i))) ∙ e))
+
+module _ (P : List ℕ → TypedModule → Component → TypeLeaf → Type 0) (at_clock : P [] counter clock (whole_leaf clock_type)) (at_reset : P [] counter reset (whole_leaf (uint 1)))
+    (at_out : P [] counter out (whole_leaf (uint 4))) (at_register : P [] counter register (whole_leaf (uint 4))) where
+  of_component : (c : Component) (leaf : TypeLeaf) → (k : ℕ) → k < 4 → slice_index_or counter.components k c ≡ c → Contains (leaves c.typ) leaf → P [] counter c leaf
+  of_component c leaf zero below is l =
+      subst (λ x. P [] counter x leaf) is (subst (P [] counter clock) (the_one _ leaf (subst (λ x. Contains x leaf) (ap (λ x. leaves x.typ) (sym is) ∙ clock_leaves) l)) at_clock)
+  of_component c leaf (suc zero) below is l =
+      subst (λ x. P [] counter x leaf) is (subst (P [] counter reset) (the_one _ leaf (subst (λ x. Contains x leaf) (ap (λ x. leaves x.typ) (sym is) ∙ uint_leaves 1) l)) at_reset)
+  of_component c leaf (suc (suc zero)) below is l =
+      subst (λ x. P [] counter x leaf) is (subst (P [] counter out) (the_one _ leaf (subst (λ x. Contains x leaf) (ap (λ x. leaves x.typ) (sym is) ∙ uint_leaves 4) l)) at_out)
+  of_component c leaf (suc (suc (suc zero))) below is l =
+      subst (λ x. P [] counter x leaf) is (subst (P [] counter register) (the_one _ leaf (subst (λ x. Contains x leaf) (ap (λ x. leaves x.typ) (sym is) ∙ uint_leaves 4) l)) at_register)
+  of_component c leaf (suc (suc (suc (suc k)))) below is l = absurd (omega arith)
+
+  each_leaf : (path : List ℕ) (m : TypedModule) (c : Component) (leaf : TypeLeaf) → Stands design path m c leaf → P path m c leaf
+  each_leaf path m c leaf stands =
+      let where_ = only_main path m stands.reached in
+      let among = (component_found counter c.declaration.name c (subst (λ x. component_named x c.declaration.name ≡ Some c) where_.1 stands.declared)).1 in
+      subst (λ p. P p m c leaf) (sym where_.0) (subst (λ x. P [] x c leaf) (sym where_.1) (of_component c leaf among.0 among.1 among.2 stands.listed))
+
+-- A cycle with this reset in which the register holds r
+
+abbrev given : ℕ → Inputs
+given n c way = if c == 11 then pos n else pos 0
+
+abbrev holding : ℕ → ℕ → Valuation
+holding n r path c way = if c == 11 then pos n else if c == 12 then pos r else if c == 13 then pos r else pos 0
+
+abbrev is_node : Sort → Bool
+is_node (A_node e) = true
+is_node _ = false
+
+abbrev is_memory : Sort → Bool
+is_memory (A_memory m) = true
+is_memory _ = false
+
+not_clock : (width : ℕ) → is_clock (whole_leaf (uint width)) ≡ false
+not_clock width = grind (arith, common_steps, type_lemmas)
+
+clock_is_clock : is_clock (whole_leaf clock_type) ≡ true
+clock_is_clock = grind (arith, common_steps, type_lemmas)
+
+clock_not_driven : is_driven clock (whole_leaf clock_type) ≡ false
+clock_not_driven = refl
+
+no_node : (c : Component) (k : ℕ) → k < 4 → slice_index_or counter.components k c ≡ c → is_node c.declaration.sort ≡ false
+no_node c zero below is = ap (λ x. is_node x.declaration.sort) (sym is)
+no_node c (suc zero) below is = ap (λ x. is_node x.declaration.sort) (sym is)
+no_node c (suc (suc zero)) below is = ap (λ x. is_node x.declaration.sort) (sym is)
+no_node c (suc (suc (suc zero))) below is = ap (λ x. is_node x.declaration.sort) (sym is)
+no_node c (suc (suc (suc (suc k)))) below is = absurd (omega arith)
+
+settled : (s : State) (n r : ℕ) → s.registers [] 13 [] ≡ pos r → drives (scene_of counter [] (holding n r)) (leaf 12 []) body ≡ Some (pos r) → Settled design s (given n) (holding n r)
+settled s n r held driven_out = record {
+  clocks = each_leaf (λ path m c leaf. is_clock leaf ≡ true → seen m path (holding n r) c leaf ≡ pos 0)
+      (λ e. refl)
+      (λ e. absurd (true≢false (sym e ∙ not_clock 1)))
+      (λ e. absurd (true≢false (sym e ∙ not_clock 4)))
+      (λ e. absurd (true≢false (sym e ∙ not_clock 4)));
+  inputs = λ m c leaf stands.
+      each_leaf (λ path m c leaf. is_port c.declaration.sort ≡ true → is_source (flow_of c.declaration.sort leaf.flip) ≡ true → is_clock leaf ≡ false
+          → seen m path (holding n r) c leaf ≡ given n c.declaration.name leaf.path)
+        (λ p f k. absurd (true≢false (sym clock_is_clock ∙ k)))
+        (λ p f k. refl)
+        (λ p f k. absurd (true≢false (sym f)))
+        (λ p f k. absurd (true≢false (sym p)))
+        [] m c leaf stands;
+  registers = each_leaf (λ path m c leaf. is_register c.declaration.sort ≡ true → seen m path (holding n r) c leaf ≡ s.registers path c.declaration.name leaf.path)
+      (λ e. absurd (true≢false (sym e)))
+      (λ e. absurd (true≢false (sym e)))
+      (λ e. absurd (true≢false (sym e)))
+      (λ e. sym held);
+  nodes = λ path m c e reached declared sort.
+      let main = only_main path m reached in
+      let among = (component_found counter c.declaration.name c (subst (λ x. component_named x c.declaration.name ≡ Some c) main.1 declared)).1 in
+      absurd (true≢false (sym (ap is_node sort) ∙ no_node c among.0 among.1 among.2));
+  reads = λ path m c leaf memory port field way stands sort.
+      absurd (true≢false (sym (ap is_memory sort) ∙ each_leaf (λ path m c leaf. is_memory c.declaration.sort ≡ false) refl refl refl refl path m c leaf stands));
+  captured = λ path m c leaf memory port field way stands sort.
+      absurd (true≢false (sym (ap is_memory sort) ∙ each_leaf (λ path m c leaf. is_memory c.declaration.sort ≡ false) refl refl refl refl path m c leaf stands));
+  driven = each_leaf (λ path m c leaf. is_driven c leaf ≡ true → drives (scene_of m path (holding n r)) (leaf_of c leaf) c.declaration.block ≡ Some (seen m path (holding n r) c leaf))
+      (λ e. absurd (true≢false (sym e)))
+      (λ e. absurd (true≢false (sym e)))
+      (λ e. driven_out)
+      (λ e. absurd (true≢false (sym e)));
+}
+
+out_0 : drives (scene_of counter [] (holding 1 0)) (leaf 12 []) body ≡ Some (pos 0)
+out_0 = grind (arith, common_steps, stmt_lemmas, expr_lemmas, type_lemmas)
+
+out_0_again : drives (scene_of counter [] (holding 0 0)) (leaf 12 []) body ≡ Some (pos 0)
+out_0_again = grind (arith, common_steps, stmt_lemmas, expr_lemmas, type_lemmas)
+
+out_1 : drives (scene_of counter [] (holding 0 1)) (leaf 12 []) body ≡ Some (pos 1)
+out_1 = grind (arith, common_steps, stmt_lemmas, expr_lemmas, type_lemmas)
+
+out_2 : drives (scene_of counter [] (holding 0 2)) (leaf 12 []) body ≡ Some (pos 2)
+out_2 = grind (arith, common_steps, stmt_lemmas, expr_lemmas, type_lemmas)
+
+resets : (held : ℤ) → next_of_register (scene_of counter [] (holding 1 0)) register register.declaration.sort [] held ≡ pos 0
+resets held = grind (arith, common_steps, stmt_lemmas, expr_lemmas, type_lemmas)
+
+counts_to_1 : (held : ℤ) → next_of_register (scene_of counter [] (holding 0 0)) register register.declaration.sort [] held ≡ pos 1
+counts_to_1 held = grind (arith, common_steps, stmt_lemmas, expr_lemmas, type_lemmas)
+
+counts_to_2 : (held : ℤ) → next_of_register (scene_of counter [] (holding 0 1)) register register.declaration.sort [] held ≡ pos 2
+counts_to_2 held = grind (arith, common_steps, stmt_lemmas, expr_lemmas, type_lemmas)
+
+next_at : (s : State) (n r : ℕ) → (next design s (holding n r)).registers [] 13 []
+    ≡ next_of_register (scene_of counter [] (holding n r)) register register.declaration.sort [] (s.registers [] 13 [])
+next_at s n r = refl
+
+watches : watched design ≡ leaf 12 [] ∷ []
+watches = grind (arith, common_steps, type_lemmas)
+
+row_is : (n r : ℕ) → row design (holding n r) ≡ pos r ∷ []
+row_is n r = ap (map (λ leaf. holding n r [] leaf.component leaf.way)) watches
+
+one_cycle : (s : State) (n r : ℕ) (rest : List Inputs) (rows : List (List ℤ)) → s.registers [] 13 [] ≡ pos r → drives (scene_of counter [] (holding n r)) (leaf 12 []) body ≡ Some (pos r)
+    → Trace design (next design s (holding n r)) rest rows → Trace design s (given n ∷ rest) ((pos r ∷ []) ∷ rows)
+one_cycle s n r rest rows held driven_out t =
+    subst (λ first. Trace design s (given n ∷ rest) (first ∷ rows)) (row_is n r) (cycle (holding n r) (settled s n r held driven_out) t)
+
+abbrev after_first : State
+after_first = next design first_state (holding 1 0)
+
+abbrev after_second : State
+after_second = next design after_first (holding 0 0)
+
+abbrev after_third : State
+after_third = next design after_second (holding 0 1)
+
+-- cycle out: 0 0, 1 0, 2 1, 3 2
+runs : Trace design first_state (given 1 ∷ given 0 ∷ given 0 ∷ given 0 ∷ []) ((pos 0 ∷ []) ∷ (pos 0 ∷ []) ∷ (pos 1 ∷ []) ∷ (pos 2 ∷ []) ∷ [])
+runs =
+    one_cycle first_state 1 0 _ _ refl out_0
+        (one_cycle after_first 0 0 _ _ (next_at first_state 1 0 ∙ resets _) out_0_again
+            (one_cycle after_second 0 1 _ _ (next_at after_first 0 0 ∙ counts_to_1 _) out_1
+                (one_cycle after_third 0 2 _ _ (next_at after_second 0 1 ∙ counts_to_2 _) out_2 ended)))
