@@ -17,10 +17,12 @@ use Rattle.fir_tree.specs.declared.expr.Expr.{Expr, the_lemmas as expr_lemmas}
 use Rattle.fir_tree.specs.declared.stmt.Stmt.{Stmt, the_lemmas as stmt_lemmas}
 use Rattle.fir_tree.specs.declared.stmt.Stmt.TheVariants as stmt
 use Rattle.prim_ops.specs.declared.operation.PrimOp.TheVariants.{Add, Tail}
-use Rattle.fir_meaning.specs.Components.{Design, TypedModule, Component, Sort, An_input, An_output, A_reset_register, A_node, A_memory, Leaf, flow_of, is_clock, target_in, target_of, module_at, module_within, module_named, component_named, with_types}
+use Rattle.fir_meaning.specs.Components.{Design, TypedModule, Component, Sort, An_input, An_output, A_reset_register, A_node, A_memory, An_instance, Leaf, FlatLeaf, HasBundles, flat, flow_of, type_in, is_clock, target_in, target_of, module_at, module_within, module_named, component_named, with_types}
 use Rattle.fir_meaning.specs.Values.{Valuation, scene_of}
 use Rattle.fir_meaning.specs.Drives.{drives}
 use Rattle.fir_meaning.specs.States.{State, Inputs, Stands, Settled, Trace, ended, cycle, first_state, next, next_of_register, row, watched, is_register, is_port, is_driven, is_source, seen, leaf_of}
+use Rattle.fir_meaning.specs.Mentions.{joined}
+use Rattle.fir_meaning.specs.Loops.{live, ReadsLeaf, by_connect, by_node, by_port, ReadsThrough, directly, through, HasNoLoop, HasLeaves}
 use Rattle.fir_meaning.proofs.Samples.{place, name, uint, clock_type, ref, literal, op, connect, leaf, input, output}
 use Rattle.fir_meaning.proofs.Tracking.{none_some, some_same}
 use Rattle.fir_meaning.proofs.Ports.{component_found}
@@ -218,3 +220,85 @@ runs =
         (one_cycle after_first 0 0 _ _ (next_at first_state 1 0 ∙ resets _) out_0_again
             (one_cycle after_second 0 1 _ _ (next_at after_first 0 0 ∙ counts_to_1 _) out_1
                 (one_cycle after_third 0 2 _ _ (next_at after_second 0 1 ∙ counts_to_2 _) out_2 ended)))
+
+-- The counter is as the law on settled valuations asks: its bundles, its leaves, and no loop.
+
+abbrev at_name : ℕ → FlatLeaf
+at_name c = record { path = []; component = c; way = [] }
+
+live_of_out : joined (live (type_in counter) (leaf 12 []) body) ≡ leaf 13 [] ∷ []
+live_of_out = grind (arith, common_steps, stmt_lemmas, expr_lemmas, type_lemmas)
+
+-- the output reads the register, and nothing else reads anything
+only_read : (x y : FlatLeaf) → ReadsLeaf design x y → (x ≡ at_name 12) × (y ≡ at_name 13)
+only_read x y (by_connect path m c leaf read stands d among) =
+    each_leaf (λ path m c part. (z : Leaf) → is_driven c part ≡ true → Contains (joined (live (type_in m) (leaf_of c part) c.declaration.block)) z
+        → (flat m path (leaf_of c part) ≡ at_name 12) × (flat m path z ≡ at_name 13))
+      (λ z e r. absurd (true≢false (sym e)))
+      (λ z e r. absurd (true≢false (sym e)))
+      (λ z e r. (refl, ap (flat counter []) (sym (the_one _ z (subst (λ l. Contains l z) live_of_out r)))))
+      (λ z e r. absurd (true≢false (sym e)))
+      path m c leaf stands read d among
+only_read x y (by_node path m c leaf e k mentioned read stands sort unclocked there is among) =
+    absurd (true≢false (sym (ap is_node sort) ∙ each_leaf (λ path m c leaf. is_node c.declaration.sort ≡ false) refl refl refl refl path m c leaf stands))
+only_read x y (by_port path m c leaf memory port name field way stands sort latency turned is named by goes) =
+    absurd (true≢false (sym (ap is_memory sort) ∙ each_leaf (λ path m c leaf. is_memory c.declaration.sort ≡ false) refl refl refl refl path m c leaf stands))
+
+apart : at_name 13 ≡ at_name 12 → ⊥
+apart e = true≢false (sym (ap (λ x. x.component == 12) e))
+
+begins_at_out : (x y : FlatLeaf) → ReadsThrough design x y → x ≡ at_name 12
+begins_at_out x y (directly r) = (only_read x y r).0
+begins_at_out x y (through r rest) = (only_read x _ r).0
+
+no_loop_at : (x y : FlatLeaf) → ReadsThrough design x y → x ≡ y → ⊥
+no_loop_at x y (directly r) same = apart (sym (only_read x y r).1 ∙ (sym same ∙ (only_read x y r).0))
+no_loop_at x y (through {y = z} r rest) same = apart (sym (only_read x z r).1 ∙ begins_at_out z y rest)
+
+no_loop : HasNoLoop design
+no_loop = record { none = λ x r. no_loop_at x x r refl }
+
+stands_at : (c : Component) (typ : FirType) → component_named counter c.declaration.name ≡ Some c → Contains (leaves c.typ) (whole_leaf typ) → Stands design [] counter c (whole_leaf typ)
+stands_at c typ declared listed = record { reached = refl; declared = declared; listed = listed }
+
+flat_leaves : HasLeaves design (at_name 10 ∷ at_name 11 ∷ at_name 12 ∷ at_name 13 ∷ [])
+flat_leaves = record {
+  listed = λ x l. subst (Contains (at_name 10 ∷ at_name 11 ∷ at_name 12 ∷ at_name 13 ∷ [])) l.is
+      (each_leaf (λ path m c leaf. Contains (at_name 10 ∷ at_name 11 ∷ at_name 12 ∷ at_name 13 ∷ []) (flat m path (leaf_of c leaf)))
+          (0, omega arith, refl) (1, omega arith, refl) (2, omega arith, refl) (3, omega arith, refl) l.path l.m l.c l.leaf l.stands);
+  closed = λ x y r. record {
+    path = [];
+    m = counter;
+    c = register;
+    leaf = whole_leaf (uint 4);
+    stands = stands_at register (uint 4) refl (subst (λ l. Contains l (whole_leaf (uint 4))) (sym (uint_leaves 4)) (0, omega arith, refl));
+    is = sym (only_read x y r).1;
+  };
+}
+
+abbrev is_instance : Sort → Bool
+is_instance (An_instance target) = true
+is_instance _ = false
+
+simple : (c : Component) (k : ℕ) → k < 4 → slice_index_or counter.components k c ≡ c → (component_named counter c.declaration.name ≡ Some c) × (is_instance c.declaration.sort ≡ false) × (is_memory c.declaration.sort ≡ false)
+simple c zero below is = subst (λ x. (component_named counter x.declaration.name ≡ Some x) × (is_instance x.declaration.sort ≡ false) × (is_memory x.declaration.sort ≡ false)) is (refl, refl, refl)
+simple c (suc zero) below is = subst (λ x. (component_named counter x.declaration.name ≡ Some x) × (is_instance x.declaration.sort ≡ false) × (is_memory x.declaration.sort ≡ false)) is (refl, refl, refl)
+simple c (suc (suc zero)) below is = subst (λ x. (component_named counter x.declaration.name ≡ Some x) × (is_instance x.declaration.sort ≡ false) × (is_memory x.declaration.sort ≡ false)) is (refl, refl, refl)
+simple c (suc (suc (suc zero))) below is = subst (λ x. (component_named counter x.declaration.name ≡ Some x) × (is_instance x.declaration.sort ≡ false) × (is_memory x.declaration.sort ≡ false)) is (refl, refl, refl)
+simple c (suc (suc (suc (suc k)))) below is = absurd (omega arith)
+
+in_counter : (path : List ℕ) (m : TypedModule) (c : Component) → module_at design path ≡ Some m → component_named m c.declaration.name ≡ Some c → Contains counter.components c
+in_counter path m c reached declared =
+    (component_found counter c.declaration.name c (subst (λ x. component_named x c.declaration.name ≡ Some c) (only_main path m reached).1 declared)).1
+
+bundles : HasBundles design
+bundles = record {
+  names = λ path m c reached among.
+      let main : m ≡ counter = (only_main path m reached).1 in
+      let here : Contains counter.components c = subst (λ x. Contains x.components c) main among in
+      subst (λ x. component_named x c.declaration.name ≡ Some c) (sym main) (simple c here.0 here.1 here.2).0;
+  instances = λ path m c target reached declared sort.
+      let here = in_counter path m c reached declared in absurd (true≢false (sym (ap is_instance sort) ∙ (simple c here.0 here.1 here.2).1));
+  memories = λ path m c memory reached declared sort.
+      let here = in_counter path m c reached declared in absurd (true≢false (sym (ap is_memory sort) ∙ (simple c here.0 here.1 here.2).2));
+}
