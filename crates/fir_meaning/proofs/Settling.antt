@@ -24,7 +24,7 @@ use Rattle.fir_meaning.specs.Components.{Design, TypedModule, Component, Leaf, F
 use Rattle.fir_meaning.specs.Values.{Valuation, Integers, scene_of, scene_with, seen_through, value}
 use Rattle.fir_meaning.specs.Drives.{drives}
 use Rattle.fir_meaning.specs.MemoryPorts.{MemoryPort, Contents, Leaves, memory_ports, port_named, field, asks_to_read, is_within, address, port_read, read_of, read_by}
-use Rattle.fir_meaning.specs.States.{State, Inputs, Stands, Settled, seen, leaf_of, is_port, is_source, is_register, is_driven}
+use Rattle.fir_meaning.specs.States.{State, SameState, Inputs, Stands, Settled, seen, leaf_of, is_port, is_source, is_register, is_driven}
 use Rattle.fir_meaning.specs.Mentions.{Agree, joined, mentions}
 use Rattle.fir_meaning.specs.Loops.{Mentioned, live, read_goes_by, ReadsLeaf, by_connect, by_node, by_port, HasNoLoop, IsLeafOf, HasLeaves}
 use Rattle.fir_meaning.proofs.Tracking.{Tracks, tracks_none, tracks_next, tracked, each_same, none_some, some_same}
@@ -90,6 +90,11 @@ read_same_mode memory l r contents port way mode.ReadWriter h =
         (h en_name (1, omega arith, refl)) (h addr_name (0, omega arith, refl))
     ∙ ap (λ w. if (int_eq (field r port en_name []) (pos 1) && not (int_eq w (pos 1))) && nat_lt (address r port) (depth_of memory) then contents (address r port) way else pos 0)
         (h wmode_name (2, omega arith, refl))
+
+read_contents : (memory : Memory) (l : Leaves) (before after : Contents) (way : List PathStep) → ((element : ℕ) → before element way ≡ after element way) → (o : Option MemoryPort)
+    → read_of memory l before o way ≡ read_of memory l after o way
+read_contents memory l before after way h (Some port) = ap (λ x. if asks_to_read l port port.mode && is_within memory l port then x else pos 0) (h (address l port))
+read_contents memory l before after way h None = refl
 
 read_same : (memory : Memory) (l r : Leaves) (contents : Contents) (name : ℕ) (way : List PathStep) (o : Option MemoryPort) → port_named memory name ≡ o
     → ((port : MemoryPort) → port_named memory name ≡ Some port → (by : ℕ) → Contains (read_goes_by port.mode) by → field l port by [] ≡ field r port by [])
@@ -173,7 +178,7 @@ not_turned : (b : Bool) → not b ≡ true → b ≡ false
 not_turned true e = absurd (true≢false (sym e))
 not_turned false e = refl
 
-module _ (design : Design) (has : HasBundles design) (s : State) (given : Inputs) (rho other : Valuation) (one : Settled design s given rho) (two : Settled design s given other) where
+module _ (design : Design) (has : HasBundles design) (s t : State) (given : Inputs) (rho other : Valuation) (one : Settled design s given rho) (two : Settled design t given other) (kept : SameState design s t) where
   abbrev Below : FlatLeaf → Type 0
   Below x = (y : FlatLeaf) → ReadsLeaf design x y → at rho y ≡ at other y
 
@@ -230,10 +235,12 @@ module _ (design : Design) (has : HasBundles design) (s : State) (given : Inputs
                 let here : local m path rho c.declaration.name (step.Field port ∷ step.Field by ∷ []) ≡ local m path other c.declaration.name (step.Field port ∷ step.Field by ∷ []) =
                     local_at m path rho y ∙ (below (flat m path y) (by_port path m c leaf memory q port inner way stands sort e turned is named by goes) ∙ sym (local_at m path other y)) in
                 subst (λ z. local m path rho c.declaration.name (step.Field z ∷ step.Field by ∷ []) ≡ local m path other c.declaration.name (step.Field z ∷ step.Field by ∷ [])) (sym name) here) in
-        one.reads path m c leaf memory port inner way stands sort e turned is ∙ (same ∙ sym (two.reads path m c leaf memory port inner way stands sort e turned is))
+        let held = read_contents memory (local m path other c.declaration.name) (s.contents path c.declaration.name) (t.contents path c.declaration.name) way
+            (λ element. kept.contents path m c leaf memory port inner way element stands sort turned is) (port_named memory port) in
+        one.reads path m c leaf memory port inner way stands sort e turned is ∙ (same ∙ (held ∙ sym (two.reads path m c leaf memory port inner way stands sort e turned is)))
     by_latency (suc n) e (port, inner, way, is) =
         let later : read_latency_of memory ≢ 0 = λ z. let bad : suc n ≡ 0 = sym e ∙ z in absurd (omega arith) in
-        one.captured path m c leaf memory port inner way stands sort later turned is ∙ sym (two.captured path m c leaf memory port inner way stands sort later turned is)
+        one.captured path m c leaf memory port inner way stands sort later turned is ∙ (kept.captured path m c leaf memory port inner way stands sort later turned is ∙ sym (two.captured path m c leaf memory port inner way stands sort later turned is))
 
   -- a port's leaf that is a source inside
   port_same : (path : List ℕ) (m : TypedModule) (c : Component) (leaf : TypeLeaf) → Stands design path m c leaf → is_port c.declaration.sort ≡ true
@@ -287,7 +294,7 @@ module _ (design : Design) (has : HasBundles design) (s : State) (given : Inputs
       (λ clock. ⊎_elim
           (λ source. source_same path m c leaf stands source clock below c.declaration.sort refl)
           (λ flow. ⊎_elim
-              (λ register. by_seen path m c leaf (one.registers path m c leaf stands register ∙ sym (two.registers path m c leaf stands register)))
+              (λ register. by_seen path m c leaf (one.registers path m c leaf stands register ∙ (kept.registers path m c leaf stands register ∙ sym (two.registers path m c leaf stands register))))
               (λ register. driven_same path m c leaf stands (driven_by c leaf flow register clock) below)
               (true_or_false (is_register c.declaration.sort)))
           (true_or_false (is_source (flow_of c.declaration.sort leaf.flip))))
@@ -299,8 +306,20 @@ module _ (design : Design) (has : HasBundles design) (s : State) (given : Inputs
           (leaf_same l.path l.m l.c l.leaf l.stands
               (λ y r. let read : ReadsLeaf design x y = subst (λ z. ReadsLeaf design z y) l.is r in all_same_from all leaves_of y (h y read) (leaves_of.closed x y read)))
 
--- Any two settled valuations agree on every leaf.
+-- Any two valuations agree on every leaf that are settled in cycles that begin with the same state.
+pub settled_same : (design : Design) (all : List FlatLeaf) → HasBundles design → HasNoLoop design → HasLeaves design all → (s t : State) (given : Inputs) (rho other : Valuation)
+    → Settled design s given rho → Settled design t given other → SameState design s t → (x : FlatLeaf) → IsLeafOf design x → at rho x ≡ at other x
+settled_same design all has none leaves_of s t given rho other one two kept x l =
+    all_same_from design has s t given rho other one two kept all leaves_of x (chains_end design all none leaves_of x l) l
+
+pub state_itself : (design : Design) (s : State) → SameState design s s
+state_itself design s = record {
+  registers = λ path m c leaf stands register. refl;
+  contents = λ path m c leaf memory port inner way element stands sort turned is. refl;
+  captured = λ path m c leaf memory port inner way stands sort latency turned is. refl;
+}
+
 pub settled_agree : (design : Design) (all : List FlatLeaf) → HasBundles design → HasNoLoop design → HasLeaves design all → (s : State) (given : Inputs) (rho other : Valuation)
     → Settled design s given rho → Settled design s given other → (x : FlatLeaf) → IsLeafOf design x → at rho x ≡ at other x
 settled_agree design all has none leaves_of s given rho other one two x l =
-    all_same_from design has s given rho other one two all leaves_of x (chains_end design all none leaves_of x l) l
+    settled_same design all has none leaves_of s s given rho other one two (state_itself design s) x l

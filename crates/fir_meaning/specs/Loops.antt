@@ -2,7 +2,7 @@
 --
 -- A connect is live for a leaf where no later statement of its own block, or of a block around it within the leaf's block, is
 -- certain for the leaf. An `invalidate` counts as a connect whose source mentions nothing.
-use Rattle.std.specs.Prelude.{◌≡◌, ℕ, ◌++◌, Bool, true, false, List, [], ◌∷◌, map, filter_map, slice_get, Contains, Option, Some, None, if◌then◌else◌}
+use Rattle.std.specs.Prelude.{◌≡◌, ◌≢◌, ℕ, ◌++◌, Bool, true, false, List, [], ◌∷◌, map, filter_map, slice_get, Contains, Option, Some, None, if◌then◌else◌}
 use Rattle.std.specs.List.{list_any}
 use Rattle.fir_types.specs.declared.leaf.TypeLeaf.{TypeLeaf}
 use Rattle.fir_types.specs.declared.leaf.PathStep.{PathStep}
@@ -12,18 +12,18 @@ use Rattle.fir_types.specs.declared.memory.PortMode.{PortMode}
 use Rattle.fir_types.specs.declared.memory.PortMode.TheVariants as mode
 use Rattle.fir_types.specs.Leaves.{leaves}
 use Rattle.fir_types.specs.Memories.{read_latency_of}
-use Rattle.fir_types.specs.Bundles.{addr_name, en_name, wmode_name}
+use Rattle.fir_types.specs.Bundles.{addr_name, en_name, data_name, mask_name, wmode_name, wdata_name, wmask_name}
 use Rattle.fir_tree.specs.declared.expr.Expr.{Expr}
 use Rattle.fir_tree.specs.declared.stmt.Stmt.{Stmt, fold-Stmt}
 use Rattle.fir_tree.specs.declared.stmt.Stmt.TheOpen.{Stmt-F, Arm-F}
 use Rattle.fir_tree.specs.declared.stmt.Stmt.TheFolds.{map-Stmt}
-use Rattle.fir_meaning.specs.Components.{Design, TypedModule, Component, Leaf, FlatLeaf, flat, A_memory, A_node, is_clock, type_in}
+use Rattle.fir_meaning.specs.Components.{Design, TypedModule, Component, Leaf, FlatLeaf, flat, A_memory, A_node, A_reset_register, is_clock, type_in}
 use Rattle.fir_meaning.specs.Values.{beside}
-use Rattle.fir_meaning.specs.MemoryPorts.{MemoryPort, port_named}
-use Rattle.fir_meaning.specs.Mentions.{Scope, Region, joined, mentions, region_of}
+use Rattle.fir_meaning.specs.MemoryPorts.{MemoryPort, memory_ports, port_named}
+use Rattle.fir_meaning.specs.Mentions.{Scope, Region, joined, mentions, region_of, whole_region}
 use Rattle.fir_meaning.specs.Certain as certainty
 use Rattle.fir_meaning.specs.Certain.{may_be}
-use Rattle.fir_meaning.specs.States.{Stands, leaf_of, is_driven}
+use Rattle.fir_meaning.specs.States.{Stands, leaf_of, is_driven, is_register}
 
 -- A connect that drives the leaf, as the list of what it mentions for it.
 abbrev pub Mentioned : Type 0
@@ -125,3 +125,45 @@ pub record IsLeafOf (design : Design) (x : FlatLeaf) : Type 0 where
 pub record HasLeaves (design : Design) (all : List FlatLeaf) : Type 0 where
   pub listed : (x : FlatLeaf) → IsLeafOf design x → Contains all x
   pub closed : (x y : FlatLeaf) → ReadsLeaf design x y → IsLeafOf design y
+
+-- What the edge takes: of which leaves of the cycle the next state is made. A register's leaf takes what its live connects mention,
+-- its reset, and of `init` what a connect of it would mention for the leaf. What a memory holds next in the leaves that a port's
+-- read data show is taken from the ports that write; what a port of latency 1 shows next, from its own address and enable too.
+
+-- the leaves of a port that a write to the element's leaf at this way goes by
+abbrev pub write_goes_by : PortMode → List PathStep → List (List PathStep)
+write_goes_by mode.Reader way = []
+write_goes_by mode.Writer way =
+    (step.Field en_name ∷ []) ∷ (step.Field addr_name ∷ []) ∷ (step.Field data_name ∷ way) ∷ (step.Field mask_name ∷ way) ∷ []
+write_goes_by mode.ReadWriter way =
+    (step.Field en_name ∷ []) ∷ (step.Field addr_name ∷ []) ∷ (step.Field wdata_name ∷ way) ∷ (step.Field wmask_name ∷ way) ∷ (step.Field wmode_name ∷ []) ∷ []
+
+-- A read data leaf of a memory's port, at this way of its element.
+pub record IsRead (c : Component) (leaf : TypeLeaf) (memory : Memory) (port : ℕ) (way : List PathStep) : Type 0 where
+  pub sort : c.declaration.sort ≡ A_memory memory
+  pub source : leaf.flip ≡ false
+  pub field : ℕ
+  pub is : leaf.path ≡ step.Field port ∷ step.Field field ∷ way
+
+pub data TakesFrom (design : Design) : FlatLeaf → FlatLeaf → Type 0 where
+  by_connect : (path : List ℕ) (m : TypedModule) (c : Component) (leaf : TypeLeaf) (y : Leaf) → Stands design path m c leaf → is_register c.declaration.sort ≡ true
+      → Contains (joined (live (type_in m) (leaf_of c leaf) c.declaration.block)) y → TakesFrom design (flat m path (leaf_of c leaf)) (flat m path y)
+  by_reset : (path : List ℕ) (m : TypedModule) (c : Component) (leaf : TypeLeaf) (clock reset init : Expr) (y : Leaf) → Stands design path m c leaf
+      → c.declaration.sort ≡ A_reset_register clock reset init → Contains (joined (mentions reset (type_in m))) y
+      → TakesFrom design (flat m path (leaf_of c leaf)) (flat m path y)
+  by_init : (path : List ℕ) (m : TypedModule) (c : Component) (leaf : TypeLeaf) (clock reset init : Expr) (y : Leaf) → Stands design path m c leaf
+      → c.declaration.sort ≡ A_reset_register clock reset init
+      → Contains (joined (driven_from false (leaf_of c leaf) (mentions init (type_in m)) (Some (whole_region (type_in m) c.declaration.name)))) y
+      → TakesFrom design (flat m path (leaf_of c leaf)) (flat m path y)
+  by_write : (path : List ℕ) (m : TypedModule) (c : Component) (leaf : TypeLeaf) (memory : Memory) (port : ℕ) (way : List PathStep) (writer : MemoryPort)
+      (by : List PathStep) → Stands design path m c leaf → IsRead c leaf memory port way → Contains (memory_ports memory) writer
+      → Contains (write_goes_by writer.mode way) by
+      → TakesFrom design (flat m path (leaf_of c leaf)) (flat m path (record { component = c.declaration.name; way = step.Field writer.name ∷ by }))
+  by_read : (path : List ℕ) (m : TypedModule) (c : Component) (leaf : TypeLeaf) (memory : Memory) (name : ℕ) (way : List PathStep) (port : MemoryPort) (by : ℕ)
+      → Stands design path m c leaf → IsRead c leaf memory name way → read_latency_of memory ≢ 0 → port_named memory name ≡ Some port
+      → Contains (read_goes_by port.mode) by
+      → TakesFrom design (flat m path (leaf_of c leaf)) (flat m path (record { component = c.declaration.name; way = step.Field name ∷ step.Field by ∷ [] }))
+
+-- What the edge takes are leaves of the run: so it is in an accepted circuit.
+pub record TakesLeaves (design : Design) : Type 0 where
+  pub closed : (x y : FlatLeaf) → TakesFrom design x y → IsLeafOf design y

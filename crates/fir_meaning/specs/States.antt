@@ -145,6 +145,18 @@ next design s rho = record {
       (λ found. next_of_port (scene_of found.0 path rho) found.1 found.1.declaration.sort (s.contents path name)) (located design path name);
 }
 
+-- Two states are the same as far as the design's leaves show: in each register's leaf, in each leaf of an element that a port's read
+-- data show, and in what the ports of latency 1 have read.
+pub record SameState (design : Design) (s t : State) : Type 0 where
+  pub registers : (path : List ℕ) (m : TypedModule) (c : Component) (leaf : TypeLeaf) → Stands design path m c leaf → is_register c.declaration.sort ≡ true
+      → s.registers path c.declaration.name leaf.path ≡ t.registers path c.declaration.name leaf.path
+  pub contents : (path : List ℕ) (m : TypedModule) (c : Component) (leaf : TypeLeaf) (memory : Memory) (port field : ℕ) (way : List PathStep) (element : ℕ)
+      → Stands design path m c leaf → c.declaration.sort ≡ A_memory memory → leaf.flip ≡ false → leaf.path ≡ step.Field port ∷ step.Field field ∷ way
+      → s.contents path c.declaration.name element way ≡ t.contents path c.declaration.name element way
+  pub captured : (path : List ℕ) (m : TypedModule) (c : Component) (leaf : TypeLeaf) (memory : Memory) (port field : ℕ) (way : List PathStep)
+      → Stands design path m c leaf → c.declaration.sort ≡ A_memory memory → read_latency_of memory ≢ 0 → leaf.flip ≡ false
+      → leaf.path ≡ step.Field port ∷ step.Field field ∷ way → s.captured path c.declaration.name port way ≡ t.captured path c.declaration.name port way
+
 -- The trace
 
 -- main's leaves of flow sink that are no clocks, in port order
