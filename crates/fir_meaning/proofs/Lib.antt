@@ -1,3 +1,4 @@
+mod Nexts
 mod ExampleOfARun
 mod Settling
 mod Ports

@@ -23,7 +23,7 @@ use Rattle.fir_meaning.proofs.Covering.{true_or_false}
 
 -- Lists
 
-one_later : {A : Type 0} (z : A) (xs : List A) (x : A) → Contains xs x → Contains (z ∷ xs) x
+pub one_later : {A : Type 0} (z : A) (xs : List A) (x : A) → Contains xs x → Contains (z ∷ xs) x
 one_later z xs x (k, below, is) = (suc k, omega arith, is)
 
 pub from_map : {A B : Type 0} (h : A → B) (xs : List A) (y : B) → Contains (map h xs) y → (x : A) × Contains xs x × (h x ≡ y)
@@ -78,7 +78,7 @@ bundle_leaves place fields = grind (arith, common_steps, type_lemmas, flat_map-m
 abbrev inside : Design → TypedModule → ℕ → Option TypedModule
 inside design m i = option_and_then (module_named design) (target_of m i)
 
-and_some : {A : Type 0} (o : Option A) → option_and_then (λ n. Some n) o ≡ o
+pub and_some : {A : Type 0} (o : Option A) → option_and_then (λ n. Some n) o ≡ o
 and_some None = refl
 and_some (Some x) = refl
 

@@ -33,7 +33,7 @@ use Rattle.fir_meaning.proofs.Blocks.{drives_same}
 use Rattle.fir_meaning.proofs.Chains.{Ends, ends, chains_end}
 use Rattle.fir_meaning.proofs.Ports.{from_flat_map, from_map, from_filter_map, bundle_leaves, last_of_path, found, same_number, target_is, instance_inside, port_outside}
 
-abbrev at : Valuation → FlatLeaf → ℤ
+abbrev pub at : Valuation → FlatLeaf → ℤ
 at rho x = rho x.path x.component x.way
 
 through_at : (rho : Valuation) (path : List ℕ) (i : ℕ) (o : Option ℕ) (way : List PathStep) → seen_through rho path i o way ≡ at rho (flat_through path i o way)
@@ -44,16 +44,16 @@ through_at rho path i None [] = refl
 through_at rho path i None (step.Field x ∷ way) = refl
 through_at rho path i None (step.Element n ∷ way) = refl
 
-abbrev local : TypedModule → List ℕ → Valuation → Integers
+abbrev pub local : TypedModule → List ℕ → Valuation → Integers
 local m path rho = λ c way. seen_through rho path c (target_of m c) way
 
-local_at : (m : TypedModule) (path : List ℕ) (rho : Valuation) (y : Leaf) → local m path rho y.component y.way ≡ at rho (flat m path y)
+pub local_at : (m : TypedModule) (path : List ℕ) (rho : Valuation) (y : Leaf) → local m path rho y.component y.way ≡ at rho (flat m path y)
 local_at m path rho y = through_at rho path y.component (target_of m y.component) y.way
 
 seen_at : (m : TypedModule) (path : List ℕ) (rho : Valuation) (c : Component) (leaf : TypeLeaf) → seen m path rho c leaf ≡ at rho (flat m path (leaf_of c leaf))
 seen_at m path rho c leaf = local_at m path rho (leaf_of c leaf)
 
-agree_at : (m : TypedModule) (path : List ℕ) (rho other : Valuation) (ys : List Leaf) → ((y : Leaf) → Contains ys y → at rho (flat m path y) ≡ at other (flat m path y))
+pub agree_at : (m : TypedModule) (path : List ℕ) (rho other : Valuation) (ys : List Leaf) → ((y : Leaf) → Contains ys y → at rho (flat m path y) ≡ at other (flat m path y))
     → Agree (local m path rho) (local m path other) ys
 agree_at m path rho other ys h = record { agree = λ y c. local_at m path rho y ∙ (h y c ∙ sym (local_at m path other y)) }
 
@@ -91,12 +91,12 @@ read_same_mode memory l r contents port way mode.ReadWriter h =
     ∙ ap (λ w. if (int_eq (field r port en_name []) (pos 1) && not (int_eq w (pos 1))) && nat_lt (address r port) (depth_of memory) then contents (address r port) way else pos 0)
         (h wmode_name (2, omega arith, refl))
 
-read_contents : (memory : Memory) (l : Leaves) (before after : Contents) (way : List PathStep) → ((element : ℕ) → before element way ≡ after element way) → (o : Option MemoryPort)
+pub read_contents : (memory : Memory) (l : Leaves) (before after : Contents) (way : List PathStep) → ((element : ℕ) → before element way ≡ after element way) → (o : Option MemoryPort)
     → read_of memory l before o way ≡ read_of memory l after o way
 read_contents memory l before after way h (Some port) = ap (λ x. if asks_to_read l port port.mode && is_within memory l port then x else pos 0) (h (address l port))
 read_contents memory l before after way h None = refl
 
-read_same : (memory : Memory) (l r : Leaves) (contents : Contents) (name : ℕ) (way : List PathStep) (o : Option MemoryPort) → port_named memory name ≡ o
+pub read_same : (memory : Memory) (l r : Leaves) (contents : Contents) (name : ℕ) (way : List PathStep) (o : Option MemoryPort) → port_named memory name ≡ o
     → ((port : MemoryPort) → port_named memory name ≡ Some port → (by : ℕ) → Contains (read_goes_by port.mode) by → field l port by [] ≡ field r port by [])
     → read_of memory l contents o way ≡ read_of memory r contents o way
 read_same memory l r contents name way (Some port) e h = read_same_mode memory l r contents port way port.mode (h port e)
@@ -127,7 +127,7 @@ memory_way memory element leaf c =
 
 -- One leaf, where what it reads is the same
 
-port_target : (sort : Sort) → is_port sort ≡ true → target_in sort ≡ None
+pub port_target : (sort : Sort) → is_port sort ≡ true → target_in sort ≡ None
 port_target An_input e = refl
 port_target An_output e = refl
 port_target A_wire e = refl
@@ -137,7 +137,7 @@ port_target (A_memory memory) e = refl
 port_target (An_instance target) e = absurd (true≢false (sym e))
 port_target (A_node expr) e = refl
 
-flat_none : (path : List ℕ) (i : ℕ) (way : List PathStep) → flat_through path i None way ≡ record { path = path; component = i; way = way }
+pub flat_none : (path : List ℕ) (i : ℕ) (way : List PathStep) → flat_through path i None way ≡ record { path = path; component = i; way = way }
 flat_none path i [] = refl
 flat_none path i (step.Field x ∷ way) = refl
 flat_none path i (step.Element n ∷ way) = refl
@@ -166,7 +166,7 @@ port_register (A_memory memory) e = refl
 port_register (An_instance target) e = refl
 port_register (A_node expr) e = refl
 
-instance_flip : (flip : Bool) (target : ℕ) → is_source (flow_of (An_instance target) flip) ≡ not flip
+pub instance_flip : (flip : Bool) (target : ℕ) → is_source (flow_of (An_instance target) flip) ≡ not flip
 instance_flip true target = refl
 instance_flip false target = refl
 
