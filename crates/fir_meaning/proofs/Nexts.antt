@@ -13,7 +13,7 @@ use Rattle.fir_types.specs.Leaves.{leaves}
 use Rattle.fir_types.specs.Memories.{read_latency_of, depth_of, under_of}
 use Rattle.fir_types.specs.Bundles.{addr_name, en_name, data_name, mask_name, wmode_name, wdata_name, wmask_name}
 use Rattle.fir_tree.specs.declared.expr.Expr.{Expr}
-use Rattle.fir_meaning.specs.Components.{Design, TypedModule, Component, Leaf, FlatLeaf, Sort, An_input, An_output, A_wire, A_register, A_reset_register, A_memory, An_instance, A_node, flow_of, is_clock, flat, type_in, module_at, module_named, component_named, target_of, target_in, HasBundles}
+use Rattle.fir_meaning.specs.Components.{Design, TypedModule, Component, Leaf, FlatLeaf, Sort, An_input, An_output, A_wire, A_register, A_reset_register, A_memory, An_instance, A_node, flow_of, is_clock, flat, flat_through, type_in, module_at, module_named, component_named, target_of, target_in, HasBundles}
 use Rattle.fir_meaning.specs.Values.{Valuation, scene_of, scene_with, value, whole, is_one}
 use Rattle.fir_meaning.specs.Drives.{drives, left_in, set_at}
 use Rattle.fir_meaning.specs.MemoryPorts.{MemoryPort, Contents, Leaves, memory_ports, port_named, field, after_port, after_writes, read_by, asks_to_write, is_within, address, mask_field, written_field}
@@ -24,7 +24,7 @@ use Rattle.fir_meaning.proofs.Tracking.{tracked, all_same, whole_paired, none_so
 use Rattle.fir_meaning.proofs.Covering.{true_or_false}
 use Rattle.fir_meaning.proofs.Sides.{named, side_two}
 use Rattle.fir_meaning.proofs.Blocks.{drives_same}
-use Rattle.fir_meaning.proofs.Ports.{and_some, one_later, from_map, from_flat_map}
+use Rattle.fir_meaning.proofs.Ports.{and_some, one_later, from_map, from_flat_map, found, same_number}
 use Rattle.fir_meaning.proofs.Settling.{at, local, local_at, agree_at, read_same, read_contents, settled_same, state_itself, port_target, flat_none}
 
 -- Writes
@@ -110,3 +110,109 @@ module _ (design : Design) (takes : TakesLeaves design) (s t : State) (rho other
               let read : IsRead c leaf memory port way = record { sort = sort; source = turned; field = inner; is = is } in
               local_at m path rho y ∙ (every (flat m path y) (takes.closed (flat m path (leaf_of c leaf)) (flat m path y) (by_write path m c leaf memory port way writer by stands read among goes)) ∙ sym (local_at m path other y)))
           (kept.contents path m c leaf memory port inner way element stands sort turned is)
+
+  taken_next : (path : List ℕ) (m : TypedModule) (c : Component) (leaf : TypeLeaf) (memory : Memory) (port inner : ℕ) (way : List PathStep) (u : Under) (element : ℕ) → Stands design path m c leaf
+      → c.declaration.sort ≡ A_memory memory → leaf.flip ≡ false → leaf.path ≡ step.Field port ∷ step.Field inner ∷ way
+      → taken u (s.contents path c.declaration.name) (after_writes memory (local m path rho c.declaration.name) (s.contents path c.declaration.name)) element way
+      ≡ taken u (t.contents path c.declaration.name) (after_writes memory (local m path other c.declaration.name) (t.contents path c.declaration.name)) element way
+  taken_next path m c leaf memory port inner way under.New element stands sort turned is = contents_next path m c leaf memory port inner way element stands sort turned is
+  taken_next path m c leaf memory port inner way under.Old element stands sort turned is = kept.contents path m c leaf memory port inner way element stands sort turned is
+  taken_next path m c leaf memory port inner way under.Undefined element stands sort turned is = kept.contents path m c leaf memory port inner way element stands sort turned is
+
+  captured_next : (path : List ℕ) (m : TypedModule) (c : Component) (leaf : TypeLeaf) (memory : Memory) (port inner : ℕ) (way : List PathStep) → Stands design path m c leaf
+      → c.declaration.sort ≡ A_memory memory → read_latency_of memory ≢ 0 → leaf.flip ≡ false → leaf.path ≡ step.Field port ∷ step.Field inner ∷ way
+      → next_of_port (scene_of m path rho) c (A_memory memory) (s.contents path c.declaration.name) port way ≡ next_of_port (scene_of m path other) c (A_memory memory) (t.contents path c.declaration.name) port way
+  captured_next path m c leaf memory port inner way stands sort later turned is =
+      let l : Leaves = local m path rho c.declaration.name in
+      let r : Leaves = local m path other c.declaration.name in
+      let before : Contents = taken (under_of memory) (s.contents path c.declaration.name) (after_writes memory l (s.contents path c.declaration.name)) in
+      let after : Contents = taken (under_of memory) (t.contents path c.declaration.name) (after_writes memory r (t.contents path c.declaration.name)) in
+      let read : IsRead c leaf memory port way = record { sort = sort; source = turned; field = inner; is = is } in
+      read_same memory l r before port way (port_named memory port) refl
+          (λ q is_named by goes.
+              let name : q.name ≡ port = same_number q.name port (found (λ x. x.name == port) (memory_ports memory) q is_named).0 in
+              let y : Leaf = record { component = c.declaration.name; way = step.Field port ∷ step.Field by ∷ [] } in
+              let here : l (step.Field port ∷ step.Field by ∷ []) ≡ r (step.Field port ∷ step.Field by ∷ []) =
+                  local_at m path rho y ∙ (every (flat m path y) (takes.closed (flat m path (leaf_of c leaf)) (flat m path y) (by_read path m c leaf memory port way q by stands read later is_named goes)) ∙ sym (local_at m path other y)) in
+              subst (λ z. l (step.Field z ∷ step.Field by ∷ []) ≡ r (step.Field z ∷ step.Field by ∷ [])) (sym name) here)
+      ∙ read_contents memory r before after way (λ element. taken_next path m c leaf memory port inner way (under_of memory) element stands sort turned is) (port_named memory port)
+
+  pub next_same : SameState design (next design s rho) (next design t other)
+  next_same = record {
+    registers = λ path m c leaf stands register.
+        let place = located_is design path m c leaf stands in
+        let name : ℕ = c.declaration.name in
+        ap (where_located (s.registers path name leaf.path) (λ found. next_of_register (scene_of found.0 path rho) found.1 found.1.declaration.sort leaf.path (s.registers path name leaf.path))) place
+        ∙ (register_next path m c leaf stands register c.declaration.sort refl (s.registers path name leaf.path) (t.registers path name leaf.path) (kept.registers path m c leaf stands register)
+        ∙ sym (ap (where_located (t.registers path name leaf.path) (λ found. next_of_register (scene_of found.0 path other) found.1 found.1.declaration.sort leaf.path (t.registers path name leaf.path))) place));
+    contents = λ path m c leaf memory port inner way element stands sort turned is.
+        let place = located_is design path m c leaf stands in
+        let name : ℕ = c.declaration.name in
+        ap (λ o. where_located (s.contents path name) (λ found. next_of_memory (scene_of found.0 path rho) found.1 found.1.declaration.sort (s.contents path name)) o element way) place
+        ∙ (ap (λ k. next_of_memory (scene_of m path rho) c k (s.contents path name) element way) sort
+        ∙ (contents_next path m c leaf memory port inner way element stands sort turned is
+        ∙ (sym (ap (λ k. next_of_memory (scene_of m path other) c k (t.contents path name) element way) sort)
+        ∙ sym (ap (λ o. where_located (t.contents path name) (λ found. next_of_memory (scene_of found.0 path other) found.1 found.1.declaration.sort (t.contents path name)) o element way) place))));
+    captured = λ path m c leaf memory port inner way stands sort later turned is.
+        let place = located_is design path m c leaf stands in
+        let name : ℕ = c.declaration.name in
+        ap (λ o. where_located (s.captured path name) (λ found. next_of_port (scene_of found.0 path rho) found.1 found.1.declaration.sort (s.contents path name)) o port way) place
+        ∙ (ap (λ k. next_of_port (scene_of m path rho) c k (s.contents path name) port way) sort
+        ∙ (captured_next path m c leaf memory port inner way stands sort later turned is
+        ∙ (sym (ap (λ k. next_of_port (scene_of m path other) c k (t.contents path name) port way) sort)
+        ∙ sym (ap (λ o. where_located (t.captured path name) (λ found. next_of_port (scene_of found.0 path other) found.1 found.1.declaration.sort (t.contents path name)) o port way) place))));
+  }
+
+-- The rows
+
+map_same : {A B : Type 0} (f g : A → B) (xs : List A) → ((x : A) → Contains xs x → f x ≡ g x) → map f xs ≡ map g xs
+map_same f g [] h = refl
+map_same f g (x ∷ xs) h = ap₂ (λ y ys. y ∷ ys) (h x (0, omega arith, refl)) (map_same f g xs (λ y c. h y (one_later x xs y c)))
+
+from_filter : {A : Type 0} (p : A → Bool) (xs : List A) (y : A) → Contains (filter p xs) y → Contains xs y
+from_filter p [] y c = c
+from_filter {A} p (x ∷ xs) y c = by_test (p x) c (from_filter p xs y) where
+  by_test : (b : Bool) → Contains (cond b (x ∷ filter p xs) (filter p xs)) y → (Contains (filter p xs) y → Contains xs y) → Contains (x ∷ xs) y
+  by_test true (zero, below, is) h = (0, omega arith, is)
+  by_test true (suc k, below, is) h = one_later x xs y (h (k, omega arith, is))
+  by_test false c h = one_later x xs y (h c)
+
+watched_there : (c : Component) (y : Leaf) → Contains (watched_of_component c) y → (is_port c.declaration.sort ≡ true) × (leaf : TypeLeaf) × Contains (leaves c.typ) leaf × (leaf_of c leaf ≡ y)
+watched_there c y among = by_port_or_not (is_port c.declaration.sort) refl among where
+  by_port_or_not : (b : Bool) → is_port c.declaration.sort ≡ b
+      → Contains (if b then map (leaf_of c) (filter (λ leaf. not (is_source (flow_of c.declaration.sort leaf.flip)) && not (is_clock leaf)) (leaves c.typ)) else []) y
+      → (is_port c.declaration.sort ≡ true) × (leaf : TypeLeaf) × Contains (leaves c.typ) leaf × (leaf_of c leaf ≡ y)
+  by_port_or_not true e a =
+      let from = from_map (leaf_of c) (filter (λ leaf. not (is_source (flow_of c.declaration.sort leaf.flip)) && not (is_clock leaf)) (leaves c.typ)) y a in
+      (e, from.0, from_filter (λ leaf. not (is_source (flow_of c.declaration.sort leaf.flip)) && not (is_clock leaf)) (leaves c.typ) from.0 from.1, from.2)
+  by_port_or_not false e (k, below, is) = absurd (omega arith)
+
+watched_is_leaf : (design : Design) → HasBundles design → (o : Option TypedModule) → module_named design design.main ≡ o → (y : Leaf) → Contains (watched_of o) y
+    → IsLeafOf design (record { path = []; component = y.component; way = y.way })
+watched_is_leaf design has None e y (k, below, is) = absurd (omega arith)
+watched_is_leaf design has (Some m) e y among =
+    let from = from_flat_map watched_of_component m.components y among in
+    let c : Component = from.0 in
+    let there = watched_there c y from.2 in
+    let reached : module_at design [] ≡ Some m = and_some (module_named design design.main) ∙ e in
+    let declared : component_named m c.declaration.name ≡ Some c = has.names [] m c reached from.1 in
+    let none : target_of m c.declaration.name ≡ None = ap (option_and_then (λ x. target_in x.declaration.sort)) declared ∙ port_target c.declaration.sort there.0 in
+    record {
+      path = [];
+      m = m;
+      c = c;
+      leaf = there.1;
+      stands = record { reached = reached; declared = declared; listed = there.2 };
+      is = ap (λ o. flat_through [] c.declaration.name o there.1.path) none
+          ∙ (flat_none [] c.declaration.name there.1.path ∙ ap (λ l. record { path = []; component = l.component; way = l.way }) there.3);
+    }
+
+pub rows_same : (design : Design) (all : List FlatLeaf) → HasBundles design → HasNoLoop design → HasLeaves design all → TakesLeaves design → {s t : State} {given : List Inputs} {rows other_rows : List (List ℤ)}
+    → SameState design s t → Trace design s given rows → Trace design t given other_rows → rows ≡ other_rows
+rows_same design all has none leaves_of takes kept ended ended = refl
+rows_same design all has none leaves_of takes {s} {t} kept (cycle {given = g} rho one rest) (cycle other two later) =
+    let every : (x : FlatLeaf) → IsLeafOf design x → at rho x ≡ at other x = settled_same design all has none leaves_of s t g rho other one two kept in
+    let first : row design rho ≡ row design other =
+        map_same (λ leaf. rho [] leaf.component leaf.way) (λ leaf. other [] leaf.component leaf.way) (watched design)
+            (λ y among. every (record { path = []; component = y.component; way = y.way }) (watched_is_leaf design has (module_named design design.main) refl y among)) in
+    ap₂ (λ x xs. x ∷ xs) first (rows_same design all has none leaves_of takes (next_same design takes s t rho other kept every) rest later)
