@@ -1,6 +1,6 @@
 //! Laws of the definitions. The functions do nothing.
 
-ghost use Rattle.std.specs.Prelude.{◌≡◌, ℕ, List, [], slice_get, Some, None, IsSome, true};
+ghost use Rattle.std.specs.Prelude.{◌≡◌, ℕ, ℤ, List, [], slice_get, Some, None, IsSome, true};
 ghost use Rattle.fir_types.specs.declared.leaf.PathStep.{PathStep as Step};
 ghost use Rattle.fir_tree.specs.declared.expr.Expr.{Expr as TheExpr};
 ghost use Rattle.fir_tree.specs.declared.stmt.Stmt.{Stmt as TheStmt};
@@ -9,8 +9,8 @@ ghost use Rattle.fir_meaning.specs.Values.{Integers, Valuation, scene_with, valu
 ghost use Rattle.fir_meaning.specs.Mentions.{Scope, Agree, joined, mentions};
 ghost use Rattle.fir_meaning.specs.Drives.{drives};
 ghost use Rattle.fir_meaning.specs.Certain.{is_certain};
-ghost use Rattle.fir_meaning.specs.States.{State, Inputs, Settled};
-ghost use Rattle.fir_meaning.specs.Loops.{live, HasNoLoop, IsLeafOf, HasLeaves};
+ghost use Rattle.fir_meaning.specs.States.{State, SameState, Inputs, Settled, Trace, next};
+ghost use Rattle.fir_meaning.specs.Loops.{live, HasNoLoop, IsLeafOf, HasLeaves, TakesLeaves};
 
 /// The value of an expression depends only on the leaves that it mentions, leaf by leaf.
 pub fn values_follow_mentions()
@@ -39,4 +39,14 @@ pub fn certain_statements_drive()
 /// have the leaves of their ports, as in every accepted circuit.
 pub fn settled_valuations_agree()
     ensures { (design : Design) (all : List FlatLeaf) → HasBundles design → HasNoLoop design → HasLeaves design all → (state : State) (given : Inputs) (rho other : Valuation) → Settled design state given rho → Settled design state given other → (x : FlatLeaf) → IsLeafOf design x → rho x.path x.component x.way ≡ other x.path x.component x.way }
+{}
+
+/// The next state depends only on the state and on what the leaves have in the cycle.
+pub fn next_states_agree()
+    ensures { (design : Design) → TakesLeaves design → (first second : State) (rho other : Valuation) → SameState design first second → ((x : FlatLeaf) → IsLeafOf design x → rho x.path x.component x.way ≡ other x.path x.component x.way) → SameState design (next design first rho) (next design second other) }
+{}
+
+/// A circuit without a loop has at most one trace from a state under given inputs.
+pub fn traces_agree()
+    ensures { (design : Design) (all : List FlatLeaf) → HasBundles design → HasNoLoop design → HasLeaves design all → TakesLeaves design → (state : State) (given : List Inputs) (rows other : List (List ℤ)) → Trace design state given rows → Trace design state given other → rows ≡ other }
 {}
