@@ -1,11 +1,7 @@
 -- What the statements of a block leave in a leaf: by induction over statements.
-use Rattle.std.proofs.Common.{◌≡◌, ℕ, Bool, true, false, ◌&&◌, ◌||◌, List, [], ◌∷◌, ◌++◌, map, Option, Some, None, ℤ, refl, sym, ap, ◌∙◌, subst, arith, true≢false, is_some}
+use Rattle.std.proofs.Common.{◌≡◌, Bool, true, false, ◌&&◌, ◌||◌, List, [], ◌∷◌, map, Option, None, ℤ, refl, sym, ap, ◌∙◌, subst, arith, true≢false, is_some}
 use Rattle.std.specs.List.{list_any, list_all}
 use Rattle.std.proofs.lemmas.Grind.{common_steps}
-use Rattle.place_text.specs.declared.place.Place.{Place}
-use Rattle.fir_types.specs.declared.name.Name.{Name}
-use Rattle.fir_types.specs.declared.fir_type.FirType.{FirType}
-use Rattle.fir_types.specs.declared.memory.Memory.{Memory}
 use Rattle.fir_tree.specs.declared.expr.Expr.{Expr}
 use Rattle.fir_tree.specs.declared.stmt.Stmt.{Stmt, ind-Stmt, the_lemmas as stmt_lemmas}
 use Rattle.fir_tree.specs.declared.stmt.Arm.{Arm, fold-Arm}
@@ -22,7 +18,7 @@ use Rattle.fir_meaning.specs.Certain.{certain, is_certain}
 use Rattle.fir_meaning.specs.Loops as loop
 use Rattle.fir_meaning.specs.Loops.{Driving, DrivingArm, driving, live}
 use Rattle.fir_meaning.proofs.Tracking.{tracked, all_same, tracks_none}
-use Rattle.fir_meaning.proofs.Covering.{One, Two, Each, no_more, one_more, block_of, block_two, Arms, no_arm, one_arm, arm_driving, when_driving, when_two}
+use Rattle.fir_meaning.proofs.Covering.{One, Two, Each, no_more, one_more, block_of, block_two, Arms, no_arm, one_arm, arm_driving, when_two}
 use Rattle.fir_meaning.proofs.Sides.{named_by, side, side_two, both_of, both_two, left_in-append}
 
 abbrev arm_effect : Scene → Leaf → Arm → Bool × Effect
@@ -98,25 +94,25 @@ arm_certain_roll types leaf y = grind (arith, common_steps, stmt_lemmas)
 
 connect_two : (types : Scope) (leaf : Leaf) (f g : Integers) (left right : Expr)
     → Two f g (both_of (side false leaf (mentions right types) (region_of types left)) (side true leaf (mentions left types) (region_of types right)))
-        (λ last. left_in leaf last (set_by_connect (scene_with types f) left right)) (λ last. left_in leaf last (set_by_connect (scene_with types g) left right))
+    (λ last. left_in leaf last (set_by_connect (scene_with types f) left right)) (λ last. left_in leaf last (set_by_connect (scene_with types g) left right))
 connect_two types leaf f g left right =
     two_ext _ _
-        (λ last. left_in-append leaf last (set_at false (spot_of (scene_with types f) left) (value right (scene_with types f))) (set_at true (spot_of (scene_with types f) right) (value left (scene_with types f))))
-        (λ last. left_in-append leaf last (set_at false (spot_of (scene_with types g) left) (value right (scene_with types g))) (set_at true (spot_of (scene_with types g) right) (value left (scene_with types g))))
-        (both_two
-            (side_two (named_by types f g left) (named_by types f f left) (named_by types g g left) false leaf (tracked right types f g))
-            (side_two (named_by types f g right) (named_by types f f right) (named_by types g g right) true leaf (tracked left types f g)))
+    (λ last. left_in-append leaf last (set_at false (spot_of (scene_with types f) left) (value right (scene_with types f))) (set_at true (spot_of (scene_with types f) right) (value left (scene_with types f))))
+    (λ last. left_in-append leaf last (set_at false (spot_of (scene_with types g) left) (value right (scene_with types g))) (set_at true (spot_of (scene_with types g) right) (value left (scene_with types g))))
+    (both_two
+    (side_two (named_by types f g left) (named_by types f f left) (named_by types g g left) false leaf (tracked right types f g))
+    (side_two (named_by types f g right) (named_by types f f right) (named_by types g g right) true leaf (tracked left types f g)))
 
 invalidate_two : (types : Scope) (leaf : Leaf) (f g : Integers) (target : Expr)
     → Two f g (both_of (side false leaf [] (region_of types target)) (side true leaf [] (region_of types target)))
-        (λ last. left_in leaf last (set_by_invalidate (scene_with types f) target)) (λ last. left_in leaf last (set_by_invalidate (scene_with types g) target))
+    (λ last. left_in leaf last (set_by_invalidate (scene_with types f) target)) (λ last. left_in leaf last (set_by_invalidate (scene_with types g) target))
 invalidate_two types leaf f g target =
     two_ext _ _
-        (λ last. left_in-append leaf last (set_at false (spot_of (scene_with types f) target) []) (set_at true (spot_of (scene_with types f) target) []))
-        (λ last. left_in-append leaf last (set_at false (spot_of (scene_with types g) target) []) (set_at true (spot_of (scene_with types g) target) []))
-        (both_two
-            (side_two (named_by types f g target) (named_by types f f target) (named_by types g g target) false leaf tracks_none)
-            (side_two (named_by types f g target) (named_by types f f target) (named_by types g g target) true leaf tracks_none))
+    (λ last. left_in-append leaf last (set_at false (spot_of (scene_with types f) target) []) (set_at true (spot_of (scene_with types f) target) []))
+    (λ last. left_in-append leaf last (set_at false (spot_of (scene_with types g) target) []) (set_at true (spot_of (scene_with types g) target) []))
+    (both_two
+    (side_two (named_by types f g target) (named_by types f f target) (named_by types g g target) false leaf tracks_none)
+    (side_two (named_by types f g target) (named_by types f f target) (named_by types g g target) true leaf tracks_none))
 
 statements_each : (types : Scope) (leaf : Leaf) (f g : Integers) (ps : List ((s : Stmt) × Understood s))
     → Each f g (map (driving types leaf) (map (λ e. e.0) ps)) (map (effect (scene_with types f) leaf) (map (λ e. e.0) ps)) (map (effect (scene_with types g) leaf) (map (λ e. e.0) ps))
@@ -155,10 +151,10 @@ two_at {f} {g} {d} {d'} {e} {e'} {x} {x'} h k l t =
 
 statement_at : (y : Stmt-F Stmt Arm)
     → ((types : Scope) (leaf : Leaf) (f g : Integers) → Two f g (loop.of_stmt types leaf (map-Stmt Stmt Arm Driving DrivingArm (driving types leaf) (arm_live types leaf) y))
-        (drive.of_stmt (scene_with types f) leaf (map-Stmt Stmt Arm Effect (Bool × Effect) (effect (scene_with types f) leaf) (arm_effect (scene_with types f) leaf) y))
-        (drive.of_stmt (scene_with types g) leaf (map-Stmt Stmt Arm Effect (Bool × Effect) (effect (scene_with types g) leaf) (arm_effect (scene_with types g) leaf) y)))
+    (drive.of_stmt (scene_with types f) leaf (map-Stmt Stmt Arm Effect (Bool × Effect) (effect (scene_with types f) leaf) (arm_effect (scene_with types f) leaf) y))
+    (drive.of_stmt (scene_with types g) leaf (map-Stmt Stmt Arm Effect (Bool × Effect) (effect (scene_with types g) leaf) (arm_effect (scene_with types g) leaf) y)))
     → ((types : Scope) (leaf : Leaf) → certainty.of_stmt types leaf (map-Stmt Stmt Arm Bool Bool (certain types leaf) (arm_certain types leaf) y)
-        ≡ (loop.of_stmt types leaf (map-Stmt Stmt Arm Driving DrivingArm (driving types leaf) (arm_live types leaf) y)).certain)
+    ≡ (loop.of_stmt types leaf (map-Stmt Stmt Arm Driving DrivingArm (driving types leaf) (arm_live types leaf) y)).certain)
     → Understood (roll-Stmt y)
 statement_at y t c = record {
   two = λ types leaf f g. two_at (driving_roll types leaf y) (effect_roll (scene_with types f) leaf y) (effect_roll (scene_with types g) leaf y) (t types leaf f g);
@@ -180,15 +176,15 @@ statement_case (Stmt-F.Connect left right) = statement_at (Stmt-F.Connect left r
 statement_case (Stmt-F.Invalidate target) = statement_at (Stmt-F.Invalidate target) (λ types leaf f g. invalidate_two types leaf f g target) (λ types leaf. refl)
 statement_case (Stmt-F.When arms other) = statement_at (Stmt-F.When (map (λ e. e.0) arms) (map (λ e. e.0) other))
     (λ types leaf f g. two_at
-        (ap (λ b. record { certain = b && list_any (λ s. s) (map (λ d. d.certain) (map (driving types leaf) (map (λ e. e.0) other))); live = loop.through_arms [] (map (arm_live types leaf) (map (λ e. e.0) arms)) (loop.live_from (map (driving types leaf) (map (λ e. e.0) other))) })
-            (all-map (map (arm_live types leaf) (map (λ e. e.0) arms)))
-        ∙ ap (λ b. record { certain = list_all (λ a. a.certain) (map (arm_live types leaf) (map (λ e. e.0) arms)) && b; live = loop.through_arms [] (map (arm_live types leaf) (map (λ e. e.0) arms)) (loop.live_from (map (driving types leaf) (map (λ e. e.0) other))) })
-            (any-map (map (driving types leaf) (map (λ e. e.0) other))))
-        refl refl
-        (when_two (arms_each types leaf f g arms) [] (block_of (map (driving types leaf) (map (λ e. e.0) other))) _ _ (block_two (statements_each types leaf f g other))))
+    (ap (λ b. record { certain = b && list_any (λ s. s) (map (λ d. d.certain) (map (driving types leaf) (map (λ e. e.0) other))); live = loop.through_arms [] (map (arm_live types leaf) (map (λ e. e.0) arms)) (loop.live_from (map (driving types leaf) (map (λ e. e.0) other))) })
+    (all-map (map (arm_live types leaf) (map (λ e. e.0) arms)))
+    ∙ ap (λ b. record { certain = list_all (λ a. a.certain) (map (arm_live types leaf) (map (λ e. e.0) arms)) && b; live = loop.through_arms [] (map (arm_live types leaf) (map (λ e. e.0) arms)) (loop.live_from (map (driving types leaf) (map (λ e. e.0) other))) })
+    (any-map (map (driving types leaf) (map (λ e. e.0) other))))
+    refl refl
+    (when_two (arms_each types leaf f g arms) [] (block_of (map (driving types leaf) (map (λ e. e.0) other))) _ _ (block_two (statements_each types leaf f g other))))
     (λ types leaf.
-        ap (λ b. b && list_any (λ s. s) (map (certain types leaf) (map (λ e. e.0) other))) (all_agrees types leaf arms ∙ sym (all-map (map (arm_live types leaf) (map (λ e. e.0) arms))))
-        ∙ ap (λ b. list_all (λ s. s) (map (λ a. a.certain) (map (arm_live types leaf) (map (λ e. e.0) arms))) && b) (any_agrees types leaf other ∙ sym (any-map (map (driving types leaf) (map (λ e. e.0) other)))))
+    ap (λ b. b && list_any (λ s. s) (map (certain types leaf) (map (λ e. e.0) other))) (all_agrees types leaf arms ∙ sym (all-map (map (arm_live types leaf) (map (λ e. e.0) arms))))
+    ∙ ap (λ b. list_all (λ s. s) (map (λ a. a.certain) (map (arm_live types leaf) (map (λ e. e.0) arms))) && b) (any_agrees types leaf other ∙ sym (any-map (map (driving types leaf) (map (λ e. e.0) other)))))
 
 arm_case : (y : Arm-F ((s : Stmt) × Understood s) ((a : Arm) × ArmUnderstood a)) → ArmUnderstood (roll-Arm (map-Arm _ _ Stmt Arm (λ e. e.0) (λ e. e.0) y))
 arm_case y =

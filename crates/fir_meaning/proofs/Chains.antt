@@ -1,5 +1,5 @@
 -- Where no leaf reads itself through others, and the leaves are finitely many, every chain of reads ends.
-use Rattle.std.proofs.Common.{◌≡◌, ℕ, zero, suc, ◌+◌, ◌<◌, ◌≤◌, List, [], ◌∷◌, length, refl, sym, ap, ◌∙◌, subst, arith, ◌⊎◌, inl, inr, ⊎_elim}
+use Rattle.std.proofs.Common.{◌≡◌, ℕ, zero, suc, ◌+◌, ◌<◌, ◌≤◌, List, [], ◌∷◌, length, refl, sym, ◌∙◌, subst, arith, ◌⊎◌, inl, inr, ⊎_elim}
 use Rattle.std.specs.Prelude.{Contains}
 use Rattle.fir_meaning.specs.Components.{Design, FlatLeaf}
 use Rattle.fir_meaning.specs.Loops.{ReadsLeaf, ReadsThrough, directly, through, HasNoLoop, IsLeafOf, HasLeaves}
@@ -41,9 +41,9 @@ ends_within design none (suc n) rest short x all =
     let below : at.0 < length rest = at.1 in
     let less : length (without at.0 rest) + 1 ≡ length rest = shorter at.0 rest below in
     ends (λ y reads. ends_within design none n (without at.0 rest) (omega arith) y
-        (λ z reach.
-            let through_y : ReadsThrough design x z = ⊎_elim (λ same. subst (ReadsThrough design x) same (directly reads)) (λ later. through reads later) reach in
-            stays rest x z at (all z (inr through_y)) (λ same. none.none x (subst (ReadsThrough design x) (sym same) through_y))))
+    (λ z reach.
+    let through_y : ReadsThrough design x z = ⊎_elim (λ same. subst (ReadsThrough design x) same (directly reads)) (λ later. through reads later) reach in
+    stays rest x z at (all z (inr through_y)) (λ same. none.none x (subst (ReadsThrough design x) (sym same) through_y))))
 
 stands_through : (design : Design) (all : List FlatLeaf) → HasLeaves design all → (x y : FlatLeaf) → ReadsThrough design x y → IsLeafOf design y
 stands_through design all has x y (directly r) = has.closed x y r
@@ -52,4 +52,4 @@ stands_through design all has x y (through {y = z} r later) = stands_through des
 pub chains_end : (design : Design) (all : List FlatLeaf) → HasNoLoop design → HasLeaves design all → (x : FlatLeaf) → IsLeafOf design x → Ends design x
 chains_end design all none has x stands =
     ends_within design none (length all) all (omega arith) x
-        (λ y reach. has.listed y (⊎_elim (λ same. subst (IsLeafOf design) same stands) (λ later. stands_through design all has x y later) reach))
+    (λ y reach. has.listed y (⊎_elim (λ same. subst (IsLeafOf design) same stands) (λ later. stands_through design all has x y later) reach))

@@ -1,7 +1,6 @@
 -- Statements that follow one another, and the arms of a `when`: what they leave depends on what their live connects mention alone.
-use Rattle.std.proofs.Common.{◌≡◌, ℕ, Bool, true, false, ◌&&◌, ◌||◌, List, [], ◌∷◌, ◌++◌, map, Option, Some, None, ℤ, refl, sym, ap, ◌∙◌, subst, arith, true≢false, is_some, if◌then◌else◌, ◌⊎◌, inl, inr, ⊎_elim}
-use Rattle.std.specs.Prelude.{Contains}
-use Rattle.std.specs.List.{flat_map, list_any, list_all}
+use Rattle.std.proofs.Common.{◌≡◌, Bool, true, false, ◌&&◌, ◌||◌, List, [], ◌∷◌, ◌++◌, map, Option, ℤ, refl, sym, ap, ◌∙◌, subst, arith, true≢false, is_some, if◌then◌else◌, ◌⊎◌, inl, inr, ⊎_elim}
+use Rattle.std.specs.List.{list_any, list_all}
 use Rattle.std.proofs.lemmas.Grind.{common_steps}
 use Rattle.std.proofs.lemmas.List.Elements.{Contains-append_cases}
 use Rattle.std.proofs.lemmas.List.Concat.{flat_map-cons}
@@ -84,7 +83,7 @@ one_before d e ds es o later = record {
   quiet = λ n last. ⊎_elim
       (λ q. absurd (later.alive q (sym (live_covered d ds q) ∙ n)))
       (λ q. let all : d.live ++ live_from ds ≡ [] = sym (live_open d ds q) ∙ n in
-          later.quiet (append_nil_right d.live (live_from ds) all) (e last) ∙ o.quiet (append_nil_left d.live (live_from ds) all) last)
+      later.quiet (append_nil_right d.live (live_from ds) all) (e last) ∙ o.quiet (append_nil_left d.live (live_from ds) all) last)
       (true_or_false (list_any (λ x. x.certain) ds));
   fixed = λ c last other. ⊎_elim
       (λ q. later.fixed q (e last) (e other))
@@ -118,7 +117,7 @@ two_before f g d e e' ds es es' t later = record {
   same = λ a last. ⊎_elim
       (λ q. later.here.fixed q (e last) (e' last) ∙ later.same (subst (λ l. Agree f g (joined l)) (live_covered d ds q) a) (e' last))
       (λ q. let split : Agree f g (joined d.live ++ joined (live_from ds)) = subst (Agree f g) (joined-append d.live (live_from ds)) (subst (λ l. Agree f g (joined l)) (live_open d ds q) a) in
-          ap (in_turn es) (t.same (agree-left (joined d.live) (joined (live_from ds)) split) last) ∙ later.same (agree-right (joined d.live) (joined (live_from ds)) split) (e' last))
+      ap (in_turn es) (t.same (agree-left (joined d.live) (joined (live_from ds)) split) last) ∙ later.same (agree-right (joined d.live) (joined (live_from ds)) split) (e' last))
       (true_or_false (list_any (λ x. x.certain) ds));
 }
 
@@ -155,12 +154,12 @@ through_or_none f g cs (arm ∷ arms) other =
     let here : List Mentioned = crossing (cs ++ arm.condition) arm.live in
     let later : List Mentioned = through_arms (cs ++ arm.condition) arms other in
     ⊎_elim
-      (λ n. ⊎_elim
-          (λ m. inl (ap (λ l. crossing (cs ++ arm.condition) l ++ later) n ∙ m))
-          (λ h. inr (λ a. agree-left cs arm.condition (h (agree-right (joined here) (joined later) (subst (Agree f g) (joined-append here later) a)))))
-          (through_or_none f g (cs ++ arm.condition) arms other))
-      (λ h. inr (λ a. agree-left cs arm.condition (h (agree-left (joined here) (joined later) (subst (Agree f g) (joined-append here later) a)))))
-      (crossed_or_none f g (cs ++ arm.condition) arm.live)
+    (λ n. ⊎_elim
+    (λ m. inl (ap (λ l. crossing (cs ++ arm.condition) l ++ later) n ∙ m))
+    (λ h. inr (λ a. agree-left cs arm.condition (h (agree-right (joined here) (joined later) (subst (Agree f g) (joined-append here later) a)))))
+    (through_or_none f g (cs ++ arm.condition) arms other))
+    (λ h. inr (λ a. agree-left cs arm.condition (h (agree-left (joined here) (joined later) (subst (Agree f g) (joined-append here later) a)))))
+    (crossed_or_none f g (cs ++ arm.condition) arm.live)
 
 -- The arms of a `when`
 
@@ -238,15 +237,15 @@ when_two {f} {g} (one_arm {arm} {p} {q} {e = x} {e' = x'} {arms} {ps} {qs} condi
           let left : Agree f g (joined front) = agree-left (joined front) (joined behind) split in
           let right : Agree f g (joined behind) = agree-right (joined front) (joined behind) split in
           let known : Agree f g (cs ++ arm.condition) → (if p then x else first_holding ps e) last ≡ (if q then x' else first_holding qs e') last =
-              λ all. branches_same p q (condition (agree-right cs arm.condition all)) x x' (first_holding ps e) (first_holding qs e') last
-                  (body.same (uncrossed (cs ++ arm.condition) arm.live left) last) (later.same right last) in
+          λ all. branches_same p q (condition (agree-right cs arm.condition all)) x x' (first_holding ps e) (first_holding qs e') last
+          (body.same (uncrossed (cs ++ arm.condition) arm.live left) last) (later.same right last) in
           ⊎_elim
-            (λ n. ⊎_elim
-                (λ m.
-                    let none : front ++ behind ≡ [] = ap (λ l. crossing (cs ++ arm.condition) l ++ behind) n ∙ m in
-                    first.quiet none last ∙ sym (second.quiet none last))
-                (λ h. known (h right))
-                (through_or_none f g (cs ++ arm.condition) arms d.live))
-            (λ h. known (h left))
-            (crossed_or_none f g (cs ++ arm.condition) arm.live);
+          (λ n. ⊎_elim
+          (λ m.
+          let none : front ++ behind ≡ [] = ap (λ l. crossing (cs ++ arm.condition) l ++ behind) n ∙ m in
+          first.quiet none last ∙ sym (second.quiet none last))
+          (λ h. known (h right))
+          (through_or_none f g (cs ++ arm.condition) arms d.live))
+          (λ h. known (h left))
+          (crossed_or_none f g (cs ++ arm.condition) arm.live);
     }

@@ -6,24 +6,25 @@
 --   connect r, tail(add(r, UInt<4>(1)), 1)
 --   connect out, r
 -- with the reset at 1 in the first cycle shows 0, 0, 1 and 2. The names are 10 to 13, and 30 is the module.
-use Rattle.std.proofs.Common.{◌≡◌, ℕ, zero, suc, ◌<◌, Bool, true, false, cond, List, [], ◌∷◌, map, length, slice_index_or, refl, Some, None, Option, option_and_then, arith, ℤ, pos, ap, sym, ◌∙◌, subst, ◌==◌, if◌then◌else◌, true≢false}
+use Rattle.std.proofs.Common.{◌≡◌, ℕ, zero, suc, ◌<◌, Bool, true, false, cond, List, [], ◌∷◌, map, slice_index_or, refl, Some, None, option_and_then, arith, ℤ, pos, ap, sym, ◌∙◌, subst, ◌==◌, if◌then◌else◌, true≢false, ◌⊎◌, inl, inr, ⊎_elim}
 use Rattle.std.specs.Prelude.{Contains}
 use Rattle.std.proofs.lemmas.Grind.{common_steps}
 use Rattle.fir_types.specs.declared.fir_type.FirType.{FirType, the_lemmas as type_lemmas}
 use Rattle.fir_types.specs.declared.leaf.TypeLeaf.{TypeLeaf}
-use Rattle.fir_types.specs.declared.leaf.PathStep.{PathStep}
 use Rattle.fir_types.specs.Leaves.{leaves}
 use Rattle.fir_tree.specs.declared.expr.Expr.{Expr, the_lemmas as expr_lemmas}
 use Rattle.fir_tree.specs.declared.stmt.Stmt.{Stmt, the_lemmas as stmt_lemmas}
 use Rattle.fir_tree.specs.declared.stmt.Stmt.TheVariants as stmt
 use Rattle.prim_ops.specs.declared.operation.PrimOp.TheVariants.{Add, Tail}
-use Rattle.fir_meaning.specs.Components.{Design, TypedModule, Component, Sort, An_input, An_output, A_reset_register, A_node, A_memory, An_instance, Leaf, FlatLeaf, HasBundles, flat, flow_of, type_in, is_clock, target_in, target_of, module_at, module_within, module_named, component_named, with_types}
+use Rattle.fir_meaning.specs.Components.{Design, TypedModule, Component, Sort, An_input, An_output, A_reset_register, A_node, A_memory, An_instance, Leaf, FlatLeaf, HasBundles, flat, flow_of, type_in, is_clock, target_in, module_at, module_within, module_named, component_named, with_types}
 use Rattle.fir_meaning.specs.Values.{Valuation, scene_of}
 use Rattle.fir_meaning.specs.Drives.{drives}
 use Rattle.fir_meaning.specs.States.{State, Inputs, Stands, Settled, Trace, ended, cycle, first_state, next, next_of_register, row, watched, is_register, is_port, is_driven, is_source, seen, leaf_of}
-use Rattle.fir_meaning.specs.Mentions.{joined}
-use Rattle.fir_meaning.specs.Loops.{live, ReadsLeaf, by_connect, by_node, by_port, ReadsThrough, directly, through, HasNoLoop, HasLeaves}
-use Rattle.fir_meaning.proofs.Samples.{place, name, uint, clock_type, ref, literal, op, connect, leaf, input, output}
+use Rattle.fir_meaning.specs.Mentions.{joined, mentions, whole_region}
+use Rattle.fir_meaning.specs.Loops.{live, ReadsLeaf, by_connect, by_node, by_port, ReadsThrough, directly, through, HasNoLoop, HasLeaves, driven_from, TakesFrom, by_live_connect, by_reset, by_init, by_write, by_read, TakesLeaves}
+use Rattle.fir_meaning.proofs.Settling.{state_itself}
+use Rattle.fir_meaning.proofs.Nexts.{rows_same}
+use Rattle.fir_meaning.proofs.Samples.{name, uint, clock_type, ref, literal, op, connect, leaf, input, output}
 use Rattle.fir_meaning.proofs.Tracking.{none_some, some_same}
 use Rattle.fir_meaning.proofs.Ports.{component_found}
 
@@ -142,12 +143,12 @@ settled s n r held driven_out = record {
       (λ e. absurd (true≢false (sym e ∙ not_clock 4)));
   inputs = λ m c leaf stands.
       each_leaf (λ path m c leaf. is_port c.declaration.sort ≡ true → is_source (flow_of c.declaration.sort leaf.flip) ≡ true → is_clock leaf ≡ false
-          → seen m path (holding n r) c leaf ≡ given n c.declaration.name leaf.path)
-        (λ p f k. absurd (true≢false (sym clock_is_clock ∙ k)))
-        (λ p f k. refl)
-        (λ p f k. absurd (true≢false (sym f)))
-        (λ p f k. absurd (true≢false (sym p)))
-        [] m c leaf stands;
+      → seen m path (holding n r) c leaf ≡ given n c.declaration.name leaf.path)
+      (λ p f k. absurd (true≢false (sym clock_is_clock ∙ k)))
+      (λ p f k. refl)
+      (λ p f k. absurd (true≢false (sym f)))
+      (λ p f k. absurd (true≢false (sym p)))
+      [] m c leaf stands;
   registers = each_leaf (λ path m c leaf. is_register c.declaration.sort ≡ true → seen m path (holding n r) c leaf ≡ s.registers path c.declaration.name leaf.path)
       (λ e. absurd (true≢false (sym e)))
       (λ e. absurd (true≢false (sym e)))
@@ -217,9 +218,9 @@ after_third = next design after_second (holding 0 1)
 runs : Trace design first_state (given 1 ∷ given 0 ∷ given 0 ∷ given 0 ∷ []) ((pos 0 ∷ []) ∷ (pos 0 ∷ []) ∷ (pos 1 ∷ []) ∷ (pos 2 ∷ []) ∷ [])
 runs =
     one_cycle first_state 1 0 _ _ refl out_0
-        (one_cycle after_first 0 0 _ _ (next_at first_state 1 0 ∙ resets _) out_0_again
-            (one_cycle after_second 0 1 _ _ (next_at after_first 0 0 ∙ counts_to_1 _) out_1
-                (one_cycle after_third 0 2 _ _ (next_at after_second 0 1 ∙ counts_to_2 _) out_2 ended)))
+    (one_cycle after_first 0 0 _ _ (next_at first_state 1 0 ∙ resets _) out_0_again
+    (one_cycle after_second 0 1 _ _ (next_at after_first 0 0 ∙ counts_to_1 _) out_1
+    (one_cycle after_third 0 2 _ _ (next_at after_second 0 1 ∙ counts_to_2 _) out_2 ended)))
 
 -- The counter is as the law on settled valuations asks: its bundles, its leaves, and no loop.
 
@@ -233,12 +234,12 @@ live_of_out = grind (arith, common_steps, stmt_lemmas, expr_lemmas, type_lemmas)
 only_read : (x y : FlatLeaf) → ReadsLeaf design x y → (x ≡ at_name 12) × (y ≡ at_name 13)
 only_read x y (by_connect path m c leaf read stands d among) =
     each_leaf (λ path m c part. (z : Leaf) → is_driven c part ≡ true → Contains (joined (live (type_in m) (leaf_of c part) c.declaration.block)) z
-        → (flat m path (leaf_of c part) ≡ at_name 12) × (flat m path z ≡ at_name 13))
-      (λ z e r. absurd (true≢false (sym e)))
-      (λ z e r. absurd (true≢false (sym e)))
-      (λ z e r. (refl, ap (flat counter []) (sym (the_one _ z (subst (λ l. Contains l z) live_of_out r)))))
-      (λ z e r. absurd (true≢false (sym e)))
-      path m c leaf stands read d among
+    → (flat m path (leaf_of c part) ≡ at_name 12) × (flat m path z ≡ at_name 13))
+    (λ z e r. absurd (true≢false (sym e)))
+    (λ z e r. absurd (true≢false (sym e)))
+    (λ z e r. (refl, ap (flat counter []) (sym (the_one _ z (subst (λ l. Contains l z) live_of_out r)))))
+    (λ z e r. absurd (true≢false (sym e)))
+    path m c leaf stands read d among
 only_read x y (by_node path m c leaf e k mentioned read stands sort unclocked there is among) =
     absurd (true≢false (sym (ap is_node sort) ∙ each_leaf (λ path m c leaf. is_node c.declaration.sort ≡ false) refl refl refl refl path m c leaf stands))
 only_read x y (by_port path m c leaf memory port name field way stands sort latency turned is named by goes) =
@@ -265,7 +266,7 @@ flat_leaves : HasLeaves design (at_name 10 ∷ at_name 11 ∷ at_name 12 ∷ at_
 flat_leaves = record {
   listed = λ x l. subst (Contains (at_name 10 ∷ at_name 11 ∷ at_name 12 ∷ at_name 13 ∷ [])) l.is
       (each_leaf (λ path m c leaf. Contains (at_name 10 ∷ at_name 11 ∷ at_name 12 ∷ at_name 13 ∷ []) (flat m path (leaf_of c leaf)))
-          (0, omega arith, refl) (1, omega arith, refl) (2, omega arith, refl) (3, omega arith, refl) l.path l.m l.c l.leaf l.stands);
+      (0, omega arith, refl) (1, omega arith, refl) (2, omega arith, refl) (3, omega arith, refl) l.path l.m l.c l.leaf l.stands);
   closed = λ x y r. record {
     path = [];
     m = counter;
@@ -302,3 +303,69 @@ bundles = record {
   memories = λ path m c memory reached declared sort.
       let here = in_counter path m c reached declared in absurd (true≢false (sym (ap is_memory sort) ∙ (simple c here.0 here.1 here.2).2));
 }
+
+live_of_register : joined (live (type_in counter) (leaf 13 []) body) ≡ leaf 13 [] ∷ []
+live_of_register = grind (arith, common_steps, stmt_lemmas, expr_lemmas, type_lemmas)
+
+reset_mentions : joined (mentions (ref 11) (type_in counter)) ≡ leaf 11 [] ∷ []
+reset_mentions = grind (arith, common_steps, expr_lemmas, type_lemmas)
+
+init_mentions : joined (driven_from false (leaf 13 []) (mentions (literal 4 0) (type_in counter)) (Some (whole_region (type_in counter) 13))) ≡ []
+init_mentions = grind (arith, common_steps, expr_lemmas, type_lemmas)
+
+abbrev reset_in : Sort → Expr
+reset_in (A_reset_register k r i) = r
+reset_in _ = ref 0
+
+abbrev init_in : Sort → Expr
+init_in (A_reset_register k r i) = i
+init_in _ = ref 0
+
+in_none : {A : Type 0} (z : A) → Contains [] z → ⊥
+in_none z (k, below, is) = absurd (omega arith)
+
+-- the edge takes the register and the reset
+taken_is : (x y : FlatLeaf) → TakesFrom design x y → (y ≡ at_name 13) ⊎ (y ≡ at_name 11)
+taken_is x y (by_live_connect path m c part z stands register among) =
+    each_leaf (λ path m c part. (z : Leaf) → is_register c.declaration.sort ≡ true → Contains (joined (live (type_in m) (leaf_of c part) c.declaration.block)) z
+    → (flat m path z ≡ at_name 13) ⊎ (flat m path z ≡ at_name 11))
+    (λ z e r. absurd (true≢false (sym e)))
+    (λ z e r. absurd (true≢false (sym e)))
+    (λ z e r. absurd (true≢false (sym e)))
+    (λ z e r. inl (ap (flat counter []) (sym (the_one _ z (subst (λ l. Contains l z) live_of_register r)))))
+    path m c part stands z register among
+taken_is x y (by_reset path m c part k r i z stands sort among) =
+    each_leaf (λ path m c part. (z : Leaf) → c.declaration.sort ≡ A_reset_register k r i → Contains (joined (mentions r (type_in m))) z → (flat m path z ≡ at_name 13) ⊎ (flat m path z ≡ at_name 11))
+    (λ z e a. absurd (true≢false (sym (ap is_register e))))
+    (λ z e a. absurd (true≢false (sym (ap is_register e))))
+    (λ z e a. absurd (true≢false (sym (ap is_register e))))
+    (λ z e a. inr (ap (flat counter []) (sym (the_one _ z (subst (λ l. Contains l z) (ap (λ b. joined (mentions b (type_in counter))) (sym (ap reset_in e)) ∙ reset_mentions) a)))))
+    path m c part stands z sort among
+taken_is x y (by_init path m c part k r i z stands sort among) =
+    each_leaf (λ path m c part. (z : Leaf) → c.declaration.sort ≡ A_reset_register k r i
+    → Contains (joined (driven_from false (leaf_of c part) (mentions i (type_in m)) (Some (whole_region (type_in m) c.declaration.name)))) z → (flat m path z ≡ at_name 13) ⊎ (flat m path z ≡ at_name 11))
+    (λ z e a. absurd (true≢false (sym (ap is_register e))))
+    (λ z e a. absurd (true≢false (sym (ap is_register e))))
+    (λ z e a. absurd (true≢false (sym (ap is_register e))))
+    (λ z e a. absurd (in_none z (subst (λ l. Contains l z) (ap (λ b. joined (driven_from false (leaf 13 []) (mentions b (type_in counter)) (Some (whole_region (type_in counter) 13)))) (sym (ap init_in e)) ∙ init_mentions) a)))
+    path m c part stands z sort among
+taken_is x y (by_write path m c part memory port way writer by stands read among goes) =
+    absurd (true≢false (sym (ap is_memory read.sort) ∙ each_leaf (λ path m c leaf. is_memory c.declaration.sort ≡ false) refl refl refl refl path m c part stands))
+taken_is x y (by_read path m c part memory port way q by stands read later named goes) =
+    absurd (true≢false (sym (ap is_memory read.sort) ∙ each_leaf (λ path m c leaf. is_memory c.declaration.sort ≡ false) refl refl refl refl path m c part stands))
+
+uint_stands : (c : Component) (width : ℕ) → component_named counter c.declaration.name ≡ Some c → c.typ ≡ uint width → Stands design [] counter c (whole_leaf (uint width))
+uint_stands c width declared is = stands_at c (uint width) declared (subst (λ l. Contains l (whole_leaf (uint width))) (sym (ap leaves is ∙ uint_leaves width)) (0, omega arith, refl))
+
+takes : TakesLeaves design
+takes = record {
+  closed = λ x y r. ⊎_elim
+      (λ e. record { path = []; m = counter; c = register; leaf = whole_leaf (uint 4); stands = uint_stands register 4 refl refl; is = sym e })
+      (λ e. record { path = []; m = counter; c = reset; leaf = whole_leaf (uint 1); stands = uint_stands reset 1 refl refl; is = sym e })
+      (taken_is x y r);
+}
+
+-- So it is the one trace of this run.
+only_these : (rows : List (List ℤ)) → Trace design first_state (given 1 ∷ given 0 ∷ given 0 ∷ given 0 ∷ []) rows
+    → rows ≡ (pos 0 ∷ []) ∷ (pos 0 ∷ []) ∷ (pos 1 ∷ []) ∷ (pos 2 ∷ []) ∷ []
+only_these rows t = rows_same design (at_name 10 ∷ at_name 11 ∷ at_name 12 ∷ at_name 13 ∷ []) bundles no_loop flat_leaves takes (state_itself design first_state) t runs

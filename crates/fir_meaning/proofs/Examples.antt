@@ -1,16 +1,16 @@
 -- Statements, conditions and registers in one cycle.
-use Rattle.std.proofs.Common.{◌≡◌, ℕ, true, false, List, [], ◌∷◌, refl, Some, None, rules, arith, ℤ, pos, map, ◌==◌, if◌then◌else◌}
+use Rattle.std.proofs.Common.{◌≡◌, ℕ, List, [], ◌∷◌, Some, None, arith, pos, ◌==◌, if◌then◌else◌}
 use Rattle.std.proofs.lemmas.Grind.{common_steps}
-use Rattle.fir_types.specs.declared.fir_type.FirType.{FirType, the_lemmas as type_lemmas}
+use Rattle.fir_types.specs.declared.fir_type.FirType.{the_lemmas as type_lemmas}
 use Rattle.fir_tree.specs.declared.expr.Expr.{Expr, the_lemmas as expr_lemmas}
 use Rattle.fir_tree.specs.declared.stmt.Stmt.{Stmt, the_lemmas as stmt_lemmas}
 use Rattle.fir_tree.specs.declared.stmt.Stmt.TheVariants as stmt
 use Rattle.prim_ops.specs.declared.operation.PrimOp.TheVariants.{Eq, Add, Tail}
-use Rattle.fir_meaning.specs.Components.{Component, Declaration, Sort, A_register, A_reset_register, A_wire, An_input, An_output, declarations_of}
+use Rattle.fir_meaning.specs.Components.{Component, Declaration, A_register, A_reset_register, A_wire, declarations_of}
 use Rattle.fir_meaning.specs.Values.{Scene}
 use Rattle.fir_meaning.specs.Drives.{drives}
 use Rattle.fir_meaning.specs.States.{next_of_register}
-use Rattle.fir_meaning.proofs.Samples.{uint, ref, literal, op, connect, arm, leaf, name, clock_type, input, output}
+use Rattle.fir_meaning.proofs.Samples.{uint, ref, literal, op, connect, arm, leaf, name}
 
 -- Names: the inputs a and c are 20 and 21, the outputs x and y are 22 and 23, the register r and the wire w are 24 and 25.
 
@@ -36,7 +36,7 @@ abbrev last_connect : List Stmt
 last_connect =
     connect (ref 22) (literal 8 1)
     ∷ stmt.When (arm (equals (ref 20) 0) (connect (ref 22) (literal 8 2) ∷ []) ∷ arm (equals (ref 20) 1) (connect (ref 22) (literal 8 3) ∷ []) ∷ [])
-        (connect (ref 23) (literal 8 9) ∷ [])
+    (connect (ref 23) (literal 8 9) ∷ [])
     ∷ connect (ref 23) (ref 22) ∷ []
 
 -- The connect in the arm that holds comes later than the one before the `when`.

@@ -1,22 +1,19 @@
 -- What leaves mention and read, loops, certain statements and clocks. The input a is 20, the outputs x and y are 21 and 22, each
 -- of one bit.
-use Rattle.std.proofs.Common.{◌≡◌, ◌∙◌, ℕ, true, false, List, [], ◌∷◌, refl, Some, None, arith, ◌==◌, if◌then◌else◌}
+use Rattle.std.proofs.Common.{◌≡◌, ◌∙◌, true, false, [], ◌∷◌, Some, arith, ◌==◌, if◌then◌else◌}
 use Rattle.std.proofs.lemmas.Grind.{common_steps}
-use Rattle.fir_types.specs.declared.fir_type.FirType.{FirType, the_lemmas as type_lemmas}
-use Rattle.fir_types.specs.declared.leaf.PathStep.{PathStep}
+use Rattle.fir_types.specs.declared.fir_type.FirType.{the_lemmas as type_lemmas}
 use Rattle.fir_types.specs.declared.leaf.PathStep.TheVariants as step
 use Rattle.fir_tree.specs.declared.expr.Expr.{Expr, the_lemmas as expr_lemmas}
 use Rattle.fir_tree.specs.declared.expr.Form.TheVariants as form
-use Rattle.fir_tree.specs.declared.stmt.Stmt.{Stmt, the_lemmas as stmt_lemmas}
+use Rattle.fir_tree.specs.declared.stmt.Stmt.{the_lemmas as stmt_lemmas}
 use Rattle.fir_tree.specs.declared.stmt.Stmt.TheVariants as stmt
-use Rattle.prim_ops.specs.declared.operation.PrimOp.TheVariants.{Not}
-use Rattle.fir_meaning.specs.Components.{Leaf}
 use Rattle.fir_meaning.specs.Mentions.{Scope, mentions, region_of}
 use Rattle.fir_meaning.specs.Certain.{is_certain}
 use Rattle.fir_meaning.specs.Loops.{live}
-use Rattle.fir_meaning.specs.ClockRoot.{Driver, Undriven, No_driver, From, driver_in}
+use Rattle.fir_meaning.specs.ClockRoot.{No_driver, From, driver_in}
 use Rattle.fir_meaning.proofs.Equations.{region-indexed, mentions-indexed}
-use Rattle.fir_meaning.proofs.Samples.{place, name, uint, vector, clock_type, ref, part, at, index, literal, op, connect, arm, leaf}
+use Rattle.fir_meaning.proofs.Samples.{place, name, uint, vector, ref, part, at, index, literal, connect, arm, leaf}
 
 abbrev types : Scope
 types c = if c == 30 then vector (uint 1) 2 else uint 1

@@ -1,14 +1,13 @@
 -- A memory of four elements, with a reader r (50) and two writers w (51) and z (52) that write the element 2.
-use Rattle.std.proofs.Common.{◌≡◌, ℕ, true, false, Bool, List, [], ◌∷◌, refl, Some, None, arith, ℤ, pos, ◌==◌, if◌then◌else◌}
+use Rattle.std.proofs.Common.{◌≡◌, ℕ, [], ◌∷◌, arith, ℤ, pos, ◌==◌, if◌then◌else◌}
 use Rattle.std.proofs.lemmas.Grind.{common_steps}
-use Rattle.fir_types.specs.declared.leaf.PathStep.{PathStep}
 use Rattle.fir_types.specs.declared.leaf.PathStep.TheVariants as step
 use Rattle.fir_types.specs.declared.memory.Memory.{Memory}
 use Rattle.fir_types.specs.declared.memory.MemLine.TheVariants as line
 use Rattle.fir_types.specs.declared.memory.PortMode.TheVariants as mode
 use Rattle.fir_types.specs.declared.memory.Under.{Under}
 use Rattle.fir_types.specs.declared.memory.Under.TheVariants as under
-use Rattle.fir_types.specs.Bundles.{addr_name, en_name, data_name, mask_name, rdata_name, wmode_name, wdata_name, wmask_name}
+use Rattle.fir_types.specs.Bundles.{addr_name, en_name, mask_name, wmode_name, wdata_name}
 use Rattle.fir_meaning.specs.Components.{Component, A_memory}
 use Rattle.fir_meaning.specs.Values.{Scene}
 use Rattle.fir_meaning.specs.MemoryPorts.{Contents, Leaves, after_writes, read_by}
@@ -16,10 +15,13 @@ use Rattle.fir_meaning.specs.States.{next_of_memory, next_of_port}
 use Rattle.fir_meaning.proofs.Samples.{place, name, uint}
 
 abbrev memory : ℕ → Under → Memory
-memory latency under = record { name = name 40; lines =
-  line.Element place (uint 8) ∷ line.Depth place 4 ∷ line.ReadLatency place latency ∷ line.WriteLatency place 1
-  ∷ line.MemPort place mode.Reader (name 50) ∷ line.MemPort place mode.Writer (name 51) ∷ line.MemPort place mode.Writer (name 52)
-  ∷ line.ReadUnder place under ∷ [] }
+memory latency under = record {
+  name = name 40;
+  lines =
+      line.Element place (uint 8) ∷ line.Depth place 4 ∷ line.ReadLatency place latency ∷ line.WriteLatency place 1
+      ∷ line.MemPort place mode.Reader (name 50) ∷ line.MemPort place mode.Writer (name 51) ∷ line.MemPort place mode.Writer (name 52)
+      ∷ line.ReadUnder place under ∷ [];
+}
 
 -- r reads the element 2; w writes `d` into the element 2 in every cycle, and z writes 77 into it where `both` is 1.
 abbrev field_of : ℕ → ℕ → ℕ → ℕ → ℤ
@@ -111,4 +113,3 @@ mode_1_writes = grind (arith, common_steps)
 
 mode_1_reads_0 : read_by single (two_modes 1) (holding 4) 53 [] ≡ pos 0
 mode_1_reads_0 = grind (arith, common_steps)
-

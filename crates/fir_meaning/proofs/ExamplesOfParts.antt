@@ -1,8 +1,8 @@
 -- Parts of components: dynamic indices, flipped fields, instances.
-use Rattle.std.proofs.Common.{◌≡◌, ℕ, true, false, List, [], ◌∷◌, refl, Some, None, arith, ℤ, pos, negsuc, map, ap, ◌∙◌, ◌==◌, if◌then◌else◌}
+use Rattle.std.proofs.Common.{◌≡◌, ℕ, true, List, [], ◌∷◌, refl, Some, None, arith, ℤ, pos, negsuc, map, ap, ◌∙◌, ◌==◌, if◌then◌else◌}
 use Rattle.std.proofs.lemmas.Grind.{common_steps}
 use Rattle.bit_words.specs.Values.{integer_of}
-use Rattle.fir_types.specs.declared.fir_type.FirType.{FirType, the_lemmas as type_lemmas}
+use Rattle.fir_types.specs.declared.fir_type.FirType.{the_lemmas as type_lemmas}
 use Rattle.fir_types.specs.declared.leaf.PathStep.{PathStep}
 use Rattle.fir_types.specs.Bundles.{least_reaching}
 use Rattle.fir_types.specs.declared.leaf.PathStep.TheVariants as step
@@ -10,14 +10,13 @@ use Rattle.fir_tree.specs.declared.expr.Expr.{Expr, the_lemmas as expr_lemmas}
 use Rattle.fir_tree.specs.declared.expr.Form.{Form}
 use Rattle.fir_tree.specs.declared.expr.Form.TheVariants as form
 use Rattle.fir_tree.specs.declared.stmt.Stmt.{Stmt, the_lemmas as stmt_lemmas}
-use Rattle.fir_tree.specs.declared.stmt.Stmt.TheVariants as stmt
 use Rattle.prim_ops.specs.declared.operation.PrimOp.TheVariants.{Div, Rem}
-use Rattle.fir_meaning.specs.Components.{Component, TypedModule, An_input, An_output, An_instance, flow_of, Source, Sink, flat}
+use Rattle.fir_meaning.specs.Components.{TypedModule, An_input, An_output, An_instance, flow_of, Source, Sink, flat}
 use Rattle.fir_meaning.specs.Values.{Scene, Valuation, value, lone, spot_of, scene_of, least_width}
 use Rattle.bit_words.specs.declared.value.Kind.TheVariants.{Unsigned, Signed}
 use Rattle.fir_meaning.specs.Drives.{drives}
 use Rattle.fir_meaning.proofs.Equations.{value-indexed, spot-indexed}
-use Rattle.fir_meaning.proofs.Samples.{place, name, uint, sint, vector, bundle, plain, flipped, ref, part, dot, at, index, literal, op, expr, connect, leaf}
+use Rattle.fir_meaning.proofs.Samples.{place, name, uint, sint, vector, bundle, plain, flipped, ref, part, dot, index, literal, op, expr, connect, leaf}
 
 -- `v : UInt<4>[5]` is 20, with the element 4 at 9 and the others at 1, and `i : UInt<3>` is 21.
 abbrev element : List PathStep → ℤ
@@ -99,10 +98,13 @@ flipped_input = refl
 
 -- An instance c (40) of the module C (41), whose input `in` is 42 and whose output `out` is 43. In the valuation `out` is 6 there.
 abbrev caller : TypedModule
-caller = record { name = 44; components = record {
-  declaration = record { name = 40; sort = An_instance 41; block = []; behind = [] };
-  typ = bundle (flipped 42 (uint 4) ∷ plain 43 (uint 4) ∷ []);
-} ∷ [] }
+caller = record {
+  name = 44;
+  components = record {
+    declaration = record { name = 40; sort = An_instance 41; block = []; behind = [] };
+    typ = bundle (flipped 42 (uint 4) ∷ plain 43 (uint 4) ∷ []);
+  } ∷ [];
+}
 
 abbrev below : Valuation
 below [] c way = pos 0

@@ -1,5 +1,5 @@
 -- The next state, and the rows of a run, are determined: by what the leaves have in the cycle.
-use Rattle.std.proofs.Common.{◌≡◌, ◌≢◌, ℕ, zero, suc, ◌+◌, ◌<◌, ◌==◌, Bool, true, false, not, ◌&&◌, cond, List, [], ◌∷◌, ◌++◌, map, fold, filter, length, Option, Some, None, option_map, option_and_then, ℤ, pos, nat_lt, unsigned_abs, refl, sym, ap, ap₂, ◌∙◌, subst, arith, true≢false, if◌then◌else◌, ◌⊎◌, inl, inr, ⊎_elim, int_eq}
+use Rattle.std.proofs.Common.{◌≡◌, ◌≢◌, ℕ, zero, suc, ◌==◌, Bool, true, false, not, ◌&&◌, cond, List, [], ◌∷◌, map, fold, filter, Option, Some, None, option_map, option_and_then, ℤ, pos, nat_lt, unsigned_abs, refl, sym, ap, ap₂, ◌∙◌, subst, arith, if◌then◌else◌, int_eq}
 use Rattle.std.specs.Prelude.{Contains}
 use Rattle.fir_types.specs.declared.leaf.TypeLeaf.{TypeLeaf}
 use Rattle.fir_types.specs.declared.leaf.PathStep.{PathStep}
@@ -11,21 +11,20 @@ use Rattle.fir_types.specs.declared.memory.PortMode.{PortMode}
 use Rattle.fir_types.specs.declared.memory.PortMode.TheVariants as mode
 use Rattle.fir_types.specs.Leaves.{leaves}
 use Rattle.fir_types.specs.Memories.{read_latency_of, depth_of, under_of}
-use Rattle.fir_types.specs.Bundles.{addr_name, en_name, data_name, mask_name, wmode_name, wdata_name, wmask_name}
+use Rattle.fir_types.specs.Bundles.{en_name, wmode_name, wdata_name, wmask_name}
 use Rattle.fir_tree.specs.declared.expr.Expr.{Expr}
 use Rattle.fir_meaning.specs.Components.{Design, TypedModule, Component, Leaf, FlatLeaf, Sort, An_input, An_output, A_wire, A_register, A_reset_register, A_memory, An_instance, A_node, flow_of, is_clock, flat, flat_through, type_in, module_at, module_named, component_named, target_of, target_in, HasBundles}
 use Rattle.fir_meaning.specs.Values.{Valuation, scene_of, scene_with, value, whole, is_one}
 use Rattle.fir_meaning.specs.Drives.{drives, left_in, set_at}
-use Rattle.fir_meaning.specs.MemoryPorts.{MemoryPort, Contents, Leaves, memory_ports, port_named, field, after_port, after_writes, read_by, asks_to_write, is_within, address, mask_field, written_field}
-use Rattle.fir_meaning.specs.States.{State, SameState, Inputs, Stands, Settled, Trace, ended, cycle, next, next_of_register, next_of_memory, next_of_port, located, where_located, or_else, taken, row, watched, watched_of, watched_of_component, leaf_of, is_port, is_source, is_register}
+use Rattle.fir_meaning.specs.MemoryPorts.{MemoryPort, Contents, Leaves, memory_ports, port_named, field, after_port, after_writes, asks_to_write, is_within, address, mask_field, written_field}
+use Rattle.fir_meaning.specs.States.{State, SameState, Inputs, Stands, Trace, ended, cycle, next, next_of_register, next_of_memory, next_of_port, located, where_located, or_else, taken, row, watched, watched_of, watched_of_component, leaf_of, is_port, is_source, is_register}
 use Rattle.fir_meaning.specs.Mentions.{joined, mentions, whole_region}
-use Rattle.fir_meaning.specs.Loops.{live, driven_from, write_goes_by, read_goes_by, IsRead, TakesFrom, by_connect, by_reset, by_init, by_write, by_read, TakesLeaves, HasNoLoop, IsLeafOf, HasLeaves}
-use Rattle.fir_meaning.proofs.Tracking.{tracked, all_same, whole_paired, none_some, some_same}
-use Rattle.fir_meaning.proofs.Covering.{true_or_false}
+use Rattle.fir_meaning.specs.Loops.{live, driven_from, write_goes_by, IsRead, by_live_connect, by_reset, by_init, by_write, by_read, TakesLeaves, HasNoLoop, IsLeafOf, HasLeaves}
+use Rattle.fir_meaning.proofs.Tracking.{tracked, all_same, whole_paired}
 use Rattle.fir_meaning.proofs.Sides.{named, side_two}
 use Rattle.fir_meaning.proofs.Blocks.{drives_same}
 use Rattle.fir_meaning.proofs.Ports.{and_some, one_later, from_map, from_flat_map, found, same_number}
-use Rattle.fir_meaning.proofs.Settling.{at, local, local_at, agree_at, read_same, read_contents, settled_same, state_itself, port_target, flat_none}
+use Rattle.fir_meaning.proofs.Settling.{at, local, local_at, agree_at, read_same, read_contents, settled_same, port_target, flat_none}
 
 -- Writes
 
@@ -52,7 +51,7 @@ writes_same : (memory : Memory) (l r : Leaves) (element : ℕ) (way : List PathS
 writes_same memory l r element way [] before after h old = old
 writes_same memory l r element way (port ∷ ports) before after h old =
     writes_same memory l r element way ports (after_port memory l before port) (after_port memory r after port) (λ writer c. h writer (one_later port ports writer c))
-        (written_same memory l r before after port element way port.mode (h port (0, omega arith, refl)) old)
+    (written_same memory l r before after port element way port.mode (h port (0, omega arith, refl)) old)
 
 -- The next state
 
@@ -68,8 +67,8 @@ module _ (design : Design) (takes : TakesLeaves design) (s t : State) (rho other
     driven : drives (scene_of m path rho) (leaf_of c leaf) c.declaration.block ≡ drives (scene_of m path other) (leaf_of c leaf) c.declaration.block
     driven =
         drives_same (type_in m) (leaf_of c leaf) c.declaration.block (local m path rho) (local m path other)
-            (agree_at m path rho other (joined (live (type_in m) (leaf_of c leaf) c.declaration.block))
-                (λ y r. every (flat m path y) (takes.closed (flat m path (leaf_of c leaf)) (flat m path y) (by_connect path m c leaf y stands register r))))
+        (agree_at m path rho other (joined (live (type_in m) (leaf_of c leaf) c.declaration.block))
+        (λ y r. every (flat m path y) (takes.closed (flat m path (leaf_of c leaf)) (flat m path y) (by_live_connect path m c leaf y stands register r))))
 
     with_reset : (clock reset init : Expr) → c.declaration.sort ≡ A_reset_register clock reset init
         → next_of_register (scene_of m path rho) c (A_reset_register clock reset init) leaf.path held ≡ next_of_register (scene_of m path other) c (A_reset_register clock reset init) leaf.path too
@@ -77,17 +76,17 @@ module _ (design : Design) (takes : TakesLeaves design) (s t : State) (rho other
         let f = local m path rho in
         let g = local m path other in
         let resets : value reset (scene_with (type_in m) f) ≡ value reset (scene_with (type_in m) g) =
-            all_same (tracked reset (type_in m) f g) (agree_at m path rho other (joined (mentions reset (type_in m)))
-                (λ y r. every (flat m path y) (takes.closed (flat m path (leaf_of c leaf)) (flat m path y) (by_reset path m c leaf clock reset init y stands q r)))) in
+        all_same (tracked reset (type_in m) f g) (agree_at m path rho other (joined (mentions reset (type_in m)))
+        (λ y r. every (flat m path y) (takes.closed (flat m path (leaf_of c leaf)) (flat m path y) (by_reset path m c leaf clock reset init y stands q r)))) in
         let sources = joined (driven_from false (leaf_of c leaf) (mentions init (type_in m)) (Some (whole_region (type_in m) c.declaration.name))) in
         let initial : left_in (leaf_of c leaf) None (set_at false (Some (whole (scene_with (type_in m) f) c.declaration.name)) (value init (scene_with (type_in m) f)))
-                ≡ left_in (leaf_of c leaf) None (set_at false (Some (whole (scene_with (type_in m) g) c.declaration.name)) (value init (scene_with (type_in m) g))) =
-            (side_two (named (whole_paired (type_in m) f g c.declaration.name)) (named (whole_paired (type_in m) f f c.declaration.name)) (named (whole_paired (type_in m) g g c.declaration.name))
-                false (leaf_of c leaf) (tracked init (type_in m) f g)).same
-                (agree_at m path rho other sources (λ y r. every (flat m path y) (takes.closed (flat m path (leaf_of c leaf)) (flat m path y) (by_init path m c leaf clock reset init y stands q r)))) None in
+        ≡ left_in (leaf_of c leaf) None (set_at false (Some (whole (scene_with (type_in m) g) c.declaration.name)) (value init (scene_with (type_in m) g))) =
+        (side_two (named (whole_paired (type_in m) f g c.declaration.name)) (named (whole_paired (type_in m) f f c.declaration.name)) (named (whole_paired (type_in m) g g c.declaration.name))
+        false (leaf_of c leaf) (tracked init (type_in m) f g)).same
+        (agree_at m path rho other sources (λ y r. every (flat m path y) (takes.closed (flat m path (leaf_of c leaf)) (flat m path y) (by_init path m c leaf clock reset init y stands q r)))) None in
         ap₂ or_else same
-            (ap (λ vs. if is_one vs then left_in (leaf_of c leaf) None (set_at false (Some (whole (scene_with (type_in m) f) c.declaration.name)) (value init (scene_with (type_in m) f))) else drives (scene_with (type_in m) f) (leaf_of c leaf) c.declaration.block) resets
-            ∙ ap₂ (λ x y. if is_one (value reset (scene_with (type_in m) g)) then x else y) initial driven)
+        (ap (λ vs. if is_one vs then left_in (leaf_of c leaf) None (set_at false (Some (whole (scene_with (type_in m) f) c.declaration.name)) (value init (scene_with (type_in m) f))) else drives (scene_with (type_in m) f) (leaf_of c leaf) c.declaration.block) resets
+        ∙ ap₂ (λ x y. if is_one (value reset (scene_with (type_in m) g)) then x else y) initial driven)
 
     by_sort : (sort : Sort) → c.declaration.sort ≡ sort → next_of_register (scene_of m path rho) c sort leaf.path held ≡ next_of_register (scene_of m path other) c sort leaf.path too
     by_sort (A_register clock) q = ap₂ or_else same driven
@@ -105,11 +104,11 @@ module _ (design : Design) (takes : TakesLeaves design) (s t : State) (rho other
       ≡ after_writes memory (local m path other c.declaration.name) (t.contents path c.declaration.name) element way
   contents_next path m c leaf memory port inner way element stands sort turned is =
       writes_same memory (local m path rho c.declaration.name) (local m path other c.declaration.name) element way (memory_ports memory) (s.contents path c.declaration.name) (t.contents path c.declaration.name)
-          (λ writer among by goes.
-              let y : Leaf = record { component = c.declaration.name; way = step.Field writer.name ∷ by } in
-              let read : IsRead c leaf memory port way = record { sort = sort; source = turned; field = inner; is = is } in
-              local_at m path rho y ∙ (every (flat m path y) (takes.closed (flat m path (leaf_of c leaf)) (flat m path y) (by_write path m c leaf memory port way writer by stands read among goes)) ∙ sym (local_at m path other y)))
-          (kept.contents path m c leaf memory port inner way element stands sort turned is)
+      (λ writer among by goes.
+      let y : Leaf = record { component = c.declaration.name; way = step.Field writer.name ∷ by } in
+      let read : IsRead c leaf memory port way = record { sort = sort; source = turned; field = inner; is = is } in
+      local_at m path rho y ∙ (every (flat m path y) (takes.closed (flat m path (leaf_of c leaf)) (flat m path y) (by_write path m c leaf memory port way writer by stands read among goes)) ∙ sym (local_at m path other y)))
+      (kept.contents path m c leaf memory port inner way element stands sort turned is)
 
   taken_next : (path : List ℕ) (m : TypedModule) (c : Component) (leaf : TypeLeaf) (memory : Memory) (port inner : ℕ) (way : List PathStep) (u : Under) (element : ℕ) → Stands design path m c leaf
       → c.declaration.sort ≡ A_memory memory → leaf.flip ≡ false → leaf.path ≡ step.Field port ∷ step.Field inner ∷ way
@@ -129,12 +128,12 @@ module _ (design : Design) (takes : TakesLeaves design) (s t : State) (rho other
       let after : Contents = taken (under_of memory) (t.contents path c.declaration.name) (after_writes memory r (t.contents path c.declaration.name)) in
       let read : IsRead c leaf memory port way = record { sort = sort; source = turned; field = inner; is = is } in
       read_same memory l r before port way (port_named memory port) refl
-          (λ q is_named by goes.
-              let name : q.name ≡ port = same_number q.name port (found (λ x. x.name == port) (memory_ports memory) q is_named).0 in
-              let y : Leaf = record { component = c.declaration.name; way = step.Field port ∷ step.Field by ∷ [] } in
-              let here : l (step.Field port ∷ step.Field by ∷ []) ≡ r (step.Field port ∷ step.Field by ∷ []) =
-                  local_at m path rho y ∙ (every (flat m path y) (takes.closed (flat m path (leaf_of c leaf)) (flat m path y) (by_read path m c leaf memory port way q by stands read later is_named goes)) ∙ sym (local_at m path other y)) in
-              subst (λ z. l (step.Field z ∷ step.Field by ∷ []) ≡ r (step.Field z ∷ step.Field by ∷ [])) (sym name) here)
+      (λ q is_named by goes.
+      let name : q.name ≡ port = same_number q.name port (found (λ x. x.name == port) (memory_ports memory) q is_named).0 in
+      let y : Leaf = record { component = c.declaration.name; way = step.Field port ∷ step.Field by ∷ [] } in
+      let here : l (step.Field port ∷ step.Field by ∷ []) ≡ r (step.Field port ∷ step.Field by ∷ []) =
+      local_at m path rho y ∙ (every (flat m path y) (takes.closed (flat m path (leaf_of c leaf)) (flat m path y) (by_read path m c leaf memory port way q by stands read later is_named goes)) ∙ sym (local_at m path other y)) in
+      subst (λ z. l (step.Field z ∷ step.Field by ∷ []) ≡ r (step.Field z ∷ step.Field by ∷ [])) (sym name) here)
       ∙ read_contents memory r before after way (λ element. taken_next path m c leaf memory port inner way (under_of memory) element stands sort turned is) (port_named memory port)
 
   pub next_same : SameState design (next design s rho) (next design t other)
@@ -213,6 +212,6 @@ rows_same design all has none leaves_of takes kept ended ended = refl
 rows_same design all has none leaves_of takes {s} {t} kept (cycle {given = g} rho one rest) (cycle other two later) =
     let every : (x : FlatLeaf) → IsLeafOf design x → at rho x ≡ at other x = settled_same design all has none leaves_of s t g rho other one two kept in
     let first : row design rho ≡ row design other =
-        map_same (λ leaf. rho [] leaf.component leaf.way) (λ leaf. other [] leaf.component leaf.way) (watched design)
-            (λ y among. every (record { path = []; component = y.component; way = y.way }) (watched_is_leaf design has (module_named design design.main) refl y among)) in
+    map_same (λ leaf. rho [] leaf.component leaf.way) (λ leaf. other [] leaf.component leaf.way) (watched design)
+    (λ y among. every (record { path = []; component = y.component; way = y.way }) (watched_is_leaf design has (module_named design design.main) refl y among)) in
     ap₂ (λ x xs. x ∷ xs) first (rows_same design all has none leaves_of takes (next_same design takes s t rho other kept every) rest later)

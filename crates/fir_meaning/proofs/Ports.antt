@@ -1,5 +1,5 @@
 -- Instances and their modules: each leaf of an instance is a leaf of a port, and the other way round.
-use Rattle.std.proofs.Common.{◌≡◌, ℕ, zero, suc, ◌+◌, ◌<◌, ◌==◌, Bool, true, false, not, cond, List, [], ◌∷◌, ◌++◌, map, find, filter_map, length, Option, Some, None, option_and_then, refl, sym, ap, ◌∙◌, subst, arith, true≢false, if◌then◌else◌, ◌⊎◌, inl, inr, ⊎_elim}
+use Rattle.std.proofs.Common.{◌≡◌, ℕ, zero, suc, ◌==◌, Bool, true, false, not, cond, List, [], ◌∷◌, ◌++◌, map, find, filter_map, Option, Some, None, option_and_then, refl, sym, ap, ◌∙◌, subst, arith, true≢false, if◌then◌else◌, ◌⊎◌, inl, inr, ⊎_elim}
 use Rattle.std.specs.Prelude.{Contains}
 use Rattle.std.specs.List.{flat_map, cons_option}
 use Rattle.std.proofs.lemmas.Grind.{common_steps}
@@ -7,19 +7,17 @@ use Rattle.std.proofs.lemmas.List.Elements.{Contains-append_cases}
 use Rattle.std.proofs.lemmas.List.Concat.{flat_map-cons}
 use Rattle.std.proofs.lemmas.List.Folds.{flat_map-map}
 use Rattle.place_text.specs.declared.place.Place.{Place}
-use Rattle.fir_types.specs.declared.fir_type.FirType.{FirType, the_lemmas as type_lemmas}
+use Rattle.fir_types.specs.declared.fir_type.FirType.{the_lemmas as type_lemmas}
 use Rattle.fir_types.specs.declared.fir_type.Shape.TheVariants as shape
 use Rattle.fir_types.specs.declared.fir_type.Field.{Field}
 use Rattle.fir_types.specs.declared.leaf.TypeLeaf.{TypeLeaf}
-use Rattle.fir_types.specs.declared.leaf.PathStep.{PathStep}
 use Rattle.fir_types.specs.declared.leaf.PathStep.TheVariants as step
 use Rattle.fir_types.specs.declared.port.Port.{Port}
-use Rattle.fir_types.specs.Leaves.{leaves, field_leaves, within}
+use Rattle.fir_types.specs.Leaves.{leaves, within}
 use Rattle.fir_types.specs.Bundles.{nowhere, instance_field, instance_of}
-use Rattle.fir_meaning.specs.Components.{Design, TypedModule, Component, Sort, An_input, An_output, A_wire, A_register, A_reset_register, A_memory, An_instance, A_node, Flow, Source, Sink, Duplex, flow_of, is_clock, module_at, module_within, module_named, component_named, target_of, target_in, port_of, typed_ports, HasBundles}
+use Rattle.fir_meaning.specs.Components.{Design, TypedModule, Component, Sort, An_input, An_output, A_wire, A_register, A_reset_register, A_memory, An_instance, A_node, flow_of, is_clock, module_at, module_within, module_named, component_named, target_of, target_in, port_of, typed_ports, HasBundles}
 use Rattle.fir_meaning.specs.States.{Stands, is_port, is_source}
 use Rattle.fir_meaning.proofs.Tracking.{Contains-map, Contains-flat_map, none_some, some_same}
-use Rattle.fir_meaning.proofs.Covering.{true_or_false}
 
 -- Lists
 
@@ -177,39 +175,42 @@ instance_leaves ports = bundle_leaves nowhere (map instance_field ports)
 pub instance_inside : (design : Design) → HasBundles design → (path : List ℕ) (m : TypedModule) (c : Component) (leaf : TypeLeaf) (target : ℕ) → Stands design path m c leaf
     → c.declaration.sort ≡ An_instance target
     → (n : TypedModule) × (p : Component) × (part : TypeLeaf) × Stands design (path ++ c.declaration.name ∷ []) n p part × (is_port p.declaration.sort ≡ true)
-        × (is_source (flow_of p.declaration.sort part.flip) ≡ leaf.flip) × (leaf.path ≡ step.Field p.declaration.name ∷ part.path) × (is_clock leaf ≡ is_clock part)
+    × (is_source (flow_of p.declaration.sort part.flip) ≡ leaf.flip) × (leaf.path ≡ step.Field p.declaration.name ∷ part.path) × (is_clock leaf ≡ is_clock part)
 instance_inside design has path m c leaf target stands s =
     let bundle = has.instances path m c target stands.reached stands.declared s in
     let n : TypedModule = bundle.0 in
     let reached : module_at design (path ++ c.declaration.name ∷ []) ≡ Some n =
-        at_snoc design path c.declaration.name
-        ∙ (ap (option_and_then (λ x. inside design x c.declaration.name)) stands.reached
-        ∙ (ap (option_and_then (module_named design)) (target_is m c target stands.declared s) ∙ bundle.1)) in
+    at_snoc design path c.declaration.name
+    ∙ (ap (option_and_then (λ x. inside design x c.declaration.name)) stands.reached
+    ∙ (ap (option_and_then (module_named design)) (target_is m c target stands.declared s) ∙ bundle.1)) in
     let there : Contains (flat_map (λ f. map (within (step.Field f.name.id) f.flip) (leaves f.typ)) (map instance_field (typed_ports n))) leaf =
-        subst (λ l. Contains l leaf) (bundle.2 ∙ instance_leaves (typed_ports n)) stands.listed in
+    subst (λ l. Contains l leaf) (bundle.2 ∙ instance_leaves (typed_ports n)) stands.listed in
     let field = from_flat_map (λ f. map (within (step.Field f.name.id) f.flip) (leaves f.typ)) (map instance_field (typed_ports n)) leaf there in
     let of_port = from_map instance_field (typed_ports n) field.0 field.1 in
     let port : Port = of_port.0 in
     let inner : Contains (map (within (step.Field port.name.id) (not port.output)) (leaves port.typ)) leaf =
-        subst (λ f. Contains (map (within (step.Field f.name.id) f.flip) (leaves f.typ)) leaf) (sym of_port.2) field.2 in
+    subst (λ f. Contains (map (within (step.Field f.name.id) f.flip) (leaves f.typ)) leaf) (sym of_port.2) field.2 in
     let of_part = from_map (within (step.Field port.name.id) (not port.output)) (leaves port.typ) leaf inner in
     let part : TypeLeaf = of_part.0 in
     let of_component = from_filter_map (λ x. port_of x x.declaration.sort) n.components port of_port.1 in
     let p : Component = of_component.0 in
     let known = port_sort p p.declaration.sort port of_component.2 in
-    let is : port_leaf port part ≡ leaf = of_part.2 in
-    (n, p, part,
-        record { reached = reached; declared = has.names (path ++ c.declaration.name ∷ []) n p reached of_component.1; listed = subst (λ typ. Contains (leaves typ) part) known.2 of_part.1 },
-        known.0,
-        known.3 part.flip ∙ ap (λ l. l.flip) is,
-        sym (ap (λ l. l.path) is) ∙ ap (λ id. step.Field id ∷ part.path) known.1,
-        sym (ap is_clock is))
+    let is : port_leaf port part ≡ leaf = of_part.2 in (
+      n,
+      p,
+      part,
+      record { reached = reached; declared = has.names (path ++ c.declaration.name ∷ []) n p reached of_component.1; listed = subst (λ typ. Contains (leaves typ) part) known.2 of_part.1 },
+      known.0,
+      known.3 part.flip ∙ ap (λ l. l.flip) is,
+      sym (ap (λ l. l.path) is) ∙ ap (λ id. step.Field id ∷ part.path) known.1,
+      sym (ap is_clock is),
+    )
 
 -- A leaf of a port inside is a leaf of the instance.
 pub port_outside : (design : Design) → HasBundles design → (front : List ℕ) (i : ℕ) (n : TypedModule) (p : Component) (part : TypeLeaf) → Stands design (front ++ i ∷ []) n p part
     → is_port p.declaration.sort ≡ true
     → (m : TypedModule) × (c : Component) × (leaf : TypeLeaf) × (target : ℕ) × Stands design front m c leaf × (c.declaration.name ≡ i) × (c.declaration.sort ≡ An_instance target)
-        × (leaf.flip ≡ is_source (flow_of p.declaration.sort part.flip)) × (leaf.path ≡ step.Field p.declaration.name ∷ part.path) × (is_clock leaf ≡ is_clock part)
+    × (leaf.flip ≡ is_source (flow_of p.declaration.sort part.flip)) × (leaf.path ≡ step.Field p.declaration.name ∷ part.path) × (is_clock leaf ≡ is_clock part)
 port_outside design has front i n p part stands is =
     let above = and_then (λ x. inside design x i) (module_at design front) n (sym (at_snoc design front i) ∙ stands.reached) in
     let m : TypedModule = above.0 in
@@ -227,16 +228,21 @@ port_outside design has front i n p part stands is =
     let known = port_sort p p.declaration.sort port of_port.1 in
     let in_ports : Contains (typed_ports n) port = Contains-filter_map (λ x. port_of x x.declaration.sort) n.components p port (component_found n p.declaration.name p stands.declared).1 of_port.1 in
     let in_field : Contains (map (within (step.Field port.name.id) (not port.output)) (leaves port.typ)) (port_leaf port part) =
-        Contains-map (within (step.Field port.name.id) (not port.output)) (leaves port.typ) part (subst (λ typ. Contains (leaves typ) part) (sym known.2) stands.listed) in
+    Contains-map (within (step.Field port.name.id) (not port.output)) (leaves port.typ) part (subst (λ typ. Contains (leaves typ) part) (sym known.2) stands.listed) in
     let there : Contains (leaves (instance_of (typed_ports n))) (port_leaf port part) =
-        subst (λ l. Contains l (port_leaf port part)) (sym (instance_leaves (typed_ports n)))
-            (Contains-flat_map (λ f. map (within (step.Field f.name.id) f.flip) (leaves f.typ)) (map instance_field (typed_ports n)) (instance_field port) (port_leaf port part)
-                (Contains-map instance_field (typed_ports n) port in_ports) in_field) in
+    subst (λ l. Contains l (port_leaf port part)) (sym (instance_leaves (typed_ports n)))
+    (Contains-flat_map (λ f. map (within (step.Field f.name.id) f.flip) (leaves f.typ)) (map instance_field (typed_ports n)) (instance_field port) (port_leaf port part)
+    (Contains-map instance_field (typed_ports n) port in_ports) in_field) in
     let listed : Contains (leaves c.typ) (port_leaf port part) =
-        subst (λ l. Contains l (port_leaf port part)) (sym (bundle.2 ∙ ap (λ x. leaves (instance_of (typed_ports x))) same)) there in
-    (m, c, port_leaf port part, target,
-        record { reached = above.1; declared = declared; listed = listed },
-        name, sort,
-        sym (known.3 part.flip),
-        ap (λ id. step.Field id ∷ part.path) known.1,
-        refl)
+    subst (λ l. Contains l (port_leaf port part)) (sym (bundle.2 ∙ ap (λ x. leaves (instance_of (typed_ports x))) same)) there in (
+      m,
+      c,
+      port_leaf port part,
+      target,
+      record { reached = above.1; declared = declared; listed = listed },
+      name,
+      sort,
+      sym (known.3 part.flip),
+      ap (λ id. step.Field id ∷ part.path) known.1,
+      refl,
+    )

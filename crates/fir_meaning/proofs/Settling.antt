@@ -1,7 +1,6 @@
 -- Two valuations that settle in one cycle agree on every leaf, where no leaf reads itself.
-use Rattle.std.proofs.Common.{◌≡◌, ◌≢◌, ℕ, zero, suc, ◌+◌, ◌<◌, ◌==◌, Bool, true, false, not, ◌&&◌, cond, List, [], ◌∷◌, ◌++◌, map, length, slice_get, filter_map, Option, Some, None, option_map, option_and_then, ℤ, pos, nat_lt, unsigned_abs, refl, sym, ap, ap₂, ◌∙◌, subst, arith, true≢false, if◌then◌else◌, ◌⊎◌, inl, inr, ⊎_elim, int_eq}
+use Rattle.std.proofs.Common.{◌≡◌, ◌≢◌, ℕ, zero, suc, ◌==◌, Bool, true, false, not, ◌&&◌, List, [], ◌∷◌, ◌++◌, map, slice_get, filter_map, Option, Some, None, option_map, option_and_then, ℤ, pos, nat_lt, unsigned_abs, refl, sym, ap, ap₂, ◌∙◌, subst, arith, true≢false, if◌then◌else◌, ⊎_elim, int_eq}
 use Rattle.std.specs.Prelude.{Contains}
-use Rattle.std.proofs.lemmas.Grind.{common_steps}
 use Rattle.place_text.specs.declared.place.Place.{Place}
 use Rattle.bit_words.specs.declared.value.Value.{Value}
 use Rattle.bit_words.specs.Values.{integer_of}
@@ -18,12 +17,11 @@ use Rattle.fir_types.specs.declared.memory.PortMode.{PortMode}
 use Rattle.fir_types.specs.declared.memory.PortMode.TheVariants as mode
 use Rattle.fir_types.specs.Leaves.{leaves, within}
 use Rattle.fir_types.specs.Memories.{read_latency_of, depth_of}
-use Rattle.fir_types.specs.Bundles.{port_field, port_type, addr_name, en_name, wmode_name}
+use Rattle.fir_types.specs.Bundles.{port_field, addr_name, en_name, wmode_name}
 use Rattle.fir_tree.specs.declared.expr.Expr.{Expr}
-use Rattle.fir_meaning.specs.Components.{Design, TypedModule, Component, Leaf, FlatLeaf, Sort, An_input, An_output, A_wire, A_register, A_reset_register, A_memory, An_instance, A_node, Flow, Source, Sink, Duplex, flow_of, is_clock, flat, flat_through, type_in, module_at, component_named, target_of, target_in, ports_bundle, HasBundles}
-use Rattle.fir_meaning.specs.Values.{Valuation, Integers, scene_of, scene_with, seen_through, value}
-use Rattle.fir_meaning.specs.Drives.{drives}
-use Rattle.fir_meaning.specs.MemoryPorts.{MemoryPort, Contents, Leaves, memory_ports, port_named, field, asks_to_read, is_within, address, port_read, read_of, read_by}
+use Rattle.fir_meaning.specs.Components.{Design, TypedModule, Component, Leaf, FlatLeaf, Sort, An_input, An_output, A_wire, A_register, A_reset_register, A_memory, An_instance, A_node, flow_of, is_clock, flat, flat_through, type_in, component_named, target_of, target_in, ports_bundle, HasBundles}
+use Rattle.fir_meaning.specs.Values.{Valuation, Integers, scene_of, seen_through, value}
+use Rattle.fir_meaning.specs.MemoryPorts.{MemoryPort, Contents, Leaves, memory_ports, port_named, field, asks_to_read, is_within, address, read_of}
 use Rattle.fir_meaning.specs.States.{State, SameState, Inputs, Stands, Settled, seen, leaf_of, is_port, is_source, is_register, is_driven}
 use Rattle.fir_meaning.specs.Mentions.{Agree, joined, mentions}
 use Rattle.fir_meaning.specs.Loops.{Mentioned, live, read_goes_by, ReadsLeaf, by_connect, by_node, by_port, HasNoLoop, IsLeafOf, HasLeaves}
@@ -87,9 +85,9 @@ read_same_mode memory l r contents port way mode.Reader h =
     ap₂ (λ e a. if int_eq e (pos 1) && nat_lt (unsigned_abs a) (depth_of memory) then contents (unsigned_abs a) way else pos 0) (h en_name (1, omega arith, refl)) (h addr_name (0, omega arith, refl))
 read_same_mode memory l r contents port way mode.ReadWriter h =
     ap₂ (λ e a. if (int_eq e (pos 1) && not (int_eq (field l port wmode_name []) (pos 1))) && nat_lt (unsigned_abs a) (depth_of memory) then contents (unsigned_abs a) way else pos 0)
-        (h en_name (1, omega arith, refl)) (h addr_name (0, omega arith, refl))
+    (h en_name (1, omega arith, refl)) (h addr_name (0, omega arith, refl))
     ∙ ap (λ w. if (int_eq (field r port en_name []) (pos 1) && not (int_eq w (pos 1))) && nat_lt (address r port) (depth_of memory) then contents (address r port) way else pos 0)
-        (h wmode_name (2, omega arith, refl))
+    (h wmode_name (2, omega arith, refl))
 
 pub read_contents : (memory : Memory) (l : Leaves) (before after : Contents) (way : List PathStep) → ((element : ℕ) → before element way ≡ after element way) → (o : Option MemoryPort)
     → read_of memory l before o way ≡ read_of memory l after o way
@@ -115,7 +113,7 @@ memory_way : (memory : Memory) (element : FirType) (leaf : TypeLeaf) → Contain
     → (port : ℕ) × (inner : ℕ) × (way : List PathStep) × (leaf.path ≡ step.Field port ∷ step.Field inner ∷ way)
 memory_way memory element leaf c =
     let outer = from_flat_map (λ f. map (within (step.Field f.name.id) f.flip) (leaves f.typ)) (filter_map (port_field element (depth_of memory)) memory.lines) leaf
-        (subst (λ l. Contains l leaf) (bundle_leaves _ (filter_map (port_field element (depth_of memory)) memory.lines)) c) in
+    (subst (λ l. Contains l leaf) (bundle_leaves _ (filter_map (port_field element (depth_of memory)) memory.lines)) c) in
     let port : Field = outer.0 in
     let of_line = from_filter_map (port_field element (depth_of memory)) memory.lines port outer.1 in
     let bundle = port_bundle element (depth_of memory) of_line.0 port of_line.2 in
@@ -190,7 +188,7 @@ module _ (design : Design) (has : HasBundles design) (s t : State) (given : Inpu
       → at rho (flat m path (leaf_of c leaf)) ≡ at other (flat m path (leaf_of c leaf))
   driven_same path m c leaf stands d below =
       let agree : Agree (local m path rho) (local m path other) (joined (live (type_in m) (leaf_of c leaf) c.declaration.block)) =
-          agree_at m path rho other (joined (live (type_in m) (leaf_of c leaf) c.declaration.block)) (λ y r. below (flat m path y) (by_connect path m c leaf y stands d r)) in
+      agree_at m path rho other (joined (live (type_in m) (leaf_of c leaf) c.declaration.block)) (λ y r. below (flat m path y) (by_connect path m c leaf y stands d r)) in
       let same = drives_same (type_in m) (leaf_of c leaf) c.declaration.block (local m path rho) (local m path other) agree in
       by_seen path m c leaf (some_same _ _ (sym (one.driven path m c leaf stands d) ∙ (same ∙ two.driven path m c leaf stands d)))
 
@@ -200,7 +198,7 @@ module _ (design : Design) (has : HasBundles design) (s t : State) (given : Inpu
       → (o : Option Mentioned) → slice_get (mentions e (type_in m)) k ≡ o → x ≡ y
   by_mention path m c leaf e stands sort clock below k there vs ws tracks {x} {y} a b (Some mentioned) q =
       let agree : Agree (local m path rho) (local m path other) mentioned =
-          agree_at m path rho other mentioned (λ z r. below (flat m path z) (by_node path m c leaf e k mentioned z stands sort clock there q r)) in
+      agree_at m path rho other mentioned (λ z r. below (flat m path z) (by_node path m c leaf e k mentioned z stands sort clock there q r)) in
       some_same x y (sym a ∙ (get-map integer_of vs k ∙ (ap (option_map integer_of) (each_same tracks k mentioned q agree) ∙ (sym (get-map integer_of ws k) ∙ b))))
   by_mention path m c leaf e stands sort clock below k there vs ws tracks {x} {y} a b None q =
       absurd (none_some (sym (ap (option_map integer_of) (none_at tracks k q)) ∙ (sym (get-map integer_of vs k) ∙ a)))
@@ -212,9 +210,9 @@ module _ (design : Design) (has : HasBundles design) (s t : State) (given : Inpu
       let there : slice_get (leaves c.typ) k ≡ Some leaf = get_there (leaves c.typ) leaf stands.listed in
       let values : Valuation → List Value = λ r. value e (scene_of m path r) in
       let at_rho : slice_get (map integer_of (values rho)) k ≡ Some (seen m path rho c leaf) =
-          sym (ap (λ l. slice_get l k) (one.nodes path m c e stands.reached stands.declared sort)) ∙ (get-map (seen m path rho c) (leaves c.typ) k ∙ ap (option_map (seen m path rho c)) there) in
+      sym (ap (λ l. slice_get l k) (one.nodes path m c e stands.reached stands.declared sort)) ∙ (get-map (seen m path rho c) (leaves c.typ) k ∙ ap (option_map (seen m path rho c)) there) in
       let at_other : slice_get (map integer_of (values other)) k ≡ Some (seen m path other c leaf) =
-          sym (ap (λ l. slice_get l k) (two.nodes path m c e stands.reached stands.declared sort)) ∙ (get-map (seen m path other c) (leaves c.typ) k ∙ ap (option_map (seen m path other c)) there) in
+      sym (ap (λ l. slice_get l k) (two.nodes path m c e stands.reached stands.declared sort)) ∙ (get-map (seen m path other c) (leaves c.typ) k ∙ ap (option_map (seen m path other c)) there) in
       let tracks = tracked e (type_in m) (local m path rho) (local m path other) in
       by_seen path m c leaf (by_mention path m c leaf e stands sort clock below k there (values rho) (values other) tracks at_rho at_other (slice_get (mentions e (type_in m)) k) refl)
 
@@ -225,22 +223,22 @@ module _ (design : Design) (has : HasBundles design) (s t : State) (given : Inpu
       let way = memory_way memory bundle.0 leaf (subst (λ l. Contains l leaf) bundle.1 stands.listed) in
       by_seen path m c leaf (by_latency (read_latency_of memory) refl way)
     where
-    by_latency : (latency : ℕ) → read_latency_of memory ≡ latency → (port : ℕ) × (inner : ℕ) × (way : List PathStep) × (leaf.path ≡ step.Field port ∷ step.Field inner ∷ way)
-        → seen m path rho c leaf ≡ seen m path other c leaf
-    by_latency zero e (port, inner, way, is) =
-        let same = read_same memory (local m path rho c.declaration.name) (local m path other c.declaration.name) (s.contents path c.declaration.name) port way (port_named memory port) refl
-            (λ q named by goes.
-                let name : q.name ≡ port = same_number q.name port (found (λ x. x.name == port) (memory_ports memory) q named).0 in
-                let y : Leaf = record { component = c.declaration.name; way = step.Field port ∷ step.Field by ∷ [] } in
-                let here : local m path rho c.declaration.name (step.Field port ∷ step.Field by ∷ []) ≡ local m path other c.declaration.name (step.Field port ∷ step.Field by ∷ []) =
-                    local_at m path rho y ∙ (below (flat m path y) (by_port path m c leaf memory q port inner way stands sort e turned is named by goes) ∙ sym (local_at m path other y)) in
-                subst (λ z. local m path rho c.declaration.name (step.Field z ∷ step.Field by ∷ []) ≡ local m path other c.declaration.name (step.Field z ∷ step.Field by ∷ [])) (sym name) here) in
-        let held = read_contents memory (local m path other c.declaration.name) (s.contents path c.declaration.name) (t.contents path c.declaration.name) way
-            (λ element. kept.contents path m c leaf memory port inner way element stands sort turned is) (port_named memory port) in
-        one.reads path m c leaf memory port inner way stands sort e turned is ∙ (same ∙ (held ∙ sym (two.reads path m c leaf memory port inner way stands sort e turned is)))
-    by_latency (suc n) e (port, inner, way, is) =
-        let later : read_latency_of memory ≢ 0 = λ z. let bad : suc n ≡ 0 = sym e ∙ z in absurd (omega arith) in
-        one.captured path m c leaf memory port inner way stands sort later turned is ∙ (kept.captured path m c leaf memory port inner way stands sort later turned is ∙ sym (two.captured path m c leaf memory port inner way stands sort later turned is))
+      by_latency : (latency : ℕ) → read_latency_of memory ≡ latency → (port : ℕ) × (inner : ℕ) × (way : List PathStep) × (leaf.path ≡ step.Field port ∷ step.Field inner ∷ way)
+          → seen m path rho c leaf ≡ seen m path other c leaf
+      by_latency zero e (port, inner, way, is) =
+          let same = read_same memory (local m path rho c.declaration.name) (local m path other c.declaration.name) (s.contents path c.declaration.name) port way (port_named memory port) refl
+          (λ q named by goes.
+          let name : q.name ≡ port = same_number q.name port (found (λ x. x.name == port) (memory_ports memory) q named).0 in
+          let y : Leaf = record { component = c.declaration.name; way = step.Field port ∷ step.Field by ∷ [] } in
+          let here : local m path rho c.declaration.name (step.Field port ∷ step.Field by ∷ []) ≡ local m path other c.declaration.name (step.Field port ∷ step.Field by ∷ []) =
+          local_at m path rho y ∙ (below (flat m path y) (by_port path m c leaf memory q port inner way stands sort e turned is named by goes) ∙ sym (local_at m path other y)) in
+          subst (λ z. local m path rho c.declaration.name (step.Field z ∷ step.Field by ∷ []) ≡ local m path other c.declaration.name (step.Field z ∷ step.Field by ∷ [])) (sym name) here) in
+          let held = read_contents memory (local m path other c.declaration.name) (s.contents path c.declaration.name) (t.contents path c.declaration.name) way
+          (λ element. kept.contents path m c leaf memory port inner way element stands sort turned is) (port_named memory port) in
+          one.reads path m c leaf memory port inner way stands sort e turned is ∙ (same ∙ (held ∙ sym (two.reads path m c leaf memory port inner way stands sort e turned is)))
+      by_latency (suc n) e (port, inner, way, is) =
+          let later : read_latency_of memory ≢ 0 = λ z. let bad : suc n ≡ 0 = sym e ∙ z in absurd (omega arith) in
+          one.captured path m c leaf memory port inner way stands sort later turned is ∙ (kept.captured path m c leaf memory port inner way stands sort later turned is ∙ sym (two.captured path m c leaf memory port inner way stands sort later turned is))
 
   -- a port's leaf that is a source inside
   port_same : (path : List ℕ) (m : TypedModule) (c : Component) (leaf : TypeLeaf) → Stands design path m c leaf → is_port c.declaration.sort ≡ true
@@ -248,19 +246,19 @@ module _ (design : Design) (has : HasBundles design) (s t : State) (given : Inpu
       → at rho (flat m path (leaf_of c leaf)) ≡ at other (flat m path (leaf_of c leaf))
   port_same path m c leaf stands is source clock below = ⊎_elim
       (λ e.
-          let here : Stands design [] m c leaf = subst (λ p. Stands design p m c leaf) e stands in
-          by_seen path m c leaf
-              (subst (λ p. seen m p rho c leaf ≡ seen m p other c leaf) (sym e) (one.inputs m c leaf here is source clock ∙ sym (two.inputs m c leaf here is source clock))))
+      let here : Stands design [] m c leaf = subst (λ p. Stands design p m c leaf) e stands in
+      by_seen path m c leaf
+      (subst (λ p. seen m p rho c leaf ≡ seen m p other c leaf) (sym e) (one.inputs m c leaf here is source clock ∙ sym (two.inputs m c leaf here is source clock))))
       (λ above.
-          let there : Stands design (above.0 ++ above.1 ∷ []) m c leaf = subst (λ p. Stands design p m c leaf) above.2 stands in
-          let out = port_outside design has above.0 above.1 m c leaf there is in
-          let same : flat out.0 above.0 (leaf_of out.1 out.2) ≡ flat m path (leaf_of c leaf) =
-              one_leaf above.0 out.0 m out.1 c out.2 leaf out.3 out.4.declared out.6 stands.declared is out.8
-              ∙ ap (λ p. flat m p (leaf_of c leaf)) (ap (λ i. above.0 ++ i ∷ []) out.5 ∙ sym above.2) in
-          let flow : is_source (flow_of out.1.declaration.sort out.2.flip) ≡ false =
-              ap (λ sort. is_source (flow_of sort out.2.flip)) out.6 ∙ (instance_flip out.2.flip out.3 ∙ ap not (out.7 ∙ source)) in
-          let driven : is_driven out.1 out.2 ≡ true = driven_by out.1 out.2 flow (ap is_register out.6) (out.9 ∙ clock) in
-          subst (λ x. at rho x ≡ at other x) same (driven_same above.0 out.0 out.1 out.2 out.4 driven (subst Below (sym same) below)))
+      let there : Stands design (above.0 ++ above.1 ∷ []) m c leaf = subst (λ p. Stands design p m c leaf) above.2 stands in
+      let out = port_outside design has above.0 above.1 m c leaf there is in
+      let same : flat out.0 above.0 (leaf_of out.1 out.2) ≡ flat m path (leaf_of c leaf) =
+      one_leaf above.0 out.0 m out.1 c out.2 leaf out.3 out.4.declared out.6 stands.declared is out.8
+      ∙ ap (λ p. flat m p (leaf_of c leaf)) (ap (λ i. above.0 ++ i ∷ []) out.5 ∙ sym above.2) in
+      let flow : is_source (flow_of out.1.declaration.sort out.2.flip) ≡ false =
+      ap (λ sort. is_source (flow_of sort out.2.flip)) out.6 ∙ (instance_flip out.2.flip out.3 ∙ ap not (out.7 ∙ source)) in
+      let driven : is_driven out.1 out.2 ≡ true = driven_by out.1 out.2 flow (ap is_register out.6) (out.9 ∙ clock) in
+      subst (λ x. at rho x ≡ at other x) same (driven_same above.0 out.0 out.1 out.2 out.4 driven (subst Below (sym same) below)))
       (last_of_path path)
 
   -- an instance's leaf that is a source outside
@@ -269,9 +267,9 @@ module _ (design : Design) (has : HasBundles design) (s t : State) (given : Inpu
   instance_same path m c leaf target stands sort turned clock below =
       let within_it = instance_inside design has path m c leaf target stands sort in
       let same : flat m path (leaf_of c leaf) ≡ flat within_it.0 (path ++ c.declaration.name ∷ []) (leaf_of within_it.1 within_it.2) =
-          one_leaf path m within_it.0 c within_it.1 leaf within_it.2 target stands.declared sort within_it.3.declared within_it.4 within_it.6 in
+      one_leaf path m within_it.0 c within_it.1 leaf within_it.2 target stands.declared sort within_it.3.declared within_it.4 within_it.6 in
       let driven : is_driven within_it.1 within_it.2 ≡ true =
-          driven_by within_it.1 within_it.2 (within_it.5 ∙ turned) (port_register within_it.1.declaration.sort within_it.4) (sym within_it.7 ∙ clock) in
+      driven_by within_it.1 within_it.2 (within_it.5 ∙ turned) (port_register within_it.1.declaration.sort within_it.4) (sym within_it.7 ∙ clock) in
       subst (λ x. at rho x ≡ at other x) (sym same) (driven_same (path ++ c.declaration.name ∷ []) within_it.0 within_it.1 within_it.2 within_it.3 driven (subst Below same below))
 
   source_same : (path : List ℕ) (m : TypedModule) (c : Component) (leaf : TypeLeaf) → Stands design path m c leaf → is_source (flow_of c.declaration.sort leaf.flip) ≡ true
@@ -292,19 +290,19 @@ module _ (design : Design) (has : HasBundles design) (s t : State) (given : Inpu
   leaf_same path m c leaf stands below = ⊎_elim
       (λ clock. by_seen path m c leaf (one.clocks path m c leaf stands clock ∙ sym (two.clocks path m c leaf stands clock)))
       (λ clock. ⊎_elim
-          (λ source. source_same path m c leaf stands source clock below c.declaration.sort refl)
-          (λ flow. ⊎_elim
-              (λ register. by_seen path m c leaf (one.registers path m c leaf stands register ∙ (kept.registers path m c leaf stands register ∙ sym (two.registers path m c leaf stands register))))
-              (λ register. driven_same path m c leaf stands (driven_by c leaf flow register clock) below)
-              (true_or_false (is_register c.declaration.sort)))
-          (true_or_false (is_source (flow_of c.declaration.sort leaf.flip))))
+      (λ source. source_same path m c leaf stands source clock below c.declaration.sort refl)
+      (λ flow. ⊎_elim
+      (λ register. by_seen path m c leaf (one.registers path m c leaf stands register ∙ (kept.registers path m c leaf stands register ∙ sym (two.registers path m c leaf stands register))))
+      (λ register. driven_same path m c leaf stands (driven_by c leaf flow register clock) below)
+      (true_or_false (is_register c.declaration.sort)))
+      (true_or_false (is_source (flow_of c.declaration.sort leaf.flip))))
       (true_or_false (is_clock leaf))
 
   all_same_from : (all : List FlatLeaf) → HasLeaves design all → (x : FlatLeaf) → Ends design x → IsLeafOf design x → at rho x ≡ at other x
   all_same_from all leaves_of x (ends h) l =
       subst (λ z. at rho z ≡ at other z) l.is
-          (leaf_same l.path l.m l.c l.leaf l.stands
-              (λ y r. let read : ReadsLeaf design x y = subst (λ z. ReadsLeaf design z y) l.is r in all_same_from all leaves_of y (h y read) (leaves_of.closed x y read)))
+      (leaf_same l.path l.m l.c l.leaf l.stands
+      (λ y r. let read : ReadsLeaf design x y = subst (λ z. ReadsLeaf design z y) l.is r in all_same_from all leaves_of y (h y read) (leaves_of.closed x y read)))
 
 -- Any two valuations agree on every leaf that are settled in cycles that begin with the same state.
 pub settled_same : (design : Design) (all : List FlatLeaf) → HasBundles design → HasNoLoop design → HasLeaves design all → (s t : State) (given : Inputs) (rho other : Valuation)

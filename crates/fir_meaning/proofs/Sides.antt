@@ -1,11 +1,9 @@
 -- One side of a connect: what it sets in a leaf depends on what it mentions for it alone.
-use Rattle.std.proofs.Common.{◌≡◌, ℕ, zero, suc, ◌+◌, ◌<◌, Bool, true, false, cond, not, ◌&&◌, ◌||◌, List, [], ◌∷◌, ◌++◌, map, fold, filter, filter_map, length, Option, Some, None, ℤ, refl, sym, ap, ◌∙◌, subst, arith, true≢false, is_some, if◌then◌else◌, ◌⊎◌, inl, inr, ⊎_elim}
+use Rattle.std.proofs.Common.{◌≡◌, zero, suc, Bool, true, false, cond, not, ◌&&◌, ◌||◌, List, [], ◌∷◌, ◌++◌, map, fold, filter_map, Option, Some, None, ℤ, refl, sym, ap, ◌∙◌, subst, arith, true≢false, is_some, if◌then◌else◌, ◌⊎◌, inl, inr, ⊎_elim}
 use Rattle.std.specs.Prelude.{Contains}
-use Rattle.std.specs.List.{flat_map, list_any, cons_option}
-use Rattle.std.proofs.lemmas.Grind.{common_steps}
+use Rattle.std.specs.List.{list_any, cons_option}
 use Rattle.std.proofs.lemmas.List.Concat.{flat_map-cons}
 use Rattle.bit_words.specs.declared.value.Value.{Value}
-use Rattle.bit_words.specs.Values.{integer_of}
 use Rattle.fir_types.specs.declared.leaf.TypeLeaf.{TypeLeaf}
 use Rattle.fir_types.specs.declared.leaf.PathStep.{PathStep}
 use Rattle.fir_types.specs.Leaves.{leaves}
@@ -15,10 +13,10 @@ use Rattle.fir_tree.specs.declared.expr.Suffix.{Suffix}
 use Rattle.fir_tree.specs.declared.expr.Form.TheOpen.{Form-F}
 use Rattle.fir_tree.specs.declared.expr.Form.TheViews.{out-Form}
 use Rattle.fir_meaning.specs.Components.{Leaf}
-use Rattle.fir_meaning.specs.Values.{Integers, Scene, scene_with, Spot, suffix_step, spot_of, spot_of_form, beside, lone, fitted_to}
+use Rattle.fir_meaning.specs.Values.{Integers, scene_with, Spot, suffix_step, spot_of, spot_of_form, beside, lone}
 use Rattle.fir_meaning.specs.Mentions.{Scope, Region, Agree, joined, suffix_onward, region_of, region_of_form, leaves_at}
 use Rattle.fir_meaning.specs.Drives.{Setting, setting, is_turned, same_leaf, of_orientation, set_along, set_at, left_in}
-use Rattle.fir_meaning.specs.Certain.{may_be, may_name, is_static, surely_names}
+use Rattle.fir_meaning.specs.Certain.{may_be, may_name, surely_names}
 use Rattle.fir_meaning.specs.Loops.{Driving, Mentioned, driven_from}
 use Rattle.fir_meaning.proofs.Tracking.{Tracks, tracks_none, tracks_next, Paired, suffix_paired, whole_paired, Contains-map, agree-left, agree-right, none_some, some_same}
 use Rattle.fir_meaning.proofs.Covering.{One, Two, cons_nil, true_or_false, and_left, and_right, joined-append, append_nil_left, append_nil_right, or_false}
@@ -30,7 +28,7 @@ pub data Named (f g : Integers) : Option Region → Option Spot → Option Spot 
 
 follow_named : (types : Scope) (f g : Integers) (suffixes : List Suffix) (region : Region) (a b : Spot) → Paired f g region a b
     → Paired f g (fold (λ r to. to types r) region (map suffix_onward suffixes))
-        (fold (λ spot to. to (scene_with types f) spot) a (map suffix_step suffixes)) (fold (λ spot to. to (scene_with types g) spot) b (map suffix_step suffixes))
+    (fold (λ spot to. to (scene_with types f) spot) a (map suffix_step suffixes)) (fold (λ spot to. to (scene_with types g) spot) b (map suffix_step suffixes))
 follow_named types f g [] region a b p = p
 follow_named types f g (s ∷ suffixes) region a b p =
     follow_named types f g suffixes (suffix_onward s types region) (suffix_step s (scene_with types f) a) (suffix_step s (scene_with types g) b) (suffix_paired s types f g region a b p)
@@ -120,7 +118,7 @@ module _ (flip : Bool) (region : Region) (leaf : Leaf) (w : List PathStep) where
         → (if b then (if same_leaf (setting region.component w (l, v)).leaf leaf then Some (setting region.component w (l, v)).integer else last) else last) ≡ last
     by_turn true q =
         by_same (same_leaf (setting region.component w (l, v)).leaf leaf)
-            (any_false (λ at. same_leaf at leaf) (leaves_at region l.path) (named_at l) q (Contains-map (λ way. record { component = region.component; way = way ++ l.path }) region.ways w c))
+        (any_false (λ at. same_leaf at leaf) (leaves_at region l.path) (named_at l) q (Contains-map (λ way. record { component = region.component; way = way ++ l.path }) region.ways w c))
     by_turn false q = refl
 
   -- two values, which are the same where the part may be the leaf
@@ -137,7 +135,7 @@ module _ (flip : Bool) (region : Region) (leaf : Leaf) (w : List PathStep) where
       let turned : is_turned flip l ≡ true = and_left (is_turned flip l) (list_any (λ at. same_leaf at leaf) (leaves_at region l.path)) q in
       let among : list_any (λ at. same_leaf at leaf) (leaves_at region l.path) ≡ true = and_right (is_turned flip l) (list_any (λ at. same_leaf at leaf) (leaves_at region l.path)) q in
       let alone : list_any (λ at. same_leaf at leaf) (named_at l ∷ []) ≡ true =
-          subst (λ ways. list_any (λ at. same_leaf at leaf) (map (λ way. record { component = region.component; way = way ++ l.path }) ways) ≡ true) e among in
+      subst (λ ways. list_any (λ at. same_leaf at leaf) (map (λ way. record { component = region.component; way = way ++ l.path }) ways) ≡ true) e among in
       let same : same_leaf (named_at l) leaf ≡ true = sym (or_nothing (same_leaf (named_at l) leaf)) ∙ alone in
       ap (λ b. if b then (if same_leaf (named_at l) leaf then Some (setting region.component w (l, v)).integer else last) else last) turned
       ∙ ap (λ b. if b then Some (setting region.component w (l, v)).integer else last) same
@@ -166,7 +164,7 @@ module _ (flip : Bool) (region : Region) (leaf : Leaf) (w : List PathStep) where
   quiet_list c (l ∷ ls) ms vs n last = ⊎_elim
       (λ q. absurd (cons_nil (region.indices ++ head_or [] ms) (mention_list ls (tail ms)) (sym (mention_here l ls ms q) ∙ n)))
       (λ q. set_next l ls vs last ∙ (ap (λ o. left_in leaf o (set_list ls (tail vs))) (put_other c l (head_or (lone []) vs) q last)
-          ∙ quiet_list c ls (tail ms) (tail vs) (sym (mention_none l ls ms q) ∙ n) last))
+      ∙ quiet_list c ls (tail ms) (tail vs) (sym (mention_none l ls ms q) ∙ n) last))
       (true_or_false (may_be flip region leaf l))
 
   any_later : (l : TypeLeaf) (ls : List TypeLeaf) → may_be flip region leaf l ≡ false → list_any (may_be flip region leaf) (l ∷ ls) ≡ true → list_any (may_be flip region leaf) ls ≡ true
@@ -186,7 +184,7 @@ module _ (flip : Bool) (region : Region) (leaf : Leaf) (w : List PathStep) where
   fixed_list e [] vs h last other = absurd (true≢false (sym h))
   fixed_list e (l ∷ ls) vs h last other = ⊎_elim
       (λ q. set_next l ls vs last ∙ (ap (λ o. left_in leaf o (set_list ls (tail vs))) (put_sure e l (head_or (lone []) vs) q last ∙ sym (put_sure e l (head_or (lone []) vs) q other))
-          ∙ sym (set_next l ls vs other)))
+      ∙ sym (set_next l ls vs other)))
       (λ q. set_next l ls vs last ∙ (fixed_list e ls (tail vs) (any_later l ls q h) (put (l, head_or (lone []) vs) last) (put (l, head_or (lone []) vs) other) ∙ sym (set_next l ls vs other)))
       (true_or_false (may_be flip region leaf l))
 
@@ -204,13 +202,13 @@ module _ (flip : Bool) (region : Region) (leaf : Leaf) (w : List PathStep) where
   same_list f g c (l ∷ ls) tracks_none a last = refl
   same_list f g c (l ∷ ls) (tracks_next {m} {v} {w = u} {ms} {vs} {ws} h t) a last =
       let value_same : may_be flip region leaf l ≡ true → v ≡ u =
-          λ q. h (agree-right region.indices m (agree-left (region.indices ++ m) (joined (mention_list ls ms))
-              (subst (Agree f g) (flat_map-cons (λ x. x) (region.indices ++ m) (mention_list ls ms)) (subst (λ x. Agree f g (joined x)) (mention_here l ls (m ∷ ms) q) a)))) in
+      λ q. h (agree-right region.indices m (agree-left (region.indices ++ m) (joined (mention_list ls ms))
+      (subst (Agree f g) (flat_map-cons (λ x. x) (region.indices ++ m) (mention_list ls ms)) (subst (λ x. Agree f g (joined x)) (mention_here l ls (m ∷ ms) q) a)))) in
       let later : Agree f g (joined (mention_list ls ms)) = ⊎_elim
-          (λ q. agree-right (region.indices ++ m) (joined (mention_list ls ms))
-              (subst (Agree f g) (flat_map-cons (λ x. x) (region.indices ++ m) (mention_list ls ms)) (subst (λ x. Agree f g (joined x)) (mention_here l ls (m ∷ ms) q) a)))
-          (λ q. subst (λ x. Agree f g (joined x)) (mention_none l ls (m ∷ ms) q) a)
-          (true_or_false (may_be flip region leaf l)) in
+      (λ q. agree-right (region.indices ++ m) (joined (mention_list ls ms))
+      (subst (Agree f g) (flat_map-cons (λ x. x) (region.indices ++ m) (mention_list ls ms)) (subst (λ x. Agree f g (joined x)) (mention_here l ls (m ∷ ms) q) a)))
+      (λ q. subst (λ x. Agree f g (joined x)) (mention_none l ls (m ∷ ms) q) a)
+      (true_or_false (may_be flip region leaf l)) in
       set_next l ls (v ∷ vs) last ∙ (ap (λ o. left_in leaf o (set_list ls vs)) (put_same c l v u value_same last)
       ∙ (same_list f g c ls t later (put (l, u) last) ∙ sym (set_next l ls (u ∷ ws) last)))
 
@@ -229,10 +227,10 @@ along_one : (flip : Bool) (leaf : Leaf) (region : Region) (ms : List (List Leaf)
     → One (side flip leaf ms (Some region)) (λ last. left_in leaf last (set_along flip (record { component = region.component; typ = region.typ; way = o }) o vs))
 along_one flip leaf region ms vs (Some w) within static =
     let alone : surely_names flip (Some region) leaf ≡ true → region.ways ≡ w ∷ [] =
-        λ c. let st = static (not_true region.dynamic (and_left (not region.dynamic) (may_name flip (Some region) leaf) c)) in
-            st.2 ∙ ap (λ v. v ∷ []) (sym (some_same w st.0 st.1)) in
+    λ c. let st = static (not_true region.dynamic (and_left (not region.dynamic) (may_name flip (Some region) leaf) c)) in
+    st.2 ∙ ap (λ v. v ∷ []) (sym (some_same w st.0 st.1)) in
     let named_there : surely_names flip (Some region) leaf ≡ true → list_any (may_be flip region leaf) (leaves region.typ) ≡ true =
-        λ c. and_right (not region.dynamic) (may_name flip (Some region) leaf) c in
+    λ c. and_right (not region.dynamic) (may_name flip (Some region) leaf) c in
     record {
       quiet = λ n last. quiet_list flip region leaf w (within w refl) (leaves region.typ) ms vs n last;
       fixed = λ c last other. fixed_list flip region leaf w (alone c) (leaves region.typ) vs (named_there c) last other;
@@ -242,7 +240,7 @@ along_one flip leaf region ms vs (Some w) within static =
     }
 along_one flip leaf region ms vs None within static =
     let never : surely_names flip (Some region) leaf ≡ true → ⊥ =
-        λ c. none_some (static (not_true region.dynamic (and_left (not region.dynamic) (may_name flip (Some region) leaf) c))).1 in
+    λ c. none_some (static (not_true region.dynamic (and_left (not region.dynamic) (may_name flip (Some region) leaf) c))).1 in
     record {
       quiet = λ n last. refl;
       fixed = λ c last other. absurd (never c);
@@ -268,7 +266,7 @@ side_one unnamed flip leaf ms vs = record {
 }
 side_one (named {region} {s} {t} p) flip leaf ms vs =
     subst (λ ss. One (side flip leaf ms (Some region)) (λ last. left_in leaf last ss)) (sym (along_same flip leaf s region vs s.way p.component_s p.type_s))
-        (along_one flip leaf region ms vs s.way p.within p.static)
+    (along_one flip leaf region ms vs s.way p.within p.static)
 
 -- two scenes whose ways are the same
 ways_same : (f g : Integers) (flip : Bool) (leaf : Leaf) (region : Region) {ms : List (List Leaf)} {vs ws : List Value} → Tracks f g ms vs ws → (o : Option (List PathStep))
@@ -284,10 +282,10 @@ indices_or_none : (f g : Integers) (flip : Bool) (leaf : Leaf) (region : Region)
 indices_or_none f g flip leaf region [] ms = inl refl
 indices_or_none f g flip leaf region (l ∷ ls) ms = ⊎_elim
     (λ q. inr (λ a. agree-left region.indices (head_or [] ms) (agree-left (region.indices ++ head_or [] ms) (joined (mention_list flip region leaf [] ls (tail ms)))
-        (subst (Agree f g) (flat_map-cons (λ x. x) (region.indices ++ head_or [] ms) (mention_list flip region leaf [] ls (tail ms)))
-            (subst (λ x. Agree f g (joined x)) (mention_here flip region leaf [] l ls ms q) a)))))
+    (subst (Agree f g) (flat_map-cons (λ x. x) (region.indices ++ head_or [] ms) (mention_list flip region leaf [] ls (tail ms)))
+    (subst (λ x. Agree f g (joined x)) (mention_here flip region leaf [] l ls ms q) a)))))
     (λ q. ⊎_elim (λ n. inl (mention_none flip region leaf [] l ls ms q ∙ n)) (λ h. inr (λ a. h (subst (λ x. Agree f g (joined x)) (mention_none flip region leaf [] l ls ms q) a)))
-        (indices_or_none f g flip leaf region ls (tail ms)))
+    (indices_or_none f g flip leaf region ls (tail ms)))
     (true_or_false (may_be flip region leaf l))
 
 pub side_two : {f g : Integers} {R : Option Region} {S T S' T' : Option Spot} → Named f g R S T → Named f f R S S' → Named g g R T T' → (flip : Bool) (leaf : Leaf)
@@ -303,10 +301,10 @@ side_two {f} {g} (named {region} {s} {t = other} n) p q flip leaf {ms} {vs} {ws}
       same = λ a last. ⊎_elim
           (λ none. here.quiet none last ∙ sym (there.quiet none last))
           (λ h.
-              let ways : s.way ≡ other.way = n.same (h a) in
-              ap (left_in leaf last) (along_same flip leaf s region vs s.way n.component_s n.type_s)
-              ∙ (ways_same f g flip leaf region t s.way n.within a last
-              ∙ (ap (left_in leaf last) (sym (along_same flip leaf other region ws s.way n.component_t n.type_t)) ∙ ap (λ o. left_in leaf last (set_along flip other o ws)) ways)))
+          let ways : s.way ≡ other.way = n.same (h a) in
+          ap (left_in leaf last) (along_same flip leaf s region vs s.way n.component_s n.type_s)
+          ∙ (ways_same f g flip leaf region t s.way n.within a last
+          ∙ (ap (left_in leaf last) (sym (along_same flip leaf other region ws s.way n.component_t n.type_t)) ∙ ap (λ o. left_in leaf last (set_along flip other o ws)) ways)))
           (indices_or_none f g flip leaf region (leaves region.typ) ms);
     }
 

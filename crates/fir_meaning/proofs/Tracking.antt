@@ -1,5 +1,5 @@
 -- The value of an expression depends on the leaves alone that it mentions, leaf by leaf.
-use Rattle.std.proofs.Common.{◌≡◌, ℕ, zero, suc, ◌+◌, ◌<◌, Bool, true, false, List, [], ◌∷◌, ◌++◌, map, fold, zip, length, slice_get, Option, Some, None, ℤ, pos, negsuc, refl, sym, ap, ◌∙◌, subst, arith, nat_lt, true≢false, is_some, unwrap_or, zero-add, if◌then◌else◌}
+use Rattle.std.proofs.Common.{◌≡◌, ℕ, zero, suc, ◌+◌, ◌<◌, Bool, true, false, List, [], ◌∷◌, ◌++◌, map, fold, zip, slice_get, Option, Some, None, ℤ, pos, negsuc, refl, sym, ap, ◌∙◌, subst, arith, nat_lt, true≢false, is_some, unwrap_or, zero-add, if◌then◌else◌}
 use Rattle.std.specs.Prelude.{Contains}
 use Rattle.std.specs.List.{flat_map, range_with_len}
 use Rattle.std.proofs.lemmas.Grind.{common_steps}
@@ -10,7 +10,6 @@ use Rattle.bit_words.specs.declared.value.Kind.{Kind}
 use Rattle.bit_words.specs.declared.value.Value.{Value}
 use Rattle.bit_words.specs.declared.number.Number.{Number}
 use Rattle.bit_words.specs.Values.{integer_of}
-use Rattle.bit_words.specs.Numbers.{integer_of_number}
 use Rattle.fir_types.specs.declared.name.Name.{Name}
 use Rattle.fir_types.specs.declared.fir_type.FirType.{FirType}
 use Rattle.fir_types.specs.declared.leaf.TypeLeaf.{TypeLeaf}
@@ -72,12 +71,12 @@ choices_same c p q h tracks_none (tracks_next i u) = tracks_none
 choices_same c p q h (tracks_next i t) tracks_none = tracks_none
 choices_same {f} {g} c p q h (tracks_next {m = m} {v = v} {w = w} i t) (tracks_next {m = n} {v = x} {w = y} j u) =
     tracks_next (λ a.
-        let inner : Agree f g (m ++ n) = agree-right c (m ++ n) a in
-        let test : p ≡ q = h (agree-left c (m ++ n) a) in
-        let first : v ≡ w = i (agree-left m n inner) in
-        let second : x ≡ y = j (agree-right m n inner) in
-        ap (λ b. one_of_two b v x) test ∙ (ap (λ b. one_of_two q b x) first ∙ ap (one_of_two q w) second))
-      (choices_same c p q h t u)
+    let inner : Agree f g (m ++ n) = agree-right c (m ++ n) a in
+    let test : p ≡ q = h (agree-left c (m ++ n) a) in
+    let first : v ≡ w = i (agree-left m n inner) in
+    let second : x ≡ y = j (agree-right m n inner) in
+    ap (λ b. one_of_two b v x) test ∙ (ap (λ b. one_of_two q b x) first ∙ ap (one_of_two q w) second))
+    (choices_same c p q h t u)
 
 -- Spots
 
@@ -159,8 +158,8 @@ element_further None n i w e = absurd (none_some e)
 
 index_step : (f g : Integers) (region : Region) (s t : Spot) (ms : List (List Leaf)) (vs ws : List Value) → Tracks f g ms vs ws → Paired f g region s t
     → Paired f g (record region { typ = element_type region.typ; ways = elements_behind region.ways (vector_length region.typ); dynamic = true; indices = region.indices ++ joined ms })
-      (values.part_of s (element_type s.typ) (element_step (vector_length s.typ) (integer_of (lone vs))))
-      (values.part_of t (element_type t.typ) (element_step (vector_length t.typ) (integer_of (lone ws))))
+    (values.part_of s (element_type s.typ) (element_step (vector_length s.typ) (integer_of (lone vs))))
+    (values.part_of t (element_type t.typ) (element_step (vector_length t.typ) (integer_of (lone ws))))
 index_step f g region s t ms vs ws index p = record {
   component_s = p.component_s;
   component_t = p.component_t;
@@ -177,8 +176,8 @@ index_step f g region s t ms vs ws index p = record {
       let from = element_further s.way (vector_length s.typ) (integer_of (lone vs)) w e in
       let below : from.1 < vector_length region.typ = subst (λ typ. from.1 < vector_length typ) p.type_s from.3 in
       let there : Contains (elements_behind region.ways (vector_length region.typ)) (from.0 ++ step.Element from.1 ∷ []) =
-          Contains-flat_map (λ n. behind_each region.ways (step.Element n)) (range_with_len 0 (vector_length region.typ)) from.1 (from.0 ++ step.Element from.1 ∷ [])
-              (subst (Contains (range_with_len 0 (vector_length region.typ))) (zero-add from.1) (Contains-range 0 (vector_length region.typ) from.1 below)) (Contains-map (λ way. way ++ step.Element from.1 ∷ []) region.ways from.0 (p.within from.0 from.2)) in
+      Contains-flat_map (λ n. behind_each region.ways (step.Element n)) (range_with_len 0 (vector_length region.typ)) from.1 (from.0 ++ step.Element from.1 ∷ [])
+      (subst (Contains (range_with_len 0 (vector_length region.typ))) (zero-add from.1) (Contains-range 0 (vector_length region.typ) from.1 below)) (Contains-map (λ way. way ++ step.Element from.1 ∷ []) region.ways from.0 (p.within from.0 from.2)) in
       subst (Contains (elements_behind region.ways (vector_length region.typ))) (sym from.4) there;
   static = λ e. absurd (true≢false e);
 }
@@ -253,7 +252,7 @@ suffix_case (Suffix-F.At bracket place n) types f g region a b p =
     rw (onward_at bracket place n, step_at bracket place n) (fixed_step f g region a b element_type (step.Element n) p)
 suffix_case (Suffix-F.Index bracket e) types f g region a b p =
     rw (onward_index bracket e.0, step_index bracket e.0)
-        (index_step f g region a b (mentions e.0 types) (value e.0 (scene_with types f)) (value e.0 (scene_with types g)) (e.1 types f g) p)
+    (index_step f g region a b (mentions e.0 types) (value e.0 (scene_with types f)) (value e.0 (scene_with types g)) (e.1 types f g) p)
 
 -- a reference
 
@@ -273,7 +272,7 @@ same_at : (f g : Integers) (region : Region) (s t : Spot) (leaf : TypeLeaf) → 
     → Agree f g (leaves_at region leaf.path) → (o : Option (List PathStep)) → ((w : List PathStep) → o ≡ Some w → Contains region.ways w) → leaf_value f s o leaf ≡ leaf_value g t o leaf
 same_at f g region s t leaf es et a (Some w) within =
     let there : Contains (leaves_at region leaf.path) (record { component = region.component; way = w ++ leaf.path }) =
-        Contains-map (λ way. record { component = region.component; way = way ++ leaf.path }) region.ways w (within w refl) in
+    Contains-map (λ way. record { component = region.component; way = way ++ leaf.path }) region.ways w (within w refl) in
     let same : f region.component (w ++ leaf.path) ≡ g region.component (w ++ leaf.path) = a.agree (record { component = region.component; way = w ++ leaf.path }) there in
     ap (λ c. fitted_to leaf (f c (w ++ leaf.path))) es ∙ (ap (fitted_to leaf) same ∙ ap (λ c. fitted_to leaf (g c (w ++ leaf.path))) (sym et))
 same_at f g region s t leaf es et a None within = refl
@@ -282,10 +281,10 @@ region_tracks : (types : Scope) (f g : Integers) (region : Region) (s t : Spot) 
     → Tracks f g (map (λ leaf. region.indices ++ leaves_at region leaf.path) (leaves region.typ)) (values_at (scene_with types f) s s.way) (values_at (scene_with types g) t t.way)
 region_tracks types f g region s t p =
     rw (values_by_leaf types f s s.way, values_by_leaf types g t t.way, p.type_s, p.type_t)
-        (tracks_map f g (λ leaf. region.indices ++ leaves_at region leaf.path) (leaf_value f s s.way) (leaf_value g t t.way)
-            (λ leaf a. same_at f g region s t leaf p.component_s p.component_t (agree-right region.indices (leaves_at region leaf.path) a) s.way p.within
-                ∙ ap (λ o. leaf_value g t o leaf) (p.same (agree-left region.indices (leaves_at region leaf.path) a)))
-            (leaves region.typ))
+    (tracks_map f g (λ leaf. region.indices ++ leaves_at region leaf.path) (leaf_value f s s.way) (leaf_value g t t.way)
+    (λ leaf a. same_at f g region s t leaf p.component_s p.component_t (agree-right region.indices (leaves_at region leaf.path) a) s.way p.within
+    ∙ ap (λ o. leaf_value g t o leaf) (p.same (agree-left region.indices (leaves_at region leaf.path) a)))
+    (leaves region.typ))
 
 pub whole_paired : (types : Scope) (f g : Integers) (c : ℕ) → Paired f g (mention.whole_region types c) (values.whole (scene_with types f) c) (values.whole (scene_with types g) c)
 whole_paired types f g c = record {
@@ -300,7 +299,7 @@ whole_paired types f g c = record {
 
 follow_paired : (types : Scope) (f g : Integers) (ps : List ((s : Suffix) × SuffixPaired s)) (region : Region) (a b : Spot) → Paired f g region a b
     → Paired f g (fold (λ r to. to types r) region (map suffix_onward (map (λ e. e.0) ps)))
-        (fold (λ spot to. to (scene_with types f) spot) a (map suffix_step (map (λ e. e.0) ps))) (fold (λ spot to. to (scene_with types g) spot) b (map suffix_step (map (λ e. e.0) ps)))
+    (fold (λ spot to. to (scene_with types f) spot) a (map suffix_step (map (λ e. e.0) ps))) (fold (λ spot to. to (scene_with types g) spot) b (map suffix_step (map (λ e. e.0) ps)))
 follow_paired types f g [] region a b p = p
 follow_paired types f g (s ∷ ps) region a b p =
     follow_paired types f g ps (suffix_onward s.0 types region) (suffix_step s.0 (scene_with types f) a) (suffix_step s.0 (scene_with types g) b) (s.1 types f g region a b p)
@@ -313,7 +312,7 @@ operands_same types f g [] a = refl
 operands_same types f g (e ∷ ps) a =
     let later : List Leaf = flat_map (λ operand. joined (operand types)) (map mentions (map (λ e. e.0) ps)) in
     let split : Agree f g (joined (mentions e.0 types) ++ later) =
-        subst (Agree f g) (flat_map-cons (λ operand. joined (operand types)) (mentions e.0) (map mentions (map (λ e. e.0) ps))) a in
+    subst (Agree f g) (flat_map-cons (λ operand. joined (operand types)) (mentions e.0) (map mentions (map (λ e. e.0) ps))) a in
     let first : value e.0 (scene_with types f) ≡ value e.0 (scene_with types g) = all_same (e.1 types f g) (agree-left (joined (mentions e.0 types)) later split) in
     let rest = operands_same types f g ps (agree-right (joined (mentions e.0 types)) later split) in
     ap (λ vs. lone vs ∷ map (λ operand. lone (operand (scene_with types f))) (map value (map (λ e. e.0) ps))) first ∙ ap (λ vs. lone (value e.0 (scene_with types g)) ∷ vs) rest
@@ -322,24 +321,24 @@ operands_same types f g (e ∷ ps) a =
 
 choice_tracks : (types : Scope) (f g : Integers) (ps : List ((e : Expr) × Tracked e))
     → Tracks f g (of_choice (map (λ operand. operand types) (map mentions (map (λ e. e.0) ps))))
-        (chosen (map (λ operand. operand (scene_with types f)) (map value (map (λ e. e.0) ps)))) (chosen (map (λ operand. operand (scene_with types g)) (map value (map (λ e. e.0) ps))))
+    (chosen (map (λ operand. operand (scene_with types f)) (map value (map (λ e. e.0) ps)))) (chosen (map (λ operand. operand (scene_with types g)) (map value (map (λ e. e.0) ps))))
 choice_tracks types f g [] = tracks_none
 choice_tracks types f g (x ∷ []) = tracks_none
 choice_tracks types f g (x ∷ y ∷ []) = tracks_none
 choice_tracks types f g (x ∷ y ∷ z ∷ []) =
     choices_same (joined (mentions x.0 types)) (is_one (value x.0 (scene_with types f))) (is_one (value x.0 (scene_with types g)))
-        (λ a. ap is_one (all_same (x.1 types f g) a)) (y.1 types f g) (z.1 types f g)
+    (λ a. ap is_one (all_same (x.1 types f g) a)) (y.1 types f g) (z.1 types f g)
 choice_tracks types f g (x ∷ y ∷ z ∷ u ∷ ps) = tracks_none
 
 form_case : (y : Form-F ((φ : Form) × FormTracked φ) ((s : Suffix) × SuffixPaired s) ((e : Expr) × Tracked e))
     → FormTracked (roll-Form (map-Form _ _ _ Form Suffix Expr (λ e. e.0) (λ e. e.0) (λ e. e.0) y))
 form_case (Form-F.Ref name ps) types f g =
     rw (mentions_ref name (map (λ e. e.0) ps), value_ref name (map (λ e. e.0) ps))
-        (region_tracks types f g _ _ _ (follow_paired types f g ps _ _ _ (whole_paired types f g name.id)))
+    (region_tracks types f g _ _ _ (follow_paired types f g ps _ _ _ (whole_paired types f g name.id)))
 form_case (Form-F.Literal kind width n) types f g = rw (mentions_literal kind width n, value_literal kind width n) (tracks_next (λ a. refl) tracks_none)
 form_case (Form-F.Prim prim ps params) types f g =
     rw (mentions_prim prim (map (λ e. e.0) ps) params, value_prim prim (map (λ e. e.0) ps) params)
-        (tracks_next (λ a. ap (λ vs. operation prim vs params) (operands_same types f g ps a)) tracks_none)
+    (tracks_next (λ a. ap (λ vs. operation prim vs params) (operands_same types f g ps a)) tracks_none)
 form_case (Form-F.Mux ps) types f g = rw (mentions_mux (map (λ e. e.0) ps), value_mux (map (λ e. e.0) ps)) (choice_tracks types f g ps)
 
 expr_case : (y : Expr-F ((φ : Form) × FormTracked φ) ((s : Suffix) × SuffixPaired s) ((e : Expr) × Tracked e))

@@ -146,7 +146,7 @@ pub record IsRead (c : Component) (leaf : TypeLeaf) (memory : Memory) (port : �
   pub is : leaf.path ≡ step.Field port ∷ step.Field field ∷ way
 
 pub data TakesFrom (design : Design) : FlatLeaf → FlatLeaf → Type 0 where
-  by_connect : (path : List ℕ) (m : TypedModule) (c : Component) (leaf : TypeLeaf) (y : Leaf) → Stands design path m c leaf → is_register c.declaration.sort ≡ true
+  by_live_connect : (path : List ℕ) (m : TypedModule) (c : Component) (leaf : TypeLeaf) (y : Leaf) → Stands design path m c leaf → is_register c.declaration.sort ≡ true
       → Contains (joined (live (type_in m) (leaf_of c leaf) c.declaration.block)) y → TakesFrom design (flat m path (leaf_of c leaf)) (flat m path y)
   by_reset : (path : List ℕ) (m : TypedModule) (c : Component) (leaf : TypeLeaf) (clock reset init : Expr) (y : Leaf) → Stands design path m c leaf
       → c.declaration.sort ≡ A_reset_register clock reset init → Contains (joined (mentions reset (type_in m))) y
