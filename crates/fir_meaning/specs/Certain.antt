@@ -41,6 +41,7 @@ module _ (types : Scope) (leaf : Leaf) where
   abbrev pub of_arm : Arm-F Bool Bool → Bool
   of_arm a = list_any (λ s. s) a.body
 
+  -- A statement drives the leaf whatever the values are.
   abbrev pub certain : Stmt → Bool
   certain = fold-Stmt Bool Bool of_stmt of_arm
 

@@ -22,6 +22,7 @@ abbrev pub leaves_of_region : Option Region → List Leaf
 leaves_of_region (Some region) = if region.dynamic then [] else flat_map (λ part. leaves_at region part.path) (leaves region.typ)
 leaves_of_region None = []
 
+-- the leaves that an expression names, where it is a reference without a dynamic index
 abbrev pub named_leaves : Scope → Expr → List Leaf
 named_leaves types e = leaves_of_region (region_of types e)
 
@@ -36,6 +37,7 @@ abbrev pub source_at : Bool → Leaf → Region → List Leaf → Driver
 source_at flip leaf region sources =
     fold (λ driver both. if may_be flip region leaf both.0 then From both.1 else driver) No_driver (zip (leaves region.typ) sources)
 
+-- a connect through a dynamic index is no driver
 abbrev pub source_for : Bool → Leaf → Option Region → List Leaf → Driver
 source_for flip leaf (Some region) sources = if region.dynamic then No_driver else source_at flip leaf region sources
 source_for flip leaf None sources = No_driver
@@ -45,11 +47,13 @@ abbrev pub in_branch : Driver → Driver → Driver
 in_branch last Undriven = last
 in_branch last _ = No_driver
 
+-- what is known behind all of the statements
 abbrev pub last_of : List (Driver → Driver) → Driver → Driver
 last_of [] last = last
 last_of (s ∷ later) last = last_of later (s last)
 
 module _ (types : Scope) (leaf : Leaf) where
+  -- what is known of the driver behind a statement, from what was known before it
   abbrev pub of_stmt : Stmt-F (Driver → Driver) (Driver → Driver) → Driver → Driver
   of_stmt (Stmt-F.Connect left right) last =
       if may_name false (region_of types left) leaf then source_for false leaf (region_of types left) (named_leaves types right)
@@ -62,9 +66,11 @@ module _ (types : Scope) (leaf : Leaf) where
   of_stmt (Stmt-F.When arms other) last = in_branch last (last_of other (last_of arms Undriven))
   of_stmt _ last = last
 
+  -- an arm does what its statements do
   abbrev pub of_arm : Arm-F (Driver → Driver) (Driver → Driver) → Driver → Driver
   of_arm a = last_of a.body
 
+  -- The same for every statement.
   abbrev pub driven_by : Stmt → Driver → Driver
   driven_by = fold-Stmt (Driver → Driver) (Driver → Driver) of_stmt of_arm
 
@@ -86,6 +92,7 @@ abbrev pub clock_inputs_of_component : Component → List Leaf
 clock_inputs_of_component c =
     if is_port c.declaration.sort then map (leaf_of c) (filter (λ leaf. is_source (flow_of c.declaration.sort leaf.flip) && is_clock leaf) (leaves c.typ)) else []
 
+-- those of all components
 abbrev pub clock_inputs_of : Option TypedModule → List Leaf
 clock_inputs_of (Some m) = flat_map clock_inputs_of_component m.components
 clock_inputs_of None = []

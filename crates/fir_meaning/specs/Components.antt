@@ -73,6 +73,7 @@ declared_from block (s ∷ behind) = s.declares block (map (λ t. t.itself) behi
 abbrev pub declared_in_block : List Told → List Declaration
 declared_in_block told = declared_from (map (λ t. t.itself) told) told
 
+-- What each kind of statement declares: a `when` what its arms do in order, and then its `else`.
 abbrev pub of_declaring : Stmt-F Told ToldArm → Declares
 of_declaring (Stmt-F.Wire name typ) = one name.id A_wire
 of_declaring (Stmt-F.Reg name typ clock) = one name.id (A_register clock)
@@ -83,12 +84,15 @@ of_declaring (Stmt-F.Node name expr) = one name.id (A_node expr)
 of_declaring (Stmt-F.When arms other) = λ block behind. flat_map (λ arm. arm.declared) arms ++ declared_in_block other
 of_declaring _ = λ block behind. []
 
+-- the statement together with what it declares
 abbrev pub of_told : Stmt-F Told ToldArm → Told
 of_told s = record { itself = roll-Stmt (map-Stmt Told ToldArm Stmt Arm (λ t. t.itself) (λ a. a.itself) s); declares = of_declaring s }
 
+-- the arm together with what its block declares
 abbrev pub of_told_arm : Arm-F Told ToldArm → ToldArm
 of_told_arm a = record { itself = roll-Arm (map-Arm Told ToldArm Stmt Arm (λ t. t.itself) (λ a. a.itself) a); declared = declared_in_block a.body }
 
+-- A statement with what it declares, the blocks in it included.
 abbrev pub told : Stmt → Told
 told = fold-Stmt Told ToldArm of_told of_told_arm
 
@@ -117,6 +121,7 @@ with_types (m ∷ modules) types =
     let declared = declarations_of m in
     record { name = m.name.id; components = map (λ both. record { declaration = both.0; typ = both.1 }) (zip declared types) } ∷ with_types modules (drop (length declared) types)
 
+-- The modules of a circuit whose widths are known.
 abbrev pub modules_of : Fitted → List TypedModule
 modules_of fitted = with_types fitted.checked.circuit.modules fitted.declared
 
@@ -125,12 +130,15 @@ pub record Design : Type 0 where
   pub main : ℕ
   pub modules : List TypedModule
 
+-- The design of a circuit whose widths are known.
 abbrev pub design_of : Fitted → Design
 design_of fitted = record { main = fitted.checked.circuit.main.id; modules = modules_of fitted }
 
+-- The first module of a name.
 abbrev pub module_named : Design → ℕ → Option TypedModule
 module_named design name = find (λ m. m.name == name) design.modules
 
+-- The first component of a name.
 abbrev pub component_named : TypedModule → ℕ → Option Component
 component_named m name = find (λ c. c.declaration.name == name) m.components
 
@@ -139,6 +147,7 @@ abbrev pub target_in : Sort → Option ℕ
 target_in (An_instance target) = Some target
 target_in _ = None
 
+-- the module that the component of this name makes, where it is an instance
 abbrev pub target_of : TypedModule → ℕ → Option ℕ
 target_of m name = option_and_then (λ c. target_in c.declaration.sort) (component_named m name)
 
@@ -156,9 +165,11 @@ abbrev pub type_or_empty : Option Component → FirType
 type_or_empty (Some component) = component.typ
 type_or_empty None = record { place = nowhere; shape = shape.Bundle [] }
 
+-- The type of the component of a name.
 abbrev pub type_in : TypedModule → ℕ → FirType
 type_in m name = type_or_empty (component_named m name)
 
+-- a component as a port, where it is one
 abbrev pub port_of : Component → Sort → Option Port
 port_of c An_input = Some (record { output = false; name = record { id = c.declaration.name; place = nowhere }; typ = c.typ })
 port_of c An_output = Some (record { output = true; name = record { id = c.declaration.name; place = nowhere }; typ = c.typ })
@@ -203,20 +214,24 @@ abbrev pub kind_of_shape : Shape-F Shape Field FirType → Kind
 kind_of_shape (Shape-F.Signed width) = Signed
 kind_of_shape _ = Unsigned
 
+-- a width that is not known counts as none; in an accepted circuit all are known
 abbrev pub width_or_none : Option ℕ → ℕ
 width_or_none (Some width) = width
 width_or_none None = 0
 
+-- How many bits a ground type has.
 abbrev pub width_of_shape : Shape-F Shape Field FirType → ℕ
 width_of_shape (Shape-F.Unsigned width) = width_or_none width
 width_of_shape (Shape-F.Signed width) = width_or_none width
 width_of_shape Shape-F.Reset = 1
 width_of_shape _ = 0
 
+-- whether a type is a Clock
 abbrev pub is_clock_shape : Shape-F Shape Field FirType → Bool
 is_clock_shape Shape-F.Clock = true
 is_clock_shape _ = false
 
+-- The kind of a leaf, its width, and whether it is a Clock.
 abbrev pub kind_of_leaf : TypeLeaf → Kind
 kind_of_leaf leaf = kind_of_shape (out-Shape leaf.typ.shape)
 

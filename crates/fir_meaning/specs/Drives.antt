@@ -15,6 +15,7 @@ use Rattle.fir_tree.specs.declared.stmt.Stmt.TheOpen.{Stmt-F, Arm-F}
 use Rattle.fir_meaning.specs.Components.{Leaf}
 use Rattle.fir_meaning.specs.Values.{Scene, Spot, value, spot_of, beside, lone, is_one, fitted_to}
 
+-- Two leaves are the same where their components and all steps to them are.
 abbrev pub same_step : PathStep → PathStep → Bool
 same_step (step.Field m) (step.Field n) = m == n
 same_step (step.Element m) (step.Element n) = m == n
@@ -33,6 +34,7 @@ pub record Setting : Type 0 where
   pub leaf : Leaf
   pub integer : ℤ
 
+-- the leaf behind this way, set to the value beside it
 abbrev pub setting : ℕ → List PathStep → TypeLeaf × Value → Setting
 setting component way both =
     record { leaf = record { component = component; way = way ++ both.0.path }; integer = integer_of (fitted_to both.0 (integer_of both.1)) }
@@ -41,9 +43,11 @@ setting component way both =
 abbrev pub is_turned : Bool → TypeLeaf → Bool
 is_turned flip leaf = if flip then leaf.flip else not leaf.flip
 
+-- the leaves that are flipped, or those that aren't
 abbrev pub of_orientation : Bool → List (TypeLeaf × Value) → List (TypeLeaf × Value)
 of_orientation flip = filter (λ both. is_turned flip both.0)
 
+-- the leaves behind a way, where there is one
 abbrev pub set_along : Bool → Spot → Option (List PathStep) → List Value → List Setting
 set_along flip spot (Some way) values = map (setting spot.component way) (of_orientation flip (beside (lone []) (leaves spot.typ) values))
 set_along flip spot None values = []
@@ -84,12 +88,14 @@ first_holding [] other = other
 first_holding (arm ∷ arms) other = if arm.0 then arm.1 else first_holding arms other
 
 module _ (scene : Scene) (leaf : Leaf) where
+  -- What each kind of statement makes of the integer that was set before it.
   abbrev pub of_stmt : Stmt-F Effect (Bool × Effect) → Effect
   of_stmt (Stmt-F.Connect left right) last = left_in leaf last (set_by_connect scene left right)
   of_stmt (Stmt-F.Invalidate target) last = left_in leaf last (set_by_invalidate scene target)
   of_stmt (Stmt-F.When arms other) last = first_holding arms (in_turn other) last
   of_stmt _ last = last
 
+  -- an arm: whether its condition holds, and what its statements do
   abbrev pub of_arm : Arm-F Effect (Bool × Effect) → Bool × Effect
   of_arm a = (is_one (value a.condition scene), in_turn a.body)
 

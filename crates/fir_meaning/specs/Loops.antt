@@ -56,12 +56,14 @@ live_from (s ∷ later) = (if list_any (λ t. t.certain) later then [] else s.li
 abbrev pub crossing : Mentioned → List Mentioned → List Mentioned
 crossing conditions = map (λ leaves. conditions ++ leaves)
 
+-- the live connects of all arms, behind these conditions, and then those of the `else`
 abbrev pub through_arms : Mentioned → List DrivingArm → List Mentioned → List Mentioned
 through_arms conditions [] other = crossing conditions other
 through_arms conditions (arm ∷ arms) other =
     crossing (conditions ++ arm.condition) arm.live ++ through_arms (conditions ++ arm.condition) arms other
 
 module _ (types : Scope) (leaf : Leaf) where
+  -- The live connects in each kind of statement.
   abbrev pub live_in : Stmt-F Driving DrivingArm → List Mentioned
   live_in (Stmt-F.Connect left right) =
       driven_from false leaf (mentions right types) (region_of types left) ++ driven_from true leaf (mentions left types) (region_of types right)
@@ -70,12 +72,15 @@ module _ (types : Scope) (leaf : Leaf) where
   live_in (Stmt-F.When arms other) = through_arms [] arms (live_from other)
   live_in _ = []
 
+  -- a statement: whether it is certain, and its live connects
   abbrev pub of_stmt : Stmt-F Driving DrivingArm → Driving
   of_stmt s = record { certain = certainty.of_stmt types leaf (map-Stmt Driving DrivingArm Bool Bool (λ t. t.certain) (λ a. a.certain) s); live = live_in s }
 
+  -- an arm: what its condition mentions, whether it is certain, and its live connects
   abbrev pub of_arm : Arm-F Driving DrivingArm → DrivingArm
   of_arm a = record { condition = joined (mentions a.condition types); certain = list_any (λ s. s.certain) a.body; live = live_from a.body }
 
+  -- What a statement is to the leaf.
   abbrev pub driving : Stmt → Driving
   driving = fold-Stmt Driving DrivingArm of_stmt of_arm
 
@@ -145,6 +150,7 @@ pub record IsRead (c : Component) (leaf : TypeLeaf) (memory : Memory) (port : �
   pub field : ℕ
   pub is : leaf.path ≡ step.Field port ∷ step.Field field ∷ way
 
+-- The edge takes a leaf of the cycle for the next state of another.
 pub data TakesFrom (design : Design) : FlatLeaf → FlatLeaf → Type 0 where
   by_live_connect : (path : List ℕ) (m : TypedModule) (c : Component) (leaf : TypeLeaf) (y : Leaf) → Stands design path m c leaf → is_register c.declaration.sort ≡ true
       → Contains (joined (live (type_in m) (leaf_of c leaf) c.declaration.block)) y → TakesFrom design (flat m path (leaf_of c leaf)) (flat m path y)

@@ -18,6 +18,7 @@ pub record MemoryPort : Type 0 where
   pub name : ℕ
   pub mode : PortMode
 
+-- the port that a line declares, where it declares one
 abbrev pub port_in : MemLine → Option MemoryPort
 port_in (line.MemPort at m name) = Some (record { name = name.id; mode = m })
 port_in _ = None
@@ -26,6 +27,7 @@ port_in _ = None
 abbrev pub memory_ports : Memory → List MemoryPort
 memory_ports memory = filter_map port_in memory.lines
 
+-- The first port of a name.
 abbrev pub port_named : Memory → ℕ → Option MemoryPort
 port_named memory name = find (λ port. port.name == name) (memory_ports memory)
 
@@ -37,12 +39,15 @@ Contents = ℕ → List PathStep → ℤ
 abbrev pub Leaves : Type 0
 Leaves = List PathStep → ℤ
 
+-- the integer of a leaf of a port's field
 abbrev pub field : Leaves → MemoryPort → ℕ → List PathStep → ℤ
 field leaves port name way = leaves (step.Field port.name ∷ step.Field name ∷ way)
 
+-- whether a field of one bit is 1
 abbrev pub is_set : Leaves → MemoryPort → ℕ → Bool
 is_set leaves port name = int_eq (field leaves port name []) (pos 1)
 
+-- the number of the element that a port speaks of
 abbrev pub address : Leaves → MemoryPort → ℕ
 address leaves port = unsigned_abs (field leaves port addr_name [])
 
@@ -62,6 +67,7 @@ asks_to_read leaves port mode.Reader = is_set leaves port en_name
 asks_to_read leaves port mode.Writer = false
 asks_to_read leaves port mode.ReadWriter = is_set leaves port en_name && not (is_set leaves port wmode_name)
 
+-- the field with the data that a port writes, and that with their mask
 abbrev pub written_field : PortMode → ℕ
 written_field mode.ReadWriter = wdata_name
 written_field _ = data_name
@@ -93,5 +99,6 @@ abbrev pub read_of : Memory → Leaves → Contents → Option MemoryPort → Li
 read_of memory leaves contents (Some port) way = port_read memory leaves contents port way
 read_of memory leaves contents None way = pos 0
 
+-- What the port of a name reads from given contents.
 abbrev pub read_by : Memory → Leaves → Contents → ℕ → List PathStep → ℤ
 read_by memory leaves contents name way = read_of memory leaves contents (port_named memory name) way

@@ -35,12 +35,15 @@ joined = flat_map (λ leaves. leaves)
 abbrev pub InScope : Type 0
 InScope = Scope → List (List Leaf)
 
+-- A step of a reference: from what it may name before the step to what it may name behind it.
 abbrev pub Onward : Type 0
 Onward = Scope → Region → Region
 
+-- a component as a whole
 abbrev pub whole_region : Scope → ℕ → Region
 whole_region types c = record { component = c; typ = types c; ways = [] ∷ []; dynamic = false; indices = [] }
 
+-- what a reference may name: the component, and then step by step
 abbrev pub follow_all : Scope → ℕ → List Onward → Region
 follow_all types c suffixes = fold (λ region next. next types region) (whole_region types c) suffixes
 
@@ -53,6 +56,8 @@ abbrev pub of_choice : List (List (List Leaf)) → List (List Leaf)
 of_choice (condition ∷ first ∷ second ∷ []) = map (λ both. joined condition ++ (both.0 ++ both.1)) (zip first second)
 of_choice _ = []
 
+-- What each kind of expression mentions: a reference for each leaf the indices and the leaves that it may be, an operation all that
+-- its operands do.
 abbrev pub of_form : Form-F InScope Onward InScope → InScope
 of_form (Form-F.Ref name suffixes) types = let region = follow_all types name.id suffixes in map (λ leaf. region.indices ++ leaves_at region leaf.path) (leaves region.typ)
 of_form (Form-F.Literal kind width number) types = [] ∷ []
@@ -67,6 +72,7 @@ behind_each ways next = map (λ way. way ++ next ∷ []) ways
 abbrev pub elements_behind : List (List PathStep) → ℕ → List (List PathStep)
 elements_behind ways length = flat_map (λ n. behind_each ways (step.Element n)) (range_with_len 0 length)
 
+-- What each kind of step may lead to.
 abbrev pub of_suffix : Suffix-F InScope Onward InScope → Onward
 of_suffix (Suffix-F.Field name) types region = record region { typ = field_type name.id region.typ; ways = behind_each region.ways (step.Field name.id) }
 of_suffix (Suffix-F.At bracket place n) types region = record region { typ = element_type region.typ; ways = behind_each region.ways (step.Element n) }
@@ -77,6 +83,7 @@ of_suffix (Suffix-F.Index bracket index) types region = record region {
   indices = region.indices ++ joined (index types);
 }
 
+-- an expression mentions what its form does
 abbrev pub of_expr : Expr-F InScope Onward InScope → InScope
 of_expr e = e.form
 
@@ -84,9 +91,11 @@ of_expr e = e.form
 abbrev pub mentions : Expr → InScope
 mentions = fold-Expr InScope Onward InScope of_form of_suffix of_expr
 
+-- What a step of a reference may lead to.
 abbrev pub suffix_onward : Suffix → Onward
 suffix_onward = fold-Suffix InScope Onward InScope of_form of_suffix of_expr
 
+-- only a reference names anything
 abbrev pub region_of_form : Scope → Form-F Form Suffix Expr → Option Region
 region_of_form types (Form-F.Ref name suffixes) = Some (follow_all types name.id (map suffix_onward suffixes))
 region_of_form types _ = None

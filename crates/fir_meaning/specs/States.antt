@@ -41,16 +41,19 @@ pub record Stands (design : Design) (path : List ℕ) (m : TypedModule) (c : Com
 abbrev pub seen : TypedModule → List ℕ → Valuation → Component → TypeLeaf → ℤ
 seen m path rho c leaf = (scene_of m path rho).integers c.declaration.name leaf.path
 
+-- a register, with a reset or without
 abbrev pub is_register : Sort → Bool
 is_register (A_register clock) = true
 is_register (A_reset_register clock reset init) = true
 is_register _ = false
 
+-- a port of the module
 abbrev pub is_port : Sort → Bool
 is_port An_input = true
 is_port An_output = true
 is_port _ = false
 
+-- a leaf that is only read
 abbrev pub is_source : Flow → Bool
 is_source Source = true
 is_source _ = false
@@ -92,6 +95,7 @@ pub record Settled (design : Design) (s : State) (given : Inputs) (rho : Valuati
 
 -- The next state
 
+-- the integer, or another where there is none
 abbrev pub or_else : ℤ → Option ℤ → ℤ
 or_else other (Some n) = n
 or_else other None = other
@@ -164,10 +168,12 @@ abbrev pub watched_of_component : Component → List Leaf
 watched_of_component c =
     if is_port c.declaration.sort then map (leaf_of c) (filter (λ leaf. not (is_source (flow_of c.declaration.sort leaf.flip)) && not (is_clock leaf)) (leaves c.typ)) else []
 
+-- those of all of main's components
 abbrev pub watched_of : Option TypedModule → List Leaf
 watched_of (Some m) = flat_map watched_of_component m.components
 watched_of None = []
 
+-- The leaves that a run is watched by.
 abbrev pub watched : Design → List Leaf
 watched design = watched_of (module_named design design.main)
 

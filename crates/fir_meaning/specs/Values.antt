@@ -45,6 +45,7 @@ pub record Scene : Type 0 where
   pub types : ℕ → FirType
   pub integers : Integers
 
+-- the scene of these types and integers
 abbrev pub scene_with : (ℕ → FirType) → Integers → Scene
 scene_with types integers = record { types = types; integers = integers }
 
@@ -89,18 +90,22 @@ is_one vs = int_eq (integer_of (lone vs)) (pos 1)
 
 -- The parts of types
 
+-- the type of a bundle's first field of a name
 abbrev pub field_of_shape : ℕ → Shape-F Shape Field FirType → Option FirType
 field_of_shape name (Shape-F.Bundle fields) = option_map (λ f. f.typ) (find (λ f. f.name.id == name) fields)
 field_of_shape name _ = None
 
+-- the type of a vector's elements
 abbrev pub element_of_shape : Shape-F Shape Field FirType → Option FirType
 element_of_shape (Shape-F.Vector element n) = Some element
 element_of_shape _ = None
 
+-- how many elements a vector has
 abbrev pub length_of_shape : Shape-F Shape Field FirType → ℕ
 length_of_shape (Shape-F.Vector element n) = n
 length_of_shape _ = 0
 
+-- a part of a type, and the type itself where it has no such part
 abbrev pub or_itself : FirType → Option FirType → FirType
 or_itself typ (Some part) = part
 or_itself typ None = typ
@@ -112,6 +117,7 @@ field_type name typ = or_itself typ (field_of_shape name (out-Shape typ.shape))
 abbrev pub element_type : FirType → FirType
 element_type typ = or_itself typ (element_of_shape (out-Shape typ.shape))
 
+-- How many elements a vector has.
 abbrev pub vector_length : FirType → ℕ
 vector_length typ = length_of_shape (out-Shape typ.shape)
 
@@ -123,10 +129,12 @@ pub record Spot : Type 0 where
   pub typ : FirType
   pub way : Option (List PathStep)
 
+-- the way with one more step, where both are there
 abbrev pub further : Option (List PathStep) → Option PathStep → Option (List PathStep)
 further (Some way) (Some next) = Some (way ++ next ∷ [])
 further _ _ = None
 
+-- a part of a spot
 abbrev pub part_of : Spot → FirType → Option PathStep → Spot
 part_of spot typ next = record { component = spot.component; typ = typ; way = further spot.way next }
 
@@ -144,6 +152,7 @@ values_at scene spot None = map (λ leaf. fitted_to leaf (pos 0)) (leaves spot.t
 abbrev pub whole : Scene → ℕ → Spot
 whole scene c = record { component = c; typ = scene.types c; way = Some [] }
 
+-- what a reference names: the component, and then step by step
 abbrev pub follow : Scene → ℕ → List (Scene → Spot → Spot) → Spot
 follow scene c suffixes = fold (λ spot next. next scene spot) (whole scene c) suffixes
 
@@ -156,12 +165,14 @@ least_width Unsigned (negsuc n) = 1
 least_width Signed (pos n) = suc (least_reaching (suc n) 0 127)
 least_width Signed (negsuc n) = suc (least_reaching (suc n) 0 127)
 
+-- The width of a literal: the one that it gives, or else the least one.
 abbrev pub literal_width : Kind → ℤ → Option ℕ → ℕ
 literal_width kind n (Some width) = width
 literal_width kind n None = least_width kind n
 
 -- Operations and choices
 
+-- the kind of a row of the table; operands of an accepted circuit have a row
 abbrev pub kind_or_unsigned : Option Kind → Kind
 kind_or_unsigned (Some kind) = kind
 kind_or_unsigned None = Unsigned
@@ -176,15 +187,18 @@ operation prim operands params =
 abbrev pub one_of_two : Bool → Value → Value → Value
 one_of_two first a b = fitted a.kind (max a.width b.width) (integer_of (if first then a else b))
 
+-- A choice takes the second operand where the first is 1, and else the third.
 abbrev pub chosen : List (List Value) → List Value
 chosen (condition ∷ first ∷ second ∷ []) = map (λ both. one_of_two (is_one condition) both.0 both.1) (zip first second)
 chosen _ = []
 
 -- Expressions
 
+-- What an expression has in a scene.
 abbrev pub InScene : Type 0
 InScene = Scene → List Value
 
+-- The value of each kind of expression.
 abbrev pub of_form : Form-F InScene (Scene → Spot → Spot) InScene → InScene
 of_form (Form-F.Ref name suffixes) scene = let spot = follow scene name.id suffixes in values_at scene spot spot.way
 of_form (Form-F.Literal kind width number) scene =
@@ -200,6 +214,7 @@ of_suffix (Suffix-F.At bracket place n) scene spot = part_of spot (element_type 
 of_suffix (Suffix-F.Index bracket index) scene spot =
     part_of spot (element_type spot.typ) (element_step (vector_length spot.typ) (integer_of (lone (index scene))))
 
+-- an expression has the value of its form
 abbrev pub of_expr : Expr-F InScene (Scene → Spot → Spot) InScene → InScene
 of_expr e = e.form
 
@@ -211,6 +226,7 @@ value = fold-Expr InScene (Scene → Spot → Spot) InScene of_form of_suffix of
 abbrev pub suffix_step : Suffix → Scene → Spot → Spot
 suffix_step = fold-Suffix InScene (Scene → Spot → Spot) InScene of_form of_suffix of_expr
 
+-- only a reference names anything
 abbrev pub spot_of_form : Scene → Form-F Form Suffix Expr → Option Spot
 spot_of_form scene (Form-F.Ref name suffixes) = Some (follow scene name.id (map suffix_step suffixes))
 spot_of_form scene _ = None

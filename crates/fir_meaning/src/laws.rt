@@ -1,7 +1,6 @@
 //! Laws of the definitions. The functions do nothing.
 
 ghost use Rattle.std.specs.Prelude.{◌≡◌, ℕ, ℤ, List, [], slice_get, Some, None, IsSome, true};
-ghost use Rattle.fir_types.specs.declared.leaf.PathStep.{PathStep as Step};
 ghost use Rattle.fir_tree.specs.declared.expr.Expr.{Expr as TheExpr};
 ghost use Rattle.fir_tree.specs.declared.stmt.Stmt.{Stmt as TheStmt};
 ghost use Rattle.fir_meaning.specs.Components.{Design, Leaf, FlatLeaf, HasBundles};
