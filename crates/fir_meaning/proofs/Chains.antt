@@ -2,7 +2,8 @@
 use Rattle.std.proofs.Common.{◌≡◌, ℕ, zero, suc, ◌+◌, ◌<◌, ◌≤◌, List, [], ◌∷◌, length, refl, sym, ◌∙◌, subst, arith, ◌⊎◌, inl, inr, ⊎_elim}
 use Rattle.std.specs.Prelude.{Contains}
 use Rattle.fir_meaning.specs.Components.{Design, FlatLeaf}
-use Rattle.fir_meaning.specs.Loops.{ReadsLeaf, ReadsThrough, directly, through, HasNoLoop, IsLeafOf, HasLeaves}
+use Rattle.fir_meaning.specs.States.{IsLeafOf}
+use Rattle.fir_meaning.specs.Loops.{ReadsLeaf, ReadsThrough, directly, through, HasNoLoop, HasLeaves}
 
 -- Every chain of reads from the leaf ends.
 pub data Ends (design : Design) : FlatLeaf → Type 0 where

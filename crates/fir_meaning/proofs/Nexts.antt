@@ -17,9 +17,9 @@ use Rattle.fir_meaning.specs.Components.{Design, TypedModule, Component, Leaf, F
 use Rattle.fir_meaning.specs.Values.{Valuation, scene_of, scene_with, value, whole, is_one}
 use Rattle.fir_meaning.specs.Drives.{drives, left_in, set_at}
 use Rattle.fir_meaning.specs.MemoryPorts.{MemoryPort, Contents, Leaves, memory_ports, port_named, field, after_port, after_writes, asks_to_write, is_within, address, mask_field, written_field}
-use Rattle.fir_meaning.specs.States.{State, SameState, Inputs, Stands, Trace, ended, cycle, next, next_of_register, next_of_memory, next_of_port, located, where_located, or_else, taken, row, watched, watched_of, watched_of_component, leaf_of, is_port, is_source, is_register}
+use Rattle.fir_meaning.specs.States.{State, SameState, Inputs, Stands, Trace, ended, cycle, next, next_of_register, next_of_memory, next_of_port, located, where_located, or_else, taken, row, watched, watched_of, watched_of_component, leaf_of, is_port, is_source, is_register, IsLeafOf}
 use Rattle.fir_meaning.specs.Mentions.{joined, mentions, whole_region}
-use Rattle.fir_meaning.specs.Loops.{live, driven_from, write_goes_by, IsRead, by_live_connect, by_reset, by_init, by_write, by_read, TakesLeaves, HasNoLoop, IsLeafOf, HasLeaves}
+use Rattle.fir_meaning.specs.Loops.{live, driven_from, write_goes_by, IsRead, by_live_connect, by_reset, by_init, by_write, by_read, TakesLeaves, HasNoLoop, HasLeaves}
 use Rattle.fir_meaning.proofs.Tracking.{tracked, all_same, whole_paired}
 use Rattle.fir_meaning.proofs.Sides.{named, side_two}
 use Rattle.fir_meaning.proofs.Blocks.{drives_same}

@@ -22,9 +22,9 @@ use Rattle.fir_tree.specs.declared.expr.Expr.{Expr}
 use Rattle.fir_meaning.specs.Components.{Design, TypedModule, Component, Leaf, FlatLeaf, Sort, An_input, An_output, A_wire, A_register, A_reset_register, A_memory, An_instance, A_node, flow_of, is_clock, flat, flat_through, type_in, component_named, target_of, target_in, ports_bundle, HasBundles}
 use Rattle.fir_meaning.specs.Values.{Valuation, Integers, scene_of, seen_through, value}
 use Rattle.fir_meaning.specs.MemoryPorts.{MemoryPort, Contents, Leaves, memory_ports, port_named, field, asks_to_read, is_within, address, read_of}
-use Rattle.fir_meaning.specs.States.{State, SameState, Inputs, Stands, Settled, seen, leaf_of, is_port, is_source, is_register, is_driven}
+use Rattle.fir_meaning.specs.States.{State, SameState, Inputs, Stands, Settled, seen, leaf_of, is_port, is_source, is_register, is_driven, IsLeafOf}
 use Rattle.fir_meaning.specs.Mentions.{Agree, joined, mentions}
-use Rattle.fir_meaning.specs.Loops.{Mentioned, live, read_goes_by, ReadsLeaf, by_connect, by_node, by_port, HasNoLoop, IsLeafOf, HasLeaves}
+use Rattle.fir_meaning.specs.Loops.{Mentioned, live, read_goes_by, ReadsLeaf, by_connect, by_node, by_port, HasNoLoop, HasLeaves}
 use Rattle.fir_meaning.proofs.Tracking.{Tracks, tracks_none, tracks_next, tracked, each_same, none_some, some_same}
 use Rattle.fir_meaning.proofs.Covering.{true_or_false}
 use Rattle.fir_meaning.proofs.Blocks.{drives_same}

@@ -23,7 +23,7 @@ use Rattle.fir_meaning.specs.MemoryPorts.{MemoryPort, memory_ports, port_named}
 use Rattle.fir_meaning.specs.Mentions.{Scope, Region, joined, mentions, region_of, whole_region}
 use Rattle.fir_meaning.specs.Certain as certainty
 use Rattle.fir_meaning.specs.Certain.{may_be}
-use Rattle.fir_meaning.specs.States.{Stands, leaf_of, is_driven, is_register}
+use Rattle.fir_meaning.specs.States.{Stands, IsLeafOf, leaf_of, is_driven, is_register}
 
 -- A connect that drives the leaf, as the list of what it mentions for it.
 abbrev pub Mentioned : Type 0
@@ -116,15 +116,6 @@ pub data ReadsThrough (design : Design) : FlatLeaf → FlatLeaf → Type 0 where
 -- A loop is a chain of reads from a leaf to itself.
 pub record HasNoLoop (design : Design) : Type 0 where
   pub none : (x : FlatLeaf) → ¬ (ReadsThrough design x x)
-
--- The leaf of the run is a leaf of a component.
-pub record IsLeafOf (design : Design) (x : FlatLeaf) : Type 0 where
-  pub path : List ℕ
-  pub m : TypedModule
-  pub c : Component
-  pub leaf : TypeLeaf
-  pub stands : Stands design path m c leaf
-  pub is : flat m path (leaf_of c leaf) ≡ x
 
 -- These are all leaves of the run, and what a leaf reads is one of them: so it is in an accepted circuit, whose instances end.
 pub record HasLeaves (design : Design) (all : List FlatLeaf) : Type 0 where

@@ -11,7 +11,7 @@ use Rattle.fir_types.specs.declared.memory.Under.TheVariants as under
 use Rattle.fir_types.specs.Leaves.{leaves}
 use Rattle.fir_types.specs.Memories.{read_latency_of, under_of}
 use Rattle.fir_tree.specs.declared.expr.Expr.{Expr}
-use Rattle.fir_meaning.specs.Components.{Design, TypedModule, Component, Leaf, Sort, An_input, An_output, A_register, A_reset_register, A_memory, A_node, Flow, Source, flow_of, is_clock, module_at, module_named, component_named}
+use Rattle.fir_meaning.specs.Components.{Design, TypedModule, Component, Leaf, Sort, An_input, An_output, A_register, A_reset_register, A_memory, A_node, Flow, Source, flow_of, is_clock, module_at, module_named, component_named, FlatLeaf, flat}
 use Rattle.fir_meaning.specs.Values.{Valuation, Scene, scene_of, value, whole, is_one}
 use Rattle.fir_meaning.specs.Drives.{drives, set_at, left_in}
 use Rattle.fir_meaning.specs.MemoryPorts.{Contents, after_writes, read_by}
@@ -66,6 +66,15 @@ is_driven c leaf = not (is_source (flow_of c.declaration.sort leaf.flip)) && (no
 abbrev pub leaf_of : Component → TypeLeaf → Leaf
 leaf_of c leaf = record { component = c.declaration.name; way = leaf.path }
 
+-- The leaf of the run is a leaf of a component.
+pub record IsLeafOf (design : Design) (x : FlatLeaf) : Type 0 where
+  pub path : List ℕ
+  pub m : TypedModule
+  pub c : Component
+  pub leaf : TypeLeaf
+  pub stands : Stands design path m c leaf
+  pub is : flat m path (leaf_of c leaf) ≡ x
+
 -- A valuation is settled in a cycle that begins with this state and has these inputs: each leaf has what its sort asks for.
 pub record Settled (design : Design) (s : State) (given : Inputs) (rho : Valuation) : Type 0 where
   -- a Clock has no value: 0 stands for it
@@ -92,6 +101,12 @@ pub record Settled (design : Design) (s : State) (given : Inputs) (rho : Valuati
   -- every other leaf has what the statements of its component's block leave in it
   pub driven : (path : List ℕ) (m : TypedModule) (c : Component) (leaf : TypeLeaf) → Stands design path m c leaf → is_driven c leaf ≡ true
       → drives (scene_of m path rho) (leaf_of c leaf) c.declaration.block ≡ Some (seen m path rho c leaf)
+
+-- There is one settled valuation: any two agree on every leaf of the run.
+pub record HasOneSettled (design : Design) (s : State) (given : Inputs) : Type 0 where
+  pub one : (rho : Valuation) × Settled design s given rho
+  pub only : (rho other : Valuation) → Settled design s given rho → Settled design s given other
+      → (x : FlatLeaf) → IsLeafOf design x → rho x.path x.component x.way ≡ other x.path x.component x.way
 
 -- The next state
 

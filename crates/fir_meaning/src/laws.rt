@@ -8,8 +8,8 @@ ghost use Rattle.fir_meaning.specs.Values.{Integers, Valuation, scene_with, valu
 ghost use Rattle.fir_meaning.specs.Mentions.{Scope, Agree, joined, mentions};
 ghost use Rattle.fir_meaning.specs.Drives.{drives};
 ghost use Rattle.fir_meaning.specs.Certain.{is_certain};
-ghost use Rattle.fir_meaning.specs.States.{State, SameState, Inputs, Settled, Trace, next};
-ghost use Rattle.fir_meaning.specs.Loops.{live, HasNoLoop, IsLeafOf, HasLeaves, TakesLeaves};
+ghost use Rattle.fir_meaning.specs.States.{State, SameState, Inputs, Settled, Trace, next, IsLeafOf};
+ghost use Rattle.fir_meaning.specs.Loops.{live, HasNoLoop, HasLeaves, TakesLeaves};
 
 /// The value of an expression depends only on the leaves that it mentions, leaf by leaf.
 pub fn values_follow_mentions()
