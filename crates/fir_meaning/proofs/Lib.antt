@@ -1,3 +1,4 @@
+mod Literals
 mod Nexts
 mod ExampleOfARun
 mod Settling

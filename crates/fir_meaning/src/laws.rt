@@ -1,15 +1,23 @@
 //! Laws of the definitions. The functions do nothing.
 
 ghost use Rattle.std.specs.Prelude.{◌≡◌, ℕ, ℤ, List, [], slice_get, Some, None, IsSome, true};
+ghost use Rattle.bit_words.specs.declared.value.Kind.{Kind as TheKind};
+ghost use Rattle.bit_words.specs.Values.{InRange};
+ghost use Rattle.bit_words.specs.LeastWidths.{IsLeastWidth};
 ghost use Rattle.fir_tree.specs.declared.expr.Expr.{Expr as TheExpr};
 ghost use Rattle.fir_tree.specs.declared.stmt.Stmt.{Stmt as TheStmt};
 ghost use Rattle.fir_meaning.specs.Components.{Design, Leaf, FlatLeaf, HasBundles};
-ghost use Rattle.fir_meaning.specs.Values.{Integers, Valuation, scene_with, value};
+ghost use Rattle.fir_meaning.specs.Values.{Integers, Valuation, scene_with, value, least_width};
 ghost use Rattle.fir_meaning.specs.Mentions.{Scope, Agree, joined, mentions};
 ghost use Rattle.fir_meaning.specs.Drives.{drives};
 ghost use Rattle.fir_meaning.specs.Certain.{is_certain};
 ghost use Rattle.fir_meaning.specs.States.{State, SameState, Inputs, Settled, Trace, next, IsLeafOf};
 ghost use Rattle.fir_meaning.specs.Loops.{live, HasNoLoop, HasLeaves, TakesLeaves};
+
+/// The width of a literal that gives none is the least, from 1 on, that holds its number.
+pub fn literals_have_the_least_width()
+    ensures { (kind : TheKind) (number : ℤ) → InRange kind 128 number → IsLeastWidth kind number (least_width kind number) }
+{}
 
 /// The value of an expression depends only on the leaves that it mentions, leaf by leaf.
 pub fn values_follow_mentions()
