@@ -1,3 +1,4 @@
+mod Initialized
 mod Literals
 mod Nexts
 mod ExampleOfARun

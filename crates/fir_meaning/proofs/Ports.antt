@@ -62,7 +62,7 @@ Contains-filter_map h (z ∷ zs) x y (suc k, below, is) e = in_cons_option (h z)
 
 -- Options
 
-and_then : {A B : Type 0} (h : A → Option B) (o : Option A) (y : B) → option_and_then h o ≡ Some y → (x : A) × (o ≡ Some x) × (h x ≡ Some y)
+pub and_then : {A B : Type 0} (h : A → Option B) (o : Option A) (y : B) → option_and_then h o ≡ Some y → (x : A) × (o ≡ Some x) × (h x ≡ Some y)
 and_then h (Some x) y e = (x, refl, e)
 and_then h None y e = absurd (none_some e)
 

@@ -6,12 +6,14 @@ ghost use Rattle.bit_words.specs.Values.{InRange};
 ghost use Rattle.bit_words.specs.LeastWidths.{IsLeastWidth};
 ghost use Rattle.fir_tree.specs.declared.expr.Expr.{Expr as TheExpr};
 ghost use Rattle.fir_tree.specs.declared.stmt.Stmt.{Stmt as TheStmt};
-ghost use Rattle.fir_meaning.specs.Components.{Design, Leaf, FlatLeaf, HasBundles};
-ghost use Rattle.fir_meaning.specs.Values.{Integers, Valuation, scene_with, value, least_width};
+ghost use Rattle.fir_types.specs.declared.leaf.TypeLeaf.{TypeLeaf as TheLeaf};
+ghost use Rattle.fir_tree.specs.declared.scope.Fitted.{Fitted as FittedCircuit};
+ghost use Rattle.fir_meaning.specs.Components.{Design, TypedModule, Component, Leaf, FlatLeaf, HasBundles, design_of, flow_of};
+ghost use Rattle.fir_meaning.specs.Values.{Integers, Valuation, scene_of, scene_with, value, least_width};
 ghost use Rattle.fir_meaning.specs.Mentions.{Scope, Agree, joined, mentions};
 ghost use Rattle.fir_meaning.specs.Drives.{drives};
-ghost use Rattle.fir_meaning.specs.Certain.{is_certain};
-ghost use Rattle.fir_meaning.specs.States.{State, SameState, Inputs, Settled, Trace, next, IsLeafOf};
+ghost use Rattle.fir_meaning.specs.Certain.{is_certain, must_be_driven, IsInitialized};
+ghost use Rattle.fir_meaning.specs.States.{State, SameState, Inputs, Settled, Stands, Trace, next, leaf_of, IsLeafOf};
 ghost use Rattle.fir_meaning.specs.Loops.{live, HasNoLoop, HasLeaves, TakesLeaves};
 
 /// The width of a literal that gives none is the least, from 1 on, that holds its number.
@@ -39,6 +41,11 @@ pub fn undriven_without_live_connects()
 /// Statements that are certain for a leaf leave something in it, whatever the leaves of the module are.
 pub fn certain_statements_drive()
     ensures { (block : List TheStmt) (leaf : Leaf) (types : Scope) (f : Integers) → is_certain types leaf block ≡ true → IsSome (drives (scene_with types f) leaf block) }
+{}
+
+/// In an initialized circuit the statements leave something in every leaf that must be driven, whatever the valuation.
+pub fn initialized_leaves_are_driven()
+    ensures { (fitted : FittedCircuit) → IsInitialized (design_of fitted) → (path : List ℕ) (m : TypedModule) (c : Component) (leaf : TheLeaf) → Stands (design_of fitted) path m c leaf → must_be_driven c.declaration.sort (flow_of c.declaration.sort leaf.flip) ≡ true → (rho : Valuation) → IsSome (drives (scene_of m path rho) (leaf_of c leaf) c.declaration.block) }
 {}
 
 /// Where no leaf reads itself through a chain, any two valuations that are settled for one state and the same inputs agree on
