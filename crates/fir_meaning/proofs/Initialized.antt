@@ -1,7 +1,7 @@
 -- In an initialized circuit every leaf that must be driven has an integer, whatever the valuation.
-use Rattle.std.proofs.Common.{◌≡◌, ℕ, zero, suc, ◌+◌, ◌<◌, ◌==◌, ◌||◌, Bool, true, false, List, [], ◌∷◌, ◌++◌, map, find, zip, drop, length, Option, Some, None, option_and_then, is_some, refl, sym, ap, ◌∙◌, subst, arith, append_assoc, ⊎_elim}
+use Rattle.std.proofs.Common.{◌≡◌, ℕ, zero, suc, ◌==◌, ◌||◌, Bool, true, false, List, [], ◌∷◌, ◌++◌, map, zip, drop, length, Some, option_and_then, is_some, refl, sym, ap, ◌∙◌, subst, arith, append_assoc, ⊎_elim}
 use Rattle.std.specs.Prelude.{Contains}
-use Rattle.std.specs.List.{flat_map, list_any}
+use Rattle.std.specs.List.{flat_map}
 use Rattle.std.proofs.lemmas.Grind.{common_steps}
 use Rattle.std.proofs.lemmas.List.Elements.{Contains-append_cases}
 use Rattle.std.proofs.lemmas.List.Concat.{flat_map-cons}
@@ -14,16 +14,16 @@ use Rattle.fir_tree.specs.declared.stmt.Arm.{Arm, fold-Arm}
 use Rattle.fir_tree.specs.declared.stmt.Stmt.TheOpen.{Stmt-F, Arm-F}
 use Rattle.fir_tree.specs.declared.stmt.Stmt.TheFolds.{map-Stmt, map-Arm}
 use Rattle.fir_tree.specs.declared.stmt.Stmt.TheViews.{roll-Stmt, roll-Arm}
-use Rattle.fir_meaning.specs.Components.{Design, Declaration, Declares, Told, ToldArm, told, of_told, of_told_arm, one, declared_from, declared_in_block, declarations_of, declared_by_port, Component, TypedModule, with_types, modules_of, design_of, Leaf, type_in, flow_of, module_at, module_within, module_named, component_named, target_of}
+use Rattle.fir_meaning.specs.Components.{Design, Declaration, Declares, Told, ToldArm, told, of_told, of_told_arm, one, declared_from, declared_in_block, declarations_of, declared_by_port, Component, TypedModule, with_types, design_of, Leaf, type_in, flow_of, module_at, module_within, module_named, target_of}
 use Rattle.fir_meaning.specs.Values.{Valuation, scene_of}
 use Rattle.fir_meaning.specs.Drives.{drives}
 use Rattle.fir_meaning.specs.States.{Stands, leaf_of}
 use Rattle.fir_meaning.specs.Mentions.{Scope}
 use Rattle.fir_meaning.specs.Certain.{certain, is_certain, must_be_driven, IsInitialized}
-use Rattle.fir_meaning.proofs.Tracking.{none_some, some_same}
+use Rattle.fir_meaning.proofs.Tracking.{some_same}
 use Rattle.fir_meaning.proofs.Blocks.{certain_drives}
 use Rattle.fir_meaning.proofs.Settling.{local}
-use Rattle.fir_meaning.proofs.Ports.{found, from_map, from_flat_map, and_then, component_found}
+use Rattle.fir_meaning.proofs.Ports.{found, from_map, and_then, component_found}
 
 -- What stands behind a declaration is the end of its block.
 record IsEnd (d : Declaration) : Type 0 where
@@ -55,9 +55,9 @@ from_ends (p ∷ ps) block front e d c =
     let rest : List Stmt = map (λ t. t.itself) (map told (map (λ e. e.0) ps)) in
     let shifted : block ≡ (front ++ (told p.0).itself ∷ []) ++ rest = e ∙ sym (append_assoc front ((told p.0).itself ∷ []) rest) in
     ⊎_elim
-      (λ here. p.1 block rest (front ++ (told p.0).itself ∷ []) shifted d here)
-      (λ later. from_ends ps block (front ++ (told p.0).itself ∷ []) shifted d later)
-      (Contains-append_cases ((told p.0).declares block rest) (declared_from block (map told (map (λ e. e.0) ps))) d c)
+    (λ here. p.1 block rest (front ++ (told p.0).itself ∷ []) shifted d here)
+    (λ later. from_ends ps block (front ++ (told p.0).itself ∷ []) shifted d later)
+    (Contains-append_cases ((told p.0).declares block rest) (declared_from block (map told (map (λ e. e.0) ps))) d c)
 
 block_ends : (ps : List ((s : Stmt) × StatementEnds s)) (d : Declaration) → Contains (declared_in_block (map told (map (λ e. e.0) ps))) d → IsEnd d
 block_ends ps d c = from_ends ps (map (λ t. t.itself) (map told (map (λ e. e.0) ps))) [] refl d c
@@ -72,7 +72,7 @@ arms_end (p ∷ ps) d c = ⊎_elim
     (λ here. p.1 d here)
     (λ later. arms_end ps d later)
     (Contains-append_cases (told_arm p.0).declared (flat_map (λ arm. arm.declared) (map told_arm (map (λ e. e.0) ps))) d
-        (subst (λ l. Contains l d) (flat_map-cons (λ arm. arm.declared) (told_arm p.0) (map told_arm (map (λ e. e.0) ps))) c))
+    (subst (λ l. Contains l d) (flat_map-cons (λ arm. arm.declared) (told_arm p.0) (map told_arm (map (λ e. e.0) ps))) c))
 
 -- at one layer
 ends_at : (y : Stmt-F Stmt Arm) → Ending (of_told (map-Stmt Stmt Arm Told ToldArm told told_arm y)).declares → StatementEnds (roll-Stmt y)
@@ -93,7 +93,7 @@ statement_ends (Stmt-F.Invalidate target) = ends_at (Stmt-F.Invalidate target) n
 statement_ends (Stmt-F.Skip place) = ends_at (Stmt-F.Skip place) nothing_ends
 statement_ends (Stmt-F.When arms other) = ends_at (Stmt-F.When (map (λ e. e.0) arms) (map (λ e. e.0) other))
     (λ block behind front e d c. ⊎_elim (arms_end arms d) (block_ends other d)
-        (Contains-append_cases (flat_map (λ arm. arm.declared) (map told_arm (map (λ e. e.0) arms))) (declared_in_block (map told (map (λ e. e.0) other))) d c))
+    (Contains-append_cases (flat_map (λ arm. arm.declared) (map told_arm (map (λ e. e.0) arms))) (declared_in_block (map told (map (λ e. e.0) other))) d c))
 
 arm_ends : (y : Arm-F ((s : Stmt) × StatementEnds s) ((a : Arm) × ArmEnds a)) → ArmEnds (roll-Arm (map-Arm _ _ Stmt Arm (λ e. e.0) (λ e. e.0) y))
 arm_ends y d c =
@@ -160,4 +160,4 @@ pub initialized_drives : (fitted : Fitted) → IsInitialized (design_of fitted) 
 initialized_drives fitted all path m c leaf stands must rho =
     let ends = typed_ends fitted.checked.circuit.modules fitted.declared m c (at_design (design_of fitted) path m stands.reached) (component_found m c.declaration.name c stands.declared).1 in
     certain_drives (type_in m) (leaf_of c leaf) c.declaration.block (local m path rho)
-        (subst (λ b. is_certain (type_in m) (leaf_of c leaf) b ≡ true) (sym ends.is) (any_behind (type_in m) (leaf_of c leaf) ends.front c.declaration.behind (all.covered path m c leaf stands must)))
+    (subst (λ b. is_certain (type_in m) (leaf_of c leaf) b ≡ true) (sym ends.is) (any_behind (type_in m) (leaf_of c leaf) ends.front c.declaration.behind (all.covered path m c leaf stands must)))

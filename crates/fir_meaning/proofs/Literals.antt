@@ -1,7 +1,6 @@
 -- The width of a literal is the least that holds it.
-use Rattle.std.proofs.Common.{◌≡◌, ℕ, zero, suc, ◌+◌, ◌^◌, ◌<◌, ◌≤◌, nat_le, Bool, true, false, ℤ, pos, negsuc, neg_ℤ, ◌≤ℤ◌, ◌<ℤ◌, refl, sym, ap, ◌∙◌, subst, arith, true≢false, if◌then◌else◌, ◌⊎◌, ⊎_elim, lt→ltb, ltb→lt, le→leb, leb→le}
+use Rattle.std.proofs.Common.{◌≡◌, ℕ, zero, suc, ◌+◌, ◌^◌, ◌<◌, ◌≤◌, nat_le, true, false, ℤ, pos, negsuc, neg_ℤ, ◌≤ℤ◌, ◌<ℤ◌, sym, subst, arith, if◌then◌else◌, ⊎_elim, lt→ltb, ltb→lt, le→leb, leb→le}
 use Rattle.std.proofs.lemmas.Grind.{common_steps}
-use Rattle.std.proofs.lemmas.Bool.Decides.{nat_tests}
 use Rattle.bit_words.specs.declared.value.Kind.{Kind}
 use Rattle.bit_words.specs.declared.value.Kind.TheVariants.{Unsigned, Signed}
 use Rattle.bit_words.specs.Values.{InRange}
@@ -26,7 +25,7 @@ reached n from zero h = let same : from + 0 ≡ from = omega arith in subst (λ 
 reached n from (suc more) h = ⊎_elim
     (λ q. subst (λ b. n ≤ 2 ^ (if b then from else least_reaching n (suc from) more)) (sym q) (le_of_test n (2 ^ from) q))
     (λ q. subst (λ b. n ≤ 2 ^ (if b then from else least_reaching n (suc from) more)) (sym q)
-        (let same : from + suc more ≡ suc from + more = omega arith in reached n (suc from) more (subst (λ k. n ≤ 2 ^ k) same h)))
+    (let same : from + suc more ≡ suc from + more = omega arith in reached n (suc from) more (subst (λ k. n ≤ 2 ^ k) same h)))
     (true_or_false (nat_le n (2 ^ from)))
 
 none_less : (n from more w : ℕ) → from ≤ w → n ≤ 2 ^ w → least_reaching n from more ≤ w
@@ -35,7 +34,7 @@ none_less n from zero w a h = a
 none_less n from (suc more) w a h = ⊎_elim
     (λ q. subst (λ b. (if b then from else least_reaching n (suc from) more) ≤ w) (sym q) a)
     (λ q. subst (λ b. (if b then from else least_reaching n (suc from) more) ≤ w) (sym q)
-        (none_less n (suc from) more w (later from w a (λ e. let bad : n ≤ 2 ^ from = subst (λ k. n ≤ 2 ^ k) (sym e) h in let over : 2 ^ from < n = gt_of_test n (2 ^ from) q in absurd (omega arith))) h))
+    (none_less n (suc from) more w (later from w a (λ e. let bad : n ≤ 2 ^ from = subst (λ k. n ≤ 2 ^ k) (sym e) h in let over : 2 ^ from < n = gt_of_test n (2 ^ from) q in absurd (omega arith))) h))
     (true_or_false (nat_le n (2 ^ from)))
 
 from_on : (n from more : ℕ) → from ≤ least_reaching n from more
