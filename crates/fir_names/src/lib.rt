@@ -1,0 +1,9 @@
+//! What the names of a circuit mean: the declaration of each reference, the module of each instance, and the modules that
+//! the main one reaches. Keeps the contract that the answer is the scope of the circuit, or its first fault.
+#![tactic(auto)]
+
+pub mod fault;
+mod references;
+mod walk;
+
+pub use fault::{Kind, NameFault};
