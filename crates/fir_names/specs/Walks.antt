@@ -9,7 +9,7 @@ use Rattle.fir_names.specs.declared.fault.Found.{Found}
 use Rattle.fir_names.specs.declared.fault.Kind.{Kind}
 use Rattle.fir_names.specs.declared.fault.Kind.TheVariants.{NameUnknown}
 use Rattle.fir_tree.specs.declared.circuit.Module.{Module}
-use Rattle.fir_names.specs.Parts.{Part, Use, Seen, numbered, declared_in, instances_in, uses_in}
+use Rattle.fir_names.specs.Parts.{Part, Use, Seen, declared_in, instances_in, uses_in}
 
 -- the number of the first declaration of a text
 abbrev pub first_of : List Seen → ℕ → Option ℕ
@@ -52,7 +52,7 @@ fault_of use' = fault_in NameUnknown use'.seen use'.name
 pub record Walks (part : Part) (old new : Walk) : Type 0 where
   pub declared : new.declared.items ≡ old.declared.items ++ part.declares
   pub instances : new.instances.items ≡ old.instances.items ++ part.instances
-  pub visible : (seen : List Seen) → old.visible.entries ≡ kept_of seen → new.visible.entries ≡ kept_of (seen ++ numbered (length old.declared.items) part.shows)
+  pub visible : (seen : List Seen) → old.visible.entries ≡ kept_of seen → new.visible.entries ≡ kept_of (seen ++ part.shows (length old.declared.items))
   pub uses : (seen : List Seen) → old.visible.entries ≡ kept_of seen → new.uses.items ≡ old.uses.items ++ map number_of (part.uses seen (length old.declared.items))
   pub faults : (seen : List Seen) → old.visible.entries ≡ kept_of seen → new.faults.items ≡ old.faults.items ++ flat_map fault_of (part.uses seen (length old.declared.items))
 

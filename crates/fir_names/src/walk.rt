@@ -141,7 +141,8 @@ fn mention(alloc: Global, walk: &mut Walk, expr: &Expr) -> Result<(), AllocError
         Kind::NameUnknown,
         &mut walk.uses,
         &mut walk.faults,
-    )
+    )?;
+    Ok(())
 }
 
 /// An instance of the module of this name.
