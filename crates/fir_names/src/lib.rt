@@ -3,6 +3,8 @@
 #![tactic(auto)]
 
 pub mod fault;
+mod graph;
+mod loops;
 mod references;
 mod walk;
 
