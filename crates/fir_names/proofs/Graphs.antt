@@ -35,7 +35,7 @@ pub In-one : {X : Type 0} {x y : X} → In x (y ∷ []) → x ≡ y
 In-one (here xs) = refl
 In-one (there y xs i) = elim i [ ]
 
-some_same : {X : Type 0} {x y : X} → Some x ≡ Some y → x ≡ y
+pub some_same : {X : Type 0} {x y : X} → Some x ≡ Some y → x ≡ y
 some_same e = cc
 
 pub In-get : {X : Type 0} (xs : List X) (k : ℕ) (x : X) → slice_get xs k ≡ Some x → In x xs

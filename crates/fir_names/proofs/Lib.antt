@@ -1,2 +1,3 @@
 pub mod Graphs
+mod Cycles
 mod Walking

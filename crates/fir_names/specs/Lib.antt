@@ -1,3 +1,4 @@
+pub mod Finds
 pub mod Graphs
 pub mod Parts
 pub mod Scopes

@@ -3,6 +3,7 @@
 #![tactic(auto)]
 
 pub mod fault;
+mod gather;
 mod graph;
 mod loops;
 mod references;

@@ -1,0 +1,51 @@
+-- What the walk over the modules finds: the faults, the numbers of the instances' modules, and the graph.
+use Rattle.std.specs.Prelude.{◌≡◌, ℕ, ◌+◌, List, [], ◌∷◌, ◌++◌, map, length, if◌then◌else◌, nat_eq, Option, Some, None, Bool, true, false}
+use Rattle.std.specs.List.{flat_map, list_any}
+use Rattle.place_text.specs.declared.place.Place.{Place}
+use Rattle.fir_types.specs.declared.name.Name.{Name}
+use Rattle.fir_tree.specs.declared.circuit.Module.{Module}
+use Rattle.fir_names.specs.declared.fault.Found.{Found}
+use Rattle.fir_names.specs.declared.fault.Kind.{Kind}
+use Rattle.fir_names.specs.declared.fault.Kind.TheVariants.{ModuleUnknown, NameTwice}
+use Rattle.fir_names.specs.declared.graph.Edge.{Edge}
+use Rattle.fir_names.specs.declared.gather.Gathered.{Gathered}
+use Rattle.fir_names.specs.Parts.{Seen, declared_in, instances_in, uses_in}
+use Rattle.fir_names.specs.Scopes.{texts}
+use Rattle.fir_names.specs.Walks.{first_of, number_in, fault_in, number_of, fault_of}
+
+-- names with their numbers, from n on
+abbrev pub numbered : ℕ → List Name → List Seen
+numbered n [] = []
+numbered n (name ∷ names) = (name.id, n) ∷ numbered (n + 1) names
+
+-- the fault of a name that some names before it have as well
+abbrev pub fault_where : Bool → Kind → Place → List Found
+fault_where true kind place = record { kind = kind; place = place } ∷ []
+fault_where false kind place = []
+
+-- the faults of names, where other names stand before them
+abbrev pub twice_behind : Kind → List Name → List Name → List Found
+twice_behind kind before [] = []
+twice_behind kind before (name ∷ names) = fault_where (list_any (nat_eq name.id) (texts before)) kind name.place ++ twice_behind kind (before ++ name ∷ []) names
+
+-- the edge of an instance, where its module is known
+abbrev pub edge_to : Option ℕ → Place → List Edge
+edge_to (Some number) place = record { to = number; place = place } ∷ []
+edge_to None place = []
+
+abbrev pub edge_in : List Seen → Name → List Edge
+edge_in known name = edge_to (first_of known name.id) name.place
+
+abbrev pub edges_of : List Seen → Module → List Edge
+edges_of known holder = flat_map (edge_in known) (instances_in holder)
+
+-- the faults of a module
+abbrev pub faults_of : List Seen → Module → List Found
+faults_of known holder = twice_behind NameTwice [] (declared_in holder) ++ flat_map fault_of (uses_in holder) ++ flat_map (fault_in ModuleUnknown known) (instances_in holder)
+
+-- what is gathered of modules
+pub record Gathers (known : List Seen) (modules : List Module) (old new : Gathered) : Type 0 where
+  pub faults : new.faults.items ≡ old.faults.items ++ flat_map (faults_of known) modules
+  pub uses : new.uses.items ≡ old.uses.items ++ map number_of (flat_map uses_in modules)
+  pub targets : new.targets.items ≡ old.targets.items ++ map (number_in known) (flat_map instances_in modules)
+  pub graph : new.graph.items ≡ old.graph.items ++ map (edges_of known) modules
