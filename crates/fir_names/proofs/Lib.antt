@@ -1,3 +1,4 @@
 pub mod Graphs
 mod Cycles
+mod Finding
 mod Walking

@@ -202,7 +202,7 @@ walks_declare name {a} {b} declared instances visible uses faults = record {
   faults = λ seen e. faults ∙ sym (append-nil _);
 }
 
-nothing_kept : kept_of [] ≡ []
+pub nothing_kept : kept_of [] ≡ []
 unfolding kept_of
 nothing_kept = refl
 
