@@ -1,4 +1,5 @@
 pub mod Graphs
 mod Cycles
 mod Finding
+mod Ordering
 mod Walking

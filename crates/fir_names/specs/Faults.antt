@@ -48,7 +48,7 @@ pub record IsFirst (circuit : Circuit) (kind' : Kind) (place : Place) : Type 0 w
   pub is : IsFault circuit kind' place
   pub first : (other : Kind) (there' : Place) → IsFault circuit other there' → IsNotLater kind' place other there'
 
--- how a fault is answered
+-- what is answered for a fault
 abbrev pub answer : Kind → Place → NameFault
 answer kind.NoMain place = fault.NoMain place
 answer kind.ModuleTwice place = fault.ModuleTwice place
@@ -56,3 +56,10 @@ answer kind.ModuleUnknown place = fault.ModuleUnknown place
 answer kind.InstanceLoop place = fault.InstanceLoop place
 answer kind.NameTwice place = fault.NameTwice place
 answer kind.NameUnknown place = fault.NameUnknown place
+
+-- the answer for the first fault
+pub record IsFirstAnswer (circuit : Circuit) (given : NameFault) : Type 0 where
+  pub kind' : Kind
+  pub place : Place
+  pub first : IsFirst circuit kind' place
+  pub is : given ≡ answer kind' place

@@ -3,15 +3,18 @@ use Rattle.std.specs.Prelude.{◌≡◌, ℕ, ◌+◌, List, [], ◌∷◌, ◌+
 use Rattle.std.specs.List.{flat_map, list_any}
 use Rattle.place_text.specs.declared.place.Place.{Place}
 use Rattle.fir_types.specs.declared.name.Name.{Name}
+use Rattle.fir_tree.specs.declared.circuit.Circuit.{Circuit}
 use Rattle.fir_tree.specs.declared.circuit.Module.{Module}
 use Rattle.fir_names.specs.declared.fault.Found.{Found}
 use Rattle.fir_names.specs.declared.fault.Kind.{Kind}
-use Rattle.fir_names.specs.declared.fault.Kind.TheVariants.{ModuleUnknown, NameTwice}
+use Rattle.fir_names.specs.declared.fault.Kind.TheVariants.{NoMain, ModuleTwice, ModuleUnknown, NameTwice}
 use Rattle.fir_names.specs.declared.graph.Edge.{Edge}
 use Rattle.fir_names.specs.declared.gather.Gathered.{Gathered}
+use Rattle.fir_names.specs.Faults.{IsNotLater}
+use Rattle.fir_names.specs.Graphs.{LoopsBefore, Adds}
 use Rattle.fir_names.specs.Parts.{Seen, declared_in, instances_in, uses_in}
-use Rattle.fir_names.specs.Scopes.{texts}
-use Rattle.fir_names.specs.Walks.{first_of, number_in, fault_in, number_of, fault_of}
+use Rattle.fir_names.specs.Scopes.{In, texts, module_names}
+use Rattle.fir_names.specs.Walks.{kept_of, first_of, number_in, fault_in, number_of, fault_of}
 
 -- names with their numbers, from n on
 abbrev pub numbered : ℕ → List Name → List Seen
@@ -49,3 +52,34 @@ pub record Gathers (known : List Seen) (modules : List Module) (old new : Gather
   pub uses : new.uses.items ≡ old.uses.items ++ map number_of (flat_map uses_in modules)
   pub targets : new.targets.items ≡ old.targets.items ++ map (number_in known) (flat_map instances_in modules)
   pub graph : new.graph.items ≡ old.graph.items ++ map (edges_of known) modules
+
+-- the modules' numbers, of each text the first
+abbrev pub known_of : Circuit → List Seen
+known_of circuit = kept_of (numbered 0 (module_names circuit))
+
+-- the faults other than loops
+abbrev pub faults_in : Circuit → List Found
+faults_in circuit = twice_behind ModuleTwice [] (module_names circuit) ++ fault_in NoMain (known_of circuit) circuit.main ++ flat_map (faults_of (known_of circuit)) circuit.modules
+
+-- what is found of a whole circuit
+pub record IsFound (circuit : Circuit) (main : ℕ) (found : Gathered) : Type 0 where
+  pub is_main : main ≡ number_in (known_of circuit) circuit.main
+  pub uses : found.uses.items ≡ map number_of (flat_map uses_in circuit.modules)
+  pub targets : found.targets.items ≡ map (number_in (known_of circuit)) (flat_map instances_in circuit.modules)
+  pub graph : found.graph.items ≡ map (edges_of (known_of circuit)) circuit.modules
+  pub faults : Adds (LoopsBefore found.graph.items (length found.graph.items)) (faults_in circuit) found.faults.items
+
+-- the fault of a list that is told
+pub record IsEarliest (faults : List Found) (found : Found) : Type 0 where
+  pub stands : In found faults
+  pub first : (other : Found) → In other faults → IsNotLater found.kind found.place other.kind other.place
+
+abbrev pub Best : List Found → Option Found → Type 0
+Best faults (Some found) = IsEarliest faults found
+Best faults None = faults ≡ []
+
+-- the earlier of two faults, or the only one
+pub data Earlier : Option Found → Found → Found → Type 0 where
+  only : (found : Found) → Earlier None found found
+  stays : (best found : Found) → IsNotLater best.kind best.place found.kind found.place → Earlier (Some best) found best
+  turns : (best found : Found) → IsNotLater found.kind found.place best.kind best.place → Earlier (Some best) found found

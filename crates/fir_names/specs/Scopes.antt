@@ -19,10 +19,14 @@ texts names = map (λ name. name.id) names
 abbrev pub module_names : Circuit → List Name
 module_names circuit = map (λ m. m.name) circuit.modules
 
+-- the first place where a number stands in a list
+pub record FirstOf (list : List ℕ) (x place : ℕ) : Type 0 where
+  pub has : slice_get list place ≡ Some x
+  pub first : (earlier : ℕ) → earlier < place → slice_get list earlier ≢ Some x
+
 -- the module of a name is the first one that has it
-pub record Means (circuit : Circuit) (text number : ℕ) : Type 0 where
-  pub has : slice_get (texts (module_names circuit)) number ≡ Some text
-  pub first : (earlier : ℕ) → earlier < number → slice_get (texts (module_names circuit)) earlier ≢ Some text
+abbrev pub Means : Circuit → ℕ → ℕ → Type 0
+Means circuit text number = FirstOf (texts (module_names circuit)) text number
 
 -- in the module with this number stands an `inst` with this name of a module, which means the module with that number
 pub record Instance (circuit : Circuit) (from : ℕ) (target : Name) (to : ℕ) : Type 0 where

@@ -2,11 +2,14 @@
 //! the main one reaches. Keeps the contract that the answer is the scope of the circuit, or its first fault.
 #![tactic(auto)]
 
+mod earliest;
 pub mod fault;
 mod gather;
 mod graph;
 mod loops;
 mod references;
+mod scoping;
 mod walk;
 
-pub use fault::{Kind, NameFault};
+pub use fault::NameFault;
+pub use scoping::resolve;
