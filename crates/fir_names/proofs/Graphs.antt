@@ -124,7 +124,7 @@ pub ends_more : (out : List Edge) (i : ℕ) (d : Edge) {ms os ms1 os1 ms2 os2 : 
     → Spreads (ends (take i out)) ms os ms1 os1 → Spreads ((get_or out i d).to ∷ []) ms1 os1 ms2 os2 → Spreads (ends (take (i + 1) out)) ms os ms2 os2
 ends_more out i d {ms} {os} {ms2 = ms2} {os2 = os2} lt h k =
     let step : ends (take (i + 1) out) ≡ ends (take i out) ++ (get_or out i d).to ∷ []
-        = ap ends (take_more out i d lt) ∙ map-append (λ (e : Edge). e.to) (take i out) (get_or out i d ∷ []) in
+    = ap ends (take_more out i d lt) ∙ map-append (λ (e : Edge). e.to) (take i out) (get_or out i d ∷ []) in
     subst (λ ts. Spreads ts ms os ms2 os2) (sym step) (spreads_both h k)
 
 In-map : {X Y : Type 0} (f : X → Y) (xs : List X) (x : X) → In x xs → In (f x) (map f xs)

@@ -1,5 +1,5 @@
 -- The order of faults, and the earliest of a list.
-use Rattle.std.proofs.Common.{◌≡◌, ℕ, ◌+◌, ◌<◌, ◌≤◌, List, [], ◌∷◌, ◌++◌, length, take, get_or, refl, sym, ap, ap₂, ◌∙◌, subst, arith, ⊎_elim, inl, inr, ◌⊎◌, Some, Option}
+use Rattle.std.proofs.Common.{◌≡◌, ℕ, zero, suc, ◌+◌, ◌<◌, ◌≤◌, List, [], ◌∷◌, ◌++◌, length, take, get_or, refl, sym, ap, ap₂, ◌∙◌, subst, arith, ⊎_elim, inl, inr, ◌⊎◌, Some, Option}
 use Rattle.std.specs.Prelude.{None}
 use Rattle.std.proofs.lemmas.List.{take_more}
 use Rattle.place_text.specs.declared.place.Place.{Place}
@@ -7,7 +7,8 @@ use Rattle.fir_names.specs.declared.fault.Found.{Found}
 use Rattle.fir_names.specs.declared.fault.Kind.{Kind}
 use Rattle.fir_names.specs.declared.fault.Kind.TheVariants as kind
 use Rattle.fir_names.specs.Scopes.{In, here, there}
-use Rattle.fir_names.specs.Faults.{IsNotLater, by_line, by_column, by_kind, rank, IsFirst}
+use Rattle.fir_names.specs.Faults.{IsNotLater, by_line, by_column, by_kind, rank, IsFault, IsFirst, IsFirstAnswer, answer}
+use Rattle.fir_names.specs.declared.fault.NameFault.{NameFault}
 use Rattle.fir_names.specs.Finds.{IsEarliest, Best, Earlier, only, stays, turns}
 use Rattle.fir_tree.specs.declared.circuit.Circuit.{Circuit}
 use Rattle.fir_names.proofs.Graphs.{In-left, In-right, In-either, In-one}
@@ -27,12 +28,12 @@ pub not_later_itself : (k : Kind) (p : Place) → IsNotLater k p k p
 not_later_itself k p = by_kind refl refl (omega arith)
 
 kind_of_rank : ℕ → Kind
-kind_of_rank 0 = kind.NoMain
-kind_of_rank 1 = kind.ModuleTwice
-kind_of_rank 2 = kind.ModuleUnknown
-kind_of_rank 3 = kind.InstanceLoop
-kind_of_rank 4 = kind.NameTwice
-kind_of_rank _ = kind.NameUnknown
+kind_of_rank zero = kind.NoMain
+kind_of_rank (suc zero) = kind.ModuleTwice
+kind_of_rank (suc (suc zero)) = kind.ModuleUnknown
+kind_of_rank (suc (suc (suc zero))) = kind.InstanceLoop
+kind_of_rank (suc (suc (suc (suc zero)))) = kind.NameTwice
+kind_of_rank (suc (suc (suc (suc (suc n))))) = kind.NameUnknown
 
 back : (k : Kind) → kind_of_rank (rank k) ≡ k
 unfolding kind_of_rank
@@ -77,3 +78,13 @@ best_more faults i d best f lt b e = subst (λ l. IsEarliest l f) (sym (take_mor
       stands = In-right (take i faults) (here []);
       first = λ o i'. ⊎_elim (λ l. later_trans h (b.first o l)) (λ r. subst (λ z. IsNotLater x.kind x.place z.kind z.place) (sym (In-one r)) (not_later_itself x.kind x.place)) (In-either (take i faults) (x ∷ []) i');
     }
+
+-- the earliest of all faults is the first
+pub answered : (circuit : Circuit) (faults : List Found) (f : Found) (given : NameFault) → IsEarliest faults f → ((x : Found) → In x faults → IsFault circuit x.kind x.place)
+    → ((k : Kind) (p : Place) → IsFault circuit k p → In (record { kind = k; place = p }) faults) → given ≡ answer f.kind f.place → IsFirstAnswer circuit given
+answered circuit faults f given e sound complete is = record {
+  kind' = f.kind;
+  place = f.place;
+  first = record { is = sound f e.stands; first = λ k p h. e.first (record { kind = k; place = p }) (complete k p h) };
+  is = is;
+}

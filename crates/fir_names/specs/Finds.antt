@@ -44,7 +44,7 @@ edges_of known holder = flat_map (edge_in known) (instances_in holder)
 
 -- the faults of a module
 abbrev pub faults_of : List Seen → Module → List Found
-faults_of known holder = twice_behind NameTwice [] (declared_in holder) ++ flat_map fault_of (uses_in holder) ++ flat_map (fault_in ModuleUnknown known) (instances_in holder)
+faults_of known holder = twice_behind NameTwice [] (declared_in holder) ++ (flat_map fault_of (uses_in holder) ++ flat_map (fault_in ModuleUnknown known) (instances_in holder))
 
 -- what is gathered of modules
 pub record Gathers (known : List Seen) (modules : List Module) (old new : Gathered) : Type 0 where
@@ -59,7 +59,7 @@ known_of circuit = kept_of (numbered 0 (module_names circuit))
 
 -- the faults other than loops
 abbrev pub faults_in : Circuit → List Found
-faults_in circuit = twice_behind ModuleTwice [] (module_names circuit) ++ fault_in NoMain (known_of circuit) circuit.main ++ flat_map (faults_of (known_of circuit)) circuit.modules
+faults_in circuit = twice_behind ModuleTwice [] (module_names circuit) ++ (fault_in NoMain (known_of circuit) circuit.main ++ flat_map (faults_of (known_of circuit)) circuit.modules)
 
 -- what is found of a whole circuit
 pub record IsFound (circuit : Circuit) (main : ℕ) (found : Gathered) : Type 0 where

@@ -51,7 +51,12 @@ fn gather_one(
 {
     let walk = walk_module(alloc, holder)?;
     gathered.uses.extend_from_slice(walk.uses.as_slice())?;
-    push_twice(alloc, walk.declared.as_slice(), Kind::NameTwice, &mut gathered.faults)?;
+    push_twice(
+        alloc,
+        walk.declared.as_slice(),
+        Kind::NameTwice,
+        &mut gathered.faults,
+    )?;
     gathered.faults.extend_from_slice(walk.faults.as_slice())?;
     let instances = walk.instances.as_slice();
     look_up(
@@ -92,7 +97,14 @@ pub fn push_twice(
     let mut texts = IndexSet::new(alloc);
     for name in names {
         let (_index, added) = texts.insert_full(name.id)?;
-        push_unless(added, Found { kind, place: name.place }, faults)?;
+        push_unless(
+            added,
+            Found {
+                kind,
+                place: name.place,
+            },
+            faults,
+        )?;
     }
     Ok(())
 }
@@ -117,7 +129,10 @@ fn edges_of(
     let mut edges = Vec::new(alloc);
     for target in instances {
         if let Some(to) = known.get(&target.id) {
-            edges.push(Edge { to: *to, place: target.place })?;
+            edges.push(Edge {
+                to: *to,
+                place: target.place,
+            })?;
         }
     }
     Ok(edges)

@@ -14,7 +14,11 @@ use std::alloc::{AllocError, Global};
 ///
 /// Where there is none, which one numbering of the modules shows, this takes time in proportion to the graph; else each
 /// instance is followed.
-pub fn push_loops(alloc: Global, graph: &[List<Edge>], faults: &mut Vec<Found>) -> Result<(), AllocError>
+pub fn push_loops(
+    alloc: Global,
+    graph: &[List<Edge>],
+    faults: &mut Vec<Found>,
+) -> Result<(), AllocError>
     requires graph { IsGraph graph.now }
     ensures { OnOk result (Adds (LoopsBefore graph.now (length graph.now)) faults.old.items faults.new.items) }
 {
@@ -26,7 +30,11 @@ pub fn push_loops(alloc: Global, graph: &[List<Edge>], faults: &mut Vec<Found>) 
     Ok(())
 }
 
-fn push_all_loops(alloc: Global, graph: &[List<Edge>], faults: &mut Vec<Found>) -> Result<(), AllocError>
+fn push_all_loops(
+    alloc: Global,
+    graph: &[List<Edge>],
+    faults: &mut Vec<Found>,
+) -> Result<(), AllocError>
     requires graph { IsGraph graph.now }
     ensures { OnOk result (Adds (LoopsBefore graph.now (length graph.now)) faults.old.items faults.new.items) }
 {
@@ -67,7 +75,10 @@ fn push_loop(
     ensures { OnOk result (Adds (LoopsOf graph.now from (edge ∷ [])) faults.old.items faults.new.items) }
 {
     if reaches(alloc, graph, edge.to, from)? {
-        faults.push(Found { kind: Kind::InstanceLoop, place: edge.place })?;
+        faults.push(Found {
+            kind: Kind::InstanceLoop,
+            place: edge.place,
+        })?;
     }
     Ok(())
 }
@@ -160,7 +171,11 @@ fn begins(alloc: Global, counts: &[usize]) -> Result<Vec<usize>, AllocError> {
 }
 
 /// Takes edges away, and adds the modules that no other edge leads to.
-fn release(counts: &mut Vec<usize>, ready: &mut Vec<usize>, out: &[Edge]) -> Result<(), AllocError> {
+fn release(
+    counts: &mut Vec<usize>,
+    ready: &mut Vec<usize>,
+    out: &[Edge],
+) -> Result<(), AllocError> {
     for edge in out {
         if let Some(count) = counts.get_mut(edge.to as usize) {
             *count = count.saturating_sub(1);

@@ -67,7 +67,12 @@ fn find(alloc: Global, circuit: &Circuit) -> Result<(u32, Gathered), AllocError>
         graph: Vec::new(alloc),
         faults: Vec::new(alloc),
     };
-    push_twice(alloc, names.as_slice(), Kind::ModuleTwice, &mut found.faults)?;
+    push_twice(
+        alloc,
+        names.as_slice(),
+        Kind::ModuleTwice,
+        &mut found.faults,
+    )?;
     let main = main_of(&known, circuit.main, &mut found.faults)?;
     gather(alloc, &known, &mut found, modules)?;
     push_loops(alloc, found.graph.as_slice(), &mut found.faults)?;
@@ -97,7 +102,10 @@ fn main_of(
     match known.get(&main.id) {
         Some(number) => Ok(*number),
         None => {
-            faults.push(Found { kind: Kind::NoMain, place: main.place })?;
+            faults.push(Found {
+                kind: Kind::NoMain,
+                place: main.place,
+            })?;
             Ok(0)
         }
     }
@@ -113,7 +121,12 @@ fn scope_of(alloc: Global, main: u32, found: Gathered) -> Result<Scope, AllocErr
     ensures reached { IfOk result (λ scope. (k : ℕ) → (slice_get scope.reached k ≡ Some true) ↔ Leads found.graph.items main k) }
 {
     let reached = reach(alloc, found.graph.as_slice(), main)?;
-    let Gathered { uses, targets, graph: _graph, faults: _faults } = found;
+    let Gathered {
+        uses,
+        targets,
+        graph: _graph,
+        faults: _faults,
+    } = found;
     Ok(Scope {
         reached: List::from_vec(reached),
         uses: List::from_vec(uses),
