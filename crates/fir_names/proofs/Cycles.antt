@@ -7,9 +7,9 @@ use Rattle.std.proofs.lemmas.Option.{slice_get_within, slice_get_read}
 use Rattle.fir_names.specs.declared.graph.Edge.{Edge}
 use Rattle.fir_names.specs.declared.fault.Found.{Found}
 use Rattle.fir_names.specs.declared.fault.Kind.TheVariants.{InstanceLoop}
-use Rattle.fir_names.specs.Scopes.{In, here, there}
+use Rattle.fir_names.specs.Scopes.{In, here}
 use Rattle.fir_names.specs.Graphs.{Graph, IsGraph, Out, Leads, stays, goes, LoopsOf, LoopsBefore, Adds, Rises, ends}
-use Rattle.fir_names.proofs.Graphs.{In-left, In-right, In-either, In-one, In-get, some_same, ends_within}
+use Rattle.fir_names.proofs.Graphs.{In-left, In-right, In-either, In-one, some_same, ends_within}
 
 at_or_before : (k n : ℕ) → k < n + 1 → (k < n) ⊎ (k ≡ n)
 at_or_before k n lt = by (nat_lt k n) refl

@@ -1,10 +1,10 @@
 -- Marking modules, and what a module reaches.
 use Rattle.std.proofs.Common.{◌≡◌, ℕ, zero, suc, ◌+◌, ◌<◌, ◌≤◌, Bool, true, false, List, [], ◌∷◌, ◌++◌, map, length, take, set, get_or, refl, sym, ap, ◌∙◌, subst, arith, append_assoc, append-nil, length-append, ⊎_elim, inl, inr, ◌⊎◌, slice_get, Some, replicate}
-use Rattle.std.specs.Prelude.{◌↔◌, None, slice_set}
+use Rattle.std.specs.Prelude.{◌↔◌}
 use Rattle.std.proofs.lemmas.List.{take_more, map-append, length-set, length-replicate, take-append-le, take_all}
 use Rattle.std.proofs.lemmas.Option.{slice_get_within, slice_get_read, slice_get-get_or, get_or_from_slice_get}
 use Rattle.std.proofs.lemmas.Bool.{eqb-true, eqb-false}
-use Rattle.std.specs.Prelude.{nat_eq, not, pred}
+use Rattle.std.specs.Prelude.{nat_eq, pred}
 use Rattle.fir_names.specs.declared.graph.Edge.{Edge}
 use Rattle.fir_names.specs.Scopes.{In, here, there}
 use Rattle.fir_names.specs.Graphs.{Graph, IsGraph, Out, Leads, stays, goes, count_true, Marked, Spreads, ends}

@@ -1,8 +1,8 @@
 -- What is found, in the words of the circuit.
-use Rattle.std.proofs.Common.{◌≡◌, ◌≢◌, ℕ, zero, suc, ◌+◌, ◌<◌, ◌≤◌, Bool, true, false, List, [], ◌∷◌, ◌++◌, map, length, take, get_or, refl, sym, ap, ap₂, ◌∙◌, subst, arith, append_assoc, append-nil, ⊎_elim, inl, inr, ◌⊎◌, Some, Option, slice_get, cond, ◌||◌}
+use Rattle.std.proofs.Common.{◌≡◌, ◌≢◌, ℕ, zero, suc, ◌+◌, ◌<◌, Bool, true, false, List, [], ◌∷◌, ◌++◌, map, length, refl, sym, ap, ap₂, ◌∙◌, subst, arith, append_assoc, append-nil, ⊎_elim, Some, Option, slice_get, cond, ◌||◌}
 use Rattle.std.specs.Prelude.{None, nat_eq, nat_lt, ◌↔◌, option_map}
 use Rattle.std.specs.List.{flat_map, list_any, AllZip}
-use Rattle.std.proofs.lemmas.List.{map-append, length-map}
+use Rattle.std.proofs.lemmas.List.{length-map}
 use Rattle.std.proofs.lemmas.Option.{slice_get-map, slice_get_within}
 use Rattle.std.proofs.lemmas.Bool.{eqb-true, eqb-false, ltb-true, ltb-false}
 use Rattle.place_text.specs.declared.place.Place.{Place}
@@ -18,8 +18,8 @@ use Rattle.fir_names.specs.declared.gather.Gathered.{Gathered}
 use Rattle.fir_names.specs.Parts.{Seen, Use, declared_in, instances_in, uses_in}
 use Rattle.fir_names.specs.Scopes.{In, here, there, texts, module_names, FirstOf, Means, Instance, Reaches, itself, through, Names, IsScope}
 use Rattle.fir_names.specs.Faults.{IsTwice, IsFault, no_main, module_twice, module_unknown, instance_loop, name_twice, name_unknown}
-use Rattle.fir_names.specs.Graphs.{Graph, IsGraph, Out, Leads, stays, goes, LoopsOf, LoopsBefore, Adds}
-use Rattle.fir_names.specs.Walks.{first_of, kept_of, number_or, fault_unless, number_in, fault_in, number_of, fault_of}
+use Rattle.fir_names.specs.Graphs.{Graph, IsGraph, Out, Leads, stays, goes, LoopsBefore}
+use Rattle.fir_names.specs.Walks.{first_of, number_or, fault_unless, number_in, fault_in, number_of, fault_of}
 use Rattle.fir_names.specs.Finds.{numbered, fault_where, twice_behind, edge_to, edge_in, edges_of, faults_of, known_of, faults_in, IsFound}
 use Rattle.fir_names.proofs.Graphs.{In-left, In-right, In-either, In-one, In-get, some_same}
 use Rattle.fir_names.proofs.Walking.{first_of-kept}

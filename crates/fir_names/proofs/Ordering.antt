@@ -1,12 +1,12 @@
 -- The order of faults, and the earliest of a list.
-use Rattle.std.proofs.Common.{◌≡◌, ℕ, zero, suc, ◌+◌, ◌<◌, ◌≤◌, List, [], ◌∷◌, ◌++◌, length, take, get_or, refl, sym, ap, ap₂, ◌∙◌, subst, arith, ⊎_elim, inl, inr, ◌⊎◌, Some, Option}
+use Rattle.std.proofs.Common.{◌≡◌, ℕ, zero, suc, ◌+◌, ◌<◌, ◌≤◌, List, [], ◌∷◌, ◌++◌, length, take, get_or, refl, sym, ap, ap₂, ◌∙◌, subst, arith, ⊎_elim, Some, Option}
 use Rattle.std.specs.Prelude.{None}
 use Rattle.std.proofs.lemmas.List.{take_more}
 use Rattle.place_text.specs.declared.place.Place.{Place}
 use Rattle.fir_names.specs.declared.fault.Found.{Found}
 use Rattle.fir_names.specs.declared.fault.Kind.{Kind}
 use Rattle.fir_names.specs.declared.fault.Kind.TheVariants as kind
-use Rattle.fir_names.specs.Scopes.{In, here, there}
+use Rattle.fir_names.specs.Scopes.{In, here}
 use Rattle.fir_names.specs.Faults.{IsNotLater, by_line, by_column, by_kind, rank, IsFault, IsFirst, IsFirstAnswer, answer}
 use Rattle.fir_names.specs.declared.fault.NameFault.{NameFault}
 use Rattle.fir_names.specs.Finds.{IsEarliest, Best, Earlier, only, stays, turns}

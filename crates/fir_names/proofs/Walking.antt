@@ -1,14 +1,13 @@
 -- One part walked behind another.
-use Rattle.std.proofs.Common.{◌≡◌, ℕ, ◌+◌, ◌≤◌, List, [], ◌∷◌, ◌++◌, map, length, take, refl, sym, ap, ap₂, ◌∙◌, arith, append_assoc, append-nil, length-append, get_or, ◌<◌, Bool, true, false, if◌then◌else◌, subst}
+use Rattle.std.proofs.Common.{◌≡◌, ℕ, ◌+◌, List, [], ◌∷◌, ◌++◌, map, length, take, refl, sym, ap, ap₂, ◌∙◌, arith, append_assoc, append-nil, length-append, get_or, ◌<◌, Bool, true, false, if◌then◌else◌, subst}
 use Rattle.std.specs.Prelude.{is_some, cond, nat_eq, Option, Some, None}
 use Rattle.std.proofs.lemmas.Grind.{common_steps}
 use Rattle.std.proofs.lemmas.List.{map-append, take_more, nil_from_length}
 use Rattle.std.proofs.lemmas.List.Concat.{flat_map-append}
 use Rattle.std.specs.List.{flat_map}
 use Rattle.fir_types.specs.declared.name.Name.{Name}
-use Rattle.fir_tree.specs.declared.stmt.Stmt.{Stmt}
 use Rattle.fir_names.specs.declared.walk.Walk.{Walk}
-use Rattle.fir_names.specs.Parts.{Part, Use, Seen, nothing, mentions, declares, joined, in_turn, module_part}
+use Rattle.fir_names.specs.Parts.{Part, Seen, nothing, mentions, declares, joined, in_turn, module_part}
 use Rattle.fir_tree.specs.declared.circuit.Module.{Module}
 use Rattle.fir_names.specs.declared.fault.Kind.TheVariants.{NameUnknown}
 use Rattle.fir_names.specs.Walks.{first_of, kept_with, kept_from, kept_of, number_or, fault_unless, number_in, fault_in, number_of, fault_of, Walks, HasWalked}

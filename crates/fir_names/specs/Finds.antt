@@ -1,5 +1,5 @@
 -- What the walk over the modules finds: the faults, the numbers of the instances' modules, and the graph.
-use Rattle.std.specs.Prelude.{◌≡◌, ℕ, ◌+◌, List, [], ◌∷◌, ◌++◌, map, length, if◌then◌else◌, nat_eq, Option, Some, None, Bool, true, false}
+use Rattle.std.specs.Prelude.{◌≡◌, ℕ, ◌+◌, List, [], ◌∷◌, ◌++◌, map, length, nat_eq, Option, Some, None, Bool, true, false}
 use Rattle.std.specs.List.{flat_map, list_any}
 use Rattle.place_text.specs.declared.place.Place.{Place}
 use Rattle.fir_types.specs.declared.name.Name.{Name}

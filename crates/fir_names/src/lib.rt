@@ -13,3 +13,6 @@ mod walk;
 
 pub use fault::NameFault;
 pub use scoping::resolve;
+
+#[cfg(test)]
+mod tests;

@@ -1,5 +1,3 @@
-use Rattle.fir_names.specs.declared.fault.Found.{Found}
-use Rattle.fir_names.specs.declared.fault.Kind.TheVariants.{NoMain}
 use Rattle.fir_names.proofs.Ordering.{best_more}
 use Rattle.fir_names.proofs.earliest.earliest.Goals as goal
 

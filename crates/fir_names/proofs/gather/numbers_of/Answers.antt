@@ -1,4 +1,4 @@
-use Rattle.std.proofs.Common.{rules, arith}
+use Rattle.std.proofs.Common.{rules}
 use Rattle.fir_names.proofs.Finding.{numbers_none, numbers_more}
 use Rattle.fir_names.proofs.gather.numbers_of.Goals as goal
 

@@ -1,4 +1,3 @@
-use Rattle.std.proofs.Common.{rules, arith}
 use Rattle.fir_types.specs.declared.name.Name.{Name}
 use Rattle.fir_names.proofs.Finding.{twice_more, held_more}
 use Rattle.fir_names.proofs.gather.push_twice.Goals as goal

@@ -1,4 +1,4 @@
-use Rattle.std.proofs.Common.{rules, ◌≡◌, slice_get, Some, true, false, ap, ◌∙◌}
+use Rattle.std.proofs.Common.{◌≡◌, slice_get, Some, true, false, ap, ◌∙◌}
 use Rattle.fir_names.proofs.Graphs.{marks_one, marks_none, read_mark}
 use Rattle.fir_names.proofs.graph.mark.Goals as goal
 

@@ -1,6 +1,5 @@
-use Rattle.std.proofs.Common.{rules, sym, subst, ap, ◌∙◌, ◌≡◌, ◌<◌, length, arith, refl, slice_get, Some, ℕ, false, replicate}
+use Rattle.std.proofs.Common.{rules, length, arith, refl}
 use Rattle.std.proofs.lemmas.Option.{slice_get_read}
-use Rattle.fir_names.specs.Graphs.{Marked, ends}
 use Rattle.fir_names.proofs.Graphs.{unmarked, first_marked, visits_next, visits_within, visits_known, visited, ends_within}
 use Rattle.fir_names.proofs.graph.reach.Goals as goal
 

@@ -1,5 +1,4 @@
-use Rattle.std.proofs.Common.{length, ◌-◌, ℕ, ◌≡◌}
-use Rattle.fir_names.specs.Graphs.{Marked}
+use Rattle.std.proofs.Common.{length, ◌-◌}
 use Rattle.fir_names.proofs.Graphs.{Visits}
 use Rattle.fir_names.proofs.graph.reach.Given as goal
 

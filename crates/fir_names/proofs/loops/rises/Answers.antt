@@ -1,4 +1,4 @@
-use Rattle.std.proofs.Common.{rules, ◌<◌, length, refl, arith, slice_get, Some, ◌≡◌}
+use Rattle.std.proofs.Common.{rules, length, refl, arith}
 use Rattle.std.proofs.lemmas.Option.{slice_get_read}
 use Rattle.fir_names.proofs.Cycles.{rises_more, rises_all}
 use Rattle.fir_names.proofs.loops.rises.Goals as goal

@@ -1,4 +1,4 @@
-use Rattle.std.proofs.Common.{rules, ◌<◌, arith}
+use Rattle.std.proofs.Common.{rules, ◌<◌}
 use Rattle.std.specs.Prelude.{slice_index}
 use Rattle.fir_names.specs.declared.graph.Edge.{Edge}
 use Rattle.fir_names.proofs.Cycles.{edge_more}

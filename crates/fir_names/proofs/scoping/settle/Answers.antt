@@ -1,4 +1,4 @@
-use Rattle.std.proofs.Common.{rules, ◌≡◌, ◌∙◌, sym, ap, inl, inr, List, []}
+use Rattle.std.proofs.Common.{◌∙◌, sym, inr}
 use Rattle.fir_names.proofs.Ordering.{answered}
 use Rattle.fir_names.proofs.Meaning.{graph_is, main_within, is_scope, no_fault, found_sound, found_complete}
 use Rattle.fir_names.proofs.scoping.settle.Goals as goal

@@ -1,6 +1,6 @@
-use Rattle.std.proofs.Common.{rules, refl, sym, ◌∙◌, ap, arith, map}
+use Rattle.std.proofs.Common.{rules, refl, map}
 use Rattle.fir_names.specs.Parts.{stmt_part, arm_part, in_turn}
-use Rattle.fir_names.proofs.Walking.{walks_push, walks_shut, walks_then, plainly, walks_nothing, mentions-append}
+use Rattle.fir_names.proofs.Walking.{walks_push, walks_shut}
 use Rattle.fir_names.proofs.walk.+walk.Goals as goal
 
 pub walk_arms-loop-arm-preserved : goal.walk_arms-loop-arm-preserved

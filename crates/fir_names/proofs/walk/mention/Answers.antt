@@ -1,4 +1,4 @@
-use Rattle.std.proofs.Common.{rules, refl, sym, ◌∙◌, ap}
+use Rattle.std.proofs.Common.{rules, refl}
 use Rattle.fir_names.specs.Parts.{references}
 use Rattle.fir_names.proofs.Walking.{walks_mention}
 use Rattle.fir_names.proofs.walk.mention.Goals as goal

@@ -1,4 +1,4 @@
-use Rattle.std.proofs.Common.{rules, refl, sym, ◌∙◌, ap}
+use Rattle.std.proofs.Common.{rules}
 use Rattle.fir_names.specs.Parts.{declares}
 use Rattle.fir_names.proofs.Walking.{walks_push}
 use Rattle.fir_names.proofs.walk.walk_ports.Goals as goal
