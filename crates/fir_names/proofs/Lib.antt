@@ -1,5 +1,6 @@
 pub mod Graphs
 mod Cycles
+mod Examples
 mod Finding
 mod Meaning
 mod Ordering
