@@ -5,3 +5,4 @@ mod Finding
 mod Meaning
 mod Ordering
 mod Walking
+mod Agreement
