@@ -1,2 +1,5 @@
 pub mod Composition
 pub mod Depth
+pub mod Sources
+pub mod Takes
+pub mod Called

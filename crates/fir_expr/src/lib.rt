@@ -4,5 +4,6 @@
 #![tactic(auto)]
 
 pub mod reader;
+mod take;
 
 pub use reader::{Reader, read_expr, read_reference, read_type};
