@@ -226,6 +226,7 @@ pub fn take_mark(text: &[u8], laid: &[Laid], at: usize, mark: u8) -> Result<Laid
 }
 
 /// Takes a mark that opens a bracket and begins no suffix: `(` or `{`. So many brackets are open before it.
+#[tactic(auto, using(crate::proofs::Takes::not_taken_memory, crate::proofs::Sources::source_part, crate::proofs::Takes::opening_deep, crate::proofs::Takes::opening_taken))]
 pub fn open_bracket(
     text: &[u8],
     laid: &[Laid],
@@ -250,6 +251,7 @@ pub fn open_bracket(
 }
 
 /// Takes a number. The answer has its place and its magnitude.
+#[tactic(auto, using(crate::proofs::Takes::not_taken_memory, crate::proofs::Sources::source_part, crate::proofs::Takes::number_here))]
 pub fn take_number(text: &[u8], laid: &[Laid], at: usize) -> Result<(Place, u128), ParseFault>
     requires { IsSource text.now laid.now }
     ensures ok { IfOk result (λ n. IsNumberAt text.now laid.now at n.0 n.1) }
@@ -268,15 +270,20 @@ fn magnitude(text: &[u8], part: Laid) -> Option<u128>
     ensures some { IfSome result (λ n. (token : TheToken) × (part ≡ Laid.Item token) × (token.kind ≡ TokenKind.Digits) × IsMagnitude (bytes_of text.now token) n) }
     ensures none { IfNone result (¬ (Takes A_number (piece_of text.now part))) }
 {
-    match part {
-        Laid::Item(token) if token.kind == TokenKind::Digits => {
-            read_magnitude(bytes(text, token)).ok()
-        }
+    let Laid::Item(token) = part else {
+        return None;
+    };
+    match token.kind {
+        TokenKind::Digits => match read_magnitude(bytes(text, token)) {
+            Ok(magnitude) => Some(magnitude),
+            Err(_fault) => None,
+        },
         _ => None,
     }
 }
 
 /// Takes a name, which is added to the names.
+#[tactic(auto, using(crate::proofs::Takes::not_taken_memory, crate::proofs::Sources::source_part))]
 pub fn take_name(
     text: &[u8],
     laid: &[Laid],
@@ -298,6 +305,7 @@ pub fn take_name(
 }
 
 /// Takes a name or digits, which is added to the names.
+#[tactic(auto, using(crate::proofs::Takes::not_taken_memory, crate::proofs::Sources::source_part))]
 pub fn take_field(
     text: &[u8],
     laid: &[Laid],
