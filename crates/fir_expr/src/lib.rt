@@ -5,5 +5,6 @@
 
 pub mod reader;
 mod take;
+mod types;
 
 pub use reader::{Reader, read_expr, read_reference, read_type};

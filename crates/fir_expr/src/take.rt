@@ -26,6 +26,7 @@ pub const MOST: u32 = 128;
 /// The part at a place. Behind the last one there is no token to name.
 pub fn part_at(laid: &[Laid], at: usize) -> Result<Laid, ParseFault>
     ensures ok { IfOk result (λ part. slice_get laid.now at ≡ Some part) }
+    ensures within { IfOk result (λ _. at < length laid.now) }
     ensures err { IfErr result (λ fault. fault ≡ NoMemory) }
 {
     laid.get(at).copied().ok_or(ParseFault::NoMemory)
@@ -215,7 +216,8 @@ pub fn refusal_at(text: &[u8], laid: &[Laid], at: usize) -> ParseFault
 pub fn take_mark(text: &[u8], laid: &[Laid], at: usize, mark: u8) -> Result<Laid, ParseFault>
     requires source { IsSource text.now laid.now }
     requires flat { IsTrue (is_flat mark) }
-    ensures { AnswersPiece (The_mark mark) text.now laid.now at result }
+    ensures taken { AnswersPiece (The_mark mark) text.now laid.now at result }
+    ensures within { IfOk result (λ _. at < length laid.now) }
 {
     let part = part_at(laid, at)?;
     if is_mark(part, mark) {
@@ -239,6 +241,7 @@ pub fn open_bracket(
     requires stands { StandsIn (pieces_of text.now laid.now) at brackets }
     ensures taken { AnswersPiece (The_mark mark) text.now laid.now at result }
     ensures few { IfOk result (λ _. brackets < most) }
+    ensures within { IfOk result (λ _. at < length laid.now) }
 {
     let part = part_at(laid, at)?;
     if !is_mark(part, mark) {
@@ -255,6 +258,7 @@ pub fn open_bracket(
 pub fn take_number(text: &[u8], laid: &[Laid], at: usize) -> Result<(Place, u128), ParseFault>
     requires { IsSource text.now laid.now }
     ensures ok { IfOk result (λ n. IsNumberAt text.now laid.now at n.0 n.1) }
+    ensures within { IfOk result (λ _. at < length laid.now) }
     ensures err { IfErr result (λ fault. IsNotTaken A_number text.now laid.now at fault) }
 {
     let part = part_at(laid, at)?;
@@ -293,6 +297,7 @@ pub fn take_name(
     requires source { IsSource text.now laid.now }
     requires room { wanted names.old laid.now at < 2 ^ 32 - 1 }
     ensures ok { IfOk result (λ name. IsNameAt A_name text.now laid.now at names.old name names.new) }
+    ensures within { IfOk result (λ _. at < length laid.now) }
     ensures err { IfErr result (λ fault. IsNotTaken A_name text.now laid.now at fault) }
 {
     match part_at(laid, at)? {
@@ -315,6 +320,7 @@ pub fn take_field(
     requires source { IsSource text.now laid.now }
     requires room { wanted names.old laid.now at < 2 ^ 32 - 1 }
     ensures ok { IfOk result (λ name. IsNameAt A_field text.now laid.now at names.old name names.new) }
+    ensures within { IfOk result (λ _. at < length laid.now) }
     ensures err { IfErr result (λ fault. IsNotTaken A_field text.now laid.now at fault) }
 {
     match part_at(laid, at)? {
