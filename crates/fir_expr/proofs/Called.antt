@@ -1,5 +1,5 @@
 -- A word with its `(` is listed where the word is.
-use Rattle.std.proofs.Common.{◌≡◌, ℕ, ◌<◌, List, [], ◌∷◌, ◌++◌, length, map, Contains, slice_index_or, get_or, codes, sym, ◌∙◌, ap, arith}
+use Rattle.std.proofs.Common.{◌≡◌, ℕ, ◌<◌, List, [], ◌++◌, length, map, Contains, slice_index_or, codes, sym, ◌∙◌, ap, arith}
 use Rattle.std.proofs.lemmas.List.{length-map, append_cancel_right}
 use Rattle.std.proofs.lemmas.Grind.{common_steps}
 

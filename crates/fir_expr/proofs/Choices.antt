@@ -1,14 +1,11 @@
 -- Which case a rule enters, from the pieces that stand there.
-use Rattle.std.proofs.Common.{◌≡◌, ℕ, ◌+◌, Bool, true, false, List, [], ◌∷◌, ◌++◌, slice_get, Some, refl, sym, ◌∙◌, ap, codes, eqb, eq-eqb, eqb→eq, bytes_eq}
-use Rattle.std.proofs.lemmas.Slice.Eq.{bytes_eq-Decides}
-use Prim.Native.String.{String}
+use Rattle.std.proofs.Common.{◌≡◌, ℕ, Bool, true, false, List, ◌∷◌, slice_get, Some, refl, eqb, eq-eqb, eqb→eq}
 use Rattle.fir_lexer.specs.declared.token.TokenKind.TheVariants as kind
 use Rattle.fir_layout.specs.declared.laid.Laid.{Laid}
-use Rattle.fir_layout.specs.Pieces.{Piece, A_token, A_line_end, A_block_opens, A_block_closes, The_end, piece_of, pieces_of}
-use Rattle.fir_tree.specs.Grammar.{Terminal, The_word, The_call, The_mark, A_name, A_field, A_number, Takes, Kept, Symbol, Is, A, Rule, IsCase, Front, cut, takes_on, a_type, last_length, next_length, an_unsigned, a_signed, a_clock, a_reset, a_bundle, no_width, a_width, last_field, next_field, plain_field, flipped_field}
-use Rattle.fir_tree.proofs.Cases.{starts_mark, starts_word, choose}
-use Rattle.fir_expr.specs.Parts.{IsTaken}
-use Rattle.fir_expr.proofs.Composition.{Enters, enters_by_piece, enters_by_two, enters_only, piece_at}
+use Rattle.fir_layout.specs.Pieces.{Piece, A_token, piece_of, pieces_of}
+use Rattle.fir_tree.specs.Grammar.{The_mark, Takes, last_length, next_length, no_width, a_width}
+use Rattle.fir_tree.proofs.Cases.{starts_mark}
+use Rattle.fir_expr.proofs.Composition.{Enters, enters_by_piece, piece_at}
 
 -- tests of a first piece
 

@@ -1,25 +1,22 @@
 -- What is passed piece by piece is passed as a whole: read, with its brackets closed, and with no more names than tokens.
-use Rattle.std.proofs.Common.{◌≡◌, ℕ, ◌+◌, ◌-◌, ◌<◌, ◌≤◌, Bool, true, false, if◌then◌else◌, List, [], ◌∷◌, ◌++◌, length, take, drop, slice_get, Some, refl, sym, ◌∙◌, ap, subst, arith, length-append}
+use Rattle.std.proofs.Common.{◌≡◌, ℕ, ◌+◌, ◌≤◌, Bool, false, if◌then◌else◌, List, [], ◌∷◌, ◌++◌, length, take, drop, slice_get, Some, refl, ◌∙◌, ap, arith, length-append}
 use Rattle.place_text.specs.declared.place.Place.{Place}
 use Rattle.place_text.specs.Places.{place}
-use Rattle.bit_words.specs.Numbers.{IsMagnitude}
 use Rattle.fir_lexer.specs.declared.token.Token.{Token}
-use Rattle.fir_lexer.specs.declared.token.TokenKind.{TokenKind}
 use Rattle.fir_lexer.specs.declared.token.TokenKind.TheVariants as kind
 use Rattle.fir_types.specs.declared.name.Name.{Name}
 use Rattle.fir_layout.specs.declared.laid.Laid.{Laid}
 use Rattle.fir_layout.specs.declared.laid.Laid.TheVariants.{Item}
 use Rattle.fir_layout.specs.Layout.{token_in, tokens_in}
 use Rattle.fir_layout.specs.Pieces.{Piece, A_token, piece_of, pieces_of, bytes_of}
-use Rattle.fir_tree.specs.declared.fault.ParseFault.{ParseFault}
-use Rattle.fir_tree.specs.Grammar.{Terminal, The_word, The_mark, A_name, A_field, A_number, Takes, Kept, Nothing, Its_place, Its_name, Its_magnitude, Its_place_and_magnitude, Symbol, Is, A, Rule, IsCase, tree, Values, start_of, name_in, Spells, no_symbol, a_piece, a_place, a_name, a_magnitude, a_placed_magnitude}
-use Rattle.fir_tree.specs.Faults.{Levels, levels, most, past, past_text, past_mark, with_suffix, afresh, last_suffixes, without_last, is_deep}
+use Rattle.fir_tree.specs.Grammar.{Terminal, The_word, The_mark, A_name, A_field, A_number, Takes, Nothing, Its_place, Its_name, Its_magnitude, Its_place_and_magnitude, Symbol, Is, A, Rule, IsCase, tree, Values, start_of, name_in, no_symbol, a_piece, a_place, a_name, a_magnitude, a_placed_magnitude}
+use Rattle.fir_tree.specs.Faults.{Levels, levels, past, past_text, past_mark, afresh, last_suffixes, without_last}
 use Rattle.fir_tree.specs.Numbered.{AddsName}
-use Rattle.fir_tree.specs.Reading.{HasRead, IsRefused}
+use Rattle.fir_tree.specs.Reading.{HasRead}
 use Rattle.fir_expr.specs.Standing.{StandsIn, BeginsType, IsWhole, wanted}
-use Rattle.fir_expr.specs.Parts.{IsTaken, IsNotTaken, IsNumberAt, IsNameAt, HasPassed}
-use Rattle.fir_expr.proofs.Composition.{joined, read_then, read_case, refused_first, refused_behind, refused_case, read_piece, Enters, piece_at, drop_at}
-use Rattle.fir_expr.proofs.Depth.{levels_next, whole_stands, whole_then, whole_none}
+use Rattle.fir_expr.specs.Parts.{IsTaken, IsNumberAt, IsNameAt, HasPassed}
+use Rattle.fir_expr.proofs.Composition.{joined, read_then, read_case, read_piece, Enters, piece_at, drop_at}
+use Rattle.fir_expr.proofs.Depth.{levels_next, whole_stands, whole_then}
 
 -- pieces and levels
 
@@ -142,8 +139,10 @@ pub begins_mark : (m : ℕ) {text : List ℕ} {list : List Laid} {i brackets : �
     → BeginsType (pieces_of text list) (i + 1) brackets
 begins_mark m {text} {list} {i} {brackets} {l} s simple t =
     let same = mark_past (levels (take i (pieces_of text list))) m (piece_of text l) t.takes ∙ simple (levels (take i (pieces_of text list))) in
-    record { stands = whole_stands (whole_plain (piece_of text l) s.stands (piece_at text list i l t.here) same) s.stands;
-    no_suffix = suffixes_plain (piece_of text l) s.stands (piece_at text list i l t.here) same ∙ s.no_suffix }
+    record {
+      stands = whole_stands (whole_plain (piece_of text l) s.stands (piece_at text list i l t.here) same) s.stands;
+      no_suffix = suffixes_plain (piece_of text l) s.stands (piece_at text list i l t.here) same ∙ s.no_suffix;
+    }
 
 text_past : (s : Terminal) (at : Levels) (p : Piece) → IsTexts s → Takes s p → past at p ≡ past_text at
 text_past A_number at (A_token kind.Digits bytes) t h = refl

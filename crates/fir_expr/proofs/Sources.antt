@@ -86,7 +86,7 @@ part_inside size list i l e h =
     let here_so = rw e.made at here in
     let within_so = rw e.made at within in
     ⊎_elim (λ inside. inl (let same : get_or e.front i l ≡ l = part_inside_front size i e.front l inside here_so in rw same at (e.inside i l inside)))
-        (λ last. inr (part_inside_last size i e.front l last within_so here_so)) (cases_lt i (length e.front))
+    (λ last. inr (part_inside_last size i e.front l last within_so here_so)) (cases_lt i (length e.front))
 
 token_part : (text : List ℕ) (token : Token) → IsSound text token → IsInside (length text) (Item token) ⊎ (Item token ≡ End (length text)) → IsTokenIn text token
 token_part text token s (inl inside) = record { some = inside.0; within = inside.1; behind = s.behind; of = s.of; in_range = s.in_range }

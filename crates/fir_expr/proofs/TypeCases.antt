@@ -1,17 +1,16 @@
 -- The readers of types, case by case.
-use Rattle.std.proofs.Common.{◌≡◌, ℕ, ◌+◌, ◌-◌, ◌<◌, ◌≤◌, IsTrue, List, [], ◌∷◌, ◌++◌, length, slice_get, Option, Some, None, refl, sym, ◌∙◌, ap, arith}
+use Rattle.std.proofs.Common.{◌≡◌, ℕ, ◌+◌, List, [], ◌∷◌, slice_get, Some, None, refl, arith}
 use Rattle.std.proofs.lemmas.Option.{slice_get_within}
 use Rattle.place_text.specs.declared.place.Place.{Place}
-use Rattle.place_text.specs.Places.{place}
 use Rattle.fir_layout.specs.declared.laid.Laid.{Laid}
-use Rattle.fir_layout.specs.Pieces.{Piece, piece_of, pieces_of}
+use Rattle.fir_layout.specs.Pieces.{piece_of, pieces_of}
 use Rattle.fir_tree.specs.declared.fault.ParseFault.{ParseFault}
-use Rattle.fir_tree.specs.Grammar.{Terminal, The_word, The_mark, A_number, Takes, Kept, Nothing, Its_magnitude, Symbol, Is, A, Rule, Width, a_width, no_width}
-use Rattle.fir_tree.specs.Reading.{HasRead, IsRefused}
-use Rattle.fir_expr.specs.Standing.{StandsIn, BeginsType, IsWhole, wanted}
-use Rattle.fir_expr.specs.Parts.{IsTaken, IsNotTaken, IsNumberAt, IsNameAt, HasPassed}
-use Rattle.fir_expr.proofs.Composition.{read_nothing, refused_first, refused_behind, refused_case, Enters}
-use Rattle.fir_expr.proofs.Depth.{whole_stands, whole_then, whole_none}
+use Rattle.fir_tree.specs.Grammar.{The_mark, A_number, Takes, Nothing, Its_magnitude, Is, A, Width, a_width, no_width}
+use Rattle.fir_tree.specs.Reading.{IsRefused}
+use Rattle.fir_expr.specs.Standing.{StandsIn, BeginsType}
+use Rattle.fir_expr.specs.Parts.{IsTaken, IsNotTaken, IsNumberAt, HasPassed}
+use Rattle.fir_expr.proofs.Composition.{read_nothing, refused_first, refused_behind, refused_case}
+use Rattle.fir_expr.proofs.Depth.{whole_stands, whole_none}
 use Rattle.fir_expr.proofs.Passing.{passed_then, passed_case, passed_mark, passed_number, begins_mark, begins_texts}
 use Rattle.fir_expr.proofs.Choices.{enters_width, enters_no_width}
 

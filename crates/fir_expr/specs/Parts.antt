@@ -1,9 +1,13 @@
 -- A part of a laid list as a reader finds it, and a piece that a reader has taken.
-use Rattle.std.specs.Prelude.{◌≡◌, ◌≢◌, ℕ, ◌+◌, ◌-◌, ◌^◌, ◌<◌, ◌≤◌, Bool, false, true, not, ◌==◌, ◌||◌, List, [], ◌∷◌, length, take, slice_get, Some, Result, Ok, Err}
+use Rattle.std.specs.Prelude.{◌≡◌, ℕ, ◌+◌, ◌-◌, ◌^◌, ◌<◌, ◌≤◌, Bool, false, not, ◌==◌, ◌||◌, List, [], ◌∷◌, ◌++◌, codes, length, take, slice_get, Some, Result, Ok, Err}
 use Rattle.place_text.specs.declared.place.Place.{Place}
 use Rattle.place_text.specs.Places.{place}
 use Rattle.bit_words.specs.Numbers.{IsMagnitude}
-use Rattle.bit_words.specs.declared.number.Number.{Number}
+use Rattle.bit_words.specs.declared.value.Kind.{Kind}
+use Rattle.bit_words.specs.declared.value.Kind.TheVariants as sign
+use Rattle.prim_ops.specs.Operations.{name_of}
+use Rattle.fir_expr.specs.declared.literals.Head.{Head}
+use Rattle.fir_expr.specs.declared.literals.Head.TheVariants as head
 use Rattle.fir_lexer.specs.declared.token.Token.{Token}
 use Rattle.fir_lexer.specs.declared.pieces.PieceKind.TheVariants.{TokenOf}
 use Rattle.fir_lexer.specs.Pieces.{IsOf}
@@ -11,12 +15,12 @@ use Rattle.fir_lexer.specs.Tokens.{IsPastRange}
 use Rattle.fir_types.specs.declared.name.Name.{Name}
 use Rattle.fir_layout.specs.declared.laid.Laid.{Laid}
 use Rattle.fir_layout.specs.declared.laid.Laid.TheVariants.{Item, LineEnd, Open, Close, End}
-use Rattle.fir_layout.specs.Pieces.{Piece, piece_of, pieces_of, bytes_of}
+use Rattle.fir_layout.specs.Pieces.{piece_of, pieces_of, bytes_of}
 use Rattle.fir_tree.specs.declared.fault.ParseFault.{ParseFault}
 use Rattle.fir_tree.specs.Faults.{levels, is_deep}
-use Rattle.fir_tree.specs.Grammar.{Terminal, A_number, A_quoted_number, Takes, Kept, Is, A, Rule, Tree, Symbol, Values, IsQuotedNumber, name_in}
+use Rattle.fir_tree.specs.Grammar.{Terminal, The_word, The_call, The_mark, A_number, Takes, IsCase, a_reference, Kept, Is, A, Rule, Tree, Symbol, Values, name_in}
 use Rattle.fir_tree.specs.Numbered.{AddsName}
-use Rattle.fir_tree.specs.Reading.{HasRead, IsRefused}
+use Rattle.fir_tree.specs.Reading.{HasRead, IsRefused, Leads, IsSettled}
 use Rattle.fir_expr.specs.Standing.{IsLaidFrom, IsWhole, wanted}
 
 -- the text and its laid list, as each reader takes them
@@ -87,3 +91,30 @@ Answers r text list i names (Err fault) after = IsRefused (A r ∷ []) text list
 -- the marks that open a bracket and begin no suffix
 abbrev pub is_opening : ℕ → Bool
 is_opening m = (m == 40) || (m == 123)
+
+-- the marks that begin a suffix: `.` and `[`
+abbrev pub is_suffix_mark : ℕ → Bool
+is_suffix_mark m = (m == 46) || (m == 91)
+
+-- the part at the place is what the terminal asks for, deep or not
+pub record StartsWith (s : Terminal) (text : List ℕ) (list : List Laid) (i : ℕ) : Type 0 where
+  pub part : Laid
+  pub here : slice_get list i ≡ Some part
+  pub takes : Takes s (piece_of text part)
+
+-- at the place i the rule goes on by this case, whatever stands behind it
+pub record GoesInto {r : Rule} {body : List Symbol} (case : IsCase r body) (text : List ℕ) (list : List Laid) (i : ℕ) : Type 0 where
+  pub into : (rest : List Symbol) → IsSettled (A r ∷ rest) → Leads (pieces_of text list) (A r ∷ rest) i (body ++ rest) i
+
+-- the word that a literal begins with
+abbrev pub kind_name : Kind → List ℕ
+kind_name sign.Unsigned = codes "UInt"
+kind_name sign.Signed = codes "SInt"
+
+-- what a head says of the pieces that stand there
+abbrev pub IsHeadAt : Head → List ℕ → List Laid → ℕ → Type 0
+IsHeadAt head.Component text list i = GoesInto a_reference text list i
+IsHeadAt head.Mux text list i = StartsWith (The_call (codes "mux")) text list i
+IsHeadAt (head.Literal kind) text list i = StartsWith (The_call (kind_name kind)) text list i
+IsHeadAt (head.WideLiteral kind) text list i = StartsWith (The_word (kind_name kind)) text list i × StartsWith (The_mark 60) text list (i + 1)
+IsHeadAt (head.Operation prim) text list i = StartsWith (The_call (name_of prim)) text list i

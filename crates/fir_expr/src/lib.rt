@@ -3,6 +3,8 @@
 //! refusal is the grammar's token, with its kind and place.
 #![tactic(auto)]
 
+mod expressions;
+mod literals;
 pub mod reader;
 mod take;
 mod types;

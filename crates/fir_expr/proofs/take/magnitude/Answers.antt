@@ -1,5 +1,3 @@
-use Rattle.std.proofs.Common.{◌≡◌, ℕ, List, sym}
-use Rattle.bit_words.specs.Numbers.{IsMagnitude}
 use Rattle.fir_expr.proofs.Takes.{no_number}
 use Rattle.fir_expr.proofs.take.magnitude.Goals as goal
 

@@ -1,4 +1,3 @@
-use Rattle.std.proofs.Common.{rules, ◌≡◌, sym, true, false, arith}
 use Rattle.fir_tree.specs.Faults.{listed, unlisted}
 use Rattle.fir_expr.proofs.take.refusal.Goals as goal
 

@@ -1,4 +1,3 @@
-use Rattle.std.proofs.Common.{rules, ◌≡◌, sym}
 use Rattle.fir_expr.proofs.Takes.{not_taken, not_taken_memory}
 use Rattle.fir_expr.proofs.Sources.{source_part}
 use Rattle.fir_expr.proofs.take.refusal_at.Goals as goal

@@ -1,6 +1,6 @@
 use Rattle.fir_expr.proofs.Sources.{source_part}
 use Rattle.fir_layout.specs.declared.laid.Laid.TheVariants.{Item}
-use Rattle.std.proofs.Common.{◌≡◌, Some, ◌∙◌, ap}
+use Rattle.std.proofs.Common.{Some, ◌∙◌, ap}
 use Rattle.fir_expr.proofs.take.take_field.Goals as goal
 
 pub add_name-requires-clause-inside : goal.add_name-requires-clause-inside

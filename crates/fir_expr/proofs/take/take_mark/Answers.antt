@@ -1,4 +1,3 @@
-use Rattle.std.proofs.Common.{rules, ◌≡◌, sym}
 use Rattle.fir_tree.specs.Grammar.{The_mark}
 use Rattle.fir_expr.proofs.Takes.{none_here}
 use Rattle.fir_expr.proofs.take.take_mark.Goals as goal

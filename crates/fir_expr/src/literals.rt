@@ -1,0 +1,127 @@
+//! Literals, and what tells one form of expression from another (FIRRTL specification 3.0, "Expressions").
+
+ghost use Rattle.std.specs.Prelude.{◌≡◌, ◌≤◌, ◌<◌, ◌+◌, ◌^◌, ◌∷◌, ℕ, List, length, take, slice_get, Some, IfOk, IfErr, IsTrue, ◌↔◌};
+ghost use Rattle.fir_layout.specs.Pieces.{piece_of, pieces_of};
+ghost use Rattle.fir_tree.specs.Faults.{most, levels, last_suffixes};
+ghost use Rattle.fir_tree.specs.Grammar.{Integer, Numbers, Expression, The_word, The_call, The_mark, Takes};
+ghost use Rattle.fir_expr.specs.Standing.{StandsIn, wanted};
+ghost use Rattle.fir_expr.specs.Parts.{IsSource, IsPartOf, Answers, AnswersPiece, StartsWith, IsHeadAt, kind_name, is_suffix_mark};
+
+use bit_words::{Kind, List, Number};
+use fir_layout::Laid;
+use fir_tree::{Expr, ParseFault};
+use prim_ops::Prim;
+use std::alloc::Global;
+
+/// What the first tokens say an expression is.
+#[derive(Clone, Copy, Debug, PartialEq, Eq)]
+pub enum Head {
+    /// A reference, or nothing that an expression can begin with.
+    Component,
+    /// `mux(`
+    Mux,
+    /// `UInt(` or `SInt(`
+    Literal(Kind),
+    /// `UInt` or `SInt` and a `<`
+    WideLiteral(Kind),
+    /// An operation with its `(`.
+    Operation(Prim),
+}
+
+/// What the expression at a place is. Reads the next two tokens.
+pub fn head_at(text: &[u8], laid: &[Laid], at: usize) -> Result<Head, ParseFault>
+    requires { IsSource text.now laid.now }
+    ensures ok { IfOk result (λ head. IsHeadAt head text.now laid.now at) }
+    ensures err { IfErr result (λ fault. fault ≡ ParseFault.NoMemory) }
+{
+    Err(ParseFault::NoMemory)
+}
+
+/// Takes a word with its `(`, whichever it is. So many brackets are open before it.
+pub fn open_call(text: &[u8], laid: &[Laid], at: usize, brackets: u32) -> Result<Laid, ParseFault>
+    requires source { IsSource text.now laid.now }
+    requires stands { StandsIn (pieces_of text.now laid.now) at brackets }
+    ensures taken { (name : List ℕ) → StartsWith (The_call name) text.now laid.now at → AnswersPiece (The_call name) text.now laid.now at result }
+    ensures within { IfOk result (λ _. at < length laid.now) }
+    ensures few { IfOk result (λ _. brackets < most) }
+{
+    Err(ParseFault::NoMemory)
+}
+
+/// Takes a `.` or a `[` of a reference or type that has so many suffixes, where so many brackets are open.
+pub fn take_suffix(
+    text: &[u8],
+    laid: &[Laid],
+    at: usize,
+    mark: u8,
+    brackets: u32,
+    suffixes: u32,
+) -> Result<Laid, ParseFault>
+    requires source { IsSource text.now laid.now }
+    requires suffix { IsTrue (is_suffix_mark mark) }
+    requires stands { StandsIn (pieces_of text.now laid.now) at brackets }
+    requires counted { last_suffixes (levels (take at (pieces_of text.now laid.now))).suffixes ≡ suffixes }
+    ensures taken { AnswersPiece (The_mark mark) text.now laid.now at result }
+    ensures within { IfOk result (λ _. at < length laid.now) }
+    ensures few { IfOk result (λ _. suffixes < most) }
+    ensures few_brackets { IfOk result (λ _. mark ≡ 91 → brackets < most) }
+{
+    Err(ParseFault::NoMemory)
+}
+
+/// Reads an integer: a number, a minus and a number, or a string of quoted number form.
+pub fn integer(text: &[u8], laid: &[Laid], at: usize) -> Result<(Number, usize), ParseFault>
+    requires source { IsSource text.now laid.now }
+    requires stands { (brackets : ℕ) × StandsIn (pieces_of text.now laid.now) at brackets }
+    ensures { (names : List (List ℕ)) → Answers Integer text.now laid.now at names result names }
+{
+    Err(ParseFault::NoMemory)
+}
+
+/// Reads so many numbers.
+pub fn numbers(
+    alloc: Global,
+    text: &[u8],
+    laid: &[Laid],
+    at: usize,
+    count: u32,
+) -> Result<(List<u128>, usize), ParseFault>
+    requires source { IsSource text.now laid.now }
+    requires stands { (brackets : ℕ) × StandsIn (pieces_of text.now laid.now) at brackets }
+    ensures { (names : List (List ℕ)) → Answers (Numbers count) text.now laid.now at names result names }
+{
+    Err(ParseFault::NoMemory)
+}
+
+/// Reads `UInt(` or `SInt(`, an integer and `)`. So many brackets are open before it.
+pub fn literal(
+    text: &[u8],
+    laid: &[Laid],
+    at: usize,
+    kind: Kind,
+    brackets: u32,
+) -> Result<(Expr, usize), ParseFault>
+    requires source { IsSource text.now laid.now }
+    requires stands { StandsIn (pieces_of text.now laid.now) at brackets }
+    requires head { StartsWith (The_call (kind_name kind)) text.now laid.now at }
+    ensures { (names : List (List ℕ)) → Answers Expression text.now laid.now at names result names }
+{
+    Err(ParseFault::NoMemory)
+}
+
+/// Reads `UInt` or `SInt`, a width between `<` and `>`, and an integer between brackets.
+pub fn wide_literal(
+    text: &[u8],
+    laid: &[Laid],
+    at: usize,
+    kind: Kind,
+    brackets: u32,
+) -> Result<(Expr, usize), ParseFault>
+    requires source { IsSource text.now laid.now }
+    requires stands { StandsIn (pieces_of text.now laid.now) at brackets }
+    requires head { StartsWith (The_word (kind_name kind)) text.now laid.now at }
+    requires next { StartsWith (The_mark 60) text.now laid.now (at + 1) }
+    ensures { (names : List (List ℕ)) → Answers Expression text.now laid.now at names result names }
+{
+    Err(ParseFault::NoMemory)
+}
