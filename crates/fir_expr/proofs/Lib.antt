@@ -6,3 +6,4 @@ pub mod Called
 pub mod Passing
 pub mod Choices
 pub mod TypeCases
+pub mod Bracketed

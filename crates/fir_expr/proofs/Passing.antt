@@ -69,7 +69,7 @@ module _ {pieces : List Piece} {i brackets : ℕ} (p : Piece) (s : StandsIn piec
 abbrev pub IsPlain : ℕ → Type 0
 IsPlain m = (at : Levels) → past_mark m at ≡ plain at
 
-mark_past : (at : Levels) (m : ℕ) (p : Piece) → Takes (The_mark m) p → past at p ≡ past_mark m at
+pub mark_past : (at : Levels) (m : ℕ) (p : Piece) → Takes (The_mark m) p → past at p ≡ past_mark m at
 mark_past at m (A_token (kind.Mark n) bytes) same = ap (λ (x : ℕ). past_mark x at) same
 mark_past at m _ none = absurd none
 
