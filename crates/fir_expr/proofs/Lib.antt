@@ -7,3 +7,6 @@ pub mod Passing
 pub mod Choices
 pub mod TypeCases
 pub mod Bracketed
+pub mod TypeFields
+pub mod TypeNames
+pub mod TypeLengths

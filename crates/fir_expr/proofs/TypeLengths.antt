@@ -1,0 +1,73 @@
+-- The lengths of vectors.
+use Rattle.std.proofs.Common.{◌≡◌, ℕ, ◌+◌, ◌<◌, List, [], ◌∷◌, length, take, slice_get, Some, refl, ◌∙◌, ap, arith}
+use Rattle.place_text.specs.declared.place.Place.{Place}
+use Rattle.fir_layout.specs.declared.laid.Laid.{Laid}
+use Rattle.fir_layout.specs.declared.laid.Laid.TheVariants.{Item}
+use Rattle.fir_layout.specs.Pieces.{piece_of, pieces_of}
+use Rattle.fir_types.specs.declared.fir_type.FirType.{FirType}
+use Rattle.fir_types.specs.declared.fir_type.Shape.TheVariants as shape
+use Rattle.fir_tree.specs.declared.fault.ParseFault.{ParseFault}
+use Rattle.fir_tree.specs.Grammar.{The_mark, A_number, Takes, Nothing, Its_magnitude, A, Type_of, Base_type, Lengths, mark, number, vectors, a_type, last_length, next_length}
+use Rattle.fir_tree.specs.Faults.{levels, last_suffixes, most}
+use Rattle.fir_tree.specs.Reading.{IsRefused}
+use Rattle.fir_expr.specs.Standing.{StandsIn}
+use Rattle.fir_expr.specs.Parts.{IsTaken, IsNotTaken, IsNumberAt, HasPassed}
+use Rattle.fir_expr.specs.TypeParts.{HasLengths}
+use Rattle.fir_expr.proofs.Bracketed.{stands_indexed, whole_index, suffixes_index}
+use Rattle.fir_expr.proofs.Composition.{Enters, enters_by_piece, read_then, refused_first, refused_behind, refused_case, piece_at}
+use Rattle.fir_expr.proofs.Passing.{passed_then, passed_case, passed_number, read_mark, room_step}
+use Rattle.fir_expr.proofs.Choices.{enters_length, enters_last_length}
+use Rattle.fir_expr.proofs.TypeCases.{passed_nothing}
+
+-- one length: opened at i
+module _ {text : List ℕ} {list : List Laid} {i brackets : ℕ} {l : Laid} (s : StandsIn (pieces_of text list) i brackets) (few : brackets < most) (t : IsTaken (The_mark 91) text list i l) where
+  pub length_no_number : {fault : ParseFault} → IsNotTaken A_number text list (i + 1) fault → IsRefused (mark 91 ∷ number ∷ mark 93 ∷ []) text list i fault
+  length_no_number r = refused_behind (read_mark [] t) (refused_first (mark 93 ∷ []) (r.refused Its_magnitude))
+
+  module _ {at : Place} {n : ℕ} (digits : IsNumberAt text list (i + 1) at n) where
+    inside : (names : List (List ℕ)) → HasPassed (number ∷ []) text list (i + 1) names (n, tt) (i + 1 + 1) names
+    inside names = passed_number names (stands_indexed t s few) digits
+
+    pub length_not_closed : {fault : ParseFault} → IsNotTaken (The_mark 93) text list (i + 1 + 1) fault → IsRefused (mark 91 ∷ number ∷ mark 93 ∷ []) text list i fault
+    length_not_closed r = refused_behind (read_then (read_mark [] t) (inside []).read) (r.refused Nothing)
+
+    module _ {c : Laid} (close : IsTaken (The_mark 93) text list (i + 1 + 1) c) where
+      pub length_read : (names : List (List ℕ)) → HasPassed (mark 91 ∷ number ∷ mark 93 ∷ []) text list i names (n, tt) (i + 1 + 1 + 1) names
+      length_read names = record {
+        read = read_then (read_then (read_mark names t) (inside names).read) (read_mark names close);
+        whole = whole_index t (inside names).whole close s;
+        room = let first = room_step names list i l t.here in let last = room_step names list (i + 1 + 1) c close.here in let middle = (inside names).room in omega (arith, first, middle, last);
+      }
+
+      pub length_counted : {suffixes : ℕ} → last_suffixes (levels (take i (pieces_of text list))).suffixes ≡ suffixes → last_suffixes (levels (take (i + 1 + 1 + 1) (pieces_of text list))).suffixes ≡ suffixes + 1
+      length_counted e = suffixes_index t (inside []).whole close s ∙ ap (λ n. n + 1) e
+
+-- all lengths
+
+pub lengths_none : {text : List ℕ} {list : List Laid} {i brackets : ℕ} {l : Laid} (element : FirType) → StandsIn (pieces_of text list) i brackets → slice_get list i ≡ Some l → ¬ (Takes (The_mark 91) (piece_of text l))
+    → HasLengths element text list i element i
+lengths_none {text} {list} {i} {brackets} {l} element s h none = record {
+  lengths = [];
+  passed = λ names. passed_case last_length (enters_last_length text list i l h none) (passed_nothing text list i brackets names l s h);
+  is = refl;
+}
+
+module _ {text : List ℕ} {list : List Laid} {i : ℕ} {l : Laid} (h : slice_get list i ≡ Some l) (t : Takes (The_mark 91) (piece_of text l)) where
+  pub lengths_refused_first : {fault : ParseFault} → IsRefused (mark 91 ∷ number ∷ mark 93 ∷ []) text list i fault → IsRefused (A Lengths ∷ []) text list i fault
+  lengths_refused_first r = refused_case next_length (enters_length text list i l h t) (refused_first (A Lengths ∷ []) r)
+
+  module _ {n j : ℕ} (first : (names : List (List ℕ)) → HasPassed (mark 91 ∷ number ∷ mark 93 ∷ []) text list i names (n, tt) j names) where
+    pub lengths_refused : {fault : ParseFault} → IsRefused (A Lengths ∷ []) text list j fault → IsRefused (A Lengths ∷ []) text list i fault
+    lengths_refused r = refused_case next_length (enters_length text list i l h t) (refused_behind (first []).read r)
+
+    pub lengths_more : {element typ : FirType} {k : ℕ} → HasLengths (record { place = element.place; shape = shape.Vector element n }) text list j typ k → HasLengths element text list i typ k
+    lengths_more others = record {
+      lengths = n ∷ others.lengths;
+      passed = λ names. passed_case next_length (enters_length text list i l h t) (passed_then (first names) (others.passed names));
+      is = others.is;
+    }
+
+-- a type of its base and its lengths
+
+enters_type : (text : List ℕ) (list : List Laid) (i : ℕ) (l : Laid) → slice_get list i ≡ Some l → Enters (pieces_of text list) i a_type
+enters_type text list i l h = enters_by_piece (pieces_of text list) i a_type (piece_of text l) (piece_at text list i l h) (λ ps. refl)
