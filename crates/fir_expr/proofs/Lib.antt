@@ -10,3 +10,4 @@ pub mod Bracketed
 pub mod TypeFields
 pub mod TypeNames
 pub mod TypeLengths
+pub mod TypeFlips

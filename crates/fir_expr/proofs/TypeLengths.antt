@@ -1,20 +1,20 @@
 -- The lengths of vectors.
-use Rattle.std.proofs.Common.{◌≡◌, ℕ, ◌+◌, ◌<◌, List, [], ◌∷◌, length, take, slice_get, Some, refl, ◌∙◌, ap, arith}
+use Rattle.std.proofs.Common.{◌≡◌, ℕ, ◌+◌, ◌<◌, List, [], ◌∷◌, length, take, slice_get, Some, refl, sym, subst, ◌∙◌, ap, arith}
 use Rattle.place_text.specs.declared.place.Place.{Place}
 use Rattle.fir_layout.specs.declared.laid.Laid.{Laid}
 use Rattle.fir_layout.specs.declared.laid.Laid.TheVariants.{Item}
-use Rattle.fir_layout.specs.Pieces.{piece_of, pieces_of}
+use Rattle.fir_layout.specs.Pieces.{Piece, piece_of, pieces_of}
 use Rattle.fir_types.specs.declared.fir_type.FirType.{FirType}
 use Rattle.fir_types.specs.declared.fir_type.Shape.TheVariants as shape
 use Rattle.fir_tree.specs.declared.fault.ParseFault.{ParseFault}
-use Rattle.fir_tree.specs.Grammar.{The_mark, A_number, Takes, Nothing, Its_magnitude, A, Type_of, Base_type, Lengths, mark, number, vectors, a_type, last_length, next_length}
+use Rattle.fir_tree.specs.Grammar.{The_mark, A_number, Takes, Nothing, Its_magnitude, Symbol, A, Front, cut, goes_into, Type_of, Base_type, Lengths, mark, number, vectors, a_type, last_length, next_length}
 use Rattle.fir_tree.specs.Faults.{levels, last_suffixes, most}
 use Rattle.fir_tree.specs.Reading.{IsRefused}
 use Rattle.fir_expr.specs.Standing.{StandsIn}
 use Rattle.fir_expr.specs.Parts.{IsTaken, IsNotTaken, IsNumberAt, HasPassed}
 use Rattle.fir_expr.specs.TypeParts.{HasLengths}
 use Rattle.fir_expr.proofs.Bracketed.{stands_indexed, whole_index, suffixes_index}
-use Rattle.fir_expr.proofs.Composition.{Enters, enters_by_piece, read_then, refused_first, refused_behind, refused_case, piece_at}
+use Rattle.fir_expr.proofs.Composition.{Enters, read_then, refused_first, refused_behind, refused_case}
 use Rattle.fir_expr.proofs.Passing.{passed_then, passed_case, passed_number, read_mark, room_step}
 use Rattle.fir_expr.proofs.Choices.{enters_length, enters_last_length}
 use Rattle.fir_expr.proofs.TypeCases.{passed_nothing}
@@ -60,14 +60,28 @@ module _ {text : List ℕ} {list : List Laid} {i : ℕ} {l : Laid} (h : slice_ge
     pub lengths_refused : {fault : ParseFault} → IsRefused (A Lengths ∷ []) text list j fault → IsRefused (A Lengths ∷ []) text list i fault
     lengths_refused r = refused_case next_length (enters_length text list i l h t) (refused_behind (first []).read r)
 
-    pub lengths_more : {element typ : FirType} {k : ℕ} → HasLengths (record { place = element.place; shape = shape.Vector element n }) text list j typ k → HasLengths element text list i typ k
-    lengths_more others = record {
+    pub lengths_more : {element boxed typ : FirType} {k : ℕ} → ◌≡◌ {A = FirType} boxed element → HasLengths (record { place = element.place; shape = shape.Vector boxed n }) text list j typ k → HasLengths element text list i typ k
+    lengths_more {element} {boxed} same others = record {
       lengths = n ∷ others.lengths;
       passed = λ names. passed_case next_length (enters_length text list i l h t) (passed_then (first names) (others.passed names));
-      is = others.is;
+      is = others.is ∙ ap (λ (b : FirType). vectors (record { place = element.place; shape = shape.Vector b n }) others.lengths) same;
     }
 
 -- a type of its base and its lengths
 
-enters_type : (text : List ℕ) (list : List Laid) (i : ℕ) (l : Laid) → slice_get list i ≡ Some l → Enters (pieces_of text list) i a_type
-enters_type text list i l h = enters_by_piece (pieces_of text list) i a_type (piece_of text l) (piece_at text list i l h) (λ ps. refl)
+type_forth : {rest : List Symbol} {ps : List Piece} → Front (A Type_of ∷ rest) ps → Front (A Base_type ∷ A Lengths ∷ rest) ps
+type_forth cut = cut
+type_forth (goes_into _ a_type f) = f
+
+enters_type : (pieces : List Piece) (i : ℕ) → Enters pieces i a_type
+enters_type pieces i = record { into = λ rest settled. record { onward = omega arith; back = λ k l f. goes_into (A Base_type ∷ A Lengths ∷ []) a_type f; forth = λ k l f. type_forth f } }
+
+pub type_no_base : {text : List ℕ} {list : List Laid} {i : ℕ} {fault : ParseFault} → IsRefused (A Base_type ∷ []) text list i fault → IsRefused (A Type_of ∷ []) text list i fault
+type_no_base {text} {list} {i} r = refused_case a_type (enters_type (pieces_of text list) i) (refused_first (A Lengths ∷ []) r)
+
+module _ {text : List ℕ} {list : List Laid} {i j : ℕ} {names after : List (List ℕ)} {base : FirType} (h : HasPassed (A Base_type ∷ []) text list i names (base, tt) j after) where
+  pub type_no_lengths : {fault : ParseFault} → IsRefused (A Lengths ∷ []) text list j fault → IsRefused (A Type_of ∷ []) text list i fault
+  type_no_lengths r = refused_case a_type (enters_type (pieces_of text list) i) (refused_behind h.read r)
+
+  pub type_read : {typ : FirType} {k : ℕ} → HasLengths base text list j typ k → HasPassed (A Type_of ∷ []) text list i names (typ, tt) k after
+  type_read {typ} {k} ls = subst (λ (t : FirType). HasPassed (A Type_of ∷ []) text list i names (t, tt) k after) (sym ls.is) (passed_case a_type (enters_type (pieces_of text list) i) (passed_then h (ls.passed after)))

@@ -1,6 +1,7 @@
 -- Types that are words.
 use Prim.Native.String.{String}
-use Rattle.std.proofs.Common.{◌≡◌, ℕ, ◌+◌, Bool, true, false, List, [], ◌∷◌, length, take, slice_get, Option, Some, refl, ap, codes, bytes_eq}
+use Rattle.std.proofs.Common.{◌≡◌, ℕ, ◌+◌, Bool, true, false, List, [], ◌∷◌, length, take, slice_get, Option, Some, refl, codes, bytes_eq}
+use Rattle.std.specs.Prelude.{Result, Ok, Err, IfOk}
 use Rattle.std.proofs.lemmas.Slice.Eq.{bytes_eq-Decides}
 use Rattle.place_text.specs.Places.{place}
 use Rattle.bit_words.specs.declared.value.Kind.{Kind}
@@ -9,6 +10,7 @@ use Rattle.fir_lexer.specs.declared.token.TokenKind.TheVariants as kind
 use Rattle.fir_layout.specs.declared.laid.Laid.{Laid}
 use Rattle.fir_layout.specs.Pieces.{Piece, A_token, piece_of, pieces_of}
 use Rattle.fir_types.specs.declared.fir_type.Shape.TheVariants as shape
+use Rattle.fir_types.specs.declared.fir_type.FirType.{FirType}
 use Rattle.fir_tree.specs.declared.fault.ParseFault.{ParseFault}
 use Rattle.fir_tree.specs.Grammar.{Terminal, The_word, Takes, Its_place, Is, A, Base_type, Width, an_unsigned, a_signed, a_clock, a_reset, a_bundle, start_of}
 use Rattle.fir_tree.specs.Faults.{Levels, levels, is_deep}
@@ -95,3 +97,9 @@ module _ {text : List ℕ} {list : List Laid} {i brackets : ℕ} {l : Laid} (s :
 
 pub word_begins : (word : List ℕ) {text : List ℕ} {list : List Laid} {i brackets : ℕ} {l : Laid} → BeginsType (pieces_of text list) i brackets → IsTaken (The_word word) text list i l → BeginsType (pieces_of text list) (i + 1) brackets
 word_begins word b t = begins_texts (The_word word) tt b.stands t
+
+-- a type may begin where one began before
+pub begins_so : {pieces : List Piece} {i brackets : ℕ} (r : Result (FirType × ℕ) ParseFault) → BeginsType pieces i brackets → IfOk r (λ x. (n : ℕ) → BeginsType pieces i n → BeginsType pieces x.1 n)
+    → IfOk r (λ x. BeginsType pieces x.1 brackets)
+begins_so {pieces} {i} {brackets} (Ok x) b h = h brackets b
+begins_so (Err fault) b h = tt

@@ -29,10 +29,10 @@ pub record HasFields (text : List ℕ) (list : List Laid) (i : ℕ) (names : Lis
   pub whole : IsWhole (pieces_of text list) i last
   pub room : wanted after list j ≤ wanted names list i
 
--- whether a field is turned round
-abbrev pub Flips : Bool → List ℕ → List Laid → ℕ → Type 0
-Flips true text list i = GoesInto flipped_field text list i × StartsWith (The_word (codes "flip")) text list i
-Flips false text list i = GoesInto plain_field text list i
+-- whether a field that begins at i is turned round, and that its name stands at j
+abbrev pub Flips : Bool → List ℕ → List Laid → ℕ → ℕ → Type 0
+Flips true text list i j = GoesInto flipped_field text list i × StartsWith (The_word (codes "flip")) text list i × (j ≡ i + 1)
+Flips false text list i j = GoesInto plain_field text list i × (j ≡ i)
 
 -- the shape of an integer type of a width, where it has one
 abbrev pub shape_of : Kind → Option ℕ → Shape

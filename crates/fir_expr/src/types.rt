@@ -148,18 +148,22 @@ fn lengths(
     Ok((read, end))
 }
 
-/// Whether a field is turned round: `flip` stands there, and isn't the name itself, behind which a colon stands.
-fn is_flipped(text: &[u8], laid: &[Laid], at: usize) -> Result<bool, ParseFault>
+/// Whether a field is turned round, and where its name stands. A `flip` with a colon behind it is the name itself.
+fn flip_before(text: &[u8], laid: &[Laid], at: usize) -> Result<(bool, usize), ParseFault>
     requires { IsSource text.now laid.now }
-    ensures ok { IfOk result (λ flip. Flips flip text.now laid.now at) }
+    ensures ok { IfOk result (λ x. Flips x.0 text.now laid.now at x.1) }
     ensures err { IfErr result (λ fault. fault ≡ ParseFault.NoMemory) }
 {
     let part = part_at(laid, at)?;
     if !is_word(text, part, "flip") {
-        return Ok(false);
+        return Ok((false, at));
     }
-    let next = part_at(laid, at + 1)?;
-    Ok(!is_mark(next, b':'))
+    let named = at + 1;
+    let next = part_at(laid, named)?;
+    if is_mark(next, b':') {
+        return Ok((false, at));
+    }
+    Ok((true, named))
 }
 
 /// Reads the longest type. So many brackets are open before it.
@@ -283,8 +287,7 @@ fn field(
     ensures read { Answers FieldRule text.now laid.now at names.old result names.new }
     ensures further { IfOk result (λ x. at < x.1) }
 {
-    let flip = is_flipped(text, laid, at)?;
-    let named = if flip { at + 1 } else { at };
+    let (flip, named) = flip_before(text, laid, at)?;
     let (name, typ, end) = named_type(alloc, text, laid, names, named, brackets)?;
     Ok((Field { flip, name, typ }, end))
 }
