@@ -40,7 +40,7 @@ pub base_type-returns-then-is_word-clause-begins : goal.base_type-returns-then-i
 base_type-returns-then-is_word-clause-begins t c = begins_so c.integer_type.result c.requires.begins c.integer_type.ensures.begins
 
 pub base_type-returns-then-is_word-2-clause-begins : goal.base_type-returns-then-is_word-2-clause-begins
-base_type-returns-then-is_word-2-clause-begins t c = begins_so c.integer_type.result c.requires.begins c.integer_type.ensures.begins
+base_type-returns-then-is_word-2-clause-begins t c = begins_so c.integer_type-then-is_word-2.result c.requires.begins c.integer_type-then-is_word-2.ensures.begins
 
 pub base_type-returns-then-is_word-3-clause-begins : goal.base_type-returns-then-is_word-3-clause-begins
 base_type-returns-then-is_word-3-clause-begins t c = begins_so c.clock_type.result c.requires.begins c.clock_type.ensures.begins
@@ -103,7 +103,7 @@ fields-field-requires t c = (omega arith, (c.requires.source, (omega (arith, c.l
 pub fields-returns-in_err-field-clause-err : goal.fields-returns-in_err-field-clause-err
 fields-returns-in_err-field-clause-err t c =
     let p = err_from_is_err_and c.from_residual-in_err-field.result c.from_residual-in_err-field.ensures.1 in
-    rw (p.1, p.2) (field_refused c.loop-fields.invariant c.in_ok-part_at.ensures.ok (λ u. let e = (c.is_mark.ensures c.args.text.now).1 u in let n = c.loop-fields-test.true in cc) c.in_err-field.ensures.read)
+    rw (p.1, p.2) (field_refused c.loop-fields.invariant c.in_ok-part_at.ensures.ok (λ u. let e = (c.is_mark.ensures c.args.text.now).1 u in let n = c.if-not-is_mark.true in cc) c.in_err-field.ensures.read)
 
 pub fields-returns-in_err-push-clause-err : goal.fields-returns-in_err-push-clause-err
 fields-returns-in_err-push-clause-err t c = let p = err_from_is_err_and c.from_residual-in_err-push.result c.from_residual-in_err-push.ensures.1 in rw (p.1, p.2) no_memory
@@ -113,12 +113,12 @@ fields-loop-fields-smaller t c = omega (arith, c.in_ok-field.ensures.further, c.
 
 pub fields-loop-fields-preserved : goal.fields-loop-fields-preserved
 fields-loop-fields-preserved t c = rw c.in_ok-push.ensures.ok
-    (more_fields c.loop-fields.invariant c.in_ok-part_at.ensures.ok (λ u. let e = (c.is_mark.ensures c.args.text.now).1 u in let n = c.loop-fields-test.true in cc) c.in_ok-field.ensures.read)
+    (more_fields c.loop-fields.invariant c.in_ok-part_at.ensures.ok (λ u. let e = (c.is_mark.ensures c.args.text.now).1 u in let n = c.if-not-is_mark.true in cc) c.in_ok-field.ensures.read)
 
 pub fields-returns-in_err-take_mark-clause-err : goal.fields-returns-in_err-take_mark-clause-err
 fields-returns-in_err-take_mark-clause-err t c =
     let p = err_from_is_err_and c.from_residual-in_err-take_mark.result c.from_residual-in_err-take_mark.ensures.1 in
-    rw (p.1, p.2) (close_refused c.loop-fields.invariant c.in_ok-part_at.ensures.ok ((c.is_mark.ensures c.args.text.now).0 c.loop-fields-test.false) c.in_err-take_mark.ensures.taken)
+    rw (p.1, p.2) (close_refused c.loop-fields.invariant c.in_ok-part_at.ensures.ok ((c.is_mark.ensures c.args.text.now).0 c.if-not-is_mark.false) c.in_err-take_mark.ensures.taken)
 
 pub fields-returns-clause-ok : goal.fields-returns-clause-ok
 fields-returns-clause-ok t c = all_fields c.loop-fields.invariant c.in_ok-take_mark.ensures.taken.here c.in_ok-take_mark.ensures.taken
