@@ -7,3 +7,4 @@ pub mod Passing
 pub mod Choices
 pub mod TypeCases
 pub mod Bracketed
+pub mod LiteralTakes

@@ -7,6 +7,7 @@ ghost use Rattle.fir_tree.specs.Grammar.{Integer, Numbers, Expression, The_word,
 ghost use Rattle.fir_expr.specs.Standing.{StandsIn, wanted};
 ghost use Rattle.fir_expr.specs.Parts.{IsSource, IsPartOf, Answers, AnswersPiece, StartsWith, IsHeadAt, kind_name, is_suffix_mark};
 
+use crate::take::{MOST, is_mark, part_at, place_of_part, refusal_at};
 use bit_words::{Kind, List, Number};
 use fir_layout::Laid;
 use fir_tree::{Expr, ParseFault};
@@ -38,6 +39,7 @@ pub fn head_at(text: &[u8], laid: &[Laid], at: usize) -> Result<Head, ParseFault
 }
 
 /// Takes a word with its `(`, whichever it is. So many brackets are open before it.
+#[tactic(auto, using(crate::proofs::Takes::not_taken_memory, crate::proofs::Sources::source_part, crate::proofs::LiteralTakes::call_deep, crate::proofs::LiteralTakes::call_taken))]
 pub fn open_call(text: &[u8], laid: &[Laid], at: usize, brackets: u32) -> Result<Laid, ParseFault>
     requires source { IsSource text.now laid.now }
     requires stands { StandsIn (pieces_of text.now laid.now) at brackets }
@@ -45,10 +47,15 @@ pub fn open_call(text: &[u8], laid: &[Laid], at: usize, brackets: u32) -> Result
     ensures within { IfOk result (λ _. at < length laid.now) }
     ensures few { IfOk result (λ _. brackets < most) }
 {
-    Err(ParseFault::NoMemory)
+    let part = part_at(laid, at)?;
+    if brackets >= MOST {
+        return Err(ParseFault::TooDeep(place_of_part(text, part)));
+    }
+    Ok(part)
 }
 
 /// Takes a `.` or a `[` of a reference or type that has so many suffixes, where so many brackets are open.
+#[tactic(auto, using(crate::proofs::Takes::not_taken_memory, crate::proofs::Sources::source_part, crate::proofs::LiteralTakes::suffix_many, crate::proofs::LiteralTakes::suffix_inner, crate::proofs::LiteralTakes::suffix_taken))]
 pub fn take_suffix(
     text: &[u8],
     laid: &[Laid],
@@ -66,7 +73,17 @@ pub fn take_suffix(
     ensures few { IfOk result (λ _. suffixes < most) }
     ensures few_brackets { IfOk result (λ _. mark ≡ 91 → brackets < most) }
 {
-    Err(ParseFault::NoMemory)
+    let part = part_at(laid, at)?;
+    if !is_mark(part, mark) {
+        return Err(refusal_at(text, laid, at));
+    }
+    if suffixes >= MOST {
+        return Err(ParseFault::TooDeep(place_of_part(text, part)));
+    }
+    if mark == b'[' && brackets >= MOST {
+        return Err(ParseFault::TooDeep(place_of_part(text, part)));
+    }
+    Ok(part)
 }
 
 /// Reads an integer: a number, a minus and a number, or a string of quoted number form.
