@@ -8,3 +8,4 @@ pub mod Choices
 pub mod TypeCases
 pub mod Bracketed
 pub mod LiteralTakes
+pub mod LiteralCases

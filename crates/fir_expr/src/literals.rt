@@ -1,13 +1,15 @@
 //! Literals, and what tells one form of expression from another (FIRRTL specification 3.0, "Expressions").
 
-ghost use Rattle.std.specs.Prelude.{◌≡◌, ◌≤◌, ◌<◌, ◌+◌, ◌^◌, ◌∷◌, ℕ, List, length, take, slice_get, Some, IfOk, IfErr, IsTrue, ◌↔◌};
+ghost use Rattle.std.specs.Prelude.{◌≡◌, ◌≤◌, ◌<◌, ◌+◌, ◌^◌, ◌∷◌, [], ℕ, List, length, take, slice_get, Some, IfOk, IfErr, IsTrue, ◌↔◌};
 ghost use Rattle.fir_layout.specs.Pieces.{piece_of, pieces_of};
 ghost use Rattle.fir_tree.specs.Faults.{most, levels, last_suffixes};
-ghost use Rattle.fir_tree.specs.Grammar.{Integer, Numbers, Expression, The_word, The_call, The_mark, Takes};
+ghost use Rattle.fir_tree.specs.Reading.{IsRefused};
+ghost use Rattle.fir_tree.specs.Grammar.{A, Integer, Numbers, Expression, The_word, The_call, The_mark, Takes};
 ghost use Rattle.fir_expr.specs.Standing.{StandsIn, wanted};
+ghost use Rattle.fir_expr.specs.LiteralParts.{AddsNumbers};
 ghost use Rattle.fir_expr.specs.Parts.{IsSource, IsPartOf, Answers, AnswersPiece, StartsWith, IsHeadAt, kind_name, is_suffix_mark};
 
-use crate::take::{MOST, is_mark, part_at, place_of_part, refusal_at};
+use crate::take::{MOST, is_mark, part_at, place_of_part, refusal_at, take_number};
 use bit_words::{Kind, List, Number};
 use fir_layout::Laid;
 use fir_tree::{Expr, ParseFault};
@@ -107,7 +109,31 @@ pub fn numbers(
     requires stands { (brackets : ℕ) × StandsIn (pieces_of text.now laid.now) at brackets }
     ensures { (names : List (List ℕ)) → Answers (Numbers count) text.now laid.now at names result names }
 {
-    Err(ParseFault::NoMemory)
+    let mut list = List::new(alloc);
+    let end = push_numbers(text, laid, &mut list, at, count)?;
+    Ok((list, end))
+}
+
+/// Reads so many numbers, and adds them to the list.
+fn push_numbers(
+    text: &[u8],
+    laid: &[Laid],
+    list: &mut List<u128>,
+    at: usize,
+    count: u32,
+) -> Result<usize, ParseFault>
+    requires source { IsSource text.now laid.now }
+    requires stands { (brackets : ℕ) × StandsIn (pieces_of text.now laid.now) at brackets }
+    ensures ok { IfOk result (λ end. AddsNumbers text.now laid.now at count list.old list.new end) }
+    ensures err { IfErr result (λ fault. IsRefused (A (Numbers count) ∷ []) text.now laid.now at fault) }
+{
+    let Some(others) = count.checked_sub(1) else {
+        part_at(laid, at)?;
+        return Ok(at);
+    };
+    let (_place, number) = take_number(text, laid, at)?;
+    list.push(number)?;
+    push_numbers(text, laid, list, at + 1, others)
 }
 
 /// Reads `UInt(` or `SInt(`, an integer and `)`. So many brackets are open before it.
