@@ -127,13 +127,14 @@ fn push_numbers(
     ensures ok { IfOk result (λ end. AddsNumbers text.now laid.now at count list.old list.new end) }
     ensures err { IfErr result (λ fault. IsRefused (A (Numbers count) ∷ []) text.now laid.now at fault) }
 {
-    let Some(others) = count.checked_sub(1) else {
-        part_at(laid, at)?;
+    let _first = part_at(laid, at)?;
+    if count == 0 {
         return Ok(at);
-    };
+    }
     let (_place, number) = take_number(text, laid, at)?;
     list.push(number)?;
-    push_numbers(text, laid, list, at + 1, others)
+    let end = push_numbers(text, laid, list, at + 1, count - 1)?;
+    Ok(end)
 }
 
 /// Reads `UInt(` or `SInt(`, an integer and `)`. So many brackets are open before it.
