@@ -9,10 +9,12 @@ ghost use Rattle.fir_expr.specs.Standing.{StandsIn, wanted};
 ghost use Rattle.fir_expr.specs.LiteralParts.{AddsNumbers};
 ghost use Rattle.fir_expr.specs.Parts.{IsSource, IsPartOf, Answers, AnswersPiece, StartsWith, IsHeadAt, kind_name, is_suffix_mark};
 
-use crate::take::{MOST, is_mark, part_at, place_of_part, refusal_at, take_number};
+use crate::take::{
+    MOST, is_mark, open_bracket, part_at, place_of_part, refusal_at, take_mark, take_number,
+};
 use bit_words::{Kind, List, Number};
 use fir_layout::Laid;
-use fir_tree::{Expr, ParseFault};
+use fir_tree::{Expr, Form, ParseFault};
 use prim_ops::Prim;
 use std::alloc::Global;
 
@@ -150,7 +152,14 @@ pub fn literal(
     requires head { StartsWith (The_call (kind_name kind)) text.now laid.now at }
     ensures { (names : List (List ℕ)) → Answers Expression text.now laid.now at names result names }
 {
-    Err(ParseFault::NoMemory)
+    let call = open_call(text, laid, at, brackets)?;
+    let (number, close) = integer(text, laid, at + 1)?;
+    let _bracket = take_mark(text, laid, close, b')')?;
+    let literal = Expr {
+        place: place_of_part(text, call),
+        form: Form::Literal(kind, None, number),
+    };
+    Ok((literal, close + 1))
 }
 
 /// Reads `UInt` or `SInt`, a width between `<` and `>`, and an integer between brackets.
@@ -167,5 +176,20 @@ pub fn wide_literal(
     requires next { StartsWith (The_mark 60) text.now laid.now (at + 1) }
     ensures { (names : List (List ℕ)) → Answers Expression text.now laid.now at names result names }
 {
-    Err(ParseFault::NoMemory)
+    let word = part_at(laid, at)?;
+    let less = at + 1;
+    let _less = take_mark(text, laid, less, b'<')?;
+    let number = less + 1;
+    let (_place, width) = take_number(text, laid, number)?;
+    let greater = number + 1;
+    let _greater = take_mark(text, laid, greater, b'>')?;
+    let bracket = greater + 1;
+    let _bracket = open_bracket(text, laid, bracket, b'(', brackets)?;
+    let (number, close) = integer(text, laid, bracket + 1)?;
+    let _close = take_mark(text, laid, close, b')')?;
+    let literal = Expr {
+        place: place_of_part(text, word),
+        form: Form::Literal(kind, Some(width), number),
+    };
+    Ok((literal, close + 1))
 }
