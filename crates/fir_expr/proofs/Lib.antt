@@ -11,3 +11,6 @@ pub mod TypeFields
 pub mod TypeNames
 pub mod TypeLengths
 pub mod TypeFlips
+pub mod LiteralTakes
+pub mod LiteralCases
+pub mod LiteralBrackets

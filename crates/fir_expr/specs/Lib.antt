@@ -1,3 +1,4 @@
 pub mod Standing
 pub mod Parts
 pub mod TypeParts
+pub mod LiteralParts

@@ -1,15 +1,20 @@
 //! Literals, and what tells one form of expression from another (FIRRTL specification 3.0, "Expressions").
 
-ghost use Rattle.std.specs.Prelude.{◌≡◌, ◌≤◌, ◌<◌, ◌+◌, ◌^◌, ◌∷◌, ℕ, List, length, take, slice_get, Some, IfOk, IfErr, IsTrue, ◌↔◌};
+ghost use Rattle.std.specs.Prelude.{◌≡◌, ◌≤◌, ◌<◌, ◌+◌, ◌^◌, ◌∷◌, [], ℕ, List, length, take, slice_get, Some, IfOk, IfErr, IsTrue, ◌↔◌};
 ghost use Rattle.fir_layout.specs.Pieces.{piece_of, pieces_of};
 ghost use Rattle.fir_tree.specs.Faults.{most, levels, last_suffixes};
-ghost use Rattle.fir_tree.specs.Grammar.{Integer, Numbers, Expression, The_word, The_call, The_mark, Takes};
+ghost use Rattle.fir_tree.specs.Reading.{IsRefused};
+ghost use Rattle.fir_tree.specs.Grammar.{A, Integer, Numbers, Expression, The_word, The_call, The_mark, Takes};
 ghost use Rattle.fir_expr.specs.Standing.{StandsIn, wanted};
+ghost use Rattle.fir_expr.specs.LiteralParts.{AddsNumbers};
 ghost use Rattle.fir_expr.specs.Parts.{IsSource, IsPartOf, Answers, AnswersPiece, StartsWith, IsHeadAt, kind_name, is_suffix_mark};
 
+use crate::take::{
+    MOST, is_mark, open_bracket, part_at, place_of_part, refusal_at, take_mark, take_number,
+};
 use bit_words::{Kind, List, Number};
 use fir_layout::Laid;
-use fir_tree::{Expr, ParseFault};
+use fir_tree::{Expr, Form, ParseFault};
 use prim_ops::Prim;
 use std::alloc::Global;
 
@@ -38,6 +43,7 @@ pub fn head_at(text: &[u8], laid: &[Laid], at: usize) -> Result<Head, ParseFault
 }
 
 /// Takes a word with its `(`, whichever it is. So many brackets are open before it.
+#[tactic(auto, using(crate::proofs::Takes::not_taken_memory, crate::proofs::Sources::source_part, crate::proofs::LiteralTakes::call_deep, crate::proofs::LiteralTakes::call_taken))]
 pub fn open_call(text: &[u8], laid: &[Laid], at: usize, brackets: u32) -> Result<Laid, ParseFault>
     requires source { IsSource text.now laid.now }
     requires stands { StandsIn (pieces_of text.now laid.now) at brackets }
@@ -45,10 +51,15 @@ pub fn open_call(text: &[u8], laid: &[Laid], at: usize, brackets: u32) -> Result
     ensures within { IfOk result (λ _. at < length laid.now) }
     ensures few { IfOk result (λ _. brackets < most) }
 {
-    Err(ParseFault::NoMemory)
+    let part = part_at(laid, at)?;
+    if brackets >= MOST {
+        return Err(ParseFault::TooDeep(place_of_part(text, part)));
+    }
+    Ok(part)
 }
 
 /// Takes a `.` or a `[` of a reference or type that has so many suffixes, where so many brackets are open.
+#[tactic(auto, using(crate::proofs::Takes::not_taken_memory, crate::proofs::Sources::source_part, crate::proofs::LiteralTakes::suffix_many, crate::proofs::LiteralTakes::suffix_inner, crate::proofs::LiteralTakes::suffix_taken))]
 pub fn take_suffix(
     text: &[u8],
     laid: &[Laid],
@@ -66,7 +77,17 @@ pub fn take_suffix(
     ensures few { IfOk result (λ _. suffixes < most) }
     ensures few_brackets { IfOk result (λ _. mark ≡ 91 → brackets < most) }
 {
-    Err(ParseFault::NoMemory)
+    let part = part_at(laid, at)?;
+    if !is_mark(part, mark) {
+        return Err(refusal_at(text, laid, at));
+    }
+    if suffixes >= MOST {
+        return Err(ParseFault::TooDeep(place_of_part(text, part)));
+    }
+    if mark == b'[' && brackets >= MOST {
+        return Err(ParseFault::TooDeep(place_of_part(text, part)));
+    }
+    Ok(part)
 }
 
 /// Reads an integer: a number, a minus and a number, or a string of quoted number form.
@@ -90,7 +111,32 @@ pub fn numbers(
     requires stands { (brackets : ℕ) × StandsIn (pieces_of text.now laid.now) at brackets }
     ensures { (names : List (List ℕ)) → Answers (Numbers count) text.now laid.now at names result names }
 {
-    Err(ParseFault::NoMemory)
+    let mut list = List::new(alloc);
+    let end = push_numbers(text, laid, &mut list, at, count)?;
+    Ok((list, end))
+}
+
+/// Reads so many numbers, and adds them to the list.
+fn push_numbers(
+    text: &[u8],
+    laid: &[Laid],
+    list: &mut List<u128>,
+    at: usize,
+    count: u32,
+) -> Result<usize, ParseFault>
+    requires source { IsSource text.now laid.now }
+    requires stands { (brackets : ℕ) × StandsIn (pieces_of text.now laid.now) at brackets }
+    ensures ok { IfOk result (λ end. AddsNumbers text.now laid.now at count list.old list.new end) }
+    ensures err { IfErr result (λ fault. IsRefused (A (Numbers count) ∷ []) text.now laid.now at fault) }
+{
+    let _first = part_at(laid, at)?;
+    if count == 0 {
+        return Ok(at);
+    }
+    let (_place, number) = take_number(text, laid, at)?;
+    list.push(number)?;
+    let end = push_numbers(text, laid, list, at + 1, count - 1)?;
+    Ok(end)
 }
 
 /// Reads `UInt(` or `SInt(`, an integer and `)`. So many brackets are open before it.
@@ -106,7 +152,14 @@ pub fn literal(
     requires head { StartsWith (The_call (kind_name kind)) text.now laid.now at }
     ensures { (names : List (List ℕ)) → Answers Expression text.now laid.now at names result names }
 {
-    Err(ParseFault::NoMemory)
+    let call = open_call(text, laid, at, brackets)?;
+    let (number, close) = integer(text, laid, at + 1)?;
+    let _bracket = take_mark(text, laid, close, b')')?;
+    let literal = Expr {
+        place: place_of_part(text, call),
+        form: Form::Literal(kind, None, number),
+    };
+    Ok((literal, close + 1))
 }
 
 /// Reads `UInt` or `SInt`, a width between `<` and `>`, and an integer between brackets.
@@ -123,5 +176,20 @@ pub fn wide_literal(
     requires next { StartsWith (The_mark 60) text.now laid.now (at + 1) }
     ensures { (names : List (List ℕ)) → Answers Expression text.now laid.now at names result names }
 {
-    Err(ParseFault::NoMemory)
+    let word = part_at(laid, at)?;
+    let less = at + 1;
+    let _less = take_mark(text, laid, less, b'<')?;
+    let number = less + 1;
+    let (_place, width) = take_number(text, laid, number)?;
+    let greater = number + 1;
+    let _greater = take_mark(text, laid, greater, b'>')?;
+    let bracket = greater + 1;
+    let _bracket = open_bracket(text, laid, bracket, b'(', brackets)?;
+    let (number, close) = integer(text, laid, bracket + 1)?;
+    let _close = take_mark(text, laid, close, b')')?;
+    let literal = Expr {
+        place: place_of_part(text, word),
+        form: Form::Literal(kind, Some(width), number),
+    };
+    Ok((literal, close + 1))
 }
