@@ -9,7 +9,7 @@ use Rattle.fir_expr.proofs.Composition.{Enters, enters_by_piece, piece_at}
 
 -- tests of a first piece
 
-is_mark_first : (m : ℕ) (p : Piece) (ps : List Piece) → Takes (The_mark m) p → starts_mark m (p ∷ ps) ≡ true
+pub is_mark_first : (m : ℕ) (p : Piece) (ps : List Piece) → Takes (The_mark m) p → starts_mark m (p ∷ ps) ≡ true
 is_mark_first m (A_token (kind.Mark n) bytes) ps same = eq-eqb n m same
 is_mark_first m _ ps none = absurd none
 
@@ -17,7 +17,7 @@ no_mark_test : (n m : ℕ) (b : Bool) → ¬ (n ≡ m) → eqb n m ≡ b → eqb
 no_mark_test n m true none e = absurd (none (eqb→eq n m (rw e tt)))
 no_mark_test n m false none e = e
 
-no_mark_first : (m : ℕ) (p : Piece) (ps : List Piece) → ¬ (Takes (The_mark m) p) → starts_mark m (p ∷ ps) ≡ false
+pub no_mark_first : (m : ℕ) (p : Piece) (ps : List Piece) → ¬ (Takes (The_mark m) p) → starts_mark m (p ∷ ps) ≡ false
 no_mark_first m (A_token (kind.Mark n) bytes) ps none = no_mark_test n m (eqb n m) none refl
 no_mark_first m _ ps none = refl
 

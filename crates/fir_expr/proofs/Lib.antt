@@ -9,3 +9,4 @@ pub mod TypeCases
 pub mod Bracketed
 pub mod LiteralTakes
 pub mod LiteralCases
+pub mod LiteralHeads
