@@ -10,3 +10,4 @@ pub mod Bracketed
 pub mod LiteralTakes
 pub mod LiteralCases
 pub mod LiteralHeads
+pub mod LiteralIntegers

@@ -2,3 +2,4 @@ pub mod Standing
 pub mod Parts
 pub mod LiteralParts
 pub mod LiteralHeads
+pub mod LiteralIntegers
