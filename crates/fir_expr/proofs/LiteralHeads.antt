@@ -1,6 +1,5 @@
 -- What an expression is, from the first pieces that stand there.
-use Rattle.std.proofs.Common.{◌≡◌, ℕ, ◌+◌, Bool, true, false, ◌&&◌, List, [], ◌∷◌, ◌++◌, Option, Some, slice_get, codes, bytes_eq, refl, sym, ◌∙◌, ap, eqb, eqb→eq}
-use Rattle.std.proofs.lemmas.List.{append_cancel_right}
+use Rattle.std.proofs.Common.{◌≡◌, ℕ, ◌+◌, Bool, true, false, ◌&&◌, List, [], ◌∷◌, ◌++◌, Option, Some, slice_get, codes, bytes_eq, refl, sym, ◌∙◌, ap}
 use Rattle.std.proofs.lemmas.Slice.Eq.{bytes_eq-Decides}
 use Rattle.bit_words.specs.declared.value.Kind.{Kind}
 use Rattle.prim_ops.specs.declared.operation.PrimOp.{PrimOp}
@@ -12,13 +11,13 @@ use Rattle.fir_lexer.specs.declared.token.TokenKind.TheVariants as kind
 use Rattle.fir_layout.specs.declared.laid.Laid.{Laid}
 use Rattle.fir_layout.specs.declared.laid.Laid.TheVariants.{Item, LineEnd, Open, Close, End}
 use Rattle.fir_layout.specs.Pieces.{Piece, A_token, A_line_end, A_block_opens, A_block_closes, The_end, piece_of, pieces_of, bytes_of}
-use Rattle.fir_tree.specs.Grammar.{Terminal, The_word, The_call, The_mark, A_name, Takes, Symbol, Is, A, Expression, Reference, IsCase, a_reference, a_component, an_operation, Front, cut, takes_on, goes_into}
-use Rattle.fir_tree.proofs.Cases.{choose, Chosen, operation_in, operations, starts_mark}
+use Rattle.fir_tree.specs.Grammar.{The_word, The_call, The_mark, Takes, Expression, a_reference, a_component, an_operation, cut, takes_on, goes_into}
+use Rattle.fir_tree.proofs.Cases.{choose, Chosen, operation_in, operations}
 use Rattle.fir_expr.specs.declared.literals.Head.{Head as TheHead}
 use Rattle.fir_expr.specs.declared.literals.Head.TheVariants as head
 use Rattle.fir_expr.specs.Parts.{StartsWith, GoesInto, kind_name, IsHeadAt}
 use Rattle.fir_expr.specs.LiteralHeads.{NamesNothing, IsHeadBefore, IsHeadOfCall}
-use Rattle.fir_expr.proofs.Composition.{Enters, enters_by_piece, enters_by_two, piece_at}
+use Rattle.fir_expr.proofs.Composition.{enters_by_piece, enters_by_two, piece_at}
 use Rattle.fir_expr.proofs.Choices.{no_mark_first}
 
 -- an operation is found by its name

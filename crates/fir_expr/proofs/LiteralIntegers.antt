@@ -1,6 +1,6 @@
 -- The readers of integers, case by case, and the numbers that strings quote.
-use Rattle.std.proofs.Common.{◌≡◌, ◌≢◌, ℕ, ◌+◌, ◌≤◌, ◌^◌, Bool, true, false, List, [], ◌∷◌, ◌++◌, get_or, take, slice_get, Some, refl, ◌∙◌, ap, ◌⊎◌, inl, inr, ⊎_elim}
-use Rattle.std.specs.Prelude.{Err}
+use Rattle.std.proofs.Common.{◌≡◌, ◌≢◌, ℕ, ◌+◌, Bool, true, false, List, [], ◌∷◌, ◌++◌, get_or, take, slice_get, Option, Some, None, refl, ◌⊎◌, inl, inr, ⊎_elim}
+use Rattle.std.specs.Prelude.{Err, IfSome, IfNone}
 use Rattle.bit_words.specs.Numbers.{letter, WritesDigits, AnswersMagnitude}
 use Rattle.bit_words.specs.declared.number.Base.{Base}
 use Rattle.bit_words.specs.declared.number.Base.TheVariants.{Binary, Octal, Decimal, Hexadecimal}
@@ -16,7 +16,7 @@ use Rattle.fir_lexer.specs.declared.token.TokenKind.TheVariants as kind
 use Rattle.fir_lexer.proofs.Quotes.{quotes_iff}
 use Rattle.fir_layout.specs.declared.laid.Laid.{Laid}
 use Rattle.fir_layout.specs.declared.laid.Laid.TheVariants.{Item}
-use Rattle.fir_layout.specs.Pieces.{Piece, A_token, A_line_end, A_block_opens, A_block_closes, The_end, piece_of, pieces_of, bytes_of}
+use Rattle.fir_layout.specs.Pieces.{Piece, A_token, piece_of, pieces_of, bytes_of}
 use Rattle.fir_tree.specs.declared.fault.ParseFault.{ParseFault}
 use Rattle.fir_tree.specs.Faults.{Levels, levels, past, is_deep}
 use Rattle.fir_tree.specs.Grammar.{The_mark, A_number, A_quoted_number, Takes, IsQuotedNumber, quoted, quoted_minus, Nothing, Its_magnitude, Its_number, Is, A, Integer, a_plain_integer, a_negative_integer, a_quoted_integer, a_quoted, no_symbol}
@@ -86,6 +86,14 @@ string_none k bytes e none = rw e (λ h. none h.0 h.1 h.2)
 pub token_none : (text bytes : List ℕ) (token : Token) → token.kind ≡ kind.Text → bytes ≡ bytes_of text token → ((negative : Bool) (m : ℕ) → ¬ (IsQuotedNumber bytes negative m))
     → ¬ (Takes A_quoted_number (piece_of text (Item token)))
 token_none text bytes token e b none = string_none token.kind (bytes_of text token) e (rw b at none)
+
+pub quoted_some : (answer : Option Number) (P Q : Number → Type 0) → ((n : Number) → P n → Q n) → IfSome answer P → IfSome answer Q
+quoted_some (Some n) P Q so h = so n h
+quoted_some None P Q so h = tt
+
+pub quoted_none : (answer : Option Number) (X Y : Type 0) → (X → Y) → IfNone answer X → IfNone answer Y
+quoted_none (Some n) X Y so h = tt
+quoted_none None X Y so h = so h
 
 -- which case an integer goes on by
 

@@ -1,4 +1,4 @@
--- Integers of literals (FIRRTL specification 3.0, "Constant Integer Expressions").
+-- Integers of literals (FIRRTL specification 3.0, "Expressions").
 use Rattle.fir_lexer.specs.declared.token.TokenKind.TheVariants as kind
 use Rattle.fir_layout.specs.Pieces.{Piece, A_token}
 

@@ -1,6 +1,6 @@
-//! Integers of literals (FIRRTL specification 3.0, "Constant Integer Expressions").
+//! Integers of literals (FIRRTL specification 3.0, "Expressions").
 
-ghost use Rattle.std.specs.Prelude.{◌≡◌, ◌≢◌, ◌≤◌, ◌<◌, ◌+◌, ◌^◌, ◌∷◌, ◌++◌, ◌⊎◌, [], ℕ, Bool, true, false, List, length, slice_index, slice_get, Some, IfOk, IfErr, IfSome, IfNone, IsTrue, ◌↔◌};
+ghost use Rattle.std.specs.Prelude.{◌≡◌, ◌≢◌, ◌<◌, ◌+◌, ◌∷◌, ◌++◌, ◌⊎◌, [], ℕ, Bool, true, false, List, slice_index, Some, IfSome, IfNone, IsTrue, ◌↔◌};
 ghost use Rattle.bit_words.specs.Numbers.{letter};
 ghost use Rattle.bit_words.specs.declared.number.Base.{Base as TheBase};
 ghost use Rattle.fir_lexer.specs.Tokens.{IsPastRange, IsQuotedBase};
@@ -70,10 +70,7 @@ fn quoted_part(text: &[u8], part: Laid) -> Option<Number>
         return None;
     };
     match token.kind {
-        TokenKind::Text => match quoted_number(bytes(text, token)) {
-            Some(number) => Some(number),
-            None => None,
-        },
+        TokenKind::Text => quoted_number(bytes(text, token)),
         _ => None,
     }
 }
