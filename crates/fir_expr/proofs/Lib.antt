@@ -11,3 +11,4 @@ pub mod LiteralTakes
 pub mod LiteralCases
 pub mod LiteralHeads
 pub mod LiteralIntegers
+pub mod LiteralBrackets

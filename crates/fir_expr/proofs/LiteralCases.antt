@@ -55,3 +55,8 @@ module _ (text : List ℕ) (list : List Laid) (i brackets : ℕ) (s : StandsIn (
       added = others.added ∙ append_one old others.numbers x;
       read = λ names. passed_case (one_more_number n) (enters_number _ n number.taken.here) (passed_then (passed_number names s number) (others.read names));
     })
+
+-- the numbers are all of the list
+pub numbers_all : {text : List ℕ} {list : List Laid} {i count j : ℕ} {old new : List ℕ} → AddsNumbers text list i count old new j → old ≡ [] → (names : List (List ℕ))
+    → HasPassed (A (Numbers count) ∷ []) text list i names (new, tt) j names
+numbers_all adds none names = rw (adds.added, none) (adds.read names)

@@ -10,11 +10,15 @@ ghost use Rattle.fir_expr.specs.LiteralParts.{AddsNumbers};
 ghost use Rattle.fir_expr.specs.LiteralHeads.{IsHeadBefore, IsHeadOfCall, IsHeadOfWord};
 ghost use Rattle.fir_expr.specs.Parts.{IsSource, IsPartOf, Answers, AnswersPiece, StartsWith, IsHeadAt, kind_name, is_suffix_mark};
 
-use crate::take::{MOST, before_bracket, bytes, is_mark, part_at, place_of_part, refusal_at, take_number};
+use crate::integers::integer;
+use crate::take::{
+    MOST, before_bracket, bytes, is_mark, open_bracket, part_at, place_of_part, refusal_at,
+    take_mark, take_number,
+};
 use bit_words::{Kind, List};
 use fir_layout::Laid;
 use fir_lexer::TokenKind;
-use fir_tree::{Expr, ParseFault};
+use fir_tree::{Expr, Form, ParseFault};
 use prim_ops::{Prim, named};
 use std::alloc::Global;
 
@@ -184,13 +188,14 @@ fn push_numbers(
     ensures ok { IfOk result (λ end. AddsNumbers text.now laid.now at count list.old list.new end) }
     ensures err { IfErr result (λ fault. IsRefused (A (Numbers count) ∷ []) text.now laid.now at fault) }
 {
-    let Some(others) = count.checked_sub(1) else {
-        part_at(laid, at)?;
+    let _first = part_at(laid, at)?;
+    if count == 0 {
         return Ok(at);
-    };
+    }
     let (_place, number) = take_number(text, laid, at)?;
     list.push(number)?;
-    push_numbers(text, laid, list, at + 1, others)
+    let end = push_numbers(text, laid, list, at + 1, count - 1)?;
+    Ok(end)
 }
 
 /// Reads `UInt(` or `SInt(`, an integer and `)`. So many brackets are open before it.
@@ -206,7 +211,14 @@ pub fn literal(
     requires head { StartsWith (The_call (kind_name kind)) text.now laid.now at }
     ensures { (names : List (List ℕ)) → Answers Expression text.now laid.now at names result names }
 {
-    Err(ParseFault::NoMemory)
+    let call = open_call(text, laid, at, brackets)?;
+    let (number, close) = integer(text, laid, at + 1)?;
+    let _bracket = take_mark(text, laid, close, b')')?;
+    let literal = Expr {
+        place: place_of_part(text, call),
+        form: Form::Literal(kind, None, number),
+    };
+    Ok((literal, close + 1))
 }
 
 /// Reads `UInt` or `SInt`, a width between `<` and `>`, and an integer between brackets.
@@ -223,5 +235,20 @@ pub fn wide_literal(
     requires next { StartsWith (The_mark 60) text.now laid.now (at + 1) }
     ensures { (names : List (List ℕ)) → Answers Expression text.now laid.now at names result names }
 {
-    Err(ParseFault::NoMemory)
+    let word = part_at(laid, at)?;
+    let less = at + 1;
+    let _less = take_mark(text, laid, less, b'<')?;
+    let number = less + 1;
+    let (_place, width) = take_number(text, laid, number)?;
+    let greater = number + 1;
+    let _greater = take_mark(text, laid, greater, b'>')?;
+    let bracket = greater + 1;
+    let _bracket = open_bracket(text, laid, bracket, b'(', brackets)?;
+    let (number, close) = integer(text, laid, bracket + 1)?;
+    let _close = take_mark(text, laid, close, b')')?;
+    let literal = Expr {
+        place: place_of_part(text, word),
+        form: Form::Literal(kind, Some(width), number),
+    };
+    Ok((literal, close + 1))
 }
