@@ -13,4 +13,6 @@ pub mod TypeLengths
 pub mod TypeFlips
 pub mod LiteralTakes
 pub mod LiteralCases
+pub mod LiteralHeads
+pub mod LiteralIntegers
 pub mod LiteralBrackets

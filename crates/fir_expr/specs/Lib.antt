@@ -2,3 +2,5 @@ pub mod Standing
 pub mod Parts
 pub mod TypeParts
 pub mod LiteralParts
+pub mod LiteralHeads
+pub mod LiteralIntegers

@@ -4,6 +4,7 @@
 #![tactic(auto)]
 
 mod expressions;
+mod integers;
 mod literals;
 pub mod reader;
 mod take;

@@ -1,21 +1,25 @@
 //! Literals, and what tells one form of expression from another (FIRRTL specification 3.0, "Expressions").
 
-ghost use Rattle.std.specs.Prelude.{◌≡◌, ◌≤◌, ◌<◌, ◌+◌, ◌^◌, ◌∷◌, [], ℕ, List, length, take, slice_get, Some, IfOk, IfErr, IsTrue, ◌↔◌};
+ghost use Rattle.std.specs.Prelude.{◌≡◌, ◌≤◌, ◌<◌, ◌+◌, ◌^◌, ◌∷◌, [], ℕ, List, length, take, slice_get, Some, IfOk, IfErr, IfSome, IfNone, IsTrue, ◌↔◌, codes};
 ghost use Rattle.fir_layout.specs.Pieces.{piece_of, pieces_of};
 ghost use Rattle.fir_tree.specs.Faults.{most, levels, last_suffixes};
 ghost use Rattle.fir_tree.specs.Reading.{IsRefused};
-ghost use Rattle.fir_tree.specs.Grammar.{A, Integer, Numbers, Expression, The_word, The_call, The_mark, Takes};
+ghost use Rattle.fir_tree.specs.Grammar.{A, Numbers, Expression, The_word, The_call, The_mark, Takes};
 ghost use Rattle.fir_expr.specs.Standing.{StandsIn, wanted};
 ghost use Rattle.fir_expr.specs.LiteralParts.{AddsNumbers};
+ghost use Rattle.fir_expr.specs.LiteralHeads.{IsHeadBefore, IsHeadOfCall, IsHeadOfWord};
 ghost use Rattle.fir_expr.specs.Parts.{IsSource, IsPartOf, Answers, AnswersPiece, StartsWith, IsHeadAt, kind_name, is_suffix_mark};
 
+use crate::integers::integer;
 use crate::take::{
-    MOST, is_mark, open_bracket, part_at, place_of_part, refusal_at, take_mark, take_number,
+    MOST, before_bracket, bytes, is_mark, open_bracket, part_at, place_of_part, refusal_at,
+    take_mark, take_number,
 };
-use bit_words::{Kind, List, Number};
+use bit_words::{Kind, List};
 use fir_layout::Laid;
+use fir_lexer::TokenKind;
 use fir_tree::{Expr, Form, ParseFault};
-use prim_ops::Prim;
+use prim_ops::{Prim, named};
 use std::alloc::Global;
 
 /// What the first tokens say an expression is.
@@ -39,7 +43,71 @@ pub fn head_at(text: &[u8], laid: &[Laid], at: usize) -> Result<Head, ParseFault
     ensures ok { IfOk result (λ head. IsHeadAt head text.now laid.now at) }
     ensures err { IfErr result (λ fault. fault ≡ ParseFault.NoMemory) }
 {
-    Err(ParseFault::NoMemory)
+    let part = part_at(laid, at)?;
+    let Laid::Item(token) = part else {
+        return Ok(Head::Component);
+    };
+    match token.kind {
+        TokenKind::Call => Ok(head_of_call(bytes(text, token))),
+        TokenKind::Word => match literal_kind(bytes(text, token)) {
+            Some(kind) => {
+                let next = part_at(laid, at + 1)?;
+                Ok(head_before(kind, next))
+            }
+            None => Ok(Head::Component),
+        },
+        _ => Ok(Head::Component),
+    }
+}
+
+/// What a word is that names a kind and stands before this part.
+fn head_before(kind: Kind, next: Laid) -> Head
+    ensures { (text : List ℕ) → IsHeadBefore kind (piece_of text next) result }
+{
+    if is_mark(next, b'<') {
+        Head::WideLiteral(kind)
+    } else {
+        Head::Component
+    }
+}
+
+/// What a word with its `(` is.
+fn head_of_call(call: &[u8]) -> Head
+    ensures { IsHeadOfCall call.now result }
+{
+    match before_bracket(call) {
+        Some(word) => head_of_word(word),
+        None => Head::Component,
+    }
+}
+
+/// What a word is that stands before a `(`.
+fn head_of_word(word: &[u8]) -> Head
+    ensures { IsHeadOfWord word.now result }
+{
+    if word == "mux".as_bytes() {
+        return Head::Mux;
+    }
+    match literal_kind(word) {
+        Some(kind) => Head::Literal(kind),
+        None => match named(word) {
+            Some(prim) => Head::Operation(prim),
+            None => Head::Component,
+        },
+    }
+}
+
+/// The kind that a word names.
+fn literal_kind(word: &[u8]) -> Option<Kind>
+    ensures some { IfSome result (λ kind. word.now ≡ kind_name kind) }
+    ensures unsigned { IfNone result (¬ (word.now ≡ codes "UInt")) }
+    ensures signed { IfNone result (¬ (word.now ≡ codes "SInt")) }
+{
+    match word {
+        b"UInt" => Some(Kind::Unsigned),
+        b"SInt" => Some(Kind::Signed),
+        _ => None,
+    }
 }
 
 /// Takes a word with its `(`, whichever it is. So many brackets are open before it.
@@ -88,15 +156,6 @@ pub fn take_suffix(
         return Err(ParseFault::TooDeep(place_of_part(text, part)));
     }
     Ok(part)
-}
-
-/// Reads an integer: a number, a minus and a number, or a string of quoted number form.
-pub fn integer(text: &[u8], laid: &[Laid], at: usize) -> Result<(Number, usize), ParseFault>
-    requires source { IsSource text.now laid.now }
-    requires stands { (brackets : ℕ) × StandsIn (pieces_of text.now laid.now) at brackets }
-    ensures { (names : List (List ℕ)) → Answers Integer text.now laid.now at names result names }
-{
-    Err(ParseFault::NoMemory)
 }
 
 /// Reads so many numbers.
