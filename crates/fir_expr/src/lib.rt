@@ -11,3 +11,6 @@ mod take;
 mod types;
 
 pub use reader::{Reader, read_expr, read_reference, read_type};
+
+#[cfg(test)]
+mod tests;
