@@ -1,4 +1,4 @@
-use Rattle.std.proofs.Common.{[], ◌∷◌, refl, codes, arith}
+use Rattle.std.proofs.Common.{[], ◌∷◌, arith}
 use Rattle.std.proofs.lemmas.Result.{err_from_is_err_and}
 use Rattle.fir_tree.specs.Grammar.{A, Type_of, colon, Its_name}
 use Rattle.fir_tree.specs.Reading.{no_memory}
