@@ -64,7 +64,13 @@ fn fields_have_their_names_and_flips(rt: HostRuntime) -> Result<(), Fail> {
     if let [first, second, third] = fields(&typ) {
         assert!(rt; first.flip && !second.flip && !third.flip);
         assert_eq!(rt; (first.name.id, second.name.id, third.name.id), (0, 1, 2));
-        assert_eq!(rt; second.name.place, Place { line: 1, column: 21 });
+        assert_eq!(rt;
+            second.name.place,
+            Place {
+                line: 1,
+                column: 21
+            }
+        );
         assert!(rt; matches!(first.typ.shape, Shape::Signed(Some(8))));
         assert!(rt; matches!(second.typ.shape, Shape::Clock));
         assert!(rt; matches!(third.typ.shape, Shape::Reset));
@@ -118,7 +124,13 @@ fn as_many_brackets_as_128_may_be_open(rt: HostRuntime) -> Result<(), Fail> {
     let more = nested(alloc, 129)?;
     match type_in(&rt, alloc, &more)? {
         Err(ParseFault::TooDeep(place)) => {
-            assert_eq!(rt; place, Place { line: 1, column: 385 });
+            assert_eq!(rt;
+                place,
+                Place {
+                    line: 1,
+                    column: 385
+                }
+            );
         }
         _ => assert!(rt; false),
     }
