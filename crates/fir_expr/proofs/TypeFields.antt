@@ -1,13 +1,12 @@
 -- Lengths and fields, one behind the other.
-use Rattle.std.proofs.Common.{◌≡◌, ℕ, ◌+◌, ◌<◌, ◌≤◌, List, [], ◌∷◌, ◌++◌, length, slice_get, Some, refl, sym, ◌∙◌, ap, subst, append_assoc, append-nil, arith}
-use Rattle.std.proofs.lemmas.Option.{slice_get_within}
+use Rattle.std.proofs.Common.{◌≡◌, ℕ, ◌+◌, ◌<◌, ◌≤◌, List, [], ◌∷◌, ◌++◌, length, slice_get, Some, refl, sym, subst, append_assoc, append-nil, arith}
 use Rattle.fir_layout.specs.declared.laid.Laid.{Laid}
 use Rattle.fir_layout.specs.Pieces.{piece_of, pieces_of}
 use Rattle.fir_types.specs.declared.fir_type.Field.{Field as BundleField}
 use Rattle.fir_tree.specs.declared.fault.ParseFault.{ParseFault}
 use Rattle.fir_types.specs.declared.fir_type.Shape.TheVariants as shape
 use Rattle.place_text.specs.Places.{place}
-use Rattle.fir_tree.specs.Grammar.{The_mark, Takes, Nothing, Its_place, Is, A, Base_type, Field, Fields, last_field, next_field, a_bundle, start_of}
+use Rattle.fir_tree.specs.Grammar.{The_mark, Takes, Nothing, Its_place, A, Base_type, Field, Fields, last_field, next_field, a_bundle, start_of}
 use Rattle.fir_tree.specs.Reading.{HasRead, IsRefused}
 use Rattle.fir_tree.specs.Faults.{most}
 use Rattle.fir_expr.specs.Standing.{StandsIn, BeginsType, IsWhole, wanted}

@@ -1,6 +1,6 @@
 -- Types that are words.
 use Prim.Native.String.{String}
-use Rattle.std.proofs.Common.{◌≡◌, ℕ, ◌+◌, Bool, true, false, List, [], ◌∷◌, length, take, slice_get, Option, Some, refl, codes, bytes_eq}
+use Rattle.std.proofs.Common.{◌≡◌, ℕ, ◌+◌, Bool, true, false, List, [], ◌∷◌, take, slice_get, Option, Some, refl, codes, bytes_eq}
 use Rattle.std.specs.Prelude.{Result, Ok, Err, IfOk}
 use Rattle.std.proofs.lemmas.Slice.Eq.{bytes_eq-Decides}
 use Rattle.place_text.specs.Places.{place}
@@ -12,14 +12,14 @@ use Rattle.fir_layout.specs.Pieces.{Piece, A_token, piece_of, pieces_of}
 use Rattle.fir_types.specs.declared.fir_type.Shape.TheVariants as shape
 use Rattle.fir_types.specs.declared.fir_type.FirType.{FirType}
 use Rattle.fir_tree.specs.declared.fault.ParseFault.{ParseFault}
-use Rattle.fir_tree.specs.Grammar.{Terminal, The_word, Takes, Its_place, Is, A, Base_type, Width, an_unsigned, a_signed, a_clock, a_reset, a_bundle, start_of}
+use Rattle.fir_tree.specs.Grammar.{Terminal, The_word, Takes, A, Base_type, Width, an_unsigned, a_signed, a_clock, a_reset, a_bundle, start_of}
 use Rattle.fir_tree.specs.Faults.{Levels, levels, is_deep}
 use Rattle.fir_tree.specs.Reading.{IsRefused}
 use Rattle.fir_tree.proofs.Cases.{choose, starts_word}
 use Rattle.fir_expr.specs.Standing.{StandsIn, BeginsType}
 use Rattle.fir_expr.specs.Parts.{IsTaken, StartsWith, GoesInto, HasPassed, kind_name}
 use Rattle.fir_expr.specs.TypeParts.{shape_of}
-use Rattle.fir_expr.proofs.Composition.{Enters, enters_by_piece, refused_case, refused_behind, piece_at, one_at}
+use Rattle.fir_expr.proofs.Composition.{enters_by_piece, refused_case, refused_behind, piece_at, one_at}
 use Rattle.fir_expr.proofs.Passing.{passed_then, passed_case, passed_placed, begins_texts}
 
 -- what stands at a place where a terminal's piece stands

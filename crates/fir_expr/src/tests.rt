@@ -59,12 +59,18 @@ fn fields_have_their_names_and_flips(rt: HostRuntime) -> Result<(), Fail> {
     let typ = type_in(
         &rt,
         rt.alloc(),
-        b"{ flip 0 : SInt<8>, `b c` : Clock, flip : Reset }\n",
+        b"{ flip 0 : SInt<8>, `8b` : Clock, flip : Reset }\n",
     )??;
     if let [first, second, third] = fields(&typ) {
         assert!(rt; first.flip && !second.flip && !third.flip);
         assert_eq!(rt; (first.name.id, second.name.id, third.name.id), (0, 1, 2));
-        assert_eq!(rt; second.name.place, Place { line: 1, column: 21 });
+        assert_eq!(rt;
+            second.name.place,
+            Place {
+                line: 1,
+                column: 21
+            }
+        );
         assert!(rt; matches!(first.typ.shape, Shape::Signed(Some(8))));
         assert!(rt; matches!(second.typ.shape, Shape::Clock));
         assert!(rt; matches!(third.typ.shape, Shape::Reset));
@@ -91,6 +97,40 @@ fn the_first_bad_token_is_named(rt: HostRuntime) -> Result<(), Fail> {
     match type_in(&rt, rt.alloc(), b"{ a : AsyncReset }\n")? {
         Err(ParseFault::Unsupported(place)) => {
             assert_eq!(rt; place, Place { line: 1, column: 7 });
+        }
+        _ => assert!(rt; false),
+    }
+    Ok(())
+}
+
+/// So many bundles, each the only field of the one around it.
+fn nested(alloc: Global, levels: u32) -> Result<Vec<u8>, Fail> {
+    let mut text = Vec::new(alloc);
+    for _level in 0..levels {
+        text.extend_from_slice(b"{a:")?;
+    }
+    text.extend_from_slice(b"Clock")?;
+    for _level in 0..levels {
+        text.extend_from_slice(b"}")?;
+    }
+    Ok(text)
+}
+
+#[test]
+fn as_many_brackets_as_128_may_be_open(rt: HostRuntime) -> Result<(), Fail> {
+    let alloc = rt.alloc();
+    let most = nested(alloc, 128)?;
+    assert!(rt; type_in(&rt, alloc, &most)?.is_ok());
+    let more = nested(alloc, 129)?;
+    match type_in(&rt, alloc, &more)? {
+        Err(ParseFault::TooDeep(place)) => {
+            assert_eq!(rt;
+                place,
+                Place {
+                    line: 1,
+                    column: 385
+                }
+            );
         }
         _ => assert!(rt; false),
     }

@@ -1,4 +1,4 @@
-use Rattle.std.proofs.Common.{[], ◌∷◌, refl, codes, arith}
+use Rattle.std.proofs.Common.{[], ◌∷◌, arith}
 use Rattle.std.proofs.lemmas.Result.{err_from_is_err_and}
 use Rattle.fir_tree.specs.Grammar.{A, Type_of, colon, Its_name}
 use Rattle.fir_tree.specs.Reading.{no_memory}
@@ -49,9 +49,21 @@ pub base_type-returns-then-is_word-4-clause-begins : goal.base_type-returns-then
 base_type-returns-then-is_word-4-clause-begins t c = begins_so c.reset_type.result c.requires.begins c.reset_type.ensures.begins
 
 pub base_type-bundle-requires : goal.base_type-bundle-requires
-base_type-bundle-requires t c = (omega arith, (c.requires.source, (c.requires.room, (c.requires.begins, into_bundle c.args.text.now c.args.laid.now c.args.at c.in_ok-part.part c.in_ok-part.ensures.ok
-    (λ u. let e = c.is_word.ensures.1 u in let n = c.if-is_word.false in cc) (λ u. let e = c.is_word-2.ensures.1 u in let n = c.if-is_word-2.false in cc)
-    (λ u. let e = c.is_word-3.ensures.1 u in let n = c.if-is_word-3.false in cc) (λ u. let e = c.is_word-4.ensures.1 u in let n = c.if-is_word-4.false in cc)))))
+base_type-bundle-requires t c = (
+  omega arith,
+  (
+    c.requires.source,
+    (
+      c.requires.room,
+      (
+        c.requires.begins,
+        into_bundle c.args.text.now c.args.laid.now c.args.at c.in_ok-part.part c.in_ok-part.ensures.ok
+            (λ u. let e = c.is_word.ensures.1 u in let n = c.if-is_word.false in cc) (λ u. let e = c.is_word-2.ensures.1 u in let n = c.if-is_word-2.false in cc)
+            (λ u. let e = c.is_word-3.ensures.1 u in let n = c.if-is_word-3.false in cc) (λ u. let e = c.is_word-4.ensures.1 u in let n = c.if-is_word-4.false in cc),
+      ),
+    ),
+  ),
+)
 
 pub bundle-returns-in_err-part-clause-read : goal.bundle-returns-in_err-part-clause-read
 bundle-returns-in_err-part-clause-read t c = let p = err_from_is_err_and c.from_residual.result c.from_residual.ensures.1 in rw (p.1, p.2) (bundle_not_opened c.requires.into c.in_err-part.ensures.taken)

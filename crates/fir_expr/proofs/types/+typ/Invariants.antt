@@ -1,4 +1,4 @@
-use Rattle.std.proofs.Common.{◌≡◌, ◌<◌, ◌≤◌, ◌+◌, ◌-◌, ◌*◌, length}
+use Rattle.std.proofs.Common.{◌+◌, ◌-◌, ◌*◌, length}
 use Rattle.fir_expr.proofs.TypeFields.{FieldsSoFar}
 use Rattle.fir_expr.proofs.types.+typ.Given as goal
 

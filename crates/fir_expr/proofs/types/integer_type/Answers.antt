@@ -12,8 +12,11 @@ pub place_of_part-place-requires-clause-inside : goal.place_of_part-place-requir
 place_of_part-place-requires-clause-inside c = source_part c.args.text.now c.args.laid.now c.args.at c.in_ok-part.part c.requires.source c.in_ok-part.ensures.ok
 
 pub width-requires-clause-begins : goal.width-requires-clause-begins
-width-requires-clause-begins c = (c.requires.begins.0, word_begins (kind_name c.args.kind) c.requires.begins.1
-    (word_taken (kind_name c.args.kind) c.args.text.now c.args.laid.now c.args.at c.in_ok-part.part c.requires.word c.in_ok-part.ensures.ok))
+width-requires-clause-begins c = (
+  c.requires.begins.0,
+  word_begins (kind_name c.args.kind) c.requires.begins.1
+      (word_taken (kind_name c.args.kind) c.args.text.now c.args.laid.now c.args.at c.in_ok-part.part c.requires.word c.in_ok-part.ensures.ok),
+)
 
 pub returns-in_err-width-clause-read : goal.returns-in_err-width-clause-read
 returns-in_err-width-clause-read c =
