@@ -7,3 +7,5 @@ pub mod Passing
 pub mod Choices
 pub mod TypeCases
 pub mod Bracketed
+pub mod OperandsChosen
+pub mod OperandsRead
