@@ -1,6 +1,7 @@
 -- The readers of operations and references, case by case.
 use Rattle.std.proofs.Common.{◌≡◌, ℕ, suc, ◌+◌, ◌<◌, ◌≤◌, false, List, [], ◌∷◌, ◌++◌, codes, length, take, slice_get, Some, refl, ◌∙◌, ap, arith, subst, append_assoc}
 use Rattle.std.proofs.lemmas.Grind.{common_steps}
+use Rattle.std.proofs.lemmas.Option.{slice_get_within}
 use Rattle.place_text.specs.declared.place.Place.{Place}
 use Rattle.place_text.specs.Places.{place}
 use Rattle.fir_lexer.specs.declared.token.TokenKind.TheVariants as kind
@@ -19,8 +20,10 @@ use Rattle.fir_tree.specs.Grammar.{The_call, The_mark, A_name, A_field, A_number
 use Rattle.fir_tree.specs.Faults.{Levels, levels, past, past_text, with_suffix, last_suffixes, without_last, most}
 use Rattle.fir_tree.specs.Reading.{IsRefused}
 use Rattle.fir_expr.specs.Standing.{StandsIn, BeginsType, IsWhole}
-use Rattle.fir_expr.specs.Parts.{IsTaken, IsNotTaken, IsNumberAt, IsNameAt, HasPassed, StartsWith, GoesInto}
-use Rattle.fir_expr.specs.Operands.{HasDigits, HasNoDigits, HasOperands, HasSuffixes, HasStepped}
+use Rattle.fir_expr.specs.Parts.{IsTaken, IsNotTaken, IsNumberAt, IsNameAt, HasPassed, StartsWith, GoesInto, IsHeadAt}
+use Rattle.fir_expr.specs.declared.literals.Head.{Head}
+use Rattle.fir_expr.specs.declared.literals.Head.TheVariants as head
+use Rattle.fir_expr.specs.Operands.{HasDigits, HasNoDigits, HasNoSuffix, HasOperands, HasSuffixes, HasStepped}
 use Rattle.fir_expr.proofs.Composition.{Enters, piece_at, read_nothing, read_then, read_case, refused_first, refused_behind, refused_case}
 use Rattle.fir_expr.proofs.Depth.{levels_next, whole_none, whole_stands, whole_then}
 use Rattle.fir_expr.proofs.Passing.{mark_past, passed_then, passed_case, passed_name, read_mark, read_placed, read_placed_magnitude, read_name_at, room_step, room_name, whole_texts, begins_texts}
@@ -37,6 +40,9 @@ passed_none : {text : List ℕ} {list : List Laid} {i brackets : ℕ} (names : L
 passed_none {text} {list} {i} names s within = record { read = read_nothing text list i names within; whole = whole_none s; room = omega arith }
 
 -- an expression that is a reference
+
+pub component_here : {text : List ℕ} {list : List Laid} {i : ℕ} (h : Head) → h ≡ head.Component → IsHeadAt h text list i → GoesInto a_reference text list i
+component_here {text} {list} {i} h e is = subst (λ (x : Head). IsHeadAt x text list i) e is
 
 module _ {text : List ℕ} {list : List Laid} {i : ℕ} (into : GoesInto a_reference text list i) where
   pub component_read : {names after : List (List ℕ)} {x : Expr} {j : ℕ} → HasPassed (A Reference ∷ []) text list i names (x, tt) j after → HasPassed (A Expression ∷ []) text list i names (x, tt) j after
@@ -155,13 +161,13 @@ module _ {text : List ℕ} {list : List Laid} {i : ℕ} where
 
 -- suffixes
 
-pub suffixes_none : {text : List ℕ} {list : List Laid} {i brackets : ℕ} (l : Laid) (names : List (List ℕ)) (old : List Suffix) → StandsIn (pieces_of text list) i brackets → slice_get list i ≡ Some l → i ≤ length list
-    → ¬ (Takes (The_mark 46) (piece_of text l)) → ¬ (Takes (The_mark 91) (piece_of text l)) → HasSuffixes text list i names old old i names
-suffixes_none {text} {list} {i} l names old s h within no_dot no_bracket = record {
+pub suffixes_none : {text : List ℕ} {list : List Laid} {i brackets : ℕ} {names after : List (List ℕ)} (old : List Suffix) → StandsIn (pieces_of text list) i brackets → HasNoSuffix text list i → after ≡ names
+    → HasSuffixes text list i names old old i after
+suffixes_none {text} {list} {i} {brackets} {names} old s h same = let w = slice_get_within list i h.part h.here in rw same (record {
   suffixes = [];
   added = append_nothing old;
-  passed = passed_case no_suffix (enters_no_suffix text list i l h no_dot no_bracket) (passed_none names s within);
-}
+  passed = passed_case no_suffix (enters_no_suffix text list i h.part h.here h.no_dot h.no_bracket) (passed_none names s (omega (arith, w)));
+})
 
 pub suffixes_more : {text : List ℕ} {list : List Laid} {i j k : ℕ} {names between after : List (List ℕ)} {x : Suffix} {old new : List Suffix} → HasStepped text list i names x j between
     → HasSuffixes text list j between (old ++ x ∷ []) new k after → HasSuffixes text list i names old new k after

@@ -6,7 +6,7 @@ use Rattle.fir_layout.specs.Pieces.{Piece, A_token, piece_of, pieces_of}
 use Rattle.fir_tree.specs.declared.expr.Expr.{Expr}
 use Rattle.fir_tree.specs.declared.expr.Suffix.{Suffix}
 use Rattle.fir_tree.specs.declared.fault.ParseFault.{ParseFault}
-use Rattle.fir_tree.specs.Grammar.{A, Expressions, Suffixes}
+use Rattle.fir_tree.specs.Grammar.{The_mark, Takes, A, Expressions, Suffixes}
 use Rattle.fir_tree.specs.Faults.{levels, last_suffixes}
 use Rattle.fir_tree.specs.Reading.{IsRefused}
 use Rattle.fir_expr.specs.Standing.{StandsIn, wanted}
@@ -28,6 +28,13 @@ pub record HasNoDigits (text : List ℕ) (list : List Laid) (i : ℕ) : Type 0 w
   pub part : Laid
   pub here : slice_get list i ≡ Some part
   pub none : ¬ (IsDigits (piece_of text part))
+
+-- neither a `.` nor a `[` stands at the place
+pub record HasNoSuffix (text : List ℕ) (list : List Laid) (i : ℕ) : Type 0 where
+  pub part : Laid
+  pub here : slice_get list i ≡ Some part
+  pub no_dot : ¬ (Takes (The_mark 46) (piece_of text part))
+  pub no_bracket : ¬ (Takes (The_mark 91) (piece_of text part))
 
 -- so many expressions were read, and stand behind those read before
 pub record HasOperands (count : ℕ) (text : List ℕ) (list : List Laid) (i : ℕ) (names : List (List ℕ)) (before now : List Expr) (j : ℕ) (after : List (List ℕ)) : Type 0 where

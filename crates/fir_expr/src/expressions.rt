@@ -1,6 +1,6 @@
 //! Expressions and references (FIRRTL specification 3.0, "Expressions").
 
-ghost use Rattle.std.specs.Prelude.{◌≡◌, ◌≤◌, ◌<◌, ◌+◌, ◌^◌, ◌-◌, ℕ, List, length, take, codes, IfOk, IfErr, IsTrue, ◌↔◌, ◌∷◌, []};
+ghost use Rattle.std.specs.Prelude.{◌≡◌, ◌≤◌, ◌<◌, ◌+◌, ◌^◌, ◌-◌, ℕ, List, length, take, codes, IfOk, IfErr, IfSome, IfNone, IsTrue, ◌↔◌, ◌∷◌, []};
 ghost use Rattle.prim_ops.specs.Operations.{name_of};
 ghost use Rattle.fir_layout.specs.Pieces.{piece_of, pieces_of};
 ghost use Rattle.fir_tree.specs.Faults.{most, levels, last_suffixes};
@@ -8,7 +8,7 @@ ghost use Rattle.fir_tree.specs.Grammar.{A, Expression, Expressions, Reference, 
 ghost use Rattle.fir_tree.specs.Reading.{IsRefused};
 ghost use Rattle.fir_expr.specs.Standing.{StandsIn, wanted};
 ghost use Rattle.fir_expr.specs.Parts.{IsSource, Answers, StartsWith};
-ghost use Rattle.fir_expr.specs.Operands.{IsDigits, HasDigits, HasNoDigits, HasOperands, HasSuffixes, HasStepped};
+ghost use Rattle.fir_expr.specs.Operands.{IsDigits, HasDigits, HasNoDigits, HasNoSuffix, HasOperands, HasSuffixes, HasStepped};
 
 use crate::literals::{Head, head_at, literal, numbers, open_call, take_suffix, wide_literal};
 use crate::take::{is_mark, part_at, place_of_part, take_field, take_mark, take_name, take_number};
@@ -168,17 +168,44 @@ fn suffixes(
     ensures ok { IfOk result (λ end. HasSuffixes text.now laid.now at names.old read.old read.new end names.new) }
     ensures err { IfErr result (λ fault. IsRefused (A Suffixes ∷ []) text.now laid.now at fault) }
 {
-    let part = part_at(laid, at)?;
-    let (suffix, next) = if is_mark(part, b'.') {
-        field(text, laid, names, at, brackets, count)?
-    } else if is_mark(part, b'[') {
-        index(alloc, text, laid, names, at, brackets, count)?
-    } else {
+    let Some((next, behind)) = suffix(alloc, text, laid, names, at, brackets, count)? else {
         return Ok(at);
     };
-    read.push(suffix)?;
-    let end = suffixes(alloc, text, laid, names, next, brackets, count + 1, read)?;
+    read.push(next)?;
+    let end = suffixes(alloc, text, laid, names, behind, brackets, count + 1, read)?;
     Ok(end)
+}
+
+/// Reads a suffix, where one stands, of a reference that has so many already. So many brackets are open before it.
+#[cycle(expr)]
+fn suffix(
+    alloc: Global,
+    text: &[u8],
+    laid: &[Laid],
+    names: &mut Names,
+    at: usize,
+    brackets: u32,
+    count: u32,
+) -> Result<Option<(Suffix, usize)>, ParseFault>
+    requires source { IsSource text.now laid.now }
+    requires room { wanted names.old laid.now at < 2 ^ 32 - 1 }
+    requires stands { StandsIn (pieces_of text.now laid.now) at brackets }
+    requires counted { last_suffixes (levels (take at (pieces_of text.now laid.now))).suffixes ≡ count }
+    ensures some { IfOk result (λ o. IfSome o (λ x. HasStepped text.now laid.now at names.old x.0 x.1 names.new)) }
+    ensures few { IfOk result (λ o. IfSome o (λ _. count < most)) }
+    ensures none { IfOk result (λ o. IfNone o (HasNoSuffix text.now laid.now at × (names.new ≡ names.old))) }
+    ensures err { IfErr result (λ fault. IsRefused (A Suffixes ∷ []) text.now laid.now at fault) }
+{
+    let part = part_at(laid, at)?;
+    if is_mark(part, b'.') {
+        let read = field(text, laid, names, at, brackets, count)?;
+        return Ok(Some(read));
+    }
+    if is_mark(part, b'[') {
+        let read = index(alloc, text, laid, names, at, brackets, count)?;
+        return Ok(Some(read));
+    }
+    Ok(None)
 }
 
 /// Reads a `.` and a field, where so many brackets are open and the reference has so many suffixes.

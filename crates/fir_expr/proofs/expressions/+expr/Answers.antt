@@ -5,7 +5,7 @@ use Rattle.fir_expr.proofs.Bracketed.{opener_call, stands_opened, stands_indexed
 use Rattle.fir_expr.proofs.Depth.{whole_stands}
 use Rattle.fir_expr.proofs.Passing.{room_step, room_name}
 use Rattle.fir_expr.proofs.Sources.{source_part}
-use Rattle.fir_expr.proofs.OperandsRead.{component_read, component_refused, operands_none, operands_no_operand, operands_refused, operands_more, mux_no_call, mux_no_operand, mux_not_closed, mux_read, operation_no_call, operation_no_operand, operation_no_number, operation_not_closed, operation_read, reference_no_name, name_begins, reference_refused, reference_read, suffixes_none, suffixes_more, index_no_mark, index_refused, index_not_closed, index_stepped}
+use Rattle.fir_expr.proofs.OperandsRead.{component_here, component_read, component_refused, operands_none, operands_no_operand, operands_refused, operands_more, mux_no_call, mux_no_operand, mux_not_closed, mux_read, operation_no_call, operation_no_operand, operation_no_number, operation_not_closed, operation_read, reference_no_name, name_begins, reference_refused, reference_read, suffixes_none, suffixes_more, index_no_mark, index_refused, index_not_closed, index_stepped}
 use Rattle.prim_ops.specs.Operations.{name_of}
 use Rattle.std.specs.Prelude.{codes}
 use Rattle.fir_expr.proofs.expressions.+expr.Goals as goal
@@ -18,10 +18,10 @@ expr-returns-in_err-head_at t c = let p = err_from_is_err_and c.from_residual.re
 pub expr-returns-in_err-component-in-Component : goal.expr-returns-in_err-component-in-Component
 expr-returns-in_err-component-in-Component t c =
     let p = err_from_is_err_and c.from_residual-in_err-component-in-Component.result c.from_residual-in_err-component-in-Component.ensures.1 in
-    rw (p.1, p.2) (component_refused c.in-Component.ensures.ok c.in_err-component-in-Component.ensures)
+    rw (p.1, p.2) (component_refused (component_here c.in_ok-head_at.field-0 c.in-Component.is c.in_ok-head_at.ensures.ok) c.in_err-component-in-Component.ensures)
 
 pub expr-returns-in_ok-component-in-Component : goal.expr-returns-in_ok-component-in-Component
-expr-returns-in_ok-component-in-Component t c = component_read c.in-Component.ensures.ok c.in_ok-component-in-Component.ensures
+expr-returns-in_ok-component-in-Component t c = component_read (component_here c.in_ok-head_at.field-0 c.in-Component.is c.in_ok-head_at.ensures.ok) c.in_ok-component-in-Component.ensures
 
 -- multiplexers
 
@@ -36,7 +36,7 @@ mux-operands-requires t c =
     let few = c.in_ok-call.ensures.few in
     let within = c.in_ok-call.ensures.within in
     let e = room_step c.args.names.now c.args.laid.now c.args.at c.in_ok-call.call taken.here in
-    (omega (arith, few, c.decreases), record { source = c.requires.source; room = omega (arith, e, c.requires.room); within = omega (arith, within); stands = stands_opened (opener_call (codes "mux")) taken c.requires.stands few })
+    (omega (arith, few, c.decreases), (c.requires.source, (omega (arith, e, c.requires.room), (omega (arith, within), stands_opened (opener_call (codes "mux")) taken c.requires.stands few))))
 
 pub mux-returns-in_err-close : goal.mux-returns-in_err-close
 mux-returns-in_err-close t c =
@@ -69,7 +69,7 @@ operation-operands-requires t c =
     let few = c.in_ok-call.ensures.few in
     let within = c.in_ok-call.ensures.within in
     let e = room_step c.args.names.now c.args.laid.now c.args.at c.in_ok-call.call taken.here in
-    (omega (arith, few, c.decreases), record { source = c.requires.source; room = omega (arith, e, c.requires.room); within = omega (arith, within); stands = stands_opened (opener_call (name_of c.args.prim)) taken c.requires.stands few })
+    (omega (arith, few, c.decreases), (c.requires.source, (omega (arith, e, c.requires.room), (omega (arith, within), stands_opened (opener_call (name_of c.args.prim)) taken c.requires.stands few))))
 
 pub operation-returns-in_err-behind : goal.operation-returns-in_err-behind
 operation-returns-in_err-behind t c =
@@ -85,13 +85,13 @@ pub operation-returns-in_err-parameters : goal.operation-returns-in_err-paramete
 operation-returns-in_err-parameters t c =
     let p = err_from_is_err_and c.from_residual-in_err-parameters.result c.from_residual-in_err-parameters.ensures.1 in
     rw (p.1, p.2) (operation_no_number c.args.prim c.requires.stands c.requires.head (ap (λ (x : ℕ × ℕ). x.0) c.arity-counts.ensures) (ap (λ (x : ℕ × ℕ). x.1) c.arity-counts.ensures)
-        (c.in_ok-call.ensures.taken (name_of c.args.prim) c.requires.head) c.in_ok-behind.ensures.ok c.new-read.ensures (c.in_err-parameters.ensures _))
+        (c.in_ok-call.ensures.taken (name_of c.args.prim) c.requires.head) c.in_ok-behind.ensures.ok c.new-read.ensures (c.in_err-parameters.ensures c.operands.new.names))
 
 pub operation-returns-in_err-take_mark : goal.operation-returns-in_err-take_mark
 operation-returns-in_err-take_mark t c =
     let p = err_from_is_err_and c.from_residual-in_err-take_mark.result c.from_residual-in_err-take_mark.ensures.1 in
     rw (p.1, p.2) (operation_not_closed c.args.prim c.requires.stands c.requires.head (ap (λ (x : ℕ × ℕ). x.0) c.arity-counts.ensures) (ap (λ (x : ℕ × ℕ). x.1) c.arity-counts.ensures)
-        (c.in_ok-call.ensures.taken (name_of c.args.prim) c.requires.head) c.in_ok-behind.ensures.ok c.new-read.ensures (c.in_ok-parameters.ensures _) c.in_err-take_mark.ensures.taken)
+        (c.in_ok-call.ensures.taken (name_of c.args.prim) c.requires.head) c.in_ok-behind.ensures.ok c.new-read.ensures (c.in_ok-parameters.ensures c.operands.new.names) c.in_err-take_mark.ensures.taken)
 
 pub operation-place_of_part-place-requires-clause-inside : goal.operation-place_of_part-place-requires-clause-inside
 operation-place_of_part-place-requires-clause-inside t c =
@@ -100,7 +100,7 @@ operation-place_of_part-place-requires-clause-inside t c =
 pub operation-returns : goal.operation-returns
 operation-returns t c = rw c.place_of_part-place.ensures
     (operation_read c.args.prim c.requires.stands c.requires.head (ap (λ (x : ℕ × ℕ). x.0) c.arity-counts.ensures) (ap (λ (x : ℕ × ℕ). x.1) c.arity-counts.ensures)
-        (c.in_ok-call.ensures.taken (name_of c.args.prim) c.requires.head) c.in_ok-behind.ensures.ok c.new-read.ensures (c.in_ok-parameters.ensures _) c.in_ok-take_mark.ensures.taken)
+        (c.in_ok-call.ensures.taken (name_of c.args.prim) c.requires.head) c.in_ok-behind.ensures.ok c.new-read.ensures (c.in_ok-parameters.ensures c.operands.new.names) c.in_ok-take_mark.ensures.taken)
 
 -- operands
 
@@ -125,12 +125,12 @@ operands-returns-clause-ok t c =
     operands_more c.in_ok-operand.ensures (c.args.count - 1) (omega (arith, c.if-count-eq0.false)) (rw c.in_ok-push.ensures.ok at c.in_ok-end.ensures.ok)
 
 pub operands-expr-requires : goal.operands-expr-requires
-operands-expr-requires t c = (omega (arith, c.decreases), record { source = c.requires.source; room = c.requires.room; stands = c.requires.stands })
+operands-expr-requires t c = (omega (arith, c.decreases), (c.requires.source, (c.requires.room, c.requires.stands)))
 
 pub operands-operands-requires : goal.operands-operands-requires
 operands-operands-requires t c =
     (omega (arith, c.if-count-eq0.false, c.decreases),
-    record { source = c.requires.source; room = omega (arith, c.in_ok-operand.ensures.room, c.requires.room); within = c.in_ok-operand.ensures.read.within; stands = whole_stands c.in_ok-operand.ensures.whole c.requires.stands })
+    (c.requires.source, (omega (arith, c.in_ok-operand.ensures.room, c.requires.room), (c.in_ok-operand.ensures.read.within, whole_stands c.in_ok-operand.ensures.whole c.requires.stands))))
 
 -- references
 
@@ -141,7 +141,7 @@ pub reference-suffixes-requires : goal.reference-suffixes-requires
 reference-suffixes-requires t c =
     let n = c.in_ok-name.ensures.ok in
     let e = room_name c.args.names.now c.take_name.new.names c.args.laid.now c.args.at n.token n.taken.here n.grows in
-    (omega (arith, c.decreases), record { source = c.requires.source; room = omega (arith, e, c.requires.room); stands = (name_begins n c.requires.stands).stands; counted = (name_begins n c.requires.stands).no_suffix })
+    (omega (arith, c.decreases), (c.requires.source, (omega (arith, e, c.requires.room), ((name_begins n c.requires.stands).stands, (name_begins n c.requires.stands).no_suffix))))
 
 pub reference-returns-in_err-end : goal.reference-returns-in_err-end
 reference-returns-in_err-end t c =
@@ -153,11 +153,27 @@ reference-returns t c = reference_read c.in_ok-name.ensures.ok c.requires.stands
 
 -- suffixes
 
-pub suffixes-returns-in_err-part-clause-err : goal.suffixes-returns-in_err-part-clause-err
-suffixes-returns-in_err-part-clause-err t c = let p = err_from_is_err_and c.from_residual.result c.from_residual.ensures.1 in rw (p.1, p.2, c.in_err-part.ensures.err) no_memory
-
 pub suffixes-returns-in_err-push-clause-err : goal.suffixes-returns-in_err-push-clause-err
 suffixes-returns-in_err-push-clause-err t c = let p = err_from_is_err_and c.from_residual-in_err-push.result c.from_residual-in_err-push.ensures.1 in rw (p.1, p.2) no_memory
+
+pub suffixes-suffixes-requires : goal.suffixes-suffixes-requires
+suffixes-suffixes-requires t c =
+    let step = rw c.in-Some.is at c.in_ok-next.ensures.some in
+    let few = rw c.in-Some.is at c.in_ok-next.ensures.few in
+    (omega (arith, few, c.decreases), (c.requires.source, (omega (arith, step.room, c.requires.room), (step.stands c.requires.stands, omega (arith, step.counted, c.requires.counted)))))
+
+pub suffixes-returns-clause-ok : goal.suffixes-returns-clause-ok
+suffixes-returns-clause-ok t c =
+    let step = rw c.in-Some.is at c.in_ok-next.ensures.some in
+    suffixes_more step (rw c.in_ok-push.ensures.ok at c.in_ok-end.ensures.ok)
+
+pub suffixes-returns-in_default-clause-ok : goal.suffixes-returns-in_default-clause-ok
+suffixes-returns-in_default-clause-ok t c = c.in_default.zzz
+
+-- one suffix
+
+pub suffix-returns-in_err-part-clause-err : goal.suffix-returns-in_err-part-clause-err
+suffix-returns-in_err-part-clause-err t c = let p = err_from_is_err_and c.from_residual.result c.from_residual.ensures.1 in rw (p.1, p.2, c.in_err-part.ensures.err) no_memory
 
 -- indices
 
@@ -173,7 +189,7 @@ dynamic-expr-requires t c =
     let taken = c.in_ok-mark.ensures.taken in
     let few = c.in_ok-mark.ensures.few_brackets refl in
     let e = room_step c.args.names.now c.args.laid.now c.args.at c.in_ok-mark.mark taken.here in
-    (omega (arith, few, c.decreases), record { source = c.requires.source; room = omega (arith, e, c.requires.room); stands = stands_indexed taken c.requires.stands few })
+    (omega (arith, few, c.decreases), (c.requires.source, (omega (arith, e, c.requires.room), stands_indexed taken c.requires.stands few)))
 
 pub dynamic-returns-in_err-index-clause-err : goal.dynamic-returns-in_err-index-clause-err
 dynamic-returns-in_err-index-clause-err t c =

@@ -26,3 +26,6 @@ decreases-index l = 1000000000000 * (128 - l.brackets) + 200
 
 abbrev pub decreases-dynamic : goal.decreases-dynamic
 decreases-dynamic l = 1000000000000 * (128 - l.brackets) + 100
+
+abbrev pub decreases-suffix : goal.decreases-suffix
+decreases-suffix l = 1000000000000 * (128 - l.brackets) + 250
