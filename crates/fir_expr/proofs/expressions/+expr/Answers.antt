@@ -168,7 +168,7 @@ suffixes-returns-clause-ok t c =
     suffixes_more step (rw c.in_ok-push.ensures.ok at c.in_ok-end.ensures.ok)
 
 pub suffixes-returns-in_default-clause-ok : goal.suffixes-returns-in_default-clause-ok
-suffixes-returns-in_default-clause-ok t c = c.in_default.zzz
+suffixes-returns-in_default-clause-ok t c = let none = rw c.in_default.is at c.in_ok-next.ensures.none in suffixes_none c.args.read.now c.requires.stands none.0 none.1
 
 -- one suffix
 
