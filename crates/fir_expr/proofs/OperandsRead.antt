@@ -1,5 +1,5 @@
 -- The readers of operations and references, case by case.
-use Rattle.std.proofs.Common.{◌≡◌, ℕ, suc, ◌+◌, ◌<◌, ◌≤◌, false, List, [], ◌∷◌, ◌++◌, codes, length, take, slice_get, Some, refl, ◌∙◌, ap, arith, subst, append_assoc}
+use Rattle.std.proofs.Common.{◌≡◌, ℕ, suc, ◌+◌, ◌<◌, ◌≤◌, false, List, [], ◌∷◌, ◌++◌, codes, length, take, refl, ◌∙◌, ap, arith, subst, append_assoc}
 use Rattle.std.proofs.lemmas.Grind.{common_steps}
 use Rattle.std.proofs.lemmas.Option.{slice_get_within}
 use Rattle.place_text.specs.declared.place.Place.{Place}
@@ -24,10 +24,10 @@ use Rattle.fir_expr.specs.Parts.{IsTaken, IsNotTaken, IsNumberAt, IsNameAt, HasP
 use Rattle.fir_expr.specs.declared.literals.Head.{Head}
 use Rattle.fir_expr.specs.declared.literals.Head.TheVariants as head
 use Rattle.fir_expr.specs.Operands.{HasDigits, HasNoDigits, HasNoSuffix, HasOperands, HasSuffixes, HasStepped}
-use Rattle.fir_expr.proofs.Composition.{Enters, piece_at, read_nothing, read_then, read_case, refused_first, refused_behind, refused_case}
+use Rattle.fir_expr.proofs.Composition.{piece_at, read_nothing, read_then, read_case, refused_first, refused_behind, refused_case}
 use Rattle.fir_expr.proofs.Depth.{levels_next, whole_none, whole_stands, whole_then}
 use Rattle.fir_expr.proofs.Passing.{mark_past, passed_then, passed_case, passed_name, read_mark, read_placed, read_placed_magnitude, read_name_at, room_step, room_name, whole_texts, begins_texts}
-use Rattle.fir_expr.proofs.Bracketed.{opener_call, stands_opened, whole_closed, stands_indexed, whole_index, suffixes_index}
+use Rattle.fir_expr.proofs.Bracketed.{opener_call, whole_closed, stands_indexed, whole_index, suffixes_index}
 use Rattle.fir_expr.proofs.OperandsChosen.{enters_none, enters_more, enters_component, enters_mux, enters_operation, enters_no_suffix, enters_field, enters_element, enters_index}
 
 append_nothing : {X : Type 0} (xs : List X) → xs ≡ xs ++ []

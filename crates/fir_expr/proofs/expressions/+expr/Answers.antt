@@ -1,4 +1,4 @@
-use Rattle.std.proofs.Common.{rules, ◌≡◌, ℕ, suc, ◌+◌, ◌-◌, ◌*◌, ◌<◌, ◌≤◌, refl, ap, arith}
+use Rattle.std.proofs.Common.{ℕ, ◌+◌, ◌-◌, refl, ap, arith}
 use Rattle.std.proofs.lemmas.Result.{err_from_is_err_and}
 use Rattle.fir_tree.specs.Reading.{no_memory}
 use Rattle.fir_expr.proofs.Bracketed.{opener_call, stands_opened, stands_indexed}

@@ -1,4 +1,4 @@
-use Rattle.std.proofs.Common.{arith, ◌+◌, ◌≤◌}
+use Rattle.std.proofs.Common.{arith}
 use Rattle.std.proofs.lemmas.Result.{err_from_is_err_and}
 use Rattle.fir_expr.proofs.Passing.{room_step}
 use Rattle.fir_expr.proofs.OperandsRead.{field_no_mark, field_no_field, field_stepped}
