@@ -4,3 +4,4 @@ pub mod TypeParts
 pub mod LiteralParts
 pub mod LiteralHeads
 pub mod LiteralIntegers
+pub mod Operands
