@@ -157,7 +157,7 @@ module _ (text : List ℕ) (list : List Laid) (i : ℕ) where
     pub bare_goes : (q : Laid) → token.kind ≡ kind.Word → slice_get list (i + 1) ≡ Some q → ¬ (Takes (The_mark 60) (piece_of text q)) → GoesInto a_reference text list i
     bare_goes q e g none = record {
       into = (enters_by_two (pieces_of text list) i a_reference (A_token kind.Word bytes) (piece_of text q) (token_here text list i token kind.Word bytes h e b) (piece_at text list (i + 1) q g)
-        (λ rest. goes_into _ a_component (takes_on tt cut)) (λ ps. bare_reference bytes (piece_of text q) ps none)).into;
+          (λ rest. goes_into _ a_component (takes_on tt cut)) (λ ps. bare_reference bytes (piece_of text q) ps none)).into;
     }
 
     pub other_kind_goes : ¬ (token.kind ≡ kind.Call) → ¬ (token.kind ≡ kind.Word) → GoesInto a_reference text list i

@@ -64,7 +64,7 @@ flat_suffix : (at : Levels) (brackets suffixes n : ℕ) (bytes : List ℕ) → i
 flat_suffix at brackets suffixes n bytes h counted last below inside = ⊎_elim
     (λ e. (let same : n ≡ 46 = eqb-true n 46 e in rw same (dot_deep at suffixes bytes last ∙ few suffixes below)))
     (λ e. (let same : n ≡ 91 = eqb-true n 91 e in
-      rw same (square_deep at brackets suffixes bytes counted last ∙ either (nat_le most brackets) (nat_le most suffixes) (few brackets (inside same)) (few suffixes below))))
+    rw same (square_deep at brackets suffixes bytes counted last ∙ either (nat_le most brackets) (nat_le most suffixes) (few brackets (inside same)) (few suffixes below))))
     (or_cases (n == 46) (n == 91) h)
 
 many_suffixes : (at : Levels) (brackets suffixes n : ℕ) (bytes : List ℕ) → is_suffix_mark n ≡ true → length at.suffixes ≡ brackets + 1 → last_suffixes at.suffixes ≡ suffixes
@@ -72,7 +72,7 @@ many_suffixes : (at : Levels) (brackets suffixes n : ℕ) (bytes : List ℕ) →
 many_suffixes at brackets suffixes n bytes h counted last many = ⊎_elim
     (λ e. (let same : n ≡ 46 = eqb-true n 46 e in rw same (dot_deep at suffixes bytes last ∙ le-leb most suffixes many)))
     (λ e. (let same : n ≡ 91 = eqb-true n 91 e in
-      rw same (square_deep at brackets suffixes bytes counted last ∙ right_of (nat_le most brackets) (nat_le most suffixes) (le-leb most suffixes many))))
+    rw same (square_deep at brackets suffixes bytes counted last ∙ right_of (nat_le most brackets) (nat_le most suffixes) (le-leb most suffixes many))))
     (or_cases (n == 46) (n == 91) h)
 
 many_brackets : (at : Levels) (brackets suffixes n : ℕ) (bytes : List ℕ) → n ≡ 91 → length at.suffixes ≡ brackets + 1 → last_suffixes at.suffixes ≡ suffixes
@@ -99,10 +99,10 @@ module _ (m brackets suffixes : ℕ) (text : List ℕ) (list : List Laid) (i : �
       → IsTrue (is_suffix_mark m) → most ≤ suffixes → IsNotTaken (The_mark m) text list i (TooDeep (place text (start_of l)))
   suffix_many s last h takes mark many =
       too_deep (The_mark m) text list i l h takes (suffix_piece (levels (take i (pieces_of text list))) m (piece_of text l) true takes
-        (λ bytes. many_suffixes (levels (take i (pieces_of text list))) brackets suffixes m bytes mark s.counted last many))
+      (λ bytes. many_suffixes (levels (take i (pieces_of text list))) brackets suffixes m bytes mark s.counted last many))
 
   pub suffix_inner : StandsIn (pieces_of text list) i brackets → last_suffixes (levels (take i (pieces_of text list))).suffixes ≡ suffixes → slice_get list i ≡ Some l → Takes (The_mark m) (piece_of text l)
       → m ≡ 91 → most ≤ brackets → IsNotTaken (The_mark m) text list i (TooDeep (place text (start_of l)))
   suffix_inner s last h takes square many =
       too_deep (The_mark m) text list i l h takes (suffix_piece (levels (take i (pieces_of text list))) m (piece_of text l) true takes
-        (λ bytes. many_brackets (levels (take i (pieces_of text list))) brackets suffixes m bytes square s.counted last many))
+      (λ bytes. many_brackets (levels (take i (pieces_of text list))) brackets suffixes m bytes square s.counted last many))

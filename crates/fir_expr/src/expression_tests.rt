@@ -33,12 +33,7 @@ fn expression_in(
     }
 }
 
-fn is_operation(
-    rt: &impl Abort,
-    alloc: Global,
-    text: &[u8],
-    wanted: Prim,
-) -> Result<(), Fail> {
+fn is_operation(rt: &impl Abort, alloc: Global, text: &[u8], wanted: Prim) -> Result<(), Fail> {
     let (expr, whole) = expression_in(rt, alloc, text)??;
     assert!(rt; whole);
     assert_eq!(rt; expr.place, Place { line: 1, column: 1 });
@@ -102,7 +97,15 @@ fn is_literal(
 ) -> Result<(), Fail> {
     let (expr, whole) = expression_in(rt, alloc, text)??;
     assert!(rt; whole);
-    if let Form::Literal(kind, width, Number { negative, magnitude }) = &expr.form {
+    if let Form::Literal(
+        kind,
+        width,
+        Number {
+            negative,
+            magnitude,
+        },
+    ) = &expr.form
+    {
         assert_eq!(rt; (*kind, *width, *negative, *magnitude), wanted);
     } else {
         assert!(rt; false);
@@ -132,12 +135,25 @@ fn references_have_their_suffixes_in_order(rt: HostRuntime) -> Result<(), Fail> 
     assert!(rt; whole);
     if let Form::Ref(name, suffixes) = &expr.form {
         assert_eq!(rt; name.id, 0);
-        if let [Suffix::Field(first), Suffix::At(bracket, number, element), Suffix::Index(_, index), Suffix::Field(last)] =
-            suffixes.as_slice()
+        if let [
+            Suffix::Field(first),
+            Suffix::At(bracket, number, element),
+            Suffix::Index(_, index),
+            Suffix::Field(last),
+        ] = suffixes.as_slice()
         {
             assert_eq!(rt; (first.id, last.id), (1, 4));
-            assert_eq!(rt; (*bracket, *number, *element), (Place { line: 1, column: 4 }, Place { line: 1, column: 5 }, 1));
-            assert!(rt; matches!(&index.form, Form::Ref(inner, more) if inner.id == 2 && more.len() == 1));
+            assert_eq!(rt;
+                (*bracket, *number, *element),
+                (
+                    Place { line: 1, column: 4 },
+                    Place { line: 1, column: 5 },
+                    1
+                )
+            );
+            assert!(rt;
+                matches!(&index.form, Form::Ref(inner, more) if inner.id == 2 && more.len() == 1)
+            );
         } else {
             assert_eq!(rt; suffixes.len(), 4);
         }
@@ -162,17 +178,14 @@ fn a_reference_is_no_literal(rt: HostRuntime) -> Result<(), Fail> {
     let laid = lay_out(rt.alloc(), text, &tokens)?;
     let mut reader = Reader::new(rt.alloc(), text, &laid);
     let expr = read_reference(rt.alloc(), &mut reader)?;
-    assert!(rt; matches!(&expr.form, Form::Ref(name, suffixes) if name.id == 0 && suffixes.is_empty()));
+    assert!(rt;
+        matches!(&expr.form, Form::Ref(name, suffixes) if name.id == 0 && suffixes.is_empty())
+    );
     assert_eq!(rt; reader.at, 1);
     Ok(())
 }
 
-fn has_fault(
-    rt: &impl Abort,
-    alloc: Global,
-    text: &[u8],
-    wanted: ParseFault,
-) -> Result<(), Fail> {
+fn has_fault(rt: &impl Abort, alloc: Global, text: &[u8], wanted: ParseFault) -> Result<(), Fail> {
     match (expression_in(rt, alloc, text)?, wanted) {
         (Err(ParseFault::BadSyntax(place)), ParseFault::BadSyntax(there))
         | (Err(ParseFault::Unsupported(place)), ParseFault::Unsupported(there))
@@ -187,9 +200,24 @@ fn has_fault(
 #[test]
 fn the_first_bad_token_of_an_expression_is_named(rt: HostRuntime) -> Result<(), Fail> {
     let at = |column| Place { line: 1, column };
-    has_fault(&rt, rt.alloc(), b"bits(x, 3\n", ParseFault::BadSyntax(at(10)))?;
-    has_fault(&rt, rt.alloc(), b"add(x, y, z)\n", ParseFault::BadSyntax(at(11)))?;
-    has_fault(&rt, rt.alloc(), b"validif(c, x)\n", ParseFault::Unsupported(at(1)))?;
+    has_fault(
+        &rt,
+        rt.alloc(),
+        b"bits(x, 3\n",
+        ParseFault::BadSyntax(at(10)),
+    )?;
+    has_fault(
+        &rt,
+        rt.alloc(),
+        b"add(x, y, z)\n",
+        ParseFault::BadSyntax(at(11)),
+    )?;
+    has_fault(
+        &rt,
+        rt.alloc(),
+        b"validif(c, x)\n",
+        ParseFault::Unsupported(at(1)),
+    )?;
     has_fault(&rt, rt.alloc(), b"x.[1]\n", ParseFault::BadSyntax(at(3)))
 }
 
@@ -213,5 +241,13 @@ fn a_hundred_and_twenty_eight_brackets_may_be_open(rt: HostRuntime) -> Result<()
     let (_expr, whole) = expression_in(&rt, rt.alloc(), &text)??;
     assert!(rt; whole);
     let text = nested(rt.alloc(), 129)?;
-    has_fault(&rt, rt.alloc(), &text, ParseFault::TooDeep(Place { line: 1, column: 513 }))
+    has_fault(
+        &rt,
+        rt.alloc(),
+        &text,
+        ParseFault::TooDeep(Place {
+            line: 1,
+            column: 513,
+        }),
+    )
 }

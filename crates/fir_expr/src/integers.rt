@@ -44,7 +44,10 @@ pub(crate) fn integer(text: &[u8], laid: &[Laid], at: usize) -> Result<(Number, 
 fn signed(negative: bool, magnitude: u128) -> Number
     ensures { result ≡ record { negative = negative; magnitude = magnitude } }
 {
-    Number { negative, magnitude }
+    Number {
+        negative,
+        magnitude,
+    }
 }
 
 /// Whether a part is a string.

@@ -37,8 +37,8 @@ pub returns-in_err-_place-2 : goal.returns-in_err-_place-2
 returns-in_err-_place-2 c =
     let p = err_from_is_err_and c.from_residual-in_err-_place-2.result c.from_residual-in_err-_place-2.ensures.1 in
     λ names. rw (p.1, p.2) (plain_no_number c.args.text.now c.args.laid.now c.args.at c.requires.stands.0 c.requires.stands.1 c.in_ok-part.part c.in_ok-part.ensures.ok
-        (λ t. let e = (c.is_mark.ensures c.args.text.now).1 t in let n = c.if-is_mark.false in cc)
-        (λ t. let e = (c.is_string.ensures c.args.text.now).1 t in let n = c.if-is_string.false in cc) c.in_err-_place-2.ensures.err)
+    (λ t. let e = (c.is_mark.ensures c.args.text.now).1 t in let n = c.if-is_mark.false in cc)
+    (λ t. let e = (c.is_string.ensures c.args.text.now).1 t in let n = c.if-is_string.false in cc) c.in_err-_place-2.ensures.err)
 
 pub returns : goal.returns
 returns c = λ names. rw c.signed-2.ensures (plain_read c.args.text.now c.args.laid.now c.args.at c.requires.stands.0 c.requires.stands.1 c.in_ok-part.part c.in_ok-part.ensures.ok

@@ -16,12 +16,12 @@ integer-requires-clause-stands c = (c.args.brackets + 1, stands_opened (opener_c
 pub returns-in_err-number : goal.returns-in_err-number
 returns-in_err-number c = let p = err_from_is_err_and c.from_residual-in_err-number.result c.from_residual-in_err-number.ensures.1 in
     λ names. rw (p.1, p.2) (literal_no_integer c.args.text.now c.args.laid.now c.args.at c.args.brackets c.args.kind c.requires.stands c.requires.head c.in_ok-call.call
-        (c.in_ok-call.ensures.taken (kind_name c.args.kind) c.requires.head) (c.in_err-number.ensures names))
+    (c.in_ok-call.ensures.taken (kind_name c.args.kind) c.requires.head) (c.in_err-number.ensures names))
 
 pub returns-in_err-_bracket : goal.returns-in_err-_bracket
 returns-in_err-_bracket c = let p = err_from_is_err_and c.from_residual-in_err-_bracket.result c.from_residual-in_err-_bracket.ensures.1 in
     λ names. rw (p.1, p.2) (literal_not_closed c.args.text.now c.args.laid.now c.args.at c.args.brackets c.args.kind c.requires.stands c.requires.head c.in_ok-call.call
-        (c.in_ok-call.ensures.taken (kind_name c.args.kind) c.requires.head) c.in_ok-number.number c.in_ok-number.close c.in_ok-number.ensures c.in_err-_bracket.ensures.taken)
+    (c.in_ok-call.ensures.taken (kind_name c.args.kind) c.requires.head) c.in_ok-number.number c.in_ok-number.close c.in_ok-number.ensures c.in_err-_bracket.ensures.taken)
 
 pub place_of_part-requires-clause-inside : goal.place_of_part-requires-clause-inside
 place_of_part-requires-clause-inside c = source_part c.args.text.now c.args.laid.now c.args.at c.in_ok-call.call c.requires.source (c.in_ok-call.ensures.taken (kind_name c.args.kind) c.requires.head).here
