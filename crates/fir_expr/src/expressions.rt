@@ -68,7 +68,13 @@ fn mux(
     let close = operands(alloc, text, laid, names, inside, brackets + 1, 3, &mut read)?;
     take_mark(text, laid, close, b')')?;
     let place = place_of_part(text, call);
-    Ok((Expr { place, form: Form::Mux(read) }, close + 1))
+    Ok((
+        Expr {
+            place,
+            form: Form::Mux(read),
+        },
+        close + 1,
+    ))
 }
 
 /// Reads an operation with its `(`, its operands, its parameters and `)`. So many brackets are open before it.
@@ -92,11 +98,26 @@ fn operation(
     let counts = arity(prim);
     let mut read = List::new(alloc);
     let inside = at + 1;
-    let behind = operands(alloc, text, laid, names, inside, brackets + 1, counts.0, &mut read)?;
+    let behind = operands(
+        alloc,
+        text,
+        laid,
+        names,
+        inside,
+        brackets + 1,
+        counts.0,
+        &mut read,
+    )?;
     let (parameters, close) = numbers(alloc, text, laid, behind, counts.1)?;
     take_mark(text, laid, close, b')')?;
     let place = place_of_part(text, call);
-    Ok((Expr { place, form: Form::Prim(prim, read, parameters) }, close + 1))
+    Ok((
+        Expr {
+            place,
+            form: Form::Prim(prim, read, parameters),
+        },
+        close + 1,
+    ))
 }
 
 /// Reads so many expressions onto a list. So many brackets are open before them.
@@ -146,7 +167,13 @@ pub fn reference(
     let mut read = List::new(alloc);
     let behind = at + 1;
     let end = suffixes(alloc, text, laid, names, behind, brackets, 0, &mut read)?;
-    Ok((Expr { place: name.place, form: Form::Ref(name, read) }, end))
+    Ok((
+        Expr {
+            place: name.place,
+            form: Form::Ref(name, read),
+        },
+        end,
+    ))
 }
 
 /// Reads the suffixes of a reference that has so many already onto a list. So many brackets are open before them.
@@ -285,7 +312,10 @@ fn element(
     let (place, number) = take_number(text, laid, inside)?;
     let close = inside + 1;
     take_mark(text, laid, close, b']')?;
-    Ok((Suffix::At(place_of_part(text, mark), place, number), close + 1))
+    Ok((
+        Suffix::At(place_of_part(text, mark), place, number),
+        close + 1,
+    ))
 }
 
 /// Reads a `[`, an expression and a `]`, where so many brackets are open and the reference has so many suffixes.
@@ -320,5 +350,11 @@ fn dynamic(
 fn is_digits(part: Laid) -> bool
     ensures { (text : List ℕ) → IsTrue result ↔ IsDigits (piece_of text part) }
 {
-    matches!(part, Laid::Item(Token { kind: TokenKind::Digits, .. }))
+    matches!(
+        part,
+        Laid::Item(Token {
+            kind: TokenKind::Digits,
+            ..
+        })
+    )
 }

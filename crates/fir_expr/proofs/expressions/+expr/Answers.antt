@@ -77,21 +77,23 @@ operation-returns-in_err-behind t c =
     rw (p.1, p.2) (operation_no_operand c.args.prim c.requires.stands c.requires.head (ap (λ (x : ℕ × ℕ). x.0) c.arity-counts.ensures) refl (c.in_ok-call.ensures.taken (name_of c.args.prim) c.requires.head) c.in_err-behind.ensures.err)
 
 pub operation-numbers-requires-clause-stands : goal.operation-numbers-requires-clause-stands
-operation-numbers-requires-clause-stands t c =
-    (c.args.brackets + 1, whole_stands c.in_ok-behind.ensures.ok.passed.whole
-        (stands_opened (opener_call (name_of c.args.prim)) (c.in_ok-call.ensures.taken (name_of c.args.prim) c.requires.head) c.requires.stands c.in_ok-call.ensures.few))
+operation-numbers-requires-clause-stands t c = (
+  c.args.brackets + 1,
+  whole_stands c.in_ok-behind.ensures.ok.passed.whole
+      (stands_opened (opener_call (name_of c.args.prim)) (c.in_ok-call.ensures.taken (name_of c.args.prim) c.requires.head) c.requires.stands c.in_ok-call.ensures.few),
+)
 
 pub operation-returns-in_err-parameters : goal.operation-returns-in_err-parameters
 operation-returns-in_err-parameters t c =
     let p = err_from_is_err_and c.from_residual-in_err-parameters.result c.from_residual-in_err-parameters.ensures.1 in
     rw (p.1, p.2) (operation_no_number c.args.prim c.requires.stands c.requires.head (ap (λ (x : ℕ × ℕ). x.0) c.arity-counts.ensures) (ap (λ (x : ℕ × ℕ). x.1) c.arity-counts.ensures)
-        (c.in_ok-call.ensures.taken (name_of c.args.prim) c.requires.head) c.in_ok-behind.ensures.ok c.new-read.ensures (c.in_err-parameters.ensures c.operands.new.names))
+    (c.in_ok-call.ensures.taken (name_of c.args.prim) c.requires.head) c.in_ok-behind.ensures.ok c.new-read.ensures (c.in_err-parameters.ensures c.operands.new.names))
 
 pub operation-returns-in_err-take_mark : goal.operation-returns-in_err-take_mark
 operation-returns-in_err-take_mark t c =
     let p = err_from_is_err_and c.from_residual-in_err-take_mark.result c.from_residual-in_err-take_mark.ensures.1 in
     rw (p.1, p.2) (operation_not_closed c.args.prim c.requires.stands c.requires.head (ap (λ (x : ℕ × ℕ). x.0) c.arity-counts.ensures) (ap (λ (x : ℕ × ℕ). x.1) c.arity-counts.ensures)
-        (c.in_ok-call.ensures.taken (name_of c.args.prim) c.requires.head) c.in_ok-behind.ensures.ok c.new-read.ensures (c.in_ok-parameters.ensures c.operands.new.names) c.in_err-take_mark.ensures.taken)
+    (c.in_ok-call.ensures.taken (name_of c.args.prim) c.requires.head) c.in_ok-behind.ensures.ok c.new-read.ensures (c.in_ok-parameters.ensures c.operands.new.names) c.in_err-take_mark.ensures.taken)
 
 pub operation-place_of_part-place-requires-clause-inside : goal.operation-place_of_part-place-requires-clause-inside
 operation-place_of_part-place-requires-clause-inside t c =
@@ -100,7 +102,7 @@ operation-place_of_part-place-requires-clause-inside t c =
 pub operation-returns : goal.operation-returns
 operation-returns t c = rw c.place_of_part-place.ensures
     (operation_read c.args.prim c.requires.stands c.requires.head (ap (λ (x : ℕ × ℕ). x.0) c.arity-counts.ensures) (ap (λ (x : ℕ × ℕ). x.1) c.arity-counts.ensures)
-        (c.in_ok-call.ensures.taken (name_of c.args.prim) c.requires.head) c.in_ok-behind.ensures.ok c.new-read.ensures (c.in_ok-parameters.ensures c.operands.new.names) c.in_ok-take_mark.ensures.taken)
+    (c.in_ok-call.ensures.taken (name_of c.args.prim) c.requires.head) c.in_ok-behind.ensures.ok c.new-read.ensures (c.in_ok-parameters.ensures c.operands.new.names) c.in_ok-take_mark.ensures.taken)
 
 -- operands
 
@@ -128,9 +130,10 @@ pub operands-expr-requires : goal.operands-expr-requires
 operands-expr-requires t c = (omega (arith, c.decreases), (c.requires.source, (c.requires.room, c.requires.stands)))
 
 pub operands-operands-requires : goal.operands-operands-requires
-operands-operands-requires t c =
-    (omega (arith, c.if-count-eq0.false, c.decreases),
-    (c.requires.source, (omega (arith, c.in_ok-operand.ensures.room, c.requires.room), (c.in_ok-operand.ensures.read.within, whole_stands c.in_ok-operand.ensures.whole c.requires.stands))))
+operands-operands-requires t c = (
+  omega (arith, c.if-count-eq0.false, c.decreases),
+  (c.requires.source, (omega (arith, c.in_ok-operand.ensures.room, c.requires.room), (c.in_ok-operand.ensures.read.within, whole_stands c.in_ok-operand.ensures.whole c.requires.stands))),
+)
 
 -- references
 
