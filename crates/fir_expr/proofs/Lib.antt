@@ -1,3 +1,5 @@
+pub mod OperandsChosen
+pub mod OperandsRead
 pub mod Composition
 pub mod Depth
 pub mod Sources
@@ -7,5 +9,3 @@ pub mod Passing
 pub mod Choices
 pub mod TypeCases
 pub mod Bracketed
-pub mod OperandsChosen
-pub mod OperandsRead

@@ -1,3 +1,3 @@
+pub mod Operands
 pub mod Standing
 pub mod Parts
-pub mod Operands
