@@ -1,3 +1,5 @@
+pub mod OperandsChosen
+pub mod OperandsRead
 pub mod Composition
 pub mod Depth
 pub mod Sources

@@ -1,3 +1,4 @@
+pub mod Operands
 pub mod Standing
 pub mod Parts
 pub mod TypeParts
