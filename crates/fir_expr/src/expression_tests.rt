@@ -171,17 +171,24 @@ fn a_multiplexer_has_three_operands(rt: HostRuntime) -> Result<(), Fail> {
     Ok(())
 }
 
+/// The reference that a text begins with, and how many parts of the laid list it takes.
+fn reference_in(rt: &impl Abort, alloc: Global, text: &[u8]) -> Result<(Expr, usize), Fail> {
+    assert!(rt; text.len() < 1000);
+    let tokens = lex(alloc, text)?;
+    assert!(rt; tokens.len() < 1000);
+    let laid = lay_out(alloc, text, &tokens)?;
+    let mut reader = Reader::new(alloc, text, &laid);
+    let expr = read_reference(alloc, &mut reader)?;
+    Ok((expr, reader.at))
+}
+
 #[test]
 fn a_reference_is_no_literal(rt: HostRuntime) -> Result<(), Fail> {
-    let text = b"UInt<1>(0)\n";
-    let tokens = lex(rt.alloc(), text)?;
-    let laid = lay_out(rt.alloc(), text, &tokens)?;
-    let mut reader = Reader::new(rt.alloc(), text, &laid);
-    let expr = read_reference(rt.alloc(), &mut reader)?;
+    let (expr, taken) = reference_in(&rt, rt.alloc(), b"UInt<1>(0)\n")?;
     assert!(rt;
         matches!(&expr.form, Form::Ref(name, suffixes) if name.id == 0 && suffixes.is_empty())
     );
-    assert_eq!(rt; reader.at, 1);
+    assert_eq!(rt; taken, 1);
     Ok(())
 }
 
