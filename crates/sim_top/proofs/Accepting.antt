@@ -159,6 +159,6 @@ misnamed_text text circuit given laid found named fault same short o spelled sha
     let g = placed f.kind' f.place f.is in
     let h : naming_fault f.kind' f.place ≡ fault = same_named (naming_fault f.kind' f.place) fault (sym g ∙ same_error named (Named fault) e) in
     subst (IsRefusedText text) h (has_fault text (naming_fault f.kind' f.place) short
-        (misnamed_only text circuit laid f.kind' f.place o (subst (λ x. IsCircuit text x circuit) same spelled) (subst (Shallow text) same shallow) f.first
-        (subst (Refuses circuit) f.is refuses))))
+    (misnamed_only text circuit laid f.kind' f.place o (subst (λ x. IsCircuit text x circuit) same spelled) (subst (Shallow text) same shallow) f.first
+    (subst (Refuses circuit) f.is refuses))))
     answered
