@@ -34,6 +34,12 @@ def bad_prefix(program, text):
     return None
 
 
+def tower(depth, below):
+    """A circuit of modules over one another, each with two instances of the next one and the last one as said."""
+    modules = [f"  module M{k} :\n    inst left of M{k + 1}\n    inst right of M{k + 1}\n" for k in range(depth - 1)]
+    return "FIRRTL version 3.0.0\ncircuit M0 :\n" + "".join(modules) + f"  module M{depth - 1} :\n    {below}\n"
+
+
 def main():
     program, folder = sys.argv[1], Path(sys.argv[2])
     cases = [json.loads(line) for line in (folder / "cases.jsonl").read_text().splitlines()]
@@ -46,6 +52,12 @@ def main():
     for path in sorted([*examples.glob("*.fir"), *examples.glob("*.txt")]):
         case = {"words": ["check"], "stdin": path.read_text("latin-1"), "status": 0, "stdout": "ok\n"}
         faults.append((f"check accepts {path.name}", fault_of(program, case)))
+    for name, below, status, line in (
+        ("32 modules over one another have no fault", "skip", 0, "ok\n"),
+        ("the last of 32 modules leads back to the first", "inst back of M0", 2, "circuit InstanceLoop 4:18\n"),
+    ):
+        case = {"words": ["check"], "stdin": tower(32, below), "status": status, "stdout": line}
+        faults.append((name, fault_of(program, case)))
     too_long = {"words": ["check"], "stdin": " " * 5_242_881, "status": 2, "stdout": "circuit TooLong 1:1\n"}
     faults.append(("a text over 5,242,880 bytes is too long", fault_of(program, too_long)))
     failed = [(name, fault) for name, fault in faults if fault]

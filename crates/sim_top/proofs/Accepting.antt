@@ -1,6 +1,8 @@
--- What the grammar says of a laid list settles what the text is: accepted with one circuit, or refused with one fault.
-use Rattle.std.proofs.Common.{◌≡◌, ℕ, ◌≤◌, List, ◌⊎◌, ⊎_elim, length, sym, ap, ◌∙◌, subst}
-use Rattle.std.specs.Prelude.{Some, None}
+-- What the grammar says of a laid list, and the names of its circuit, settle what the text is: accepted with one circuit, or
+-- refused with one fault.
+use Rattle.std.proofs.Common.{◌≡◌, ℕ, ◌≤◌, List, ◌⊎◌, ⊎_elim, length, refl, sym, ap, ◌∙◌, subst}
+use Rattle.std.specs.Prelude.{Option, Some, None, Result, Err}
+use Rattle.place_text.specs.declared.place.Place.{Place}
 use Rattle.fir_layout.specs.declared.laid.Laid.{Laid}
 use Rattle.fir_layout.specs.Pieces.{pieces_of}
 use Rattle.fir_tree.specs.Grammar.{IsCircuit}
@@ -10,61 +12,153 @@ use Rattle.fir_tree.specs.declared.fault.ParseFault.{ParseFault}
 use Rattle.fir_tree.specs.declared.fault.ParseFault.TheVariants.{NoMemory}
 use Rattle.fir_tree.proofs.Unique.{one_circuit}
 use Rattle.fir_tree.proofs.OneFault.{one_fault, accepted}
+use Rattle.fir_names.specs.Faults.{IsFault as IsNameFault, IsFirst, IsFirstAnswer, answer}
+use Rattle.fir_names.specs.declared.fault.Kind.{Kind}
+use Rattle.fir_names.specs.declared.fault.Kind.TheVariants as naming
+use Rattle.fir_names.specs.declared.fault.NameFault.{NameFault}
+use Rattle.fir_names.specs.declared.fault.NameFault.TheVariants as given_fault
+use Rattle.sim_top.specs.declared.front.TextFault.{TextFault}
+use Rattle.sim_top.specs.declared.front.TextFault.TheVariants.{Fault as Named, NoMemory as No_memory}
 use Rattle.sim_top.specs.declared.fault.Fault.{Fault}
-use Rattle.sim_top.specs.CircuitText.{IsFirstFault, of_tokens, of_layout, of_grammar, grammar_fault, IsAccepted, IsLaidOnly, IsAcceptedOnly, IsFaultOnly}
+use Rattle.sim_top.specs.CircuitText.{IsFirstFault, of_tokens, of_layout, of_grammar, of_names, grammar_fault, naming_kind, IsParsed, IsAccepted, IsLaidOnly, IsAcceptedOnly, IsFaultOnly}
 use Rattle.sim_top.specs.Answers.{IsRefusedText, has_fault, IsAcceptedText, circuit_limit}
+use Rattle.sim_top.proofs.Fronts.{same_error}
 
 some_same : {A : Type 0} (x y : A) → Some x ≡ Some y → x ≡ y
 some_same x y e = cc
 
--- the laid list spells a circuit
-no_fault : (text : List ℕ) (circuit : Circuit) (laid : List Laid) → IsLaidOnly text laid → IsCircuit text laid circuit → ((k : ℕ) → ¬ (IsDeepAt (pieces_of text laid) k))
-    → (fault : Fault) → ¬ (IsFirstFault text fault)
-no_fault text circuit laid o spelled shallow _ (of_tokens at kind f) = o.lexed at kind f
-no_fault text circuit laid o spelled shallow _ (of_layout at b) = o.indented at b
-no_fault text circuit laid o spelled shallow _ (of_grammar other refusal fault l f e) =
-    accepted text laid circuit refusal spelled shallow (subst (λ x. FaultOf text x refusal) (o.only other l) f)
+-- a text with a laid list, which spells a circuit
+abbrev Shallow : List ℕ → List Laid → Type 0
+Shallow text laid = (k : ℕ) → ¬ (IsDeepAt (pieces_of text laid) k)
 
-accepted_only : (text : List ℕ) (circuit : Circuit) (laid : List Laid) → IsLaidOnly text laid → IsCircuit text laid circuit
-    → ((k : ℕ) → ¬ (IsDeepAt (pieces_of text laid) k)) → IsAcceptedOnly text circuit laid
-accepted_only text circuit laid o spelled shallow = record {
-  is = record { laid_out = o.is; spelled = spelled; shallow = shallow };
-  only = λ other others (a : IsAccepted text other others). let same = o.only others a.laid_out in
-      (one_circuit text laid other circuit (subst (λ x. IsCircuit text x other) same a.spelled) spelled, same);
-  none = no_fault text circuit laid o spelled shallow;
+abbrev NoNameFault : Circuit → Type 0
+NoNameFault circuit = (kind : Kind) (p : Place) → ¬ (IsNameFault circuit kind p)
+
+-- one circuit
+parsed_once : (text : List ℕ) (circuit : Circuit) (laid : List Laid) → IsLaidOnly text laid → IsCircuit text laid circuit
+    → (other : Circuit) (others : List Laid) → IsParsed text other others → (other ≡ circuit) × (others ≡ laid)
+parsed_once text circuit laid o spelled other others a = let same = o.only others a.laid_out in
+    (one_circuit text laid other circuit (subst (λ x. IsCircuit text x other) same a.spelled) spelled, same)
+
+-- the laid list spells a circuit whose names have no fault
+no_fault : (text : List ℕ) (circuit : Circuit) (laid : List Laid) → IsLaidOnly text laid → IsCircuit text laid circuit → Shallow text laid → NoNameFault circuit
+    → (fault : Fault) → ¬ (IsFirstFault text fault)
+no_fault text circuit laid o spelled shallow named _ (of_tokens at kind f) = o.lexed at kind f
+no_fault text circuit laid o spelled shallow named _ (of_layout at b) = o.indented at b
+no_fault text circuit laid o spelled shallow named _ (of_grammar other refusal fault l f e) =
+    accepted text laid circuit refusal spelled shallow (subst (λ x. FaultOf text x refusal) (o.only other l) f)
+no_fault text circuit laid o spelled shallow named _ (of_names others other kind p parsed first) =
+    named kind p (subst (λ x. IsNameFault x kind p) (parsed_once text circuit laid o spelled other others parsed).0 first.is)
+
+accepted_only : (text : List ℕ) (circuit : Circuit) (laid : List Laid) → IsLaidOnly text laid → IsCircuit text laid circuit → Shallow text laid → NoNameFault circuit
+    → IsAcceptedOnly text circuit laid
+accepted_only text circuit laid o spelled shallow named = record {
+  is = record { parsed = record { laid_out = o.is; spelled = spelled; shallow = shallow }; named = named };
+  only = λ other others (a : IsAccepted text other others). parsed_once text circuit laid o spelled other others a.parsed;
+  none = no_fault text circuit laid o spelled shallow named;
   inside = o.inside;
 }
 
 -- the laid list has a fault
+not_parsed : (text : List ℕ) (laid : List Laid) (refusal : ParseFault) → IsLaidOnly text laid → FaultOf text laid refusal → (circuit : Circuit) (others : List Laid)
+    → ¬ (IsParsed text circuit others)
+not_parsed text laid refusal o f circuit others a = let same = o.only others a.laid_out in
+    accepted text laid circuit refusal (subst (λ x. IsCircuit text x circuit) same a.spelled) (subst (Shallow text) same a.shallow) f
+
 fault_only : (text : List ℕ) (laid : List Laid) (refusal : ParseFault) (fault : Fault) → IsLaidOnly text laid → FaultOf text laid refusal → grammar_fault refusal ≡ Some fault
     → (other : Fault) → IsFirstFault text other → other ≡ fault
 fault_only text laid refusal fault o f e _ (of_tokens at kind t) = absurd (o.lexed at kind t)
 fault_only text laid refusal fault o f e _ (of_layout at b) = absurd (o.indented at b)
 fault_only text laid refusal fault o f e _ (of_grammar others r other l g d) =
     let same = one_fault text laid r refusal (subst (λ x. FaultOf text x r) (o.only others l) g) f in some_same other fault (sym d ∙ ap grammar_fault same ∙ e)
+fault_only text laid refusal fault o f e _ (of_names others circuit kind p parsed first) = absurd (not_parsed text laid refusal o f circuit others parsed)
 
 refused_only : (text : List ℕ) (laid : List Laid) (refusal : ParseFault) (fault : Fault) → IsLaidOnly text laid → FaultOf text laid refusal → grammar_fault refusal ≡ Some fault
     → IsFaultOnly text fault
 refused_only text laid refusal fault o f e = record {
   is = of_grammar laid refusal fault o.is f e;
   only = fault_only text laid refusal fault o f e;
-  none = λ circuit others (a : IsAccepted text circuit others). let same = o.only others a.laid_out in
-      accepted text laid circuit refusal (subst (λ x. IsCircuit text x circuit) same a.spelled)
-      (subst (λ x. (k : ℕ) → ¬ (IsDeepAt (pieces_of text x) k)) same a.shallow) f;
+  none = λ circuit others (a : IsAccepted text circuit others). not_parsed text laid refusal o f circuit others a.parsed;
 }
 
 no_memory : (refusal : ParseFault) (fault : Fault) → refusal ≡ NoMemory → grammar_fault refusal ≡ Some fault → ⊥
 no_memory refusal fault e named = let n : None ≡ Some fault = sym (ap grammar_fault e) ∙ named in cc
 
+-- an answer for a fault of names tells its kind and its place
+abbrev naming_fault : Kind → Place → Fault
+naming_fault kind p = record { kind = naming_kind kind; place = p }
+
+abbrev told : NameFault → Option Fault
+told (given_fault.NoMain p) = Some (naming_fault naming.NoMain p)
+told (given_fault.ModuleTwice p) = Some (naming_fault naming.ModuleTwice p)
+told (given_fault.ModuleUnknown p) = Some (naming_fault naming.ModuleUnknown p)
+told (given_fault.InstanceLoop p) = Some (naming_fault naming.InstanceLoop p)
+told (given_fault.NameTwice p) = Some (naming_fault naming.NameTwice p)
+told (given_fault.NameUnknown p) = Some (naming_fault naming.NameUnknown p)
+told given_fault.NoMemory = None
+
+told_answer : (kind : Kind) (p : Place) → told (answer kind p) ≡ Some (naming_fault kind p)
+told_answer naming.NoMain p = refl
+told_answer naming.ModuleTwice p = refl
+told_answer naming.ModuleUnknown p = refl
+told_answer naming.InstanceLoop p = refl
+told_answer naming.NameTwice p = refl
+told_answer naming.NameUnknown p = refl
+
+same_answer : (kind other : Kind) (p q : Place) → (answer kind p ≡ given_fault.NoMemory) ⊎ (answer kind p ≡ answer other q) → naming_fault other q ≡ naming_fault kind p
+same_answer kind other p q found = ⊎_elim
+    (λ m. absurd (let n : None ≡ Some (naming_fault kind p) = sym (ap told m) ∙ told_answer kind p in cc))
+    (λ e. some_same (naming_fault other q) (naming_fault kind p) (sym (told_answer other q) ∙ sym (ap told e) ∙ told_answer kind p)) found
+
+-- the names of the circuit have a fault, and a reader answers the first one
+abbrev Refuses : Circuit → NameFault → Type 0
+Refuses circuit given = (kind : Kind) (p : Place) → IsFirst circuit kind p → (given ≡ given_fault.NoMemory) ⊎ (given ≡ answer kind p)
+
+name_fault_only : (text : List ℕ) (circuit : Circuit) (laid : List Laid) (kind : Kind) (p : Place) → IsLaidOnly text laid → IsCircuit text laid circuit → Shallow text laid
+    → Refuses circuit (answer kind p) → (other : Fault) → IsFirstFault text other → other ≡ naming_fault kind p
+name_fault_only text circuit laid kind p o spelled shallow refuses _ (of_tokens at other t) = absurd (o.lexed at other t)
+name_fault_only text circuit laid kind p o spelled shallow refuses _ (of_layout at b) = absurd (o.indented at b)
+name_fault_only text circuit laid kind p o spelled shallow refuses _ (of_grammar others refusal other l g d) =
+    absurd (accepted text laid circuit refusal spelled shallow (subst (λ x. FaultOf text x refusal) (o.only others l) g))
+name_fault_only text circuit laid kind p o spelled shallow refuses _ (of_names others other of' q parsed first) =
+    same_answer kind of' p q (refuses of' q (subst (λ x. IsFirst x of' q) (parsed_once text circuit laid o spelled other others parsed).0 first))
+
+misnamed_only : (text : List ℕ) (circuit : Circuit) (laid : List Laid) (kind : Kind) (p : Place) → IsLaidOnly text laid → IsCircuit text laid circuit → Shallow text laid
+    → IsFirst circuit kind p → Refuses circuit (answer kind p) → IsFaultOnly text (naming_fault kind p)
+misnamed_only text circuit laid kind p o spelled shallow first refuses = record {
+  is = of_names laid circuit kind p (record { laid_out = o.is; spelled = spelled; shallow = shallow }) first;
+  only = name_fault_only text circuit laid kind p o spelled shallow refuses;
+  none = λ other others (a : IsAccepted text other others).
+      a.named kind p (subst (λ x. IsNameFault x kind p) (sym (parsed_once text circuit laid o spelled other others a.parsed).0) first.is);
+}
+
 -- the same for what a reader of the grammar answers, given the list that it read
 pub accepted_text : (text : List ℕ) (circuit : Circuit) (given laid : List Laid) → given ≡ laid → length text ≤ circuit_limit → IsLaidOnly text laid
-    → IsCircuit text given circuit → ((k : ℕ) → ¬ (IsDeepAt (pieces_of text given) k)) → IsAcceptedText text circuit laid
-accepted_text text circuit given laid same short o spelled shallow = record {
+    → IsCircuit text given circuit → Shallow text given → NoNameFault circuit → IsAcceptedText text circuit laid
+accepted_text text circuit given laid same short o spelled shallow named = record {
   short = short;
-  accepted_only = accepted_only text circuit laid o (subst (λ x. IsCircuit text x circuit) same spelled) (subst (λ x. (k : ℕ) → ¬ (IsDeepAt (pieces_of text x) k)) same shallow);
+  accepted_only = accepted_only text circuit laid o (subst (λ x. IsCircuit text x circuit) same spelled) (subst (Shallow text) same shallow) named;
 }
 
 pub refused_text : (text : List ℕ) (given laid : List Laid) (refusal : ParseFault) (fault : Fault) → given ≡ laid → length text ≤ circuit_limit → IsLaidOnly text laid
     → (refusal ≡ NoMemory) ⊎ FaultOf text given refusal → grammar_fault refusal ≡ Some fault → IsRefusedText text fault
 refused_text text given laid refusal fault same short o found named = ⊎_elim (λ m. absurd (no_memory refusal fault m named))
     (λ (f : FaultOf text given refusal). has_fault text fault short (refused_only text laid refusal fault o (subst (λ x. FaultOf text x refusal) same f) named)) found
+
+-- and for what a reader of names answers
+same_named : (x y : Fault) → Named x ≡ Named y → x ≡ y
+same_named x y e = cc
+
+pub misnamed_text : {V : Type 0} (text : List ℕ) (circuit : Circuit) (given laid : List Laid) (found : NameFault) (named : TextFault) (fault : Fault) → given ≡ laid
+    → length text ≤ circuit_limit → IsLaidOnly text laid → IsCircuit text given circuit → Shallow text given → (found ≡ given_fault.NoMemory) ⊎ IsFirstAnswer circuit found
+    → Refuses circuit found → ((kind : Kind) (p : Place) → found ≡ answer kind p → named ≡ Named (naming_fault kind p)) → (found ≡ given_fault.NoMemory → named ≡ No_memory)
+    → ◌≡◌ {A = Result V TextFault} (Err named) (Err (Named fault)) → IsRefusedText text fault
+misnamed_text text circuit given laid found named fault same short o spelled shallow answered refuses placed wanting e = ⊎_elim
+    (λ m. let g = wanting m in absurd (let h : No_memory ≡ Named fault = sym g ∙ same_error named (Named fault) e in cc))
+    (λ (f : IsFirstAnswer circuit found).
+    let g = placed f.kind' f.place f.is in
+    let h : naming_fault f.kind' f.place ≡ fault = same_named (naming_fault f.kind' f.place) fault (sym g ∙ same_error named (Named fault) e) in
+    subst (IsRefusedText text) h (has_fault text (naming_fault f.kind' f.place) short
+    (misnamed_only text circuit laid f.kind' f.place o (subst (λ x. IsCircuit text x circuit) same spelled) (subst (Shallow text) same shallow) f.first
+    (subst (Refuses circuit) f.is refuses))))
+    answered

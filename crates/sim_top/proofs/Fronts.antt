@@ -20,7 +20,7 @@ use Rattle.sim_top.specs.declared.front.TextFault.TheVariants.{Fault as Named, N
 use Rattle.sim_top.specs.declared.fault.Fault.{Fault}
 use Rattle.sim_top.specs.declared.fault.FaultKind.TheVariants.{BadIndent}
 use Rattle.sim_top.specs.Answers.{IsRefusedText, has_fault, circuit_limit}
-use Rattle.sim_top.specs.CircuitText.{lexing_kind, IsFirstFault, of_tokens, of_layout, of_grammar, IsInside, IsLaidOnly, IsFaultOnly}
+use Rattle.sim_top.specs.CircuitText.{lexing_kind, IsFirstFault, of_tokens, of_layout, of_grammar, of_names, IsInside, IsLaidOnly, IsFaultOnly}
 
 -- a laid text and a text with a bad indent have tokens
 tokens_laid : (text : List ℕ) (laid : List Laid) → IsLaidOut text laid → (tokens : List Token) × AreTokens text tokens
@@ -38,12 +38,13 @@ token_fault_only text at kind f _ (of_tokens to other g) =
     let e = one_fault text to at other kind g f in ap₂ (token_fault text) e.0 e.1
 token_fault_only text at kind f _ (of_layout to b) = let t = tokens_indented text to b in absurd (no_tokens text at kind t.0 f t.1)
 token_fault_only text at kind f _ (of_grammar laid refusal fault l g e) = let t = tokens_laid text laid l in absurd (no_tokens text at kind t.0 f t.1)
+token_fault_only text at kind f _ (of_names laid circuit other p parsed first) = let t = tokens_laid text laid parsed.laid_out in absurd (no_tokens text at kind t.0 f t.1)
 
 pub token_faults : (text : List ℕ) (at : ℕ) (kind : FaultKind) → IsFault text at kind → IsFaultOnly text (record { kind = lexing_kind kind; place = place text at })
 token_faults text at kind f = record {
   is = of_tokens at kind f;
   only = token_fault_only text at kind f;
-  none = λ circuit laid a. let t = tokens_laid text laid a.laid_out in no_tokens text at kind t.0 f t.1;
+  none = λ circuit laid a. let t = tokens_laid text laid a.parsed.laid_out in no_tokens text at kind t.0 f t.1;
 }
 
 pub same_error : {V : Type 0} (x y : TextFault) → ◌≡◌ {A = Result V TextFault} (Err x) (Err y) → x ≡ y
@@ -65,6 +66,7 @@ layout_fault_only : (text : List ℕ) (tokens : List Token) (p : Place) → AreT
     → (other : Fault) → IsFirstFault text other → other ≡ record { kind = BadIndent; place = p }
 layout_fault_only text tokens p lexed accepts refuses _ (of_tokens at kind f) = absurd (no_tokens text at kind tokens f lexed)
 layout_fault_only text tokens p lexed accepts refuses _ (of_grammar laid refusal fault l g e) = absurd (no_place p (accepts laid l))
+layout_fault_only text tokens p lexed accepts refuses _ (of_names laid circuit kind q parsed first) = absurd (no_place p (accepts laid parsed.laid_out))
 layout_fault_only text tokens p lexed accepts refuses _ (of_layout at b) =
     ⊎_elim (λ m. absurd (no_place p m)) (λ e. ap (λ q. record { kind = BadIndent; place = q }) (sym (same_place p (place text at) e))) (refuses at b)
 
@@ -76,7 +78,7 @@ layout_faults : (text : List ℕ) (tokens : List Token) (p : Place) → AreToken
 layout_faults text tokens p lexed found accepts refuses = ⊎_elim (λ m. absurd (no_place p m)) (λ (b : (at : ℕ) × IsBadIndent text at × (Bad_indent p ≡ Bad_indent (place text at))). record {
   is = subst (IsFirstFault text) (ap (λ q. record { kind = BadIndent; place = q }) (sym (same_place p (place text b.0) b.2))) (of_layout b.0 b.1);
   only = layout_fault_only text tokens p lexed accepts refuses;
-  none = λ circuit laid a. no_place p (accepts laid a.laid_out);
+  none = λ circuit laid a. no_place p (accepts laid a.parsed.laid_out);
 }) found
 
 -- the same for a fault that is one of the layout

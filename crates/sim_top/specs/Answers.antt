@@ -8,7 +8,7 @@ use Rattle.fir_layout.specs.Pieces.{pieces_of}
 use Rattle.sim_top.specs.declared.command.Command.{Command}
 use Rattle.sim_top.specs.declared.command.Command.TheVariants.{Run, Check}
 use Rattle.sim_top.specs.declared.fault.FaultKind.{FaultKind}
-use Rattle.sim_top.specs.declared.fault.FaultKind.TheVariants.{TooLong, NoStimulus, BadByte, BadToken, NumberRange, BadIndent, BadSyntax, BadVersion, Unsupported, TooDeep}
+use Rattle.sim_top.specs.declared.fault.FaultKind.TheVariants.{TooLong, NoStimulus, BadByte, BadToken, NumberRange, BadIndent, BadSyntax, BadVersion, Unsupported, TooDeep, NoMain, ModuleTwice, ModuleUnknown, InstanceLoop, NameTwice, NameUnknown}
 use Rattle.sim_top.specs.declared.fault.Fault.{Fault}
 use Rattle.sim_top.specs.declared.fault.StimulusFault.{StimulusFault}
 use Rattle.sim_top.specs.declared.fault.StimulusFault.TheVariants.{BadLine}
@@ -46,6 +46,12 @@ kind_name BadSyntax = codes "BadSyntax"
 kind_name BadVersion = codes "BadVersion"
 kind_name Unsupported = codes "Unsupported"
 kind_name TooDeep = codes "TooDeep"
+kind_name NoMain = codes "NoMain"
+kind_name ModuleTwice = codes "ModuleTwice"
+kind_name ModuleUnknown = codes "ModuleUnknown"
+kind_name InstanceLoop = codes "InstanceLoop"
+kind_name NameTwice = codes "NameTwice"
+kind_name NameUnknown = codes "NameUnknown"
 
 abbrev pub stimulus_fault_name : StimulusFault → List ℕ
 stimulus_fault_name BadLine = codes "BadLine"

@@ -1,5 +1,5 @@
--- The circuit's text, stage by stage: its tokens, its layout and its grammar (FIRRTL specification 3.0, "FIRRTL Language
--- Definition"). A stage judges only what the stages before it let pass.
+-- The circuit's text, stage by stage: its tokens, its layout, its grammar (FIRRTL specification 3.0, "FIRRTL Language
+-- Definition") and its names ("Namespaces"). A stage judges only what the stages before it let pass.
 use Rattle.std.specs.Prelude.{◌≡◌, ℕ, ◌≤◌, List, length, All, Option, Some, None}
 use Rattle.place_text.specs.Places.{place}
 use Rattle.fir_lexer.specs.Tokens.{IsFault, FaultKind as LexKind, Bad_byte, Bad_token, Number_range}
@@ -13,9 +13,13 @@ use Rattle.fir_tree.specs.declared.circuit.Circuit.{Circuit}
 use Rattle.fir_tree.specs.declared.fault.ParseFault.{ParseFault}
 use Rattle.fir_tree.specs.declared.fault.ParseFault.TheVariants as grammar
 use Rattle.fir_expr.specs.Standing.{IsLaidFrom}
+use Rattle.place_text.specs.declared.place.Place.{Place}
+use Rattle.fir_names.specs.Faults.{IsFault as IsNameFault, IsFirst}
+use Rattle.fir_names.specs.declared.fault.Kind.{Kind as NameKind}
+use Rattle.fir_names.specs.declared.fault.Kind.TheVariants as naming
 use Rattle.sim_top.specs.declared.fault.Fault.{Fault}
 use Rattle.sim_top.specs.declared.fault.FaultKind.{FaultKind}
-use Rattle.sim_top.specs.declared.fault.FaultKind.TheVariants.{BadByte, BadToken, NumberRange, BadIndent, BadSyntax, BadVersion, Unsupported, TooDeep}
+use Rattle.sim_top.specs.declared.fault.FaultKind.TheVariants.{BadByte, BadToken, NumberRange, BadIndent, BadSyntax, BadVersion, Unsupported, TooDeep, NoMain, ModuleTwice, ModuleUnknown, InstanceLoop, NameTwice, NameUnknown}
 
 -- the name of a lexer's fault
 abbrev pub lexing_kind : LexKind → FaultKind
@@ -31,18 +35,34 @@ grammar_fault (grammar.Unsupported at) = Some (record { kind = Unsupported; plac
 grammar_fault (grammar.TooDeep at) = Some (record { kind = TooDeep; place = at })
 grammar_fault grammar.NoMemory = None
 
+-- the name of a fault of names
+abbrev pub naming_kind : NameKind → FaultKind
+naming_kind naming.NoMain = NoMain
+naming_kind naming.ModuleTwice = ModuleTwice
+naming_kind naming.ModuleUnknown = ModuleUnknown
+naming_kind naming.InstanceLoop = InstanceLoop
+naming_kind naming.NameTwice = NameTwice
+naming_kind naming.NameUnknown = NameUnknown
+
+-- The grammar accepts the text: it has this laid list, which spells this circuit and goes nowhere too deep.
+pub record IsParsed (text : List ℕ) (circuit : Circuit) (laid : List Laid) : Type 0 where
+  pub laid_out : IsLaidOut text laid
+  pub spelled : IsCircuit text laid circuit
+  pub shallow : (k : ℕ) → ¬ (IsDeepAt (pieces_of text laid) k)
+
 -- The first fault of the text, by the stage that finds it.
 pub data IsFirstFault (text : List ℕ) : Fault → Type 0 where
   of_tokens : (at : ℕ) (kind : LexKind) → IsFault text at kind → IsFirstFault text (record { kind = lexing_kind kind; place = place text at })
   of_layout : (at : ℕ) → IsBadIndent text at → IsFirstFault text (record { kind = BadIndent; place = place text at })
   of_grammar : (laid : List Laid) (refusal : ParseFault) (fault : Fault) → IsLaidOut text laid → FaultOf text laid refusal
       → grammar_fault refusal ≡ Some fault → IsFirstFault text fault
+  of_names : (laid : List Laid) (circuit : Circuit) (kind : NameKind) (place' : Place) → IsParsed text circuit laid → IsFirst circuit kind place'
+      → IsFirstFault text (record { kind = naming_kind kind; place = place' })
 
--- The text passes all stages: it has this laid list, which spells this circuit and goes nowhere too deep.
+-- The text passes all stages: the grammar accepts it, and the names of its circuit have no fault.
 pub record IsAccepted (text : List ℕ) (circuit : Circuit) (laid : List Laid) : Type 0 where
-  pub laid_out : IsLaidOut text laid
-  pub spelled : IsCircuit text laid circuit
-  pub shallow : (k : ℕ) → ¬ (IsDeepAt (pieces_of text laid) k)
+  pub parsed : IsParsed text circuit laid
+  pub named : (kind : NameKind) (place' : Place) → ¬ (IsNameFault circuit kind place')
 
 -- a token's bytes lie in the text
 abbrev pub IsInside : List ℕ → Laid → Type 0

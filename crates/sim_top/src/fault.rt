@@ -19,6 +19,12 @@ pub enum FaultKind {
     /// A construct that isn't supported, or for `run` a circuit outside the small form.
     Unsupported,
     TooDeep,
+    NoMain,
+    ModuleTwice,
+    ModuleUnknown,
+    InstanceLoop,
+    NameTwice,
+    NameUnknown,
 }
 
 impl FaultKind {
@@ -40,6 +46,12 @@ impl FaultKind {
             FaultKind::BadVersion => "BadVersion",
             FaultKind::Unsupported => "Unsupported",
             FaultKind::TooDeep => "TooDeep",
+            FaultKind::NoMain => "NoMain",
+            FaultKind::ModuleTwice => "ModuleTwice",
+            FaultKind::ModuleUnknown => "ModuleUnknown",
+            FaultKind::InstanceLoop => "InstanceLoop",
+            FaultKind::NameTwice => "NameTwice",
+            FaultKind::NameUnknown => "NameUnknown",
         }
     }
 }

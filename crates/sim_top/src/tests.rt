@@ -107,6 +107,61 @@ fn runs_small_circuits(rt: HostRuntime) -> Result<(), Fail> {
 }
 
 #[test]
+fn checks_names(rt: HostRuntime) -> Result<(), Fail> {
+    for (modules, status, bytes) in [
+        (
+            "  module M :\n    output o : UInt<1>\n    connect o, z\n",
+            2,
+            "circuit NameUnknown 5:16\n",
+        ),
+        (
+            "  module M :\n    input a : UInt<1>\n    wire a : UInt<1>\n",
+            2,
+            "circuit NameTwice 5:10\n",
+        ),
+        (
+            "  module M :\n    inst c of C\n",
+            2,
+            "circuit ModuleUnknown 4:15\n",
+        ),
+        (
+            "  module M :\n    inst c of M\n",
+            2,
+            "circuit InstanceLoop 4:15\n",
+        ),
+        ("  module N :\n    skip\n", 2, "circuit NoMain 2:9\n"),
+        (
+            "  module M :\n  module N :\n  module N :\n",
+            2,
+            "circuit ModuleTwice 5:10\n",
+        ),
+        (
+            "  module M :\n    input a : UInt<1>\n    when a :\n      node n = a\n    node k = n\n",
+            2,
+            "circuit NameUnknown 7:14\n",
+        ),
+        (
+            "  module M :\n    input reg : UInt<1>\n    node node = reg\n",
+            0,
+            "ok\n",
+        ),
+    ] {
+        let mut input = String::from_str(rt.alloc(), "FIRRTL version 3.0.0\ncircuit M :\n")?;
+        input.push_str(modules)?;
+        let call = Call {
+            words: &["check"],
+            input: input.as_str(),
+            shelf_fails: &[],
+            sink_fails: &[],
+        };
+        let (given, written) = answer(rt.alloc(), call)?;
+        assert_eq!(rt; given, status);
+        assert_eq!(rt; written.as_slice(), bytes.as_bytes());
+    }
+    Ok(())
+}
+
+#[test]
 fn names_the_side_that_failed(rt: HostRuntime) -> Result<(), Fail> {
     for (shelf_fails, sink_fails, status, bytes) in [
         ([3].as_slice(), [].as_slice(), 4, ""),
