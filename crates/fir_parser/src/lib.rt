@@ -1,4 +1,5 @@
 //! A circuit read from a laid list, or the first token that can't continue one.
 #![tactic(auto)]
 
+pub mod part;
 pub mod take;

@@ -1,0 +1,61 @@
+-- What a reader asks of the piece at its place.
+use Rattle.std.specs.Prelude.{◌≡◌, ◌⊎◌, ℕ, List, slice_get, Some}
+use Rattle.place_text.specs.Places.{place}
+use Rattle.fir_layout.specs.declared.laid.Laid.{Laid}
+use Rattle.fir_layout.specs.declared.laid.Laid.TheVariants.{Item}
+use Rattle.fir_layout.specs.Pieces.{piece_of, bytes_of}
+use Rattle.fir_lexer.specs.declared.token.Token.{Token}
+use Rattle.fir_lexer.specs.declared.token.TokenKind.TheVariants.{Digits}
+use Rattle.fir_tree.specs.declared.fault.ParseFault.{ParseFault}
+use Rattle.fir_tree.specs.declared.fault.ParseFault.TheVariants.{NoMemory}
+use Rattle.fir_tree.specs.Grammar.{Terminal, The_word, The_mark, The_arrow, Line_ends, Opens, Closes, Ends, A_name, Takes, start_of, name_in}
+use Rattle.fir_tree.specs.Faults.{IsNamed}
+use Rattle.fir_expr.specs.declared.reader.Reader.{Reader}
+use Rattle.fir_parser.specs.declared.take.Expected.{Expected}
+use Rattle.fir_parser.specs.declared.take.Expected.TheVariants as expected
+
+-- what it is in the grammar
+abbrev pub terminal : Expected → Terminal
+terminal (expected.Word text) = The_word text.now
+terminal (expected.Mark m) = The_mark m
+terminal expected.Arrow = The_arrow
+terminal expected.LineEnd = Line_ends
+terminal expected.Open = Opens
+terminal expected.Close = Closes
+terminal expected.End = Ends
+
+-- it opens and closes nothing, and is no `.`
+abbrev pub IsQuiet : Expected → Type 0
+IsQuiet (expected.Word text) = Unit {0}
+IsQuiet (expected.Mark m) = (m ≡ 58) ⊎ (m ≡ 61)
+IsQuiet expected.Arrow = Unit {0}
+IsQuiet expected.LineEnd = Unit {0}
+IsQuiet expected.Open = ⊥
+IsQuiet expected.Close = ⊥
+IsQuiet expected.End = Unit {0}
+
+-- the terminal takes the piece at the reader's place
+pub record Meets (s : Terminal) (reader : Reader) : Type 0 where
+  pub laid : Laid
+  pub stands : slice_get reader.laid.now reader.at ≡ Some laid
+  pub takes : Takes s (piece_of reader.bytes.now laid)
+
+-- the piece at the reader's place by its name as a bad one
+pub data NamesHere (reader : Reader) : ParseFault → Type 0 where
+  no_room : NamesHere reader NoMemory
+  named : (l : Laid) (fault : ParseFault) → slice_get reader.laid.now reader.at ≡ Some l → IsNamed (piece_of reader.bytes.now l) (place reader.bytes.now (start_of l)) fault
+      → NamesHere reader fault
+
+-- a part of the list is a name with this text
+pub record NameText (bytes : List ℕ) (part : Laid) (text : List ℕ) : Type 0 where
+  pub token : Token
+  pub item : part ≡ Item token
+  pub takes : Takes A_name (piece_of bytes part)
+  pub same : text ≡ name_in token.kind (bytes_of bytes token)
+
+-- a part of the list is digits with these bytes
+pub record DigitsText (bytes : List ℕ) (part : Laid) (text : List ℕ) : Type 0 where
+  pub token : Token
+  pub item : part ≡ Item token
+  pub digits : token.kind ≡ Digits
+  pub same : text ≡ bytes_of bytes token
