@@ -22,7 +22,7 @@ use Rattle.fir_expr.proofs.Depth.{levels_next}
 use Rattle.fir_parser.specs.Taking.{pieces, here, blocks_at, StandsAt, IsFresh, HasTaken, Refuses, Steps, StepsName}
 use Rattle.fir_parser.specs.declared.take.Expected.{Expected}
 use Rattle.fir_parser.specs.declared.take.Expected.TheVariants as expected
-use Rattle.fir_parser.specs.Expected.{terminal, IsQuiet, Meets, NamesHere, no_room, named, NameText, DigitsText}
+use Rattle.fir_parser.specs.Expected.{terminal, IsQuiet, Meets, NamesHere, NameText, DigitsText}
 
 -- behind the piece as many brackets are open, and it doesn't go too deep
 pub record Calms (at : Levels) (p : Piece) : Type 0 where
@@ -183,8 +183,7 @@ fresh_word old new l text at stands takes step = record { none =
 
 -- a part that isn't taken is refused
 pub refuses : (keeps : Kept) (s : Terminal) (old : Reader) (fault : ParseFault) → ¬ (Meets s old) → NamesHere old fault → Refuses (Is keeps s ∷ []) old fault
-refuses keeps s old fault none no_room = record { refused = no_memory }
-refuses keeps s old fault none (named l _ stands name) = record { refused = refused_piece keeps s stands (λ takes. none (record { laid = l; stands = stands; takes = takes })) name }
+refuses keeps s old fault none names = record { refused = names.refused s none keeps }
 
 pub refuses_memory : (ss : List Symbol) (old : Reader) (fault : ParseFault) → fault ≡ NoMemory → Refuses ss old fault
 refuses_memory ss old fault e = record { refused = rw e no_memory }

@@ -1,15 +1,13 @@
 -- What a reader asks of the piece at its place.
-use Rattle.std.specs.Prelude.{◌≡◌, ◌⊎◌, ℕ, List, slice_get, Some}
-use Rattle.place_text.specs.Places.{place}
+use Rattle.std.specs.Prelude.{◌≡◌, ◌⊎◌, ℕ, List, [], ◌∷◌, slice_get, Some}
 use Rattle.fir_layout.specs.declared.laid.Laid.{Laid}
 use Rattle.fir_layout.specs.declared.laid.Laid.TheVariants.{Item}
 use Rattle.fir_layout.specs.Pieces.{piece_of, bytes_of}
 use Rattle.fir_lexer.specs.declared.token.Token.{Token}
 use Rattle.fir_lexer.specs.declared.token.TokenKind.TheVariants.{Digits}
 use Rattle.fir_tree.specs.declared.fault.ParseFault.{ParseFault}
-use Rattle.fir_tree.specs.declared.fault.ParseFault.TheVariants.{NoMemory}
-use Rattle.fir_tree.specs.Grammar.{Terminal, The_word, The_mark, The_arrow, Line_ends, Opens, Closes, Ends, A_name, Takes, start_of, name_in}
-use Rattle.fir_tree.specs.Faults.{IsNamed}
+use Rattle.fir_tree.specs.Grammar.{Terminal, The_word, The_mark, The_arrow, Line_ends, Opens, Closes, Ends, A_name, Takes, Kept, Is, name_in}
+use Rattle.fir_tree.specs.Reading.{IsRefused}
 use Rattle.fir_expr.specs.declared.reader.Reader.{Reader}
 use Rattle.fir_parser.specs.declared.take.Expected.{Expected}
 use Rattle.fir_parser.specs.declared.take.Expected.TheVariants as expected
@@ -40,11 +38,9 @@ pub record Meets (s : Terminal) (reader : Reader) : Type 0 where
   pub stands : slice_get reader.laid.now reader.at ≡ Some laid
   pub takes : Takes s (piece_of reader.bytes.now laid)
 
--- the piece at the reader's place by its name as a bad one
-pub data NamesHere (reader : Reader) : ParseFault → Type 0 where
-  no_room : NamesHere reader NoMemory
-  named : (l : Laid) (fault : ParseFault) → slice_get reader.laid.now reader.at ≡ Some l → IsNamed (piece_of reader.bytes.now l) (place reader.bytes.now (start_of l)) fault
-      → NamesHere reader fault
+-- the fault of the piece at the reader's place, where no terminal that is wanted takes it
+pub record NamesHere (reader : Reader) (fault : ParseFault) : Type 0 where
+  pub refused : (s : Terminal) → ¬ (Meets s reader) → (keeps : Kept) → IsRefused (Is keeps s ∷ []) reader.bytes.now reader.laid.now reader.at fault
 
 -- a part of the list is a name with this text
 pub record NameText (bytes : List ℕ) (part : Laid) (text : List ℕ) : Type 0 where

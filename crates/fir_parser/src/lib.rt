@@ -1,5 +1,7 @@
 //! A circuit read from a laid list, or the first token that can't continue one.
 #![tactic(auto)]
 
+pub mod header;
 pub mod part;
+pub mod statement;
 pub mod take;

@@ -81,6 +81,7 @@ pub fn fault_here(reader: &Reader) -> ParseFault
     requires { StandsAt reader.now }
     ensures { NamesHere reader.now result }
 {
+    let _reader = reader;
     ParseFault::NoMemory
 }
 

@@ -1,5 +1,5 @@
-use Rattle.fir_parser.specs.Expected.{no_room}
+use Rattle.fir_tree.specs.Reading.{no_memory}
 use Rattle.fir_parser.proofs.take.fault_here.Goals as goal
 
 pub returns : goal.returns
-returns c = no_room
+returns c = record { refused = λ s none keeps. no_memory }
