@@ -1,11 +1,11 @@
 -- What is taken one behind the other is taken as a whole, and makes a rule where it is a case of it.
-use Rattle.std.proofs.Common.{◌≡◌, ℕ, List, [], ◌∷◌, ◌++◌, ◌∙◌, refl, slice_get, Some}
+use Rattle.std.proofs.Common.{◌≡◌, ℕ, List, [], ◌∷◌, ◌++◌, ◌∙◌, refl, length, ◌≤◌, slice_get, Some}
 use Rattle.fir_layout.specs.Pieces.{Piece}
 use Rattle.fir_tree.specs.declared.fault.ParseFault.{ParseFault}
 use Rattle.fir_tree.specs.Grammar.{Symbol, A, Rule, IsCase, Values, Tree, tree}
 use Rattle.fir_tree.specs.Reading.{HasRead, IsRefused}
 use Rattle.fir_expr.specs.declared.reader.Reader.{Reader}
-use Rattle.fir_expr.proofs.Composition.{joined, read_then, refused_first, refused_behind, Enters, read_case, refused_case}
+use Rattle.fir_expr.proofs.Composition.{joined, read_nothing, read_then, refused_first, refused_behind, Enters, read_case, refused_case}
 use Rattle.fir_parser.specs.Taking.{pieces, HasTaken, Refuses}
 
 pub joins : {ss more : List Symbol} {a b c : Reader} {vs : Values ss} {ws : Values more} → HasTaken ss a b vs → HasTaken more b c ws → HasTaken (ss ++ more) a c (joined ss more vs ws)
@@ -26,3 +26,7 @@ makes case enters h = record { bytes = h.bytes; laid = h.laid; read = read_case 
 
 pub breaks : {r : Rule} {body : List Symbol} {a : Reader} {fault : ParseFault} (case : IsCase r body) → Enters (pieces a) a.at case → Refuses body a fault → Refuses (A r ∷ []) a fault
 breaks case enters h = record { refused = refused_case case enters h.refused }
+
+-- no symbols take nothing
+pub nothing_taken : (now : Reader) → now.at ≤ length now.laid.now → HasTaken [] now now tt
+nothing_taken now within = record { bytes = refl; laid = refl; read = read_nothing now.bytes.now now.laid.now now.at now.names within }

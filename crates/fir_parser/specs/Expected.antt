@@ -1,5 +1,5 @@
 -- What a reader asks of the piece at its place.
-use Rattle.std.specs.Prelude.{◌≡◌, ◌⊎◌, ℕ, List, [], ◌∷◌, slice_get, Some}
+use Rattle.std.specs.Prelude.{◌≡◌, ◌⊎◌, ◌+◌, ℕ, List, [], ◌∷◌, slice_get, Some}
 use Rattle.fir_layout.specs.declared.laid.Laid.{Laid}
 use Rattle.fir_layout.specs.declared.laid.Laid.TheVariants.{Item}
 use Rattle.fir_layout.specs.Pieces.{piece_of, bytes_of}
@@ -36,6 +36,12 @@ IsQuiet expected.End = Unit {0}
 pub record Meets (s : Terminal) (reader : Reader) : Type 0 where
   pub laid : Laid
   pub stands : slice_get reader.laid.now reader.at ≡ Some laid
+  pub takes : Takes s (piece_of reader.bytes.now laid)
+
+-- and the piece behind it
+pub record MeetsNext (s : Terminal) (reader : Reader) : Type 0 where
+  pub laid : Laid
+  pub stands : slice_get reader.laid.now (reader.at + 1) ≡ Some laid
   pub takes : Takes s (piece_of reader.bytes.now laid)
 
 -- the fault of the piece at the reader's place, where no terminal that is wanted takes it

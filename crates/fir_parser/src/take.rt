@@ -9,7 +9,7 @@ ghost use Rattle.fir_tree.specs.Faults.{most};
 ghost use Rattle.fir_tree.specs.Numbered.{AddsName};
 ghost use Rattle.fir_expr.specs.Standing.{IsLaidFrom};
 ghost use Rattle.fir_parser.specs.Taking.{StandsAt, IsFresh, HasTaken, Refuses, Steps, StepsName, IsInText, blocks_at};
-ghost use Rattle.fir_parser.specs.Expected.{terminal, IsQuiet, Meets, NamesHere, NameText, DigitsText};
+ghost use Rattle.fir_parser.specs.Expected.{terminal, IsQuiet, Meets, MeetsNext, NamesHere, NameText, DigitsText};
 
 use crate::part::{place_at, token_bytes};
 use bit_words::{NumberFault, read_magnitude};
@@ -74,6 +74,28 @@ pub fn meets(reader: &Reader, expected: Expected) -> bool
         Some(part) => is(reader.bytes, part, expected),
         None => false,
     }
+}
+
+/// Whether what is expected stands behind the part at the reader's place.
+pub fn meets_next(reader: &Reader, expected: Expected) -> bool
+    requires laid { IsLaidFrom reader.now.bytes.now reader.now.laid.now }
+    requires within { reader.now.at < length reader.now.laid.now }
+    ensures { MatchBool result (MeetsNext (terminal expected.entry) reader.now) (¬ (MeetsNext (terminal expected.entry) reader.now)) }
+{
+    match next_part(reader) {
+        Some(part) => is(reader.bytes, part, expected),
+        None => false,
+    }
+}
+
+/// The part of the list behind that at the reader's place.
+fn next_part(reader: &Reader) -> Option<Laid>
+    requires laid { IsLaidFrom reader.now.bytes.now reader.now.laid.now }
+    requires within { reader.now.at < length reader.now.laid.now }
+    ensures part { result ≡ slice_get reader.now.laid.now (reader.now.at + 1) }
+    ensures inside { IfSome result (λ l. IsInText reader.now.bytes.now l) }
+{
+    reader.laid.get(reader.at + 1).copied()
 }
 
 /// The fault of the part at the reader's place as one that can't continue the text.
