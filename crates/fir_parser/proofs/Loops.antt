@@ -5,6 +5,7 @@ use Rattle.fir_layout.specs.declared.laid.Laid.{Laid}
 use Rattle.fir_types.specs.declared.memory.MemLine.{MemLine}
 use Rattle.fir_types.specs.declared.port.Port.{Port as ModulePort}
 use Rattle.fir_tree.specs.declared.stmt.Stmt.{Stmt}
+use Rattle.fir_tree.specs.declared.stmt.Stmt.TheVariants as stmt
 use Rattle.fir_tree.specs.declared.stmt.Arm.{Arm}
 use Rattle.fir_tree.specs.declared.circuit.Module.{Module as TheModule}
 use Rattle.fir_tree.specs.declared.fault.ParseFault.{ParseFault}
@@ -175,3 +176,11 @@ module _ (old : Reader) (before : List Arm) where
       → Branched before old now arms []
   branches_end now arms b none within = record { more = b.more; made = b.made;
       taken = rw (append-nil b.more) at (b.continues.taken now ([], []) (makes no_branch (into_no_branch now none) (nothing_taken now within))) }
+
+-- a `when` with its branches
+pub when_taken : (old a b new : Reader) (arm : Arm) (arms all : List Arm) (other : List Stmt) → Enters (pieces old) old.at a_when → HasTaken (word "when" ∷ []) old a tt
+    → HasTaken (A Expression ∷ colon ∷ line_end ∷ A Block ∷ []) a b (arm.condition, (arm.body, tt)) → arms ≡ arm ∷ [] → Branched arms b new all other
+    → HasTaken (A Statement ∷ []) old new (stmt.When all other, tt)
+when_taken old a b new arm arms all other enters h g one r =
+    let made : all ≡ arm ∷ r.more = r.made ∙ ap (λ (xs : List Arm). xs ++ r.more) one in
+    rw made (makes a_when enters (joins (joins h g) r.taken))

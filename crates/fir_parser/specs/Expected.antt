@@ -1,5 +1,5 @@
 -- What a reader asks of the piece at its place.
-use Rattle.std.specs.Prelude.{◌≡◌, ◌⊎◌, ◌+◌, ℕ, List, [], ◌∷◌, slice_get, Some}
+use Rattle.std.specs.Prelude.{◌≡◌, ◌⊎◌, ◌+◌, ℕ, codes, List, [], ◌∷◌, slice_get, Some}
 use Rattle.fir_layout.specs.declared.laid.Laid.{Laid}
 use Rattle.fir_layout.specs.declared.laid.Laid.TheVariants.{Item}
 use Rattle.fir_layout.specs.Pieces.{piece_of, bytes_of}
@@ -61,3 +61,7 @@ pub record DigitsText (bytes : List ℕ) (part : Laid) (text : List ℕ) : Type 
   pub item : part ≡ Item token
   pub digits : token.kind ≡ Digits
   pub same : text ≡ bytes_of bytes token
+
+-- `input` or `output` stands at the reader's place
+abbrev pub BeginsPort : Reader → Type 0
+BeginsPort reader = Meets (The_word (codes "input")) reader ⊎ Meets (The_word (codes "output")) reader

@@ -8,8 +8,7 @@ ghost use Rattle.fir_parser.specs.Branching.{Branched};
 ghost use Rattle.fir_parser.specs.Taking.{StandsAt, HasTaken, Refuses, blocks_at};
 ghost use Rattle.fir_parser.specs.Expected.{Meets};
 
-use crate::memory::read_memory;
-use crate::statement::{read_connect, read_inst, read_invalidate, read_node, read_reg, read_regreset, read_skip, read_wire};
+use crate::statement::read_plain;
 use crate::take::{Expected, meets, meets_next, take, take_close, take_expression, take_open};
 use bit_words::List;
 use fir_expr::Reader;
@@ -181,42 +180,4 @@ fn read_block(alloc: Global, reader: &mut Reader, blocks: u32) -> Result<List<St
     take_open(reader, blocks)?;
     let statements = read_statements(alloc, reader, blocks + 1)?;
     Ok(statements)
-}
-
-/// A statement other than a `when`.
-fn read_plain(alloc: Global, reader: &mut Reader, blocks: u32) -> Result<Stmt, ParseFault>
-    requires at { StandsAt reader.old }
-    requires counted { blocks_at reader.old ≡ blocks }
-    requires other { ¬ (Meets (The_word (codes "when")) reader.old) }
-    ensures ok { IfOk result (λ it. HasTaken (A Statement ∷ []) reader.old reader.new (it, tt)) }
-    ensures at { OnOk result (StandsAt reader.new) }
-    ensures blocks { OnOk result (blocks_at reader.new ≡ blocks_at reader.old) }
-    ensures refused { IfErr result (λ fault. Refuses (A Statement ∷ []) reader.old fault) }
-{
-    if meets(reader, Expected::Word("wire")) {
-        return read_wire(alloc, reader);
-    }
-    if meets(reader, Expected::Word("reg")) {
-        return read_reg(alloc, reader);
-    }
-    if meets(reader, Expected::Word("regreset")) {
-        return read_regreset(alloc, reader);
-    }
-    if meets(reader, Expected::Word("mem")) {
-        return read_memory(alloc, reader, blocks);
-    }
-    if meets(reader, Expected::Word("inst")) {
-        return read_inst(reader);
-    }
-    if meets(reader, Expected::Word("node")) {
-        return read_node(alloc, reader);
-    }
-    if meets(reader, Expected::Word("connect")) {
-        return read_connect(alloc, reader);
-    }
-    if meets(reader, Expected::Word("invalidate")) {
-        return read_invalidate(alloc, reader);
-    }
-    let place = read_skip(reader)?;
-    Ok(Stmt::Skip(place))
 }

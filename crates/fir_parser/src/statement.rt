@@ -1,4 +1,4 @@
-//! Statements that stand on one line.
+//! Statements other than `when`.
 
 ghost use Rattle.std.specs.Prelude.{◌≡◌, [], ◌∷◌, codes, IfOk, IfErr, OnOk};
 ghost use Rattle.fir_tree.specs.Grammar.{A, The_word, Statement, word_at, line_end};
@@ -6,14 +6,53 @@ ghost use Rattle.fir_parser.specs.Taking.{StandsAt, HasTaken, Refuses, blocks_at
 ghost use Rattle.fir_parser.specs.Expected.{Meets};
 
 use crate::header::{read_named, read_typed};
-use crate::take::{Expected, take, take_expression, take_name, take_placed_word, take_reference};
+use crate::memory::read_memory;
+use crate::take::{Expected, meets, take, take_expression, take_name, take_placed_word, take_reference};
 use fir_expr::Reader;
 use fir_tree::{ParseFault, Stmt};
 use place_text::Place;
 use std::alloc::Global;
 
+/// A statement other than a `when`.
+pub fn read_plain(alloc: Global, reader: &mut Reader, blocks: u32) -> Result<Stmt, ParseFault>
+    requires at { StandsAt reader.old }
+    requires counted { blocks_at reader.old ≡ blocks }
+    requires other { ¬ (Meets (The_word (codes "when")) reader.old) }
+    ensures ok { IfOk result (λ it. HasTaken (A Statement ∷ []) reader.old reader.new (it, tt)) }
+    ensures at { OnOk result (StandsAt reader.new) }
+    ensures blocks { OnOk result (blocks_at reader.new ≡ blocks_at reader.old) }
+    ensures refused { IfErr result (λ fault. Refuses (A Statement ∷ []) reader.old fault) }
+{
+    if meets(reader, Expected::Word("wire")) {
+        return read_wire(alloc, reader);
+    }
+    if meets(reader, Expected::Word("reg")) {
+        return read_reg(alloc, reader);
+    }
+    if meets(reader, Expected::Word("regreset")) {
+        return read_regreset(alloc, reader);
+    }
+    if meets(reader, Expected::Word("mem")) {
+        return read_memory(alloc, reader, blocks);
+    }
+    if meets(reader, Expected::Word("inst")) {
+        return read_inst(reader);
+    }
+    if meets(reader, Expected::Word("node")) {
+        return read_node(alloc, reader);
+    }
+    if meets(reader, Expected::Word("connect")) {
+        return read_connect(alloc, reader);
+    }
+    if meets(reader, Expected::Word("invalidate")) {
+        return read_invalidate(alloc, reader);
+    }
+    let place = read_skip(reader)?;
+    Ok(Stmt::Skip(place))
+}
+
 /// A wire with its type.
-pub fn read_wire(alloc: Global, reader: &mut Reader) -> Result<Stmt, ParseFault>
+fn read_wire(alloc: Global, reader: &mut Reader) -> Result<Stmt, ParseFault>
     requires at { StandsAt reader.old }
     requires word { Meets (The_word (codes "wire")) reader.old }
     ensures ok { IfOk result (λ it. HasTaken (A Statement ∷ []) reader.old reader.new (it, tt)) }
@@ -28,7 +67,7 @@ pub fn read_wire(alloc: Global, reader: &mut Reader) -> Result<Stmt, ParseFault>
 }
 
 /// A register with its type and its clock.
-pub fn read_reg(alloc: Global, reader: &mut Reader) -> Result<Stmt, ParseFault>
+fn read_reg(alloc: Global, reader: &mut Reader) -> Result<Stmt, ParseFault>
     requires at { StandsAt reader.old }
     requires word { Meets (The_word (codes "reg")) reader.old }
     ensures ok { IfOk result (λ it. HasTaken (A Statement ∷ []) reader.old reader.new (it, tt)) }
@@ -44,7 +83,7 @@ pub fn read_reg(alloc: Global, reader: &mut Reader) -> Result<Stmt, ParseFault>
 }
 
 /// A register with its type, its clock, its reset and its value after a reset.
-pub fn read_regreset(alloc: Global, reader: &mut Reader) -> Result<Stmt, ParseFault>
+fn read_regreset(alloc: Global, reader: &mut Reader) -> Result<Stmt, ParseFault>
     requires at { StandsAt reader.old }
     requires word { Meets (The_word (codes "regreset")) reader.old }
     ensures ok { IfOk result (λ it. HasTaken (A Statement ∷ []) reader.old reader.new (it, tt)) }
@@ -62,7 +101,7 @@ pub fn read_regreset(alloc: Global, reader: &mut Reader) -> Result<Stmt, ParseFa
 }
 
 /// An instance of a module.
-pub fn read_inst(reader: &mut Reader) -> Result<Stmt, ParseFault>
+fn read_inst(reader: &mut Reader) -> Result<Stmt, ParseFault>
     requires at { StandsAt reader.old }
     requires word { Meets (The_word (codes "inst")) reader.old }
     ensures ok { IfOk result (λ it. HasTaken (A Statement ∷ []) reader.old reader.new (it, tt)) }
@@ -79,7 +118,7 @@ pub fn read_inst(reader: &mut Reader) -> Result<Stmt, ParseFault>
 }
 
 /// A node with its value.
-pub fn read_node(alloc: Global, reader: &mut Reader) -> Result<Stmt, ParseFault>
+fn read_node(alloc: Global, reader: &mut Reader) -> Result<Stmt, ParseFault>
     requires at { StandsAt reader.old }
     requires word { Meets (The_word (codes "node")) reader.old }
     ensures ok { IfOk result (λ it. HasTaken (A Statement ∷ []) reader.old reader.new (it, tt)) }
@@ -94,7 +133,7 @@ pub fn read_node(alloc: Global, reader: &mut Reader) -> Result<Stmt, ParseFault>
 }
 
 /// A connection: the driven side, then the source.
-pub fn read_connect(alloc: Global, reader: &mut Reader) -> Result<Stmt, ParseFault>
+fn read_connect(alloc: Global, reader: &mut Reader) -> Result<Stmt, ParseFault>
     requires at { StandsAt reader.old }
     requires word { Meets (The_word (codes "connect")) reader.old }
     ensures ok { IfOk result (λ it. HasTaken (A Statement ∷ []) reader.old reader.new (it, tt)) }
@@ -110,7 +149,7 @@ pub fn read_connect(alloc: Global, reader: &mut Reader) -> Result<Stmt, ParseFau
 }
 
 /// An invalidation.
-pub fn read_invalidate(alloc: Global, reader: &mut Reader) -> Result<Stmt, ParseFault>
+fn read_invalidate(alloc: Global, reader: &mut Reader) -> Result<Stmt, ParseFault>
     requires at { StandsAt reader.old }
     requires word { Meets (The_word (codes "invalidate")) reader.old }
     ensures ok { IfOk result (λ it. HasTaken (A Statement ∷ []) reader.old reader.new (it, tt)) }
@@ -125,7 +164,7 @@ pub fn read_invalidate(alloc: Global, reader: &mut Reader) -> Result<Stmt, Parse
 }
 
 /// The word `skip` and the end of its line.
-pub fn read_skip(reader: &mut Reader) -> Result<Place, ParseFault>
+fn read_skip(reader: &mut Reader) -> Result<Place, ParseFault>
     requires at { StandsAt reader.old }
     ensures ok { IfOk result (λ place. HasTaken (word_at "skip" ∷ line_end ∷ []) reader.old reader.new (place, tt)) }
     ensures at { OnOk result (StandsAt reader.new) }

@@ -34,8 +34,8 @@ invariant-read_statements-loop-alloc l = StandsAt l.reader × (blocks_at l.reade
 abbrev pub decreases-read_statements-loop-alloc : goal.decreases-read_statements-loop-alloc
 decreases-read_statements-loop-alloc l = length l.reader.laid.now - l.reader.at
 
-abbrev pub invariant-read_branches-loop-alloc : goal.invariant-read_branches-loop-alloc
-invariant-read_branches-loop-alloc l = StandsAt l.reader × (blocks_at l.reader ≡ blocks_at l.fn.reader) × Branches_so_far l.fn.reader l.reader l.fn.before l.arms
+abbrev pub invariant-read_branches-loop-reader : goal.invariant-read_branches-loop-reader
+invariant-read_branches-loop-reader l = StandsAt l.reader × (blocks_at l.reader ≡ blocks_at l.fn.reader) × Branches_so_far l.fn.reader l.reader l.fn.before l.arms
 
-abbrev pub decreases-read_branches-loop-alloc : goal.decreases-read_branches-loop-alloc
-decreases-read_branches-loop-alloc l = length l.reader.laid.now - l.reader.at
+abbrev pub decreases-read_branches-loop-reader : goal.decreases-read_branches-loop-reader
+decreases-read_branches-loop-reader l = length l.reader.laid.now - l.reader.at
