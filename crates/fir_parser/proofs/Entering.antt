@@ -16,7 +16,7 @@ use Rattle.fir_tree.proofs.ReadingLaws.{part-here, part-cons}
 use Rattle.fir_expr.specs.declared.reader.Reader.{Reader}
 use Rattle.fir_expr.proofs.Composition.{Enters, enters_by_piece, enters_by_two, piece_at}
 use Rattle.fir_parser.specs.Taking.{pieces}
-use Rattle.fir_parser.specs.Expected.{Meets, MeetsNext}
+use Rattle.fir_parser.specs.Expected.{Meets, MeetsNext, BeginsPort}
 
 word_is : (text : List ℕ) (p : Piece) → Takes (The_word text) p → A_token kind.Word text ≡ p
 word_is text (A_token kind.Word bytes) h = sym (ap (λ (b : List ℕ). A_token kind.Word b) h)
@@ -207,3 +207,8 @@ else_when_at reader m none (inr past) = enters_at_last (pieces reader) reader.at
 
 pub enters_else_when : (reader : Reader) → Meets (The_word (codes "else")) reader → ¬ (MeetsNext (The_mark 58) reader) → Enters (pieces reader) reader.at else_when
 enters_else_when reader m none = else_when_at reader m none (slice_get_cases reader.laid.now (reader.at + 1)).1
+
+-- a port begins with either word
+pub into_port : (reader : Reader) → BeginsPort reader → Enters (pieces reader) reader.at next_port
+into_port reader (inl m) = enters_word next_port "input" (λ ps. refl) reader m
+into_port reader (inr m) = enters_word next_port "output" (λ ps. refl) reader m

@@ -1,5 +1,5 @@
 -- Lists that are read in a loop, one item after the other.
-use Rattle.std.proofs.Common.{◌≡◌, ℕ, ◌+◌, ◌<◌, ◌≤◌, ◌-◌, Bool, true, false, List, [], ◌∷◌, ◌++◌, length, drop, refl, sym, ap, ◌∙◌, subst, arith, codes}
+use Rattle.std.proofs.Common.{◌≡◌, ℕ, ◌+◌, ◌<◌, ◌≤◌, ◌-◌, Bool, true, false, List, [], ◌∷◌, ◌++◌, length, drop, refl, sym, ap, ◌∙◌, subst, arith, codes, inl, inr}
 use Rattle.std.proofs.lemmas.List.{length-drop, append_assoc, append-nil}
 use Rattle.fir_layout.specs.declared.laid.Laid.{Laid}
 use Rattle.fir_types.specs.declared.memory.MemLine.{MemLine}
@@ -13,10 +13,10 @@ use Rattle.fir_tree.specs.Grammar.{Terminal, The_word, Closes, Symbol, Is, A, Ru
 use Rattle.fir_expr.specs.declared.reader.Reader.{Reader}
 use Rattle.fir_expr.proofs.Composition.{Enters}
 use Rattle.fir_parser.specs.Taking.{pieces, HasTaken, Refuses}
-use Rattle.fir_parser.specs.Expected.{Meets}
+use Rattle.fir_parser.specs.Expected.{Meets, BeginsPort}
 use Rattle.fir_parser.specs.Branching.{Branched}
 use Rattle.fir_parser.proofs.Joins.{joins, first, later, makes, breaks, nothing_taken}
-use Rattle.fir_parser.proofs.Entering.{enters_close, into_memory_line, into_statement, into_module, into_no_branch}
+use Rattle.fir_parser.proofs.Entering.{enters_close, into_memory_line, into_statement, into_module, into_no_branch, into_port, into_statements}
 
 -- What makes the rule from a later place on makes it from here on, with its tree changed so; a refusal there is one here.
 pub record Continues (r : Rule) (old now : Reader) (build : Tree r → Tree r) : Type 0 where
@@ -184,3 +184,53 @@ pub when_taken : (old a b new : Reader) (arm : Arm) (arms all : List Arm) (other
 when_taken old a b new arm arms all other enters h g one r =
     let made : all ≡ arm ∷ r.more = r.made ∙ ap (λ (xs : List Arm). xs ++ r.more) one in
     rw made (makes a_when enters (joins (joins h g) r.taken))
+
+-- modules
+
+module _ (old : Reader) where
+  pub no_modules_yet : Continues Modules old old (λ v. [] ++ v)
+  no_modules_yet = record { taken = λ new v h. h; refused = λ fault h. h }
+
+  pub more_modules : (now next : Reader) (xs : List TheModule) (x : TheModule) → Continues Modules old now (λ v. xs ++ v) → ¬ (Meets Closes now) → HasTaken (A Module ∷ []) now next (x, tt)
+      → Continues Modules old next (λ v. (xs ++ x ∷ []) ++ v)
+  more_modules now next xs x c none h = record {
+    taken = λ new v g. rw (append_assoc xs (x ∷ []) v) (c.taken new (x ∷ v) (makes next_module (into_module now none) (joins h g)));
+    refused = λ fault g. c.refused fault (breaks next_module (into_module now none) (later h g));
+  }
+
+  pub module_refused : (now : Reader) (xs : List TheModule) (fault : ParseFault) → Continues Modules old now (λ v. xs ++ v) → ¬ (Meets Closes now) → Refuses (A Module ∷ []) now fault
+      → Refuses (A Modules ∷ []) old fault
+  module_refused now xs fault c none g = c.refused fault (breaks next_module (into_module now none) (first _ g))
+
+  pub modules_closed : (now new : Reader) (xs : List TheModule) → Continues Modules old now (λ v. xs ++ v) → Meets Closes now → HasTaken (close_block ∷ []) now new tt
+      → HasTaken (A Modules ∷ []) old new (xs, tt)
+  modules_closed now new xs c m h = rw (append-nil xs) at (c.taken new [] (makes last_module (enters_close last_module (λ ps. refl) now m) h))
+
+  pub modules_close_refused : (now : Reader) (xs : List TheModule) (fault : ParseFault) → Continues Modules old now (λ v. xs ++ v) → Meets Closes now → Refuses (close_block ∷ []) now fault
+      → Refuses (A Modules ∷ []) old fault
+  modules_close_refused now xs fault c m g = c.refused fault (breaks last_module (enters_close last_module (λ ps. refl) now m) g)
+
+-- ports, and then statements
+
+module _ (old : Reader) where
+  pub no_ports : Continues Ports old old (λ v. ([] ++ v.0, v.1))
+  no_ports = record { taken = λ new v h. h; refused = λ fault h. h }
+
+  pub more_ports : (now next : Reader) (xs : List ModulePort) (x : ModulePort) → Continues Ports old now (λ v. (xs ++ v.0, v.1)) → BeginsPort now → HasTaken (A Port ∷ line_end ∷ []) now next (x, tt)
+      → Continues Ports old next (λ v. ((xs ++ x ∷ []) ++ v.0, v.1))
+  more_ports now next xs x c begins h = record {
+    taken = λ new v g. rw (append_assoc xs (x ∷ []) v.0) (c.taken new (x ∷ v.0, v.1) (makes next_port (into_port now begins) (joins h g)));
+    refused = λ fault g. c.refused fault (breaks next_port (into_port now begins) (later h g));
+  }
+
+  pub port_refused : (now : Reader) (xs : List ModulePort) (fault : ParseFault) → Continues Ports old now (λ v. (xs ++ v.0, v.1)) → BeginsPort now → Refuses (A Port ∷ line_end ∷ []) now fault
+      → Refuses (A Ports ∷ []) old fault
+  port_refused now xs fault c begins g = c.refused fault (breaks next_port (into_port now begins) (first _ g))
+
+  pub ports_end : (now new : Reader) (xs : List ModulePort) (ys : List Stmt) → Continues Ports old now (λ v. (xs ++ v.0, v.1)) → ¬ (BeginsPort now) → HasTaken (A Statements ∷ []) now new (ys, tt)
+      → HasTaken (A Ports ∷ []) old new ((xs, ys), tt)
+  ports_end now new xs ys c none h = rw (append-nil xs) at (c.taken new ([], ys) (makes last_port (into_statements now (λ m. none (inl m)) (λ m. none (inr m))) h))
+
+  pub body_refused : (now : Reader) (xs : List ModulePort) (fault : ParseFault) → Continues Ports old now (λ v. (xs ++ v.0, v.1)) → ¬ (BeginsPort now) → Refuses (A Statements ∷ []) now fault
+      → Refuses (A Ports ∷ []) old fault
+  body_refused now xs fault c none g = c.refused fault (breaks last_port (into_statements now (λ m. none (inl m)) (λ m. none (inr m))) g)

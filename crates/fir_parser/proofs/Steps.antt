@@ -40,7 +40,7 @@ length_afresh : (ns : List ℕ) → length (afresh ns) ≡ length ns
 length_afresh [] = refl
 length_afresh (n ∷ ns) = refl
 
-last_afresh : (ns : List ℕ) → last_suffixes (afresh ns) ≡ 0
+pub last_afresh : (ns : List ℕ) → last_suffixes (afresh ns) ≡ 0
 last_afresh [] = refl
 last_afresh (n ∷ ns) = refl
 
@@ -107,12 +107,12 @@ quiets at _ _ c h one no_dot = absurd c
 
 -- what is open behind a part, and what is left to read
 
-here_next : (old new : Reader) (l : Laid) → new.bytes.now ≡ old.bytes.now → new.laid.now ≡ old.laid.now → new.at ≡ old.at + 1 → slice_get old.laid.now old.at ≡ Some l
+pub here_next : (old new : Reader) (l : Laid) → new.bytes.now ≡ old.bytes.now → new.laid.now ≡ old.laid.now → new.at ≡ old.at + 1 → slice_get old.laid.now old.at ≡ Some l
     → here new ≡ past (here old) (piece_of old.bytes.now l)
 here_next old new l bytes laid at stands =
     rw (bytes, laid, at) (levels_next (pieces_of old.bytes.now old.laid.now) old.at (piece_of old.bytes.now l) (piece_at old.bytes.now old.laid.now old.at l stands))
 
-left_tokens : (list : List Laid) (i : ℕ) (l : Laid) → slice_get list i ≡ Some l → length (tokens_in (drop i list)) ≡ length (token_in l) + length (tokens_in (drop (i + 1) list))
+pub left_tokens : (list : List Laid) (i : ℕ) (l : Laid) → slice_get list i ≡ Some l → length (tokens_in (drop i list)) ≡ length (token_in l) + length (tokens_in (drop (i + 1) list))
 left_tokens list i l h = ap (λ (ls : List Laid). length (tokens_in ls)) (drop_at list i l h) ∙ length-append (token_in l) (tokens_in (drop (i + 1) list))
 
 pub stands_next : (old new : Reader) (l : Laid) → StandsAt old → new.bytes.now ≡ old.bytes.now → new.laid.now ≡ old.laid.now → new.at ≡ old.at + 1 → new.brackets ≡ old.brackets

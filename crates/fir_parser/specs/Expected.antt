@@ -6,7 +6,9 @@ use Rattle.fir_layout.specs.Pieces.{piece_of, bytes_of}
 use Rattle.fir_lexer.specs.declared.token.Token.{Token}
 use Rattle.fir_lexer.specs.declared.token.TokenKind.TheVariants.{Digits}
 use Rattle.fir_tree.specs.declared.fault.ParseFault.{ParseFault}
-use Rattle.fir_tree.specs.Grammar.{Terminal, The_word, The_mark, The_arrow, Line_ends, Opens, Closes, Ends, A_name, Takes, Kept, Is, name_in}
+use Rattle.fir_tree.specs.Grammar.{Terminal, The_word, The_mark, The_arrow, Line_ends, Opens, Closes, Ends, A_name, A_number, Three, Takes, Kept, Nothing, Is, start_of, name_in}
+use Rattle.place_text.specs.Places.{place}
+use Rattle.fir_tree.specs.declared.fault.ParseFault.TheVariants.{NoMemory, BadVersion}
 use Rattle.fir_tree.specs.Reading.{IsRefused}
 use Rattle.fir_expr.specs.declared.reader.Reader.{Reader}
 use Rattle.fir_parser.specs.declared.take.Expected.{Expected}
@@ -65,3 +67,9 @@ pub record DigitsText (bytes : List ℕ) (part : Laid) (text : List ℕ) : Type 
 -- `input` or `output` stands at the reader's place
 abbrev pub BeginsPort : Reader → Type 0
 BeginsPort reader = Meets (The_word (codes "input")) reader ⊎ Meets (The_word (codes "output")) reader
+
+-- the version's first number was refused: no number stands there, or another one than 3
+pub data VersionRefused (reader : Reader) : ParseFault → Type 0 where
+  no_number : (fault : ParseFault) → ¬ (Meets A_number reader) → IsRefused (Is Nothing Three ∷ []) reader.bytes.now reader.laid.now reader.at fault → VersionRefused reader fault
+  other_number : (m : Meets A_number reader) → ¬ (Meets Three reader) → VersionRefused reader (BadVersion (place reader.bytes.now (start_of m.laid)))
+  wants_memory : VersionRefused reader NoMemory

@@ -5,6 +5,8 @@
 pub mod block;
 pub mod header;
 pub mod memory;
+pub mod module;
 pub mod part;
 pub mod statement;
 pub mod take;
+pub mod version;

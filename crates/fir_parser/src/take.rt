@@ -1,6 +1,6 @@
 //! Single symbols of the grammar.
 
-ghost use Rattle.std.specs.Prelude.{◌≡◌, ◌<◌, ◌≤◌, ◌+◌, ◌-◌, ◌^◌, ◌⊎◌, ℕ, [], ◌∷◌, length, slice_get, take, drop, IfOk, IfErr, IfSome, IfNone, OnOk, MatchBool};
+ghost use Rattle.std.specs.Prelude.{◌≡◌, ◌<◌, ◌≤◌, ◌+◌, ◌-◌, ◌^◌, ◌⊎◌, ℕ, [], ◌∷◌, length, slice_get, take, drop, IfOk, IfErr, IfSome, IfNone, OnOk, OnErr, MatchBool};
 ghost use Rattle.place_text.specs.Places.{place};
 ghost use Rattle.fir_tree.specs.declared.fault.ParseFault.TheVariants.{NoMemory};
 ghost use Rattle.fir_layout.specs.Pieces.{bytes_of, piece_of};
@@ -38,7 +38,7 @@ pub enum Expected<'a> {
 }
 
 /// The part of the list at the reader's place.
-fn part(reader: &Reader) -> Option<Laid>
+pub fn part(reader: &Reader) -> Option<Laid>
     requires laid { IsLaidFrom reader.now.bytes.now reader.now.laid.now }
     ensures part { result ≡ slice_get reader.now.laid.now reader.now.at }
     ensures inside { IfSome result (λ l. IsInText reader.now.bytes.now l) }
@@ -100,7 +100,8 @@ fn next_part(reader: &Reader) -> Option<Laid>
 
 /// The fault of the part at the reader's place as one that can't continue the text.
 pub fn fault_here(reader: &Reader) -> ParseFault
-    requires { StandsAt reader.now }
+    requires short { length reader.now.bytes.now < 2 ^ 32 - 1 }
+    requires laid { IsLaidFrom reader.now.bytes.now reader.now.laid.now }
     ensures { NamesHere reader.now result }
 {
     let _reader = reader;
@@ -108,7 +109,7 @@ pub fn fault_here(reader: &Reader) -> ParseFault
 }
 
 /// Moves behind a part.
-fn advance(reader: &mut Reader)
+pub fn advance(reader: &mut Reader)
     requires { reader.old.at < length reader.old.laid.now }
     ensures { Steps reader.old reader.new }
 {
@@ -123,6 +124,8 @@ pub fn take(reader: &mut Reader, expected: Expected) -> Result<(), ParseFault>
     ensures at { OnOk result (StandsAt reader.new) }
     ensures blocks { OnOk result (blocks_at reader.new ≡ blocks_at reader.old) }
     ensures fresh { OnOk result (IsFresh reader.old → IsFresh reader.new) }
+    ensures missed { OnErr result (¬ (Meets (terminal expected.entry) reader.old)) }
+    ensures met { OnOk result (Meets (terminal expected.entry) reader.old) }
     ensures refused { IfErr result (λ fault. Refuses (Is Nothing (terminal expected.entry) ∷ []) reader.old fault) }
 {
     if !meets(reader, expected) {
@@ -250,7 +253,7 @@ pub fn take_number(reader: &mut Reader) -> Result<u128, ParseFault>
 }
 
 /// The bytes of a part that is digits.
-fn digits(bytes: &[u8], part: Laid) -> Option<&[u8]>
+pub fn digits(bytes: &[u8], part: Laid) -> Option<&[u8]>
     requires inside { IsInText bytes.now part }
     ensures some { IfSome result (λ text. DigitsText bytes.now part text.now) }
     ensures none { IfNone result (¬ (Takes A_number (piece_of bytes.now part))) }
