@@ -9,6 +9,9 @@ use Rattle.fir_layout.specs.declared.laid.Laid.{Laid}
 use Rattle.fir_layout.specs.declared.laid.Laid.TheVariants.{Item}
 use Rattle.fir_layout.specs.Layout.{token_in, tokens_in}
 use Rattle.fir_layout.specs.Pieces.{Piece, bytes_of, A_token, A_line_end, A_block_opens, A_block_closes, The_end, piece_of, pieces_of}
+use Rattle.std.proofs.Math.Path.{Path}
+use Rattle.place_text.specs.declared.place.Place.{Place}
+use Rattle.fir_tree.proofs.Cases.{some_injective}
 use Rattle.place_text.specs.Places.{place}
 use Rattle.fir_tree.specs.declared.fault.ParseFault.{ParseFault}
 use Rattle.fir_tree.specs.declared.fault.ParseFault.TheVariants.{NoMemory, BadVersion}
@@ -16,8 +19,8 @@ use Rattle.fir_tree.specs.Grammar.{Terminal, The_mark, A_number, Three, Takes, N
 use Rattle.fir_tree.specs.Faults.{Levels, past, is_deep, last_suffixes, with_suffix, most}
 use Rattle.fir_expr.specs.declared.reader.Reader.{Reader}
 use Rattle.fir_parser.specs.Taking.{pieces, here, blocks_at, StandsAt, HasTaken, Refuses, Steps}
-use Rattle.fir_parser.specs.Expected.{Meets, DigitsText}
-use Rattle.fir_parser.proofs.Steps.{Calms, Quiets, quiets, stands_next, here_next, left_tokens, last_afresh, taken_flat}
+use Rattle.fir_parser.specs.Expected.{Meets, NamesHere, DigitsText, VersionRefused, no_number, other_number, wants_memory}
+use Rattle.fir_parser.proofs.Steps.{Calms, Quiets, quiets, stands_next, here_next, left_tokens, last_afresh, taken_flat, number_taken}
 use Rattle.fir_parser.proofs.Joins.{joins}
 
 dot_is : (p : Piece) → Takes (The_mark 46) p → (bytes : List ℕ) × (A_token (kind.Mark 46) bytes ≡ p)
@@ -125,3 +128,34 @@ dot_taken old mid few d step =
     let p = dot_is (piece_of old.bytes.now d.laid) d.takes in
     let deep : is_deep (here old) (piece_of old.bytes.now d.laid) ≡ false = subst (λ (x : Piece). is_deep (here old) x ≡ false) p.1 (below (last_suffixes (here old).suffixes) few) in
     taken_flat old mid d.laid (The_mark 46) d.stands d.takes deep step
+
+module _ (old new : Reader) (l : Laid) (stands : slice_get old.laid.now old.at ≡ Some l) (takes : Takes Three (piece_of old.bytes.now l)) (step : Steps old new) where
+  pub three_taken : StandsAt old → HasTaken (Is Nothing Three ∷ []) old new tt
+  three_taken at = taken_flat old new l Three stands takes (quiet_three (here old) (piece_of old.bytes.now l) takes at.one at.no_dot).calm.flat step
+
+  pub three_stands : StandsAt old → StandsAt new
+  three_stands at = stands_next old new l at step.bytes step.laid step.at step.brackets stands (rw step.names (omega arith)) (quiet_three (here old) (piece_of old.bytes.now l) takes at.one at.no_dot).calm
+
+  pub three_blocks : StandsAt old → blocks_at new ≡ blocks_at old
+  three_blocks at = ap (λ (x : Levels). x.blocks) (here_next old new l step.bytes step.laid step.at stands) ∙ (quiet_three (here old) (piece_of old.bytes.now l) takes at.one at.no_dot).blocks
+
+  pub three_suffixes : StandsAt old → last_suffixes (here new).suffixes ≡ 0
+  three_suffixes at = ap (λ (x : Levels). last_suffixes x.suffixes) (here_next old new l step.bytes step.laid step.at stands) ∙ three_fresh (here old) (piece_of old.bytes.now l) takes at.no_dot
+
+three_met : (reader : Reader) → Meets Three reader → Meets A_number reader
+three_met reader m = record { laid = m.laid; stands = m.stands; takes = three_is_number (piece_of reader.bytes.now m.laid) m.takes }
+
+pub version_absent : (reader : Reader) (fault : ParseFault) → ¬ (Meets A_number reader) → NamesHere reader fault → VersionRefused reader fault
+version_absent reader fault none names = no_number fault none (names.refused Three (λ m. none (three_met reader m)) Nothing)
+
+ok_same : (a b : ℕ) → Path (Result ℕ NumberFault) (Ok a) (Ok b) → a ≡ b
+ok_same a b e = cc
+
+same_here : (reader : Reader) (l m : Laid) → slice_get reader.laid.now reader.at ≡ Some l → slice_get reader.laid.now reader.at ≡ Some m → m ≡ l
+same_here reader l m h g = some_injective (sym g ∙ h)
+
+pub other_version : (reader : Reader) (l : Laid) (digits : List ℕ) (number : ℕ) (at : Place) → slice_get reader.laid.now reader.at ≡ Some l → DigitsText reader.bytes.now l digits → IsMagnitude digits number
+    → ((other : Result ℕ NumberFault) → AnswersMagnitude (IsMagnitude digits) other → other ≡ Ok number) → ¬ (number ≡ 3) → at ≡ place reader.bytes.now (start_of l) → VersionRefused reader (BadVersion at)
+unfolding number_met
+other_version reader l digits number at stands w is only differs e = rw e (other_number (number_met reader l stands (number_taken reader.bytes.now l digits number w is))
+    (λ m. differs (sym (ok_same 3 number (only (Ok 3) (writes_three reader.bytes.now l digits w (subst (λ (x : Laid). Takes Three (piece_of reader.bytes.now x)) (same_here reader l m.laid stands m.stands) m.takes), omega arith))))))

@@ -1,0 +1,115 @@
+-- Whole texts: the circuit that is read, and the fault of a list that is refused.
+use Rattle.std.proofs.Common.{◌≡◌, ◌⊎◌, ℕ, zero, suc, ◌+◌, ◌<◌, ◌≤◌, List, [], ◌∷◌, ◌++◌, length, take, drop, refl, sym, ap, ◌∙◌, subst, arith, inl, inr, slice_get, slice_index_or, Some, Ok, Err, Result, MatchResult}
+use Rattle.std.proofs.lemmas.Option.{slice_get_within}
+use Rattle.std.proofs.lemmas.List.{length-drop, length-map}
+use Rattle.std.proofs.Math.Seq.{drop-nil}
+use Rattle.fir_layout.specs.declared.laid.Laid.{Laid}
+use Rattle.fir_layout.specs.declared.laid.Laid.TheVariants.{Item, LineEnd, Open, Close, End}
+use Rattle.fir_layout.specs.Layout.{IsInside, EndsOnce}
+use Rattle.fir_types.specs.declared.name.Name.{Name}
+use Rattle.fir_tree.specs.declared.circuit.Module.{Module as TheModule}
+use Rattle.fir_expr.specs.declared.reader.Reader.{Reader}
+use Rattle.fir_expr.specs.Standing.{IsLaidFrom}
+use Rattle.fir_parser.specs.Taking.{HasTaken}
+use Rattle.fir_layout.specs.Pieces.{Piece, piece_of, pieces_of}
+use Rattle.place_text.specs.Places.{place}
+use Rattle.fir_tree.specs.declared.fault.ParseFault.{ParseFault}
+use Rattle.fir_tree.specs.declared.fault.ParseFault.TheVariants.{NoMemory, BadVersion, TooDeep}
+use Rattle.fir_tree.specs.declared.circuit.Circuit.{Circuit}
+use Rattle.fir_tree.specs.Grammar.{A, Text, A_number, Ends, Nothing, Is, Symbol, Values, Spells, no_symbol, a_piece, Takes, Front, IsCircuit, field_names, start_of}
+use Rattle.fir_tree.specs.Faults.{IsShallow, IsBad, IsTooDeep, FaultOf, a_version, a_bad_piece, a_deep_piece, IsDeepAt}
+use Rattle.fir_tree.specs.Reading.{part, Stops, IsRefused, no_memory, at_bad_piece, at_deep_piece}
+use Rattle.fir_tree.proofs.Unique.{one_circuit}
+use Rattle.fir_tree.proofs.OneFault.{one_fault, accepted}
+
+-- the part from the beginning on is the whole
+stops_bad : (ps : List Piece) (k : ℕ) → Stops ps (A Text ∷ []) 0 k → IsShallow ps 0 k → IsBad ps k
+unfolding part
+stops_bad ps k stops shallow = record { before = stops.before; here = stops.here; shallow = shallow }
+
+front_deep : (ps : List Piece) (k : ℕ) → Front (A Text ∷ []) (part ps 0 (k + 1)) → IsDeepAt ps k → IsShallow ps 0 k → IsTooDeep ps k
+unfolding part
+front_deep ps k f deep shallow = record { here = f; deep = deep; shallow = shallow }
+
+-- the version's first number isn't what is refused
+pub record NotTheVersion (text : List ℕ) (list : List Laid) : Type 0 where
+  pub elsewhere : (l : Laid) → slice_get list 2 ≡ Some l → Takes A_number (piece_of text l) → ¬ (IsBad (pieces_of text list) 2)
+
+not_third : (text : List ℕ) (list : List Laid) (k : ℕ) (l : Laid) → NotTheVersion text list → slice_get list k ≡ Some l → IsBad (pieces_of text list) k → ¬ ((k ≡ 2) × Takes A_number (piece_of text l))
+not_third text list k l other stands bad (e, number) = other.elsewhere l (subst (λ (n : ℕ). slice_get list n ≡ Some l) e stands) number (subst (λ (n : ℕ). IsBad (pieces_of text list) n) e bad)
+
+-- the refusal of a text is its fault
+pub text_fault : (text : List ℕ) (list : List Laid) (fault : ParseFault) → NotTheVersion text list → IsRefused (A Text ∷ []) text list 0 fault → (fault ≡ NoMemory) ⊎ FaultOf text list fault
+text_fault text list _ other no_memory = inl refl
+text_fault text list _ other (at_bad_piece k l fault stands stops shallow named) =
+    let bad : IsBad (pieces_of text list) k = stops_bad (pieces_of text list) k (stops [] (tt, tt)) shallow in
+    inr (a_bad_piece k l fault stands bad (not_third text list k l other stands bad) named)
+text_fault text list _ other (at_deep_piece k l stands onward front shallow deep) =
+    inr (a_deep_piece k l stands (front_deep (pieces_of text list) k (front [] (tt, tt)) deep shallow))
+
+-- what is answered is the one circuit, or the one fault
+
+module _ (text : List ℕ) (list : List Laid) where
+  pub accepts_from : (result : Result Circuit ParseFault)
+      → MatchResult result (λ circuit. IsCircuit text list circuit) (λ fault. (fault ≡ NoMemory) ⊎ FaultOf text list fault)
+      → (circuit : Circuit) → IsCircuit text list circuit → ((k : ℕ) → ¬ (IsDeepAt (pieces_of text list) k)) → MatchResult result (λ given. given ≡ circuit) (λ fault. fault ≡ NoMemory)
+  accepts_from (Ok given) h circuit is shallow = one_circuit text list given circuit h is
+  accepts_from (Err fault) (inl e) circuit is shallow = e
+  accepts_from (Err fault) (inr f) circuit is shallow = absurd (accepted text list circuit fault is shallow f)
+
+  pub refuses_from : (result : Result Circuit ParseFault)
+      → MatchResult result (λ circuit. IsCircuit text list circuit × ((k : ℕ) → ¬ (IsDeepAt (pieces_of text list) k))) (λ fault. (fault ≡ NoMemory) ⊎ FaultOf text list fault)
+      → (fault : ParseFault) → FaultOf text list fault → MatchResult result (λ given. ⊥) (λ given. (given ≡ NoMemory) ⊎ (given ≡ fault))
+  refuses_from (Ok given) h fault f = accepted text list given fault h.0 h.1 f
+  refuses_from (Err given) (inl e) fault f = inl e
+  refuses_from (Err given) (inr g) fault f = inr (one_fault text list given fault g f)
+
+-- where the end was taken nothing is left
+
+spelled_end : (text : List ℕ) {ls rest : List Laid} {names after : List (List ℕ)} {vs : Values (Is Nothing Ends ∷ [])} → Spells text (Is Nothing Ends ∷ []) ls names vs rest after
+    → (l : Laid) × (ls ≡ l ∷ rest) × Takes Ends (piece_of text l)
+spelled_end text (a_piece {l} h no_symbol) = (l, refl, h)
+
+inner_end : (text : List ℕ) (size : ℕ) (x : Laid) → IsInside size x → ¬ (Takes Ends (piece_of text x))
+inner_end text size (Item token) inside takes = takes
+inner_end text size (LineEnd at) inside takes = takes
+inner_end text size (Open at) inside takes = takes
+inner_end text size (Close at) inside takes = takes
+inner_end text size (End at) inside takes = inside
+
+head_same : (x l : Laid) (xs rest : List Laid) → x ∷ xs ≡ l ∷ rest → l ≡ x
+head_same x l xs rest e = cc
+
+tail_same : (x l : Laid) (xs rest : List Laid) → x ∷ xs ≡ l ∷ rest → rest ≡ xs
+tail_same x l xs rest e = cc
+
+last_end : (text : List ℕ) (size : ℕ) (front : List Laid) (i : ℕ) (l : Laid) (rest : List Laid) → ((k : ℕ) (d : Laid) → k < length front → IsInside size (slice_index_or front k d))
+    → drop i (front ++ End size ∷ []) ≡ l ∷ rest → Takes Ends (piece_of text l) → rest ≡ []
+last_end text size [] zero l rest inside e takes = tail_same (End size) l [] rest e
+last_end text size [] (suc i) l rest inside e takes = absurd (none_left i l rest (rw drop-nil at e))
+  where
+    none_left : (i : ℕ) (l : Laid) (rest : List Laid) → [] ≡ l ∷ rest → ⊥
+    none_left i l rest e = cc
+last_end text size (x ∷ xs) zero l rest inside e takes = absurd (inner_end text size x (inside 0 x (omega arith)) (subst (λ (y : Laid). Takes Ends (piece_of text y)) (head_same x l (xs ++ End size ∷ []) rest e) takes))
+last_end text size (x ∷ xs) (suc i) l rest inside e takes = last_end text size xs i l rest (λ k d h. inside (suc k) d (omega (arith, h))) e takes
+
+pub nothing_behind : (old new : Reader) → IsLaidFrom old.bytes.now old.laid.now → HasTaken (Is Nothing Ends ∷ []) old new tt → drop new.at old.laid.now ≡ []
+nothing_behind old new laid h =
+    let end = spelled_end old.bytes.now h.read.spelled in
+    let made : drop old.at (laid.ends.front ++ End (length old.bytes.now) ∷ []) ≡ end.0 ∷ drop new.at old.laid.now = ap (λ (ls : List Laid). drop old.at ls) (sym laid.ends.made) ∙ end.1 in
+    last_end old.bytes.now (length old.bytes.now) laid.ends.front old.at end.0 (drop new.at old.laid.now) laid.ends.inside made end.2
+
+-- the circuit
+pub circuit_read : (old new : Reader) (main : Name) (modules : List TheModule) → old.at ≡ 0 → old.names ≡ field_names → HasTaken (A Text ∷ []) old new ((main, modules), tt) → drop new.at old.laid.now ≡ []
+    → IsCircuit old.bytes.now old.laid.now (record { names = new.names; main = main; modules = modules })
+circuit_read old new main modules at names h end = record { spelled = rw (end, at, names) at h.read.spelled }
+
+left_none : (list : List Laid) (j : ℕ) → drop j list ≡ [] → length list ≤ j
+left_none list j e = let counted : length (drop j list) ≡ 0 = ap (λ (ls : List Laid). length ls) e in let a = length-drop j list in omega (arith, a, counted)
+
+pub text_shallow : (old new : Reader) (ss : List Symbol) (vs : Values ss) → old.at ≡ 0 → HasTaken ss old new vs → drop new.at old.laid.now ≡ [] → (k : ℕ) → ¬ (IsDeepAt (pieces_of old.bytes.now old.laid.now) k)
+text_shallow old new ss vs at h end k deep =
+    let inside : k < length (pieces_of old.bytes.now old.laid.now) = slice_get_within (pieces_of old.bytes.now old.laid.now) k deep.piece deep.stands in
+    let counted : length (pieces_of old.bytes.now old.laid.now) ≡ length old.laid.now = length-map in
+    let behind : length old.laid.now ≤ new.at = left_none old.laid.now new.at end in
+    h.read.shallow.none k (omega (arith, at)) (omega (arith, inside, counted, behind)) deep
