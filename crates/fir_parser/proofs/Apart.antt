@@ -5,7 +5,7 @@ use Rattle.std.specs.Prelude.{not}
 use Rattle.fir_parser.specs.Reading.{is_apart}
 
 split : (other text : List ℕ) (b c : Bool) → bytes_eq other text ≡ b → IsTrue (not b && c) → (other ≡ text → ⊥) × IsTrue c
-split other text true c e h = absurd h
+split other text true c e h = cc
 split other text false c e h = ((λ same. let equal : bytes_eq other text ≡ true = (bytes_eq-Decides other text).1 same in cc), h)
 
 pub apart_none : (text : List ℕ) (others : List (List ℕ)) → IsTrue (is_apart text others) → ¬ (Contains others text)

@@ -1,5 +1,5 @@
 -- Whole texts: the circuit that is read, and the fault of a list that is refused.
-use Rattle.std.proofs.Common.{◌≡◌, ◌⊎◌, ℕ, zero, suc, ◌+◌, ◌<◌, ◌≤◌, List, [], ◌∷◌, ◌++◌, length, take, drop, refl, sym, ap, ◌∙◌, subst, arith, inl, inr, slice_get, slice_index_or, Some, Ok, Err, Result, MatchResult}
+use Rattle.std.proofs.Common.{◌≡◌, ◌⊎◌, ℕ, zero, suc, ◌+◌, ◌<◌, ◌≤◌, List, [], ◌∷◌, ◌++◌, length, take, drop, refl, sym, ap, ◌∙◌, subst, arith, inl, inr, codes, slice_get, slice_index_or, Some, Ok, Err, Result, MatchResult}
 use Rattle.std.proofs.lemmas.Option.{slice_get_within}
 use Rattle.std.proofs.lemmas.List.{length-drop, length-map}
 use Rattle.std.proofs.Math.Seq.{drop-nil}
@@ -11,12 +11,15 @@ use Rattle.fir_tree.specs.declared.circuit.Module.{Module as TheModule}
 use Rattle.fir_expr.specs.declared.reader.Reader.{Reader}
 use Rattle.fir_expr.specs.Standing.{IsLaidFrom}
 use Rattle.fir_parser.specs.Taking.{HasTaken}
+use Rattle.fir_parser.specs.Expected.{Meets, MeetsNext, WordsStand}
+use Rattle.fir_tree.proofs.Fronts.{Front-taken, Front-entered}
+use Rattle.fir_tree.proofs.Follows.{settled_case}
 use Rattle.fir_layout.specs.Pieces.{Piece, piece_of, pieces_of}
 use Rattle.place_text.specs.Places.{place}
 use Rattle.fir_tree.specs.declared.fault.ParseFault.{ParseFault}
 use Rattle.fir_tree.specs.declared.fault.ParseFault.TheVariants.{NoMemory, BadVersion, TooDeep}
 use Rattle.fir_tree.specs.declared.circuit.Circuit.{Circuit}
-use Rattle.fir_tree.specs.Grammar.{A, Text, A_number, Ends, Nothing, Is, Symbol, Values, Spells, no_symbol, a_piece, Takes, Front, IsCircuit, field_names, start_of}
+use Rattle.fir_tree.specs.Grammar.{A, Text, A_number, Three, Ends, The_word, Terminal, IsCase, a_text, cut, goes_into, word, Nothing, Is, Symbol, Values, Spells, no_symbol, a_piece, Takes, Front, IsCircuit, field_names, start_of}
 use Rattle.fir_tree.specs.Faults.{IsShallow, IsBad, IsTooDeep, FaultOf, a_version, a_bad_piece, a_deep_piece, IsDeepAt}
 use Rattle.fir_tree.specs.Reading.{part, Stops, IsRefused, no_memory, at_bad_piece, at_deep_piece}
 use Rattle.fir_tree.proofs.Unique.{one_circuit}
@@ -113,3 +116,56 @@ text_shallow old new ss vs at h end k deep =
     let counted : length (pieces_of old.bytes.now old.laid.now) ≡ length old.laid.now = length-map in
     let behind : length old.laid.now ≤ new.at = left_none old.laid.now new.at end in
     h.read.shallow.none k (omega (arith, at)) (omega (arith, inside, counted, behind)) deep
+
+-- one terminal is one part
+
+one_longer : (text : List ℕ) (s : Terminal) {ls rest : List Laid} {names after : List (List ℕ)} {vs : Values (Is Nothing s ∷ [])} → Spells text (Is Nothing s ∷ []) ls names vs rest after
+    → length ls ≡ length rest + 1
+one_longer text s (a_piece h no_symbol) = omega arith
+
+pub one_step : (old new : Reader) (s : Terminal) → HasTaken (Is Nothing s ∷ []) old new tt → new.at ≡ old.at + 1
+one_step old new s h =
+    let a = one_longer old.bytes.now s h.read.spelled in
+    let b = length-drop old.at old.laid.now in
+    let c = length-drop new.at old.laid.now in
+    let d = h.read.onward in
+    let e = h.read.within in
+    omega (arith, a, b, c, d, e)
+
+pub no_second : (old mid : Reader) → HasTaken (word "FIRRTL" ∷ []) old mid tt → ¬ (Meets (The_word (codes "version")) mid) → ¬ (WordsStand old)
+no_second old mid h none w =
+    let next : mid.at ≡ old.at + 1 = one_step old mid (The_word (codes "FIRRTL")) h in
+    none (record { laid = w.two.laid; stands = rw (h.laid, next) w.two.stands; takes = rw h.bytes w.two.takes })
+
+-- a list whose third part is bad begins with the two words
+words_first : (text : List ℕ) (p q : Piece) {body : List Symbol} → IsCase Text body → Front (body ++ []) (p ∷ q ∷ []) → Takes (The_word (codes "FIRRTL")) p × Takes (The_word (codes "version")) q
+words_first text p q a_text f = let a = Front-taken f in (a.0, (Front-taken a.1).0)
+
+words_there : (text : List ℕ) (list : List Laid) (l : Laid) → slice_get list 2 ≡ Some l → IsBad (pieces_of text list) 2
+    → (x : Laid) × (y : Laid) × (slice_get list 0 ≡ Some x) × (slice_get list 1 ≡ Some y) × Takes (The_word (codes "FIRRTL")) (piece_of text x) × Takes (The_word (codes "version")) (piece_of text y)
+words_there text [] l e bad = cc
+words_there text (x ∷ []) l e bad = cc
+words_there text (x ∷ y ∷ []) l e bad = cc
+words_there text (x ∷ y ∷ z ∷ ls) l e bad =
+    let entered = Front-entered bad.before in
+    let both = words_first text (piece_of text x) (piece_of text y) entered.1 entered.2 in
+    (x, y, refl, refl, both.0, both.1)
+
+pub without_words : (reader : Reader) → reader.at ≡ 0 → ¬ (WordsStand reader) → NotTheVersion reader.bytes.now reader.laid.now
+without_words reader at none = record { elsewhere = λ l stands number bad.
+  let w = words_there reader.bytes.now reader.laid.now l stands bad in
+  none (record { one = record { laid = w.0; stands = rw at w.2; takes = w.4 }; two = record { laid = w.1; stands = rw at w.3; takes = w.5 } }) }
+
+pub without_number : (reader : Reader) → reader.at ≡ 2 → ¬ (Meets A_number reader) → NotTheVersion reader.bytes.now reader.laid.now
+without_number reader at none = record { elsewhere = λ l stands number bad. none (record { laid = l; stands = rw at stands; takes = number }) }
+
+-- a list whose version was read isn't bad at its third part
+three_front : (ps : List Piece) → Front (A Text ∷ []) (part ps 0 3) → ¬ (IsBad ps 2)
+unfolding part
+three_front ps f bad = bad.here f
+
+pub with_version : (old new : Reader) → old.at ≡ 0 → new.at ≡ 3 → HasTaken (word "FIRRTL" ∷ word "version" ∷ Is Nothing Three ∷ []) old new tt → NotTheVersion old.bytes.now old.laid.now
+with_version old new at three h = record { elsewhere = λ l stands number. three_front (pieces_of old.bytes.now old.laid.now) (front_of old new at three h) }
+  where
+    front_of : (old new : Reader) → old.at ≡ 0 → new.at ≡ 3 → HasTaken (word "FIRRTL" ∷ word "version" ∷ Is Nothing Three ∷ []) old new tt → Front (A Text ∷ []) (part (pieces_of old.bytes.now old.laid.now) 0 3)
+    front_of old new at three h = goes_into _ a_text (rw (at, three) at ((h.read.leads _ (settled_case [] a_text (tt, tt))).back 3 (omega (arith, three)) cut))

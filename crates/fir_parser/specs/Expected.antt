@@ -73,3 +73,8 @@ pub data VersionRefused (reader : Reader) : ParseFault → Type 0 where
   no_number : (fault : ParseFault) → ¬ (Meets A_number reader) → IsRefused (Is Nothing Three ∷ []) reader.bytes.now reader.laid.now reader.at fault → VersionRefused reader fault
   other_number : (m : Meets A_number reader) → ¬ (Meets Three reader) → VersionRefused reader (BadVersion (place reader.bytes.now (start_of m.laid)))
   wants_memory : VersionRefused reader NoMemory
+
+-- the words that begin a text stand there
+pub record WordsStand (reader : Reader) : Type 0 where
+  pub one : Meets (The_word (codes "FIRRTL")) reader
+  pub two : MeetsNext (The_word (codes "version")) reader

@@ -1,11 +1,11 @@
 //! The version line.
 
-ghost use Rattle.std.specs.Prelude.{◌≡◌, ◌+◌, ◌-◌, ◌<◌, ◌≤◌, ◌^◌, [], ◌∷◌, length, IfOk, IfErr, OnOk};
+ghost use Rattle.std.specs.Prelude.{◌≡◌, ◌+◌, ◌-◌, ◌<◌, ◌≤◌, ◌^◌, [], ◌∷◌, length, IfOk, IfErr, OnOk, OnErr};
 ghost use Rattle.fir_tree.specs.Grammar.{Is, Nothing, Three, A_number, The_mark, word, mark, line_end};
 ghost use Rattle.fir_tree.specs.Faults.{most, last_suffixes};
 ghost use Rattle.fir_expr.specs.Standing.{IsLaidFrom};
 ghost use Rattle.fir_parser.specs.Taking.{StandsAt, HasTaken, Refuses, Steps, blocks_at, here};
-ghost use Rattle.fir_parser.specs.Expected.{Meets, VersionRefused};
+ghost use Rattle.fir_parser.specs.Expected.{Meets, VersionRefused, WordsStand};
 
 use crate::part::place_at;
 use crate::take::{Expected, advance, digits, fault_here, meets, part, take};
@@ -20,6 +20,8 @@ pub fn read_words(reader: &mut Reader) -> Result<(), ParseFault>
     ensures at { OnOk result (StandsAt reader.new) }
     ensures blocks { OnOk result (blocks_at reader.new ≡ blocks_at reader.old) }
     ensures refused { IfErr result (λ fault. Refuses (word "FIRRTL" ∷ word "version" ∷ []) reader.old fault) }
+    ensures absent { OnErr result (¬ (WordsStand reader.old)) }
+    ensures two { OnOk result (reader.new.at ≡ reader.old.at + 2) }
 {
     take(reader, Expected::Word("FIRRTL"))?;
     take(reader, Expected::Word("version"))?;

@@ -1,6 +1,7 @@
 use Rattle.std.proofs.lemmas.Result.{err_from_is_err_and}
 use Rattle.std.proofs.Common.{refl}
 use Rattle.fir_parser.proofs.Joins.{joins, first, later, makes, breaks}
+use Rattle.fir_parser.proofs.Texts.{nothing_behind}
 use Rattle.fir_parser.proofs.parser.read_circuit.Goals as goal
 
 pub returns-in_err-name-clause-refused : goal.returns-in_err-name-clause-refused
@@ -27,4 +28,5 @@ pub returns-clause-ok : goal.returns-clause-ok
 returns-clause-ok c = (joins (joins (joins c.in_ok-name.ensures.ok c.in_ok-take.ensures.ok) c.in_ok-modules.ensures.ok) c.in_ok-take-2.ensures.ok)
 
 pub returns-clause-end : goal.returns-clause-end
-returns-clause-end c = rw c.in_ok-modules.ensures.ok.laid at ?
+returns-clause-end c = rw (joins (joins c.in_ok-name.ensures.ok c.in_ok-take.ensures.ok) c.in_ok-modules.ensures.ok).laid at
+    (nothing_behind c.read_circuit_body.new.reader c.take-2.new.reader c.in_ok-modules.ensures.at.laid c.in_ok-take-2.ensures.ok)

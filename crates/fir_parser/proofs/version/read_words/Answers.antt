@@ -1,6 +1,9 @@
 use Rattle.std.proofs.lemmas.Result.{err_from_is_err_and}
 use Rattle.std.proofs.Common.{refl}
 use Rattle.fir_parser.proofs.Joins.{joins, first, later, makes, breaks}
+use Rattle.fir_tree.specs.Grammar.{The_word}
+use Rattle.std.proofs.Common.{codes, ◌∙◌, ap}
+use Rattle.fir_parser.proofs.Texts.{no_second, one_step}
 use Rattle.fir_parser.proofs.version.read_words.Goals as goal
 
 pub returns-in_err-take-clause-refused : goal.returns-in_err-take-clause-refused
@@ -15,3 +18,8 @@ returns-in_err-take-2-clause-refused c =
 
 pub returns-clause-ok : goal.returns-clause-ok
 returns-clause-ok c = (joins c.in_ok-take.ensures.ok c.in_ok-take-2.ensures.ok)
+
+pub returns-in_err-take-2-clause-absent : goal.returns-in_err-take-2-clause-absent
+returns-in_err-take-2-clause-absent c =
+    let p = err_from_is_err_and c.from_residual-in_err-take-2.result c.from_residual-in_err-take-2.ensures.1 in
+    rw p.1 (no_second _ _ c.in_ok-take.ensures.ok c.in_err-take-2.ensures.missed)
