@@ -1,5 +1,5 @@
 -- Whole texts: the circuit that is read, and the fault of a list that is refused.
-use Rattle.std.proofs.Common.{◌≡◌, ◌⊎◌, ℕ, zero, suc, ◌+◌, ◌<◌, ◌≤◌, List, [], ◌∷◌, ◌++◌, length, take, drop, refl, sym, ap, ◌∙◌, subst, arith, inl, inr, codes, slice_get, slice_index_or, Some, Ok, Err, Result, MatchResult}
+use Rattle.std.proofs.Common.{◌≡◌, ◌⊎◌, ℕ, zero, suc, ◌+◌, ◌<◌, ◌≤◌, List, [], ◌∷◌, ◌++◌, length, take, drop, refl, sym, ap, ◌∙◌, subst, arith, inl, inr, codes, slice_get, slice_index_or, Some, Ok, Err, Result, IfOk, IfErr, MatchResult}
 use Rattle.std.proofs.lemmas.Option.{slice_get_within}
 use Rattle.std.proofs.lemmas.List.{length-drop, length-map}
 use Rattle.std.proofs.Math.Seq.{drop-nil}
@@ -10,16 +10,19 @@ use Rattle.fir_types.specs.declared.name.Name.{Name}
 use Rattle.fir_tree.specs.declared.circuit.Module.{Module as TheModule}
 use Rattle.fir_expr.specs.declared.reader.Reader.{Reader}
 use Rattle.fir_expr.specs.Standing.{IsLaidFrom}
-use Rattle.fir_parser.specs.Taking.{HasTaken}
+use Rattle.fir_parser.specs.Taking.{pieces, HasTaken, Refuses}
+use Rattle.fir_expr.proofs.Composition.{Enters}
+use Rattle.fir_parser.proofs.Entering.{enters_part}
 use Rattle.fir_parser.specs.Expected.{Meets, MeetsNext, WordsStand}
 use Rattle.fir_tree.proofs.Fronts.{Front-taken, Front-entered}
 use Rattle.fir_tree.proofs.Follows.{settled_case}
+use Rattle.fir_tree.proofs.ReadingLaws.{part-here}
 use Rattle.fir_layout.specs.Pieces.{Piece, piece_of, pieces_of}
 use Rattle.place_text.specs.Places.{place}
 use Rattle.fir_tree.specs.declared.fault.ParseFault.{ParseFault}
 use Rattle.fir_tree.specs.declared.fault.ParseFault.TheVariants.{NoMemory, BadVersion, TooDeep}
 use Rattle.fir_tree.specs.declared.circuit.Circuit.{Circuit}
-use Rattle.fir_tree.specs.Grammar.{A, Text, A_number, Three, Ends, The_word, Terminal, IsCase, a_text, cut, goes_into, word, Nothing, Is, Symbol, Values, Spells, no_symbol, a_piece, Takes, Front, IsCircuit, field_names, start_of}
+use Rattle.fir_tree.specs.Grammar.{A, Text, A_number, Three, Ends, The_word, Terminal, IsCase, a_text, cut, goes_into, word, mark, line_end, name, colon, Circuit_body, Nothing, Is, Symbol, Values, Spells, no_symbol, a_piece, Takes, Front, IsCircuit, field_names, start_of}
 use Rattle.fir_tree.specs.Faults.{IsShallow, IsBad, IsTooDeep, FaultOf, a_version, a_bad_piece, a_deep_piece, IsDeepAt}
 use Rattle.fir_tree.specs.Reading.{part, Stops, IsRefused, no_memory, at_bad_piece, at_deep_piece}
 use Rattle.fir_tree.proofs.Unique.{one_circuit}
@@ -53,19 +56,18 @@ text_fault text list _ other (at_deep_piece k l stands onward front shallow deep
 -- what is answered is the one circuit, or the one fault
 
 module _ (text : List ℕ) (list : List Laid) where
-  pub accepts_from : (result : Result Circuit ParseFault)
-      → MatchResult result (λ circuit. IsCircuit text list circuit) (λ fault. (fault ≡ NoMemory) ⊎ FaultOf text list fault)
+  pub accepts_from : (result : Result Circuit ParseFault) → IfOk result (λ circuit. IsCircuit text list circuit) → IfErr result (λ fault. (fault ≡ NoMemory) ⊎ FaultOf text list fault)
       → (circuit : Circuit) → IsCircuit text list circuit → ((k : ℕ) → ¬ (IsDeepAt (pieces_of text list) k)) → MatchResult result (λ given. given ≡ circuit) (λ fault. fault ≡ NoMemory)
-  accepts_from (Ok given) h circuit is shallow = one_circuit text list given circuit h is
-  accepts_from (Err fault) (inl e) circuit is shallow = e
-  accepts_from (Err fault) (inr f) circuit is shallow = absurd (accepted text list circuit fault is shallow f)
+  accepts_from (Ok given) h g circuit is shallow = one_circuit text list given circuit h is
+  accepts_from (Err fault) h (inl e) circuit is shallow = e
+  accepts_from (Err fault) h (inr f) circuit is shallow = absurd (accepted text list circuit fault is shallow f)
 
-  pub refuses_from : (result : Result Circuit ParseFault)
-      → MatchResult result (λ circuit. IsCircuit text list circuit × ((k : ℕ) → ¬ (IsDeepAt (pieces_of text list) k))) (λ fault. (fault ≡ NoMemory) ⊎ FaultOf text list fault)
+  pub refuses_from : (result : Result Circuit ParseFault) → IfOk result (λ circuit. IsCircuit text list circuit) → IfOk result (λ _. (k : ℕ) → ¬ (IsDeepAt (pieces_of text list) k))
+      → IfErr result (λ fault. (fault ≡ NoMemory) ⊎ FaultOf text list fault)
       → (fault : ParseFault) → FaultOf text list fault → MatchResult result (λ given. ⊥) (λ given. (given ≡ NoMemory) ⊎ (given ≡ fault))
-  refuses_from (Ok given) h fault f = accepted text list given fault h.0 h.1 f
-  refuses_from (Err given) (inl e) fault f = inl e
-  refuses_from (Err given) (inr g) fault f = inr (one_fault text list given fault g f)
+  refuses_from (Ok given) h s g fault f = accepted text list given fault h s f
+  refuses_from (Err given) h s (inl e) fault f = inl e
+  refuses_from (Err given) h s (inr g) fault f = inr (one_fault text list given fault g f)
 
 -- where the end was taken nothing is left
 
@@ -86,13 +88,13 @@ head_same x l xs rest e = cc
 tail_same : (x l : Laid) (xs rest : List Laid) → x ∷ xs ≡ l ∷ rest → rest ≡ xs
 tail_same x l xs rest e = cc
 
+none_left : (l : Laid) (rest : List Laid) → [] ≡ l ∷ rest → ⊥
+none_left l rest e = cc
+
 last_end : (text : List ℕ) (size : ℕ) (front : List Laid) (i : ℕ) (l : Laid) (rest : List Laid) → ((k : ℕ) (d : Laid) → k < length front → IsInside size (slice_index_or front k d))
     → drop i (front ++ End size ∷ []) ≡ l ∷ rest → Takes Ends (piece_of text l) → rest ≡ []
 last_end text size [] zero l rest inside e takes = tail_same (End size) l [] rest e
-last_end text size [] (suc i) l rest inside e takes = absurd (none_left i l rest (rw drop-nil at e))
-  where
-    none_left : (i : ℕ) (l : Laid) (rest : List Laid) → [] ≡ l ∷ rest → ⊥
-    none_left i l rest e = cc
+last_end text size [] (suc i) l rest inside e takes = let shorter : drop i [] ≡ l ∷ rest = e in absurd (none_left l rest (sym (drop-nil i) ∙ shorter))
 last_end text size (x ∷ xs) zero l rest inside e takes = absurd (inner_end text size x (inside 0 x (omega arith)) (subst (λ (y : Laid). Takes Ends (piece_of text y)) (head_same x l (xs ++ End size ∷ []) rest e) takes))
 last_end text size (x ∷ xs) (suc i) l rest inside e takes = last_end text size xs i l rest (λ k d h. inside (suc k) d (omega (arith, h))) e takes
 
@@ -113,7 +115,7 @@ left_none list j e = let counted : length (drop j list) ≡ 0 = ap (λ (ls : Lis
 pub text_shallow : (old new : Reader) (ss : List Symbol) (vs : Values ss) → old.at ≡ 0 → HasTaken ss old new vs → drop new.at old.laid.now ≡ [] → (k : ℕ) → ¬ (IsDeepAt (pieces_of old.bytes.now old.laid.now) k)
 text_shallow old new ss vs at h end k deep =
     let inside : k < length (pieces_of old.bytes.now old.laid.now) = slice_get_within (pieces_of old.bytes.now old.laid.now) k deep.piece deep.stands in
-    let counted : length (pieces_of old.bytes.now old.laid.now) ≡ length old.laid.now = length-map in
+    let counted : length (pieces_of old.bytes.now old.laid.now) ≡ length old.laid.now = length-map old.laid.now (piece_of old.bytes.now) in
     let behind : length old.laid.now ≤ new.at = left_none old.laid.now new.at end in
     h.read.shallow.none k (omega (arith, at)) (omega (arith, inside, counted, behind)) deep
 
@@ -168,4 +170,15 @@ pub with_version : (old new : Reader) → old.at ≡ 0 → new.at ≡ 3 → HasT
 with_version old new at three h = record { elsewhere = λ l stands number. three_front (pieces_of old.bytes.now old.laid.now) (front_of old new at three h) }
   where
     front_of : (old new : Reader) → old.at ≡ 0 → new.at ≡ 3 → HasTaken (word "FIRRTL" ∷ word "version" ∷ Is Nothing Three ∷ []) old new tt → Front (A Text ∷ []) (part (pieces_of old.bytes.now old.laid.now) 0 3)
-    front_of old new at three h = goes_into _ a_text (rw (at, three) at ((h.read.leads _ (settled_case [] a_text (tt, tt))).back 3 (omega (arith, three)) cut))
+    front_of old new at three h =
+        let nothing : part (pieces_of old.bytes.now old.laid.now) new.at 3 ≡ [] = part-here (pieces_of old.bytes.now old.laid.now) new.at 3 (omega (arith, three)) in
+        let leads = h.read.leads (mark 46 ∷ Is Nothing A_number ∷ mark 46 ∷ Is Nothing A_number ∷ line_end ∷ word "circuit" ∷ name ∷ colon ∷ line_end ∷ A Circuit_body ∷ Is Nothing Ends ∷ []) (settled_case [] a_text (tt, tt)) in
+        goes_into _ a_text (rw at at (leads.back 3 (omega (arith, three)) (rw nothing cut)))
+
+-- a refusal of the version's number is the fault of the text
+pub enters_text : (reader : Reader) → Enters (pieces reader) reader.at a_text
+enters_text reader = enters_part a_text reader (λ l stands ps. refl)
+
+pub refused_text : (reader : Reader) (fault : ParseFault) → reader.at ≡ 0 → NotTheVersion reader.bytes.now reader.laid.now → Refuses (A Text ∷ []) reader fault
+    → (fault ≡ NoMemory) ⊎ FaultOf reader.bytes.now reader.laid.now fault
+refused_text reader fault at other r = text_fault reader.bytes.now reader.laid.now fault other (rw at at r.refused)

@@ -40,7 +40,7 @@ pub fn parse(alloc: Global, bytes: &[u8], laid: &[Laid]) -> Result<Circuit, Pars
     read_all(alloc, bytes, laid)
 }
 
-fn read_all(alloc: Global, bytes: &[u8], laid: &[Laid]) -> Result<Circuit, ParseFault>
+fn read_all<'a>(alloc: Global, bytes: &'a [u8], laid: &'a [Laid]) -> Result<Circuit, ParseFault>
     requires short { length bytes.now < 2 ^ 32 - 1 }
     requires laid { IsLaidFrom bytes.now laid.now }
     ensures ok { IfOk result (λ circuit. IsCircuit bytes.now laid.now circuit) }

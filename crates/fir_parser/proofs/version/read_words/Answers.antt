@@ -2,7 +2,7 @@ use Rattle.std.proofs.lemmas.Result.{err_from_is_err_and}
 use Rattle.std.proofs.Common.{refl}
 use Rattle.fir_parser.proofs.Joins.{joins, first, later, makes, breaks}
 use Rattle.fir_tree.specs.Grammar.{The_word}
-use Rattle.std.proofs.Common.{codes, ◌∙◌, ap}
+use Rattle.std.proofs.Common.{codes, arith}
 use Rattle.fir_parser.proofs.Texts.{no_second, one_step}
 use Rattle.fir_parser.proofs.version.read_words.Goals as goal
 
@@ -23,3 +23,9 @@ pub returns-in_err-take-2-clause-absent : goal.returns-in_err-take-2-clause-abse
 returns-in_err-take-2-clause-absent c =
     let p = err_from_is_err_and c.from_residual-in_err-take-2.result c.from_residual-in_err-take-2.ensures.1 in
     rw p.1 (no_second _ _ c.in_ok-take.ensures.ok c.in_err-take-2.ensures.missed)
+
+pub returns-clause-two : goal.returns-clause-two
+returns-clause-two c =
+    let a = one_step _ _ _ c.in_ok-take.ensures.ok in
+    let b = one_step _ _ _ c.in_ok-take-2.ensures.ok in
+    omega (arith, a, b)
