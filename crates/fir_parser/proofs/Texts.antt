@@ -182,3 +182,6 @@ enters_text reader = enters_part a_text reader (λ l stands ps. refl)
 pub refused_text : (reader : Reader) (fault : ParseFault) → reader.at ≡ 0 → NotTheVersion reader.bytes.now reader.laid.now → Refuses (A Text ∷ []) reader fault
     → (fault ≡ NoMemory) ⊎ FaultOf reader.bytes.now reader.laid.now fault
 refused_text reader fault at other r = text_fault reader.bytes.now reader.laid.now fault other (rw at at r.refused)
+
+pub at_three : (old mid new : Reader) → old.at ≡ 0 → mid.at ≡ old.at + 2 → HasTaken (Is Nothing Three ∷ []) mid new tt → new.at ≡ 3
+at_three old mid new start two h = let a = one_step mid new Three h in omega (arith, start, two, a)

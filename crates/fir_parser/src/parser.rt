@@ -2,7 +2,7 @@
 
 ghost use Rattle.std.specs.Prelude.{◌≡◌, ◌<◌, ◌≤◌, ◌+◌, ◌-◌, ◌^◌, ◌⊎◌, ◌++◌, ℕ, [], ◌∷◌, length, drop, codes, IfOk, IfErr, OnOk, IsTrue, MatchResult};
 ghost use Rattle.fir_layout.specs.Pieces.{pieces_of};
-ghost use Rattle.fir_tree.specs.Grammar.{Is, A, Nothing, Ends, Three, A_number, Circuit_body, IsCircuit, word, mark, name, colon, line_end, field_names};
+ghost use Rattle.fir_tree.specs.Grammar.{Is, A, Nothing, Ends, Three, A_number, Circuit_body, Text, IsCircuit, word, mark, name, colon, line_end, field_names};
 ghost use Rattle.fir_tree.specs.Faults.{IsDeepAt, FaultOf};
 ghost use Rattle.fir_tree.specs.declared.fault.ParseFault.{ParseFault as TheFault};
 ghost use Rattle.fir_tree.specs.declared.fault.ParseFault.TheVariants.{NoMemory};
@@ -52,16 +52,29 @@ fn read_all<'a>(alloc: Global, bytes: &'a [u8], laid: &'a [Laid]) -> Result<Circ
     }
     let mut reader = Reader::new(alloc, bytes, laid);
     add_field_names(&mut reader.names)?;
-    read_words(&mut reader)?;
-    take_three(&mut reader)?;
-    read_numbers(&mut reader)?;
-    let circuit = read_circuit(alloc, &mut reader)?;
+    let circuit = read_text(alloc, &mut reader)?;
     let (main, modules) = circuit;
     Ok(Circuit {
         names: reader.names,
         main,
         modules,
     })
+}
+
+/// The version line and the circuit.
+fn read_text(alloc: Global, reader: &mut Reader) -> Result<(Name, List<Module>), ParseFault>
+    requires at { StandsAt reader.old }
+    requires counted { blocks_at reader.old ≡ 0 }
+    requires start { reader.old.at ≡ 0 }
+    ensures ok { IfOk result (λ it. HasTaken (A Text ∷ []) reader.old reader.new ((it.0, it.1), tt)) }
+    ensures end { OnOk result (drop reader.new.at reader.old.laid.now ≡ []) }
+    ensures fault { IfErr result (λ fault. (fault ≡ NoMemory) ⊎ FaultOf reader.old.bytes.now reader.old.laid.now fault) }
+{
+    read_words(reader)?;
+    take_three(reader)?;
+    read_numbers(reader)?;
+    let circuit = read_circuit(alloc, reader)?;
+    Ok(circuit)
 }
 
 /// The circuit behind the version line, up to the end of the text.
