@@ -68,6 +68,7 @@ fn read_text(alloc: Global, reader: &mut Reader) -> Result<(Name, List<Module>),
     requires start { reader.old.at ≡ 0 }
     ensures ok { IfOk result (λ it. HasTaken (A Text ∷ []) reader.old reader.new ((it.0, it.1), tt)) }
     ensures end { OnOk result (drop reader.new.at reader.old.laid.now ≡ []) }
+    ensures shallow { IfOk result (λ _. (k : ℕ) → ¬ (IsDeepAt (pieces_of reader.old.bytes.now reader.old.laid.now) k)) }
     ensures fault { IfErr result (λ fault. (fault ≡ NoMemory) ⊎ FaultOf reader.old.bytes.now reader.old.laid.now fault) }
 {
     read_words(reader)?;

@@ -1,7 +1,7 @@
 use Rattle.std.proofs.lemmas.Result.{err_from_is_err_and}
 use Rattle.fir_tree.specs.Grammar.{a_text}
 use Rattle.fir_parser.proofs.Joins.{joins, first, later, makes, breaks}
-use Rattle.fir_parser.proofs.Texts.{enters_text, refused_text, without_words, with_version, at_three}
+use Rattle.fir_parser.proofs.Texts.{enters_text, refused_text, without_words, with_version, at_three, text_shallow}
 use Rattle.fir_parser.proofs.parser.read_text.Goals as goal
 
 pub returns-in_err-read_words-clause-fault : goal.returns-in_err-read_words-clause-fault
@@ -21,3 +21,7 @@ returns-in_err-circuit-clause-fault c =
 
 pub returns-clause-ok : goal.returns-clause-ok
 returns-clause-ok c = makes a_text (enters_text c.args.reader.now) (joins (joins (joins c.in_ok-read_words.ensures.ok c.in_ok-take_three.ensures.ok) c.in_ok-read_numbers.ensures.ok) c.in_ok-circuit.ensures.ok)
+
+pub returns-clause-shallow : goal.returns-clause-shallow
+returns-clause-shallow c = text_shallow c.args.reader.now c.read_circuit.new.reader _ _ c.requires.start (returns-clause-ok c)
+    (rw (joins (joins c.in_ok-read_words.ensures.ok c.in_ok-take_three.ensures.ok) c.in_ok-read_numbers.ensures.ok).laid at c.in_ok-circuit.ensures.end)
