@@ -1,16 +1,16 @@
 -- Whole texts: the circuit that is read, and the fault of a list that is refused.
-use Rattle.std.proofs.Common.{◌≡◌, ◌⊎◌, ℕ, zero, suc, ◌+◌, ◌<◌, ◌≤◌, List, [], ◌∷◌, ◌++◌, length, take, drop, refl, sym, ap, ◌∙◌, subst, arith, inl, inr, codes, slice_get, slice_index_or, Some, Ok, Err, Result, IfOk, IfErr, MatchResult}
+use Rattle.std.proofs.Common.{◌≡◌, ◌⊎◌, ℕ, zero, suc, ◌+◌, ◌<◌, ◌≤◌, List, [], ◌∷◌, ◌++◌, length, take, drop, refl, sym, ap, ◌∙◌, subst, arith, inl, inr, codes, length-append, ◌^◌, ◌-◌, slice_get, slice_index_or, Some, Ok, Err, Result, IfOk, IfErr, MatchResult}
 use Rattle.std.proofs.lemmas.Option.{slice_get_within}
 use Rattle.std.proofs.lemmas.List.{length-drop, length-map}
 use Rattle.std.proofs.Math.Seq.{drop-nil}
 use Rattle.fir_layout.specs.declared.laid.Laid.{Laid}
 use Rattle.fir_layout.specs.declared.laid.Laid.TheVariants.{Item, LineEnd, Open, Close, End}
-use Rattle.fir_layout.specs.Layout.{IsInside, EndsOnce}
+use Rattle.fir_layout.specs.Layout.{IsInside, EndsOnce, tokens_in, token_in}
 use Rattle.fir_types.specs.declared.name.Name.{Name}
 use Rattle.fir_tree.specs.declared.circuit.Module.{Module as TheModule}
 use Rattle.fir_expr.specs.declared.reader.Reader.{Reader}
 use Rattle.fir_expr.specs.Standing.{IsLaidFrom}
-use Rattle.fir_parser.specs.Taking.{pieces, HasTaken, Refuses}
+use Rattle.fir_parser.specs.Taking.{pieces, StandsAt, HasTaken, Refuses}
 use Rattle.fir_expr.proofs.Composition.{Enters}
 use Rattle.fir_parser.proofs.Entering.{enters_part}
 use Rattle.fir_parser.specs.Expected.{Meets, MeetsNext, WordsStand}
@@ -185,3 +185,23 @@ refused_text reader fault at other r = text_fault reader.bytes.now reader.laid.n
 
 pub at_three : (old mid new : Reader) → old.at ≡ 0 → mid.at ≡ old.at + 2 → HasTaken (Is Nothing Three ∷ []) mid new tt → new.at ≡ 3
 at_three old mid new start two h = let a = one_step mid new Three h in omega (arith, start, two, a)
+
+few_tokens : (l : Laid) → length (token_in l) ≤ 1
+few_tokens (Item token) = omega arith
+few_tokens (LineEnd at) = omega arith
+few_tokens (Open at) = omega arith
+few_tokens (Close at) = omega arith
+few_tokens (End at) = omega arith
+
+tokens_fewer : (list : List Laid) → length (tokens_in list) ≤ length list
+tokens_fewer [] = omega arith
+tokens_fewer (l ∷ ls) =
+    let a : length (tokens_in (l ∷ ls)) ≡ length (token_in l) + length (tokens_in ls) = length-append (token_in l) (tokens_in ls) in
+    let b = few_tokens l in
+    let c = tokens_fewer ls in
+    omega (arith, a, b, c)
+
+pub stands_start : (r : Reader) → length r.bytes.now < 2 ^ 32 - 1 → IsLaidFrom r.bytes.now r.laid.now → r.at ≡ 0 → r.names ≡ field_names → r.brackets ≡ 0 → length r.laid.now < 4294967286 → StandsAt r
+stands_start r short laid at names brackets few =
+    let c = tokens_fewer r.laid.now in
+    record { short = short; laid = laid; within = rw at (omega arith); room = rw (at, names) (omega (arith, c, few)); outside = brackets; one = rw at refl; no_dot = rw at refl }
