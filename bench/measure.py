@@ -1,4 +1,4 @@
-"""Prints a table of ratios: the time of `check` divided by that of md5sum, and peak memory for each byte of the text.
+"""Prints a table: the time of `check` for texts of several kinds against that of md5sum, and peak memory a byte of text.
 
 usage: measure.py PROGRAM
 """
@@ -9,16 +9,41 @@ import tempfile
 import time
 
 LIMIT = 1_048_576  # the greatest circuit in bytes
+HEAD = b"FIRRTL version 3.0.0\ncircuit M :\n  module M :\n"
+DIGITS = "0123456789abcdefghijklmnopqrstuvwxyz"
 
 
 def filled(line, size):
     return (line * (size // len(line) + 1))[: size // len(line) * len(line)]
 
 
+def name(number):
+    """A short name of its own for each number."""
+    text = ""
+    while True:
+        number, digit = divmod(number, len(DIGITS))
+        text = DIGITS[digit] + text
+        if number == 0:
+            return "n" + text
+
+
+def dense(size):
+    ports = b"    input a : UInt<16>\n    output io : { out : { bits : UInt<16> }[4] }\n"
+    return HEAD + ports + filled(b"    connect io.out[3].bits, tail(add(a, UInt<16>(0h1f)), 1)\n", size)
+
+
+def chain(count):
+    """So many nodes in one module, each of which refers to the one before."""
+    lines = [f" node {name(k)}={name(k - 1)}\n" if k else " node n0=UInt<1>(0)\n" for k in range(count)]
+    return b"FIRRTL version 3.0.0\ncircuit M:\n module M:\n" + "".join(" " + line for line in lines).encode()
+
+
 TEXTS = {
     "comments and infos, 1 MB": filled(b"; a comment, and so on\n@[Chisel.scala 10:20]\n", LIMIT),
-    "dense statements, 1 MB": b"FIRRTL version 3.0.0\ncircuit M :\n  module M :\n"
-    + filled(b"    connect io.out[3].bits, tail(add(_T_12, UInt<16>(0h1f)), 1)\n", LIMIT - 100),
+    "dense statements, 0.25 MB": dense(LIMIT // 4),
+    "dense statements, 1 MB": dense(LIMIT - 200),
+    "12,500 declarations and references": chain(12_500),
+    "50,000 declarations and references": chain(50_000),
     "comments, 5 MB (too long, so only read)": filled(b"; a comment, and so on\n", 5_242_880),
 }
 
@@ -32,6 +57,11 @@ def best_seconds(command, path):
             took = time.perf_counter() - began
         best = took if best is None else min(best, took)
     return best
+
+
+def answer(command, path):
+    with open(path, "rb") as text:
+        return subprocess.run(command, stdin=text, stdout=subprocess.PIPE).stdout.decode().strip()
 
 
 def peak_bytes(command, path):
@@ -53,15 +83,15 @@ def peak_bytes(command, path):
 def main():
     check = [os.path.realpath(sys.argv[1]), "check"]
     base = peak_bytes(check, "/dev/null")
-    print(f"{'text':42} {'check ms':>9} {'md5sum ms':>9} {'ratio':>7} {'bytes of memory a byte':>23}")
+    print(f"{'text':40} {'bytes':>9} {'check ms':>9} {'md5sum ms':>9} {'ratio':>7} {'memory a byte':>13}  answer")
     with tempfile.TemporaryDirectory() as folder:
-        for name, text in TEXTS.items():
+        for kind, text in TEXTS.items():
             path = os.path.join(folder, "text")
             with open(path, "wb") as file:
                 file.write(text)
             ours, theirs = best_seconds(check, path), best_seconds(["md5sum"], path)
-            memory = max(0, max(peak_bytes(check, path) for _ in range(5)) - base) / len(text)
-            print(f"{name:42} {ours * 1000:9.1f} {theirs * 1000:9.1f} {ours / theirs:7.1f} {memory:23.1f}")
+            memory = max(0, max(peak_bytes(check, path) for _ in range(3)) - base) / len(text)
+            print(f"{kind:40} {len(text):9} {ours * 1000:9.1f} {theirs * 1000:9.1f} {ours / theirs:7.1f} {memory:13.1f}  {answer(check, path)}")
 
 
 main()

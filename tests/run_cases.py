@@ -39,8 +39,13 @@ def main():
     cases = [json.loads(line) for line in (folder / "cases.jsonl").read_text().splitlines()]
     run(program, ["check"], b"")  # builds the program where that has still to be done
     faults = [(case["name"], fault_of(program, case)) for case in cases]
-    counter = (folder / "../examples/counter.fir").read_bytes()
-    faults.append(("every prefix of the counter gives one line", bad_prefix(program, counter)))
+    examples = folder / "../examples"
+    for name in ("counter.fir", "gcd.fir"):
+        text = (examples / name).read_bytes()
+        faults.append((f"every prefix of {name} gives one line", bad_prefix(program, text)))
+    for path in sorted([*examples.glob("*.fir"), *examples.glob("*.txt")]):
+        case = {"words": ["check"], "stdin": path.read_text("latin-1"), "status": 0, "stdout": "ok\n"}
+        faults.append((f"check accepts {path.name}", fault_of(program, case)))
     too_long = {"words": ["check"], "stdin": " " * 5_242_881, "status": 2, "stdout": "circuit TooLong 1:1\n"}
     faults.append(("a text over 5,242,880 bytes is too long", fault_of(program, too_long)))
     failed = [(name, fault) for name, fault in faults if fault]

@@ -45,7 +45,7 @@ pub bits_below : (w : ℕ) (n : ℤ) → bits_of w n < 2 ^ w
 bits_below w (pos n) = mod-lt n (pow_pos w)
 bits_below w (negsuc n) = let some = pow_pos w in omega arith
 
-bits_level : (w : ℕ) (n : ℤ) → Level w (pos (bits_of w n)) n
+pub bits_level : (w : ℕ) (n : ℤ) → Level w (pos (bits_of w n)) n
 bits_level w (pos n) = let split = div-add-mod' n (2 ^ w) in record { left = n / 2 ^ w; right = 0; same = omega (arith, ints) }
 bits_level w (negsuc n) =
     let split = div-add-mod' n (2 ^ w) in
@@ -116,7 +116,7 @@ one_fits kind w n m within c =
     let its = Level-from w (fit_of kind w n) n (fit_congruent kind w n) in
     same_in_range kind w m (fit_of kind w n) within (fit_in_range kind w n) (Level-trans w m n _ mine (Level-sym w _ n its))
 
-Level-refl : (w : ℕ) (a : ℤ) → Level w a a
+pub Level-refl : (w : ℕ) (a : ℤ) → Level w a a
 Level-refl w a = record { left = 0; right = 0; same = refl }
 
 -- an integer in range stays

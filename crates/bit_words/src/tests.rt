@@ -2,7 +2,7 @@
 
 use crate::{
     Base, Boxed, Kind, List, Number, NumberFault, Value, digits_value, fit, fits, from_words,
-    high_word, low_word, push_decimal, read_magnitude, read_number,
+    high_word, least_width, low_word, push_decimal, read_magnitude, read_number, value_from,
 };
 use std::test::Fail;
 
@@ -108,6 +108,54 @@ fn numbers_fit_widths(rt: HostRuntime) {
             magnitude,
         };
         assert_eq!(rt; fits(number, kind, width), answer);
+    }
+}
+
+#[test]
+fn literals_take_the_least_width(rt: HostRuntime) {
+    for (negative, magnitude, kind, width) in [
+        (false, 0, Kind::Unsigned, Some(1)),
+        (true, 0, Kind::Unsigned, Some(1)),
+        (true, 1, Kind::Unsigned, None),
+        (false, 255, Kind::Unsigned, Some(8)),
+        (false, 256, Kind::Unsigned, Some(9)),
+        (false, u128::MAX, Kind::Unsigned, Some(128)),
+        (false, 0, Kind::Signed, Some(1)),
+        (true, 1, Kind::Signed, Some(1)),
+        (false, 1, Kind::Signed, Some(2)),
+        (true, 128, Kind::Signed, Some(8)),
+        (true, 129, Kind::Signed, Some(9)),
+        (false, 1 << 127, Kind::Signed, Some(129)),
+        (true, u128::MAX, Kind::Signed, Some(129)),
+    ] {
+        let number = Number {
+            negative,
+            magnitude,
+        };
+        assert_eq!(rt; least_width(kind, number), width);
+    }
+}
+
+#[test]
+fn literals_have_values(rt: HostRuntime) {
+    for (negative, magnitude, width, bits) in [
+        (true, 0, 0, 0),
+        (true, 1, 1, 1),
+        (true, 8, 4, 8),
+        (false, 7, 4, 7),
+        (true, 1 << 127, 128, 1 << 127),
+    ] {
+        let number = Number {
+            negative,
+            magnitude,
+        };
+        if fits(number, Kind::Signed, u128::from(width)) {
+            let value = value_from(Kind::Signed, width, number);
+            assert_eq!(rt; value.bits, bits);
+            assert_eq!(rt; value.width, width);
+        } else {
+            assert!(rt; false);
+        }
     }
 }
 

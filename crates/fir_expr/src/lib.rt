@@ -3,6 +3,16 @@
 //! refusal is the grammar's token, with its kind and place.
 #![tactic(auto)]
 
+mod expressions;
+mod integers;
+mod literals;
 pub mod reader;
+mod take;
+mod types;
 
 pub use reader::{Reader, read_expr, read_reference, read_type};
+
+#[cfg(test)]
+mod expression_tests;
+#[cfg(test)]
+mod tests;

@@ -6,6 +6,8 @@ ghost use Rattle.fir_tree.specs.Grammar.{Type_of, Expression, Reference};
 ghost use Rattle.fir_tree.specs.Reading.{Reads as ReadsRule};
 ghost use Rattle.fir_expr.specs.Standing.{IsLaidFrom, StandsIn, BeginsType, IsWhole, wanted};
 
+use crate::expressions::{expr, reference};
+use crate::types::typ;
 use fir_layout::Laid;
 use fir_tree::{Expr, Names, ParseFault};
 use fir_types::FirType;
@@ -64,7 +66,16 @@ pub fn read_type(alloc: Global, reader: &mut Reader) -> Result<FirType, ParseFau
     ensures whole { IfOk result (λ _. IsWhole (pieces_of reader.old.bytes.now reader.old.laid.now) reader.old.at reader.new.at) }
     ensures room { IfOk result (λ _. wanted reader.new.names reader.old.laid.now reader.new.at ≤ wanted reader.old.names reader.old.laid.now reader.old.at) }
 {
-    Err(ParseFault::NoMemory)
+    let (read, end) = typ(
+        alloc,
+        reader.bytes,
+        reader.laid,
+        &mut reader.names,
+        reader.at,
+        reader.brackets,
+    )?;
+    reader.at = end;
+    Ok(read)
 }
 
 /// The longest expression from the reader's place on (FIRRTL specification 3.0, "Expressions"). As `read_type` otherwise.
@@ -81,7 +92,16 @@ pub fn read_expr(alloc: Global, reader: &mut Reader) -> Result<Expr, ParseFault>
     ensures whole { IfOk result (λ _. IsWhole (pieces_of reader.old.bytes.now reader.old.laid.now) reader.old.at reader.new.at) }
     ensures room { IfOk result (λ _. wanted reader.new.names reader.old.laid.now reader.new.at ≤ wanted reader.old.names reader.old.laid.now reader.old.at) }
 {
-    Err(ParseFault::NoMemory)
+    let (read, end) = expr(
+        alloc,
+        reader.bytes,
+        reader.laid,
+        &mut reader.names,
+        reader.at,
+        reader.brackets,
+    )?;
+    reader.at = end;
+    Ok(read)
 }
 
 /// The longest reference from the reader's place on: a component and the way to one of its parts (FIRRTL specification 3.0,
@@ -99,5 +119,14 @@ pub fn read_reference(alloc: Global, reader: &mut Reader) -> Result<Expr, ParseF
     ensures whole { IfOk result (λ _. IsWhole (pieces_of reader.old.bytes.now reader.old.laid.now) reader.old.at reader.new.at) }
     ensures room { IfOk result (λ _. wanted reader.new.names reader.old.laid.now reader.new.at ≤ wanted reader.old.names reader.old.laid.now reader.old.at) }
 {
-    Err(ParseFault::NoMemory)
+    let (read, end) = reference(
+        alloc,
+        reader.bytes,
+        reader.laid,
+        &mut reader.names,
+        reader.at,
+        reader.brackets,
+    )?;
+    reader.at = end;
+    Ok(read)
 }

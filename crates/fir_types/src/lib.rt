@@ -1,15 +1,32 @@
 //! The types of a circuit: ground types, bundles and vectors, their leaves, and the ports and memories that have them.
-//! They are plain data: contracts see a type as the tree that it is, and lists in it as lists.
+//! They are plain data: contracts see a type as the tree that it is, and lists in it as lists. The calls count and list
+//! leaves, judge passive and equivalent types, copy a type, and make the bundles of instances and memories.
 #![tactic(auto)]
 
+pub mod bundles;
+pub mod copying;
+pub mod counting;
+pub mod equivalence;
 pub mod fir_type;
+pub mod laws;
 pub mod leaf;
+pub mod listing;
 pub mod memory;
 pub mod name;
+pub mod passivity;
 pub mod port;
 
+pub use bundles::{instance_type, memory_type};
+pub use copying::copy;
+pub use counting::{has_clock, leaf_count};
+pub use equivalence::{equivalent, field_of};
 pub use fir_type::{Field, FirType, Shape};
 pub use leaf::{PathStep, TypeLeaf};
+pub use listing::leaves;
 pub use memory::{MemLine, Memory, PortMode, Under};
 pub use name::Name;
+pub use passivity::passive;
 pub use port::Port;
+
+#[cfg(test)]
+mod tests;

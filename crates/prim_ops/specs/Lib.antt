@@ -1,1 +1,5 @@
 pub mod Operations
+pub mod Kinds
+pub mod Widths
+pub mod Results
+pub mod Integers

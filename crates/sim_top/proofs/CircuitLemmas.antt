@@ -1,11 +1,10 @@
 -- A small circuit's pieces: what stands above its ports, its ports and statements, and what stands below.
-use Rattle.std.proofs.Common.{◌≡◌, ℕ, zero, suc, ◌+◌, ◌-◌, ◌<◌, ◌≤◌, ◌^◌, List, [], ◌∷◌, ◌++◌, length, map, take, drop, true, false, refl, ap, ◌∙◌, sym, subst, arith, append-nil, append_assoc, length-append, length-drop, rules, Some, Ok}
-use Rattle.std.specs.Prelude.{All, Result, Option}
+use Rattle.std.proofs.Common.{◌≡◌, ℕ, ◌+◌, ◌-◌, ◌<◌, ◌≤◌, ◌^◌, List, [], ◌∷◌, ◌++◌, length, map, take, drop, true, false, refl, ap, ◌∙◌, sym, arith, append-nil, append_assoc, length-drop, Some, Ok}
+use Rattle.std.specs.Prelude.{Result, Option}
 use Rattle.std.specs.declared.alloc.AllocError.{AllocError}
 use Rattle.std.specs.List.{flat_map}
 use Rattle.std.proofs.lemmas.Grind.{common_steps}
 use Rattle.std.proofs.lemmas.List.{length-map, drop-map}
-use Rattle.std.proofs.lemmas.List.Concat.{flat_map-append}
 use Rattle.fir_layout.specs.Pieces.{Piece, A_block_closes, The_end}
 use Rattle.sim_top.specs.declared.piece.Piece.{Piece as Lent}
 use Rattle.sim_top.specs.declared.circuit.SmallCircuit.{SmallCircuit}
@@ -13,7 +12,7 @@ use Rattle.sim_top.specs.declared.circuit.Port.{Port}
 use Rattle.sim_top.specs.declared.circuit.Statement.{Statement}
 use Rattle.sim_top.specs.declared.circuit.Statement.TheVariants as statement
 use Rattle.sim_top.specs.Pieces.{shown}
-use Rattle.sim_top.specs.SmallCircuits.{Ink, port_line, statement_line, line_pieces, small_pieces, direction, body_lines}
+use Rattle.sim_top.specs.SmallCircuits.{Ink, port_line, statement_line, line_pieces, small_pieces}
 use Rattle.sim_top.specs.Lines.{lines_of, front_pieces, BeginsNone, IsFront}
 use Rattle.sim_top.specs.Writable.{IsWritable, IsWritableStatement}
 use Rattle.sim_top.proofs.LineLemmas.{cut_shown, length_shown, joined_shown}

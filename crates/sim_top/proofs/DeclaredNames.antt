@@ -1,11 +1,10 @@
 -- Facts on each name that a list gives, by facts on its items; and lists of names that differ.
-use Rattle.std.proofs.Common.{◌≡◌, ◌↔◌, ℕ, ◌<◌, Bool, true, false, cond, List, [], ◌∷◌, ◌++◌, length, get_or, map, refl, sym, ap, ◌∙◌, ⊎_elim, inl, inr, ◌⊎◌, arith, Decides, IsTrue}
+use Rattle.std.proofs.Common.{◌≡◌, ◌↔◌, ℕ, ◌<◌, Bool, true, false, List, [], ◌∷◌, ◌++◌, length, get_or, map, refl, sym, ap, ◌∙◌, ⊎_elim, inl, inr, ◌⊎◌, arith, Decides, IsTrue}
 use Rattle.std.specs.Prelude.{Contains, All, if◌then◌else◌, MatchBool}
 use Rattle.std.specs.List.{AllWithin, HoldsAt}
 use Rattle.std.proofs.lemmas.Bool.{false≢true}
-use Rattle.std.proofs.lemmas.List.Elements.{All-contains, Contains-get_or, All-nil, All-cons, All-head, All-tail, All-append, All-from_all_within, AllWithin-from_all, Contains-append_cases, Contains-append_left, Contains-append_right}
-use Rattle.sim_top.proofs.Memberships.{Contains-cons}
-use Rattle.sim_top.specs.SmallCircuits.{IsName, Differ, output_names, register_names, targets}
+use Rattle.std.proofs.lemmas.List.Elements.{All-contains, Contains-get_or, All-nil, All-cons, All-head, All-tail, All-from_all_within}
+use Rattle.sim_top.specs.SmallCircuits.{IsName, output_names, register_names, targets}
 use Rattle.sim_top.specs.declared.circuit.Port.{Port}
 use Rattle.sim_top.specs.declared.circuit.Statement.{Statement}
 use Rattle.sim_top.specs.declared.circuit.Statement.TheVariants as statement

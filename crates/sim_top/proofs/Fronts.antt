@@ -1,13 +1,13 @@
 -- A text has one laid list or one first fault.
-use Rattle.std.proofs.Common.{◌≡◌, ℕ, ◌<◌, ◌≤◌, List, [], ◌∷◌, ◌++◌, ◌⊎◌, ⊎_elim, length, Result, refl, sym, ap, ap₂, ◌∙◌, subst, arith}
-use Rattle.std.specs.Prelude.{Ok, Err, MatchResult, All, slice_index_or}
+use Rattle.std.proofs.Common.{◌≡◌, ℕ, ◌≤◌, List, [], ◌∷◌, ◌⊎◌, ⊎_elim, length, Result, refl, sym, ap, ap₂, ◌∙◌, subst, arith}
+use Rattle.std.specs.Prelude.{Err, All, slice_index_or}
 use Rattle.std.proofs.lemmas.List.Elements.{All-append}
 use Rattle.place_text.specs.Places.{place}
 use Rattle.place_text.specs.declared.place.Place.{Place}
 use Rattle.fir_lexer.specs.Tokens.{AreTokens, IsFault, FaultKind, tokens_of}
 use Rattle.fir_lexer.specs.declared.token.Token.{Token}
 use Rattle.fir_lexer.proofs.Readings.{one_fault, no_tokens}
-use Rattle.fir_layout.specs.Layout.{IsLaidOut, IsBadIndent, EndsOnce, IsInside as Stands}
+use Rattle.fir_layout.specs.Layout.{IsLaidOut, IsBadIndent, EndsOnce, tokens_in, IsInside as Stands}
 use Rattle.fir_layout.specs.declared.laid.Laid.{Laid}
 use Rattle.fir_layout.specs.declared.laid.Laid.TheVariants.{Item, LineEnd, Open, Close, End}
 use Rattle.fir_layout.specs.declared.layout.LayoutFault.{LayoutFault}
@@ -20,7 +20,7 @@ use Rattle.sim_top.specs.declared.front.TextFault.TheVariants.{Fault as Named, N
 use Rattle.sim_top.specs.declared.fault.Fault.{Fault}
 use Rattle.sim_top.specs.declared.fault.FaultKind.TheVariants.{BadIndent}
 use Rattle.sim_top.specs.Answers.{IsRefusedText, has_fault, circuit_limit}
-use Rattle.sim_top.specs.CircuitText.{lexing_kind, IsTextFault, of_tokens, of_layout, IsInside, IsLaidOnly, IsFaultOnly}
+use Rattle.sim_top.specs.CircuitText.{lexing_kind, IsFirstFault, of_tokens, of_layout, of_grammar, IsInside, IsLaidOnly, IsFaultOnly}
 
 -- a laid text and a text with a bad indent have tokens
 tokens_laid : (text : List ℕ) (laid : List Laid) → IsLaidOut text laid → (tokens : List Token) × AreTokens text tokens
@@ -33,19 +33,20 @@ tokens_indented text at b = (tokens_of 0 b.pieces, record { pieces = b.pieces; l
 abbrev token_fault : (text : List ℕ) (at : ℕ) (kind : FaultKind) → Fault
 token_fault text at kind = record { kind = lexing_kind kind; place = place text at }
 
-token_fault_only : (text : List ℕ) (at : ℕ) (kind : FaultKind) → IsFault text at kind → (other : Fault) → IsTextFault text other → other ≡ token_fault text at kind
+token_fault_only : (text : List ℕ) (at : ℕ) (kind : FaultKind) → IsFault text at kind → (other : Fault) → IsFirstFault text other → other ≡ token_fault text at kind
 token_fault_only text at kind f _ (of_tokens to other g) =
     let e = one_fault text to at other kind g f in ap₂ (token_fault text) e.0 e.1
 token_fault_only text at kind f _ (of_layout to b) = let t = tokens_indented text to b in absurd (no_tokens text at kind t.0 f t.1)
+token_fault_only text at kind f _ (of_grammar laid refusal fault l g e) = let t = tokens_laid text laid l in absurd (no_tokens text at kind t.0 f t.1)
 
 pub token_faults : (text : List ℕ) (at : ℕ) (kind : FaultKind) → IsFault text at kind → IsFaultOnly text (record { kind = lexing_kind kind; place = place text at })
 token_faults text at kind f = record {
   is = of_tokens at kind f;
   only = token_fault_only text at kind f;
-  none = λ laid l. let t = tokens_laid text laid l in no_tokens text at kind t.0 f t.1;
+  none = λ circuit laid a. let t = tokens_laid text laid a.laid_out in no_tokens text at kind t.0 f t.1;
 }
 
-same_error : {V : Type 0} (x y : TextFault) → ◌≡◌ {A = Result V TextFault} (Err x) (Err y) → x ≡ y
+pub same_error : {V : Type 0} (x y : TextFault) → ◌≡◌ {A = Result V TextFault} (Err x) (Err y) → x ≡ y
 same_error x y e = cc
 
 same_named : (x y : Fault) → Named x ≡ Named y → x ≡ y
@@ -59,10 +60,12 @@ no_place : (p : Place) → Bad_indent p ≡ NoMemory → ⊥
 no_place p e = cc
 
 layout_fault_only : (text : List ℕ) (tokens : List Token) (p : Place) → AreTokens text tokens
+    → ((laid : List Laid) → IsLaidOut text laid → Bad_indent p ≡ NoMemory)
     → ((at : ℕ) → IsBadIndent text at → (Bad_indent p ≡ NoMemory) ⊎ (Bad_indent p ≡ Bad_indent (place text at)))
-    → (other : Fault) → IsTextFault text other → other ≡ record { kind = BadIndent; place = p }
-layout_fault_only text tokens p lexed refuses _ (of_tokens at kind f) = absurd (no_tokens text at kind tokens f lexed)
-layout_fault_only text tokens p lexed refuses _ (of_layout at b) =
+    → (other : Fault) → IsFirstFault text other → other ≡ record { kind = BadIndent; place = p }
+layout_fault_only text tokens p lexed accepts refuses _ (of_tokens at kind f) = absurd (no_tokens text at kind tokens f lexed)
+layout_fault_only text tokens p lexed accepts refuses _ (of_grammar laid refusal fault l g e) = absurd (no_place p (accepts laid l))
+layout_fault_only text tokens p lexed accepts refuses _ (of_layout at b) =
     ⊎_elim (λ m. absurd (no_place p m)) (λ e. ap (λ q. record { kind = BadIndent; place = q }) (sym (same_place p (place text at) e))) (refuses at b)
 
 layout_faults : (text : List ℕ) (tokens : List Token) (p : Place) → AreTokens text tokens
@@ -71,9 +74,9 @@ layout_faults : (text : List ℕ) (tokens : List Token) (p : Place) → AreToken
     → ((at : ℕ) → IsBadIndent text at → (Bad_indent p ≡ NoMemory) ⊎ (Bad_indent p ≡ Bad_indent (place text at)))
     → IsFaultOnly text (record { kind = BadIndent; place = p })
 layout_faults text tokens p lexed found accepts refuses = ⊎_elim (λ m. absurd (no_place p m)) (λ (b : (at : ℕ) × IsBadIndent text at × (Bad_indent p ≡ Bad_indent (place text at))). record {
-  is = subst (IsTextFault text) (ap (λ q. record { kind = BadIndent; place = q }) (sym (same_place p (place text b.0) b.2))) (of_layout b.0 b.1);
-  only = layout_fault_only text tokens p lexed refuses;
-  none = λ laid l. no_place p (accepts laid l);
+  is = subst (IsFirstFault text) (ap (λ q. record { kind = BadIndent; place = q }) (sym (same_place p (place text b.0) b.2))) (of_layout b.0 b.1);
+  only = layout_fault_only text tokens p lexed accepts refuses;
+  none = λ circuit laid a. no_place p (accepts laid a.laid_out);
 }) found
 
 -- the same for a fault that is one of the layout
@@ -102,16 +105,14 @@ all_inside text laid e = subst (All (IsInside text)) (sym e.made)
     last : (text : List ℕ) → All (IsInside text) (End (length text) ∷ [])
     last text k d lt = let z : k ≡ 0 = omega arith in subst (λ i. IsInside text (slice_index_or (End (length text) ∷ []) i d)) (sym z) tt
 
-laid_none : (text : List ℕ) (tokens : List Token) → AreTokens text tokens → ((at : ℕ) → IsBadIndent text at → ⊥) → (fault : Fault) → IsTextFault text fault → ⊥
-laid_none text tokens lexed refuses _ (of_tokens at kind f) = no_tokens text at kind tokens f lexed
-laid_none text tokens lexed refuses _ (of_layout at b) = refuses at b
-
 pub laid_only : (text : List ℕ) (tokens : List Token) (laid : List Laid) → AreTokens text tokens → IsLaidOut text laid
-    → ((other : List Laid) → IsLaidOut text other → laid ≡ other) → ((at : ℕ) → IsBadIndent text at → ⊥) → EndsOnce (length text) laid → IsLaidOnly text laid
-laid_only text tokens laid lexed is accepts refuses ends = record {
+    → ((other : List Laid) → IsLaidOut text other → laid ≡ other) → ((at : ℕ) → IsBadIndent text at → ⊥) → tokens_in laid ≡ tokens → EndsOnce (length text) laid → IsLaidOnly text laid
+laid_only text tokens laid lexed is accepts refuses items ends = record {
   is = is;
   only = λ other l. sym (accepts other l);
-  none = laid_none text tokens lexed refuses;
+  lexed = λ at kind f. no_tokens text at kind tokens f lexed;
+  indented = refuses;
+  from = record { tokens = subst (AreTokens text) (sym items) lexed; ends = ends };
   inside = all_inside text laid ends;
 }
 

@@ -1,22 +1,23 @@
 -- What a command answers is settled by what the text is.
-use Rattle.std.proofs.Common.{◌≡◌, ℕ, ◌<◌, ◌≤◌, List, [], ◌∷◌, ◌++◌, ◌⊎◌, ⊎_elim, length, refl, sym, ap, ◌∙◌, subst, arith}
-use Rattle.std.specs.Prelude.{codes}
+use Rattle.std.proofs.Common.{◌≡◌, ℕ, ◌<◌, ◌≤◌, List, ◌⊎◌, ⊎_elim, inl, inr, length, refl, sym, ap, subst, arith}
+use Rattle.std.specs.Prelude.{codes, Some, None}
 use Rattle.fir_layout.specs.Pieces.{pieces_of}
 use Rattle.fir_layout.specs.declared.laid.Laid.{Laid}
 use Rattle.sim_top.specs.declared.command.Command.{Command}
 use Rattle.sim_top.specs.declared.command.Command.TheVariants.{Run, Check}
 use Rattle.sim_top.specs.declared.fault.Fault.{Fault}
-use Rattle.sim_top.specs.declared.fault.FaultKind.TheVariants.{TooLong, NoStimulus, NotBuilt}
+use Rattle.sim_top.specs.declared.fault.FaultKind.TheVariants.{TooLong, NoStimulus}
+use Rattle.sim_top.specs.declared.fault.StimulusFault.TheVariants.{BadLine}
+use Rattle.fir_tree.specs.declared.circuit.Circuit.{Circuit}
 use Rattle.sim_top.specs.declared.circuit.SmallCircuit.{SmallCircuit}
 use Rattle.sim_top.specs.declared.stimulus.SmallStimulus.{SmallStimulus}
 use Rattle.sim_top.specs.StimulusLine.{HasNone, IsSplit}
-use Rattle.fir_layout.specs.Layout.{IsLaidOut}
-use Rattle.sim_top.specs.CircuitText.{IsTextFault, IsLaidOnly, IsFaultOnly}
+use Rattle.sim_top.specs.CircuitText.{IsAcceptedOnly, IsFaultOnly}
 use Rattle.sim_top.specs.SmallCircuits.{IsSmallCircuit}
 use Rattle.sim_top.specs.SmallStimuli.{IsSmallStimulus}
 use Rattle.sim_top.specs.Cycles.{trace}
-use Rattle.sim_top.specs.Answers.{fault_bytes, at_front, joined_limit, circuit_limit, IsPart, before_line, all_of_it, IsTaken, AreSmall, JudgesTaken, text_fault, accepted, traced, not_built, Judges, joined_too_long, no_stimulus, circuit_too_long, taken, Settles, SettlesTaken, IsRefusedText, too_long, has_fault, AreSmallOnly, NoneSmall}
-use Rattle.sim_top.proofs.Splitting.{split_once, split_or_none, part_once, run_has_line}
+use Rattle.sim_top.specs.Answers.{fault_bytes, stimulus_fault_bytes, at_front, unsupported, joined_limit, circuit_limit, IsPart, before_line, IsTaken, RunsSmall, traced, bad_stimulus, JudgesTaken, refused, accepted, runs, not_small, Judges, joined_too_long, no_stimulus, circuit_too_long, taken, Settles, SettlesTaken, SettlesSmall, IsRefusedText, too_long, has_fault, IsAcceptedText}
+use Rattle.sim_top.proofs.Splitting.{split_once, part_once, run_has_line}
 
 -- the joined text is too long
 long_only : (command : Command) (joined : List ℕ) → joined_limit < length joined → (s : ℕ) (b : List ℕ) → Judges command joined s b → (s ≡ 2) × (b ≡ fault_bytes (at_front TooLong))
@@ -67,73 +68,125 @@ settles_taken command joined circuit status bytes t settled =
     record { is = taken command joined circuit status bytes t settled.is; only = taken_only command joined circuit status bytes t settled }
 
 -- the text has a fault
-fault_only : (command : Command) (joined circuit : List ℕ) (fault : Fault) → IsFaultOnly circuit fault → (s : ℕ) (b : List ℕ) → JudgesTaken command joined circuit s b
+fault_only : (command : Command) (joined text : List ℕ) (fault : Fault) → IsFaultOnly text fault → (s : ℕ) (b : List ℕ) → JudgesTaken command joined text s b
     → (s ≡ 2) × (b ≡ fault_bytes fault)
-fault_only command joined circuit fault f _ b (text_fault _ _ _ other o) = (refl, ap fault_bytes (f.only other o))
-fault_only Check joined circuit fault f _ b (accepted _ _ laid l) = absurd (f.none laid l)
-fault_only Run joined circuit fault f _ b (traced _ _ stimulus laid c s' p l a) = absurd (f.none laid l)
-fault_only Run joined circuit fault f _ b (not_built _ _ stimulus laid p l n) = absurd (f.none laid l)
+fault_only command joined text fault f _ b (refused _ _ _ other o) = (refl, ap fault_bytes (f.only other o))
+fault_only Check joined text fault f _ b (accepted _ _ circuit laid a) = absurd (f.none circuit laid a)
+fault_only Run joined text fault f s b (runs _ _ stimulus circuit laid c _ _ p a i r) = absurd (f.none circuit laid a)
+fault_only Run joined text fault f _ b (not_small _ _ circuit laid a n) = absurd (f.none circuit laid a)
 
-pub settles_fault : (command : Command) (joined circuit : List ℕ) (fault : Fault) → IsFaultOnly circuit fault → SettlesTaken command joined circuit 2 (fault_bytes fault)
-settles_fault command joined circuit fault f = record { is = text_fault command joined circuit fault f.is; only = fault_only command joined circuit fault f }
+pub settles_fault : (command : Command) (joined text : List ℕ) (fault : Fault) → IsFaultOnly text fault → SettlesTaken command joined text 2 (fault_bytes fault)
+settles_fault command joined text fault f = record { is = refused command joined text fault f.is; only = fault_only command joined text fault f }
 
 -- the circuit's text is refused
-pub settles_refused : (command : Command) (joined circuit : List ℕ) (fault : Fault) → length joined ≤ joined_limit → IsPart command joined circuit → IsRefusedText circuit fault
+pub settles_refused : (command : Command) (joined text : List ℕ) (fault : Fault) → length joined ≤ joined_limit → IsPart command joined text → IsRefusedText text fault
     → Settles command joined 2 (fault_bytes fault)
-settles_refused command joined circuit _ w p (too_long _ l) = settles_part_long command joined circuit w p l
-settles_refused command joined circuit fault w p (has_fault _ _ l f) =
-    settles_taken command joined circuit 2 (fault_bytes fault) (record { within = w; part = p; short = l }) (settles_fault command joined circuit fault f)
+settles_refused command joined text _ w p (too_long _ l) = settles_part_long command joined text w p l
+settles_refused command joined text fault w p (has_fault _ _ l f) =
+    settles_taken command joined text 2 (fault_bytes fault) (record { within = w; part = p; short = l }) (settles_fault command joined text fault f)
 
 -- `check` on a text without a fault
-accepted_only : (joined circuit : List ℕ) (laid : List Laid) → IsLaidOnly circuit laid → (s : ℕ) (b : List ℕ) → JudgesTaken Check joined circuit s b → (s ≡ 0) × (b ≡ codes "ok\n")
-accepted_only joined circuit laid o _ b (text_fault _ _ _ other f) = absurd (o.none other f)
-accepted_only joined circuit laid o _ b (accepted _ _ other l) = (refl, refl)
+accepted_only : (joined text : List ℕ) (circuit : Circuit) (laid : List Laid) → IsAcceptedOnly text circuit laid → (s : ℕ) (b : List ℕ) → JudgesTaken Check joined text s b
+    → (s ≡ 0) × (b ≡ codes "ok\n")
+accepted_only joined text circuit laid o _ b (refused _ _ _ other f) = absurd (o.none other f)
+accepted_only joined text circuit laid o _ b (accepted _ _ other others a) = (refl, refl)
 
-pub settles_accepted : (joined circuit : List ℕ) (laid : List Laid) → IsLaidOnly circuit laid → SettlesTaken Check joined circuit 0 (codes "ok\n")
-settles_accepted joined circuit laid o = record { is = accepted joined circuit laid o.is; only = accepted_only joined circuit laid o }
+pub settles_checked : (joined text : List ℕ) (circuit : Circuit) (laid : List Laid) → length joined ≤ joined_limit → IsPart Check joined text → IsAcceptedText text circuit laid
+    → Settles Check joined 0 (codes "ok\n")
+settles_checked joined text circuit laid w p a = settles_taken Check joined text 0 (codes "ok\n") (record { within = w; part = p; short = a.short })
+    (record { is = accepted joined text circuit laid a.accepted_only.is; only = accepted_only joined text circuit laid a.accepted_only })
 
-traced_only : (joined circuit stimulus : List ℕ) (laid : List Laid) (c : SmallCircuit) (s : SmallStimulus) → IsSplit joined circuit stimulus → IsLaidOnly circuit laid
-    → AreSmallOnly circuit laid stimulus c s → (code : ℕ) (b : List ℕ) → JudgesTaken Run joined circuit code b → (code ≡ 0) × (b ≡ trace c s)
-traced_only joined circuit stimulus laid c s p o a _ b (text_fault _ _ _ other f) = absurd (o.none other f)
-traced_only joined circuit stimulus laid c s p o a _ b (traced _ _ behind laid' d t q l m) =
-    let same = o.only laid' l in let back = (split_once joined circuit behind circuit stimulus q p).1 in
-    let m' : AreSmall (pieces_of circuit laid) stimulus d t = subst (λ x. AreSmall (pieces_of circuit laid) x d t) back (subst (λ x. AreSmall (pieces_of circuit x) behind d t) same m) in
-    let e = a.only d t m' in (refl, ap (λ x. trace x t) e.0 ∙ ap (trace c) e.1)
-traced_only joined circuit stimulus laid c s p o a _ b (not_built _ _ behind laid' q l n) =
-    let same = o.only laid' l in let back = (split_once joined circuit behind circuit stimulus q p).1 in
-    absurd (n c s (subst (λ x. AreSmall (pieces_of circuit laid') x c s) (sym back) (subst (λ x. AreSmall (pieces_of circuit x) stimulus c s) (sym same) a.are)))
+-- a run of a small circuit
+some_same : {A : Type 0} (x y : A) → Some x ≡ Some y → x ≡ y
+some_same x y e = cc
 
-pub settles_traced : (joined circuit stimulus : List ℕ) (laid : List Laid) (c : SmallCircuit) (s : SmallStimulus) → IsSplit joined circuit stimulus → IsLaidOnly circuit laid
-    → AreSmallOnly circuit laid stimulus c s → SettlesTaken Run joined circuit 0 (trace c s)
-settles_traced joined circuit stimulus laid c s p o a = record {
-  is = traced joined circuit stimulus laid c s p o.is a.are;
-  only = traced_only joined circuit stimulus laid c s p o a;
+none_is : {A : Type 0} (x : A) → None ≡ Some x → ⊥
+none_is x e = cc
+
+traced_only : (c : SmallCircuit) (stimulus : List ℕ) (s : SmallStimulus) → IsSmallStimulus c stimulus s → ((t : SmallStimulus) → IsSmallStimulus c stimulus t → Some s ≡ Some t)
+    → (code : ℕ) (b : List ℕ) → RunsSmall c stimulus code b → (code ≡ 0) × (b ≡ trace c s)
+traced_only c stimulus s i once _ _ (traced t j) = (refl, ap (trace c) (sym (some_same s t (once t j))))
+traced_only c stimulus s i once _ _ (bad_stimulus n) = absurd (n s i)
+
+pub settles_traced : (c : SmallCircuit) (stimulus : List ℕ) (s : SmallStimulus) → IsSmallStimulus c stimulus s
+    → ((t : SmallStimulus) → IsSmallStimulus c stimulus t → Some s ≡ Some t) → SettlesSmall c stimulus 0 (trace c s)
+settles_traced c stimulus s i once = record { is = traced s i; only = traced_only c stimulus s i once }
+
+bad_stimulus_only : (c : SmallCircuit) (stimulus : List ℕ) → ((t : SmallStimulus) → IsSmallStimulus c stimulus t → None ≡ Some t)
+    → (code : ℕ) (b : List ℕ) → RunsSmall c stimulus code b → (code ≡ 3) × (b ≡ stimulus_fault_bytes BadLine)
+bad_stimulus_only c stimulus none _ _ (traced t j) = absurd (none_is t (none t j))
+bad_stimulus_only c stimulus none _ _ (bad_stimulus n) = (refl, refl)
+
+pub settles_bad_stimulus : (c : SmallCircuit) (stimulus : List ℕ) → ((t : SmallStimulus) → IsSmallStimulus c stimulus t → None ≡ Some t)
+    → SettlesSmall c stimulus 3 (stimulus_fault_bytes BadLine)
+settles_bad_stimulus c stimulus none = record { is = bad_stimulus (λ s i. none_is s (none s i)); only = bad_stimulus_only c stimulus none }
+
+-- `run` on a text without a fault, whose circuit is a small one
+same_small : (text : List ℕ) (laid others : List Laid) (c d : SmallCircuit) → others ≡ laid → ((e : SmallCircuit) → IsSmallCircuit (pieces_of text laid) e → Some c ≡ Some e)
+    → IsSmallCircuit (pieces_of text others) d → d ≡ c
+same_small text laid others c d same once i = sym (some_same c d (once d (subst (λ l. IsSmallCircuit (pieces_of text l) d) same i)))
+
+small_only : (joined text stimulus : List ℕ) (circuit : Circuit) (laid : List Laid) (c : SmallCircuit) (status : ℕ) (bytes : List ℕ) → IsSplit joined text stimulus
+    → IsAcceptedOnly text circuit laid → IsSmallCircuit (pieces_of text laid) c → ((d : SmallCircuit) → IsSmallCircuit (pieces_of text laid) d → Some c ≡ Some d)
+    → SettlesSmall c stimulus status bytes → (code : ℕ) (b : List ℕ) → JudgesTaken Run joined text code b → (code ≡ status) × (b ≡ bytes)
+small_only joined text stimulus circuit laid c status bytes p o i once settled _ b (refused _ _ _ other f) = absurd (o.none other f)
+small_only joined text stimulus circuit laid c status bytes p o i once settled code b (runs _ _ behind other others d _ _ q a j r) =
+    let back = (split_once joined text behind text stimulus q p).1 in
+    let same = same_small text laid others c d (o.only other others a).1 once j in
+    settled.only code b (subst (λ x. RunsSmall x stimulus code b) same (subst (λ x. RunsSmall d x code b) back r))
+small_only joined text stimulus circuit laid c status bytes p o i once settled _ b (not_small _ _ other others a n) =
+    absurd (n c (subst (λ l. IsSmallCircuit (pieces_of text l) c) (sym (o.only other others a).1) i))
+
+pub settles_small : (joined text stimulus : List ℕ) (circuit : Circuit) (laid : List Laid) (c : SmallCircuit) (status : ℕ) (bytes : List ℕ) → IsSplit joined text stimulus
+    → IsAcceptedOnly text circuit laid → IsSmallCircuit (pieces_of text laid) c → ((d : SmallCircuit) → IsSmallCircuit (pieces_of text laid) d → Some c ≡ Some d)
+    → SettlesSmall c stimulus status bytes → SettlesTaken Run joined text status bytes
+settles_small joined text stimulus circuit laid c status bytes p o i once settled = record {
+  is = runs joined text stimulus circuit laid c status bytes p o.is i settled.is;
+  only = small_only joined text stimulus circuit laid c status bytes p o i once settled;
 }
 
-not_built_only : (joined circuit stimulus : List ℕ) (laid : List Laid) → IsSplit joined circuit stimulus → IsLaidOnly circuit laid
-    → NoneSmall circuit laid stimulus
-    → (code : ℕ) (b : List ℕ) → JudgesTaken Run joined circuit code b → (code ≡ 2) × (b ≡ fault_bytes (at_front NotBuilt))
-not_built_only joined circuit stimulus laid p o none _ b (text_fault _ _ _ other f) = absurd (o.none other f)
-not_built_only joined circuit stimulus laid p o none _ b (traced _ _ behind laid' d t q l m) =
-    let same = o.only laid' l in let back = (split_once joined circuit behind circuit stimulus q p).1 in
-    absurd (none d t (subst (λ x. AreSmall (pieces_of circuit laid) x d t) back (subst (λ x. AreSmall (pieces_of circuit x) behind d t) same m)))
-not_built_only joined circuit stimulus laid p o none _ b (not_built _ _ behind laid' q l n) = (refl, refl)
+-- and where it is none
+not_small_only : (joined text : List ℕ) (circuit : Circuit) (laid : List Laid) → IsAcceptedOnly text circuit laid
+    → ((d : SmallCircuit) → IsSmallCircuit (pieces_of text laid) d → None ≡ Some d)
+    → (code : ℕ) (b : List ℕ) → JudgesTaken Run joined text code b → (code ≡ 2) × (b ≡ fault_bytes (unsupported circuit))
+not_small_only joined text circuit laid o none _ b (refused _ _ _ other f) = absurd (o.none other f)
+not_small_only joined text circuit laid o none code b (runs _ _ behind other others d _ _ q a j r) =
+    absurd (none_is d (none d (subst (λ l. IsSmallCircuit (pieces_of text l) d) (o.only other others a).1 j)))
+not_small_only joined text circuit laid o none _ b (not_small _ _ other others a n) = (refl, ap (λ x. fault_bytes (unsupported x)) (o.only other others a).0)
 
-pub settles_not_built : (joined circuit stimulus : List ℕ) (laid : List Laid) → IsSplit joined circuit stimulus → IsLaidOnly circuit laid
-    → NoneSmall circuit laid stimulus
-    → SettlesTaken Run joined circuit 2 (fault_bytes (at_front NotBuilt))
-settles_not_built joined circuit stimulus laid p o none = record {
-  is = not_built joined circuit stimulus laid p o.is none;
-  only = not_built_only joined circuit stimulus laid p o none;
+pub settles_not_small : (joined text : List ℕ) (circuit : Circuit) (laid : List Laid) → IsAcceptedOnly text circuit laid
+    → ((d : SmallCircuit) → IsSmallCircuit (pieces_of text laid) d → None ≡ Some d) → SettlesTaken Run joined text 2 (fault_bytes (unsupported circuit))
+settles_not_small joined text circuit laid o none = record {
+  is = not_small joined text circuit laid o.is (λ d i. none_is d (none d i));
+  only = not_small_only joined text circuit laid o none;
 }
 
--- a text without a fault
-pub settles_checked : (joined circuit : List ℕ) (laid : List Laid) → length joined ≤ joined_limit → IsPart Check joined circuit → length circuit ≤ circuit_limit
-    → IsLaidOnly circuit laid → Settles Check joined 0 (codes "ok\n")
-settles_checked joined circuit laid w p l o =
-    settles_taken Check joined circuit 0 (codes "ok\n") (record { within = w; part = p; short = l }) (settles_accepted joined circuit laid o)
+pub settles_run : (joined text stimulus : List ℕ) (status : ℕ) (bytes : List ℕ) → length joined ≤ joined_limit → IsSplit joined text stimulus → length text ≤ circuit_limit
+    → SettlesTaken Run joined text status bytes → Settles Run joined status bytes
+settles_run joined text stimulus status bytes w p l settled =
+    settles_taken Run joined text status bytes (record { within = w; part = before_line Run joined text stimulus p; short = l }) settled
 
-pub settles_run : (joined circuit stimulus : List ℕ) (status : ℕ) (bytes : List ℕ) → length joined ≤ joined_limit → IsSplit joined circuit stimulus → length circuit ≤ circuit_limit
-    → SettlesTaken Run joined circuit status bytes → Settles Run joined status bytes
-settles_run joined circuit stimulus status bytes w p l settled =
-    settles_taken Run joined circuit status bytes (record { within = w; part = before_line Run joined circuit stimulus p; short = l }) settled
+-- a command's status is 0, 2 or 3
+ran_status : (c : SmallCircuit) (stimulus : List ℕ) (s : ℕ) (b : List ℕ) → RunsSmall c stimulus s b → (s ≡ 0) ⊎ ((s ≡ 2) ⊎ (s ≡ 3))
+ran_status c stimulus _ _ (traced t i) = inl refl
+ran_status c stimulus _ _ (bad_stimulus n) = inr (inr refl)
+
+taken_status : (command : Command) (joined text : List ℕ) (s : ℕ) (b : List ℕ) → JudgesTaken command joined text s b → (s ≡ 0) ⊎ ((s ≡ 2) ⊎ (s ≡ 3))
+taken_status command joined text _ _ (refused _ _ _ fault f) = inr (inl refl)
+taken_status Check joined text _ _ (accepted _ _ circuit laid a) = inl refl
+taken_status Run joined text s b (runs _ _ stimulus circuit laid c _ _ p a i r) = ran_status c stimulus s b r
+taken_status Run joined text _ _ (not_small _ _ circuit laid a n) = inr (inl refl)
+
+judged_status : (command : Command) (joined : List ℕ) (s : ℕ) (b : List ℕ) → Judges command joined s b → (s ≡ 0) ⊎ ((s ≡ 2) ⊎ (s ≡ 3))
+judged_status command joined _ _ (joined_too_long _ _ l) = inr (inl refl)
+judged_status Run joined _ _ (no_stimulus _ w n) = inr (inl refl)
+judged_status command joined _ _ (circuit_too_long _ _ text w p l) = inr (inl refl)
+judged_status command joined s b (taken _ _ text _ _ t j) = taken_status command joined text s b j
+
+pub settled_few : (command : Command) (joined : List ℕ) (s : ℕ) (b : List ℕ) → Settles command joined s b → s ≤ 3
+settled_few command joined s b settled =
+    ⊎_elim (λ zero. omega arith) (λ more. ⊎_elim (λ two. omega arith) (λ three. omega arith) more) (judged_status command joined s b settled.is)
+
+pub settled_usage : (command : Command) (joined : List ℕ) (s : ℕ) (b : List ℕ) → Settles command joined s b → s ≡ 1 → ⊥
+settled_usage command joined s b settled one =
+    ⊎_elim (λ zero. omega (arith, one)) (λ more. ⊎_elim (λ two. omega (arith, one)) (λ three. omega (arith, one)) more) (judged_status command joined s b settled.is)

@@ -21,4 +21,5 @@ pub mod WritableLemmas
 pub mod RoomLemmas
 pub mod Fronts
 pub mod CounterFormed
-pub mod Smalls
+pub mod Accepting
+pub mod EmptyText

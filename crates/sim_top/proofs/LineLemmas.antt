@@ -1,10 +1,10 @@
 -- Lists of pieces, and the lines that they make.
-use Rattle.std.proofs.Common.{◌≡◌, ◌≢◌, ℕ, zero, suc, ◌+◌, ◌-◌, ◌<◌, ◌≤◌, List, [], ◌∷◌, ◌++◌, length, map, take, drop, get_or, true, false, refl, ap, ◌∙◌, sym, Bool, cond, arith, one-add, ⊎_elim, Some, None, rules, length-append}
+use Rattle.std.proofs.Common.{◌≡◌, ℕ, ◌+◌, ◌-◌, ◌<◌, ◌≤◌, List, [], ◌∷◌, ◌++◌, length, map, take, drop, get_or, refl, ap, ◌∙◌, sym, cond, arith, ⊎_elim, Some, length-append}
 use Rattle.std.specs.List.{prefix_len}
 use Rattle.std.proofs.lemmas.Grind.{common_steps}
 use Rattle.std.proofs.lemmas.List.{take-map, drop-map, get_or-map, length-map, map-append}
 use Rattle.std.proofs.lemmas.Bool.{cases_Bool}
-use Rattle.fir_layout.specs.Pieces.{Piece, A_token, A_line_end}
+use Rattle.fir_layout.specs.Pieces.{Piece, A_line_end}
 use Rattle.sim_top.specs.declared.piece.Piece.{Piece as Lent}
 use Rattle.sim_top.specs.declared.piece.Piece.TheVariants.{Token, LineEnd, BlockOpens, BlockCloses, TheEnd}
 use Rattle.sim_top.specs.Pieces.{shown}

@@ -1,5 +1,5 @@
 -- Whether a name stands among those that a list gives: by a test at each item.
-use Rattle.std.proofs.Common.{◌≡◌, ℕ, ◌<◌, Bool, true, false, not, ◌&&◌, ◌||◌, cond, List, [], ◌∷◌, ◌++◌, length, map, refl, sym, ap, ◌∙◌, ⊎_elim, inl, inr, ◌⊎◌, arith, Decides}
+use Rattle.std.proofs.Common.{◌≡◌, ℕ, Bool, true, false, not, ◌&&◌, ◌||◌, List, [], ◌∷◌, map, refl, sym, ap, ◌∙◌, ⊎_elim, inl, inr, ◌⊎◌, arith, Decides}
 use Rattle.std.specs.Prelude.{Contains, if◌then◌else◌}
 use Rattle.std.specs.List.{list_any}
 use Rattle.std.specs.Str.{bytes_eq}

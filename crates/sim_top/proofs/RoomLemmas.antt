@@ -1,15 +1,12 @@
 -- The lengths of a small circuit's lines.
-use Rattle.std.proofs.Common.{◌≡◌, ℕ, zero, suc, ◌+◌, ◌-◌, ◌<◌, ◌≤◌, List, [], ◌∷◌, ◌++◌, length, map, take, drop, get_or, refl, ap, ◌∙◌, sym, subst, arith, Option, Some, None, codes, decimal, length-append, append_assoc}
+use Rattle.std.proofs.Common.{◌≡◌, ℕ, ◌+◌, ◌-◌, ◌<◌, ◌≤◌, List, [], ◌∷◌, ◌++◌, length, map, take, drop, get_or, refl, ap, ◌∙◌, sym, arith, Option, Some, None, codes, decimal, length-append, append_assoc}
 use Rattle.std.specs.List.{flat_map}
 use Rattle.std.specs.Option.{SomeIff}
 use Rattle.std.proofs.lemmas.Grind.{common_steps}
 use Rattle.std.proofs.lemmas.Fmt.{decimal_digit}
 use Rattle.std.proofs.lemmas.List.Concat.{flat_map-append}
 use Rattle.sim_top.specs.declared.circuit.SmallCircuit.{SmallCircuit}
-use Rattle.sim_top.specs.declared.circuit.Port.{Port}
-use Rattle.sim_top.specs.declared.circuit.Statement.{Statement}
 use Rattle.sim_top.specs.declared.circuit.Operand.{Operand}
-use Rattle.sim_top.specs.declared.circuit.Operand.TheVariants as operand
 use Rattle.sim_top.specs.declared.circuit.Expression.TheVariants as expression
 use Rattle.sim_top.specs.SmallCircuits.{Ink, ink_bytes, line_bytes, small_text, operand_inks, expression_inks, port_line, statement_line, version_line, circuit_line, module_line, clock_line, call, comma, mark, number}
 use Rattle.sim_top.specs.Room.{front_text, Leaves}

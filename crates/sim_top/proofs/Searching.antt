@@ -1,10 +1,9 @@
 -- Line after line, up to the line `%stimulus`.
-use Rattle.std.proofs.Common.{◌≡◌, ◌≢◌, ℕ, zero, suc, ◌+◌, ◌-◌, ◌<◌, ◌≤◌, List, [], ◌∷◌, ◌⊎◌, ⊎_elim, inl, inr, length, drop, take, refl, sym, ap, ◌∙◌, subst, arith, lt_of_not-le}
-use Rattle.std.specs.Prelude.{Some, None, slice_get}
+use Rattle.std.proofs.Common.{◌≡◌, ◌≢◌, ℕ, zero, suc, ◌+◌, ◌-◌, ◌<◌, ◌≤◌, List, [], ◌∷◌, ⊎_elim, inl, inr, length, drop, take, refl, sym, ap, ◌∙◌, subst, arith, lt_of_not-le}
+use Rattle.std.specs.Prelude.{Some, slice_get}
 use native.Mathlib.Decide.{dec_le}
 use Rattle.std.proofs.lemmas.Grind.{common_steps}
-use Rattle.std.proofs.lemmas.Option.{slice_get_within}
-use Rattle.sim_top.specs.StimulusLine.{IsStimulusLine, BeginsLine, StandsAt, NoneBefore, HasNone, EndsFirst, IsSplit}
+use Rattle.sim_top.specs.StimulusLine.{IsStimulusLine, BeginsLine, NoneBefore, HasNone, EndsFirst}
 
 slice_get-drop : (n : ℕ) (l : List ℕ) (k : ℕ) → slice_get (drop n l) k ≡ slice_get l (n + k)
 slice_get-drop zero l k = let e : k ≡ 0 + k = omega arith in ap (slice_get l) e

@@ -1,5 +1,5 @@
 -- What holds of each item of a list behind those above it.
-use Rattle.std.proofs.Common.{◌≡◌, ℕ, ◌+◌, ◌<◌, List, [], ◌∷◌, ◌++◌, length, get_or, take, drop, refl, sym, ap, ◌∙◌, arith, subst, ◌≤◌, ⊎_elim}
+use Rattle.std.proofs.Common.{◌≡◌, ℕ, ◌+◌, ◌<◌, List, ◌∷◌, ◌++◌, length, get_or, take, drop, refl, sym, ap, ◌∙◌, arith, subst, ◌≤◌, ⊎_elim}
 use Rattle.std.proofs.lemmas.List.{get_or_at, take_at, take-append-drop, drop_more, length-append, get_or_read}
 use Rattle.std.proofs.lemmas.Bool.{cases_lt}
 

@@ -1,10 +1,10 @@
 -- A joined text is split in one way.
-use Rattle.std.proofs.Common.{◌≡◌, ℕ, ◌<◌, ◌≤◌, List, [], ◌∷◌, ◌++◌, ◌⊎◌, ⊎_elim, drop, take, refl, sym, ap, ◌∙◌, subst, arith, lt_of_not-le}
+use Rattle.std.proofs.Common.{◌≡◌, ℕ, ◌≤◌, List, ⊎_elim, drop, take, refl, sym, ap, ◌∙◌, subst, arith, lt_of_not-le}
 use native.Mathlib.Decide.{dec_le}
 use Rattle.sim_top.specs.declared.command.Command.TheVariants.{Run, Check}
 use Rattle.sim_top.specs.declared.command.Command.{Command}
 use Rattle.sim_top.specs.StimulusLine.{IsStimulusLine, StandsAt, NoneBefore, HasNone, IsSplit}
-use Rattle.sim_top.specs.Answers.{IsPart, before_line, all_of_it, IsTaken}
+use Rattle.sim_top.specs.Answers.{IsPart, before_line, all_of_it}
 
 -- what stands behind the line
 line_once : (bytes a b : List ℕ) → IsStimulusLine bytes a → IsStimulusLine bytes b → a ≡ b

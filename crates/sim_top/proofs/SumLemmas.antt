@@ -1,7 +1,6 @@
 -- The tokens of a sum, and its parts.
-use Rattle.std.proofs.Common.{◌≡◌, ℕ, ◌+◌, ◌-◌, ◌<◌, ◌≤◌, List, [], ◌∷◌, ◌++◌, length, map, take, drop, min, refl, ap, ◌∙◌, sym, arith, codes, decimal, length-append}
+use Rattle.std.proofs.Common.{◌≡◌, ℕ, ◌+◌, ◌-◌, List, [], ◌∷◌, ◌++◌, length, map, take, drop, min, refl, ◌∙◌, sym, arith, codes, decimal}
 use Rattle.std.proofs.lemmas.Fmt.{decimal_digit}
-use Rattle.std.proofs.lemmas.List.{length-map}
 use Rattle.fir_lexer.specs.declared.token.TokenKind.TheVariants as kind
 use Rattle.fir_layout.specs.Pieces.{Piece, A_token}
 use Rattle.sim_top.specs.declared.piece.Piece.{Piece as Lent}
@@ -11,7 +10,7 @@ use Rattle.sim_top.specs.declared.circuit.Expression.TheVariants as expression
 use Rattle.sim_top.specs.Pieces.{shown}
 use Rattle.sim_top.specs.Lines.{tokens}
 use Rattle.sim_top.specs.SmallCircuits.{operand_inks, expression_inks}
-use Rattle.sim_top.proofs.LineLemmas.{front_shown, back_shown, cut_shown, length_shown, joined_shown}
+use Rattle.sim_top.proofs.LineLemmas.{cut_shown, length_shown, joined_shown}
 
 abbrev pub sum_front : List Piece
 sum_front = A_token kind.Call (codes "tail(") ∷ A_token kind.Call (codes "add(") ∷ []

@@ -1,6 +1,5 @@
 -- What is well formed can be written with the program's numbers.
-use Rattle.std.proofs.Common.{◌≡◌, ℕ, ◌+◌, ◌*◌, ◌<◌, ◌≤◌, ◌^◌, List, [], ◌∷◌, ◌++◌, length, take, drop, get_or, refl, ap, ◌∙◌, sym, arith, rules}
-use Rattle.std.specs.Prelude.{All}
+use Rattle.std.proofs.Common.{◌≡◌, ℕ, ◌+◌, ◌<◌, ◌≤◌, ◌^◌, List, ◌∷◌, ◌++◌, length, take, drop, get_or, arith, rules}
 use Rattle.std.proofs.lemmas.Grind.{common_steps}
 use Rattle.std.proofs.lemmas.List.Elements.{All-weaker}
 use Rattle.sim_top.specs.declared.circuit.SmallCircuit.{SmallCircuit}
@@ -13,7 +12,7 @@ use Rattle.sim_top.specs.declared.circuit.Operand.{Operand}
 use Rattle.sim_top.specs.declared.circuit.Operand.TheVariants as operand
 use Rattle.sim_top.specs.declared.circuit.Literal.{Literal}
 use Rattle.sim_top.specs.SmallCircuits.{IsWellFormed, IsWidth, IsLiteral, IsOperand, IsExpression, IsPlaced}
-use Rattle.sim_top.specs.Writable.{IsWritable, IsWritableLiteral, IsWritableOperand, IsWritableExpression, IsWritableRegister, IsWritableStatement}
+use Rattle.sim_top.specs.Writable.{IsWritable, IsWritableLiteral, IsWritableOperand, IsWritableExpression, IsWritableStatement}
 
 power_le : (w : ℕ) → w ≤ 64 → 2 ^ w ≤ 2 ^ 64
 power_le w h = search (rules, common_steps)

@@ -1,20 +1,22 @@
 -- What the program is to answer: a status and the bytes that are written.
-use Rattle.std.specs.Prelude.{◌≡◌, ℕ, ◌<◌, ◌≤◌, List, [], ◌∷◌, ◌++◌, length, Option, Some, None, if◌then◌else◌, codes, ◌⊎◌}
+use Rattle.std.specs.Prelude.{◌≡◌, ℕ, ◌<◌, ◌≤◌, List, [], ◌∷◌, length, Option, Some, None, if◌then◌else◌, codes}
 use Rattle.std.specs.Str.{bytes_eq}
 use Rattle.place_text.specs.Places.{fault_line_bytes, first_place}
-use Rattle.place_text.specs.declared.place.TextPart.TheVariants.{Circuit}
+use Rattle.place_text.specs.declared.place.TextPart.TheVariants.{Circuit as Circuit_part, Stimulus as Stimulus_part}
 use Rattle.fir_layout.specs.declared.laid.Laid.{Laid}
-use Rattle.fir_layout.specs.Pieces.{Piece, pieces_of}
+use Rattle.fir_layout.specs.Pieces.{pieces_of}
 use Rattle.sim_top.specs.declared.command.Command.{Command}
 use Rattle.sim_top.specs.declared.command.Command.TheVariants.{Run, Check}
 use Rattle.sim_top.specs.declared.fault.FaultKind.{FaultKind}
-use Rattle.sim_top.specs.declared.fault.FaultKind.TheVariants.{TooLong, NoStimulus, BadByte, BadToken, NumberRange, BadIndent, NotBuilt}
+use Rattle.sim_top.specs.declared.fault.FaultKind.TheVariants.{TooLong, NoStimulus, BadByte, BadToken, NumberRange, BadIndent, BadSyntax, BadVersion, Unsupported, TooDeep}
 use Rattle.sim_top.specs.declared.fault.Fault.{Fault}
+use Rattle.sim_top.specs.declared.fault.StimulusFault.{StimulusFault}
+use Rattle.sim_top.specs.declared.fault.StimulusFault.TheVariants.{BadLine}
 use Rattle.sim_top.specs.declared.circuit.SmallCircuit.{SmallCircuit}
 use Rattle.sim_top.specs.declared.stimulus.SmallStimulus.{SmallStimulus}
 use Rattle.sim_top.specs.StimulusLine.{IsSplit, HasNone}
-use Rattle.fir_layout.specs.Layout.{IsLaidOut}
-use Rattle.sim_top.specs.CircuitText.{IsTextFault, IsFaultOnly}
+use Rattle.fir_tree.specs.declared.circuit.Circuit.{Circuit}
+use Rattle.sim_top.specs.CircuitText.{IsFirstFault, IsAccepted, IsFaultOnly, IsAcceptedOnly}
 use Rattle.sim_top.specs.SmallCircuits.{IsSmallCircuit}
 use Rattle.sim_top.specs.SmallStimuli.{IsSmallStimulus}
 use Rattle.sim_top.specs.Cycles.{trace}
@@ -40,7 +42,13 @@ kind_name BadByte = codes "BadByte"
 kind_name BadToken = codes "BadToken"
 kind_name NumberRange = codes "NumberRange"
 kind_name BadIndent = codes "BadIndent"
-kind_name NotBuilt = codes "NotBuilt"
+kind_name BadSyntax = codes "BadSyntax"
+kind_name BadVersion = codes "BadVersion"
+kind_name Unsupported = codes "Unsupported"
+kind_name TooDeep = codes "TooDeep"
+
+abbrev pub stimulus_fault_name : StimulusFault → List ℕ
+stimulus_fault_name BadLine = codes "BadLine"
 
 -- a fault of the text as a whole
 abbrev pub at_front : FaultKind → Fault
@@ -64,24 +72,31 @@ pub record IsTaken (command : Command) (joined circuit : List ℕ) : Type 0 wher
   pub part : IsPart command joined circuit
   pub short : length circuit ≤ circuit_limit
 
--- the line that names a fault of the circuit
+-- the line that names a fault of the circuit, and the line of a stimulus that is refused as a whole
 abbrev pub fault_bytes : Fault → List ℕ
-fault_bytes fault = fault_line_bytes Circuit (kind_name fault.kind) fault.place
+fault_bytes fault = fault_line_bytes Circuit_part (kind_name fault.kind) fault.place
 
--- the circuit and the stimulus are small ones
-abbrev pub AreSmall : List Piece → List ℕ → SmallCircuit → SmallStimulus → Type 0
-AreSmall pieces stimulus c s = IsSmallCircuit pieces c × IsSmallStimulus c stimulus s
+abbrev pub stimulus_fault_bytes : StimulusFault → List ℕ
+stimulus_fault_bytes fault = fault_line_bytes Stimulus_part (stimulus_fault_name fault) first_place
+
+-- What a run of a small circuit answers: the trace under a small stimulus of the circuit, or that the stimulus is none.
+pub data RunsSmall (c : SmallCircuit) (stimulus : List ℕ) : ℕ → List ℕ → Type 0 where
+  traced : (s : SmallStimulus) → IsSmallStimulus c stimulus s → RunsSmall c stimulus 0 (trace c s)
+  bad_stimulus : ((s : SmallStimulus) → ¬ (IsSmallStimulus c stimulus s)) → RunsSmall c stimulus 3 (stimulus_fault_bytes BadLine)
+
+-- a circuit that the program doesn't run, named at its name
+abbrev pub unsupported : Circuit → Fault
+unsupported circuit = record { kind = Unsupported; place = circuit.main.place }
 
 -- What a command answers where the circuit's text was taken: the first fault of the text; or for `check` that there is none;
--- or for `run` the trace of the small circuit under the small stimulus, and that it is not built where they are not small.
+-- or for `run` what a run of the small circuit answers, and that the circuit isn't supported where it is no small one.
 pub data JudgesTaken : Command → List ℕ → List ℕ → ℕ → List ℕ → Type 0 where
-  text_fault : (command : Command) (joined circuit : List ℕ) (fault : Fault) → IsTextFault circuit fault → JudgesTaken command joined circuit 2 (fault_bytes fault)
-  accepted : (joined circuit : List ℕ) (laid : List Laid) → IsLaidOut circuit laid → JudgesTaken Check joined circuit 0 (codes "ok\n")
-  traced : (joined circuit stimulus : List ℕ) (laid : List Laid) (c : SmallCircuit) (s : SmallStimulus) → IsSplit joined circuit stimulus
-      → IsLaidOut circuit laid → AreSmall (pieces_of circuit laid) stimulus c s → JudgesTaken Run joined circuit 0 (trace c s)
-  not_built : (joined circuit stimulus : List ℕ) (laid : List Laid) → IsSplit joined circuit stimulus → IsLaidOut circuit laid
-      → ((c : SmallCircuit) (s : SmallStimulus) → AreSmall (pieces_of circuit laid) stimulus c s → ⊥)
-      → JudgesTaken Run joined circuit 2 (fault_bytes (at_front NotBuilt))
+  refused : (command : Command) (joined text : List ℕ) (fault : Fault) → IsFirstFault text fault → JudgesTaken command joined text 2 (fault_bytes fault)
+  accepted : (joined text : List ℕ) (circuit : Circuit) (laid : List Laid) → IsAccepted text circuit laid → JudgesTaken Check joined text 0 (codes "ok\n")
+  runs : (joined text stimulus : List ℕ) (circuit : Circuit) (laid : List Laid) (c : SmallCircuit) (status : ℕ) (bytes : List ℕ) → IsSplit joined text stimulus
+      → IsAccepted text circuit laid → IsSmallCircuit (pieces_of text laid) c → RunsSmall c stimulus status bytes → JudgesTaken Run joined text status bytes
+  not_small : (joined text : List ℕ) (circuit : Circuit) (laid : List Laid) → IsAccepted text circuit laid
+      → ((c : SmallCircuit) → ¬ (IsSmallCircuit (pieces_of text laid) c)) → JudgesTaken Run joined text 2 (fault_bytes (unsupported circuit))
 
 -- What a command answers to the text of standard input. Of the faults of the text as a whole the first in this order counts.
 pub data Judges : Command → List ℕ → ℕ → List ℕ → Type 0 where
@@ -114,6 +129,11 @@ pub record SettlesTaken (command : Command) (joined circuit : List ℕ) (status 
   pub is : JudgesTaken command joined circuit status bytes
   pub only : (other : ℕ) (others : List ℕ) → JudgesTaken command joined circuit other others → (other ≡ status) × (others ≡ bytes)
 
+-- and for a run of a small circuit
+pub record SettlesSmall (c : SmallCircuit) (stimulus : List ℕ) (status : ℕ) (bytes : List ℕ) : Type 0 where
+  pub is : RunsSmall c stimulus status bytes
+  pub only : (other : ℕ) (others : List ℕ) → RunsSmall c stimulus other others → (other ≡ status) × (others ≡ bytes)
+
 -- and for words and texts
 pub record Replies (words : List (List ℕ)) (texts : List ℕ → Option (List ℕ)) (status : ℕ) (bytes : List ℕ) : Type 0 where
   pub is : Answers words texts status bytes
@@ -124,11 +144,7 @@ pub data IsRefusedText : List ℕ → Fault → Type 0 where
   too_long : (text : List ℕ) → circuit_limit < length text → IsRefusedText text (at_front TooLong)
   has_fault : (text : List ℕ) (fault : Fault) → length text ≤ circuit_limit → IsFaultOnly text fault → IsRefusedText text fault
 
--- The circuit and the stimulus are small ones, and no others are.
-pub record AreSmallOnly (circuit : List ℕ) (laid : List Laid) (stimulus : List ℕ) (c : SmallCircuit) (s : SmallStimulus) : Type 0 where
-  pub are : AreSmall (pieces_of circuit laid) stimulus c s
-  pub only : (d : SmallCircuit) (t : SmallStimulus) → AreSmall (pieces_of circuit laid) stimulus d t → (d ≡ c) × (t ≡ s)
-
--- no circuit and no stimulus are
-abbrev pub NoneSmall : List ℕ → List Laid → List ℕ → Type 0
-NoneSmall circuit laid stimulus = (c : SmallCircuit) (s : SmallStimulus) → AreSmall (pieces_of circuit laid) stimulus c s → ⊥
+-- a circuit's text that is accepted: it is within its limit, and passes all stages
+pub record IsAcceptedText (text : List ℕ) (circuit : Circuit) (laid : List Laid) : Type 0 where
+  pub short : length text ≤ circuit_limit
+  pub accepted_only : IsAcceptedOnly text circuit laid

@@ -1,7 +1,7 @@
 -- How a call of the program ends.
-use Rattle.std.specs.Prelude.{◌≡◌, ◌≢◌, ℕ, ◌≤◌, List, [], ◌++◌, Option, Some, ◌⊎◌, take}
+use Rattle.std.specs.Prelude.{◌≡◌, ◌≢◌, ℕ, ◌≤◌, List, [], ◌++◌, Option, Some, take}
 use Rattle.shelf_io.specs.Outside.{Appends}
-use Rattle.sim_top.specs.Answers.{Answers, Needs}
+use Rattle.sim_top.specs.Answers.{Answers}
 
 -- Where the shelf tells its texts and the sink its bytes: `before` stood there, and now stands `after`.
 -- answered: the status and the bytes are the definition's, and the definition has no other.

@@ -1,5 +1,5 @@
 -- Lines of a small circuit as pieces, and what a reader of lines finds at the front of the pieces.
-use Rattle.std.specs.Prelude.{◌≡◌, ℕ, ◌≤◌, Bool, true, false, List, [], ◌∷◌, ◌++◌, drop, length, All, Option, Some, None}
+use Rattle.std.specs.Prelude.{◌≡◌, ℕ, ◌≤◌, Bool, true, false, List, ◌∷◌, ◌++◌, drop, length, All, Option, Some, None}
 use Rattle.std.specs.List.{flat_map}
 use Rattle.fir_layout.specs.Pieces.{Piece, A_token, A_line_end, A_block_opens, A_block_closes, The_end}
 use Rattle.sim_top.specs.SmallCircuits.{Ink, ink_pieces, line_pieces, version_line, circuit_line, module_line, clock_line}

@@ -1,5 +1,5 @@
 -- Settings that a reader of lines can tell from their text.
-use Rattle.std.specs.Prelude.{ℕ, ◌^◌, ◌<◌, Contains}
+use Rattle.std.specs.Prelude.{◌^◌, ◌<◌, Contains}
 use Rattle.sim_top.specs.declared.stimulus.Setting.{Setting}
 
 -- its numbers are below 2^64, and no space stands in the input's name

@@ -1,5 +1,5 @@
 -- Where the stimulus begins in a text that holds both.
-use Rattle.std.specs.Prelude.{◌≡◌, ◌≢◌, ℕ, ◌+◌, ◌-◌, ◌<◌, ◌≤◌, List, [], ◌∷◌, ◌++◌, length, take, drop, codes, slice_get, Some, ◌⊎◌}
+use Rattle.std.specs.Prelude.{◌≡◌, ◌≢◌, ℕ, ◌+◌, ◌-◌, ◌<◌, ◌≤◌, List, [], ◌++◌, length, take, drop, codes, slice_get, Some, ◌⊎◌}
 
 -- The line `%stimulus`, by itself up to its end, and what stands behind it: a carriage return may stand before its line
 -- feed, and the text may end without one.

@@ -1,7 +1,6 @@
 -- Which parts of a small circuit the program's numbers can hold: widths below 2^8, values below 2^64.
-use Rattle.std.specs.Prelude.{ℕ, ◌<◌, ◌^◌, All}
+use Rattle.std.specs.Prelude.{◌<◌, ◌^◌, All}
 use Rattle.sim_top.specs.declared.circuit.SmallCircuit.{SmallCircuit}
-use Rattle.sim_top.specs.declared.circuit.Port.{Port}
 use Rattle.sim_top.specs.declared.circuit.Statement.{Statement}
 use Rattle.sim_top.specs.declared.circuit.Statement.TheVariants as statement
 use Rattle.sim_top.specs.declared.circuit.Register.{Register}

@@ -1,10 +1,12 @@
-//! A worked example: the text, the stimulus and the trace of a counter of four bits.
+//! Worked examples: the text, the stimulus and the trace of a counter of four bits, and a text that is refused.
 
-ghost use Rattle.std.specs.Prelude.{◌≡◌, ◌++◌, codes};
+ghost use Rattle.std.specs.Prelude.{◌≡◌, ◌++◌, [], codes};
 ghost use Rattle.sim_top.specs.SmallCircuits.{IsWellFormed, small_text};
 ghost use Rattle.sim_top.specs.SmallStimuli.{IsStimulusOf, stimulus_text};
 ghost use Rattle.sim_top.specs.Cycles.{trace};
 ghost use Rattle.sim_top.specs.Examples.{counter, counter_stimulus};
+ghost use Rattle.sim_top.specs.Answers.{Judges};
+ghost use Rattle.sim_top.specs.declared.command.Command.TheVariants.{Check};
 
 /// The counter's trace: it is held at 0 in the first cycle, and then it counts.
 pub fn counts()
@@ -37,4 +39,9 @@ pub fn counter_is_well_formed()
 /// Its stimulus is one for it.
 pub fn counter_stimulus_fits()
     ensures { IsStimulusOf counter counter_stimulus }
+{}
+
+/// The empty text is refused at its end, where the version is missing.
+pub fn empty_text_is_refused()
+    ensures { Judges Check [] 2 (codes "circuit BadSyntax 1:1\n") }
 {}

@@ -1,4 +1,4 @@
-//! The faults of a text.
+//! The faults of a circuit's text and of a stimulus.
 
 ghost use Rattle.std.specs.Prelude.{◌≡◌};
 ghost use Rattle.sim_top.specs.Answers.{kind_name};
@@ -14,8 +14,11 @@ pub enum FaultKind {
     BadToken,
     NumberRange,
     BadIndent,
-    /// The program can't run such a circuit yet.
-    NotBuilt,
+    BadSyntax,
+    BadVersion,
+    /// A construct that isn't supported, or for `run` a circuit outside the small form.
+    Unsupported,
+    TooDeep,
 }
 
 impl FaultKind {
@@ -33,7 +36,31 @@ impl FaultKind {
             FaultKind::BadToken => "BadToken",
             FaultKind::NumberRange => "NumberRange",
             FaultKind::BadIndent => "BadIndent",
-            FaultKind::NotBuilt => "NotBuilt",
+            FaultKind::BadSyntax => "BadSyntax",
+            FaultKind::BadVersion => "BadVersion",
+            FaultKind::Unsupported => "Unsupported",
+            FaultKind::TooDeep => "TooDeep",
+        }
+    }
+}
+
+/// What is wrong with a stimulus.
+#[derive(Clone, Copy, Debug, PartialEq, Eq)]
+pub enum StimulusFault {
+    /// The text is no small stimulus of the circuit.
+    BadLine,
+}
+
+impl StimulusFault {
+    ghost use Rattle.std.specs.Prelude.{◌≡◌};
+    ghost use Rattle.sim_top.specs.Answers.{stimulus_fault_name};
+
+    /// The fault's name, as the fault's line has it.
+    pub fn name(self) -> &'static str
+        ensures { result.now ≡ stimulus_fault_name self }
+    {
+        match self {
+            StimulusFault::BadLine => "BadLine",
         }
     }
 }

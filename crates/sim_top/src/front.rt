@@ -19,7 +19,7 @@ use std::alloc::{AllocError, Global};
 /// The greatest length of a circuit's text in bytes.
 pub const CIRCUIT_LIMIT: usize = 1_048_576;
 
-/// Why a text has no laid list.
+/// Why a text isn't accepted.
 #[derive(Clone, Copy, Debug)]
 pub enum TextFault {
     Fault(Fault),

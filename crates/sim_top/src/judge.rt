@@ -2,22 +2,23 @@
 
 ghost use Rattle.std.specs.Prelude.{◌≡◌, ℕ, List, ◌≤◌, length, IfOk, Err, codes};
 ghost use Rattle.sim_top.specs.StimulusLine.{IsSplit};
-ghost use Rattle.sim_top.specs.CircuitText.{IsLaidOnly};
-ghost use Rattle.sim_top.specs.Answers.{fault_bytes, at_front, joined_limit, IsPart, Settles, SettlesTaken};
+ghost use Rattle.sim_top.specs.CircuitText.{IsAcceptedOnly};
+ghost use Rattle.sim_top.specs.Answers.{fault_bytes, stimulus_fault_bytes, at_front, unsupported, joined_limit, IsPart, Settles, SettlesTaken, SettlesSmall};
 ghost use Rattle.sim_top.specs.SmallCircuits.{IsWellFormed};
 ghost use Rattle.sim_top.specs.SmallStimuli.{IsStimulusOf};
 ghost use Rattle.sim_top.specs.Cycles.{trace};
 ghost use Rattle.sim_top.specs.declared.command.Command.TheVariants.{Run, Check};
 
+use crate::accepted::{Accepted, accept_text};
 use crate::circuit::SmallCircuit;
 use crate::command::Command;
-use crate::fault::{Fault, FaultKind};
-use crate::front::{TextFault, lay_text};
-use crate::small::read_small;
+use crate::fault::{Fault, FaultKind, StimulusFault};
+use crate::front::TextFault;
+use crate::small::{read_small, small_stimulus};
 use crate::split::split;
 use crate::stimulus::SmallStimulus;
 use crate::trace::trace_of;
-use fir_layout::Laid;
+use fir_tree::Circuit;
 use place_text::{Place, TextPart, fault_line};
 use std::alloc::{AllocError, Global};
 
@@ -42,11 +43,11 @@ pub fn judge(alloc: Global, command: Command, text: &[u8]) -> Result<Reply, Allo
 }
 
 /// Whether the circuit's text has a fault.
-fn check(alloc: Global, circuit: &[u8]) -> Result<Reply, AllocError>
-    ensures { IfOk result (λ r. (joined : List ℕ) → length joined ≤ joined_limit → IsPart Check joined circuit.now → Settles Check joined r.status r.bytes.items) }
+fn check(alloc: Global, text: &[u8]) -> Result<Reply, AllocError>
+    ensures { IfOk result (λ r. (joined : List ℕ) → length joined ≤ joined_limit → IsPart Check joined text.now → Settles Check joined r.status r.bytes.items) }
 {
-    match lay_text(alloc, circuit) {
-        Ok(_laid) => Ok(accept(alloc)?),
+    match accept_text(alloc, text) {
+        Ok(_accepted) => Ok(accept(alloc)?),
         Err(TextFault::Fault(fault)) => Ok(refuse(alloc, fault)?),
         Err(TextFault::NoMemory) => Err(AllocError),
     }
@@ -62,30 +63,41 @@ fn accept(alloc: Global) -> Result<Reply, AllocError>
     })
 }
 
-/// Runs the circuit.
-fn run(alloc: Global, circuit: &[u8], stimulus: &[u8]) -> Result<Reply, AllocError>
-    ensures { IfOk result (λ r. (joined : List ℕ) → length joined ≤ joined_limit → IsSplit joined circuit.now stimulus.now → Settles Run joined r.status r.bytes.items) }
+/// Runs the circuit of a text.
+fn run(alloc: Global, text: &[u8], stimulus: &[u8]) -> Result<Reply, AllocError>
+    ensures { IfOk result (λ r. (joined : List ℕ) → length joined ≤ joined_limit → IsSplit joined text.now stimulus.now → Settles Run joined r.status r.bytes.items) }
 {
-    match lay_text(alloc, circuit) {
-        Ok(laid) => Ok(run_laid(alloc, circuit, &laid, stimulus)?),
+    match accept_text(alloc, text) {
+        Ok(accepted) => Ok(run_accepted(alloc, text, &accepted, stimulus)?),
         Err(TextFault::Fault(fault)) => Ok(refuse(alloc, fault)?),
         Err(TextFault::NoMemory) => Err(AllocError),
     }
 }
 
-/// Runs the circuit of a laid list.
-fn run_laid(
+/// Runs a circuit without a fault, where it is a small one.
+fn run_accepted(
     alloc: Global,
-    circuit: &[u8],
-    laid: &[Laid],
+    text: &[u8],
+    accepted: &Accepted,
     stimulus: &[u8],
 ) -> Result<Reply, AllocError>
-    requires { IsLaidOnly circuit.now laid.now }
-    ensures { IfOk result (λ r. (joined : List ℕ) → IsSplit joined circuit.now stimulus.now → SettlesTaken Run joined circuit.now r.status r.bytes.items) }
+    requires { IsAcceptedOnly text.now accepted.now.circuit accepted.now.laid.items }
+    ensures { IfOk result (λ r. (joined : List ℕ) → IsSplit joined text.now stimulus.now → SettlesTaken Run joined text.now r.status r.bytes.items) }
 {
-    match read_small(alloc, circuit, laid, stimulus)? {
-        Some((small, settings)) => Ok(traced(alloc, &small, &settings)?),
-        None => Ok(refuse_whole(alloc, FaultKind::NotBuilt)?),
+    match read_small(alloc, text, &accepted.laid)? {
+        Some(small) => Ok(run_small(alloc, &small, stimulus)?),
+        None => Ok(refuse_at_name(alloc, &accepted.circuit)?),
+    }
+}
+
+/// Runs a small circuit, where the stimulus is a small one of it.
+fn run_small(alloc: Global, circuit: &SmallCircuit, stimulus: &[u8]) -> Result<Reply, AllocError>
+    requires { IsWellFormed circuit.now }
+    ensures { IfOk result (λ r. SettlesSmall circuit.now stimulus.now r.status r.bytes.items) }
+{
+    match small_stimulus(alloc, circuit, stimulus)? {
+        Some(settings) => Ok(traced(alloc, circuit, &settings)?),
+        None => Ok(refuse_stimulus(alloc, StimulusFault::BadLine)?),
     }
 }
 
@@ -125,5 +137,33 @@ fn refuse(alloc: Global, fault: Fault) -> Result<Reply, AllocError>
     Ok(Reply {
         status: 2,
         bytes: fault_line(alloc, TextPart::Circuit, fault.kind.name(), fault.place)?,
+    })
+}
+
+/// The line of a circuit that isn't supported, with the place of the circuit's name.
+fn refuse_at_name(alloc: Global, circuit: &Circuit) -> Result<Reply, AllocError>
+    ensures { IfOk result (λ r. (r.status ≡ 2) × (r.bytes.items ≡ fault_bytes (unsupported circuit.now))) }
+{
+    refuse(
+        alloc,
+        Fault {
+            kind: FaultKind::Unsupported,
+            place: circuit.main.place,
+        },
+    )
+}
+
+/// The line of a stimulus that is refused as a whole.
+fn refuse_stimulus(alloc: Global, fault: StimulusFault) -> Result<Reply, AllocError>
+    ensures { IfOk result (λ r. (r.status ≡ 3) × (r.bytes.items ≡ stimulus_fault_bytes fault)) }
+{
+    Ok(Reply {
+        status: 3,
+        bytes: fault_line(
+            alloc,
+            TextPart::Stimulus,
+            fault.name(),
+            Place { line: 1, column: 1 },
+        )?,
     })
 }

@@ -4,6 +4,7 @@
 //! circuits and small stimuli, and evaluate them.
 #![tactic(auto)]
 
+mod accepted;
 mod check_circuit;
 mod check_names;
 mod check_statements;

@@ -1,11 +1,11 @@
 //! Small circuits and small stimuli, read and judged.
 
 ghost use Rattle.std.specs.Prelude.{◌≡◌, ℕ, ◌≤◌, Some, None, Ok, IfOk, All, map};
+ghost use Rattle.fir_layout.specs.Pieces.{pieces_of};
 ghost use Rattle.sim_top.specs.Pieces.{shown};
 ghost use Rattle.sim_top.specs.CircuitText.{IsInside};
 ghost use Rattle.sim_top.specs.SmallCircuits.{IsWellFormed, IsSmallCircuit};
 ghost use Rattle.sim_top.specs.SmallStimuli.{IsSmallStimulus};
-ghost use Rattle.sim_top.specs.Answers.{AreSmallOnly, NoneSmall};
 ghost use Rattle.sim_top.specs.declared.circuit.SmallCircuit.{SmallCircuit as ACircuit};
 ghost use Rattle.sim_top.specs.declared.stimulus.SmallStimulus.{SmallStimulus as AStimulus};
 
@@ -23,25 +23,19 @@ use std::alloc::{AllocError, Global};
 /// The greatest length of a small stimulus in bytes.
 const SMALL_LIMIT: usize = 32_768;
 
-/// The small circuit and the small stimulus of a run, or none where one of the texts is no such text.
+/// The small circuit whose laid list this is, or none.
 pub fn read_small(
     alloc: Global,
     text: &[u8],
     laid: &[Laid],
-    stimulus: &[u8],
-) -> Result<Option<(SmallCircuit, SmallStimulus)>, AllocError>
+) -> Result<Option<SmallCircuit>, AllocError>
     requires inside { All (IsInside text.now) laid.now }
-    ensures some { (c : ACircuit) (s : AStimulus) → result ≡ Ok (Some (c, s)) → AreSmallOnly text.now laid.now stimulus.now c s }
-    ensures none { result ≡ Ok None → NoneSmall text.now laid.now stimulus.now }
+    ensures some { (c : ACircuit) → result ≡ Ok (Some c) → IsSmallCircuit (pieces_of text.now laid.now) c }
+    ensures only { (c : ACircuit) → IsSmallCircuit (pieces_of text.now laid.now) c → IfOk result (λ o. o ≡ Some c) }
 {
     let pieces = with_all_bytes(alloc, text, laid)?;
-    let Some(circuit) = small_circuit(alloc, &pieces)? else {
-        return Ok(None);
-    };
-    let Some(settings) = small_stimulus(alloc, &circuit, stimulus)? else {
-        return Ok(None);
-    };
-    Ok(Some((circuit, settings)))
+    let small = small_circuit(alloc, &pieces)?;
+    Ok(small)
 }
 
 /// The small circuit that the pieces are, or none.
@@ -60,7 +54,7 @@ fn small_circuit(alloc: Global, pieces: &[Piece<'_>]) -> Result<Option<SmallCirc
 }
 
 /// The small stimulus of the circuit that the bytes are, or none.
-fn small_stimulus(
+pub fn small_stimulus(
     alloc: Global,
     circuit: &SmallCircuit,
     bytes: &[u8],

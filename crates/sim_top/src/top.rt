@@ -15,8 +15,8 @@ use std::alloc::{AllocError, Global};
 pub const JOINED_LIMIT: usize = 5_242_880;
 
 /// Reads the texts that the words name from the shelf, writes the answer to the sink, and gives the status: 0 where the
-/// texts are accepted, 1 where the words are no command, 2 where the circuit has a fault, 4 where the shelf failed, 5 where
-/// the sink failed, 6 where memory was wanted.
+/// texts are accepted, 1 where the words are no command, 2 where the circuit has a fault, 3 where the stimulus has one,
+/// 4 where the shelf failed, 5 where the sink failed, 6 where memory was wanted.
 pub fn run_program<H: Shelf, K: Sink>(
     alloc: Global,
     words: &[String],

@@ -5,7 +5,7 @@ use Rattle.sim_top.proofs.front.lay_tokens.Goals as goal
 
 pub returns-in-Ok-clause-laid : goal.returns-in-Ok-clause-laid
 returns-in-Ok-clause-laid c =
-    laid_only c.args.text.now c.args.tokens.now _ c.requires.tokens c.in-Ok.ensures.ok c.in-Ok.ensures.accepts c.in-Ok.ensures.refuses c.in-Ok.ensures.ends
+    laid_only c.args.text.now c.args.tokens.now _ c.requires.tokens c.in-Ok.ensures.ok c.in-Ok.ensures.accepts c.in-Ok.ensures.refuses c.in-Ok.ensures.items c.in-Ok.ensures.ends
 
 pub returns-in-Err-BadIndent-clause-fault : goal.returns-in-Err-BadIndent-clause-fault
 returns-in-Err-BadIndent-clause-fault c = λ fault e.

@@ -5,7 +5,7 @@ use Rattle.sim_top.proofs.judge.check.Goals as goal
 
 pub returns-in_ok-accept-in-Ok : goal.returns-in_ok-accept-in-Ok
 returns-in_ok-accept-in-Ok c = λ joined w p.
-    rw (c.in_ok-accept-in-Ok.ensures.0, c.in_ok-accept-in-Ok.ensures.1) (settles_checked joined _ _ w p c.in-Ok.ensures.laid.0 c.in-Ok.ensures.laid.1)
+    rw (c.in_ok-accept-in-Ok.ensures.0, c.in_ok-accept-in-Ok.ensures.1) (settles_checked joined _ _ _ w p c.in-Ok.ensures.accepted)
 
 pub returns-in_ok-refuse-in-Err-Fault : goal.returns-in_ok-refuse-in-Err-Fault
 returns-in_ok-refuse-in-Err-Fault c = λ joined w p.

@@ -4,8 +4,8 @@ use Rattle.sim_top.specs.Answers.{before_line}
 use Rattle.sim_top.proofs.Judging.{settles_run, settles_refused}
 use Rattle.sim_top.proofs.judge.run.Goals as goal
 
-pub returns-in_ok-run_laid-in-Ok : goal.returns-in_ok-run_laid-in-Ok
-returns-in_ok-run_laid-in-Ok c = λ joined w p. settles_run joined _ _ _ _ w p c.in-Ok.ensures.laid.0 (c.in_ok-run_laid-in-Ok.ensures joined p)
+pub returns-in_ok-run_accepted-in-Ok : goal.returns-in_ok-run_accepted-in-Ok
+returns-in_ok-run_accepted-in-Ok c = λ joined w p. settles_run joined _ _ _ _ w p c.in-Ok.ensures.accepted.short (c.in_ok-run_accepted-in-Ok.ensures joined p)
 
 pub returns-in_ok-refuse-in-Err-Fault : goal.returns-in_ok-refuse-in-Err-Fault
 returns-in_ok-refuse-in-Err-Fault c = λ joined w p.

@@ -1,4 +1,4 @@
-use Rattle.std.proofs.Common.{rules, arith}
+use Rattle.std.proofs.Common.{rules}
 use Rattle.sim_top.proofs.LineLemmas.{shown_at}
 use Rattle.sim_top.proofs.line.are_same.Goals as goal
 

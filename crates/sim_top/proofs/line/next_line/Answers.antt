@@ -1,4 +1,4 @@
-use Rattle.std.proofs.Common.{rules, arith, ◌≡◌, length, ap, map, ◌∙◌}
+use Rattle.std.proofs.Common.{rules, arith, ap, map, ◌∙◌}
 use Rattle.std.proofs.lemmas.Grind.{common_steps}
 use Rattle.sim_top.specs.Pieces.{shown}
 use Rattle.sim_top.proofs.LineLemmas.{prefix_within, line_cut, ended, rest_of}

@@ -1,7 +1,4 @@
-use Rattle.std.proofs.Common.{◌≡◌, ap, ◌∙◌, map, slice_get, true, sym, subst, arith}
-use Rattle.sim_top.specs.declared.circuit.SmallCircuit.{SmallCircuit}
-use Rattle.sim_top.specs.Pieces.{shown}
-use Rattle.sim_top.specs.SmallCircuits.{small_pieces}
+use Rattle.std.proofs.Common.{◌≡◌, ap, ◌∙◌, slice_get, true, sym, arith}
 use Rattle.sim_top.proofs.CircuitLemmas.{circuit_parts, circuit_found, circuit_joined, circuit_same, circuit_of, circuit_made}
 use Rattle.sim_top.proofs.WritableLemmas.{well_formed_writable}
 use Rattle.sim_top.proofs.read_circuit.read_circuit.Goals as goal

@@ -1,4 +1,4 @@
-use Rattle.std.proofs.Common.{ℕ, ◌-◌, map, length}
+use Rattle.std.proofs.Common.{◌-◌, map, length}
 use Rattle.sim_top.specs.Pieces.{shown}
 use Rattle.sim_top.specs.SmallCircuits.{statement_line}
 use Rattle.sim_top.specs.Writable.{IsWritableStatement}

@@ -1,5 +1,4 @@
-use Rattle.std.proofs.Common.{◌≡◌, ap, slice_get, map, true}
-use Rattle.sim_top.specs.Pieces.{shown}
+use Rattle.std.proofs.Common.{◌≡◌, ap, slice_get, true}
 use Rattle.sim_top.proofs.read_line.read_literal.Goals as goal
 
 pub returns-then-not-are_same-clause-complete : goal.returns-then-not-are_same-clause-complete

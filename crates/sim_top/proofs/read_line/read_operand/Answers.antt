@@ -1,5 +1,4 @@
-use Rattle.std.proofs.Common.{◌≡◌, ap, slice_get, map, true}
-use Rattle.sim_top.specs.Pieces.{shown}
+use Rattle.std.proofs.Common.{◌≡◌, ap, slice_get, true}
 use Rattle.sim_top.specs.declared.circuit.Operand.TheVariants as operand
 use Rattle.sim_top.proofs.read_line.read_operand.Goals as goal
 

@@ -1,4 +1,4 @@
-use Rattle.std.proofs.Common.{◌≡◌, ap, slice_get, map, true, ◌∙◌, sym}
+use Rattle.std.proofs.Common.{◌≡◌, ap, slice_get, true, ◌∙◌}
 use Rattle.sim_top.specs.SmallCircuits.{direction}
 use Rattle.sim_top.proofs.PortLemmas.{output_read}
 use Rattle.sim_top.proofs.read_line.read_port.Goals as goal

@@ -1,4 +1,4 @@
-use Rattle.std.proofs.Common.{◌≡◌, ℕ, List, [], ◌∷◌, ◌++◌, ap, sym, ◌∙◌}
+use Rattle.std.proofs.Common.{◌≡◌, ℕ, List, [], ◌∷◌, ◌++◌, ap, ◌∙◌}
 use Rattle.std.specs.Prelude.{Some}
 use Rattle.sim_top.specs.declared.stimulus.Setting.{Setting}
 use Rattle.sim_top.proofs.StimulusLines.{wanted_none, wanted_all, wanted_more, spelled_more, filled, empty}

@@ -1,5 +1,0 @@
-use Rattle.fir_tree.specs.Reading.{no_memory}
-use Rattle.fir_expr.proofs.reader.read_reference.Goals as goal
-
-pub returns-clause-read : goal.returns-clause-read
-returns-clause-read c = no_memory

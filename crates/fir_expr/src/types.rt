@@ -1,0 +1,318 @@
+//! Types (FIRRTL specification 3.0, "Types").
+
+ghost use Rattle.std.specs.Prelude.{◌≡◌, ◌≤◌, ◌<◌, ◌+◌, ◌^◌, ◌-◌, ℕ, List, [], ◌∷◌, codes, length, take, IfOk, IfErr, IsTrue, ◌↔◌};
+ghost use Rattle.fir_layout.specs.Pieces.{piece_of, pieces_of};
+ghost use Rattle.fir_tree.specs.Faults.{most, levels, last_suffixes};
+ghost use Rattle.fir_tree.specs.Grammar.{Type_of, Base_type, Width, Lengths, Fields, Field as FieldRule, A, The_word, Takes, mark, number, field, colon, a_bundle};
+ghost use Rattle.fir_tree.specs.Reading.{IsRefused};
+ghost use Rattle.fir_expr.specs.Standing.{StandsIn, BeginsType, wanted};
+ghost use Rattle.fir_expr.specs.Parts.{IsSource, IsPartOf, Answers, HasPassed, StartsWith, GoesInto, kind_name};
+ghost use Rattle.fir_expr.specs.TypeParts.{HasLengths, HasFields, Flips, shape_of};
+
+use crate::literals::take_suffix;
+use crate::take::{
+    is_mark, is_word, open_bracket, part_at, place_of_part, take_field, take_mark, take_number,
+};
+use bit_words::{Boxed, Kind, List};
+use fir_layout::Laid;
+use fir_tree::{Names, ParseFault};
+use fir_types::{Field, FirType, Name, Shape};
+use std::alloc::Global;
+
+/// Reads a width between `<` and `>`, where one stands.
+fn width(text: &[u8], laid: &[Laid], at: usize) -> Result<(Option<u128>, usize), ParseFault>
+    requires source { IsSource text.now laid.now }
+    requires begins { (brackets : ℕ) × BeginsType (pieces_of text.now laid.now) at brackets }
+    ensures read { (names : List (List ℕ)) → Answers Width text.now laid.now at names result names }
+    ensures begins { IfOk result (λ x. (brackets : ℕ) → BeginsType (pieces_of text.now laid.now) at brackets → BeginsType (pieces_of text.now laid.now) x.1 brackets) }
+{
+    let part = part_at(laid, at)?;
+    if !is_mark(part, b'<') {
+        return Ok((None, at));
+    }
+    let number = at + 1;
+    let (_place, width) = take_number(text, laid, number)?;
+    let close = number + 1;
+    take_mark(text, laid, close, b'>')?;
+    Ok((Some(width), close + 1))
+}
+
+/// Reads `UInt` or `SInt`, with a width or without.
+fn integer_type(
+    text: &[u8],
+    laid: &[Laid],
+    at: usize,
+    kind: Kind,
+) -> Result<(FirType, usize), ParseFault>
+    requires source { IsSource text.now laid.now }
+    requires begins { (brackets : ℕ) × BeginsType (pieces_of text.now laid.now) at brackets }
+    requires word { StartsWith (The_word (kind_name kind)) text.now laid.now at }
+    ensures read { (names : List (List ℕ)) → Answers Base_type text.now laid.now at names result names }
+    ensures begins { IfOk result (λ x. (brackets : ℕ) → BeginsType (pieces_of text.now laid.now) at brackets → BeginsType (pieces_of text.now laid.now) x.1 brackets) }
+{
+    let part = part_at(laid, at)?;
+    let place = place_of_part(text, part);
+    let (width, end) = width(text, laid, at + 1)?;
+    let shape = integer_shape(kind, width);
+    Ok((FirType { place, shape }, end))
+}
+
+/// The shape of an integer type of a width, where it has one.
+fn integer_shape(kind: Kind, width: Option<u128>) -> Shape
+    ensures { result ≡ shape_of kind width }
+{
+    match kind {
+        Kind::Unsigned => Shape::Unsigned(width),
+        Kind::Signed => Shape::Signed(width),
+    }
+}
+
+/// Reads `Clock`.
+fn clock_type(text: &[u8], laid: &[Laid], at: usize) -> Result<(FirType, usize), ParseFault>
+    requires source { IsSource text.now laid.now }
+    requires begins { (brackets : ℕ) × BeginsType (pieces_of text.now laid.now) at brackets }
+    requires word { StartsWith (The_word (codes "Clock")) text.now laid.now at }
+    ensures read { (names : List (List ℕ)) → Answers Base_type text.now laid.now at names result names }
+    ensures begins { IfOk result (λ x. (brackets : ℕ) → BeginsType (pieces_of text.now laid.now) at brackets → BeginsType (pieces_of text.now laid.now) x.1 brackets) }
+{
+    let part = part_at(laid, at)?;
+    let place = place_of_part(text, part);
+    let shape = Shape::Clock;
+    Ok((FirType { place, shape }, at + 1))
+}
+
+/// Reads `Reset`.
+fn reset_type(text: &[u8], laid: &[Laid], at: usize) -> Result<(FirType, usize), ParseFault>
+    requires source { IsSource text.now laid.now }
+    requires begins { (brackets : ℕ) × BeginsType (pieces_of text.now laid.now) at brackets }
+    requires word { StartsWith (The_word (codes "Reset")) text.now laid.now at }
+    ensures read { (names : List (List ℕ)) → Answers Base_type text.now laid.now at names result names }
+    ensures begins { IfOk result (λ x. (brackets : ℕ) → BeginsType (pieces_of text.now laid.now) at brackets → BeginsType (pieces_of text.now laid.now) x.1 brackets) }
+{
+    let part = part_at(laid, at)?;
+    let place = place_of_part(text, part);
+    let shape = Shape::Reset;
+    Ok((FirType { place, shape }, at + 1))
+}
+
+/// Reads a length between `[` and `]`, behind a type that has so many.
+fn length(
+    text: &[u8],
+    laid: &[Laid],
+    at: usize,
+    brackets: u32,
+    suffixes: u32,
+) -> Result<(u128, usize), ParseFault>
+    requires source { IsSource text.now laid.now }
+    requires stands { StandsIn (pieces_of text.now laid.now) at brackets }
+    requires counted { last_suffixes (levels (take at (pieces_of text.now laid.now))).suffixes ≡ suffixes }
+    ensures ok { IfOk result (λ x. (names : List (List ℕ)) → HasPassed (mark 91 ∷ number ∷ mark 93 ∷ []) text.now laid.now at names (x.0, tt) x.1 names) }
+    ensures counted { IfOk result (λ x. last_suffixes (levels (take x.1 (pieces_of text.now laid.now))).suffixes ≡ suffixes + 1) }
+    ensures few { IfOk result (λ _. suffixes < most) }
+    ensures err { IfErr result (λ fault. IsRefused (mark 91 ∷ number ∷ mark 93 ∷ []) text.now laid.now at fault) }
+{
+    take_suffix(text, laid, at, b'[', brackets, suffixes)?;
+    let number = at + 1;
+    let (_place, length) = take_number(text, laid, number)?;
+    let close = number + 1;
+    take_mark(text, laid, close, b']')?;
+    Ok((length, close + 1))
+}
+
+/// Reads all lengths behind a type that has so many. Answers its vector.
+fn lengths(
+    alloc: Global,
+    text: &[u8],
+    laid: &[Laid],
+    element: FirType,
+    at: usize,
+    brackets: u32,
+    suffixes: u32,
+) -> Result<(FirType, usize), ParseFault>
+    requires source { IsSource text.now laid.now }
+    requires stands { StandsIn (pieces_of text.now laid.now) at brackets }
+    requires counted { last_suffixes (levels (take at (pieces_of text.now laid.now))).suffixes ≡ suffixes }
+    ensures ok { IfOk result (λ x. HasLengths element text.now laid.now at x.0 x.1) }
+    ensures err { IfErr result (λ fault. IsRefused (A Lengths ∷ []) text.now laid.now at fault) }
+{
+    let part = part_at(laid, at)?;
+    if !is_mark(part, b'[') {
+        return Ok((element, at));
+    }
+    let (length, end) = length(text, laid, at, brackets, suffixes)?;
+    let vector = FirType {
+        place: element.place,
+        shape: Shape::Vector(Boxed::new(alloc, element)?, length),
+    };
+    let (read, end) = lengths(alloc, text, laid, vector, end, brackets, suffixes + 1)?;
+    Ok((read, end))
+}
+
+/// Whether a field is turned round, and where its name stands. A `flip` with a colon behind it is the name itself.
+fn flip_before(text: &[u8], laid: &[Laid], at: usize) -> Result<(bool, usize), ParseFault>
+    requires { IsSource text.now laid.now }
+    ensures ok { IfOk result (λ x. Flips x.0 text.now laid.now at x.1) }
+    ensures err { IfErr result (λ fault. fault ≡ ParseFault.NoMemory) }
+{
+    let part = part_at(laid, at)?;
+    if !is_word(text, part, "flip") {
+        return Ok((false, at));
+    }
+    let named = at + 1;
+    let next = part_at(laid, named)?;
+    if is_mark(next, b':') {
+        return Ok((false, at));
+    }
+    Ok((true, named))
+}
+
+/// Reads the longest type. So many brackets are open before it.
+#[cycle(typ)]
+pub fn typ(
+    alloc: Global,
+    text: &[u8],
+    laid: &[Laid],
+    names: &mut Names,
+    at: usize,
+    brackets: u32,
+) -> Result<(FirType, usize), ParseFault>
+    requires source { IsSource text.now laid.now }
+    requires room { wanted names.old laid.now at < 2 ^ 32 - 1 }
+    requires begins { BeginsType (pieces_of text.now laid.now) at brackets }
+    ensures { Answers Type_of text.now laid.now at names.old result names.new }
+{
+    let (base, behind) = base_type(alloc, text, laid, names, at, brackets)?;
+    let (read, end) = lengths(alloc, text, laid, base, behind, brackets, 0)?;
+    Ok((read, end))
+}
+
+/// Reads a type without lengths.
+#[cycle(typ)]
+fn base_type(
+    alloc: Global,
+    text: &[u8],
+    laid: &[Laid],
+    names: &mut Names,
+    at: usize,
+    brackets: u32,
+) -> Result<(FirType, usize), ParseFault>
+    requires source { IsSource text.now laid.now }
+    requires room { wanted names.old laid.now at < 2 ^ 32 - 1 }
+    requires begins { BeginsType (pieces_of text.now laid.now) at brackets }
+    ensures read { Answers Base_type text.now laid.now at names.old result names.new }
+    ensures begins { IfOk result (λ x. BeginsType (pieces_of text.now laid.now) x.1 brackets) }
+{
+    let part = part_at(laid, at)?;
+    if is_word(text, part, "UInt") {
+        return integer_type(text, laid, at, Kind::Unsigned);
+    }
+    if is_word(text, part, "SInt") {
+        return integer_type(text, laid, at, Kind::Signed);
+    }
+    if is_word(text, part, "Clock") {
+        return clock_type(text, laid, at);
+    }
+    if is_word(text, part, "Reset") {
+        return reset_type(text, laid, at);
+    }
+    bundle(alloc, text, laid, names, at, brackets)
+}
+
+/// Reads a bundle, where no type with a name stands.
+#[cycle(typ)]
+fn bundle(
+    alloc: Global,
+    text: &[u8],
+    laid: &[Laid],
+    names: &mut Names,
+    at: usize,
+    brackets: u32,
+) -> Result<(FirType, usize), ParseFault>
+    requires source { IsSource text.now laid.now }
+    requires room { wanted names.old laid.now at < 2 ^ 32 - 1 }
+    requires begins { BeginsType (pieces_of text.now laid.now) at brackets }
+    requires into { GoesInto a_bundle text.now laid.now at }
+    ensures read { Answers Base_type text.now laid.now at names.old result names.new }
+    ensures begins { IfOk result (λ x. BeginsType (pieces_of text.now laid.now) x.1 brackets) }
+{
+    let part = open_bracket(text, laid, at, b'{', brackets)?;
+    let place = place_of_part(text, part);
+    let first = at + 1;
+    let (fields, end) = fields(alloc, text, laid, names, first, brackets + 1)?;
+    let shape = Shape::Bundle(fields);
+    Ok((FirType { place, shape }, end))
+}
+
+/// Reads fields and the `}` behind them, in so many brackets.
+#[cycle(typ)]
+fn fields(
+    alloc: Global,
+    text: &[u8],
+    laid: &[Laid],
+    names: &mut Names,
+    first: usize,
+    brackets: u32,
+) -> Result<(List<Field>, usize), ParseFault>
+    requires source { IsSource text.now laid.now }
+    requires room { wanted names.old laid.now first < 2 ^ 32 - 1 }
+    requires stands { StandsIn (pieces_of text.now laid.now) first brackets }
+    requires within { first ≤ length laid.now }
+    ensures ok { IfOk result (λ x. HasFields text.now laid.now first names.old x.0 x.1 names.new) }
+    ensures err { IfErr result (λ fault. IsRefused (A Fields ∷ []) text.now laid.now first fault) }
+{
+    let mut fields = List::new(alloc);
+    let mut at = first;
+    while !is_mark(part_at(laid, at)?, b'}') {
+        let (field, end) = field(alloc, text, laid, names, at, brackets)?;
+        fields.push(field)?;
+        at = end;
+    }
+    take_mark(text, laid, at, b'}')?;
+    Ok((fields, at + 1))
+}
+
+/// Reads a field, in so many brackets.
+#[cycle(typ)]
+fn field(
+    alloc: Global,
+    text: &[u8],
+    laid: &[Laid],
+    names: &mut Names,
+    at: usize,
+    brackets: u32,
+) -> Result<(Field, usize), ParseFault>
+    requires source { IsSource text.now laid.now }
+    requires room { wanted names.old laid.now at < 2 ^ 32 - 1 }
+    requires stands { StandsIn (pieces_of text.now laid.now) at brackets }
+    ensures read { Answers FieldRule text.now laid.now at names.old result names.new }
+    ensures further { IfOk result (λ x. at < x.1) }
+{
+    let (flip, named) = flip_before(text, laid, at)?;
+    let (name, typ, end) = named_type(alloc, text, laid, names, named, brackets)?;
+    Ok((Field { flip, name, typ }, end))
+}
+
+/// Reads a field's name, a colon and a type, in so many brackets.
+#[cycle(typ)]
+fn named_type(
+    alloc: Global,
+    text: &[u8],
+    laid: &[Laid],
+    names: &mut Names,
+    at: usize,
+    brackets: u32,
+) -> Result<(Name, FirType, usize), ParseFault>
+    requires source { IsSource text.now laid.now }
+    requires room { wanted names.old laid.now at < 2 ^ 32 - 1 }
+    requires stands { StandsIn (pieces_of text.now laid.now) at brackets }
+    ensures ok { IfOk result (λ x. HasPassed (field ∷ colon ∷ A Type_of ∷ []) text.now laid.now at names.old (x.0, (x.1, tt)) x.2 names.new) }
+    ensures further { IfOk result (λ x. at < x.2) }
+    ensures err { IfErr result (λ fault. IsRefused (field ∷ colon ∷ A Type_of ∷ []) text.now laid.now at fault) }
+{
+    let name = take_field(text, laid, names, at)?;
+    let colon = at + 1;
+    take_mark(text, laid, colon, b':')?;
+    let begin = colon + 1;
+    let (typ, end) = typ(alloc, text, laid, names, begin, brackets)?;
+    Ok((name, typ, end))
+}

@@ -1,0 +1,17 @@
+mod Initialized
+mod Literals
+mod Nexts
+mod ExampleOfARun
+mod Settling
+mod Ports
+mod Chains
+mod Blocks
+mod Sides
+mod Covering
+mod Tracking
+mod Equations
+mod Samples
+mod Examples
+mod ExamplesOfParts
+mod ExamplesOfMemories
+mod ExamplesOfLoops

@@ -1,0 +1,8 @@
+pub mod Graphs
+mod Cycles
+mod Examples
+mod Finding
+mod Meaning
+mod Ordering
+mod Walking
+mod Agreement

@@ -1,0 +1,85 @@
+-- What the walk over the modules finds: the faults, the numbers of the instances' modules, and the graph.
+use Rattle.std.specs.Prelude.{◌≡◌, ℕ, ◌+◌, List, [], ◌∷◌, ◌++◌, map, length, nat_eq, Option, Some, None, Bool, true, false}
+use Rattle.std.specs.List.{flat_map, list_any}
+use Rattle.place_text.specs.declared.place.Place.{Place}
+use Rattle.fir_types.specs.declared.name.Name.{Name}
+use Rattle.fir_tree.specs.declared.circuit.Circuit.{Circuit}
+use Rattle.fir_tree.specs.declared.circuit.Module.{Module}
+use Rattle.fir_names.specs.declared.fault.Found.{Found}
+use Rattle.fir_names.specs.declared.fault.Kind.{Kind}
+use Rattle.fir_names.specs.declared.fault.Kind.TheVariants.{NoMain, ModuleTwice, ModuleUnknown, NameTwice}
+use Rattle.fir_names.specs.declared.graph.Edge.{Edge}
+use Rattle.fir_names.specs.declared.gather.Gathered.{Gathered}
+use Rattle.fir_names.specs.Faults.{IsNotLater}
+use Rattle.fir_names.specs.Graphs.{LoopsBefore, Adds}
+use Rattle.fir_names.specs.Extents.{Seen, declared_in, instances_in, uses_in}
+use Rattle.fir_names.specs.Scopes.{In, texts, module_names}
+use Rattle.fir_names.specs.Walks.{kept_of, first_of, number_in, fault_in, number_of, fault_of}
+
+-- names with their numbers, from n on
+abbrev pub numbered : ℕ → List Name → List Seen
+numbered n [] = []
+numbered n (name ∷ names) = (name.id, n) ∷ numbered (n + 1) names
+
+-- the fault of a name that some names before it have as well
+abbrev pub fault_where : Bool → Kind → Place → List Found
+fault_where true kind place = record { kind = kind; place = place } ∷ []
+fault_where false kind place = []
+
+-- the faults of names, where other names stand before them
+abbrev pub twice_behind : Kind → List Name → List Name → List Found
+twice_behind kind before [] = []
+twice_behind kind before (name ∷ names) = fault_where (list_any (nat_eq name.id) (texts before)) kind name.place ++ twice_behind kind (before ++ name ∷ []) names
+
+-- the edge of an instance, where its module is known
+abbrev pub edge_to : Option ℕ → Place → List Edge
+edge_to (Some number) place = record { to = number; place = place } ∷ []
+edge_to None place = []
+
+abbrev pub edge_in : List Seen → Name → List Edge
+edge_in known name = edge_to (first_of known name.id) name.place
+
+abbrev pub edges_of : List Seen → Module → List Edge
+edges_of known holder = flat_map (edge_in known) (instances_in holder)
+
+-- the faults of a module
+abbrev pub faults_of : List Seen → Module → List Found
+faults_of known holder = twice_behind NameTwice [] (declared_in holder) ++ (flat_map fault_of (uses_in holder) ++ flat_map (fault_in ModuleUnknown known) (instances_in holder))
+
+-- what is gathered of modules
+pub record Gathers (known : List Seen) (modules : List Module) (old new : Gathered) : Type 0 where
+  pub faults : new.faults.items ≡ old.faults.items ++ flat_map (faults_of known) modules
+  pub uses : new.uses.items ≡ old.uses.items ++ map number_of (flat_map uses_in modules)
+  pub targets : new.targets.items ≡ old.targets.items ++ map (number_in known) (flat_map instances_in modules)
+  pub graph : new.graph.items ≡ old.graph.items ++ map (edges_of known) modules
+
+-- the modules' numbers, of each text the first
+abbrev pub known_of : Circuit → List Seen
+known_of circuit = kept_of (numbered 0 (module_names circuit))
+
+-- the faults other than loops
+abbrev pub faults_in : Circuit → List Found
+faults_in circuit = twice_behind ModuleTwice [] (module_names circuit) ++ (fault_in NoMain (known_of circuit) circuit.main ++ flat_map (faults_of (known_of circuit)) circuit.modules)
+
+-- what is found of a whole circuit
+pub record IsFound (circuit : Circuit) (main : ℕ) (found : Gathered) : Type 0 where
+  pub is_main : main ≡ number_in (known_of circuit) circuit.main
+  pub uses : found.uses.items ≡ map number_of (flat_map uses_in circuit.modules)
+  pub targets : found.targets.items ≡ map (number_in (known_of circuit)) (flat_map instances_in circuit.modules)
+  pub graph : found.graph.items ≡ map (edges_of (known_of circuit)) circuit.modules
+  pub faults : Adds (LoopsBefore found.graph.items (length found.graph.items)) (faults_in circuit) found.faults.items
+
+-- the fault of a list that is told
+pub record IsEarliest (faults : List Found) (found : Found) : Type 0 where
+  pub stands : In found faults
+  pub first : (other : Found) → In other faults → IsNotLater found.kind found.place other.kind other.place
+
+abbrev pub Best : List Found → Option Found → Type 0
+Best faults (Some found) = IsEarliest faults found
+Best faults None = faults ≡ []
+
+-- the earlier of two faults, or the only one
+pub data Earlier : Option Found → Found → Found → Type 0 where
+  only : (found : Found) → Earlier None found found
+  stays : (best found : Found) → IsNotLater best.kind best.place found.kind found.place → Earlier (Some best) found best
+  turns : (best found : Found) → IsNotLater found.kind found.place best.kind best.place → Earlier (Some best) found found

@@ -1,0 +1,71 @@
+-- Modules and the instances between them as a graph: for each module the edges that go out from it.
+use Rattle.std.specs.Prelude.{◌≡◌, ℕ, ◌+◌, ◌<◌, Bool, true, false, ◌⊎◌, ◌↔◌, List, [], ◌∷◌, ◌++◌, map, length, slice_get, slice_index, Some}
+use Rattle.fir_names.specs.declared.graph.Edge.{Edge}
+use Rattle.fir_names.specs.declared.fault.Found.{Found}
+use Rattle.fir_names.specs.declared.fault.Kind.TheVariants.{InstanceLoop}
+use Rattle.fir_names.specs.Scopes.{In}
+
+abbrev pub Graph : Type 0
+Graph = List (List Edge)
+
+-- all edges lead to modules
+pub record IsGraph (graph : Graph) : Type 0 where
+  pub within : (from : ℕ) (out : List Edge) (edge : Edge) → slice_get graph from ≡ Some out → In edge out → edge.to < length graph
+
+-- an edge from a module
+pub record Out (graph : Graph) (from : ℕ) (edge : Edge) : Type 0 where
+  pub out : List Edge
+  pub here : slice_get graph from ≡ Some out
+  pub stands : In edge out
+
+-- a way from a module along edges
+pub data Leads (graph : Graph) (from : ℕ) : ℕ → Type 0 where
+  stays : Leads graph from from
+  goes : (middle : ℕ) (edge : Edge) → Leads graph from middle → Out graph middle edge → Leads graph from edge.to
+
+-- one of these edges, which begin at a module and from whose end a way leads back to it, is the fault
+pub record LoopsOf (graph : Graph) (from : ℕ) (out : List Edge) (found : Found) : Type 0 where
+  pub edge : Edge
+  pub stands : In edge out
+  pub back : Leads graph edge.to from
+  pub is : found ≡ record { kind = InstanceLoop; place = edge.place }
+
+-- the same of the edges of the first modules
+pub record LoopsBefore (graph : Graph) (count : ℕ) (found : Found) : Type 0 where
+  pub from : ℕ
+  pub before : from < count
+  pub out : List Edge
+  pub here : slice_get graph from ≡ Some out
+  pub loops : LoopsOf graph from out found
+
+-- the faults that are added
+pub record Adds (P : Found → Type 0) (old new : List Found) : Type 0 where
+  pub kept : (found : Found) → In found old → In found new
+  pub added : (found : Found) → P found → In found new
+  pub only : (found : Found) → In found new → In found old ⊎ P found
+
+-- numbers of modules rise along the edges
+pub record Rises (ranks : List ℕ) (graph : Graph) : Type 0 where
+  pub rises : (from : ℕ) (edge : Edge) → Out graph from edge → slice_index ranks from < slice_index ranks edge.to
+
+abbrev pub count_true : List Bool → ℕ
+count_true [] = 0
+count_true (true ∷ bs) = 1 + count_true bs
+count_true (false ∷ bs) = count_true bs
+
+-- the marked modules are those of a list, each once
+pub record Marked (marks : List Bool) (order : List ℕ) : Type 0 where
+  pub count : count_true marks ≡ length order
+  pub same : (k : ℕ) → (slice_get marks k ≡ Some true) ↔ In k order
+
+-- modules were marked
+pub record Spreads (targets : List ℕ) (marks : List Bool) (order : List ℕ) (marks' : List Bool) (order' : List ℕ) : Type 0 where
+  pub marked : Marked marks' order'
+  pub counted : length marks' ≡ length marks
+  pub more : List ℕ
+  pub onward : order' ≡ order ++ more
+  pub adds : (t : ℕ) → In t targets → In t order'
+  pub only : (t : ℕ) → In t order' → In t order ⊎ In t targets
+
+abbrev pub ends : List Edge → List ℕ
+ends out = map (λ edge. edge.to) out

@@ -1,0 +1,18 @@
+//! What the names of a circuit mean: the declaration of each reference, the module of each instance, and the modules that
+//! the main one reaches. Keeps the contract that the answer is the scope of the circuit, or its first fault.
+#![tactic(auto)]
+
+mod earliest;
+pub mod fault;
+mod gather;
+mod graph;
+mod loops;
+mod references;
+mod scoping;
+mod walk;
+
+pub use fault::NameFault;
+pub use scoping::resolve;
+
+#[cfg(test)]
+mod tests;

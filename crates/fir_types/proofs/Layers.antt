@@ -1,0 +1,64 @@
+-- What the definitions say of bundles and vectors.
+use Rattle.std.proofs.Common.{◌≡◌, ℕ, zero, suc, ◌*◌, ◌<◌, Bool, true, false, ◌||◌, List, [], ◌∷◌, map, sum, refl, ap, ◌∙◌, arith}
+use Rattle.std.specs.List.{flat_map, list_any}
+use Rattle.std.proofs.lemmas.Grind.{common_steps}
+use Rattle.std.proofs.lemmas.List.Folds.{list_any-append, flat_map-map}
+use Rattle.fir_types.specs.declared.fir_type.FirType.{FirType, the_lemmas}
+use Rattle.fir_types.specs.declared.fir_type.Shape.TheVariants as shape
+use Rattle.fir_types.specs.declared.fir_type.Field.{Field}
+use Rattle.fir_types.specs.declared.leaf.TypeLeaf.{TypeLeaf}
+use Rattle.fir_types.specs.declared.leaf.PathStep.{PathStep}
+use Rattle.fir_types.specs.declared.leaf.PathStep.TheVariants as step
+use Rattle.fir_types.specs.Leaves.{leaves, count, field_count, field_leaves, elements, under, is_clock}
+use Rattle.fir_types.specs.Passivity.{has_flip, field_has_flip}
+
+list_any-map : {A : Type 0} (f : A → Bool) (xs : List A) → list_any (λ b. b) (map f xs) ≡ list_any f xs
+list_any-map f [] = refl
+list_any-map f (x ∷ xs) = ap (λ b. f x || b) (list_any-map f xs)
+
+pub leaves-bundle : (t : FirType) (fs : List Field) → t.shape ≡ shape.Bundle fs → leaves t ≡ flat_map field_leaves fs
+leaves-bundle t fs e = grind (arith, common_steps, the_lemmas, flat_map-map)
+
+pub leaves-vector : (t e : FirType) (n : ℕ) → t.shape ≡ shape.Vector e n → leaves t ≡ elements (leaves e) n
+leaves-vector t e n h = grind (arith, common_steps, the_lemmas)
+
+pub leaves-field : (f : Field) → field_leaves f ≡ map (under (step.Field f.name.id ∷ []) f.flip) (leaves f.typ)
+leaves-field f = grind (arith, common_steps, the_lemmas)
+
+pub count-bundle : (t : FirType) (fs : List Field) → t.shape ≡ shape.Bundle fs → count t ≡ sum (map field_count fs)
+count-bundle t fs e = grind (arith, common_steps, the_lemmas)
+
+pub count-vector : (t e : FirType) (n : ℕ) → t.shape ≡ shape.Vector e n → count t ≡ n * count e
+count-vector t e n h = grind (arith, common_steps, the_lemmas)
+
+pub count-field : (f : Field) → field_count f ≡ count f.typ
+count-field f = grind (arith, common_steps, the_lemmas)
+
+pub flip-bundle : (t : FirType) (fs : List Field) → t.shape ≡ shape.Bundle fs → has_flip t ≡ list_any field_has_flip fs
+flip-bundle t fs e = grind (arith, common_steps, the_lemmas, list_any-map)
+
+-- some leaf is a clock, in lists that are put together
+
+pub clock-fields : (fs : List Field) → list_any is_clock (flat_map field_leaves fs) ≡ list_any (λ f. list_any is_clock (field_leaves f)) fs
+clock-fields [] = refl
+clock-fields (f ∷ fs) = list_any-append is_clock (field_leaves f) (flat_map field_leaves fs) ∙ ap (λ b. list_any is_clock (field_leaves f) || b) (clock-fields fs)
+
+pub clock-under : (path : List PathStep) (flip : Bool) (ls : List TypeLeaf) → list_any is_clock (map (under path flip) ls) ≡ list_any is_clock ls
+clock-under path flip [] = refl
+clock-under path flip (l ∷ ls) = ap (λ b. is_clock l || b) (clock-under path flip ls)
+
+pub clock-field : (f : Field) → list_any is_clock (field_leaves f) ≡ list_any is_clock (leaves f.typ)
+clock-field f = ap (list_any is_clock) (leaves-field f) ∙ clock-under (step.Field f.name.id ∷ []) f.flip (leaves f.typ)
+
+same_or : (b : Bool) → (b || b) ≡ b
+same_or true = refl
+same_or false = refl
+
+-- an element has one, or none has
+pub clock-elements : (ls : List TypeLeaf) (n : ℕ) → 0 < n → list_any is_clock (elements ls n) ≡ list_any is_clock ls
+clock-elements ls zero h = grind (arith, common_steps)
+clock-elements ls (suc zero) h = clock-under (step.Element 0 ∷ []) false ls
+clock-elements ls (suc (suc n)) h =
+    list_any-append is_clock (elements ls (suc n)) (map (under (step.Element (suc n) ∷ []) false) ls)
+    ∙ ap (λ b. b || list_any is_clock (map (under (step.Element (suc n) ∷ []) false) ls)) (clock-elements ls (suc n) (grind (arith, common_steps)))
+    ∙ ap (λ b. list_any is_clock ls || b) (clock-under (step.Element (suc n) ∷ []) false ls) ∙ same_or (list_any is_clock ls)

@@ -1,0 +1,6 @@
+use Rattle.std.proofs.Common.{◌≡◌, map, take}
+use Rattle.fir_types.specs.Bundles.{mask_of_field}
+use Rattle.fir_types.proofs.bundles.+mask.Given as goal
+
+abbrev pub invariant-mask_fields-loop-field : goal.invariant-mask_fields-loop-field
+invariant-mask_fields-loop-field l = l.masks ≡ map mask_of_field (take l.field-index l.fields)

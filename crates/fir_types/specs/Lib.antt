@@ -1,0 +1,5 @@
+pub mod Leaves
+pub mod Passivity
+pub mod Equivalence
+pub mod Bundles
+pub mod Memories

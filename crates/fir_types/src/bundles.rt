@@ -1,0 +1,258 @@
+//! The bundles of instances and memories (FIRRTL specification 3.0, "Instances" and "Memories").
+
+ghost use Rattle.std.specs.Prelude.{◌≡◌, ◌++◌, filter_map, map, option_to_list, IfOk, OnOk};
+ghost use Rattle.fir_types.specs.Bundles.{instance_of, memory_of, mask_of, mask_of_field, address_bits, port_type, port_field, fields_of_mode, plain_field, flipped_field, uint_at, clock_at};
+ghost use Rattle.fir_types.specs.Memories.{element_in, depth_in, first_or};
+
+use crate::copying::copy;
+use crate::{Field, FirType, MemLine, Memory, Name, Port, PortMode, Shape};
+use bit_words::{Boxed, List};
+use place_text::Place;
+use std::alloc::{AllocError, Global};
+
+/// The place of what stands nowhere in a text.
+const NOWHERE: Place = Place { line: 1, column: 1 };
+
+/// The numbers that the names of a port's fields have in every circuit.
+const ADDR: u32 = 0;
+
+const EN: u32 = 1;
+
+const CLK: u32 = 2;
+
+const DATA: u32 = 3;
+
+const MASK: u32 = 4;
+
+const RDATA: u32 = 5;
+
+const WMODE: u32 = 6;
+
+const WDATA: u32 = 7;
+
+const WMASK: u32 = 8;
+
+/// The type of an instance of a module with these ports: the bundle of them in order, with the inputs flipped.
+pub fn instance_type(alloc: Global, ports: &[Port]) -> Result<FirType, AllocError>
+    ensures { IfOk result (λ typ. typ ≡ instance_of ports.now) }
+{
+    let mut fields = List::new(alloc);
+    for port in ports {
+        fields.push(Field {
+            flip: !port.output,
+            name: port.name,
+            typ: copy(alloc, &port.typ)?,
+        })?;
+    }
+    Ok(FirType {
+        place: NOWHERE,
+        shape: Shape::Bundle(fields),
+    })
+}
+
+/// The type of a memory: the bundle of its ports in order, all flipped. Where a line is missing or stands twice, the first
+/// one counts, and a memory without a `data-type` or a `depth` has the empty bundle or 1 in its place.
+pub fn memory_type(alloc: Global, memory: &Memory) -> Result<FirType, AllocError>
+    ensures { IfOk result (λ typ. typ ≡ memory_of memory.now) }
+{
+    let lines = memory.lines.as_slice();
+    let empty = FirType {
+        place: NOWHERE,
+        shape: Shape::Bundle(List::new(alloc)),
+    };
+    let fields = port_fields(alloc, lines, element(lines, &empty), depth(lines))?;
+    Ok(FirType {
+        place: NOWHERE,
+        shape: Shape::Bundle(fields),
+    })
+}
+
+/// The type of the elements, by the first line that gives it.
+fn element<'a>(lines: &'a [MemLine], other: &'a FirType) -> &'a FirType
+    ensures { result.now ≡ first_or other.now (filter_map element_in lines.now) }
+{
+    for line in lines {
+        if let MemLine::Element(_, typ) = line {
+            return typ;
+        }
+    }
+    other
+}
+
+/// The number of elements, by the first line that gives it.
+fn depth(lines: &[MemLine]) -> u128
+    ensures { result ≡ first_or 1 (filter_map depth_in lines.now) }
+{
+    for line in lines {
+        if let MemLine::Depth(_, depth) = line {
+            return *depth;
+        }
+    }
+    1
+}
+
+fn port_fields(
+    alloc: Global,
+    lines: &[MemLine],
+    element: &FirType,
+    depth: u128,
+) -> Result<List<Field>, AllocError>
+    ensures { IfOk result (λ fields. fields ≡ filter_map (port_field element.now depth) lines.now) }
+{
+    let mut fields = List::new(alloc);
+    for line in lines {
+        push_port_field(alloc, &mut fields, line, element, depth)?;
+    }
+    Ok(fields)
+}
+
+/// Adds the field of a port, where the line declares one.
+fn push_port_field(
+    alloc: Global,
+    fields: &mut List<Field>,
+    line: &MemLine,
+    element: &FirType,
+    depth: u128,
+) -> Result<(), AllocError>
+    ensures { OnOk result (fields.new ≡ fields.old ++ option_to_list (port_field element.now depth line.now)) }
+{
+    if let MemLine::MemPort(_, mode, name) = line {
+        fields.push(Field {
+            flip: true,
+            name: *name,
+            typ: port_bundle(alloc, element, depth, *mode, name.place)?,
+        })?;
+    }
+    Ok(())
+}
+
+/// The bundle of a port of a memory, whose name stands at this place.
+fn port_bundle(
+    alloc: Global,
+    element: &FirType,
+    depth: u128,
+    mode: PortMode,
+    place: Place,
+) -> Result<FirType, AllocError>
+    ensures { IfOk result (λ typ. typ ≡ port_type element.now depth mode place) }
+{
+    let mut fields = List::new(alloc);
+    fields.push(plain(place, ADDR, uint(place, address_width(depth))))?;
+    fields.push(plain(place, EN, uint(place, 1)))?;
+    fields.push(plain(place, CLK, clock(place)))?;
+    push_mode_fields(alloc, &mut fields, element, mode, place)?;
+    Ok(FirType {
+        place,
+        shape: Shape::Bundle(fields),
+    })
+}
+
+fn push_mode_fields(
+    alloc: Global,
+    fields: &mut List<Field>,
+    element: &FirType,
+    mode: PortMode,
+    place: Place,
+) -> Result<(), AllocError>
+    ensures { OnOk result (fields.new ≡ fields.old ++ fields_of_mode place element.now mode) }
+{
+    match mode {
+        PortMode::Reader => fields.push(flipped(place, DATA, copy(alloc, element)?))?,
+        PortMode::Writer => {
+            fields.push(plain(place, DATA, copy(alloc, element)?))?;
+            fields.push(plain(place, MASK, mask(alloc, element)?))?;
+        }
+        PortMode::ReadWriter => {
+            fields.push(flipped(place, RDATA, copy(alloc, element)?))?;
+            fields.push(plain(place, WMODE, uint(place, 1)))?;
+            fields.push(plain(place, WDATA, copy(alloc, element)?))?;
+            fields.push(plain(place, WMASK, mask(alloc, element)?))?;
+        }
+    }
+    Ok(())
+}
+
+fn plain(place: Place, id: u32, typ: FirType) -> Field
+    ensures { result ≡ plain_field place id typ }
+{
+    Field {
+        flip: false,
+        name: Name { id, place },
+        typ,
+    }
+}
+
+fn flipped(place: Place, id: u32, typ: FirType) -> Field
+    ensures { result ≡ flipped_field place id typ }
+{
+    Field {
+        flip: true,
+        name: Name { id, place },
+        typ,
+    }
+}
+
+fn uint(place: Place, width: u128) -> FirType
+    ensures { result ≡ uint_at place width }
+{
+    FirType {
+        place,
+        shape: Shape::Unsigned(Some(width)),
+    }
+}
+
+fn clock(place: Place) -> FirType
+    ensures { result ≡ clock_at place }
+{
+    FirType {
+        place,
+        shape: Shape::Clock,
+    }
+}
+
+/// The bits of an address below the depth, at least one.
+fn address_width(depth: u128) -> u128
+    ensures { result ≡ address_bits depth }
+{
+    if depth <= 2 {
+        1
+    } else {
+        u128::from((depth - 1).ilog2()) + 1
+    }
+}
+
+/// A type of the shape of another, with `UInt<1>` in place of each leaf.
+#[cycle(mask)]
+fn mask(alloc: Global, typ: &FirType) -> Result<FirType, AllocError>
+    ensures { IfOk result (λ mask. mask ≡ mask_of typ.now) }
+{
+    let shape = match &typ.shape {
+        Shape::Unsigned(_) | Shape::Signed(_) | Shape::Clock | Shape::Reset => {
+            Shape::Unsigned(Some(1))
+        }
+        Shape::Bundle(fields) => Shape::Bundle(mask_fields(alloc, fields.as_slice())?),
+        Shape::Vector(element, length) => {
+            let masked = mask(alloc, element.get())?;
+            Shape::Vector(Boxed::new(alloc, masked)?, *length)
+        }
+    };
+    Ok(FirType {
+        place: typ.place,
+        shape,
+    })
+}
+
+#[cycle(mask)]
+fn mask_fields(alloc: Global, fields: &[Field]) -> Result<List<Field>, AllocError>
+    ensures { IfOk result (λ masks. masks ≡ map mask_of_field fields.now) }
+{
+    let mut masks = List::new(alloc);
+    for field in fields {
+        masks.push(Field {
+            flip: field.flip,
+            name: field.name,
+            typ: mask(alloc, &field.typ)?,
+        })?;
+    }
+    Ok(masks)
+}

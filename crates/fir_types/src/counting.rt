@@ -1,0 +1,56 @@
+//! What can be said of a type's leaves without a list of them (FIRRTL specification 3.0, "Types"). Nothing here takes
+//! memory, and a vector's element is looked at once, however long the vector is.
+
+ghost use Rattle.std.specs.Prelude.{◌≡◌, ◌-◌, ◌^◌, min, map, sum};
+ghost use Rattle.std.specs.List.{list_any};
+ghost use Rattle.fir_types.specs.Leaves.{count, field_count, leaves, field_leaves, is_clock};
+
+use crate::{Field, FirType, Shape};
+
+/// The number of leaves of a type, or 2^128 - 1 where there are more.
+#[cycle(count)]
+pub fn leaf_count(typ: &FirType) -> u128
+    ensures { result ≡ min (count typ.now) (2 ^ 128 - 1) }
+{
+    match &typ.shape {
+        Shape::Unsigned(_) | Shape::Signed(_) | Shape::Clock | Shape::Reset => 1,
+        Shape::Bundle(fields) => count_fields(fields.as_slice()),
+        Shape::Vector(element, length) => length.saturating_mul(leaf_count(element.get())),
+    }
+}
+
+#[cycle(count)]
+fn count_fields(fields: &[Field]) -> u128
+    ensures { result ≡ min (sum (map field_count fields.now)) (2 ^ 128 - 1) }
+{
+    let mut total: u128 = 0;
+    for field in fields {
+        total = total.saturating_add(leaf_count(&field.typ));
+    }
+    total
+}
+
+/// Whether a leaf of the type is a `Clock`. A vector of length 0 has no leaf.
+#[cycle(clock)]
+pub fn has_clock(typ: &FirType) -> bool
+    ensures { result ≡ list_any is_clock (leaves typ.now) }
+{
+    match &typ.shape {
+        Shape::Unsigned(_) | Shape::Signed(_) | Shape::Reset => false,
+        Shape::Clock => true,
+        Shape::Bundle(fields) => clock_in_fields(fields.as_slice()),
+        Shape::Vector(element, length) => *length > 0 && has_clock(element.get()),
+    }
+}
+
+#[cycle(clock)]
+fn clock_in_fields(fields: &[Field]) -> bool
+    ensures { result ≡ list_any (λ field. list_any is_clock (field_leaves field)) fields.now }
+{
+    for field in fields {
+        if has_clock(&field.typ) {
+            return true;
+        }
+    }
+    false
+}
