@@ -11,12 +11,13 @@ use Rattle.fir_tree.specs.declared.circuit.Module.{Module as TheModule}
 use Rattle.fir_expr.specs.declared.reader.Reader.{Reader}
 use Rattle.fir_expr.specs.Standing.{IsLaidFrom}
 use Rattle.fir_parser.specs.Taking.{pieces, StandsAt, HasTaken, Refuses}
-use Rattle.fir_expr.proofs.Composition.{Enters}
+use Rattle.fir_expr.proofs.Composition.{Enters, piece_at}
+use Rattle.fir_parser.proofs.Joins.{first, later, breaks}
 use Rattle.fir_parser.proofs.Entering.{enters_part}
-use Rattle.fir_parser.specs.Expected.{Meets, MeetsNext, WordsStand}
+use Rattle.fir_parser.specs.Expected.{Meets, MeetsNext, WordsStand, VersionRefused, no_number, other_number, wants_memory}
 use Rattle.fir_tree.proofs.Fronts.{Front-taken, Front-entered}
 use Rattle.fir_tree.proofs.Follows.{settled_case}
-use Rattle.fir_tree.proofs.ReadingLaws.{part-here}
+use Rattle.fir_tree.proofs.ReadingLaws.{part-here, Stops-trans, Stops-piece}
 use Rattle.fir_layout.specs.Pieces.{Piece, piece_of, pieces_of}
 use Rattle.place_text.specs.Places.{place}
 use Rattle.fir_tree.specs.declared.fault.ParseFault.{ParseFault}
@@ -182,6 +183,33 @@ enters_text reader = enters_part a_text reader (λ l stands ps. refl)
 pub refused_text : (reader : Reader) (fault : ParseFault) → reader.at ≡ 0 → NotTheVersion reader.bytes.now reader.laid.now → Refuses (A Text ∷ []) reader fault
     → (fault ≡ NoMemory) ⊎ FaultOf reader.bytes.now reader.laid.now fault
 refused_text reader fault at other r = text_fault reader.bytes.now reader.laid.now fault other (rw at at r.refused)
+
+-- the version's first number isn't 3
+bad_version : (old mid : Reader) → old.at ≡ 0 → mid.at ≡ old.at + 2 → HasTaken (word "FIRRTL" ∷ word "version" ∷ []) old mid tt
+    → (l : Laid) → slice_get old.laid.now mid.at ≡ Some l → ¬ (Takes Three (piece_of old.bytes.now l)) → IsBad (pieces old) 2
+bad_version old mid start two h l stands not_three =
+    let third : mid.at ≡ 2 = omega (arith, start, two) in
+    let entered = (enters_text old).into [] (tt, tt) in
+    let words = h.read.leads behind_words (settled_case [] a_text (tt, tt)) in
+    let stops = Stops-trans entered (Stops-trans words (Stops-piece (pieces old) Nothing Three behind_three mid.at (piece_of old.bytes.now l) (piece_at old.bytes.now old.laid.now mid.at l stands) not_three)) in
+    stops_bad (pieces old) 2 (rw (start, third) at stops) (rw (start, third) at h.read.shallow)
+  where
+    behind_three : List Symbol
+    behind_three = mark 46 ∷ Is Nothing A_number ∷ mark 46 ∷ Is Nothing A_number ∷ line_end ∷ word "circuit" ∷ name ∷ colon ∷ line_end ∷ A Circuit_body ∷ Is Nothing Ends ∷ []
+    behind_words : List Symbol
+    behind_words = Is Nothing Three ∷ behind_three
+
+pub version_fault : (old mid : Reader) (fault : ParseFault) → old.at ≡ 0 → mid.at ≡ old.at + 2 → HasTaken (word "FIRRTL" ∷ word "version" ∷ []) old mid tt → VersionRefused mid fault
+    → (fault ≡ NoMemory) ⊎ FaultOf old.bytes.now old.laid.now fault
+version_fault old mid _ start two h wants_memory = inl refl
+version_fault old mid _ start two h (no_number fault none refused) =
+    let other : NotTheVersion old.bytes.now old.laid.now = rw (h.bytes, h.laid) at (without_number mid (omega (arith, start, two)) none) in
+    refused_text old fault start other (breaks a_text (enters_text old) (later h (first _ (record { refused = refused }))))
+version_fault old mid _ start two h (other_number m not_three) =
+    let third : mid.at ≡ 2 = omega (arith, start, two) in
+    let stands : slice_get old.laid.now mid.at ≡ Some m.laid = rw h.laid at m.stands in
+    let never : ¬ (Takes Three (piece_of old.bytes.now m.laid)) = λ takes. not_three (record { laid = m.laid; stands = m.stands; takes = rw h.bytes takes }) in
+    rw h.bytes (inr (a_version m.laid (rw third at stands) (bad_version old mid start two h m.laid stands never) (rw h.bytes at m.takes)))
 
 pub at_three : (old mid new : Reader) → old.at ≡ 0 → mid.at ≡ old.at + 2 → HasTaken (Is Nothing Three ∷ []) mid new tt → new.at ≡ 3
 at_three old mid new start two h = let a = one_step mid new Three h in omega (arith, start, two, a)

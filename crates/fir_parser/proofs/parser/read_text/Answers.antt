@@ -1,13 +1,18 @@
 use Rattle.std.proofs.lemmas.Result.{err_from_is_err_and}
 use Rattle.fir_tree.specs.Grammar.{a_text}
 use Rattle.fir_parser.proofs.Joins.{joins, first, later, makes, breaks}
-use Rattle.fir_parser.proofs.Texts.{enters_text, refused_text, without_words, with_version, at_three, text_shallow}
+use Rattle.fir_parser.proofs.Texts.{enters_text, refused_text, without_words, with_version, at_three, text_shallow, version_fault}
 use Rattle.fir_parser.proofs.parser.read_text.Goals as goal
 
 pub returns-in_err-read_words-clause-fault : goal.returns-in_err-read_words-clause-fault
 returns-in_err-read_words-clause-fault c =
     let p = err_from_is_err_and c.from_residual.result c.from_residual.ensures.1 in
     rw (p.1, p.2) (refused_text c.args.reader.now _ c.requires.start (without_words c.args.reader.now c.requires.start c.in_err-read_words.ensures.absent) (breaks a_text (enters_text c.args.reader.now) (first _ c.in_err-read_words.ensures.refused)))
+
+pub returns-in_err-take_three-clause-fault : goal.returns-in_err-take_three-clause-fault
+returns-in_err-take_three-clause-fault c =
+    let p = err_from_is_err_and c.from_residual-in_err-take_three.result c.from_residual-in_err-take_three.ensures.1 in
+    rw (p.1, p.2) (version_fault c.args.reader.now c.read_words.new.reader _ c.requires.start c.in_ok-read_words.ensures.two c.in_ok-read_words.ensures.ok c.in_err-take_three.ensures.refused)
 
 pub returns-in_err-read_numbers-clause-fault : goal.returns-in_err-read_numbers-clause-fault
 returns-in_err-read_numbers-clause-fault c =
