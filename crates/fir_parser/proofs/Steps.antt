@@ -4,7 +4,7 @@ use Rattle.std.proofs.lemmas.Option.{slice_get_within}
 use Rattle.fir_lexer.specs.declared.token.TokenKind.TheVariants as kind
 use Rattle.fir_lexer.specs.declared.token.Token.{Token}
 use Rattle.fir_layout.specs.declared.laid.Laid.{Laid}
-use Rattle.fir_layout.specs.declared.laid.Laid.TheVariants.{Item}
+use Rattle.fir_layout.specs.declared.laid.Laid.TheVariants.{Item, LineEnd, Open, Close, End}
 use Rattle.fir_layout.specs.Layout.{tokens_in, token_in}
 use Rattle.fir_layout.specs.Pieces.{Piece, A_token, A_line_end, A_block_opens, A_block_closes, The_end, piece_of, pieces_of, bytes_of}
 use Rattle.place_text.specs.Places.{place}
@@ -19,7 +19,7 @@ use Rattle.fir_expr.proofs.Composition.{piece_at, drop_at, read_piece, refused_p
 use Rattle.fir_tree.specs.Numbered.{AddsName}
 use Rattle.fir_tree.proofs.Cases.{some_injective}
 use Rattle.fir_expr.proofs.Depth.{levels_next}
-use Rattle.fir_parser.specs.Taking.{pieces, here, blocks_at, StandsAt, IsFresh, HasTaken, Refuses, Steps, StepsName}
+use Rattle.fir_parser.specs.Taking.{pieces, here, blocks_at, StandsAt, IsFresh, HasTaken, Refuses, Steps, StepsName, IsInText}
 use Rattle.fir_parser.specs.declared.take.Expected.{Expected}
 use Rattle.fir_parser.specs.declared.take.Expected.TheVariants as expected
 use Rattle.fir_parser.specs.Expected.{terminal, IsQuiet, Meets, NamesHere, NameText, DigitsText}
@@ -307,3 +307,11 @@ module _ (old new : Reader) (l : Laid) (text : List ℕ) (id : ℕ) where
         laid = step.laid;
         read = rw (step.at, w.item) (read_piece item takes (flat_here old new (Item w.token) A_name at tt takes) (a_name takes adds no_symbol));
       }
+
+-- a part begins in its text
+pub part_begins : (text : List ℕ) (part : Laid) → IsInText text part → start_of part ≤ length text
+part_begins text (Item token) inside = omega (arith, inside.0, inside.1)
+part_begins text (LineEnd at) inside = inside
+part_begins text (Open at) inside = inside
+part_begins text (Close at) inside = inside
+part_begins text (End at) inside = inside

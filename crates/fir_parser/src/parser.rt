@@ -51,6 +51,7 @@ fn read_all<'a>(alloc: Global, bytes: &'a [u8], laid: &'a [Laid]) -> Result<Circ
         return Err(ParseFault::NoMemory);
     }
     let mut reader = Reader::new(alloc, bytes, laid);
+    reader.index_lines(alloc)?;
     add_field_names(&mut reader.names)?;
     let circuit = read_text(alloc, &mut reader)?;
     let (main, modules) = circuit;

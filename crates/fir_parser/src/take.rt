@@ -104,8 +104,7 @@ pub fn fault_here(reader: &Reader) -> ParseFault
     requires laid { IsLaidFrom reader.now.bytes.now reader.now.laid.now }
     ensures { NamesHere reader.now result }
 {
-    let _reader = reader;
-    ParseFault::NoMemory
+    reader.refusal_here()
 }
 
 /// Moves behind a part.
@@ -150,7 +149,7 @@ pub fn take_placed_word(reader: &mut Reader, text: &str) -> Result<Place, ParseF
     if !is(reader.bytes, part, Expected::Word(text)) {
         return Err(fault_here(reader));
     }
-    let place = place_at(reader.bytes, part);
+    let place = place_at(reader, part);
     advance(reader);
     Ok(place)
 }
@@ -170,7 +169,7 @@ pub fn take_name(reader: &mut Reader) -> Result<Name, ParseFault>
     let Some(text) = name_text(reader.bytes, part) else {
         return Err(fault_here(reader));
     };
-    let place = place_at(reader.bytes, part);
+    let place = place_at(reader, part);
     let id = advance_name(reader, text)?;
     Ok(Name { id, place })
 }
@@ -285,7 +284,7 @@ pub fn take_open(reader: &mut Reader, blocks: u32) -> Result<(), ParseFault>
         return Err(fault_here(reader));
     }
     if blocks >= MOST_BLOCKS {
-        return Err(ParseFault::TooDeep(place_at(reader.bytes, part)));
+        return Err(ParseFault::TooDeep(place_at(reader, part)));
     }
     advance(reader);
     Ok(())

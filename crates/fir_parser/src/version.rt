@@ -46,7 +46,7 @@ pub fn take_three(reader: &mut Reader) -> Result<(), ParseFault>
     match read_magnitude(digits) {
         Ok(number) => {
             if number != 3 {
-                return Err(ParseFault::BadVersion(place_at(reader.bytes, part)));
+                return Err(ParseFault::BadVersion(place_at(reader, part)));
             }
             advance(reader);
             Ok(())
