@@ -1,5 +1,5 @@
 -- The version line.
-use Rattle.std.proofs.Common.{◌≡◌, ℕ, ◌+◌, ◌<◌, ◌≤◌, ◌^◌, true, false, List, [], ◌∷◌, ◌++◌, length, take, drop, refl, sym, ap, ◌∙◌, subst, arith, nat_le, slice_get, Some, None, Ok, Result}
+use Rattle.std.proofs.Common.{◌≡◌, ℕ, ◌+◌, ◌<◌, true, false, List, [], ◌∷◌, length, drop, refl, sym, ap, ◌∙◌, subst, arith, nat_le, slice_get, Some, Ok, Result}
 use Rattle.std.proofs.lemmas.Option.{slice_get_within}
 use Rattle.bit_words.specs.Numbers.{IsMagnitude, AnswersMagnitude}
 use Rattle.bit_words.specs.declared.number.NumberFault.{NumberFault}
@@ -8,19 +8,19 @@ use Rattle.fir_lexer.specs.declared.token.Token.{Token}
 use Rattle.fir_layout.specs.declared.laid.Laid.{Laid}
 use Rattle.fir_layout.specs.declared.laid.Laid.TheVariants.{Item}
 use Rattle.fir_layout.specs.Layout.{token_in, tokens_in}
-use Rattle.fir_layout.specs.Pieces.{Piece, bytes_of, A_token, A_line_end, A_block_opens, A_block_closes, The_end, piece_of, pieces_of}
+use Rattle.fir_layout.specs.Pieces.{Piece, bytes_of, A_token, piece_of}
 use Rattle.std.proofs.Math.Path.{Path}
 use Rattle.place_text.specs.declared.place.Place.{Place}
 use Rattle.fir_tree.proofs.Cases.{some_injective}
 use Rattle.place_text.specs.Places.{place}
 use Rattle.fir_tree.specs.declared.fault.ParseFault.{ParseFault}
-use Rattle.fir_tree.specs.declared.fault.ParseFault.TheVariants.{NoMemory, BadVersion}
-use Rattle.fir_tree.specs.Grammar.{Terminal, The_mark, A_number, Three, Takes, Nothing, Is, mark, start_of}
+use Rattle.fir_tree.specs.declared.fault.ParseFault.TheVariants.{BadVersion}
+use Rattle.fir_tree.specs.Grammar.{The_mark, A_number, Three, Takes, Nothing, Is, mark, start_of}
 use Rattle.fir_tree.specs.Faults.{Levels, past, is_deep, last_suffixes, with_suffix, most}
 use Rattle.fir_expr.specs.declared.reader.Reader.{Reader}
-use Rattle.fir_parser.specs.Taking.{pieces, here, blocks_at, StandsAt, HasTaken, Refuses, Steps}
-use Rattle.fir_parser.specs.Expected.{Meets, NamesHere, DigitsText, VersionRefused, no_number, other_number, wants_memory}
-use Rattle.fir_parser.proofs.Steps.{Calms, Quiets, quiets, stands_next, here_next, left_tokens, last_afresh, taken_flat, number_taken}
+use Rattle.fir_parser.specs.Taking.{here, blocks_at, StandsAt, HasTaken, Steps}
+use Rattle.fir_parser.specs.Expected.{Meets, NamesHere, DigitsText, VersionRefused, no_number, other_number}
+use Rattle.fir_parser.proofs.Steps.{Quiets, quiets, stands_next, here_next, left_tokens, last_afresh, taken_flat, number_taken}
 use Rattle.fir_parser.proofs.Joins.{joins}
 
 dot_is : (p : Piece) → Takes (The_mark 46) p → (bytes : List ℕ) × (A_token (kind.Mark 46) bytes ≡ p)

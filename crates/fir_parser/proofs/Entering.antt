@@ -1,6 +1,6 @@
 -- Which case of a rule goes on, by what stands at the reader's place.
 use Prim.Native.String.{String}
-use Rattle.std.proofs.Common.{◌≡◌, ℕ, ◌+◌, ◌<◌, ◌≤◌, Bool, true, false, List, [], ◌∷◌, ◌++◌, length, take, drop, Option, Some, None, refl, sym, ap, ◌∙◌, subst, arith, codes, bytes_eq, slice_get, get_or, inl, inr, ◌⊎◌, ⊎_elim, eqb, eqb→eq, eq-eqb}
+use Rattle.std.proofs.Common.{◌≡◌, ℕ, ◌+◌, ◌<◌, ◌≤◌, Bool, true, false, List, [], ◌∷◌, length, Some, None, refl, sym, ap, ◌∙◌, subst, arith, codes, bytes_eq, slice_get, get_or, inl, inr, ◌⊎◌, ⊎_elim, eqb, eqb→eq, eq-eqb}
 use Rattle.std.proofs.lemmas.Grind.{common_steps}
 use Rattle.std.proofs.lemmas.Option.{slice_get_cases}
 use Rattle.std.proofs.lemmas.List.{length-map}
@@ -8,9 +8,9 @@ use Rattle.std.proofs.lemmas.Bool.{cases_lt}
 use Rattle.std.proofs.lemmas.Slice.Eq.{bytes_eq-Decides}
 use Rattle.fir_lexer.specs.declared.token.TokenKind.TheVariants as kind
 use Rattle.fir_layout.specs.declared.laid.Laid.{Laid}
-use Rattle.fir_layout.specs.Pieces.{Piece, A_token, A_line_end, A_block_opens, A_block_closes, The_end, piece_of, pieces_of}
-use Rattle.fir_tree.specs.Grammar.{Terminal, The_word, The_mark, Opens, Closes, Takes, Symbol, A, Rule, IsCase, next_memory_line, next_statement, next_module, next_port, last_port, no_block, no_module_body, no_modules, no_branch, else_, else_when, an_output, under_undefined, a_readwriter, a_skip, a_module, Front, cut, takes_on, goes_into}
-use Rattle.fir_tree.specs.Reading.{part, Leads}
+use Rattle.fir_layout.specs.Pieces.{Piece, A_token, A_line_end, A_block_opens, A_block_closes, The_end, piece_of}
+use Rattle.fir_tree.specs.Grammar.{The_word, The_mark, Opens, Closes, Takes, Symbol, Rule, IsCase, next_memory_line, next_statement, next_module, next_port, last_port, no_block, no_module_body, no_modules, no_branch, else_, else_when, an_output, under_undefined, a_readwriter, a_skip, a_module, cut, takes_on, goes_into}
+use Rattle.fir_tree.specs.Reading.{part}
 use Rattle.fir_tree.proofs.Cases.{choose, starts_word, starts_mark, opens, closes}
 use Rattle.fir_tree.proofs.ReadingLaws.{part-here, part-cons}
 use Rattle.fir_expr.specs.declared.reader.Reader.{Reader}

@@ -1,11 +1,11 @@
 -- Whole texts: the circuit that is read, and the fault of a list that is refused.
-use Rattle.std.proofs.Common.{◌≡◌, ◌⊎◌, ℕ, zero, suc, ◌+◌, ◌<◌, ◌≤◌, List, [], ◌∷◌, ◌++◌, length, take, drop, refl, sym, ap, ◌∙◌, subst, arith, inl, inr, codes, length-append, ◌^◌, ◌-◌, slice_get, slice_index_or, Some, Ok, Err, Result, IfOk, IfErr, MatchResult}
+use Rattle.std.proofs.Common.{◌≡◌, ◌⊎◌, ℕ, zero, suc, ◌+◌, ◌<◌, ◌≤◌, List, [], ◌∷◌, ◌++◌, length, drop, refl, sym, ap, ◌∙◌, subst, arith, inl, inr, codes, length-append, ◌^◌, ◌-◌, slice_get, slice_index_or, Some, Ok, Err, Result, IfOk, IfErr, MatchResult}
 use Rattle.std.proofs.lemmas.Option.{slice_get_within}
 use Rattle.std.proofs.lemmas.List.{length-drop, length-map}
 use Rattle.std.proofs.Math.Seq.{drop-nil}
 use Rattle.fir_layout.specs.declared.laid.Laid.{Laid}
 use Rattle.fir_layout.specs.declared.laid.Laid.TheVariants.{Item, LineEnd, Open, Close, End}
-use Rattle.fir_layout.specs.Layout.{IsInside, EndsOnce, tokens_in, token_in}
+use Rattle.fir_layout.specs.Layout.{IsInside, tokens_in, token_in}
 use Rattle.fir_types.specs.declared.name.Name.{Name}
 use Rattle.fir_tree.specs.declared.circuit.Module.{Module as TheModule}
 use Rattle.fir_expr.specs.declared.reader.Reader.{Reader}
@@ -14,16 +14,15 @@ use Rattle.fir_parser.specs.Taking.{pieces, StandsAt, HasTaken, Refuses}
 use Rattle.fir_expr.proofs.Composition.{Enters, piece_at}
 use Rattle.fir_parser.proofs.Joins.{first, later, breaks}
 use Rattle.fir_parser.proofs.Entering.{enters_part}
-use Rattle.fir_parser.specs.Expected.{Meets, MeetsNext, WordsStand, VersionRefused, no_number, other_number, wants_memory}
+use Rattle.fir_parser.specs.Expected.{Meets, WordsStand, VersionRefused, no_number, other_number, wants_memory}
 use Rattle.fir_tree.proofs.Fronts.{Front-taken, Front-entered}
 use Rattle.fir_tree.proofs.Follows.{settled_case}
 use Rattle.fir_tree.proofs.ReadingLaws.{part-here, Stops-trans, Stops-piece}
 use Rattle.fir_layout.specs.Pieces.{Piece, piece_of, pieces_of}
-use Rattle.place_text.specs.Places.{place}
 use Rattle.fir_tree.specs.declared.fault.ParseFault.{ParseFault}
-use Rattle.fir_tree.specs.declared.fault.ParseFault.TheVariants.{NoMemory, BadVersion, TooDeep}
+use Rattle.fir_tree.specs.declared.fault.ParseFault.TheVariants.{NoMemory}
 use Rattle.fir_tree.specs.declared.circuit.Circuit.{Circuit}
-use Rattle.fir_tree.specs.Grammar.{A, Text, A_number, Three, Ends, The_word, Terminal, IsCase, a_text, cut, goes_into, word, mark, line_end, name, colon, Circuit_body, Nothing, Is, Symbol, Values, Spells, no_symbol, a_piece, Takes, Front, IsCircuit, field_names, start_of}
+use Rattle.fir_tree.specs.Grammar.{A, Text, A_number, Three, Ends, The_word, Terminal, IsCase, a_text, cut, goes_into, word, mark, line_end, name, colon, Circuit_body, Nothing, Is, Symbol, Values, Spells, no_symbol, a_piece, Takes, Front, IsCircuit, field_names}
 use Rattle.fir_tree.specs.Faults.{IsShallow, IsBad, IsTooDeep, FaultOf, a_version, a_bad_piece, a_deep_piece, IsDeepAt}
 use Rattle.fir_tree.specs.Reading.{part, Stops, IsRefused, no_memory, at_bad_piece, at_deep_piece}
 use Rattle.fir_tree.proofs.Unique.{one_circuit}

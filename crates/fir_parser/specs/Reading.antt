@@ -1,5 +1,5 @@
 -- Names that are apart from one another.
-use Rattle.std.specs.Prelude.{ℕ, Bool, true, not, ◌&&◌, ◌==◌, List, [], ◌∷◌, bytes_eq}
+use Rattle.std.specs.Prelude.{ℕ, Bool, true, not, ◌&&◌, List, [], ◌∷◌, bytes_eq}
 
 -- the text is none of the others
 abbrev pub is_apart : List ℕ → List (List ℕ) → Bool

@@ -4,7 +4,7 @@ use Rattle.fir_tree.specs.Grammar.{a_when, a_block, no_block, A, Expression, Blo
 use Rattle.fir_parser.proofs.Steps.{refuses_memory}
 use Rattle.fir_parser.proofs.Joins.{joins, first, later, makes, breaks, nothing_taken}
 use Rattle.fir_parser.proofs.Entering.{enters_word, enters_open, enters_else, enters_else_when, into_no_block}
-use Rattle.fir_parser.proofs.Loops.{no_statements, more_statements, statement_refused, statements_closed, close_refused, statement_moves, smaller, when_taken, no_branches, more_branches, branch_refused, else_refused, else_taken, branches_end, moves}
+use Rattle.fir_parser.proofs.Loops.{more_statements, statement_refused, statements_closed, close_refused, statement_moves, smaller, when_taken, more_branches, branch_refused, else_refused, else_taken, branches_end, moves}
 use Rattle.fir_parser.proofs.block.+block.Goals as goal
 
 pub read_statements-returns-in_err-statement-clause-refused : goal.read_statements-returns-in_err-statement-clause-refused

@@ -1,6 +1,5 @@
 use Rattle.std.proofs.lemmas.Result.{err_from_is_err_and}
-use Rattle.std.proofs.Common.{refl}
-use Rattle.fir_parser.proofs.Joins.{joins, first, later, makes, breaks}
+use Rattle.fir_parser.proofs.Joins.{joins, first, later}
 use Rattle.fir_parser.proofs.memory.read_port.Goals as goal
 
 pub returns-in_err-place-clause-refused : goal.returns-in_err-place-clause-refused

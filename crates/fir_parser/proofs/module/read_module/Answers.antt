@@ -1,5 +1,4 @@
 use Rattle.std.proofs.lemmas.Result.{err_from_is_err_and}
-use Rattle.std.proofs.Common.{refl}
 use Rattle.fir_parser.proofs.Joins.{joins, first, later, makes, breaks}
 use Rattle.fir_tree.specs.Grammar.{a_module}
 use Rattle.fir_parser.proofs.Entering.{into_module_always}

@@ -1,5 +1,5 @@
 use Rattle.std.proofs.lemmas.Result.{err_from_is_err_and}
-use Rattle.std.proofs.Common.{refl, ◌∙◌, [], ◌∷◌}
+use Rattle.std.proofs.Common.{◌∙◌}
 use Rattle.fir_parser.proofs.Steps.{refuses_memory}
 use Rattle.fir_parser.proofs.Loops.{module_moves, module_refused, modules_close_refused, modules_closed, more_modules, smaller}
 use Rattle.fir_parser.proofs.module.read_modules.Goals as goal

@@ -1,6 +1,5 @@
 use Rattle.std.proofs.lemmas.Result.{err_from_is_err_and}
-use Rattle.std.proofs.Common.{refl}
-use Rattle.fir_parser.proofs.Joins.{joins, first, later, makes, breaks}
+use Rattle.fir_parser.proofs.Joins.{makes, breaks}
 use Rattle.fir_tree.specs.Grammar.{an_output}
 use Rattle.fir_parser.proofs.Entering.{into_output}
 use Rattle.fir_parser.proofs.module.read_sided.Goals as goal

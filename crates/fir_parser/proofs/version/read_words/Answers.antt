@@ -1,8 +1,6 @@
 use Rattle.std.proofs.lemmas.Result.{err_from_is_err_and}
-use Rattle.std.proofs.Common.{refl}
-use Rattle.fir_parser.proofs.Joins.{joins, first, later, makes, breaks}
-use Rattle.fir_tree.specs.Grammar.{The_word}
-use Rattle.std.proofs.Common.{codes, arith}
+use Rattle.fir_parser.proofs.Joins.{joins, first, later}
+use Rattle.std.proofs.Common.{arith}
 use Rattle.fir_parser.proofs.Texts.{no_second, one_step}
 use Rattle.fir_parser.proofs.version.read_words.Goals as goal
 
