@@ -34,11 +34,13 @@ nothing_left ps i k past = grind (arith, common_steps)
 
 -- behind the last part nothing tells the cases apart
 enters_nowhere : {r : Rule} {body : List Symbol} (case : IsCase r body) (ps : List Piece) (i : ℕ) → length ps ≤ i → Enters ps i case
-enters_nowhere {body} case ps i past = record { into = λ rest settled. record {
-  onward = omega arith;
-  back = λ k l f. goes_into body case f;
-  forth = λ k l f. let nothing : part ps i k ≡ [] = nothing_left ps i k past in rw nothing cut;
-} }
+enters_nowhere {body} case ps i past = record {
+  into = λ rest settled. record {
+    onward = omega arith;
+    back = λ k l f. goes_into body case f;
+    forth = λ k l f. let nothing : part ps i k ≡ [] = nothing_left ps i k past in rw nothing cut;
+  };
+}
 
 -- the part at the place says which case it is
 pub enters_part : {r : Rule} {body : List Symbol} (case : IsCase r body) (reader : Reader)
@@ -143,15 +145,30 @@ into_undefined reader a b = enters_part under_undefined reader (λ l stands ps. 
 pub into_readwriter : (reader : Reader) → ¬ (Meets (The_word (codes "data-type")) reader) → ¬ (Meets (The_word (codes "depth")) reader) → ¬ (Meets (The_word (codes "read-latency")) reader)
     → ¬ (Meets (The_word (codes "write-latency")) reader) → ¬ (Meets (The_word (codes "read-under-write")) reader) → ¬ (Meets (The_word (codes "reader")) reader) → ¬ (Meets (The_word (codes "writer")) reader)
     → Enters (pieces reader) reader.at a_readwriter
-into_readwriter reader a b c d e f g = enters_part a_readwriter reader (λ l stands ps. rw (not_word reader l stands "data-type" a ps, not_word reader l stands "depth" b ps, not_word reader l stands "read-latency" c ps,
-    not_word reader l stands "write-latency" d ps, not_word reader l stands "read-under-write" e ps, not_word reader l stands "reader" f ps, not_word reader l stands "writer" g ps) refl)
+into_readwriter reader a b c d e f g = enters_part a_readwriter reader (λ l stands ps. rw (
+  not_word reader l stands "data-type" a ps,
+  not_word reader l stands "depth" b ps,
+  not_word reader l stands "read-latency" c ps,
+  not_word reader l stands "write-latency" d ps,
+  not_word reader l stands "read-under-write" e ps,
+  not_word reader l stands "reader" f ps,
+  not_word reader l stands "writer" g ps,
+) refl)
 
 pub into_skip : (reader : Reader) → ¬ (Meets (The_word (codes "wire")) reader) → ¬ (Meets (The_word (codes "reg")) reader) → ¬ (Meets (The_word (codes "regreset")) reader) → ¬ (Meets (The_word (codes "mem")) reader)
     → ¬ (Meets (The_word (codes "inst")) reader) → ¬ (Meets (The_word (codes "node")) reader) → ¬ (Meets (The_word (codes "connect")) reader) → ¬ (Meets (The_word (codes "invalidate")) reader)
     → ¬ (Meets (The_word (codes "when")) reader) → Enters (pieces reader) reader.at a_skip
-into_skip reader a b c d e f g h i = enters_part a_skip reader (λ l stands ps. rw (not_word reader l stands "wire" a ps, not_word reader l stands "reg" b ps, not_word reader l stands "regreset" c ps,
-    not_word reader l stands "mem" d ps, not_word reader l stands "inst" e ps, not_word reader l stands "node" f ps, not_word reader l stands "connect" g ps, not_word reader l stands "invalidate" h ps,
-    not_word reader l stands "when" i ps) refl)
+into_skip reader a b c d e f g h i = enters_part a_skip reader (λ l stands ps. rw (
+  not_word reader l stands "wire" a ps,
+  not_word reader l stands "reg" b ps,
+  not_word reader l stands "regreset" c ps,
+  not_word reader l stands "mem" d ps,
+  not_word reader l stands "inst" e ps,
+  not_word reader l stands "node" f ps,
+  not_word reader l stands "connect" g ps,
+  not_word reader l stands "invalidate" h ps,
+  not_word reader l stands "when" i ps,
+) refl)
 
 pub into_module_always : (reader : Reader) → Enters (pieces reader) reader.at a_module
 into_module_always reader = enters_part a_module reader (λ l stands ps. refl)
@@ -190,12 +207,14 @@ last_else : (ps : List Piece) (i : ℕ) (p : Piece) → slice_get ps i ≡ Some 
 last_else ps i p h past k l = part-cons ps i k p h (omega (arith, l)) ∙ ap (λ (qs : List Piece). p ∷ qs) (nothing_left ps (i + 1) k past)
 
 enters_at_last : (ps : List Piece) (i : ℕ) → slice_get ps i ≡ Some (A_token kind.Word (codes "else")) → length ps ≤ i + 1 → Enters ps i else_when
-enters_at_last ps i h past = record { into = λ rest settled. record {
-  onward = omega arith;
-  back = λ k l f. goes_into _ else_when f;
-  forth = λ k l f. ⊎_elim (λ inside. let one : part ps i k ≡ A_token kind.Word (codes "else") ∷ [] = last_else ps i _ h past k inside in rw one (takes_on refl cut))
-      (λ outside. let nothing : part ps i k ≡ [] = part-here ps i k outside in rw nothing cut) (cases_lt i k);
-} }
+enters_at_last ps i h past = record {
+  into = λ rest settled. record {
+    onward = omega arith;
+    back = λ k l f. goes_into _ else_when f;
+    forth = λ k l f. ⊎_elim (λ inside. let one : part ps i k ≡ A_token kind.Word (codes "else") ∷ [] = last_else ps i _ h past k inside in rw one (takes_on refl cut))
+        (λ outside. let nothing : part ps i k ≡ [] = part-here ps i k outside in rw nothing cut) (cases_lt i k);
+  };
+}
 
 else_when_at : (reader : Reader) → Meets (The_word (codes "else")) reader → ¬ (MeetsNext (The_mark 58) reader)
     → ((x : Laid) × (reader.at + 1 < length reader.laid.now) × (slice_get reader.laid.now (reader.at + 1) ≡ Some x) × (get_or reader.laid.now (reader.at + 1) x ≡ x))

@@ -174,8 +174,11 @@ module _ (old : Reader) (before : List Arm) where
 
   pub branches_end : (now : Reader) (arms : List Arm) → Branches_so_far old now before arms → ¬ (Meets (The_word (codes "else")) now) → now.at ≤ length now.laid.now
       → Branched before old now arms []
-  branches_end now arms b none within = record { more = b.more; made = b.made;
-      taken = rw (append-nil b.more) at (b.continues.taken now ([], []) (makes no_branch (into_no_branch now none) (nothing_taken now within))) }
+  branches_end now arms b none within = record {
+    more = b.more;
+    made = b.made;
+    taken = rw (append-nil b.more) at (b.continues.taken now ([], []) (makes no_branch (into_no_branch now none) (nothing_taken now within)));
+  }
 
 -- a `when` with its branches
 pub when_taken : (old a b new : Reader) (arm : Arm) (arms all : List Arm) (other : List Stmt) → Enters (pieces old) old.at a_when → HasTaken (word "when" ∷ []) old a tt

@@ -174,8 +174,10 @@ module _ (old new : Reader) (l : Laid) (s : Terminal) where
 
 -- a word leaves no suffix behind
 pub fresh_word : (old new : Reader) (l : Laid) (text : List ℕ) → StandsAt old → slice_get old.laid.now old.at ≡ Some l → Takes (The_word text) (piece_of old.bytes.now l) → Steps old new → IsFresh new
-fresh_word old new l text at stands takes step = record { none =
-  ap (λ (x : Levels). last_suffixes x.suffixes) (here_next old new l step.bytes step.laid step.at stands) ∙ word_fresh (here old) text (piece_of old.bytes.now l) takes at.no_dot }
+fresh_word old new l text at stands takes step = record {
+  none =
+      ap (λ (x : Levels). last_suffixes x.suffixes) (here_next old new l step.bytes step.laid step.at stands) ∙ word_fresh (here old) text (piece_of old.bytes.now l) takes at.no_dot;
+}
   where
     word_fresh : (at : Levels) (text : List ℕ) (p : Piece) → Takes (The_word text) p → at.dotted ≡ false → last_suffixes (past at p).suffixes ≡ 0
     word_fresh at text (A_token kind.Word bytes) h no_dot = rw no_dot (last_afresh at.suffixes)
@@ -293,8 +295,10 @@ module _ (old new : Reader) (l : Laid) (text : List ℕ) (id : ℕ) where
       ap (λ (x : Levels). x.blocks) (here_next old new l step.bytes step.laid step.at stands) ∙ quiet.blocks
 
   pub fresh_named : StandsAt old → slice_get old.laid.now old.at ≡ Some l → NameText old.bytes.now l text → StepsName old new text id → IsFresh new
-  fresh_named at stands w step = record { none =
-    ap (λ (x : Levels). last_suffixes x.suffixes) (here_next old new l step.bytes step.laid step.at stands) ∙ name_quiet (here old) (piece_of old.bytes.now l) w.takes at.no_dot }
+  fresh_named at stands w step = record {
+    none =
+        ap (λ (x : Levels). last_suffixes x.suffixes) (here_next old new l step.bytes step.laid step.at stands) ∙ name_quiet (here old) (piece_of old.bytes.now l) w.takes at.no_dot;
+  }
 
   pub taken_name : StandsAt old → slice_get old.laid.now old.at ≡ Some l → NameText old.bytes.now l text → StepsName old new text id
       → HasTaken (Is Its_name A_name ∷ []) old new (record { id = id; place = place old.bytes.now (start_of l) }, tt)

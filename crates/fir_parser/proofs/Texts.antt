@@ -154,9 +154,11 @@ words_there text (x ∷ y ∷ z ∷ ls) l e bad =
     (x, y, refl, refl, both.0, both.1)
 
 pub without_words : (reader : Reader) → reader.at ≡ 0 → ¬ (WordsStand reader) → NotTheVersion reader.bytes.now reader.laid.now
-without_words reader at none = record { elsewhere = λ l stands number bad.
-  let w = words_there reader.bytes.now reader.laid.now l stands bad in
-  none (record { one = record { laid = w.0; stands = rw at w.2; takes = w.4 }; two = record { laid = w.1; stands = rw at w.3; takes = w.5 } }) }
+without_words reader at none = record {
+  elsewhere = λ l stands number bad.
+      let w = words_there reader.bytes.now reader.laid.now l stands bad in
+      none (record { one = record { laid = w.0; stands = rw at w.2; takes = w.4 }; two = record { laid = w.1; stands = rw at w.3; takes = w.5 } });
+}
 
 pub without_number : (reader : Reader) → reader.at ≡ 2 → ¬ (Meets A_number reader) → NotTheVersion reader.bytes.now reader.laid.now
 without_number reader at none = record { elsewhere = λ l stands number bad. none (record { laid = l; stands = rw at stands; takes = number }) }
@@ -195,6 +197,7 @@ bad_version old mid start two h l stands not_three =
   where
     behind_three : List Symbol
     behind_three = mark 46 ∷ Is Nothing A_number ∷ mark 46 ∷ Is Nothing A_number ∷ line_end ∷ word "circuit" ∷ name ∷ colon ∷ line_end ∷ A Circuit_body ∷ Is Nothing Ends ∷ []
+
     behind_words : List Symbol
     behind_words = Is Nothing Three ∷ behind_three
 

@@ -17,7 +17,11 @@ use std::alloc::Global;
 
 /// The statements of a block and its end. So many blocks are open with it.
 #[cycle(block)]
-pub fn read_statements(alloc: Global, reader: &mut Reader, blocks: u32) -> Result<List<Stmt>, ParseFault>
+pub fn read_statements(
+    alloc: Global,
+    reader: &mut Reader,
+    blocks: u32,
+) -> Result<List<Stmt>, ParseFault>
     requires at { StandsAt reader.old }
     requires counted { blocks_at reader.old ≡ blocks }
     requires few { blocks ≤ most }

@@ -8,7 +8,6 @@ mod header;
 mod memory;
 mod module;
 pub mod parser;
-mod part;
 mod statement;
 mod take;
 mod version;

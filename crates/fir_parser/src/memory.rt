@@ -7,7 +7,10 @@ ghost use Rattle.fir_parser.specs.Taking.{StandsAt, IsFresh, HasTaken, Refuses, 
 ghost use Rattle.fir_parser.specs.Expected.{Meets};
 
 use crate::header::read_named;
-use crate::take::{Expected, meets, take, take_close, take_name, take_number, take_open, take_placed_word, take_type};
+use crate::take::{
+    Expected, meets, take, take_close, take_name, take_number, take_open, take_placed_word,
+    take_type,
+};
 use bit_words::List;
 use fir_expr::Reader;
 use fir_tree::{ParseFault, Stmt};

@@ -15,7 +15,10 @@ use fir_types::Port as ModulePort;
 use std::alloc::Global;
 
 /// The modules of a circuit in their block, or none where no block stands.
-pub fn read_circuit_body(alloc: Global, reader: &mut Reader) -> Result<List<fir_tree::Module>, ParseFault>
+pub fn read_circuit_body(
+    alloc: Global,
+    reader: &mut Reader,
+) -> Result<List<fir_tree::Module>, ParseFault>
     requires at { StandsAt reader.old }
     requires counted { blocks_at reader.old ≡ 0 }
     ensures ok { IfOk result (λ it. HasTaken (A Circuit_body ∷ []) reader.old reader.new (it, tt)) }

@@ -80,10 +80,7 @@ fn read_text(alloc: Global, reader: &mut Reader) -> Result<(Name, List<Module>),
 }
 
 /// The circuit behind the version line, up to the end of the text.
-fn read_circuit(
-    alloc: Global,
-    reader: &mut Reader,
-) -> Result<(Name, List<Module>), ParseFault>
+fn read_circuit(alloc: Global, reader: &mut Reader) -> Result<(Name, List<Module>), ParseFault>
     requires at { StandsAt reader.old }
     requires counted { blocks_at reader.old ≡ 0 }
     ensures ok { IfOk result (λ it. HasTaken (word "circuit" ∷ name ∷ colon ∷ line_end ∷ A Circuit_body ∷ Is Nothing Ends ∷ []) reader.old reader.new (it.0, (it.1, tt))) }

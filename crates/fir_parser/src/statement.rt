@@ -7,7 +7,9 @@ ghost use Rattle.fir_parser.specs.Expected.{Meets};
 
 use crate::header::{read_named, read_typed};
 use crate::memory::read_memory;
-use crate::take::{Expected, meets, take, take_expression, take_name, take_placed_word, take_reference};
+use crate::take::{
+    Expected, meets, take, take_expression, take_name, take_placed_word, take_reference,
+};
 use fir_expr::Reader;
 use fir_tree::{ParseFault, Stmt};
 use place_text::Place;

@@ -11,11 +11,10 @@ ghost use Rattle.fir_expr.specs.Standing.{IsLaidFrom};
 ghost use Rattle.fir_parser.specs.Taking.{StandsAt, IsFresh, HasTaken, Refuses, Steps, StepsName, IsInText, blocks_at};
 ghost use Rattle.fir_parser.specs.Expected.{terminal, IsQuiet, Meets, MeetsNext, NamesHere, NameText, DigitsText};
 
-use crate::part::{place_at, token_bytes};
 use bit_words::{NumberFault, read_magnitude};
 use fir_expr::{Reader, read_expr, read_reference, read_type};
 use fir_layout::Laid;
-use fir_lexer::TokenKind;
+use fir_lexer::{Token, TokenKind};
 use fir_tree::{Expr, Names, ParseFault};
 use fir_types::{FirType, Name};
 use place_text::Place;
@@ -44,6 +43,25 @@ pub fn part(reader: &Reader) -> Option<Laid>
     ensures inside { IfSome result (λ l. IsInText reader.now.bytes.now l) }
 {
     reader.laid.get(reader.at).copied()
+}
+
+/// The bytes of a token.
+pub fn token_bytes(bytes: &[u8], token: Token) -> &[u8]
+    requires ordered { token.start ≤ token.end }
+    requires within { token.end ≤ length bytes.now }
+    ensures { result.now ≡ bytes_of bytes.now token }
+{
+    &bytes[token.start as usize..token.end as usize]
+}
+
+/// The place where a part of the list begins.
+#[tactic(auto, using(crate::proofs::Steps::part_begins))]
+pub fn place_at(reader: &Reader, part: Laid) -> Place
+    requires short { length reader.now.bytes.now < 2 ^ 32 - 1 }
+    requires inside { IsInText reader.now.bytes.now part }
+    ensures { result ≡ place reader.now.bytes.now (start_of part) }
+{
+    reader.place_of(part)
 }
 
 /// Whether a part of the list is what is expected.

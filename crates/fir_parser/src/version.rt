@@ -7,8 +7,7 @@ ghost use Rattle.fir_expr.specs.Standing.{IsLaidFrom};
 ghost use Rattle.fir_parser.specs.Taking.{StandsAt, HasTaken, Refuses, Steps, blocks_at, here};
 ghost use Rattle.fir_parser.specs.Expected.{Meets, VersionRefused, WordsStand};
 
-use crate::part::place_at;
-use crate::take::{Expected, advance, digits, fault_here, meets, part, take};
+use crate::take::{Expected, advance, digits, fault_here, meets, part, place_at, take};
 use bit_words::{NumberFault, read_magnitude};
 use fir_expr::Reader;
 use fir_tree::ParseFault;

@@ -31,6 +31,7 @@ read_statements-returns-in_err-take_close-clause-refused t c =
 
 pub read_statements-returns-clause-ok : goal.read_statements-returns-clause-ok
 read_statements-returns-clause-ok t c = statements_closed c.args.reader.now _ _ _ c.loop-alloc.invariant.2 c.loop-alloc-test.ensures c.in_ok-take_close.ensures.ok
+
 pub read_when-returns-in_err-take-clause-refused : goal.read_when-returns-in_err-take-clause-refused
 read_when-returns-in_err-take-clause-refused t c =
     let p = err_from_is_err_and c.from_residual.result c.from_residual.ensures.1 in
