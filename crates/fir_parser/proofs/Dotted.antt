@@ -1,0 +1,161 @@
+-- The version line.
+use Rattle.std.proofs.Common.{◌≡◌, ℕ, ◌+◌, ◌<◌, true, false, List, [], ◌∷◌, length, drop, refl, sym, ap, ◌∙◌, subst, arith, nat_le, slice_get, Some, Ok, Result}
+use Rattle.std.proofs.lemmas.Option.{slice_get_within}
+use Rattle.bit_words.specs.Numbers.{IsMagnitude, AnswersMagnitude}
+use Rattle.bit_words.specs.declared.number.NumberFault.{NumberFault}
+use Rattle.fir_lexer.specs.declared.token.TokenKind.TheVariants as kind
+use Rattle.fir_lexer.specs.declared.token.Token.{Token}
+use Rattle.fir_layout.specs.declared.laid.Laid.{Laid}
+use Rattle.fir_layout.specs.declared.laid.Laid.TheVariants.{Item}
+use Rattle.fir_layout.specs.Layout.{token_in, tokens_in}
+use Rattle.fir_layout.specs.Pieces.{Piece, bytes_of, A_token, piece_of}
+use Rattle.std.proofs.Math.Path.{Path}
+use Rattle.place_text.specs.declared.place.Place.{Place}
+use Rattle.fir_tree.proofs.Cases.{some_injective}
+use Rattle.place_text.specs.Places.{place}
+use Rattle.fir_tree.specs.declared.fault.ParseFault.{ParseFault}
+use Rattle.fir_tree.specs.declared.fault.ParseFault.TheVariants.{BadVersion}
+use Rattle.fir_tree.specs.Grammar.{The_mark, A_number, Three, Takes, Nothing, Is, mark, start_of}
+use Rattle.fir_tree.specs.Faults.{Levels, past, is_deep, last_suffixes, with_suffix, most}
+use Rattle.fir_expr.specs.declared.reader.Reader.{Reader}
+use Rattle.fir_parser.specs.Taking.{here, blocks_at, StandsAt, HasTaken, Steps}
+use Rattle.fir_parser.specs.Expected.{Meets, NamesHere, DigitsText, VersionRefused, no_number, other_number}
+use Rattle.fir_parser.proofs.Steps.{Quiets, quiets, stands_next, here_next, left_tokens, last_afresh, taken_flat, number_taken}
+use Rattle.fir_parser.proofs.Joins.{joins}
+
+dot_is : (p : Piece) → Takes (The_mark 46) p → (bytes : List ℕ) × (A_token (kind.Mark 46) bytes ≡ p)
+dot_is (A_token (kind.Mark m) bytes) h = (bytes, ap (λ (n : ℕ). A_token (kind.Mark n) bytes) (sym h))
+dot_is _ h = absurd h
+
+number_is : (p : Piece) → Takes A_number p → (bytes : List ℕ) × (A_token kind.Digits bytes ≡ p)
+number_is (A_token kind.Digits bytes) h = (bytes, refl)
+number_is _ h = absurd h
+
+length_with_suffix : (ns : List ℕ) → length (with_suffix ns) ≡ length ns
+length_with_suffix [] = refl
+length_with_suffix (n ∷ ns) = refl
+
+last_with_suffix : (ns : List ℕ) → length ns ≡ 1 → last_suffixes (with_suffix ns) ≡ last_suffixes ns + 1
+last_with_suffix [] h = cc
+last_with_suffix (n ∷ ns) h = refl
+
+below : (n : ℕ) → n < most → nat_le most n ≡ false
+below n h = grind arith
+
+module _ (old mid new : Reader) where
+  dotted : (d : Meets (The_mark 46) old) → Steps old mid → here mid ≡ record { blocks = (here old).blocks; suffixes = with_suffix (here old).suffixes; dotted = true }
+  dotted d step =
+      let p = dot_is (piece_of old.bytes.now d.laid) d.takes in
+      here_next old mid d.laid step.bytes step.laid step.at d.stands ∙ ap (λ (q : Piece). past (here old) q) (sym p.1)
+
+  numbered : (d : Meets (The_mark 46) old) → Steps old mid → (n : Meets A_number mid) → Steps mid new → here new ≡ record { blocks = (here old).blocks; suffixes = with_suffix (here old).suffixes; dotted = false }
+  numbered d step n next =
+      let p = number_is (piece_of mid.bytes.now n.laid) n.takes in
+      here_next mid new n.laid next.bytes next.laid next.at n.stands ∙ (ap (λ (q : Piece). past (here mid) q) (sym p.1) ∙ ap (λ (l : Levels). past l (A_token kind.Digits p.0)) (dotted d step))
+
+  stands_numbered : StandsAt old → (d : Meets (The_mark 46) old) → Steps old mid → (n : Meets A_number mid) → Steps mid new → StandsAt new
+  stands_numbered at d step n next =
+      let inside : mid.at < length mid.laid.now = slice_get_within mid.laid.now mid.at n.laid n.stands in
+      let same : length mid.laid.now ≡ length old.laid.now = ap (λ (ls : List Laid). length ls) step.laid in
+      let levels : here new ≡ record { blocks = (here old).blocks; suffixes = with_suffix (here old).suffixes; dotted = false } = numbered d step n next in
+      let one : length (tokens_in (drop old.at old.laid.now)) ≡ length (token_in d.laid) + length (tokens_in (drop (old.at + 1) old.laid.now)) = left_tokens old.laid.now old.at d.laid d.stands in
+      let two : length (tokens_in (drop mid.at mid.laid.now)) ≡ length (token_in n.laid) + length (tokens_in (drop (mid.at + 1) mid.laid.now)) = left_tokens mid.laid.now mid.at n.laid n.stands in
+      let three : length (tokens_in (drop (old.at + 1) old.laid.now)) ≡ length (token_in n.laid) + length (tokens_in (drop (old.at + 1 + 1) old.laid.now)) = rw (step.laid, step.at) at two in
+      let before = at.short in
+      let room = at.room in
+      record {
+        short = rw (next.bytes, step.bytes) at.short;
+        laid = rw (next.bytes, next.laid, step.bytes, step.laid) at.laid;
+        within = rw (next.at, next.laid) (omega (arith, inside));
+        room = rw (next.at, next.laid, next.names, step.at, step.laid, step.names) (omega (arith, room, one, three));
+        outside = next.brackets ∙ (step.brackets ∙ at.outside);
+        one = rw levels (length_with_suffix (here old).suffixes ∙ at.one);
+        no_dot = rw levels refl;
+      }
+
+  pub next_number : StandsAt old → last_suffixes (here old).suffixes < most → (d : Meets (The_mark 46) old) → Steps old mid → (n : Meets A_number mid) → Steps mid new
+      → HasTaken (mark 46 ∷ Is Nothing A_number ∷ []) old new tt
+  next_number at few d step n next =
+      let p = dot_is (piece_of old.bytes.now d.laid) d.takes in
+      let q = number_is (piece_of mid.bytes.now n.laid) n.takes in
+      let deep : is_deep (here old) (piece_of old.bytes.now d.laid) ≡ false = subst (λ (x : Piece). is_deep (here old) x ≡ false) p.1 (below (last_suffixes (here old).suffixes) few) in
+      let flat : is_deep (here mid) (piece_of mid.bytes.now n.laid) ≡ false = subst (λ (x : Piece). is_deep (here mid) x ≡ false) q.1 refl in
+      joins (taken_flat old mid d.laid (The_mark 46) d.stands d.takes deep step) (taken_flat mid new n.laid A_number n.stands n.takes flat next)
+
+  pub stands_next_number : StandsAt old → (d : Meets (The_mark 46) old) → Steps old mid → (n : Meets A_number mid) → Steps mid new → StandsAt new
+  stands_next_number = stands_numbered
+
+  pub blocks_next_number : (d : Meets (The_mark 46) old) → Steps old mid → (n : Meets A_number mid) → Steps mid new → blocks_at new ≡ blocks_at old
+  blocks_next_number d step n next = ap (λ (l : Levels). l.blocks) (numbered d step n next)
+
+  pub suffixes_next_number : StandsAt old → (d : Meets (The_mark 46) old) → Steps old mid → (n : Meets A_number mid) → Steps mid new
+      → last_suffixes (here new).suffixes ≡ last_suffixes (here old).suffixes + 1
+  suffixes_next_number at d step n next = ap (λ (l : Levels). last_suffixes l.suffixes) (numbered d step n next) ∙ last_with_suffix (here old).suffixes at.one
+
+-- a number at the place
+pub number_met : (reader : Reader) (l : Laid) → slice_get reader.laid.now reader.at ≡ Some l → Takes A_number (piece_of reader.bytes.now l) → Meets A_number reader
+number_met reader l stands takes = record { laid = l; stands = stands; takes = takes }
+
+-- the number 3 alone is Three
+
+three_digits : (text : List ℕ) (token : Token) → token.kind ≡ kind.Digits → IsMagnitude (bytes_of text token) 3 → Takes Three (piece_of text (Item token))
+three_digits text token e h = rw e h
+
+digits_three : (text : List ℕ) (token : Token) → token.kind ≡ kind.Digits → Takes Three (piece_of text (Item token)) → IsMagnitude (bytes_of text token) 3
+digits_three text token e h = rw e at h
+
+pub takes_three : (text : List ℕ) (l : Laid) (digits : List ℕ) → DigitsText text l digits → IsMagnitude digits 3 → Takes Three (piece_of text l)
+takes_three text l digits w is = rw w.item (three_digits text w.token w.digits (rw w.same at is))
+
+pub writes_three : (text : List ℕ) (l : Laid) (digits : List ℕ) → DigitsText text l digits → Takes Three (piece_of text l) → IsMagnitude digits 3
+writes_three text l digits w takes = rw w.same (digits_three text w.token w.digits (rw w.item at takes))
+
+pub three_is_number : (p : Piece) → Takes Three p → Takes A_number p
+three_is_number (A_token kind.Digits bytes) h = (3, h)
+three_is_number _ h = absurd h
+
+-- three stands there
+
+pub quiet_three : (at : Levels) (p : Piece) → Takes Three p → length at.suffixes ≡ 1 → at.dotted ≡ false → Quiets at p
+quiet_three at p h one no_dot = quiets at A_number p tt (three_is_number p h) one no_dot
+
+pub three_fresh : (at : Levels) (p : Piece) → Takes Three p → at.dotted ≡ false → last_suffixes (past at p).suffixes ≡ 0
+three_fresh at (A_token kind.Digits bytes) h no_dot = rw no_dot (last_afresh at.suffixes)
+three_fresh at _ h no_dot = absurd h
+
+pub dot_taken : (old mid : Reader) → last_suffixes (here old).suffixes < most → (d : Meets (The_mark 46) old) → Steps old mid → HasTaken (mark 46 ∷ []) old mid tt
+dot_taken old mid few d step =
+    let p = dot_is (piece_of old.bytes.now d.laid) d.takes in
+    let deep : is_deep (here old) (piece_of old.bytes.now d.laid) ≡ false = subst (λ (x : Piece). is_deep (here old) x ≡ false) p.1 (below (last_suffixes (here old).suffixes) few) in
+    taken_flat old mid d.laid (The_mark 46) d.stands d.takes deep step
+
+module _ (old new : Reader) (l : Laid) (stands : slice_get old.laid.now old.at ≡ Some l) (takes : Takes Three (piece_of old.bytes.now l)) (step : Steps old new) where
+  pub three_taken : StandsAt old → HasTaken (Is Nothing Three ∷ []) old new tt
+  three_taken at = taken_flat old new l Three stands takes (quiet_three (here old) (piece_of old.bytes.now l) takes at.one at.no_dot).calm.flat step
+
+  pub three_stands : StandsAt old → StandsAt new
+  three_stands at = stands_next old new l at step.bytes step.laid step.at step.brackets stands (rw step.names (omega arith)) (quiet_three (here old) (piece_of old.bytes.now l) takes at.one at.no_dot).calm
+
+  pub three_blocks : StandsAt old → blocks_at new ≡ blocks_at old
+  three_blocks at = ap (λ (x : Levels). x.blocks) (here_next old new l step.bytes step.laid step.at stands) ∙ (quiet_three (here old) (piece_of old.bytes.now l) takes at.one at.no_dot).blocks
+
+  pub three_suffixes : StandsAt old → last_suffixes (here new).suffixes ≡ 0
+  three_suffixes at = ap (λ (x : Levels). last_suffixes x.suffixes) (here_next old new l step.bytes step.laid step.at stands) ∙ three_fresh (here old) (piece_of old.bytes.now l) takes at.no_dot
+
+three_met : (reader : Reader) → Meets Three reader → Meets A_number reader
+three_met reader m = record { laid = m.laid; stands = m.stands; takes = three_is_number (piece_of reader.bytes.now m.laid) m.takes }
+
+pub version_absent : (reader : Reader) (fault : ParseFault) → ¬ (Meets A_number reader) → NamesHere reader fault → VersionRefused reader fault
+version_absent reader fault none names = no_number fault none (names.refused Three (λ m. none (three_met reader m)) Nothing)
+
+ok_same : (a b : ℕ) → Path (Result ℕ NumberFault) (Ok a) (Ok b) → a ≡ b
+ok_same a b e = cc
+
+same_here : (reader : Reader) (l m : Laid) → slice_get reader.laid.now reader.at ≡ Some l → slice_get reader.laid.now reader.at ≡ Some m → m ≡ l
+same_here reader l m h g = some_injective (sym g ∙ h)
+
+pub other_version : (reader : Reader) (l : Laid) (digits : List ℕ) (number : ℕ) (at : Place) → slice_get reader.laid.now reader.at ≡ Some l → DigitsText reader.bytes.now l digits → IsMagnitude digits number
+    → ((other : Result ℕ NumberFault) → AnswersMagnitude (IsMagnitude digits) other → other ≡ Ok number) → ¬ (number ≡ 3) → at ≡ place reader.bytes.now (start_of l) → VersionRefused reader (BadVersion at)
+unfolding number_met
+other_version reader l digits number at stands w is only differs e = rw e (other_number (number_met reader l stands (number_taken reader.bytes.now l digits number w is))
+    (λ m. differs (sym (ok_same 3 number (only (Ok 3) (writes_three reader.bytes.now l digits w (subst (λ (x : Laid). Takes Three (piece_of reader.bytes.now x)) (same_here reader l m.laid stands m.stands) m.takes), omega arith))))))

@@ -1,0 +1,321 @@
+-- A reader that moves behind one part.
+use Rattle.std.proofs.Common.{◌≡◌, ◌⊎◌, nat_le, true, ℕ, ◌+◌, ◌-◌, ◌<◌, ◌≤◌, false, List, [], ◌∷◌, length, drop, refl, sym, ap, ◌∙◌, subst, arith, slice_get, Some, ⊎_elim, length-append}
+use Rattle.std.proofs.lemmas.Option.{slice_get_within}
+use Rattle.fir_lexer.specs.declared.token.TokenKind.TheVariants as kind
+use Rattle.fir_lexer.specs.declared.token.Token.{Token}
+use Rattle.fir_layout.specs.declared.laid.Laid.{Laid}
+use Rattle.fir_layout.specs.declared.laid.Laid.TheVariants.{Item, LineEnd, Open, Close, End}
+use Rattle.fir_layout.specs.Layout.{tokens_in, token_in}
+use Rattle.fir_layout.specs.Pieces.{Piece, A_token, A_line_end, A_block_opens, A_block_closes, The_end, piece_of, pieces_of, bytes_of}
+use Rattle.place_text.specs.Places.{place}
+use Rattle.bit_words.specs.Numbers.{IsMagnitude}
+use Rattle.fir_tree.specs.declared.fault.ParseFault.{ParseFault}
+use Rattle.fir_tree.specs.declared.fault.ParseFault.TheVariants.{NoMemory, TooDeep}
+use Rattle.fir_tree.specs.Grammar.{Terminal, The_word, The_mark, The_arrow, A_name, A_number, Line_ends, Opens, Closes, Ends, Takes, Kept, Nothing, Its_place, Its_name, Its_magnitude, Symbol, Is, no_symbol, a_piece, a_place, a_name, a_magnitude, start_of, name_in}
+use Rattle.fir_tree.specs.Faults.{Levels, past, is_deep, afresh, last_suffixes, most}
+use Rattle.fir_tree.specs.Reading.{no_memory}
+use Rattle.fir_expr.specs.declared.reader.Reader.{Reader}
+use Rattle.fir_expr.proofs.Composition.{piece_at, drop_at, read_piece, refused_deep}
+use Rattle.fir_tree.specs.Numbered.{AddsName}
+use Rattle.fir_tree.proofs.Cases.{some_injective}
+use Rattle.fir_expr.proofs.Depth.{levels_next}
+use Rattle.fir_parser.specs.Taking.{here, blocks_at, StandsAt, IsFresh, HasTaken, Refuses, Steps, StepsName, IsInText}
+use Rattle.fir_parser.specs.declared.take.Expected.{Expected}
+use Rattle.fir_parser.specs.declared.take.Expected.TheVariants as expected
+use Rattle.fir_parser.specs.Expected.{terminal, IsQuiet, Meets, NamesHere, NameText, DigitsText}
+
+-- behind the piece as many brackets are open, and it doesn't go too deep
+pub record Calms (at : Levels) (p : Piece) : Type 0 where
+  pub one : length (past at p).suffixes ≡ 1
+  pub no_dot : (past at p).dotted ≡ false
+  pub flat : is_deep at p ≡ false
+
+-- and the same blocks
+pub record Quiets (at : Levels) (p : Piece) : Type 0 where
+  pub calm : Calms at p
+  pub blocks : (past at p).blocks ≡ at.blocks
+  pub fresh : last_suffixes at.suffixes ≡ 0 → last_suffixes (past at p).suffixes ≡ 0
+
+length_afresh : (ns : List ℕ) → length (afresh ns) ≡ length ns
+length_afresh [] = refl
+length_afresh (n ∷ ns) = refl
+
+pub last_afresh : (ns : List ℕ) → last_suffixes (afresh ns) ≡ 0
+last_afresh [] = refl
+last_afresh (n ∷ ns) = refl
+
+pub quiet_word : (at : Levels) (bytes : List ℕ) → length at.suffixes ≡ 1 → at.dotted ≡ false → Quiets at (A_token kind.Word bytes)
+quiet_word at bytes one no_dot = record {
+  calm = record { one = rw no_dot (length_afresh at.suffixes ∙ one); no_dot = refl; flat = refl };
+  blocks = refl;
+  fresh = λ h. rw no_dot (last_afresh at.suffixes);
+}
+
+pub quiet_quoted : (at : Levels) (bytes : List ℕ) → length at.suffixes ≡ 1 → at.dotted ≡ false → Quiets at (A_token kind.Quoted bytes)
+quiet_quoted at bytes one no_dot = record {
+  calm = record { one = rw no_dot (length_afresh at.suffixes ∙ one); no_dot = refl; flat = refl };
+  blocks = refl;
+  fresh = λ h. rw no_dot (last_afresh at.suffixes);
+}
+
+pub quiet_digits : (at : Levels) (bytes : List ℕ) → length at.suffixes ≡ 1 → at.dotted ≡ false → Quiets at (A_token kind.Digits bytes)
+quiet_digits at bytes one no_dot = record {
+  calm = record { one = rw no_dot (length_afresh at.suffixes ∙ one); no_dot = refl; flat = refl };
+  blocks = refl;
+  fresh = λ h. rw no_dot (last_afresh at.suffixes);
+}
+
+pub quiet_plain : (at : Levels) (p : Piece) → length at.suffixes ≡ 1 → (past at p).blocks ≡ at.blocks → (past at p).suffixes ≡ at.suffixes → (past at p).dotted ≡ false → is_deep at p ≡ false → Quiets at p
+quiet_plain at p one blocks same no_dot flat = record {
+  calm = record { one = ap length same ∙ one; no_dot = no_dot; flat = flat };
+  blocks = blocks;
+  fresh = λ h. ap last_suffixes same ∙ h;
+}
+
+-- words, names, numbers, `:`, `=`, `=>`, the end of a line and the end of the text
+abbrev pub IsCalm : Terminal → Type 0
+IsCalm (The_word text) = Unit {0}
+IsCalm (The_mark m) = (m ≡ 58) ⊎ (m ≡ 61)
+IsCalm The_arrow = Unit {0}
+IsCalm A_name = Unit {0}
+IsCalm A_number = Unit {0}
+IsCalm Line_ends = Unit {0}
+IsCalm Ends = Unit {0}
+IsCalm _ = ⊥
+
+quiet_mark : (at : Levels) (m n : ℕ) (bytes : List ℕ) → length at.suffixes ≡ 1 → n ≡ m → (m ≡ 58) ⊎ (m ≡ 61) → Quiets at (A_token (kind.Mark n) bytes)
+quiet_mark at m n bytes one e c = ⊎_elim (λ colon. let same : 58 ≡ n = sym (e ∙ colon) in subst (λ (x : ℕ). Quiets at (A_token (kind.Mark x) bytes)) same (quiet_plain at (A_token (kind.Mark 58) bytes) one refl refl refl refl))
+    (λ equals. let same : 61 ≡ n = sym (e ∙ equals) in subst (λ (x : ℕ). Quiets at (A_token (kind.Mark x) bytes)) same (quiet_plain at (A_token (kind.Mark 61) bytes) one refl refl refl refl)) c
+
+pub quiets : (at : Levels) (s : Terminal) (p : Piece) → IsCalm s → Takes s p → length at.suffixes ≡ 1 → at.dotted ≡ false → Quiets at p
+quiets at (The_word text) (A_token kind.Word bytes) c h one no_dot = quiet_word at bytes one no_dot
+quiets at (The_word text) _ c h one no_dot = absurd h
+quiets at (The_mark m) (A_token (kind.Mark n) bytes) c h one no_dot = quiet_mark at m n bytes one h c
+quiets at (The_mark m) _ c h one no_dot = absurd h
+quiets at The_arrow (A_token kind.Arrow bytes) c h one no_dot = quiet_plain at (A_token kind.Arrow bytes) one refl refl refl refl
+quiets at The_arrow _ c h one no_dot = absurd h
+quiets at A_name (A_token kind.Word bytes) c h one no_dot = quiet_word at bytes one no_dot
+quiets at A_name (A_token kind.Quoted bytes) c h one no_dot = quiet_quoted at bytes one no_dot
+quiets at A_name _ c h one no_dot = absurd h
+quiets at A_number (A_token kind.Digits bytes) c h one no_dot = quiet_digits at bytes one no_dot
+quiets at A_number _ c h one no_dot = absurd h
+quiets at Line_ends A_line_end c h one no_dot = quiet_plain at A_line_end one refl refl refl refl
+quiets at Line_ends _ c h one no_dot = absurd h
+quiets at Ends The_end c h one no_dot = quiet_plain at The_end one refl refl refl refl
+quiets at Ends _ c h one no_dot = absurd h
+quiets at _ _ c h one no_dot = absurd c
+
+-- what is open behind a part, and what is left to read
+
+pub here_next : (old new : Reader) (l : Laid) → new.bytes.now ≡ old.bytes.now → new.laid.now ≡ old.laid.now → new.at ≡ old.at + 1 → slice_get old.laid.now old.at ≡ Some l
+    → here new ≡ past (here old) (piece_of old.bytes.now l)
+here_next old new l bytes laid at stands =
+    rw (bytes, laid, at) (levels_next (pieces_of old.bytes.now old.laid.now) old.at (piece_of old.bytes.now l) (piece_at old.bytes.now old.laid.now old.at l stands))
+
+pub left_tokens : (list : List Laid) (i : ℕ) (l : Laid) → slice_get list i ≡ Some l → length (tokens_in (drop i list)) ≡ length (token_in l) + length (tokens_in (drop (i + 1) list))
+left_tokens list i l h = ap (λ (ls : List Laid). length (tokens_in ls)) (drop_at list i l h) ∙ length-append (token_in l) (tokens_in (drop (i + 1) list))
+
+pub stands_next : (old new : Reader) (l : Laid) → StandsAt old → new.bytes.now ≡ old.bytes.now → new.laid.now ≡ old.laid.now → new.at ≡ old.at + 1 → new.brackets ≡ old.brackets
+    → slice_get old.laid.now old.at ≡ Some l → length new.names ≤ length old.names + length (token_in l) → Calms (here old) (piece_of old.bytes.now l) → StandsAt new
+stands_next old new l s bytes laid at brackets stands grows calm =
+    let next : here new ≡ past (here old) (piece_of old.bytes.now l) = here_next old new l bytes laid at stands in
+    let inside : old.at < length old.laid.now = slice_get_within old.laid.now old.at l stands in
+    let left : length (tokens_in (drop old.at old.laid.now)) ≡ length (token_in l) + length (tokens_in (drop (old.at + 1) old.laid.now)) = left_tokens old.laid.now old.at l stands in
+    let before = s.room in
+    record {
+      short = rw bytes s.short;
+      laid = rw (bytes, laid) s.laid;
+      within = rw (at, laid) (omega (arith, inside));
+      room = rw (at, laid) (omega (arith, before, left, grows));
+      outside = brackets ∙ s.outside;
+      one = rw next calm.one;
+      no_dot = rw next calm.no_dot;
+    }
+
+-- the terminals, where a part that they take stands
+
+module _ (old new : Reader) (l : Laid) (s : Terminal) where
+  pub stands_behind : StandsAt old → IsCalm s → slice_get old.laid.now old.at ≡ Some l → Takes s (piece_of old.bytes.now l) → Steps old new → StandsAt new
+  stands_behind at calm stands takes step =
+      let quiet : Quiets (here old) (piece_of old.bytes.now l) = quiets (here old) s (piece_of old.bytes.now l) calm takes at.one at.no_dot in
+      stands_next old new l at step.bytes step.laid step.at step.brackets stands (rw step.names (omega arith)) quiet.calm
+
+  pub blocks_behind : StandsAt old → IsCalm s → slice_get old.laid.now old.at ≡ Some l → Takes s (piece_of old.bytes.now l) → Steps old new → blocks_at new ≡ blocks_at old
+  blocks_behind at calm stands takes step =
+      let quiet : Quiets (here old) (piece_of old.bytes.now l) = quiets (here old) s (piece_of old.bytes.now l) calm takes at.one at.no_dot in
+      ap (λ (x : Levels). x.blocks) (here_next old new l step.bytes step.laid step.at stands) ∙ quiet.blocks
+
+  pub fresh_behind : StandsAt old → IsCalm s → slice_get old.laid.now old.at ≡ Some l → Takes s (piece_of old.bytes.now l) → Steps old new → IsFresh old → IsFresh new
+  fresh_behind at calm stands takes step fresh =
+      let quiet : Quiets (here old) (piece_of old.bytes.now l) = quiets (here old) s (piece_of old.bytes.now l) calm takes at.one at.no_dot in
+      record { none = ap (λ (x : Levels). last_suffixes x.suffixes) (here_next old new l step.bytes step.laid step.at stands) ∙ quiet.fresh fresh.none }
+
+  flat_here : StandsAt old → IsCalm s → Takes s (piece_of old.bytes.now l) → is_deep (here old) (piece_of old.bytes.now l) ≡ false
+  flat_here at calm takes = (quiets (here old) s (piece_of old.bytes.now l) calm takes at.one at.no_dot).calm.flat
+
+  pub taken_flat : slice_get old.laid.now old.at ≡ Some l → Takes s (piece_of old.bytes.now l) → is_deep (here old) (piece_of old.bytes.now l) ≡ false → Steps old new
+      → HasTaken (Is Nothing s ∷ []) old new tt
+  taken_flat stands takes flat step = record {
+    bytes = step.bytes;
+    laid = step.laid;
+    read = rw (step.at, step.names) (read_piece stands takes flat (a_piece takes no_symbol));
+  }
+
+  pub taken : StandsAt old → IsCalm s → slice_get old.laid.now old.at ≡ Some l → Takes s (piece_of old.bytes.now l) → Steps old new → HasTaken (Is Nothing s ∷ []) old new tt
+  taken at calm stands takes step = taken_flat stands takes (flat_here at calm takes) step
+
+  pub taken_placed : StandsAt old → IsCalm s → slice_get old.laid.now old.at ≡ Some l → Takes s (piece_of old.bytes.now l) → Steps old new
+      → HasTaken (Is Its_place s ∷ []) old new (place old.bytes.now (start_of l), tt)
+  taken_placed at calm stands takes step = record {
+    bytes = step.bytes;
+    laid = step.laid;
+    read = rw (step.at, step.names) (read_piece stands takes (flat_here at calm takes) (a_place takes no_symbol));
+  }
+
+-- a word leaves no suffix behind
+pub fresh_word : (old new : Reader) (l : Laid) (text : List ℕ) → StandsAt old → slice_get old.laid.now old.at ≡ Some l → Takes (The_word text) (piece_of old.bytes.now l) → Steps old new → IsFresh new
+fresh_word old new l text at stands takes step = record {
+  none =
+      ap (λ (x : Levels). last_suffixes x.suffixes) (here_next old new l step.bytes step.laid step.at stands) ∙ word_fresh (here old) text (piece_of old.bytes.now l) takes at.no_dot;
+}
+  where
+    word_fresh : (at : Levels) (text : List ℕ) (p : Piece) → Takes (The_word text) p → at.dotted ≡ false → last_suffixes (past at p).suffixes ≡ 0
+    word_fresh at text (A_token kind.Word bytes) h no_dot = rw no_dot (last_afresh at.suffixes)
+    word_fresh at text _ h no_dot = absurd h
+
+-- a part that isn't taken is refused
+pub refuses : (keeps : Kept) (s : Terminal) (old : Reader) (fault : ParseFault) → ¬ (Meets s old) → NamesHere old fault → Refuses (Is keeps s ∷ []) old fault
+refuses keeps s old fault none names = record { refused = names.refused s none keeps }
+
+pub refuses_memory : (ss : List Symbol) (old : Reader) (fault : ParseFault) → fault ≡ NoMemory → Refuses ss old fault
+refuses_memory ss old fault e = record { refused = rw e no_memory }
+
+pub at_part : (s : Terminal) (old : Reader) (l : Laid) → slice_get old.laid.now old.at ≡ Some l → ¬ (Takes s (piece_of old.bytes.now l)) → ¬ (Meets s old)
+at_part s old l stands none m = let same : m.laid ≡ l = some_injective (sym m.stands ∙ stands) in none (subst (λ (x : Laid). Takes s (piece_of old.bytes.now x)) same m.takes)
+
+pub calm_expected : (e : Expected) → IsQuiet e → IsCalm (terminal e)
+calm_expected (expected.Word text) h = tt
+calm_expected (expected.Mark m) h = h
+calm_expected expected.Arrow h = tt
+calm_expected expected.LineEnd h = tt
+calm_expected expected.Open h = absurd h
+calm_expected expected.Close h = absurd h
+calm_expected expected.End h = tt
+
+-- the end of a block
+
+close_is : (old : Reader) (m : Meets Closes old) → piece_of old.bytes.now m.laid ≡ A_block_closes
+close_is old m = closes (piece_of old.bytes.now m.laid) m.takes
+  where
+    closes : (p : Piece) → Takes Closes p → p ≡ A_block_closes
+    closes A_block_closes h = refl
+    closes _ h = absurd h
+
+pub taken_close : (old new : Reader) → Meets Closes old → Steps old new → HasTaken (Is Nothing Closes ∷ []) old new tt
+taken_close old new m step = taken_flat old new m.laid Closes m.stands m.takes (rw (close_is old m) refl) step
+
+pub stands_closed : (old new : Reader) → StandsAt old → Meets Closes old → Steps old new → StandsAt new
+stands_closed old new at m step = stands_next old new m.laid at step.bytes step.laid step.at step.brackets m.stands (rw step.names (omega arith))
+    (rw (close_is old m) (record { one = at.one; no_dot = refl; flat = refl }))
+
+pub blocks_closed : (old new : Reader) → Meets Closes old → Steps old new → blocks_at new ≡ blocks_at old - 1
+blocks_closed old new m step = ap (λ (x : Levels). x.blocks) (here_next old new m.laid step.bytes step.laid step.at m.stands) ∙ ap (λ (p : Piece). (past (here old) p).blocks) (close_is old m)
+
+-- the beginning of a block
+
+open_is : (p : Piece) → Takes Opens p → p ≡ A_block_opens
+open_is A_block_opens h = refl
+open_is _ h = absurd h
+
+module _ (old new : Reader) (l : Laid) (blocks : ℕ) where
+  pub taken_open : slice_get old.laid.now old.at ≡ Some l → Takes Opens (piece_of old.bytes.now l) → blocks_at old ≡ blocks → blocks < most → Steps old new → HasTaken (Is Nothing Opens ∷ []) old new tt
+  taken_open stands takes counted few step = taken_flat old new l Opens stands takes (rw (open_is (piece_of old.bytes.now l) takes, counted) (below blocks few)) step
+    where
+      below : (n : ℕ) → n < most → nat_le most n ≡ false
+      below n h = grind arith
+
+  pub stands_opened : StandsAt old → slice_get old.laid.now old.at ≡ Some l → Takes Opens (piece_of old.bytes.now l) → blocks_at old ≡ blocks → blocks < most → Steps old new → StandsAt new
+  stands_opened at stands takes counted few step = stands_next old new l at step.bytes step.laid step.at step.brackets stands (rw step.names (omega arith))
+      (rw (open_is (piece_of old.bytes.now l) takes) (record { one = at.one; no_dot = refl; flat = rw counted (below blocks few) }))
+    where
+      below : (n : ℕ) → n < most → nat_le most n ≡ false
+      below n h = grind arith
+
+  pub blocks_opened : slice_get old.laid.now old.at ≡ Some l → Takes Opens (piece_of old.bytes.now l) → blocks_at old ≡ blocks → Steps old new → blocks_at new ≡ blocks + 1
+  blocks_opened stands takes counted step = ap (λ (x : Levels). x.blocks) (here_next old new l step.bytes step.laid step.at stands)
+      ∙ (ap (λ (p : Piece). (past (here old) p).blocks) (open_is (piece_of old.bytes.now l) takes) ∙ ap (λ (n : ℕ). n + 1) counted)
+
+  pub refuses_deep : slice_get old.laid.now old.at ≡ Some l → Takes Opens (piece_of old.bytes.now l) → blocks_at old ≡ blocks → most ≤ blocks
+      → Refuses (Is Nothing Opens ∷ []) old (TooDeep (place old.bytes.now (start_of l)))
+  refuses_deep stands takes counted many = record { refused = refused_deep Nothing Opens stands takes (rw (open_is (piece_of old.bytes.now l) takes, counted) (above blocks many)) }
+    where
+      above : (n : ℕ) → most ≤ n → nat_le most n ≡ true
+      above n h = grind arith
+
+-- numbers and names
+
+digits_taken : (text : List ℕ) (token : Token) (n : ℕ) → token.kind ≡ kind.Digits → IsMagnitude (bytes_of text token) n → Takes A_number (piece_of text (Item token))
+digits_taken text token n e h = rw e (n, h)
+
+digits_number : (text : List ℕ) (token : Token) → token.kind ≡ kind.Digits → Takes A_number (piece_of text (Item token)) → (n : ℕ) × IsMagnitude (bytes_of text token) n
+digits_number text token e h = rw e at h
+
+pub no_number : (text : List ℕ) (l : Laid) (digits : List ℕ) → DigitsText text l digits → ((n : ℕ) → ¬ (IsMagnitude digits n)) → ¬ (Takes A_number (piece_of text l))
+no_number text l digits w none takes = let found = digits_number text w.token w.digits (rw w.item at takes) in none found.0 (rw w.same found.1)
+
+pub number_taken : (text : List ℕ) (l : Laid) (digits : List ℕ) (n : ℕ) → DigitsText text l digits → IsMagnitude digits n → Takes A_number (piece_of text l)
+number_taken text l digits n w is = rw w.item (digits_taken text w.token n w.digits (rw w.same at is))
+
+pub taken_number : (old new : Reader) (l : Laid) (digits : List ℕ) (n : ℕ) → StandsAt old → slice_get old.laid.now old.at ≡ Some l → DigitsText old.bytes.now l digits → IsMagnitude digits n → Steps old new
+    → HasTaken (Is Its_magnitude A_number ∷ []) old new (n, tt)
+taken_number old new l digits n at stands w is step =
+    let item : slice_get old.laid.now old.at ≡ Some (Item w.token) = rw w.item at stands in
+    let writes : IsMagnitude (bytes_of old.bytes.now w.token) n = rw w.same at is in
+    let takes : Takes A_number (piece_of old.bytes.now (Item w.token)) = digits_taken old.bytes.now w.token n w.digits writes in
+    record {
+      bytes = step.bytes;
+      laid = step.laid;
+      read = rw (step.at, step.names) (read_piece item takes (flat_here old new (Item w.token) A_number at tt takes) (a_magnitude takes writes no_symbol));
+    }
+
+name_quiet : (at : Levels) (p : Piece) → Takes A_name p → at.dotted ≡ false → last_suffixes (past at p).suffixes ≡ 0
+name_quiet at (A_token kind.Word bytes) h no_dot = rw no_dot (last_afresh at.suffixes)
+name_quiet at (A_token kind.Quoted bytes) h no_dot = rw no_dot (last_afresh at.suffixes)
+name_quiet at _ h no_dot = absurd h
+
+module _ (old new : Reader) (l : Laid) (text : List ℕ) (id : ℕ) where
+  pub stands_named : StandsAt old → slice_get old.laid.now old.at ≡ Some l → NameText old.bytes.now l text → StepsName old new text id → StandsAt new
+  stands_named at stands w step =
+      let quiet : Quiets (here old) (piece_of old.bytes.now l) = quiets (here old) A_name (piece_of old.bytes.now l) tt w.takes at.one at.no_dot in
+      stands_next old new l at step.bytes step.laid step.at step.brackets stands (rw w.item step.grows) quiet.calm
+
+  pub blocks_named : StandsAt old → slice_get old.laid.now old.at ≡ Some l → NameText old.bytes.now l text → StepsName old new text id → blocks_at new ≡ blocks_at old
+  blocks_named at stands w step =
+      let quiet : Quiets (here old) (piece_of old.bytes.now l) = quiets (here old) A_name (piece_of old.bytes.now l) tt w.takes at.one at.no_dot in
+      ap (λ (x : Levels). x.blocks) (here_next old new l step.bytes step.laid step.at stands) ∙ quiet.blocks
+
+  pub fresh_named : StandsAt old → slice_get old.laid.now old.at ≡ Some l → NameText old.bytes.now l text → StepsName old new text id → IsFresh new
+  fresh_named at stands w step = record {
+    none =
+        ap (λ (x : Levels). last_suffixes x.suffixes) (here_next old new l step.bytes step.laid step.at stands) ∙ name_quiet (here old) (piece_of old.bytes.now l) w.takes at.no_dot;
+  }
+
+  pub taken_name : StandsAt old → slice_get old.laid.now old.at ≡ Some l → NameText old.bytes.now l text → StepsName old new text id
+      → HasTaken (Is Its_name A_name ∷ []) old new (record { id = id; place = place old.bytes.now (start_of l) }, tt)
+  taken_name at stands w step =
+      let item : slice_get old.laid.now old.at ≡ Some (Item w.token) = rw w.item at stands in
+      let takes : Takes A_name (piece_of old.bytes.now (Item w.token)) = rw w.item at w.takes in
+      let adds : AddsName old.names new.names (name_in w.token.kind (bytes_of old.bytes.now w.token)) id = rw w.same at step.names in
+      record {
+        bytes = step.bytes;
+        laid = step.laid;
+        read = rw (step.at, w.item) (read_piece item takes (flat_here old new (Item w.token) A_name at tt takes) (a_name takes adds no_symbol));
+      }
+
+-- a part begins in its text
+pub part_begins : (text : List ℕ) (part : Laid) → IsInText text part → start_of part ≤ length text
+part_begins text (Item token) inside = omega (arith, inside.0, inside.1)
+part_begins text (LineEnd at) inside = inside
+part_begins text (Open at) inside = inside
+part_begins text (Close at) inside = inside
+part_begins text (End at) inside = inside

@@ -1,0 +1,13 @@
+use Rattle.std.proofs.lemmas.Result.{err_from_is_err_and}
+use Rattle.fir_parser.proofs.Joins.{makes, breaks}
+use Rattle.fir_tree.specs.Grammar.{a_readwriter}
+use Rattle.fir_parser.proofs.Entering.{into_readwriter}
+use Rattle.fir_parser.proofs.memory.read_line.Goals as goal
+
+pub returns-in_err-port-clause-refused : goal.returns-in_err-port-clause-refused
+returns-in_err-port-clause-refused c =
+    let p = err_from_is_err_and c.from_residual.result c.from_residual.ensures.1 in
+    rw (p.1, p.2) (breaks a_readwriter (into_readwriter c.args.reader.now c.if-meets.ensures c.if-meets-2.ensures c.if-meets-3.ensures c.if-meets-4.ensures c.if-meets-5.ensures c.if-meets-6.ensures c.if-meets-7.ensures) c.in_err-port.ensures.refused)
+
+pub returns-clause-ok : goal.returns-clause-ok
+returns-clause-ok c = (makes a_readwriter (into_readwriter c.args.reader.now c.if-meets.ensures c.if-meets-2.ensures c.if-meets-3.ensures c.if-meets-4.ensures c.if-meets-5.ensures c.if-meets-6.ensures c.if-meets-7.ensures) c.in_ok-port.ensures.ok)

@@ -1,0 +1,14 @@
+use Rattle.std.proofs.lemmas.Result.{err_from_is_err_and}
+use Rattle.std.proofs.Common.{refl}
+use Rattle.fir_parser.proofs.Joins.{makes, breaks}
+use Rattle.fir_tree.specs.Grammar.{under_old}
+use Rattle.fir_parser.proofs.Entering.{enters_word}
+use Rattle.fir_parser.proofs.memory.read_old.Goals as goal
+
+pub returns-in_err-take-clause-refused : goal.returns-in_err-take-clause-refused
+returns-in_err-take-clause-refused c =
+    let p = err_from_is_err_and c.from_residual.result c.from_residual.ensures.1 in
+    rw (p.1, p.2) (breaks under_old (enters_word under_old "old" (λ ps. refl) c.args.reader.now c.requires.word) c.in_err-take.ensures.refused)
+
+pub returns-clause-ok : goal.returns-clause-ok
+returns-clause-ok c = (makes under_old (enters_word under_old "old" (λ ps. refl) c.args.reader.now c.requires.word) c.in_ok-take.ensures.ok)

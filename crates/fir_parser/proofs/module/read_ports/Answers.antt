@@ -1,0 +1,31 @@
+use Rattle.std.proofs.lemmas.Result.{err_from_is_err_and}
+use Rattle.std.proofs.Common.{refl, ◌∙◌, [], ◌∷◌}
+use Rattle.fir_tree.specs.Grammar.{A, Port, line_end}
+use Rattle.fir_parser.proofs.Steps.{refuses_memory}
+use Rattle.fir_parser.proofs.Loops.{more_ports, port_refused, ports_end, body_refused, smaller, moves}
+use Rattle.fir_parser.proofs.module.read_ports.Goals as goal
+
+pub returns-in_err-port-clause-refused : goal.returns-in_err-port-clause-refused
+returns-in_err-port-clause-refused c =
+    let p = err_from_is_err_and c.from_residual.result c.from_residual.ensures.1 in
+    rw (p.1, p.2) (port_refused c.args.reader.now _ _ _ c.loop-reader.invariant.2 c.loop-reader-test.ensures c.in_err-port.ensures.refused)
+
+pub loop-reader-smaller : goal.loop-reader-smaller
+loop-reader-smaller c = smaller c.loop-reader.reader c.read_port.new.reader c.in_ok-port.ensures.ok.laid (moves _ _ (A Port ∷ line_end ∷ []) _ refl c.in_ok-port.ensures.ok) c.in_ok-port.ensures.at.within
+
+pub loop-reader-preserved : goal.loop-reader-preserved
+loop-reader-preserved c =
+    (c.in_ok-port.ensures.at, c.in_ok-port.ensures.blocks ∙ c.loop-reader.invariant.1, rw c.in_ok-push.ensures.ok (more_ports c.args.reader.now _ _ _ _ c.loop-reader.invariant.2 c.loop-reader-test.ensures c.in_ok-port.ensures.ok))
+
+pub returns-in_err-push-clause-refused : goal.returns-in_err-push-clause-refused
+returns-in_err-push-clause-refused c =
+    let p = err_from_is_err_and c.from_residual-in_err-push.result c.from_residual-in_err-push.ensures.1 in
+    rw p.1 (refuses_memory _ _ _ p.2)
+
+pub returns-in_err-statements-clause-refused : goal.returns-in_err-statements-clause-refused
+returns-in_err-statements-clause-refused c =
+    let p = err_from_is_err_and c.from_residual-in_err-statements.result c.from_residual-in_err-statements.ensures.1 in
+    rw (p.1, p.2) (body_refused c.args.reader.now _ _ _ c.loop-reader.invariant.2 c.loop-reader-test.ensures c.in_err-statements.ensures.refused)
+
+pub returns-clause-ok : goal.returns-clause-ok
+returns-clause-ok c = ports_end c.args.reader.now _ _ _ _ c.loop-reader.invariant.2 c.loop-reader-test.ensures c.in_ok-statements.ensures.ok

@@ -1,0 +1,13 @@
+use Rattle.std.proofs.lemmas.Result.{err_from_is_err_and}
+use Rattle.fir_parser.proofs.Joins.{makes, breaks}
+use Rattle.fir_tree.specs.Grammar.{an_output}
+use Rattle.fir_parser.proofs.Entering.{into_output}
+use Rattle.fir_parser.proofs.module.read_sided.Goals as goal
+
+pub returns-in_err-typed-clause-refused : goal.returns-in_err-typed-clause-refused
+returns-in_err-typed-clause-refused c =
+    let p = err_from_is_err_and c.from_residual.result c.from_residual.ensures.1 in
+    rw (p.1, p.2) (breaks an_output (into_output c.args.reader.now c.if-meets.ensures) c.in_err-typed.ensures.refused)
+
+pub returns-clause-ok : goal.returns-clause-ok
+returns-clause-ok c = (makes an_output (into_output c.args.reader.now c.if-meets.ensures) c.in_ok-typed.ensures.ok)

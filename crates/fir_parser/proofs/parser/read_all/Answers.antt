@@ -1,0 +1,10 @@
+use Rattle.fir_parser.proofs.Texts.{stands_start}
+use Rattle.fir_parser.proofs.parser.read_all.Goals as goal
+
+pub read_text-requires-clause-at : goal.read_text-requires-clause-at
+read_text-requires-clause-at c = stands_start _ (rw (c.index_lines.ensures.bytes, c.new-reader.ensures.bytes) c.requires.short)
+    (rw (c.index_lines.ensures.bytes, c.new-reader.ensures.bytes, c.index_lines.ensures.laid, c.new-reader.ensures.laid) c.requires.laid) (rw c.index_lines.ensures.at c.new-reader.ensures.at) c.in_ok-add_field_names.ensures.ok
+    (rw c.index_lines.ensures.brackets c.new-reader.ensures.brackets) (rw (c.index_lines.ensures.laid, c.new-reader.ensures.laid) c.if-laid-ge-MOST_PARTS.false)
+
+pub returns-clause-shallow : goal.returns-clause-shallow
+returns-clause-shallow c = rw (c.index_lines.ensures.bytes, c.new-reader.ensures.bytes, c.index_lines.ensures.laid, c.new-reader.ensures.laid) at c.in_ok-circuit.ensures.shallow

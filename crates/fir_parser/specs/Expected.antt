@@ -1,0 +1,80 @@
+-- What a reader asks of the piece at its place.
+use Rattle.std.specs.Prelude.{◌≡◌, ◌⊎◌, ◌+◌, ℕ, codes, List, [], ◌∷◌, slice_get, Some}
+use Rattle.fir_layout.specs.declared.laid.Laid.{Laid}
+use Rattle.fir_layout.specs.declared.laid.Laid.TheVariants.{Item}
+use Rattle.fir_layout.specs.Pieces.{piece_of, bytes_of}
+use Rattle.fir_lexer.specs.declared.token.Token.{Token}
+use Rattle.fir_lexer.specs.declared.token.TokenKind.TheVariants.{Digits}
+use Rattle.fir_tree.specs.declared.fault.ParseFault.{ParseFault}
+use Rattle.fir_tree.specs.Grammar.{Terminal, The_word, The_mark, The_arrow, Line_ends, Opens, Closes, Ends, A_name, A_number, Three, Takes, Kept, Nothing, Is, start_of, name_in}
+use Rattle.place_text.specs.Places.{place}
+use Rattle.fir_tree.specs.declared.fault.ParseFault.TheVariants.{NoMemory, BadVersion}
+use Rattle.fir_tree.specs.Reading.{IsRefused}
+use Rattle.fir_expr.specs.declared.reader.Reader.{Reader}
+use Rattle.fir_parser.specs.declared.take.Expected.{Expected}
+use Rattle.fir_parser.specs.declared.take.Expected.TheVariants as expected
+
+-- what it is in the grammar
+abbrev pub terminal : Expected → Terminal
+terminal (expected.Word text) = The_word text.now
+terminal (expected.Mark m) = The_mark m
+terminal expected.Arrow = The_arrow
+terminal expected.LineEnd = Line_ends
+terminal expected.Open = Opens
+terminal expected.Close = Closes
+terminal expected.End = Ends
+
+-- it opens and closes nothing, and is no `.`
+abbrev pub IsQuiet : Expected → Type 0
+IsQuiet (expected.Word text) = Unit {0}
+IsQuiet (expected.Mark m) = (m ≡ 58) ⊎ (m ≡ 61)
+IsQuiet expected.Arrow = Unit {0}
+IsQuiet expected.LineEnd = Unit {0}
+IsQuiet expected.Open = ⊥
+IsQuiet expected.Close = ⊥
+IsQuiet expected.End = Unit {0}
+
+-- the terminal takes the piece at the reader's place
+pub record Meets (s : Terminal) (reader : Reader) : Type 0 where
+  pub laid : Laid
+  pub stands : slice_get reader.laid.now reader.at ≡ Some laid
+  pub takes : Takes s (piece_of reader.bytes.now laid)
+
+-- and the piece behind it
+pub record MeetsNext (s : Terminal) (reader : Reader) : Type 0 where
+  pub laid : Laid
+  pub stands : slice_get reader.laid.now (reader.at + 1) ≡ Some laid
+  pub takes : Takes s (piece_of reader.bytes.now laid)
+
+-- the fault of the piece at the reader's place, where no terminal that is wanted takes it
+pub record NamesHere (reader : Reader) (fault : ParseFault) : Type 0 where
+  pub refused : (s : Terminal) → ¬ (Meets s reader) → (keeps : Kept) → IsRefused (Is keeps s ∷ []) reader.bytes.now reader.laid.now reader.at fault
+
+-- a part of the list is a name with this text
+pub record NameText (bytes : List ℕ) (part : Laid) (text : List ℕ) : Type 0 where
+  pub token : Token
+  pub item : part ≡ Item token
+  pub takes : Takes A_name (piece_of bytes part)
+  pub same : text ≡ name_in token.kind (bytes_of bytes token)
+
+-- a part of the list is digits with these bytes
+pub record DigitsText (bytes : List ℕ) (part : Laid) (text : List ℕ) : Type 0 where
+  pub token : Token
+  pub item : part ≡ Item token
+  pub digits : token.kind ≡ Digits
+  pub same : text ≡ bytes_of bytes token
+
+-- `input` or `output` stands at the reader's place
+abbrev pub BeginsPort : Reader → Type 0
+BeginsPort reader = Meets (The_word (codes "input")) reader ⊎ Meets (The_word (codes "output")) reader
+
+-- the version's first number was refused: no number stands there, or another one than 3
+pub data VersionRefused (reader : Reader) : ParseFault → Type 0 where
+  no_number : (fault : ParseFault) → ¬ (Meets A_number reader) → IsRefused (Is Nothing Three ∷ []) reader.bytes.now reader.laid.now reader.at fault → VersionRefused reader fault
+  other_number : (m : Meets A_number reader) → ¬ (Meets Three reader) → VersionRefused reader (BadVersion (place reader.bytes.now (start_of m.laid)))
+  wants_memory : VersionRefused reader NoMemory
+
+-- the words that begin a text stand there
+pub record WordsStand (reader : Reader) : Type 0 where
+  pub one : Meets (The_word (codes "FIRRTL")) reader
+  pub two : MeetsNext (The_word (codes "version")) reader

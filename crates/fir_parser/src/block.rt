@@ -1,0 +1,187 @@
+//! Statements with their blocks.
+
+ghost use Rattle.std.specs.Prelude.{◌≡◌, ◌+◌, ◌-◌, ◌≤◌, ◌<◌, [], ◌∷◌, ◌++◌, List, codes, IfOk, IfErr, OnOk};
+ghost use Rattle.fir_tree.specs.Grammar.{A, The_word, Statement, Statements, Block, Branches, Expression, word, colon, line_end};
+ghost use Rattle.fir_tree.specs.Faults.{most};
+ghost use Rattle.fir_tree.specs.declared.fault.ParseFault.TheVariants.{NoMemory};
+ghost use Rattle.fir_parser.specs.Branching.{Branched};
+ghost use Rattle.fir_parser.specs.Taking.{StandsAt, HasTaken, Refuses, blocks_at};
+ghost use Rattle.fir_parser.specs.Expected.{Meets};
+
+use crate::statement::read_plain;
+use crate::take::{Expected, meets, meets_next, take, take_close, take_expression, take_open};
+use bit_words::List;
+use fir_expr::Reader;
+use fir_tree::{Arm, ParseFault, Stmt};
+use std::alloc::Global;
+
+/// The statements of a block and its end. So many blocks are open with it.
+#[cycle(block)]
+pub fn read_statements(
+    alloc: Global,
+    reader: &mut Reader,
+    blocks: u32,
+) -> Result<List<Stmt>, ParseFault>
+    requires at { StandsAt reader.old }
+    requires counted { blocks_at reader.old ≡ blocks }
+    requires few { blocks ≤ most }
+    ensures ok { IfOk result (λ it. HasTaken (A Statements ∷ []) reader.old reader.new (it, tt)) }
+    ensures at { OnOk result (StandsAt reader.new) }
+    ensures blocks { OnOk result (blocks_at reader.new ≡ blocks_at reader.old - 1) }
+    ensures refused { IfErr result (λ fault. Refuses (A Statements ∷ []) reader.old fault) }
+{
+    let mut statements = List::new(alloc);
+    while !meets(reader, Expected::Close) {
+        let statement = read_statement(alloc, reader, blocks)?;
+        statements.push(statement)?;
+    }
+    take_close(reader)?;
+    Ok(statements)
+}
+
+/// A statement. So many blocks are open before it.
+#[cycle(block)]
+fn read_statement(alloc: Global, reader: &mut Reader, blocks: u32) -> Result<Stmt, ParseFault>
+    requires at { StandsAt reader.old }
+    requires counted { blocks_at reader.old ≡ blocks }
+    requires few { blocks ≤ most }
+    ensures ok { IfOk result (λ it. HasTaken (A Statement ∷ []) reader.old reader.new (it, tt)) }
+    ensures at { OnOk result (StandsAt reader.new) }
+    ensures blocks { OnOk result (blocks_at reader.new ≡ blocks_at reader.old) }
+    ensures refused { IfErr result (λ fault. Refuses (A Statement ∷ []) reader.old fault) }
+{
+    if meets(reader, Expected::Word("when")) {
+        return read_when(alloc, reader, blocks);
+    }
+    read_plain(alloc, reader, blocks)
+}
+
+/// A `when` with its branches.
+#[cycle(block)]
+fn read_when(alloc: Global, reader: &mut Reader, blocks: u32) -> Result<Stmt, ParseFault>
+    requires at { StandsAt reader.old }
+    requires counted { blocks_at reader.old ≡ blocks }
+    requires few { blocks ≤ most }
+    requires word { Meets (The_word (codes "when")) reader.old }
+    ensures ok { IfOk result (λ it. HasTaken (A Statement ∷ []) reader.old reader.new (it, tt)) }
+    ensures at { OnOk result (StandsAt reader.new) }
+    ensures blocks { OnOk result (blocks_at reader.new ≡ blocks_at reader.old) }
+    ensures refused { IfErr result (λ fault. Refuses (A Statement ∷ []) reader.old fault) }
+{
+    take(reader, Expected::Word("when"))?;
+    let arm = read_arm(alloc, reader, blocks)?;
+    let arms = one_arm(alloc, arm)?;
+    let branches = read_branches(alloc, reader, blocks, arms)?;
+    let (arms, other) = branches;
+    Ok(Stmt::When(arms, other))
+}
+
+/// The list of one arm.
+fn one_arm(alloc: Global, arm: Arm) -> Result<List<Arm>, ParseFault>
+    ensures ok { IfOk result (λ arms. arms ≡ arm ∷ []) }
+    ensures err { IfErr result (λ fault. fault ≡ NoMemory) }
+{
+    let mut arms = List::new(alloc);
+    arms.push(arm)?;
+    Ok(arms)
+}
+
+/// The condition of an arm and its block.
+#[cycle(block)]
+fn read_arm(alloc: Global, reader: &mut Reader, blocks: u32) -> Result<Arm, ParseFault>
+    requires at { StandsAt reader.old }
+    requires counted { blocks_at reader.old ≡ blocks }
+    requires few { blocks ≤ most }
+    ensures ok { IfOk result (λ it. HasTaken (A Expression ∷ colon ∷ line_end ∷ A Block ∷ []) reader.old reader.new (it.condition, (it.body, tt))) }
+    ensures at { OnOk result (StandsAt reader.new) }
+    ensures blocks { OnOk result (blocks_at reader.new ≡ blocks_at reader.old) }
+    ensures refused { IfErr result (λ fault. Refuses (A Expression ∷ colon ∷ line_end ∷ A Block ∷ []) reader.old fault) }
+{
+    let condition = take_expression(alloc, reader)?;
+    take(reader, Expected::Mark(b':'))?;
+    take(reader, Expected::LineEnd)?;
+    let body = read_block(alloc, reader, blocks)?;
+    Ok(Arm { condition, body })
+}
+
+/// Behind these arms, each `else when` and the `else`.
+#[cycle(block)]
+fn read_branches(
+    alloc: Global,
+    reader: &mut Reader,
+    blocks: u32,
+    before: List<Arm>,
+) -> Result<(List<Arm>, List<Stmt>), ParseFault>
+    requires at { StandsAt reader.old }
+    requires counted { blocks_at reader.old ≡ blocks }
+    requires few { blocks ≤ most }
+    ensures ok { IfOk result (λ it. Branched before reader.old reader.new it.0 it.1) }
+    ensures at { OnOk result (StandsAt reader.new) }
+    ensures blocks { OnOk result (blocks_at reader.new ≡ blocks_at reader.old) }
+    ensures refused { IfErr result (λ fault. Refuses (A Branches ∷ []) reader.old fault) }
+{
+    let mut arms = before;
+    while meets(reader, Expected::Word("else")) {
+        if meets_next(reader, Expected::Mark(b':')) {
+            let other = read_else(alloc, reader, blocks)?;
+            return Ok((arms, other));
+        }
+        let arm = read_else_when(alloc, reader, blocks)?;
+        arms.push(arm)?;
+    }
+    Ok((arms, List::new(alloc)))
+}
+
+/// `else when` with its condition and its block.
+#[cycle(block)]
+fn read_else_when(alloc: Global, reader: &mut Reader, blocks: u32) -> Result<Arm, ParseFault>
+    requires at { StandsAt reader.old }
+    requires counted { blocks_at reader.old ≡ blocks }
+    requires few { blocks ≤ most }
+    ensures ok { IfOk result (λ it. HasTaken (word "else" ∷ word "when" ∷ A Expression ∷ colon ∷ line_end ∷ A Block ∷ []) reader.old reader.new (it.condition, (it.body, tt))) }
+    ensures at { OnOk result (StandsAt reader.new) }
+    ensures blocks { OnOk result (blocks_at reader.new ≡ blocks_at reader.old) }
+    ensures refused { IfErr result (λ fault. Refuses (word "else" ∷ word "when" ∷ A Expression ∷ colon ∷ line_end ∷ A Block ∷ []) reader.old fault) }
+{
+    take(reader, Expected::Word("else"))?;
+    take(reader, Expected::Word("when"))?;
+    let arm = read_arm(alloc, reader, blocks)?;
+    Ok(arm)
+}
+
+/// `else` and its block.
+#[cycle(block)]
+fn read_else(alloc: Global, reader: &mut Reader, blocks: u32) -> Result<List<Stmt>, ParseFault>
+    requires at { StandsAt reader.old }
+    requires counted { blocks_at reader.old ≡ blocks }
+    requires few { blocks ≤ most }
+    ensures ok { IfOk result (λ it. HasTaken (word "else" ∷ colon ∷ line_end ∷ A Block ∷ []) reader.old reader.new (it, tt)) }
+    ensures at { OnOk result (StandsAt reader.new) }
+    ensures blocks { OnOk result (blocks_at reader.new ≡ blocks_at reader.old) }
+    ensures refused { IfErr result (λ fault. Refuses (word "else" ∷ colon ∷ line_end ∷ A Block ∷ []) reader.old fault) }
+{
+    take(reader, Expected::Word("else"))?;
+    take(reader, Expected::Mark(b':'))?;
+    take(reader, Expected::LineEnd)?;
+    let body = read_block(alloc, reader, blocks)?;
+    Ok(body)
+}
+
+/// A block, or nothing where none stands.
+#[cycle(block)]
+fn read_block(alloc: Global, reader: &mut Reader, blocks: u32) -> Result<List<Stmt>, ParseFault>
+    requires at { StandsAt reader.old }
+    requires counted { blocks_at reader.old ≡ blocks }
+    requires few { blocks ≤ most }
+    ensures ok { IfOk result (λ it. HasTaken (A Block ∷ []) reader.old reader.new (it, tt)) }
+    ensures at { OnOk result (StandsAt reader.new) }
+    ensures blocks { OnOk result (blocks_at reader.new ≡ blocks_at reader.old) }
+    ensures refused { IfErr result (λ fault. Refuses (A Block ∷ []) reader.old fault) }
+{
+    if !meets(reader, Expected::Open) {
+        return Ok(List::new(alloc));
+    }
+    take_open(reader, blocks)?;
+    let statements = read_statements(alloc, reader, blocks + 1)?;
+    Ok(statements)
+}

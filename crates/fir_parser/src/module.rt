@@ -1,0 +1,169 @@
+//! Modules with their ports (FIRRTL specification 3.0, "Circuits and Modules").
+
+ghost use Rattle.std.specs.Prelude.{◌≡◌, ◌-◌, [], ◌∷◌, codes, IfOk, IfErr, OnOk, MatchBool};
+ghost use Rattle.fir_tree.specs.Grammar.{A, The_word, Circuit_body, Modules, Module, Module_body, Ports, Port, line_end};
+ghost use Rattle.fir_parser.specs.Taking.{StandsAt, HasTaken, Refuses, blocks_at};
+ghost use Rattle.fir_parser.specs.Expected.{Meets, BeginsPort};
+
+use crate::block::read_statements;
+use crate::header::{read_named, read_typed};
+use crate::take::{Expected, meets, take, take_close, take_open};
+use bit_words::List;
+use fir_expr::Reader;
+use fir_tree::{ParseFault, Stmt};
+use fir_types::Port as ModulePort;
+use std::alloc::Global;
+
+/// The modules of a circuit in their block, or none where no block stands.
+pub fn read_circuit_body(
+    alloc: Global,
+    reader: &mut Reader,
+) -> Result<List<fir_tree::Module>, ParseFault>
+    requires at { StandsAt reader.old }
+    requires counted { blocks_at reader.old ≡ 0 }
+    ensures ok { IfOk result (λ it. HasTaken (A Circuit_body ∷ []) reader.old reader.new (it, tt)) }
+    ensures at { OnOk result (StandsAt reader.new) }
+    ensures blocks { OnOk result (blocks_at reader.new ≡ blocks_at reader.old) }
+    ensures refused { IfErr result (λ fault. Refuses (A Circuit_body ∷ []) reader.old fault) }
+{
+    if !meets(reader, Expected::Open) {
+        return Ok(List::new(alloc));
+    }
+    take_open(reader, 0)?;
+    let modules = read_modules(alloc, reader)?;
+    Ok(modules)
+}
+
+/// The modules of a circuit and the end of their block.
+fn read_modules(alloc: Global, reader: &mut Reader) -> Result<List<fir_tree::Module>, ParseFault>
+    requires at { StandsAt reader.old }
+    requires counted { blocks_at reader.old ≡ 1 }
+    ensures ok { IfOk result (λ it. HasTaken (A Modules ∷ []) reader.old reader.new (it, tt)) }
+    ensures at { OnOk result (StandsAt reader.new) }
+    ensures blocks { OnOk result (blocks_at reader.new ≡ blocks_at reader.old - 1) }
+    ensures refused { IfErr result (λ fault. Refuses (A Modules ∷ []) reader.old fault) }
+{
+    let mut modules = List::new(alloc);
+    while !meets(reader, Expected::Close) {
+        let module = read_module(alloc, reader)?;
+        modules.push(module)?;
+    }
+    take_close(reader)?;
+    Ok(modules)
+}
+
+/// A module.
+fn read_module(alloc: Global, reader: &mut Reader) -> Result<fir_tree::Module, ParseFault>
+    requires at { StandsAt reader.old }
+    requires counted { blocks_at reader.old ≡ 1 }
+    ensures ok { IfOk result (λ it. HasTaken (A Module ∷ []) reader.old reader.new (it, tt)) }
+    ensures at { OnOk result (StandsAt reader.new) }
+    ensures blocks { OnOk result (blocks_at reader.new ≡ blocks_at reader.old) }
+    ensures refused { IfErr result (λ fault. Refuses (A Module ∷ []) reader.old fault) }
+{
+    let name = read_named(reader, "module", b':')?;
+    take(reader, Expected::LineEnd)?;
+    let inside = read_module_body(alloc, reader)?;
+    let (ports, body) = inside;
+    Ok(fir_tree::Module { name, ports, body })
+}
+
+/// The ports and the statements of a module in their block, or none where no block stands.
+fn read_module_body(
+    alloc: Global,
+    reader: &mut Reader,
+) -> Result<(List<ModulePort>, List<Stmt>), ParseFault>
+    requires at { StandsAt reader.old }
+    requires counted { blocks_at reader.old ≡ 1 }
+    ensures ok { IfOk result (λ it. HasTaken (A Module_body ∷ []) reader.old reader.new (it, tt)) }
+    ensures at { OnOk result (StandsAt reader.new) }
+    ensures blocks { OnOk result (blocks_at reader.new ≡ blocks_at reader.old) }
+    ensures refused { IfErr result (λ fault. Refuses (A Module_body ∷ []) reader.old fault) }
+{
+    if !meets(reader, Expected::Open) {
+        return Ok((List::new(alloc), List::new(alloc)));
+    }
+    take_open(reader, 1)?;
+    let body = read_ports(alloc, reader)?;
+    Ok(body)
+}
+
+/// The ports of a module, then its statements and the end of their block.
+fn read_ports(
+    alloc: Global,
+    reader: &mut Reader,
+) -> Result<(List<ModulePort>, List<Stmt>), ParseFault>
+    requires at { StandsAt reader.old }
+    requires counted { blocks_at reader.old ≡ 2 }
+    ensures ok { IfOk result (λ it. HasTaken (A Ports ∷ []) reader.old reader.new (it, tt)) }
+    ensures at { OnOk result (StandsAt reader.new) }
+    ensures blocks { OnOk result (blocks_at reader.new ≡ blocks_at reader.old - 1) }
+    ensures refused { IfErr result (λ fault. Refuses (A Ports ∷ []) reader.old fault) }
+{
+    let mut ports = List::new(alloc);
+    while begins_port(reader) {
+        let port = read_port(alloc, reader)?;
+        ports.push(port)?;
+    }
+    let statements = read_statements(alloc, reader, 2)?;
+    Ok((ports, statements))
+}
+
+/// Whether a port begins at the reader's place.
+fn begins_port(reader: &Reader) -> bool
+    requires { StandsAt reader.now }
+    ensures { MatchBool result (BeginsPort reader.now) (¬ (BeginsPort reader.now)) }
+{
+    meets(reader, Expected::Word("input")) || meets(reader, Expected::Word("output"))
+}
+
+/// A port and the end of its line.
+fn read_port(alloc: Global, reader: &mut Reader) -> Result<ModulePort, ParseFault>
+    requires at { StandsAt reader.old }
+    ensures ok { IfOk result (λ it. HasTaken (A Port ∷ line_end ∷ []) reader.old reader.new (it, tt)) }
+    ensures at { OnOk result (StandsAt reader.new) }
+    ensures blocks { OnOk result (blocks_at reader.new ≡ blocks_at reader.old) }
+    ensures refused { IfErr result (λ fault. Refuses (A Port ∷ line_end ∷ []) reader.old fault) }
+{
+    let port = read_sided(alloc, reader)?;
+    take(reader, Expected::LineEnd)?;
+    Ok(port)
+}
+
+/// An input or an output.
+fn read_sided(alloc: Global, reader: &mut Reader) -> Result<ModulePort, ParseFault>
+    requires at { StandsAt reader.old }
+    ensures ok { IfOk result (λ it. HasTaken (A Port ∷ []) reader.old reader.new (it, tt)) }
+    ensures at { OnOk result (StandsAt reader.new) }
+    ensures blocks { OnOk result (blocks_at reader.new ≡ blocks_at reader.old) }
+    ensures refused { IfErr result (λ fault. Refuses (A Port ∷ []) reader.old fault) }
+{
+    if meets(reader, Expected::Word("input")) {
+        return read_input(alloc, reader);
+    }
+    let typed = read_typed(alloc, reader, "output")?;
+    let (name, typ) = typed;
+    Ok(ModulePort {
+        output: true,
+        name,
+        typ,
+    })
+}
+
+/// An input.
+fn read_input(alloc: Global, reader: &mut Reader) -> Result<ModulePort, ParseFault>
+    requires at { StandsAt reader.old }
+    requires word { Meets (The_word (codes "input")) reader.old }
+    ensures ok { IfOk result (λ it. HasTaken (A Port ∷ []) reader.old reader.new (it, tt)) }
+    ensures at { OnOk result (StandsAt reader.new) }
+    ensures blocks { OnOk result (blocks_at reader.new ≡ blocks_at reader.old) }
+    ensures refused { IfErr result (λ fault. Refuses (A Port ∷ []) reader.old fault) }
+{
+    let typed = read_typed(alloc, reader, "input")?;
+    let (name, typ) = typed;
+    Ok(ModulePort {
+        output: false,
+        name,
+        typ,
+    })
+}

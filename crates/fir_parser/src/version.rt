@@ -1,0 +1,125 @@
+//! The version line.
+
+ghost use Rattle.std.specs.Prelude.{◌≡◌, ◌+◌, ◌-◌, ◌<◌, ◌≤◌, ◌^◌, [], ◌∷◌, length, IfOk, IfErr, OnOk, OnErr};
+ghost use Rattle.fir_tree.specs.Grammar.{Is, Nothing, Three, A_number, The_mark, word, mark, line_end};
+ghost use Rattle.fir_tree.specs.Faults.{most, last_suffixes};
+ghost use Rattle.fir_expr.specs.Standing.{IsLaidFrom};
+ghost use Rattle.fir_parser.specs.Taking.{StandsAt, HasTaken, Refuses, Steps, blocks_at, here};
+ghost use Rattle.fir_parser.specs.Expected.{Meets, VersionRefused, WordsStand};
+
+use crate::take::{Expected, advance, digits, fault_here, meets, part, place_at, take};
+use bit_words::{NumberFault, read_magnitude};
+use fir_expr::Reader;
+use fir_tree::ParseFault;
+
+/// The words before the version's numbers.
+pub fn read_words(reader: &mut Reader) -> Result<(), ParseFault>
+    requires at { StandsAt reader.old }
+    ensures ok { OnOk result (HasTaken (word "FIRRTL" ∷ word "version" ∷ []) reader.old reader.new tt) }
+    ensures at { OnOk result (StandsAt reader.new) }
+    ensures blocks { OnOk result (blocks_at reader.new ≡ blocks_at reader.old) }
+    ensures refused { IfErr result (λ fault. Refuses (word "FIRRTL" ∷ word "version" ∷ []) reader.old fault) }
+    ensures absent { OnErr result (¬ (WordsStand reader.old)) }
+    ensures two { OnOk result (reader.new.at ≡ reader.old.at + 2) }
+{
+    take(reader, Expected::Word("FIRRTL"))?;
+    take(reader, Expected::Word("version"))?;
+    Ok(())
+}
+
+/// The version's first number.
+pub fn take_three(reader: &mut Reader) -> Result<(), ParseFault>
+    requires at { StandsAt reader.old }
+    ensures ok { OnOk result (HasTaken (Is Nothing Three ∷ []) reader.old reader.new tt) }
+    ensures at { OnOk result (StandsAt reader.new) }
+    ensures blocks { OnOk result (blocks_at reader.new ≡ blocks_at reader.old) }
+    ensures suffixes { OnOk result (last_suffixes (here reader.new).suffixes ≡ 0) }
+    ensures refused { IfErr result (λ fault. VersionRefused reader.old fault) }
+{
+    let Some(part) = part(reader) else {
+        return Err(ParseFault::NoMemory);
+    };
+    let Some(digits) = digits(reader.bytes, part) else {
+        return Err(fault_here(reader));
+    };
+    match read_magnitude(digits) {
+        Ok(number) => {
+            if number != 3 {
+                return Err(ParseFault::BadVersion(place_at(reader, part)));
+            }
+            advance(reader);
+            Ok(())
+        }
+        Err(NumberFault::NotNumber) => Err(fault_here(reader)),
+        Err(NumberFault::Over) => Err(ParseFault::NoMemory),
+    }
+}
+
+/// The version's other numbers, each behind a `.`, and the end of the line.
+pub fn read_numbers(reader: &mut Reader) -> Result<(), ParseFault>
+    requires at { StandsAt reader.old }
+    requires suffixes { last_suffixes (here reader.old).suffixes ≡ 0 }
+    ensures ok { OnOk result (HasTaken (mark 46 ∷ Is Nothing A_number ∷ mark 46 ∷ Is Nothing A_number ∷ line_end ∷ []) reader.old reader.new tt) }
+    ensures at { OnOk result (StandsAt reader.new) }
+    ensures blocks { OnOk result (blocks_at reader.new ≡ blocks_at reader.old) }
+    ensures refused { IfErr result (λ fault. Refuses (mark 46 ∷ Is Nothing A_number ∷ mark 46 ∷ Is Nothing A_number ∷ line_end ∷ []) reader.old fault) }
+{
+    take_next_number(reader)?;
+    take_next_number(reader)?;
+    take(reader, Expected::LineEnd)?;
+    Ok(())
+}
+
+/// A `.` and a number.
+fn take_next_number(reader: &mut Reader) -> Result<(), ParseFault>
+    requires at { StandsAt reader.old }
+    requires suffixes { last_suffixes (here reader.old).suffixes < most }
+    ensures ok { OnOk result (HasTaken (mark 46 ∷ Is Nothing A_number ∷ []) reader.old reader.new tt) }
+    ensures at { OnOk result (StandsAt reader.new) }
+    ensures blocks { OnOk result (blocks_at reader.new ≡ blocks_at reader.old) }
+    ensures suffixes { OnOk result (last_suffixes (here reader.new).suffixes ≡ last_suffixes (here reader.old).suffixes + 1) }
+    ensures refused { IfErr result (λ fault. Refuses (mark 46 ∷ Is Nothing A_number ∷ []) reader.old fault) }
+{
+    step_dot(reader)?;
+    step_number(reader)?;
+    Ok(())
+}
+
+/// Moves behind a `.`.
+fn step_dot(reader: &mut Reader) -> Result<(), ParseFault>
+    requires short { length reader.old.bytes.now < 2 ^ 32 - 1 }
+    requires laid { IsLaidFrom reader.old.bytes.now reader.old.laid.now }
+    ensures steps { OnOk result (Steps reader.old reader.new) }
+    ensures meets { OnOk result (Meets (The_mark 46) reader.old) }
+    ensures refused { IfErr result (λ fault. Refuses (mark 46 ∷ []) reader.old fault) }
+{
+    if !meets(reader, Expected::Mark(b'.')) {
+        return Err(fault_here(reader));
+    }
+    advance(reader);
+    Ok(())
+}
+
+/// Moves behind a number.
+fn step_number(reader: &mut Reader) -> Result<(), ParseFault>
+    requires short { length reader.old.bytes.now < 2 ^ 32 - 1 }
+    requires laid { IsLaidFrom reader.old.bytes.now reader.old.laid.now }
+    ensures steps { OnOk result (Steps reader.old reader.new) }
+    ensures meets { OnOk result (Meets A_number reader.old) }
+    ensures refused { IfErr result (λ fault. Refuses (Is Nothing A_number ∷ []) reader.old fault) }
+{
+    let Some(part) = part(reader) else {
+        return Err(ParseFault::NoMemory);
+    };
+    let Some(digits) = digits(reader.bytes, part) else {
+        return Err(fault_here(reader));
+    };
+    match read_magnitude(digits) {
+        Ok(_number) => {
+            advance(reader);
+            Ok(())
+        }
+        Err(NumberFault::NotNumber) => Err(fault_here(reader)),
+        Err(NumberFault::Over) => Err(ParseFault::NoMemory),
+    }
+}
