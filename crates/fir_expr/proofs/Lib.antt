@@ -18,5 +18,4 @@ pub mod LiteralCases
 pub mod LiteralHeads
 pub mod LiteralIntegers
 pub mod LiteralBrackets
-pub mod OperandsChosen
-pub mod OperandsRead
+pub mod LineTables

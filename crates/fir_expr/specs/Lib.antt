@@ -5,4 +5,4 @@ pub mod TypeParts
 pub mod LiteralParts
 pub mod LiteralHeads
 pub mod LiteralIntegers
-pub mod Operands
+pub mod LineStarts

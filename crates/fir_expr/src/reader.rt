@@ -1,17 +1,25 @@
 //! The reader and its calls.
 
-ghost use Rattle.std.specs.Prelude.{◌≡◌, ◌≤◌, ◌<◌, ◌+◌, ◌-◌, ◌^◌, [], length, IfOk};
-ghost use Rattle.fir_layout.specs.Pieces.{pieces_of};
-ghost use Rattle.fir_tree.specs.Grammar.{Type_of, Expression, Reference};
+ghost use Rattle.std.specs.Prelude.{◌≡◌, ◌≤◌, ◌<◌, ◌+◌, ◌-◌, ◌^◌, [], length, IfOk, slice_get, Some};
+ghost use Rattle.fir_layout.specs.Pieces.{piece_of, pieces_of};
+ghost use Rattle.place_text.specs.Places.{place};
+ghost use Rattle.fir_layout.specs.declared.laid.Laid.{Laid as TheLaid};
+ghost use Rattle.fir_tree.specs.Grammar.{Type_of, Expression, Reference, Terminal, Takes, start_of};
 ghost use Rattle.fir_tree.specs.Reading.{Reads as ReadsRule};
+ghost use Rattle.fir_expr.specs.LineStarts.{AreLines};
+ghost use Rattle.fir_expr.specs.Parts.{IsSource, IsNotTaken};
 ghost use Rattle.fir_expr.specs.Standing.{IsLaidFrom, StandsIn, BeginsType, IsWhole, wanted};
 
 use crate::expressions::{expr, reference};
+use crate::take::{refusal_at, start};
+use crate::text::{Text, lines_of};
 use crate::types::typ;
+use bit_words::List;
 use fir_layout::Laid;
 use fir_tree::{Expr, Names, ParseFault};
 use fir_types::FirType;
-use std::alloc::Global;
+use place_text::Place;
+use std::alloc::{AllocError, Global};
 
 /// A place in a laid list, with the names read so far.
 #[derive(Drop)]
@@ -26,6 +34,9 @@ pub struct Reader<'a> {
     pub names: Names,
     /// How many brackets are open at `at`: each `(`, `[`, `{` and word with its `(` opens one.
     pub brackets: u32,
+    /// Where the lines of the text begin, or nothing.
+    lines: List<u32>,
+    pub ghost lines_are: { AreLines bytes.now lines },
 }
 
 impl<'a> Reader<'a> {
@@ -43,7 +54,44 @@ impl<'a> Reader<'a> {
             at: 0,
             names: Names::new(alloc),
             brackets: 0,
+            lines: List::new(alloc),
         }
+    }
+
+    /// Makes a table of the lines, by which `place_of` and the readers find a place in time that grows with the logarithm of
+    /// the number of lines; without it they count from the text's beginning each time. Reads the text once. After a refusal,
+    /// which is for want of memory, the reader is as it was.
+    pub fn index_lines(&mut self, alloc: Global) -> Result<(), AllocError>
+        requires short { length self.old.bytes.now < 2 ^ 32 - 1 }
+        ensures bytes { self.new.bytes.now ≡ self.old.bytes.now }
+        ensures laid { self.new.laid.now ≡ self.old.laid.now }
+        ensures at { self.new.at ≡ self.old.at }
+        ensures names { self.new.names ≡ self.old.names }
+        ensures brackets { self.new.brackets ≡ self.old.brackets }
+    {
+        self.lines = lines_of(alloc, self.bytes)?;
+        Ok(())
+    }
+
+    /// The place of a part of the laid list: where it begins in the text.
+    pub fn place_of(&self, part: Laid) -> Place
+        requires short { length self.now.bytes.now < 2 ^ 32 - 1 }
+        requires inside { start_of part ≤ length self.now.bytes.now }
+        ensures { result ≡ place self.now.bytes.now (start_of part) }
+    {
+        Text::new(self.bytes, self.lines.as_slice()).place_at(start(part))
+    }
+
+    /// The fault of the part at the reader's place, which can't continue the text there.
+    pub fn refusal_here(&self) -> ParseFault
+        requires { IsSource self.now.bytes.now self.now.laid.now }
+        ensures { (s : Terminal) → ((l : TheLaid) → slice_get self.now.laid.now self.now.at ≡ Some l → ¬ (Takes s (piece_of self.now.bytes.now l))) → IsNotTaken s self.now.bytes.now self.now.laid.now self.now.at result }
+    {
+        refusal_at(
+            &Text::new(self.bytes, self.lines.as_slice()),
+            self.laid,
+            self.at,
+        )
     }
 }
 
@@ -66,9 +114,10 @@ pub fn read_type(alloc: Global, reader: &mut Reader) -> Result<FirType, ParseFau
     ensures whole { IfOk result (λ _. IsWhole (pieces_of reader.old.bytes.now reader.old.laid.now) reader.old.at reader.new.at) }
     ensures room { IfOk result (λ _. wanted reader.new.names reader.old.laid.now reader.new.at ≤ wanted reader.old.names reader.old.laid.now reader.old.at) }
 {
+    let text = Text::new(reader.bytes, reader.lines.as_slice());
     let (read, end) = typ(
         alloc,
-        reader.bytes,
+        &text,
         reader.laid,
         &mut reader.names,
         reader.at,
@@ -92,9 +141,10 @@ pub fn read_expr(alloc: Global, reader: &mut Reader) -> Result<Expr, ParseFault>
     ensures whole { IfOk result (λ _. IsWhole (pieces_of reader.old.bytes.now reader.old.laid.now) reader.old.at reader.new.at) }
     ensures room { IfOk result (λ _. wanted reader.new.names reader.old.laid.now reader.new.at ≤ wanted reader.old.names reader.old.laid.now reader.old.at) }
 {
+    let text = Text::new(reader.bytes, reader.lines.as_slice());
     let (read, end) = expr(
         alloc,
-        reader.bytes,
+        &text,
         reader.laid,
         &mut reader.names,
         reader.at,
@@ -119,9 +169,10 @@ pub fn read_reference(alloc: Global, reader: &mut Reader) -> Result<Expr, ParseF
     ensures whole { IfOk result (λ _. IsWhole (pieces_of reader.old.bytes.now reader.old.laid.now) reader.old.at reader.new.at) }
     ensures room { IfOk result (λ _. wanted reader.new.names reader.old.laid.now reader.new.at ≤ wanted reader.old.names reader.old.laid.now reader.old.at) }
 {
+    let text = Text::new(reader.bytes, reader.lines.as_slice());
     let (read, end) = reference(
         alloc,
-        reader.bytes,
+        &text,
         reader.laid,
         &mut reader.names,
         reader.at,
