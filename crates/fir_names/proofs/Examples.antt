@@ -1,36 +1,34 @@
 -- What is visible where, a loop of two modules, and which fault is the first.
-use Rattle.std.proofs.Common.{◌≡◌, ℕ, List, [], ◌∷◌, map, refl, arith}
+use Rattle.std.proofs.Common.{◌≡◌, ℕ, List, [], ◌∷◌, refl, arith}
 use Rattle.fir_types.specs.declared.name.Name.{Name}
 use Rattle.fir_tree.specs.declared.circuit.Circuit.{Circuit}
-use Rattle.fir_tree.specs.declared.expr.Expr.{Expr}
-use Rattle.fir_tree.specs.declared.expr.Form.TheVariants as form
 use Rattle.place_text.specs.declared.place.Place.{Place}
 use Rattle.fir_names.specs.declared.fault.Kind.TheVariants as kind
-use Rattle.fir_names.specs.Parts.{Seen, Use, Part, mentions, declares, joined, in_turn, block}
-use Rattle.fir_names.specs.Scopes.{In, here, Names, Instance, Reaches, itself, through}
+use Rattle.fir_names.specs.Extents.{Seen, Use, refer, declare, followed_by, all_marks, block_marks, uses_behind}
+use Rattle.fir_names.specs.Scopes.{here, Names, Instance, itself, through}
 use Rattle.fir_names.specs.Faults.{IsFault, instance_loop, IsNotLater, by_line, by_kind}
 
 abbrev seeing : Name → List Seen → Use
 seeing name seen = record { name = name; seen = seen }
 
 -- A name that a branch declares isn't seen behind the branch.
-behind_a_branch : (a : Name) → (in_turn (block (declares a ∷ []) ∷ mentions (a ∷ []) ∷ [])).uses [] 0 ≡ seeing a [] ∷ []
+behind_a_branch : (a : Name) → uses_behind [] (all_marks (block_marks (declare a ∷ []) ∷ refer (a ∷ []) ∷ []) 0) ≡ seeing a [] ∷ []
 behind_a_branch a = refl
 
 -- It is seen in the branch, behind its declaration.
-in_a_branch : (a : Name) → (in_turn (block (declares a ∷ mentions (a ∷ []) ∷ []) ∷ [])).uses [] 0 ≡ seeing a ((a.id, 0) ∷ []) ∷ []
+in_a_branch : (a : Name) → uses_behind [] (all_marks (block_marks (declare a ∷ refer (a ∷ []) ∷ []) ∷ []) 0) ≡ seeing a ((a.id, 0) ∷ []) ∷ []
 in_a_branch a = refl
 
 -- A port is seen in the body and in its branches.
-a_port : (p : Name) → (joined (declares p) (in_turn (block (mentions (p ∷ []) ∷ []) ∷ []))).uses [] 0 ≡ seeing p ((p.id, 0) ∷ []) ∷ []
+a_port : (p : Name) → uses_behind [] (followed_by (declare p) (all_marks (block_marks (refer (p ∷ []) ∷ []) ∷ [])) 0) ≡ seeing p ((p.id, 0) ∷ []) ∷ []
 a_port p = refl
 
 -- `node n = n`: a name isn't seen in its own declaration.
-in_its_own : (n : Name) → (joined (mentions (n ∷ [])) (declares n)).uses [] 0 ≡ seeing n [] ∷ []
+in_its_own : (n : Name) → uses_behind [] (followed_by (refer (n ∷ [])) (declare n) 0) ≡ seeing n [] ∷ []
 in_its_own n = refl
 
 -- What stands behind a branch has a number behind those of the branch.
-numbers_go_on : (a b : Name) → (in_turn (block (declares a ∷ []) ∷ declares b ∷ mentions (b ∷ []) ∷ [])).uses [] 0 ≡ seeing b ((b.id, 1) ∷ []) ∷ []
+numbers_go_on : (a b : Name) → uses_behind [] (all_marks (block_marks (declare a ∷ []) ∷ declare b ∷ refer (b ∷ []) ∷ []) 0) ≡ seeing b ((b.id, 1) ∷ []) ∷ []
 numbers_go_on a b = refl
 
 -- A reference names what it sees by its name.

@@ -9,7 +9,7 @@ use Rattle.indexmap.specs.IndexSet.{insert_key}
 use Rattle.fir_types.specs.declared.name.Name.{Name}
 use Rattle.fir_names.specs.declared.fault.Found.{Found}
 use Rattle.fir_names.specs.declared.fault.Kind.{Kind}
-use Rattle.fir_names.specs.Parts.{Seen}
+use Rattle.fir_names.specs.Extents.{Seen}
 use Rattle.fir_names.specs.Scopes.{texts}
 use Rattle.fir_names.specs.Walks.{kept_of, kept_with}
 use Rattle.fir_names.specs.Finds.{numbered, fault_where, twice_behind}

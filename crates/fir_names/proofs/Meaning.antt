@@ -15,7 +15,7 @@ use Rattle.fir_names.specs.declared.fault.Kind.{Kind}
 use Rattle.fir_names.specs.declared.fault.Kind.TheVariants as kind
 use Rattle.fir_names.specs.declared.graph.Edge.{Edge}
 use Rattle.fir_names.specs.declared.gather.Gathered.{Gathered}
-use Rattle.fir_names.specs.Parts.{Seen, Use, declared_in, instances_in, uses_in}
+use Rattle.fir_names.specs.Extents.{Seen, Use, declared_in, instances_in, uses_in}
 use Rattle.fir_names.specs.Scopes.{In, here, there, texts, module_names, FirstOf, Means, Instance, Reaches, itself, through, Names, IsScope}
 use Rattle.fir_names.specs.Faults.{IsTwice, IsFault, no_main, module_twice, module_unknown, instance_loop, name_twice, name_unknown}
 use Rattle.fir_names.specs.Graphs.{Graph, IsGraph, Out, Leads, stays, goes, LoopsBefore}

@@ -7,7 +7,9 @@ use Rattle.std.proofs.lemmas.List.Concat.{flat_map-append}
 use Rattle.std.specs.List.{flat_map}
 use Rattle.fir_types.specs.declared.name.Name.{Name}
 use Rattle.fir_names.specs.declared.walk.Walk.{Walk}
-use Rattle.fir_names.specs.Parts.{Part, Seen, nothing, mentions, declares, joined, in_turn, module_part}
+use Rattle.fir_names.specs.Extents.{Seen}
+use Rattle.fir_names.specs.Parts.{Part, nothing, mentions, declares, joined, in_turn, module_part}
+use Rattle.fir_names.proofs.Agreement.{sees_its_blocks, declares_its_names, has_its_instances}
 use Rattle.fir_tree.specs.declared.circuit.Module.{Module}
 use Rattle.fir_names.specs.declared.fault.Kind.TheVariants.{NameUnknown}
 use Rattle.fir_names.specs.Walks.{first_of, kept_with, kept_from, kept_of, number_or, fault_unless, number_in, fault_in, number_of, fault_of, Walks, HasWalked}
@@ -211,8 +213,8 @@ walked_all holder {a} {b} h no_declared no_instances no_visible no_uses no_fault
     let none = nil_from_length a.visible.entries no_visible ∙ sym nothing_kept in
     let n : length a.declared.items ≡ 0 = ap length no_declared in
     record {
-      declared = h.declared ∙ ap (λ l. l ++ (module_part holder).declares) no_declared;
-      instances = h.instances ∙ ap (λ l. l ++ (module_part holder).instances) no_instances;
-      uses = h.uses [] none ∙ ap₂ (λ l k. l ++ map number_of ((module_part holder).uses [] k)) no_uses n;
-      faults = h.faults [] none ∙ ap₂ (λ l k. l ++ flat_map fault_of ((module_part holder).uses [] k)) no_faults n;
+      declared = h.declared ∙ ap (λ l. l ++ (module_part holder).declares) no_declared ∙ declares_its_names holder;
+      instances = h.instances ∙ ap (λ l. l ++ (module_part holder).instances) no_instances ∙ has_its_instances holder;
+      uses = h.uses [] none ∙ ap₂ (λ l k. l ++ map number_of ((module_part holder).uses [] k)) no_uses n ∙ ap (map number_of) (sees_its_blocks holder);
+      faults = h.faults [] none ∙ ap₂ (λ l k. l ++ flat_map fault_of ((module_part holder).uses [] k)) no_faults n ∙ ap (flat_map fault_of) (sees_its_blocks holder);
     }

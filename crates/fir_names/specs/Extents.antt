@@ -1,17 +1,52 @@
--- How far a declaration is visible (FIRRTL specification 3.0, "Namespaces" and "Scoping"): to the names behind its statement, up
--- to the end of its block.
+-- What a module declares, and how far it is visible (FIRRTL specification 3.0, "Namespaces" and "Scoping"): a name is visible from
+-- the statement behind its declaration to the end of its block, there and in the blocks within.
 use Rattle.std.specs.Prelude.{ℕ, ◌+◌, List, [], ◌∷◌, ◌++◌, map, length, nat_lt, if◌then◌else◌}
+use Rattle.std.specs.List.{flat_map}
 use Rattle.fir_types.specs.declared.name.Name.{Name}
 use Rattle.fir_tree.specs.declared.circuit.Module.{Module}
+use Rattle.fir_tree.specs.declared.expr.Expr.{Expr, fold-Expr}
+use Rattle.fir_tree.specs.declared.expr.Suffix.{Suffix, fold-Suffix}
+use Rattle.fir_tree.specs.declared.expr.Form.TheOpen.{Form-F, Suffix-F, Expr-F}
 use Rattle.fir_tree.specs.declared.stmt.Stmt.{Stmt, fold-Stmt}
 use Rattle.fir_tree.specs.declared.stmt.Arm.{Arm, fold-Arm}
 use Rattle.fir_tree.specs.declared.stmt.Stmt.TheOpen.{Stmt-F, Arm-F}
-use Rattle.fir_names.specs.Parts.{Seen, Use, references}
 
--- A name of a module: it refers to a declaration, or it declares one, and as many names as the number says stand behind it
--- in its block.
+-- The references of an expression in text order: a reference itself, and then those in its indices.
+abbrev pub of_form : Form-F (List Name) (List Name) (List Name) → List Name
+of_form (Form-F.Ref name suffixes) = name ∷ flat_map (λ names. names) suffixes
+of_form (Form-F.Literal kind width number) = []
+of_form (Form-F.Prim op operands params) = flat_map (λ names. names) operands
+of_form (Form-F.Mux operands) = flat_map (λ names. names) operands
+
+abbrev pub of_suffix : Suffix-F (List Name) (List Name) (List Name) → List Name
+of_suffix (Suffix-F.Field name) = []
+of_suffix (Suffix-F.At place at number) = []
+of_suffix (Suffix-F.Index place index) = index
+
+abbrev pub of_expr : Expr-F (List Name) (List Name) (List Name) → List Name
+of_expr e = e.form
+
+abbrev pub references : Expr → List Name
+references = fold-Expr (List Name) (List Name) (List Name) of_form of_suffix of_expr
+
+abbrev pub suffix_references : Suffix → List Name
+suffix_references = fold-Suffix (List Name) (List Name) (List Name) of_form of_suffix of_expr
+
+-- a visible declaration: the text of its name, and its number among the declarations of its module
+abbrev pub Seen : Type 0
+Seen = ℕ × ℕ
+
+-- a reference, with the declarations that it sees
+pub record Use : Type 0 where
+  pub name : Name
+  pub seen : List Seen
+
+-- A name of a module: it refers to a declaration, it is that of an instance's module, or it declares, and as many names as
+-- the number says stand behind it in its block. A statement's other names come before the one that it declares, since they
+-- don't see it.
 pub data Mark : Type 0 where
   Refers : Name → Mark
+  Instantiates : Name → Mark
   Declares : Name → ℕ → Mark
 
 -- the names of a part in text order, where so many stand behind the part in its block
@@ -23,6 +58,9 @@ no_mark after = []
 
 abbrev pub refer : List Name → Marks
 refer names after = map Refers names
+
+abbrev pub instantiate : Name → Marks
+instantiate target after = Instantiates target ∷ []
 
 abbrev pub declare : Name → Marks
 declare name after = Declares name after ∷ []
@@ -43,7 +81,7 @@ of_stmt (Stmt-F.Wire name typ) = declare name
 of_stmt (Stmt-F.Reg name typ clock) = followed_by (refer (references clock)) (declare name)
 of_stmt (Stmt-F.RegReset name typ clock reset init) = followed_by (refer (references clock ++ references reset ++ references init)) (declare name)
 of_stmt (Stmt-F.Mem memory) = declare memory.name
-of_stmt (Stmt-F.Inst name target) = declare name
+of_stmt (Stmt-F.Inst name target) = followed_by (instantiate target) (declare name)
 of_stmt (Stmt-F.Node name expr) = followed_by (refer (references expr)) (declare name)
 of_stmt (Stmt-F.Connect left right) = refer (references left ++ references right)
 of_stmt (Stmt-F.Invalidate target) = refer (references target)
@@ -67,10 +105,35 @@ marks_in holder = followed_by (all_marks (map (λ port. declare port.name) holde
 abbrev pub seen_behind : ℕ → ℕ → List Mark → List Seen
 seen_behind between n [] = []
 seen_behind between n (Refers name ∷ ms) = seen_behind between n ms
+seen_behind between n (Instantiates name ∷ ms) = seen_behind between n ms
 seen_behind between n (Declares name after ∷ ms) = (if nat_lt (length ms + between) after then (name.id, n) ∷ [] else []) ++ seen_behind between (n + 1) ms
 
 -- the references behind some names, each with what it sees
 abbrev pub uses_behind : List Mark → List Mark → List Use
 uses_behind before [] = []
 uses_behind before (Refers name ∷ ms) = record { name = name; seen = seen_behind 0 0 before } ∷ uses_behind (before ++ Refers name ∷ []) ms
+uses_behind before (Instantiates name ∷ ms) = uses_behind (before ++ Instantiates name ∷ []) ms
 uses_behind before (Declares name after ∷ ms) = uses_behind (before ++ Declares name after ∷ []) ms
+
+abbrev pub declared_by : List Mark → List Name
+declared_by [] = []
+declared_by (Refers name ∷ ms) = declared_by ms
+declared_by (Instantiates name ∷ ms) = declared_by ms
+declared_by (Declares name after ∷ ms) = name ∷ declared_by ms
+
+abbrev pub instantiated_by : List Mark → List Name
+instantiated_by [] = []
+instantiated_by (Refers name ∷ ms) = instantiated_by ms
+instantiated_by (Instantiates name ∷ ms) = name ∷ instantiated_by ms
+instantiated_by (Declares name after ∷ ms) = instantiated_by ms
+
+-- the references of a module, each with what it sees; the names that it declares; the modules of its instances: each in
+-- text order
+abbrev pub uses_in : Module → List Use
+uses_in holder = uses_behind [] (marks_in holder)
+
+abbrev pub declared_in : Module → List Name
+declared_in holder = declared_by (marks_in holder)
+
+abbrev pub instances_in : Module → List Name
+instances_in holder = instantiated_by (marks_in holder)

@@ -1,4 +1,5 @@
--- The faults of a circuit's names, and which is the first.
+-- The faults of a circuit's names, and which is the first (FIRRTL specification 3.0, "Circuits and Modules", "Instances", "Namespaces",
+-- "Scoping").
 use Rattle.std.specs.Prelude.{◌≡◌, ℕ, ◌<◌, ◌≤◌, List, ◌∷◌, ◌++◌}
 use Rattle.place_text.specs.declared.place.Place.{Place}
 use Rattle.fir_types.specs.declared.name.Name.{Name}
@@ -8,7 +9,7 @@ use Rattle.fir_names.specs.declared.fault.Kind.{Kind}
 use Rattle.fir_names.specs.declared.fault.Kind.TheVariants as kind
 use Rattle.fir_names.specs.declared.fault.NameFault.{NameFault}
 use Rattle.fir_names.specs.declared.fault.NameFault.TheVariants as fault
-use Rattle.fir_names.specs.Parts.{Use, uses_in, declared_in, instances_in}
+use Rattle.fir_names.specs.Extents.{Use, uses_in, declared_in, instances_in}
 use Rattle.fir_names.specs.Scopes.{In, texts, module_names, Instance, Reaches, Names}
 
 -- a name that one before it in the list has as well

@@ -1,7 +1,7 @@
+pub mod Extents
 pub mod Finds
 pub mod Graphs
 pub mod Parts
 pub mod Scopes
 pub mod Faults
 pub mod Walks
-pub mod Extents

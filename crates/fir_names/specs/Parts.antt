@@ -1,46 +1,11 @@
--- What a module declares, and what its references see (FIRRTL specification 3.0, "Namespaces" and "Conditional Scopes").
---
--- A name is visible from the statement after its declaration to the end of its block, there and in the blocks within.
+-- What the walk through a module does to what it keeps, part by part: it carries what is visible from each part to the next.
 use Rattle.std.specs.Prelude.{ℕ, ◌+◌, List, [], ◌∷◌, ◌++◌, map, length}
-use Rattle.std.specs.List.{flat_map}
 use Rattle.fir_types.specs.declared.name.Name.{Name}
 use Rattle.fir_tree.specs.declared.circuit.Module.{Module}
-use Rattle.fir_tree.specs.declared.expr.Expr.{Expr, fold-Expr}
-use Rattle.fir_tree.specs.declared.expr.Suffix.{Suffix, fold-Suffix}
-use Rattle.fir_tree.specs.declared.expr.Form.TheOpen.{Form-F, Suffix-F, Expr-F}
 use Rattle.fir_tree.specs.declared.stmt.Stmt.{Stmt, fold-Stmt}
 use Rattle.fir_tree.specs.declared.stmt.Arm.{Arm, fold-Arm}
 use Rattle.fir_tree.specs.declared.stmt.Stmt.TheOpen.{Stmt-F, Arm-F}
-
--- The references of an expression in text order: a reference itself, and then those in its indices.
-abbrev pub of_form : Form-F (List Name) (List Name) (List Name) → List Name
-of_form (Form-F.Ref name suffixes) = name ∷ flat_map (λ names. names) suffixes
-of_form (Form-F.Literal kind width number) = []
-of_form (Form-F.Prim op operands params) = flat_map (λ names. names) operands
-of_form (Form-F.Mux operands) = flat_map (λ names. names) operands
-
-abbrev pub of_suffix : Suffix-F (List Name) (List Name) (List Name) → List Name
-of_suffix (Suffix-F.Field name) = []
-of_suffix (Suffix-F.At place at number) = []
-of_suffix (Suffix-F.Index place index) = index
-
-abbrev pub of_expr : Expr-F (List Name) (List Name) (List Name) → List Name
-of_expr e = e.form
-
-abbrev pub references : Expr → List Name
-references = fold-Expr (List Name) (List Name) (List Name) of_form of_suffix of_expr
-
-abbrev pub suffix_references : Suffix → List Name
-suffix_references = fold-Suffix (List Name) (List Name) (List Name) of_form of_suffix of_expr
-
--- a visible declaration: the text of its name, and its number among the declarations of its module
-abbrev pub Seen : Type 0
-Seen = ℕ × ℕ
-
--- a reference, with the declarations that it sees
-pub record Use : Type 0 where
-  pub name : Name
-  pub seen : List Seen
+use Rattle.fir_names.specs.Extents.{Seen, Use, references}
 
 -- What a part of a module has: the declarations that it shows to what stands behind it in its block, all names that it
 -- declares, the modules of its instances, and its references, each in text order. The numbers of its declarations depend
@@ -106,13 +71,3 @@ arm_part = fold-Arm Part Part of_stmt of_arm
 -- a module: its ports, and then its body
 abbrev pub module_part : Module → Part
 module_part module' = joined (in_turn (map (λ port. declares port.name) module'.ports)) (in_turn (map stmt_part module'.body))
-
--- what the references of a module see
-abbrev pub uses_in : Module → List Use
-uses_in module' = (module_part module').uses [] 0
-
-abbrev pub declared_in : Module → List Name
-declared_in module' = (module_part module').declares
-
-abbrev pub instances_in : Module → List Name
-instances_in module' = (module_part module').instances

@@ -1,11 +1,11 @@
--- The scope of a circuit.
+-- The scope of a circuit (FIRRTL specification 3.0, "Circuits and Modules", "Instances").
 use Rattle.std.specs.Prelude.{◌≡◌, ◌≢◌, ℕ, ◌<◌, true, ◌↔◌, List, ◌∷◌, map, length, slice_get, Some}
 use Rattle.std.specs.List.{flat_map, AllZip}
 use Rattle.fir_types.specs.declared.name.Name.{Name}
 use Rattle.fir_tree.specs.declared.circuit.Circuit.{Circuit}
 use Rattle.fir_tree.specs.declared.circuit.Module.{Module}
 use Rattle.fir_tree.specs.declared.scope.Scope.{Scope}
-use Rattle.fir_names.specs.Parts.{Use, uses_in, instances_in}
+use Rattle.fir_names.specs.Extents.{Use, uses_in, instances_in}
 
 -- x stands in the list
 pub data In {X : Type 0} (x : X) : List X → Type 0 where

@@ -9,7 +9,8 @@ use Rattle.fir_names.specs.declared.fault.Found.{Found}
 use Rattle.fir_names.specs.declared.fault.Kind.{Kind}
 use Rattle.fir_names.specs.declared.fault.Kind.TheVariants.{NameUnknown}
 use Rattle.fir_tree.specs.declared.circuit.Module.{Module}
-use Rattle.fir_names.specs.Parts.{Part, Use, Seen, declared_in, instances_in, uses_in}
+use Rattle.fir_names.specs.Extents.{Use, Seen, declared_in, instances_in, uses_in}
+use Rattle.fir_names.specs.Parts.{Part}
 
 -- the number of the first declaration of a text
 abbrev pub first_of : List Seen → ℕ → Option ℕ

@@ -6,7 +6,6 @@ mod earliest;
 pub mod fault;
 mod gather;
 mod graph;
-pub mod laws;
 mod loops;
 mod references;
 mod scoping;

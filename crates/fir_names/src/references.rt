@@ -2,7 +2,7 @@
 
 ghost use Rattle.std.specs.Prelude.{◌≡◌, ◌++◌, OnOk};
 ghost use Rattle.std.specs.List.{flat_map};
-ghost use Rattle.fir_names.specs.Parts.{references, suffix_references};
+ghost use Rattle.fir_names.specs.Extents.{references, suffix_references};
 
 use fir_tree::{Expr, Form, Suffix};
 use fir_types::Name;

@@ -23,7 +23,7 @@ use indexmap::IndexMap;
 use std::alloc::{AllocError, Global};
 
 /// What the names of a circuit mean, or its first fault by place, and at one place by kind (FIRRTL specification 3.0,
-/// "Circuits and Modules", "Namespaces").
+/// "Circuits and Modules", "Instances", "Namespaces", "Scoping").
 ///
 /// Takes memory and time in proportion to the circuit, and where instances are on a loop up to the square of the instances.
 /// More than fit a `u32` of modules, or of declarations in a module, are a want of memory.

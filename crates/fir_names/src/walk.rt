@@ -2,7 +2,8 @@
 
 ghost use Rattle.std.specs.Prelude.{◌≡◌, ◌++◌, ◌∷◌, [], map, take, length, OnOk, IfOk};
 ghost use Rattle.std.specs.List.{flat_map};
-ghost use Rattle.fir_names.specs.Parts.{references, mentions, declares, instance_of, in_turn, block, stmt_part, arm_part, module_part};
+ghost use Rattle.fir_names.specs.Extents.{references};
+ghost use Rattle.fir_names.specs.Parts.{mentions, declares, instance_of, in_turn, block, stmt_part, arm_part, module_part};
 ghost use Rattle.fir_names.specs.Walks.{kept_with, number_in, fault_in, Walks, HasWalked};
 
 use crate::fault::{Found, Kind};

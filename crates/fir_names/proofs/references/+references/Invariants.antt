@@ -1,6 +1,6 @@
 use Rattle.std.proofs.Common.{◌≡◌, ◌++◌, take}
 use Rattle.std.specs.List.{flat_map}
-use Rattle.fir_names.specs.Parts.{references, suffix_references}
+use Rattle.fir_names.specs.Extents.{references, suffix_references}
 use Rattle.fir_names.proofs.references.+references.Given as goal
 
 abbrev pub invariant-push_all-loop-expr : goal.invariant-push_all-loop-expr

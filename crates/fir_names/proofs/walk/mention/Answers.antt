@@ -1,5 +1,5 @@
 use Rattle.std.proofs.Common.{rules, refl}
-use Rattle.fir_names.specs.Parts.{references}
+use Rattle.fir_names.specs.Extents.{references}
 use Rattle.fir_names.proofs.Walking.{walks_mention}
 use Rattle.fir_names.proofs.walk.mention.Goals as goal
 
