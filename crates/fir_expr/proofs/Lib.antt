@@ -18,3 +18,4 @@ pub mod LiteralCases
 pub mod LiteralHeads
 pub mod LiteralIntegers
 pub mod LiteralBrackets
+pub mod LineTables

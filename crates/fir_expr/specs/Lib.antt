@@ -5,3 +5,4 @@ pub mod TypeParts
 pub mod LiteralParts
 pub mod LiteralHeads
 pub mod LiteralIntegers
+pub mod LineStarts

@@ -175,6 +175,7 @@ fn a_multiplexer_has_three_operands(rt: HostRuntime) -> Result<(), Fail> {
 fn a_reference_is_no_literal(rt: HostRuntime) -> Result<(), Fail> {
     let text = b"UInt<1>(0)\n";
     let tokens = lex(rt.alloc(), text)?;
+    assert!(rt; tokens.len() < 1000);
     let laid = lay_out(rt.alloc(), text, &tokens)?;
     let mut reader = Reader::new(rt.alloc(), text, &laid);
     let expr = read_reference(rt.alloc(), &mut reader)?;

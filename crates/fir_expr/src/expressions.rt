@@ -12,6 +12,7 @@ ghost use Rattle.fir_expr.specs.Operands.{IsDigits, HasDigits, HasNoDigits, HasN
 
 use crate::literals::{Head, head_at, literal, numbers, open_call, take_suffix, wide_literal};
 use crate::take::{is_mark, part_at, place_of_part, take_field, take_mark, take_name, take_number};
+use crate::text::Text;
 use bit_words::List;
 use fir_layout::Laid;
 use fir_lexer::{Token, TokenKind};
@@ -23,7 +24,7 @@ use std::alloc::Global;
 #[cycle(expr)]
 pub fn expr(
     alloc: Global,
-    text: &[u8],
+    text: &Text,
     laid: &[Laid],
     names: &mut Names,
     at: usize,
@@ -50,7 +51,7 @@ pub fn expr(
 #[cycle(expr)]
 fn mux(
     alloc: Global,
-    text: &[u8],
+    text: &Text,
     laid: &[Laid],
     names: &mut Names,
     at: usize,
@@ -81,7 +82,7 @@ fn mux(
 #[cycle(expr)]
 fn operation(
     alloc: Global,
-    text: &[u8],
+    text: &Text,
     laid: &[Laid],
     names: &mut Names,
     at: usize,
@@ -124,7 +125,7 @@ fn operation(
 #[cycle(expr)]
 fn operands(
     alloc: Global,
-    text: &[u8],
+    text: &Text,
     laid: &[Laid],
     names: &mut Names,
     at: usize,
@@ -152,7 +153,7 @@ fn operands(
 #[cycle(expr)]
 pub fn reference(
     alloc: Global,
-    text: &[u8],
+    text: &Text,
     laid: &[Laid],
     names: &mut Names,
     at: usize,
@@ -180,7 +181,7 @@ pub fn reference(
 #[cycle(expr)]
 fn suffixes(
     alloc: Global,
-    text: &[u8],
+    text: &Text,
     laid: &[Laid],
     names: &mut Names,
     at: usize,
@@ -207,7 +208,7 @@ fn suffixes(
 #[cycle(expr)]
 fn suffix(
     alloc: Global,
-    text: &[u8],
+    text: &Text,
     laid: &[Laid],
     names: &mut Names,
     at: usize,
@@ -237,7 +238,7 @@ fn suffix(
 
 /// Reads a `.` and a field, where so many brackets are open and the reference has so many suffixes.
 fn field(
-    text: &[u8],
+    text: &Text,
     laid: &[Laid],
     names: &mut Names,
     at: usize,
@@ -263,7 +264,7 @@ fn field(
 #[cycle(expr)]
 fn index(
     alloc: Global,
-    text: &[u8],
+    text: &Text,
     laid: &[Laid],
     names: &mut Names,
     at: usize,
@@ -291,7 +292,7 @@ fn index(
 
 /// Reads a `[`, a number and a `]`, where so many brackets are open and the reference has so many suffixes.
 fn element(
-    text: &[u8],
+    text: &Text,
     laid: &[Laid],
     names: &Names,
     at: usize,
@@ -322,7 +323,7 @@ fn element(
 #[cycle(expr)]
 fn dynamic(
     alloc: Global,
-    text: &[u8],
+    text: &Text,
     laid: &[Laid],
     names: &mut Names,
     at: usize,

@@ -13,13 +13,14 @@ ghost use Rattle.fir_expr.specs.LiteralIntegers.{IsString};
 ghost use Rattle.fir_expr.specs.Parts.{IsSource, IsPartOf, Answers};
 
 use crate::take::{bytes, is_mark, part_at, refusal_at, take_number};
+use crate::text::Text;
 use bit_words::{Base, Number, digits_value};
 use fir_layout::Laid;
 use fir_lexer::{Token, TokenKind};
 use fir_tree::ParseFault;
 
 /// Reads an integer: a number, a minus and a number, or a string of quoted number form.
-pub(crate) fn integer(text: &[u8], laid: &[Laid], at: usize) -> Result<(Number, usize), ParseFault>
+pub(crate) fn integer(text: &Text, laid: &[Laid], at: usize) -> Result<(Number, usize), ParseFault>
     requires source { IsSource text.now laid.now }
     requires stands { (brackets : ℕ) × StandsIn (pieces_of text.now laid.now) at brackets }
     ensures { (names : List (List ℕ)) → Answers Integer text.now laid.now at names result names }
@@ -64,7 +65,7 @@ fn is_string(part: Laid) -> bool
 }
 
 /// The number of a part that is a string of quoted number form.
-fn quoted_part(text: &[u8], part: Laid) -> Option<Number>
+fn quoted_part(text: &Text, part: Laid) -> Option<Number>
     requires { IsPartOf text.now part }
     ensures some { IfSome result (λ n. (token : TheToken) × (part ≡ Laid.Item token) × (token.kind ≡ TokenKind.Text) × IsQuotedNumber (bytes_of text.now token) n.negative n.magnitude) }
     ensures none { IfNone result (¬ (Takes A_quoted_number (piece_of text.now part))) }

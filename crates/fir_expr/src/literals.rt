@@ -15,6 +15,7 @@ use crate::take::{
     MOST, before_bracket, bytes, is_mark, open_bracket, part_at, place_of_part, refusal_at,
     take_mark, take_number,
 };
+use crate::text::Text;
 use bit_words::{Kind, List};
 use fir_layout::Laid;
 use fir_lexer::TokenKind;
@@ -38,7 +39,7 @@ pub enum Head {
 }
 
 /// What the expression at a place is. Reads the next two tokens.
-pub fn head_at(text: &[u8], laid: &[Laid], at: usize) -> Result<Head, ParseFault>
+pub fn head_at(text: &Text, laid: &[Laid], at: usize) -> Result<Head, ParseFault>
     requires { IsSource text.now laid.now }
     ensures ok { IfOk result (λ head. IsHeadAt head text.now laid.now at) }
     ensures err { IfErr result (λ fault. fault ≡ ParseFault.NoMemory) }
@@ -112,7 +113,7 @@ fn literal_kind(word: &[u8]) -> Option<Kind>
 
 /// Takes a word with its `(`, whichever it is. So many brackets are open before it.
 #[tactic(auto, using(crate::proofs::Takes::not_taken_memory, crate::proofs::Sources::source_part, crate::proofs::LiteralTakes::call_deep, crate::proofs::LiteralTakes::call_taken))]
-pub fn open_call(text: &[u8], laid: &[Laid], at: usize, brackets: u32) -> Result<Laid, ParseFault>
+pub fn open_call(text: &Text, laid: &[Laid], at: usize, brackets: u32) -> Result<Laid, ParseFault>
     requires source { IsSource text.now laid.now }
     requires stands { StandsIn (pieces_of text.now laid.now) at brackets }
     ensures taken { (name : List ℕ) → StartsWith (The_call name) text.now laid.now at → AnswersPiece (The_call name) text.now laid.now at result }
@@ -129,7 +130,7 @@ pub fn open_call(text: &[u8], laid: &[Laid], at: usize, brackets: u32) -> Result
 /// Takes a `.` or a `[` of a reference or type that has so many suffixes, where so many brackets are open.
 #[tactic(auto, using(crate::proofs::Takes::not_taken_memory, crate::proofs::Sources::source_part, crate::proofs::LiteralTakes::suffix_many, crate::proofs::LiteralTakes::suffix_inner, crate::proofs::LiteralTakes::suffix_taken))]
 pub fn take_suffix(
-    text: &[u8],
+    text: &Text,
     laid: &[Laid],
     at: usize,
     mark: u8,
@@ -161,7 +162,7 @@ pub fn take_suffix(
 /// Reads so many numbers.
 pub fn numbers(
     alloc: Global,
-    text: &[u8],
+    text: &Text,
     laid: &[Laid],
     at: usize,
     count: u32,
@@ -177,7 +178,7 @@ pub fn numbers(
 
 /// Reads so many numbers, and adds them to the list.
 fn push_numbers(
-    text: &[u8],
+    text: &Text,
     laid: &[Laid],
     list: &mut List<u128>,
     at: usize,
@@ -200,7 +201,7 @@ fn push_numbers(
 
 /// Reads `UInt(` or `SInt(`, an integer and `)`. So many brackets are open before it.
 pub fn literal(
-    text: &[u8],
+    text: &Text,
     laid: &[Laid],
     at: usize,
     kind: Kind,
@@ -223,7 +224,7 @@ pub fn literal(
 
 /// Reads `UInt` or `SInt`, a width between `<` and `>`, and an integer between brackets.
 pub fn wide_literal(
-    text: &[u8],
+    text: &Text,
     laid: &[Laid],
     at: usize,
     kind: Kind,

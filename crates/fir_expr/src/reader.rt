@@ -6,16 +6,19 @@ ghost use Rattle.place_text.specs.Places.{place};
 ghost use Rattle.fir_layout.specs.declared.laid.Laid.{Laid as TheLaid};
 ghost use Rattle.fir_tree.specs.Grammar.{Type_of, Expression, Reference, Terminal, Takes, start_of};
 ghost use Rattle.fir_tree.specs.Reading.{Reads as ReadsRule};
+ghost use Rattle.fir_expr.specs.LineStarts.{AreLines};
 ghost use Rattle.fir_expr.specs.Parts.{IsSource, IsNotTaken};
 ghost use Rattle.fir_expr.specs.Standing.{IsLaidFrom, StandsIn, BeginsType, IsWhole, wanted};
 
 use crate::expressions::{expr, reference};
 use crate::take::{refusal_at, start};
+use crate::text::{Text, lines_of};
 use crate::types::typ;
+use bit_words::List;
 use fir_layout::Laid;
 use fir_tree::{Expr, Names, ParseFault};
 use fir_types::FirType;
-use place_text::{Place, place_of};
+use place_text::Place;
 use std::alloc::{AllocError, Global};
 
 /// A place in a laid list, with the names read so far.
@@ -31,6 +34,9 @@ pub struct Reader<'a> {
     pub names: Names,
     /// How many brackets are open at `at`: each `(`, `[`, `{` and word with its `(` opens one.
     pub brackets: u32,
+    /// Where the lines of the text begin, or nothing.
+    lines: List<u32>,
+    pub ghost lines_are: { AreLines bytes.now lines },
 }
 
 impl<'a> Reader<'a> {
@@ -48,10 +54,13 @@ impl<'a> Reader<'a> {
             at: 0,
             names: Names::new(alloc),
             brackets: 0,
+            lines: List::new(alloc),
         }
     }
 
-    /// Makes a table of the lines.
+    /// Makes a table of the lines, by which `place_of` and the readers find a place in time that grows with the logarithm of
+    /// the number of lines; without it they count from the text's beginning each time. Reads the text once. After a refusal,
+    /// which is for want of memory, the reader is as it was.
     pub fn index_lines(&mut self, alloc: Global) -> Result<(), AllocError>
         requires short { length self.old.bytes.now < 2 ^ 32 - 1 }
         ensures bytes { self.new.bytes.now ≡ self.old.bytes.now }
@@ -60,7 +69,7 @@ impl<'a> Reader<'a> {
         ensures names { self.new.names ≡ self.old.names }
         ensures brackets { self.new.brackets ≡ self.old.brackets }
     {
-        let _alloc = alloc;
+        self.lines = lines_of(alloc, self.bytes)?;
         Ok(())
     }
 
@@ -70,7 +79,7 @@ impl<'a> Reader<'a> {
         requires inside { start_of part ≤ length self.now.bytes.now }
         ensures { result ≡ place self.now.bytes.now (start_of part) }
     {
-        place_of(self.bytes, start(part) as usize)
+        Text::new(self.bytes, self.lines.as_slice()).place_at(start(part))
     }
 
     /// The fault of the part at the reader's place, which can't continue the text there.
@@ -78,7 +87,8 @@ impl<'a> Reader<'a> {
         requires { IsSource self.now.bytes.now self.now.laid.now }
         ensures { (s : Terminal) → ((l : TheLaid) → slice_get self.now.laid.now self.now.at ≡ Some l → ¬ (Takes s (piece_of self.now.bytes.now l))) → IsNotTaken s self.now.bytes.now self.now.laid.now self.now.at result }
     {
-        refusal_at(self.bytes, self.laid, self.at)
+        let text = Text::new(self.bytes, self.lines.as_slice());
+        refusal_at(&text, self.laid, self.at)
     }
 }
 
@@ -86,8 +96,8 @@ impl<'a> Reader<'a> {
 /// element type, the innermost first.
 ///
 /// The reader stands where a type may begin, and moves behind it; names that are new are added. The refusal is the first
-/// token that can't continue the type, or that goes too deep, and then the reader isn't used again. Takes time in proportion
-/// to the tokens of the type, and reads each of them once.
+/// token that can't continue the type, or that goes too deep, and then the reader isn't used again. Reads each token of the
+/// type once; where `index_lines` has been called, takes time in proportion to them and to the logarithm of the number of lines.
 pub fn read_type(alloc: Global, reader: &mut Reader) -> Result<FirType, ParseFault>
     requires short { length reader.old.bytes.now < 2 ^ 32 - 1 }
     requires laid { IsLaidFrom reader.old.bytes.now reader.old.laid.now }
@@ -101,9 +111,10 @@ pub fn read_type(alloc: Global, reader: &mut Reader) -> Result<FirType, ParseFau
     ensures whole { IfOk result (λ _. IsWhole (pieces_of reader.old.bytes.now reader.old.laid.now) reader.old.at reader.new.at) }
     ensures room { IfOk result (λ _. wanted reader.new.names reader.old.laid.now reader.new.at ≤ wanted reader.old.names reader.old.laid.now reader.old.at) }
 {
+    let text = Text::new(reader.bytes, reader.lines.as_slice());
     let (read, end) = typ(
         alloc,
-        reader.bytes,
+        &text,
         reader.laid,
         &mut reader.names,
         reader.at,
@@ -127,9 +138,10 @@ pub fn read_expr(alloc: Global, reader: &mut Reader) -> Result<Expr, ParseFault>
     ensures whole { IfOk result (λ _. IsWhole (pieces_of reader.old.bytes.now reader.old.laid.now) reader.old.at reader.new.at) }
     ensures room { IfOk result (λ _. wanted reader.new.names reader.old.laid.now reader.new.at ≤ wanted reader.old.names reader.old.laid.now reader.old.at) }
 {
+    let text = Text::new(reader.bytes, reader.lines.as_slice());
     let (read, end) = expr(
         alloc,
-        reader.bytes,
+        &text,
         reader.laid,
         &mut reader.names,
         reader.at,
@@ -154,9 +166,10 @@ pub fn read_reference(alloc: Global, reader: &mut Reader) -> Result<Expr, ParseF
     ensures whole { IfOk result (λ _. IsWhole (pieces_of reader.old.bytes.now reader.old.laid.now) reader.old.at reader.new.at) }
     ensures room { IfOk result (λ _. wanted reader.new.names reader.old.laid.now reader.new.at ≤ wanted reader.old.names reader.old.laid.now reader.old.at) }
 {
+    let text = Text::new(reader.bytes, reader.lines.as_slice());
     let (read, end) = reference(
         alloc,
-        reader.bytes,
+        &text,
         reader.laid,
         &mut reader.names,
         reader.at,

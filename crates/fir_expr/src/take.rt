@@ -13,12 +13,13 @@ ghost use Rattle.fir_expr.specs.Standing.{StandsIn, wanted};
 ghost use Rattle.fir_tree.specs.Faults.{most, IsNamed, IsListed, listed_words};
 ghost use Rattle.fir_expr.specs.Parts.{IsSource, IsTokenIn, IsPartOf, AnswersPiece, IsNotTaken, IsNumberAt, IsNameAt, is_flat, is_opening};
 
+use crate::text::Text;
 use bit_words::read_magnitude;
 use fir_layout::Laid;
 use fir_lexer::{Token, TokenKind};
 use fir_tree::{Names, ParseFault};
 use fir_types::Name;
-use place_text::{Place, place_of};
+use place_text::Place;
 
 /// How many brackets may be open, and how many `.` and `[` a reference or type may have.
 pub const MOST: u32 = 128;
@@ -43,24 +44,25 @@ pub fn start(part: Laid) -> u32
 }
 
 /// The place of a part.
-pub fn place_of_part(text: &[u8], part: Laid) -> Place
+pub fn place_of_part(text: &Text, part: Laid) -> Place
     requires short { length text.now < 2 ^ 32 - 1 }
     requires inside { IsPartOf text.now part }
     ensures { result ≡ place text.now (start_of part) }
 {
-    place_of(text, start(part) as usize)
+    text.place_at(start(part))
 }
 
 /// The bytes of a token.
-pub fn bytes(text: &[u8], token: Token) -> &[u8]
+pub fn bytes<'a>(text: &Text<'a>, token: Token) -> &'a [u8]
     requires { IsTokenIn text.now token }
     ensures { result.now ≡ bytes_of text.now token }
 {
-    &text[token.start as usize..token.end as usize]
+    let all = text.bytes();
+    &all[token.start as usize..token.end as usize]
 }
 
 /// The fault of a part that can't continue the text.
-pub fn refusal(text: &[u8], part: Laid) -> ParseFault
+pub fn refusal(text: &Text, part: Laid) -> ParseFault
     requires short { length text.now < 2 ^ 32 - 1 }
     requires inside { IsPartOf text.now part }
     ensures { IsNamed (piece_of text.now part) (place text.now (start_of part)) result }
@@ -74,7 +76,7 @@ pub fn refusal(text: &[u8], part: Laid) -> ParseFault
 }
 
 /// Whether a part names what isn't supported.
-fn is_listed(text: &[u8], part: Laid) -> bool
+fn is_listed(text: &Text, part: Laid) -> bool
     requires { IsPartOf text.now part }
     ensures { IsTrue result ↔ IsListed (piece_of text.now part) }
 {
@@ -213,7 +215,7 @@ pub fn is_field(part: Laid) -> bool
 }
 
 /// The fault of the part at a place, which can't continue the text there.
-pub fn refusal_at(text: &[u8], laid: &[Laid], at: usize) -> ParseFault
+pub fn refusal_at(text: &Text, laid: &[Laid], at: usize) -> ParseFault
     requires { IsSource text.now laid.now }
     ensures { (s : Terminal) → ((l : TheLaid) → slice_get laid.now at ≡ Some l → ¬ (Takes s (piece_of text.now l))) → IsNotTaken s text.now laid.now at result }
 {
@@ -225,7 +227,7 @@ pub fn refusal_at(text: &[u8], laid: &[Laid], at: usize) -> ParseFault
 
 /// Takes a mark that opens no bracket and begins no suffix.
 #[tactic(auto, using(crate::proofs::Takes::not_taken_memory, crate::proofs::Takes::flat_mark_taken))]
-pub fn take_mark(text: &[u8], laid: &[Laid], at: usize, mark: u8) -> Result<Laid, ParseFault>
+pub fn take_mark(text: &Text, laid: &[Laid], at: usize, mark: u8) -> Result<Laid, ParseFault>
     requires source { IsSource text.now laid.now }
     requires flat { IsTrue (is_flat mark) }
     ensures taken { AnswersPiece (The_mark mark) text.now laid.now at result }
@@ -242,7 +244,7 @@ pub fn take_mark(text: &[u8], laid: &[Laid], at: usize, mark: u8) -> Result<Laid
 /// Takes a mark that opens a bracket and begins no suffix: `(` or `{`. So many brackets are open before it.
 #[tactic(auto, using(crate::proofs::Takes::not_taken_memory, crate::proofs::Sources::source_part, crate::proofs::Takes::opening_deep, crate::proofs::Takes::opening_taken))]
 pub fn open_bracket(
-    text: &[u8],
+    text: &Text,
     laid: &[Laid],
     at: usize,
     mark: u8,
@@ -267,7 +269,7 @@ pub fn open_bracket(
 
 /// Takes a number. The answer has its place and its magnitude.
 #[tactic(auto, using(crate::proofs::Takes::not_taken_memory, crate::proofs::Sources::source_part, crate::proofs::Takes::number_here))]
-pub fn take_number(text: &[u8], laid: &[Laid], at: usize) -> Result<(Place, u128), ParseFault>
+pub fn take_number(text: &Text, laid: &[Laid], at: usize) -> Result<(Place, u128), ParseFault>
     requires { IsSource text.now laid.now }
     ensures ok { IfOk result (λ n. IsNumberAt text.now laid.now at n.0 n.1) }
     ensures within { IfOk result (λ _. at < length laid.now) }
@@ -281,7 +283,7 @@ pub fn take_number(text: &[u8], laid: &[Laid], at: usize) -> Result<(Place, u128
 }
 
 /// The magnitude of a part that is a number.
-fn magnitude(text: &[u8], part: Laid) -> Option<u128>
+fn magnitude(text: &Text, part: Laid) -> Option<u128>
     requires { IsPartOf text.now part }
     ensures some { IfSome result (λ n. (token : TheToken) × (part ≡ Laid.Item token) × (token.kind ≡ TokenKind.Digits) × IsMagnitude (bytes_of text.now token) n) }
     ensures none { IfNone result (¬ (Takes A_number (piece_of text.now part))) }
@@ -301,7 +303,7 @@ fn magnitude(text: &[u8], part: Laid) -> Option<u128>
 /// Takes a name, which is added to the names.
 #[tactic(auto, using(crate::proofs::Takes::not_taken_memory, crate::proofs::Sources::source_part))]
 pub fn take_name(
-    text: &[u8],
+    text: &Text,
     laid: &[Laid],
     names: &mut Names,
     at: usize,
@@ -324,7 +326,7 @@ pub fn take_name(
 /// Takes a name or digits, which is added to the names.
 #[tactic(auto, using(crate::proofs::Takes::not_taken_memory, crate::proofs::Sources::source_part))]
 pub fn take_field(
-    text: &[u8],
+    text: &Text,
     laid: &[Laid],
     names: &mut Names,
     at: usize,
@@ -345,7 +347,7 @@ pub fn take_field(
 }
 
 /// The name of a token, which is added to the names.
-fn add_name(text: &[u8], names: &mut Names, token: Token) -> Result<Name, ParseFault>
+fn add_name(text: &Text, names: &mut Names, token: Token) -> Result<Name, ParseFault>
     requires short { length text.now < 2 ^ 32 - 1 }
     requires inside { IsTokenIn text.now token }
     requires room { length names.old < 2 ^ 32 - 1 }
@@ -365,7 +367,7 @@ fn add_name(text: &[u8], names: &mut Names, token: Token) -> Result<Name, ParseF
 }
 
 /// The text of a name: a quoted one stands between backquotes.
-fn name_text(text: &[u8], token: Token) -> &[u8]
+fn name_text<'a>(text: &Text<'a>, token: Token) -> &'a [u8]
     requires { IsTokenIn text.now token }
     ensures { result.now ≡ name_in token.kind (bytes_of text.now token) }
 {
@@ -377,7 +379,7 @@ fn name_text(text: &[u8], token: Token) -> &[u8]
 }
 
 /// Whether a part is this word, not between backquotes.
-pub fn is_word(text: &[u8], part: Laid, word: &str) -> bool
+pub fn is_word(text: &Text, part: Laid, word: &str) -> bool
     requires { IsPartOf text.now part }
     ensures { IsTrue result ↔ Takes (The_word word.now) (piece_of text.now part) }
 {

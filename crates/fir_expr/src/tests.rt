@@ -1,7 +1,7 @@
 //! Types read from short texts. Their trees and faults are known from the grammar.
 
 use crate::{Reader, read_type};
-use fir_layout::lay_out;
+use fir_layout::{Laid, lay_out};
 use fir_lexer::lex;
 use fir_tree::ParseFault;
 use fir_types::{Field, FirType, Shape};
@@ -132,6 +132,49 @@ fn as_many_brackets_as_128_may_be_open(rt: HostRuntime) -> Result<(), Fail> {
                 }
             );
         }
+        _ => assert!(rt; false),
+    }
+    Ok(())
+}
+
+#[test]
+fn a_table_of_lines_gives_the_same_places(rt: HostRuntime) -> Result<(), Fail> {
+    let alloc = rt.alloc();
+    let text = b"a\n\nUInt<4> ]";
+    let tokens = lex(alloc, text)?;
+    assert!(rt; tokens.len() < 1000);
+    let laid = lay_out(alloc, text, &tokens)?;
+    let counted = Reader::new(alloc, text, &laid);
+    let mut indexed = Reader::new(alloc, text, &laid);
+    indexed.index_lines(alloc)?;
+    let places = [
+        (0, 1, 1),
+        (1, 1, 2),
+        (2, 2, 1),
+        (3, 3, 1),
+        (11, 3, 9),
+        (12, 3, 10),
+    ];
+    for (offset, line, column) in places {
+        let part = Laid::LineEnd(offset);
+        let place = Place { line, column };
+        assert_eq!(rt; counted.place_of(part), place, "at {offset}");
+        assert_eq!(rt; indexed.place_of(part), place, "at {offset}");
+    }
+    Ok(())
+}
+
+#[test]
+fn the_part_at_the_reader_is_refused(rt: HostRuntime) -> Result<(), Fail> {
+    let alloc = rt.alloc();
+    let text = b"\n  ]\n";
+    let tokens = lex(alloc, text)?;
+    assert!(rt; tokens.len() < 1000);
+    let laid = lay_out(alloc, text, &tokens)?;
+    let mut reader = Reader::new(alloc, text, &laid);
+    reader.index_lines(alloc)?;
+    match reader.refusal_here() {
+        ParseFault::BadSyntax(place) => assert_eq!(rt; place, Place { line: 2, column: 3 }),
         _ => assert!(rt; false),
     }
     Ok(())

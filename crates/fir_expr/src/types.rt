@@ -13,6 +13,7 @@ use crate::literals::take_suffix;
 use crate::take::{
     is_mark, is_word, open_bracket, part_at, place_of_part, take_field, take_mark, take_number,
 };
+use crate::text::Text;
 use bit_words::{Boxed, Kind, List};
 use fir_layout::Laid;
 use fir_tree::{Names, ParseFault};
@@ -20,7 +21,7 @@ use fir_types::{Field, FirType, Name, Shape};
 use std::alloc::Global;
 
 /// Reads a width between `<` and `>`, where one stands.
-fn width(text: &[u8], laid: &[Laid], at: usize) -> Result<(Option<u128>, usize), ParseFault>
+fn width(text: &Text, laid: &[Laid], at: usize) -> Result<(Option<u128>, usize), ParseFault>
     requires source { IsSource text.now laid.now }
     requires begins { (brackets : ℕ) × BeginsType (pieces_of text.now laid.now) at brackets }
     ensures read { (names : List (List ℕ)) → Answers Width text.now laid.now at names result names }
@@ -39,7 +40,7 @@ fn width(text: &[u8], laid: &[Laid], at: usize) -> Result<(Option<u128>, usize),
 
 /// Reads `UInt` or `SInt`, with a width or without.
 fn integer_type(
-    text: &[u8],
+    text: &Text,
     laid: &[Laid],
     at: usize,
     kind: Kind,
@@ -68,7 +69,7 @@ fn integer_shape(kind: Kind, width: Option<u128>) -> Shape
 }
 
 /// Reads `Clock`.
-fn clock_type(text: &[u8], laid: &[Laid], at: usize) -> Result<(FirType, usize), ParseFault>
+fn clock_type(text: &Text, laid: &[Laid], at: usize) -> Result<(FirType, usize), ParseFault>
     requires source { IsSource text.now laid.now }
     requires begins { (brackets : ℕ) × BeginsType (pieces_of text.now laid.now) at brackets }
     requires word { StartsWith (The_word (codes "Clock")) text.now laid.now at }
@@ -82,7 +83,7 @@ fn clock_type(text: &[u8], laid: &[Laid], at: usize) -> Result<(FirType, usize),
 }
 
 /// Reads `Reset`.
-fn reset_type(text: &[u8], laid: &[Laid], at: usize) -> Result<(FirType, usize), ParseFault>
+fn reset_type(text: &Text, laid: &[Laid], at: usize) -> Result<(FirType, usize), ParseFault>
     requires source { IsSource text.now laid.now }
     requires begins { (brackets : ℕ) × BeginsType (pieces_of text.now laid.now) at brackets }
     requires word { StartsWith (The_word (codes "Reset")) text.now laid.now at }
@@ -97,7 +98,7 @@ fn reset_type(text: &[u8], laid: &[Laid], at: usize) -> Result<(FirType, usize),
 
 /// Reads a length between `[` and `]`, behind a type that has so many.
 fn length(
-    text: &[u8],
+    text: &Text,
     laid: &[Laid],
     at: usize,
     brackets: u32,
@@ -122,7 +123,7 @@ fn length(
 /// Reads all lengths behind a type that has so many. Answers its vector.
 fn lengths(
     alloc: Global,
-    text: &[u8],
+    text: &Text,
     laid: &[Laid],
     element: FirType,
     at: usize,
@@ -149,7 +150,7 @@ fn lengths(
 }
 
 /// Whether a field is turned round, and where its name stands. A `flip` with a colon behind it is the name itself.
-fn flip_before(text: &[u8], laid: &[Laid], at: usize) -> Result<(bool, usize), ParseFault>
+fn flip_before(text: &Text, laid: &[Laid], at: usize) -> Result<(bool, usize), ParseFault>
     requires { IsSource text.now laid.now }
     ensures ok { IfOk result (λ x. Flips x.0 text.now laid.now at x.1) }
     ensures err { IfErr result (λ fault. fault ≡ ParseFault.NoMemory) }
@@ -170,7 +171,7 @@ fn flip_before(text: &[u8], laid: &[Laid], at: usize) -> Result<(bool, usize), P
 #[cycle(typ)]
 pub fn typ(
     alloc: Global,
-    text: &[u8],
+    text: &Text,
     laid: &[Laid],
     names: &mut Names,
     at: usize,
@@ -190,7 +191,7 @@ pub fn typ(
 #[cycle(typ)]
 fn base_type(
     alloc: Global,
-    text: &[u8],
+    text: &Text,
     laid: &[Laid],
     names: &mut Names,
     at: usize,
@@ -222,7 +223,7 @@ fn base_type(
 #[cycle(typ)]
 fn bundle(
     alloc: Global,
-    text: &[u8],
+    text: &Text,
     laid: &[Laid],
     names: &mut Names,
     at: usize,
@@ -247,7 +248,7 @@ fn bundle(
 #[cycle(typ)]
 fn fields(
     alloc: Global,
-    text: &[u8],
+    text: &Text,
     laid: &[Laid],
     names: &mut Names,
     first: usize,
@@ -275,7 +276,7 @@ fn fields(
 #[cycle(typ)]
 fn field(
     alloc: Global,
-    text: &[u8],
+    text: &Text,
     laid: &[Laid],
     names: &mut Names,
     at: usize,
@@ -296,7 +297,7 @@ fn field(
 #[cycle(typ)]
 fn named_type(
     alloc: Global,
-    text: &[u8],
+    text: &Text,
     laid: &[Laid],
     names: &mut Names,
     at: usize,
