@@ -1,5 +1,5 @@
 -- Tables of the lines of a text, and the places that they give.
-use Rattle.std.proofs.Common.{◌≡◌, ℕ, zero, suc, ◌+◌, ◌-◌, ◌<◌, ◌≤◌, Bool, true, false, cond, leb, List, [], ◌∷◌, ◌++◌, length, get_or, refl, sym, ◌∙◌, ap, ap₂, arith, ⊎_elim, length-append}
+use Rattle.std.proofs.Common.{◌≡◌, ℕ, zero, suc, ◌+◌, ◌-◌, ◌<◌, ◌≤◌, Bool, true, false, cond, leb, List, [], ◌∷◌, ◌++◌, length, get_or, refl, ◌∙◌, ap, ap₂, arith, ⊎_elim, length-append, codes}
 use Rattle.std.proofs.Math.Seq.{of_parts}
 use Rattle.std.proofs.lemmas.Grind.{common_steps, get_or_default_zero}
 use Rattle.std.proofs.lemmas.Bool.{cases_lt, le-leb}
@@ -31,6 +31,7 @@ low_starts text zero j within = grind (arith, common_steps)
 low_starts text (suc offset) j within = low_more (starts_to text offset) (suc offset) (suc offset) j (is_feed (get_or text offset 0))
     (λ k h. let below = low_starts text offset k h in omega (arith, below)) (omega arith) within
 
+-- no more lines begin up to an offset than there are offsets
 few_more : (xs : List ℕ) (x n : ℕ) (b : Bool) → length xs ≤ n + 1 → length (xs ++ cond b (x ∷ []) []) ≤ suc n + 1
 few_more xs x n true h = grind (arith, common_steps)
 few_more xs x n false h = grind (arith, common_steps)
@@ -39,6 +40,7 @@ few_starts : (text : List ℕ) (offset : ℕ) → length (starts_to text offset)
 few_starts text zero = omega arith
 few_starts text (suc offset) = few_more (starts_to text offset) (suc offset) offset (is_feed (get_or text offset 0)) (few_starts text offset)
 
+-- later lines leave those that begin at or before the offset
 append_assoc : (xs ys zs : List ℕ) → (xs ++ ys) ++ zs ≡ xs ++ (ys ++ zs)
 append_assoc xs ys zs = grind (arith, common_steps)
 
@@ -99,6 +101,7 @@ has_last : (text : List ℕ) (offset : ℕ) → offset ≤ length text → HasLa
 has_last text zero h = record { front = []; last = 0; is = refl; below = omega arith; place_is = place-start text }
 has_last text (suc offset) h = last_more text offset (starts_to text offset) (is_feed (get_or text offset 0)) refl (omega (arith, h)) (has_last text offset (omega (arith, h)))
 
+-- what the table holds at a place
 leb-le : (a b : ℕ) → leb a b ≡ true → a ≤ b
 leb-le a b e = grind (arith, common_steps)
 
@@ -133,6 +136,7 @@ module _ {lines before : List ℕ} {offset : ℕ} (c : IsCut lines before offset
       (λ no_less. ⊎_elim (λ more. absurd (let n = cut_high (length before) (omega arith) (omega (arith, more, w)) in let m = leb-le (get_or lines (length before) 0) offset (p.0 (length before) 0 (omega arith) more) in omega (arith, n, m)))
       (λ no_more. omega (arith, no_less, no_more)) (cases_lt (length before) i)) (cases_lt i (length before))
 
+-- what the number of lines at or before an offset says of its place
 last_length : (starts front : List ℕ) (last : ℕ) → starts ≡ front ++ last ∷ [] → length starts ≡ length front + 1
 last_length starts front last e = grind (arith, common_steps)
 
@@ -164,3 +168,10 @@ pub line_found : (text lines : List ℕ) (offset line : ℕ) → lines ≡ line_
 line_found text lines offset line e h w p =
     let c = cut_of text lines offset e h in
     line_here text lines (starts_to text offset) offset line c (has_last text offset h) (few_starts text offset) (cut_point c line w p)
+
+-- in `a`, two line feeds and `bc` lines begin at 0, 2 and 3, and in a text of no bytes at 0
+example_three : line_starts (codes "a\n\nbc") ≡ 0 ∷ 2 ∷ 3 ∷ []
+example_three = refl
+
+example_one : line_starts [] ≡ 0 ∷ []
+example_one = refl

@@ -1,6 +1,5 @@
 -- Literals, with and without a width.
-use Rattle.std.proofs.Common.{◌≡◌, ℕ, ◌+◌, ◌<◌, List, [], ◌∷◌, ◌++◌, take, true, false, slice_get, Option, Some, None, refl, eq-eqb, codes, arith}
-use Rattle.std.proofs.lemmas.Option.{slice_get_within}
+use Rattle.std.proofs.Common.{◌≡◌, ℕ, ◌+◌, ◌<◌, List, [], ◌∷◌, ◌++◌, take, true, false, Option, Some, None, refl, eq-eqb, arith}
 use Rattle.place_text.specs.declared.place.Place.{Place}
 use Rattle.place_text.specs.Places.{place}
 use Rattle.bit_words.specs.declared.number.Number.{Number}
@@ -16,11 +15,11 @@ use Rattle.fir_tree.specs.Grammar.{Terminal, The_word, The_call, The_mark, A_num
 use Rattle.fir_tree.specs.Faults.{most, Levels, levels, is_deep}
 use Rattle.fir_tree.specs.Reading.{HasRead, IsRefused}
 use Rattle.fir_tree.proofs.Cases.{choose, Chosen, starts_mark}
-use Rattle.fir_expr.specs.Standing.{StandsIn, IsWhole, wanted}
+use Rattle.fir_expr.specs.Standing.{StandsIn}
 use Rattle.fir_expr.specs.Parts.{IsTaken, IsNotTaken, IsNumberAt, HasPassed, StartsWith, kind_name}
-use Rattle.fir_expr.proofs.Composition.{joined, read_then, Enters, enters_by_piece, enters_by_two, piece_at, one_at, refused_first, refused_behind, refused_case}
-use Rattle.fir_expr.proofs.Depth.{whole_stands, whole_then}
-use Rattle.fir_expr.proofs.Passing.{passed_then, passed_case, passed_mark, passed_number, passed_placed, read_mark, read_placed, room_step, whole_texts}
+use Rattle.fir_expr.proofs.Composition.{joined, read_then, Enters, enters_by_piece, enters_by_two, piece_at, refused_first, refused_behind, refused_case}
+use Rattle.fir_expr.proofs.Depth.{whole_stands}
+use Rattle.fir_expr.proofs.Passing.{passed_then, passed_case, passed_mark, passed_number, passed_placed, read_mark, read_placed, room_step}
 use Rattle.fir_expr.proofs.Bracketed.{IsOpener, opener_call, opener_mark, stands_opened, whole_closed}
 
 is_mark_first : (m : ℕ) (p : Piece) (ps : List Piece) → Takes (The_mark m) p → starts_mark m (p ∷ ps) ≡ true

@@ -1,4 +1,4 @@
-use Rattle.std.proofs.Common.{refl, ◌+◌}
+use Rattle.std.proofs.Common.{◌+◌}
 use Rattle.std.proofs.lemmas.Result.{err_from_is_err_and}
 use Rattle.fir_expr.specs.Parts.{kind_name}
 use Rattle.fir_expr.proofs.Bracketed.{opener_call, stands_opened}

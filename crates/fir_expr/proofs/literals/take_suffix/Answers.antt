@@ -1,7 +1,4 @@
 use Rattle.fir_expr.proofs.Sources.{source_part}
-use Rattle.std.proofs.Common.{rules, subst}
-use Rattle.fir_tree.specs.Grammar.{The_mark}
-use Rattle.fir_tree.specs.declared.fault.ParseFault.TheVariants.{TooDeep}
 use Rattle.fir_expr.proofs.LiteralTakes.{suffix_many}
 use Rattle.fir_expr.proofs.literals.take_suffix.Goals as goal
 
