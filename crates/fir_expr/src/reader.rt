@@ -87,11 +87,8 @@ impl<'a> Reader<'a> {
         requires { IsSource self.now.bytes.now self.now.laid.now }
         ensures { (s : Terminal) → ((l : TheLaid) → slice_get self.now.laid.now self.now.at ≡ Some l → ¬ (Takes s (piece_of self.now.bytes.now l))) → IsNotTaken s self.now.bytes.now self.now.laid.now self.now.at result }
     {
-        refusal_at(
-            &Text::new(self.bytes, self.lines.as_slice()),
-            self.laid,
-            self.at,
-        )
+        let text = Text::new(self.bytes, self.lines.as_slice());
+        refusal_at(&text, self.laid, self.at)
     }
 }
 
@@ -99,8 +96,8 @@ impl<'a> Reader<'a> {
 /// element type, the innermost first.
 ///
 /// The reader stands where a type may begin, and moves behind it; names that are new are added. The refusal is the first
-/// token that can't continue the type, or that goes too deep, and then the reader isn't used again. Takes time in proportion
-/// to the tokens of the type, and reads each of them once.
+/// token that can't continue the type, or that goes too deep, and then the reader isn't used again. Reads each token of the
+/// type once; where `index_lines` has been called, takes time in proportion to them and to the logarithm of the number of lines.
 pub fn read_type(alloc: Global, reader: &mut Reader) -> Result<FirType, ParseFault>
     requires short { length reader.old.bytes.now < 2 ^ 32 - 1 }
     requires laid { IsLaidFrom reader.old.bytes.now reader.old.laid.now }

@@ -1,6 +1,6 @@
 //! The text, with a table of the places where its lines begin.
 
-ghost use Rattle.std.specs.Prelude.{◌≡◌, ◌≤◌, ◌<◌, ◌-◌, ◌^◌, ◌++◌, ◌∷◌, [], length, take, leb, IfOk};
+ghost use Rattle.std.specs.Prelude.{◌≡◌, ◌≤◌, ◌<◌, ◌-◌, ◌^◌, length, leb, IfOk};
 ghost use Rattle.place_text.specs.Places.{place};
 ghost use Rattle.fir_expr.specs.LineStarts.{AreLines, IsLine, line_starts};
 
