@@ -1,5 +1,5 @@
 -- A reader that moves behind one part.
-use Rattle.std.proofs.Common.{◌≡◌, ◌⊎◌, nat_le, true, ℕ, ◌+◌, ◌-◌, ◌<◌, ◌≤◌, false, List, [], ◌∷◌, length, drop, refl, sym, ap, ◌∙◌, subst, arith, slice_get, Some, ⊎_elim, length-append}
+use Rattle.std.proofs.Common.{◌≡◌, ◌⊎◌, nat_le, true, ℕ, ◌+◌, ◌-◌, ◌<◌, ◌≤◌, false, List, [], ◌∷◌, length, take, drop, refl, sym, ap, ◌∙◌, subst, arith, slice_get, Some, ⊎_elim, length-append}
 use Rattle.std.proofs.lemmas.Option.{slice_get_within}
 use Rattle.fir_lexer.specs.declared.token.TokenKind.TheVariants as kind
 use Rattle.fir_lexer.specs.declared.token.Token.{Token}
@@ -12,14 +12,15 @@ use Rattle.bit_words.specs.Numbers.{IsMagnitude}
 use Rattle.fir_tree.specs.declared.fault.ParseFault.{ParseFault}
 use Rattle.fir_tree.specs.declared.fault.ParseFault.TheVariants.{NoMemory, TooDeep}
 use Rattle.fir_tree.specs.Grammar.{Terminal, The_word, The_mark, The_arrow, A_name, A_number, Line_ends, Opens, Closes, Ends, Takes, Kept, Nothing, Its_place, Its_name, Its_magnitude, Symbol, Is, no_symbol, a_piece, a_place, a_name, a_magnitude, start_of, name_in}
-use Rattle.fir_tree.specs.Faults.{Levels, past, is_deep, afresh, last_suffixes, most}
+use Rattle.fir_tree.specs.Faults.{Levels, levels, past, is_deep, afresh, last_suffixes, without_last, most}
 use Rattle.fir_tree.specs.Reading.{no_memory}
 use Rattle.fir_expr.specs.declared.reader.Reader.{Reader}
+use Rattle.fir_expr.specs.Standing.{IsWhole, wanted}
 use Rattle.fir_expr.proofs.Composition.{piece_at, drop_at, read_piece, refused_deep}
 use Rattle.fir_tree.specs.Numbered.{AddsName}
 use Rattle.fir_tree.proofs.Cases.{some_injective}
 use Rattle.fir_expr.proofs.Depth.{levels_next}
-use Rattle.fir_parser.specs.Taking.{here, blocks_at, StandsAt, IsFresh, HasTaken, Refuses, Steps, StepsName, IsInText}
+use Rattle.fir_parser.specs.Taking.{pieces, here, blocks_at, StandsAt, IsFresh, HasTaken, Refuses, Steps, StepsName, IsInText}
 use Rattle.fir_parser.specs.declared.take.Expected.{Expected}
 use Rattle.fir_parser.specs.declared.take.Expected.TheVariants as expected
 use Rattle.fir_parser.specs.Expected.{terminal, IsQuiet, Meets, NamesHere, NameText, DigitsText}
@@ -319,3 +320,29 @@ part_begins text (LineEnd at) inside = inside
 part_begins text (Open at) inside = inside
 part_begins text (Close at) inside = inside
 part_begins text (End at) inside = inside
+
+-- behind what is whole as many blocks and brackets are open
+
+one_again : (ns ms : List ℕ) → length ns ≡ 1 → without_last ms ≡ without_last ns → 0 < length ms → length ms ≡ 1
+one_again [] ms one outer some = omega (arith, one)
+one_again (n ∷ ns) [] one outer some = omega (arith, some)
+one_again (n ∷ ns) (m ∷ ms) one outer some = let same : length ms ≡ length ns = ap (λ (inner : List ℕ). length inner) outer in omega (arith, same, one)
+
+same_levels : (text as_text : List ℕ) (list as_list : List Laid) (n : ℕ) → text ≡ as_text → list ≡ as_list → levels (take n (pieces_of text list)) ≡ levels (take n (pieces_of as_text as_list))
+same_levels text as_text list as_list n e f = rw (e, f) refl
+
+pub stands_whole : (old new : Reader) → StandsAt old → new.bytes.now ≡ old.bytes.now → new.laid.now ≡ old.laid.now → new.brackets ≡ old.brackets → new.at ≤ length old.laid.now
+    → IsWhole (pieces old) old.at new.at → wanted new.names old.laid.now new.at ≤ wanted old.names old.laid.now old.at → StandsAt new
+stands_whole old new start bytes laid brackets within whole room = record {
+  short = rw bytes start.short;
+  laid = rw (bytes, laid) start.laid;
+  within = rw laid within;
+  room = rw laid (omega (arith, room, start.room));
+  outside = brackets ∙ start.outside;
+  one = ap (λ (l : Levels). length l.suffixes) (same_levels new.bytes.now old.bytes.now new.laid.now old.laid.now new.at bytes laid)
+      ∙ one_again (here old).suffixes (levels (take new.at (pieces old))).suffixes start.one whole.outer whole.some;
+  no_dot = ap (λ (l : Levels). l.dotted) (same_levels new.bytes.now old.bytes.now new.laid.now old.laid.now new.at bytes laid) ∙ whole.no_dot;
+}
+
+pub blocks_whole : (old new : Reader) → new.bytes.now ≡ old.bytes.now → new.laid.now ≡ old.laid.now → IsWhole (pieces old) old.at new.at → blocks_at new ≡ blocks_at old
+blocks_whole old new bytes laid whole = ap (λ (l : Levels). l.blocks) (same_levels new.bytes.now old.bytes.now new.laid.now old.laid.now new.at bytes laid) ∙ whole.blocks
