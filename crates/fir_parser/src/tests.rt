@@ -16,9 +16,9 @@ pub fn circuit_in(
     alloc: Global,
     text: &[u8],
 ) -> Result<Result<Circuit, ParseFault>, Fail> {
-    assert!(rt; text.len() < 10_000_000);
+    assert!(rt; text.len() < 100_000);
     let tokens = lex(alloc, text)?;
-    assert!(rt; tokens.len() < 10_000_000);
+    assert!(rt; tokens.len() < 100_000);
     let laid = lay_out(alloc, text, &tokens)?;
     Ok(parse(alloc, text, &laid))
 }
@@ -369,10 +369,10 @@ fn chain(alloc: Global, lines: u32) -> Result<Vec<u8>, Fail> {
 
 #[test]
 fn a_chain_of_branches_may_be_long(rt: HostRuntime) -> Result<(), Fail> {
-    let text = chain(rt.alloc(), 100_000)?;
+    let text = chain(rt.alloc(), 1000)?;
     let circuit = circuit_in(&rt, rt.alloc(), &text)??;
     if let [Stmt::When(arms, other)] = first_body(&circuit) {
-        assert_eq!(rt; (arms.len(), other.len()), (100_001, 0));
+        assert_eq!(rt; (arms.len(), other.len()), (1001, 0));
     } else {
         assert!(rt; false);
     }
