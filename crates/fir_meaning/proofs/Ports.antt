@@ -13,7 +13,7 @@ use Rattle.fir_types.specs.declared.fir_type.Field.{Field}
 use Rattle.fir_types.specs.declared.leaf.TypeLeaf.{TypeLeaf}
 use Rattle.fir_types.specs.declared.leaf.PathStep.TheVariants as step
 use Rattle.fir_types.specs.declared.port.Port.{Port}
-use Rattle.fir_types.specs.Leaves.{leaves, within}
+use Rattle.fir_types.specs.Leaves.{leaves, under}
 use Rattle.fir_types.specs.Bundles.{nowhere, instance_field, instance_of}
 use Rattle.fir_meaning.specs.Components.{Design, TypedModule, Component, Sort, An_input, An_output, A_wire, A_register, A_reset_register, A_memory, An_instance, A_node, flow_of, is_clock, module_at, module_within, module_named, component_named, target_of, target_in, port_of, typed_ports, HasBundles}
 use Rattle.fir_meaning.specs.States.{Stands, is_port, is_source}
@@ -68,7 +68,7 @@ and_then h None y e = absurd (none_some e)
 
 -- Types
 
-pub bundle_leaves : (place : Place) (fields : List Field) → leaves (record { place = place; shape = shape.Bundle fields }) ≡ flat_map (λ f. map (within (step.Field f.name.id) f.flip) (leaves f.typ)) fields
+pub bundle_leaves : (place : Place) (fields : List Field) → leaves (record { place = place; shape = shape.Bundle fields }) ≡ flat_map (λ f. map (under (step.Field f.name.id ∷ []) f.flip) (leaves f.typ)) fields
 bundle_leaves place fields = grind (arith, common_steps, type_lemmas, flat_map-map)
 
 -- The module behind one more instance
@@ -166,9 +166,9 @@ port_there p (An_instance target) e = absurd (true≢false (sym e))
 port_there p (A_node expr) e = absurd (true≢false (sym e))
 
 abbrev port_leaf : Port → TypeLeaf → TypeLeaf
-port_leaf port part = within (step.Field port.name.id) (not port.output) part
+port_leaf port part = under (step.Field port.name.id ∷ []) (not port.output) part
 
-instance_leaves : (ports : List Port) → leaves (instance_of ports) ≡ flat_map (λ f. map (within (step.Field f.name.id) f.flip) (leaves f.typ)) (map instance_field ports)
+instance_leaves : (ports : List Port) → leaves (instance_of ports) ≡ flat_map (λ f. map (under (step.Field f.name.id ∷ []) f.flip) (leaves f.typ)) (map instance_field ports)
 instance_leaves ports = bundle_leaves nowhere (map instance_field ports)
 
 -- A leaf of an instance is the leaf of a port inside; it is a source there where it is flipped here.
@@ -183,14 +183,14 @@ instance_inside design has path m c leaf target stands s =
     at_snoc design path c.declaration.name
     ∙ (ap (option_and_then (λ x. inside design x c.declaration.name)) stands.reached
     ∙ (ap (option_and_then (module_named design)) (target_is m c target stands.declared s) ∙ bundle.1)) in
-    let there : Contains (flat_map (λ f. map (within (step.Field f.name.id) f.flip) (leaves f.typ)) (map instance_field (typed_ports n))) leaf =
+    let there : Contains (flat_map (λ f. map (under (step.Field f.name.id ∷ []) f.flip) (leaves f.typ)) (map instance_field (typed_ports n))) leaf =
     subst (λ l. Contains l leaf) (bundle.2 ∙ instance_leaves (typed_ports n)) stands.listed in
-    let field = from_flat_map (λ f. map (within (step.Field f.name.id) f.flip) (leaves f.typ)) (map instance_field (typed_ports n)) leaf there in
+    let field = from_flat_map (λ f. map (under (step.Field f.name.id ∷ []) f.flip) (leaves f.typ)) (map instance_field (typed_ports n)) leaf there in
     let of_port = from_map instance_field (typed_ports n) field.0 field.1 in
     let port : Port = of_port.0 in
-    let inner : Contains (map (within (step.Field port.name.id) (not port.output)) (leaves port.typ)) leaf =
-    subst (λ f. Contains (map (within (step.Field f.name.id) f.flip) (leaves f.typ)) leaf) (sym of_port.2) field.2 in
-    let of_part = from_map (within (step.Field port.name.id) (not port.output)) (leaves port.typ) leaf inner in
+    let inner : Contains (map (under (step.Field port.name.id ∷ []) (not port.output)) (leaves port.typ)) leaf =
+    subst (λ f. Contains (map (under (step.Field f.name.id ∷ []) f.flip) (leaves f.typ)) leaf) (sym of_port.2) field.2 in
+    let of_part = from_map (under (step.Field port.name.id ∷ []) (not port.output)) (leaves port.typ) leaf inner in
     let part : TypeLeaf = of_part.0 in
     let of_component = from_filter_map (λ x. port_of x x.declaration.sort) n.components port of_port.1 in
     let p : Component = of_component.0 in
@@ -227,11 +227,11 @@ port_outside design has front i n p part stands is =
     let port : Port = of_port.0 in
     let known = port_sort p p.declaration.sort port of_port.1 in
     let in_ports : Contains (typed_ports n) port = Contains-filter_map (λ x. port_of x x.declaration.sort) n.components p port (component_found n p.declaration.name p stands.declared).1 of_port.1 in
-    let in_field : Contains (map (within (step.Field port.name.id) (not port.output)) (leaves port.typ)) (port_leaf port part) =
-    Contains-map (within (step.Field port.name.id) (not port.output)) (leaves port.typ) part (subst (λ typ. Contains (leaves typ) part) (sym known.2) stands.listed) in
+    let in_field : Contains (map (under (step.Field port.name.id ∷ []) (not port.output)) (leaves port.typ)) (port_leaf port part) =
+    Contains-map (under (step.Field port.name.id ∷ []) (not port.output)) (leaves port.typ) part (subst (λ typ. Contains (leaves typ) part) (sym known.2) stands.listed) in
     let there : Contains (leaves (instance_of (typed_ports n))) (port_leaf port part) =
     subst (λ l. Contains l (port_leaf port part)) (sym (instance_leaves (typed_ports n)))
-    (Contains-flat_map (λ f. map (within (step.Field f.name.id) f.flip) (leaves f.typ)) (map instance_field (typed_ports n)) (instance_field port) (port_leaf port part)
+    (Contains-flat_map (λ f. map (under (step.Field f.name.id ∷ []) f.flip) (leaves f.typ)) (map instance_field (typed_ports n)) (instance_field port) (port_leaf port part)
     (Contains-map instance_field (typed_ports n) port in_ports) in_field) in
     let listed : Contains (leaves c.typ) (port_leaf port part) =
     subst (λ l. Contains l (port_leaf port part)) (sym (bundle.2 ∙ ap (λ x. leaves (instance_of (typed_ports x))) same)) there in (

@@ -15,7 +15,7 @@ use Rattle.fir_types.specs.declared.memory.MemLine.{MemLine}
 use Rattle.fir_types.specs.declared.memory.MemLine.TheVariants as line
 use Rattle.fir_types.specs.declared.memory.PortMode.{PortMode}
 use Rattle.fir_types.specs.declared.memory.PortMode.TheVariants as mode
-use Rattle.fir_types.specs.Leaves.{leaves, within}
+use Rattle.fir_types.specs.Leaves.{leaves, under}
 use Rattle.fir_types.specs.Memories.{read_latency_of, depth_of}
 use Rattle.fir_types.specs.Bundles.{port_field, addr_name, en_name, wmode_name}
 use Rattle.fir_tree.specs.declared.expr.Expr.{Expr}
@@ -112,15 +112,15 @@ port_bundle element depth (line.ReadUnder at u) f e = absurd (none_some e)
 memory_way : (memory : Memory) (element : FirType) (leaf : TypeLeaf) → Contains (leaves (ports_bundle memory element)) leaf
     → (port : ℕ) × (inner : ℕ) × (way : List PathStep) × (leaf.path ≡ step.Field port ∷ step.Field inner ∷ way)
 memory_way memory element leaf c =
-    let outer = from_flat_map (λ f. map (within (step.Field f.name.id) f.flip) (leaves f.typ)) (filter_map (port_field element (depth_of memory)) memory.lines) leaf
+    let outer = from_flat_map (λ f. map (under (step.Field f.name.id ∷ []) f.flip) (leaves f.typ)) (filter_map (port_field element (depth_of memory)) memory.lines) leaf
     (subst (λ l. Contains l leaf) (bundle_leaves _ (filter_map (port_field element (depth_of memory)) memory.lines)) c) in
     let port : Field = outer.0 in
     let of_line = from_filter_map (port_field element (depth_of memory)) memory.lines port outer.1 in
     let bundle = port_bundle element (depth_of memory) of_line.0 port of_line.2 in
-    let part = from_map (within (step.Field port.name.id) port.flip) (leaves port.typ) leaf outer.2 in
+    let part = from_map (under (step.Field port.name.id ∷ []) port.flip) (leaves port.typ) leaf outer.2 in
     let there : Contains (leaves (record { place = bundle.0; shape = shape.Bundle bundle.1 })) part.0 = subst (λ typ. Contains (leaves typ) part.0) bundle.2 part.1 in
-    let inner = from_flat_map (λ f. map (within (step.Field f.name.id) f.flip) (leaves f.typ)) bundle.1 part.0 (subst (λ l. Contains l part.0) (bundle_leaves bundle.0 bundle.1) there) in
-    let last = from_map (within (step.Field inner.0.name.id) inner.0.flip) (leaves inner.0.typ) part.0 inner.2 in
+    let inner = from_flat_map (λ f. map (under (step.Field f.name.id ∷ []) f.flip) (leaves f.typ)) bundle.1 part.0 (subst (λ l. Contains l part.0) (bundle_leaves bundle.0 bundle.1) there) in
+    let last = from_map (under (step.Field inner.0.name.id ∷ []) inner.0.flip) (leaves inner.0.typ) part.0 inner.2 in
     (port.name.id, inner.0.name.id, last.0.path, sym (ap (λ l. l.path) part.2) ∙ ap (λ p. step.Field port.name.id ∷ p) (sym (ap (λ l. l.path) last.2)))
 
 -- One leaf, where what it reads is the same
