@@ -1,0 +1,33 @@
+//! Rules and formulas over width variables (FIRRTL specification 3.0, "Width Inference").
+
+use bit_words::{Kind, List};
+use place_text::Place;
+use prim_ops::Prim;
+
+/// A width, by the variables.
+#[derive(Debug, Drop)]
+pub enum Formula {
+    /// This many bits.
+    Fixed(u128),
+    /// The variable of this number.
+    Var(u32),
+    /// The width of an operation's result: the kinds and the widths of its operands, and its parameters.
+    Op(Prim, List<Kind>, List<Formula>, List<u128>),
+    /// The greatest of some widths.
+    Greatest(List<Formula>),
+}
+
+/// The variable `target` is at least the formula.
+#[derive(Debug, Drop)]
+pub struct Rule {
+    pub target: u32,
+    pub formula: Formula,
+}
+
+/// The rules of a circuit.
+#[derive(Debug, Drop)]
+pub struct Rules {
+    /// For each variable the place of the component that it belongs to. Variables are numbered from 0 in text order.
+    pub places: List<Place>,
+    pub rules: List<Rule>,
+}
