@@ -4,4 +4,5 @@ pub mod Expressions
 pub mod Memories
 pub mod Statements
 pub mod Faults
+pub mod Flows
 pub mod Walks

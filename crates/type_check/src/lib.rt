@@ -4,6 +4,7 @@
 
 mod checking;
 pub mod fault;
+mod flows;
 mod found;
 mod judge;
 mod memory;
@@ -13,4 +14,5 @@ mod walk;
 
 pub use checking::check;
 pub use fault::TypeFault;
+pub use flows::flow_of;
 pub use part::Flow;
