@@ -1,2 +1,5 @@
 pub mod Formulas
 pub mod Solutions
+pub mod Places
+pub mod Sources
+pub mod Circuits

@@ -3,5 +3,6 @@
 #![tactic(auto)]
 
 pub mod rule;
+mod slot;
 
 pub use rule::{Formula, Rule, Rules};
