@@ -23,6 +23,7 @@ use Rattle.type_check.specs.declared.part.Flow.{Flow}
 use Rattle.type_check.specs.declared.part.Flow.TheVariants.{Source, Sink, Duplex}
 use Rattle.type_check.specs.Parts.{part_of, source_of, flow_through}
 use Rattle.type_check.specs.Statements.{port_flow}
+use Rattle.width_rules.specs.declared.component.Component.{Component}
 use Rattle.width_rules.specs.declared.slot.Slot.{Slot}
 use Rattle.width_rules.specs.declared.slot.Slot.TheVariants as slot
 use Rattle.width_rules.specs.declared.rule.Formula.{Formula}
@@ -30,7 +31,7 @@ use Rattle.width_rules.specs.declared.rule.Formula.TheVariants as formula
 use Rattle.width_rules.specs.declared.rule.Rule.{Rule}
 use Rattle.width_rules.specs.declared.rule.Rules.{Rules}
 use Rattle.width_rules.specs.Places.{Spot, spots, size, slots_from, open_spots, node_slots}
-use Rattle.width_rules.specs.Sources.{Sized, Known, known_with, Measured, measured, formula_of, sized_or_none}
+use Rattle.width_rules.specs.Sources.{Known, known_with, Measured, measured, formula_of, component_or_none}
 
 -- Rules
 
@@ -153,12 +154,12 @@ declares_memory memory known n = record {
   rules = [];
 }
 
-abbrev pub sized_instance : WithPorts → Sized
-sized_instance target = record { part = source_of (instance_of target.holder.ports); slots = flat_map (λ slots. slots) target.ports }
+abbrev pub instance_component : WithPorts → Component
+instance_component target = record { part = source_of (instance_of target.holder.ports); slots = flat_map (λ slots. slots) target.ports }
 
 -- an instance of the first module of a name
-abbrev pub instance_in : List WithPorts → ℕ → Sized
-instance_in modules name = sized_or_none (option_map sized_instance (find (λ m. m.holder.name.id == name) modules))
+abbrev pub instance_in : List WithPorts → ℕ → Component
+instance_in modules name = component_or_none (option_map instance_component (find (λ m. m.holder.name.id == name) modules))
 
 abbrev pub declares_instance : List WithPorts → Name → Name → Walk
 declares_instance modules name target known n = record { known = known_with known name.id (instance_in modules target.id); places = []; rules = [] }

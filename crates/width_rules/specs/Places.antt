@@ -39,20 +39,19 @@ abbrev pub size : FirType → ℕ
 size typ = length (spots typ)
 
 -- The widths of a declared type's places, where its variables are numbered from n on: a place without a width has a variable.
-abbrev mutual
-  pub slots_from : ℕ → List Spot → List Slot
-  slots_from n [] = []
-  slots_from n (spot ∷ rest) = slot_first n spot.width rest
+abbrev pub slot_of : ℕ → Option ℕ → Slot
+slot_of n (Some width) = Fixed width
+slot_of n None = Var n
 
-  slot_first : ℕ → Option ℕ → List Spot → List Slot
-  slot_first n (Some width) rest = Fixed width ∷ slots_from n rest
-  slot_first n None rest = Var n ∷ slots_from (n + 1) rest
-
--- how many variables these places have
 abbrev pub is_open : Option ℕ → ℕ
 is_open (Some width) = 0
 is_open None = 1
 
+abbrev pub slots_from : ℕ → List Spot → List Slot
+slots_from n [] = []
+slots_from n (spot ∷ rest) = slot_of n spot.width ∷ slots_from (n + is_open spot.width) rest
+
+-- how many variables these places have
 abbrev pub open_spots : List Spot → ℕ
 open_spots [] = 0
 open_spots (spot ∷ rest) = is_open spot.width + open_spots rest

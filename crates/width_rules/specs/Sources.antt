@@ -18,40 +18,36 @@ use Rattle.type_check.specs.Parts.{source_of}
 use Rattle.type_check.specs.Texts.{sign_of}
 use Rattle.type_check.specs.Expressions.{holds, ground, sign_or_unsigned}
 use Rattle.type_check.specs.Flows.{no_part, field_part, element_part}
+use Rattle.width_rules.specs.declared.component.Component.{Component}
 use Rattle.width_rules.specs.declared.slot.Slot.{Slot}
 use Rattle.width_rules.specs.declared.slot.Slot.TheVariants as slot
 use Rattle.width_rules.specs.declared.rule.Formula.{Formula}
 use Rattle.width_rules.specs.declared.rule.Formula.TheVariants as formula
 use Rattle.width_rules.specs.Places.{slots_of_field}
 
--- A component or a part of one, with the widths of its type's places.
-pub record Sized : Type 0 where
-  pub part : Part
-  pub slots : List Slot
-
 -- the components that are declared so far, by the numbers of their names
 abbrev pub Known : Type 0
-Known = List (ℕ × Sized)
+Known = List (ℕ × Component)
 
-abbrev pub sized_or_none : Option Sized → Sized
-sized_or_none (Some sized) = sized
-sized_or_none None = record { part = no_part; slots = [] }
+abbrev pub component_or_none : Option Component → Component
+component_or_none (Some sized) = sized
+component_or_none None = record { part = no_part; slots = [] }
 
-abbrev pub component : Known → ℕ → Sized
-component known name = sized_or_none (lookup (nat_eq name) known)
+abbrev pub component : Known → ℕ → Component
+component known name = component_or_none (lookup (nat_eq name) known)
 
 -- one more component: of one name the first counts
-abbrev pub known_with : Known → ℕ → Sized → Known
+abbrev pub known_with : Known → ℕ → Component → Known
 known_with known name sized = if is_some (lookup (nat_eq name) known) then known else known ++ (name, sized) ∷ []
 
 -- The steps of a reference: the elements of a vector share their widths.
-abbrev pub field_step : ℕ → Sized → Sized
+abbrev pub field_step : ℕ → Component → Component
 field_step name base = record { part = field_part name base.part; slots = slots_of_field name base.part.typ base.slots }
 
-abbrev pub element_step : Sized → Sized
+abbrev pub element_step : Component → Component
 element_step base = record { part = element_part base.part; slots = base.slots }
 
-abbrev pub named : List (Sized → Sized) → Sized → Sized
+abbrev pub named : List (Component → Component) → Component → Component
 named steps base = fold (λ part step. step part) base steps
 
 -- A width of a component as a formula.
@@ -105,26 +101,26 @@ abbrev pub choice : List Measured → Measured
 choice (condition ∷ first ∷ second ∷ []) = record { part = source_of first.part.typ; formulas = map greater_of (zip first.formulas second.formulas) }
 choice _ = record { part = no_part; formulas = [] }
 
-abbrev pub measured_reference : Sized → Measured
+abbrev pub measured_reference : Component → Measured
 measured_reference sized = record { part = sized.part; formulas = map formula_of sized.slots }
 
-abbrev pub of_form : Form-F (Place → Among) (Sized → Sized) Among → Place → Among
+abbrev pub of_form : Form-F (Place → Among) (Component → Component) Among → Place → Among
 of_form (Form-F.Ref name suffixes) place known = measured_reference (named suffixes (component known name.id))
 of_form (Form-F.Literal kind width number) place known =
     record { part = source_of (ground place kind width); formulas = formula.Fixed (literal_width kind (integer_of_number number) width) ∷ [] }
 of_form (Form-F.Prim op operands params) place known = operation op place (map (λ e. e known) operands) params
 of_form (Form-F.Mux operands) place known = choice (map (λ e. e known) operands)
 
-abbrev pub of_suffix : Suffix-F (Place → Among) (Sized → Sized) Among → Sized → Sized
+abbrev pub of_suffix : Suffix-F (Place → Among) (Component → Component) Among → Component → Component
 of_suffix (Suffix-F.Field name) base = field_step name.id base
 of_suffix (Suffix-F.At bracket at n) base = element_step base
 of_suffix (Suffix-F.Index bracket index) base = element_step base
 
-abbrev pub of_expr : Expr-F (Place → Among) (Sized → Sized) Among → Among
+abbrev pub of_expr : Expr-F (Place → Among) (Component → Component) Among → Among
 of_expr e = e.form e.place
 
 abbrev pub measured : Expr → Among
-measured = fold-Expr (Place → Among) (Sized → Sized) Among of_form of_suffix of_expr
+measured = fold-Expr (Place → Among) (Component → Component) Among of_form of_suffix of_expr
 
-abbrev pub suffix_step : Suffix → Sized → Sized
-suffix_step = fold-Suffix (Place → Among) (Sized → Sized) Among of_form of_suffix of_expr
+abbrev pub suffix_step : Suffix → Component → Component
+suffix_step = fold-Suffix (Place → Among) (Component → Component) Among of_form of_suffix of_expr

@@ -1,8 +1,12 @@
 //! The rules of a circuit's widths: a variable for each place whose width is to be inferred, and for each source of such
-//! a place the rule that the variable is at least the source's width.
+//! a place the rule that the variable is at least the source's width. Keeps the contract that these are exactly the rules
+//! that the circuit's definition gives.
 #![tactic(auto)]
 
+mod component;
+mod gathering;
 pub mod rule;
 mod slot;
 
+pub use gathering::rules_of;
 pub use rule::{Formula, Rule, Rules};

@@ -1,0 +1,12 @@
+//! What is known of a component, or of a part of one.
+
+use crate::slot::Slot;
+use bit_words::List;
+use type_check::part::Part;
+
+/// A component or a part of one, with the widths of its type's places.
+#[derive(Debug, Drop)]
+pub struct Component {
+    pub part: Part,
+    pub slots: List<Slot>,
+}
