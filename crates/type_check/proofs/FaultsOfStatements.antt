@@ -1,0 +1,123 @@
+-- The faults of single statements, and the flows of some references.
+use Rattle.std.proofs.Common.{◌≡◌, ℕ, true, false, List, [], ◌∷◌, Some, None, arith}
+use Rattle.std.proofs.lemmas.Grind.{common_steps}
+use Rattle.place_text.specs.declared.place.Place.{Place}
+use Rattle.bit_words.specs.declared.value.Kind.TheVariants.{Unsigned, Signed}
+use Rattle.fir_types.specs.declared.name.Name.{Name}
+use Rattle.fir_types.specs.declared.fir_type.FirType.{FirType, the_lemmas as type_lemmas}
+use Rattle.fir_types.specs.declared.fir_type.Shape.{Shape}
+use Rattle.fir_types.specs.declared.fir_type.Shape.TheVariants as shape
+use Rattle.fir_types.specs.declared.fir_type.Field.{Field}
+use Rattle.fir_types.specs.declared.port.Port.{Port}
+use Rattle.fir_tree.specs.declared.expr.Expr.{Expr, the_lemmas as expr_lemmas}
+use Rattle.fir_tree.specs.declared.expr.Form.TheVariants as form
+use Rattle.fir_tree.specs.declared.expr.Suffix.{Suffix}
+use Rattle.fir_tree.specs.declared.expr.Suffix.TheVariants as suffix
+use Rattle.fir_tree.specs.declared.stmt.Stmt.{Stmt, the_lemmas as stmt_lemmas}
+use Rattle.fir_tree.specs.declared.stmt.Stmt.TheVariants as stmt
+use Rattle.fir_tree.specs.declared.circuit.Module.{Module}
+use Rattle.prim_ops.specs.declared.operation.PrimOp.TheVariants.{Add, AsUInt}
+use Rattle.type_check.specs.declared.part.Flow.TheVariants.{Source, Sink, Duplex}
+use Rattle.type_check.specs.declared.fault.Kind.TheVariants as kind
+use Rattle.type_check.specs.Parts.{Known, part_of}
+use Rattle.type_check.specs.Expressions.{found_of}
+use Rattle.type_check.specs.Statements.{module_walk}
+use Rattle.type_check.specs.Flows.{module_flows}
+
+-- Places by their columns, on one line. Names: the inputs a and s are 20 and 21, the output o is 22, the wire w is 23.
+abbrev name : ℕ → ℕ → Name
+name id column = record { id = id; place = record { line = 1; column = column } }
+
+abbrev typ : ℕ → Shape → FirType
+typ column s = record { place = record { line = 1; column = column }; shape = s }
+
+abbrev uint : FirType
+uint = typ 1 (shape.Unsigned (Some 1))
+
+abbrev sint : FirType
+sint = typ 1 (shape.Signed (Some 1))
+
+abbrev field : ℕ → Field
+field id = record { flip = false; name = name id 1; typ = uint }
+
+abbrev flipped : ℕ → Field
+flipped id = record { flip = true; name = name id 1; typ = uint }
+
+abbrev pair : FirType
+pair = typ 1 (shape.Bundle (field 30 ∷ flipped 31 ∷ []))
+
+abbrev input : ℕ → FirType → Port
+input id t = record { output = false; name = name id 1; typ = t }
+
+abbrev output : ℕ → FirType → Port
+output id t = record { output = true; name = name id 1; typ = t }
+
+abbrev part : ℕ → ℕ → List Suffix → Expr
+part id column suffixes = record { place = record { line = 1; column = column }; form = form.Ref (name id column) suffixes }
+
+abbrev ref : ℕ → ℕ → Expr
+ref id column = part id column []
+
+abbrev dot : ℕ → ℕ → Suffix
+dot id column = suffix.Field (name id column)
+
+abbrev number : ℕ → ℕ → ℕ → Expr
+number column width n = record { place = record { line = 1; column = column }; form = form.Literal Unsigned (Some width) (record { negative = false; magnitude = n }) }
+
+abbrev module_of : List Port → List Stmt → Module
+module_of ports body = record { name = name 10 1; ports = ports; body = body }
+
+-- `connect a, UInt<1>(0)`: an input can't be driven.
+input_driven : (module_walk [] (module_of (input 20 uint ∷ []) (stmt.Connect (ref 20 5) (number 8 1 0) ∷ [])) []).faults
+    ≡ record { kind = kind.FlowSink; place = record { line = 1; column = 5 } } ∷ []
+input_driven = grind (arith, common_steps, stmt_lemmas, expr_lemmas, type_lemmas)
+
+-- `connect o, s` from an SInt to a UInt.
+other_kind : (module_walk [] (module_of (input 21 sint ∷ output 22 uint ∷ []) (stmt.Connect (ref 22 5) (ref 21 8) ∷ [])) []).faults
+    ≡ record { kind = kind.NotEquivalent; place = record { line = 1; column = 8 } } ∷ []
+other_kind = grind (arith, common_steps, stmt_lemmas, expr_lemmas, type_lemmas)
+
+-- `node n = a` of a bundle with a flip.
+flip_in_node : (module_walk [] (module_of (input 20 pair ∷ []) (stmt.Node (name 24 3) (ref 20 5) ∷ [])) []).faults
+    ≡ record { kind = kind.NotPassive; place = record { line = 1; column = 5 } } ∷ []
+flip_in_node = grind (arith, common_steps, stmt_lemmas, expr_lemmas, type_lemmas)
+
+-- `node n = UInt<2>(4)`.
+too_great : (module_walk [] (module_of [] (stmt.Node (name 24 3) (number 5 2 4) ∷ [])) []).faults
+    ≡ record { kind = kind.LiteralFit; place = record { line = 1; column = 5 } } ∷ []
+too_great = grind (arith, common_steps, stmt_lemmas, expr_lemmas, type_lemmas)
+
+-- `a.z[b.q]`: the fault in the first step stands, and the index has its own.
+abbrev two_known : Known
+two_known = (20, part_of (typ 1 (shape.Bundle (field 30 ∷ []))) Source) ∷ (21, part_of uint Source) ∷ []
+
+abbrev two_steps : Expr
+two_steps = part 20 5 (dot 33 6 ∷ suffix.Index (record { line = 1; column = 7 }) (part 21 8 (dot 34 9 ∷ [])) ∷ [])
+
+both_steps : (found_of two_known two_steps).faults
+    ≡ record { kind = kind.FieldUnknown; place = record { line = 1; column = 6 } } ∷ record { kind = kind.NotBundle; place = record { line = 1; column = 9 } } ∷ []
+both_steps = grind (arith, common_steps, expr_lemmas)
+
+-- `connect o, asUInt(c)` of a clock: the operation has no row for it, and the connect isn't judged.
+clock_operand : (module_walk [] (module_of (input 20 (typ 1 shape.Clock) ∷ output 22 uint ∷ [])
+    (stmt.Connect (ref 22 5) (record { place = record { line = 1; column = 8 }; form = form.Prim AsUInt (ref 20 9 ∷ []) [] }) ∷ [])) []).faults
+    ≡ record { kind = kind.OperandKind; place = record { line = 1; column = 8 } } ∷ []
+clock_operand = grind (arith, common_steps, stmt_lemmas, expr_lemmas, type_lemmas)
+
+-- `connect a, b.q`: the sides are judged each by itself.
+each_side : (module_walk [] (module_of (input 20 uint ∷ input 21 uint ∷ []) (stmt.Connect (ref 20 5) (part 21 8 (dot 34 9 ∷ [])) ∷ [])) []).faults
+    ≡ record { kind = kind.NotBundle; place = record { line = 1; column = 9 } } ∷ record { kind = kind.FlowSink; place = record { line = 1; column = 5 } } ∷ []
+each_side = grind (arith, common_steps, stmt_lemmas, expr_lemmas, type_lemmas)
+
+-- A module without a fault: the types of its expressions in text order, a node before its operands.
+all_typed : (module_walk [] (module_of (input 20 uint ∷ output 22 uint ∷ [])
+    (stmt.Connect (ref 22 5) (record { place = record { line = 1; column = 8 }; form = form.Prim Add (ref 20 9 ∷ number 10 3 4 ∷ []) [] }) ∷ [])) []).nodes
+    ≡ uint ∷ typ 8 (shape.Unsigned None) ∷ uint ∷ typ 10 (shape.Unsigned (Some 3)) ∷ []
+all_typed = grind (arith, common_steps, stmt_lemmas, expr_lemmas, type_lemmas)
+
+-- The flows of `io.x`, `io.y` of an output whose y is flipped, and of a wire's flipped field.
+of_an_output : module_flows [] (module_of (output 22 pair ∷ []) (stmt.Connect (part 22 5 (dot 30 6 ∷ [])) (part 22 8 (dot 31 9 ∷ [])) ∷ [])) ≡ Sink ∷ Source ∷ []
+of_an_output = grind (arith, common_steps, stmt_lemmas, expr_lemmas, type_lemmas)
+
+of_a_wire : module_flows [] (module_of [] (stmt.Wire (name 23 3) pair ∷ stmt.Invalidate (part 23 5 (dot 31 6 ∷ [])) ∷ [])) ≡ Duplex ∷ []
+of_a_wire = grind (arith, common_steps, stmt_lemmas, expr_lemmas, type_lemmas)
