@@ -87,16 +87,12 @@ too_great : (module_walk [] (module_of [] (stmt.Node (name 24 3) (number 5 2 4) 
     ≡ record { kind = kind.LiteralFit; place = record { line = 1; column = 5 } } ∷ []
 too_great = grind (arith, common_steps, stmt_lemmas, expr_lemmas, type_lemmas)
 
--- `a.z[b.q]`: the fault in the first step stands, and the index has its own.
-abbrev two_known : Known
-two_known = (20, part_of (typ 1 (shape.Bundle (field 30 ∷ []))) Source) ∷ (21, part_of uint Source) ∷ []
+-- `a.z.q`: the fault in the first step stands, and the second isn't judged.
+abbrev one_known : Known
+one_known = (20, part_of (typ 1 (shape.Bundle (field 30 ∷ []))) Source) ∷ []
 
-abbrev two_steps : Expr
-two_steps = part 20 5 (dot 33 6 ∷ suffix.Index (record { line = 1; column = 7 }) (part 21 8 (dot 34 9 ∷ [])) ∷ [])
-
-both_steps : (found_of two_known two_steps).faults
-    ≡ record { kind = kind.FieldUnknown; place = record { line = 1; column = 6 } } ∷ record { kind = kind.NotBundle; place = record { line = 1; column = 9 } } ∷ []
-both_steps = grind (arith, common_steps, expr_lemmas)
+first_step : (found_of one_known (part 20 5 (dot 33 6 ∷ dot 34 9 ∷ []))).faults ≡ record { kind = kind.FieldUnknown; place = record { line = 1; column = 6 } } ∷ []
+first_step = grind (arith, common_steps, expr_lemmas)
 
 -- `connect o, asUInt(c)` of a clock: the operation has no row for it, and the connect isn't judged.
 clock_operand : (module_walk [] (module_of (input 20 (typ 1 shape.Clock) ∷ output 22 uint ∷ [])
