@@ -1,1 +1,2 @@
 mod Equivalence
+mod Seconds
