@@ -1,2 +1,3 @@
 mod Equivalence
 mod Seconds
+mod Lines
