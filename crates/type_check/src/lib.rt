@@ -6,6 +6,7 @@ mod checking;
 pub mod fault;
 mod found;
 mod judge;
+pub mod laws;
 mod memory;
 pub mod part;
 mod texts;
