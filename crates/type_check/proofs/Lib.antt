@@ -1,3 +1,4 @@
 mod Equivalence
-mod Seconds
+mod Examples
 mod Lines
+mod Seconds
