@@ -2,8 +2,10 @@
 
 ghost use Rattle.std.specs.Prelude.{◌≡◌, ◌++◌, ◌∷◌, [], List as Listed, flat_map, IfOk, OnOk};
 ghost use Rattle.fir_types.specs.declared.memory.MemLine.{MemLine as Line};
+ghost use Rattle.type_check.specs.declared.fault.Kind.TheVariants.{MemoryField};
 ghost use Rattle.type_check.specs.Memories.{line_faults, is_said, place_of, again_behind, missing, memory_faults};
 ghost use Rattle.type_check.specs.Noted.{Notes};
+ghost use Rattle.type_check.specs.Parts.{unless};
 
 use crate::fault::{Found, Kind};
 use crate::texts::{push_stored, push_unless};
@@ -40,11 +42,7 @@ pub fn push_memory(
 }
 
 /// Adds what each line says by itself.
-fn push_lines(
-    alloc: Global,
-    faults: &mut Vec<Found>,
-    lines: &[MemLine],
-) -> Result<(), AllocError>
+fn push_lines(alloc: Global, faults: &mut Vec<Found>, lines: &[MemLine]) -> Result<(), AllocError>
     ensures { OnOk result (faults.new.items ≡ faults.old.items ++ flat_map line_faults lines.now) }
 {
     for line in lines {
@@ -58,28 +56,22 @@ fn push_line(alloc: Global, faults: &mut Vec<Found>, line: &MemLine) -> Result<(
 {
     match line {
         MemLine::Element(_, typ) => push_stored(alloc, faults, typ),
-        MemLine::Depth(at, depth) => push_unless(faults, *depth >= 1, Kind::MemoryField, *at),
-        MemLine::ReadLatency(at, cycles) => push_unless(faults, *cycles <= 1, Kind::MemoryField, *at),
-        MemLine::WriteLatency(at, cycles) => {
-            push_unless(faults, *cycles == 1, Kind::MemoryField, *at)
-        }
+        MemLine::Depth(at, depth) => push_wrong(faults, *depth >= 1, *at),
+        MemLine::ReadLatency(at, cycles) => push_wrong(faults, *cycles <= 1, *at),
+        MemLine::WriteLatency(at, cycles) => push_wrong(faults, *cycles == 1, *at),
         MemLine::ReadUnder(_, _) | MemLine::MemPort(_, _, _) => Ok(()),
     }
 }
 
 /// Adds the lines that say again what one before them says. Answers which lines stand.
-fn push_again(
-    alloc: Global,
-    faults: &mut Vec<Found>,
-    lines: &[MemLine],
-) -> Result<Said, AllocError>
+fn push_again(alloc: Global, faults: &mut Vec<Found>, lines: &[MemLine]) -> Result<Said, AllocError>
     ensures faults { OnOk result (faults.new.items ≡ faults.old.items ++ again_behind [] lines.now) }
     ensures said { IfOk result (Notes lines.now) }
 {
     let mut said = nothing_said(alloc);
     for line in lines {
         let again = note(&mut said, line)?;
-        push_unless(faults, !again, Kind::MemoryField, place_of(line))?;
+        push_wrong(faults, !again, place_of(line))?;
     }
     Ok(said)
 }
@@ -133,9 +125,16 @@ fn place_of(line: &MemLine) -> Place
 fn push_missing(faults: &mut Vec<Found>, said: &Said, at: Place) -> Result<(), AllocError>
     ensures { (lines : Listed Line) → Notes lines said.now → OnOk result (faults.new.items ≡ faults.old.items ++ missing at lines) }
 {
-    push_unless(faults, said.element, Kind::MemoryField, at)?;
-    push_unless(faults, said.depth, Kind::MemoryField, at)?;
-    push_unless(faults, said.read_latency, Kind::MemoryField, at)?;
-    push_unless(faults, said.write_latency, Kind::MemoryField, at)?;
-    push_unless(faults, said.under, Kind::MemoryField, at)
+    push_wrong(faults, said.element, at)?;
+    push_wrong(faults, said.depth, at)?;
+    push_wrong(faults, said.read_latency, at)?;
+    push_wrong(faults, said.write_latency, at)?;
+    push_wrong(faults, said.under, at)
+}
+
+/// Adds a wrong line at a place, where the condition isn't met.
+fn push_wrong(faults: &mut Vec<Found>, fine: bool, at: Place) -> Result<(), AllocError>
+    ensures { OnOk result (faults.new.items ≡ faults.old.items ++ unless fine MemoryField at) }
+{
+    push_unless(faults, fine, Kind::MemoryField, at)
 }

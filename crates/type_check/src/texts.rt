@@ -95,11 +95,7 @@ pub fn push_twice(alloc: Global, faults: &mut Vec<Found>, typ: &FirType) -> Resu
 }
 
 #[cycle(twice)]
-fn push_twice_in(
-    alloc: Global,
-    faults: &mut Vec<Found>,
-    fields: &[Field],
-) -> Result<(), AllocError>
+fn push_twice_in(alloc: Global, faults: &mut Vec<Found>, fields: &[Field]) -> Result<(), AllocError>
     ensures { OnOk result (faults.new.items ≡ faults.old.items ++ flat_map (λ field. twice_in field.typ) fields.now) }
 {
     for field in fields {
@@ -109,11 +105,7 @@ fn push_twice_in(
 }
 
 /// Adds the fields whose names other fields before them have.
-fn push_seconds(
-    alloc: Global,
-    faults: &mut Vec<Found>,
-    fields: &[Field],
-) -> Result<(), AllocError>
+fn push_seconds(alloc: Global, faults: &mut Vec<Found>, fields: &[Field]) -> Result<(), AllocError>
     ensures { OnOk result (faults.new.items ≡ faults.old.items ++ seconds_behind [] (map (λ field. field.name) fields.now)) }
 {
     let mut ids = IndexSet::new(alloc);
