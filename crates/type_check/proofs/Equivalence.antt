@@ -16,25 +16,25 @@ use Rattle.fir_types.specs.Equivalence.{Equivalent, IsUnsigned, IsSigned, SameFi
 use Rattle.type_check.specs.Texts.{are_equivalent, all_take, shape_takes, field_takes, same_flip, is_unsigned_layer, is_signed_layer, is_clock_layer}
 
 -- what a shape is
-pub data Look (s : Shape) : Type 0 where
-  a_uint' : (width : Option ℕ) → s ≡ shape.Unsigned width → Look s
-  a_sint' : (width : Option ℕ) → s ≡ shape.Signed width → Look s
-  a_clock' : s ≡ shape.Clock → Look s
-  a_reset' : s ≡ shape.Reset → Look s
-  a_bundle' : (fields : List Field) → s ≡ shape.Bundle fields → Look s
-  a_vector' : (element : FirType) (length : ℕ) → s ≡ shape.Vector element length → Look s
+pub data ShapeCase (s : Shape) : Type 0 where
+  shape_uint : (width : Option ℕ) → s ≡ shape.Unsigned width → ShapeCase s
+  shape_sint : (width : Option ℕ) → s ≡ shape.Signed width → ShapeCase s
+  shape_clock : s ≡ shape.Clock → ShapeCase s
+  shape_reset : s ≡ shape.Reset → ShapeCase s
+  shape_bundle : (fields : List Field) → s ≡ shape.Bundle fields → ShapeCase s
+  shape_vector : (element : FirType) (length : ℕ) → s ≡ shape.Vector element length → ShapeCase s
 
-look_layer : (y : Shape-F ((s : Shape) × Look s) ((f : Field) × Unit {0}) ((t : FirType) × Unit {0}))
-    → Look (roll-Shape (map-Shape _ _ _ Shape Field FirType (λ e. e.0) (λ e. e.0) (λ e. e.0) y))
-look_layer (Shape-F.Unsigned w) = a_uint' w (rolls-Unsigned w)
-look_layer (Shape-F.Signed w) = a_sint' w (rolls-Signed w)
-look_layer Shape-F.Clock = a_clock' rolls-Clock
-look_layer Shape-F.Reset = a_reset' rolls-Reset
-look_layer (Shape-F.Bundle fields) = a_bundle' (map (λ e. e.0) fields) (rolls-Bundle (map (λ e. e.0) fields))
-look_layer (Shape-F.Vector element n) = a_vector' element.0 n (rolls-Vector element.0 n)
+case_of_layer : (y : Shape-F ((s : Shape) × ShapeCase s) ((f : Field) × Unit {0}) ((t : FirType) × Unit {0}))
+    → ShapeCase (roll-Shape (map-Shape _ _ _ Shape Field FirType (λ e. e.0) (λ e. e.0) (λ e. e.0) y))
+case_of_layer (Shape-F.Unsigned w) = shape_uint w (rolls-Unsigned w)
+case_of_layer (Shape-F.Signed w) = shape_sint w (rolls-Signed w)
+case_of_layer Shape-F.Clock = shape_clock rolls-Clock
+case_of_layer Shape-F.Reset = shape_reset rolls-Reset
+case_of_layer (Shape-F.Bundle fields) = shape_bundle (map (λ e. e.0) fields) (rolls-Bundle (map (λ e. e.0) fields))
+case_of_layer (Shape-F.Vector element n) = shape_vector element.0 n (rolls-Vector element.0 n)
 
-look : (s : Shape) → Look s
-look = ind-Shape Look (λ f. Unit {0}) (λ t. Unit {0}) (λ x y is. subst (λ z. Look (roll-Shape z)) is (look_layer y)) (λ x y is. tt) (λ x y is. tt)
+case_of : (s : Shape) → ShapeCase s
+case_of = ind-Shape ShapeCase (λ f. Unit {0}) (λ t. Unit {0}) (λ x y is. subst (λ z. ShapeCase (roll-Shape z)) is (case_of_layer y)) (λ x y is. tt) (λ x y is. tt)
 
 -- the answer, layer by layer
 
@@ -143,40 +143,40 @@ Is t = (other : FirType) → are_equivalent t other ≡ true → Equivalent t ot
 abbrev FieldIs : Field → Type 0
 FieldIs f = Is f.typ
 
-is_unsigned_by : (r : FirType) → Look r.shape → is_unsigned_layer (out-Shape r.shape) ≡ true → IsUnsigned r
-is_unsigned_by r (a_uint' w e) y = a_uint w e
-is_unsigned_by r (a_reset' e) y = a_reset e
-is_unsigned_by r (a_sint' w e) y = absurd (grind (arith, common_steps, the_lemmas))
-is_unsigned_by r (a_clock' e) y = absurd (grind (arith, common_steps, the_lemmas))
-is_unsigned_by r (a_bundle' fs e) y = absurd (grind (arith, common_steps, the_lemmas))
-is_unsigned_by r (a_vector' o n e) y = absurd (grind (arith, common_steps, the_lemmas))
+is_unsigned_by : (r : FirType) → ShapeCase r.shape → is_unsigned_layer (out-Shape r.shape) ≡ true → IsUnsigned r
+is_unsigned_by r (shape_uint w e) y = a_uint w e
+is_unsigned_by r (shape_reset e) y = a_reset e
+is_unsigned_by r (shape_sint w e) y = absurd (grind (arith, common_steps, the_lemmas))
+is_unsigned_by r (shape_clock e) y = absurd (grind (arith, common_steps, the_lemmas))
+is_unsigned_by r (shape_bundle fs e) y = absurd (grind (arith, common_steps, the_lemmas))
+is_unsigned_by r (shape_vector o n e) y = absurd (grind (arith, common_steps, the_lemmas))
 
-is_signed_by : (r : FirType) → Look r.shape → is_signed_layer (out-Shape r.shape) ≡ true → IsSigned r
-is_signed_by r (a_sint' w e) y = a_sint w e
-is_signed_by r (a_uint' w e) y = absurd (grind (arith, common_steps, the_lemmas))
-is_signed_by r (a_reset' e) y = absurd (grind (arith, common_steps, the_lemmas))
-is_signed_by r (a_clock' e) y = absurd (grind (arith, common_steps, the_lemmas))
-is_signed_by r (a_bundle' fs e) y = absurd (grind (arith, common_steps, the_lemmas))
-is_signed_by r (a_vector' o n e) y = absurd (grind (arith, common_steps, the_lemmas))
+is_signed_by : (r : FirType) → ShapeCase r.shape → is_signed_layer (out-Shape r.shape) ≡ true → IsSigned r
+is_signed_by r (shape_sint w e) y = a_sint w e
+is_signed_by r (shape_uint w e) y = absurd (grind (arith, common_steps, the_lemmas))
+is_signed_by r (shape_reset e) y = absurd (grind (arith, common_steps, the_lemmas))
+is_signed_by r (shape_clock e) y = absurd (grind (arith, common_steps, the_lemmas))
+is_signed_by r (shape_bundle fs e) y = absurd (grind (arith, common_steps, the_lemmas))
+is_signed_by r (shape_vector o n e) y = absurd (grind (arith, common_steps, the_lemmas))
 
-is_clock_by : (r : FirType) → Look r.shape → is_clock_layer (out-Shape r.shape) ≡ true → r.shape ≡ shape.Clock
-is_clock_by r (a_clock' e) y = e
-is_clock_by r (a_uint' w e) y = absurd (grind (arith, common_steps, the_lemmas))
-is_clock_by r (a_sint' w e) y = absurd (grind (arith, common_steps, the_lemmas))
-is_clock_by r (a_reset' e) y = absurd (grind (arith, common_steps, the_lemmas))
-is_clock_by r (a_bundle' fs e) y = absurd (grind (arith, common_steps, the_lemmas))
-is_clock_by r (a_vector' o n e) y = absurd (grind (arith, common_steps, the_lemmas))
+is_clock_by : (r : FirType) → ShapeCase r.shape → is_clock_layer (out-Shape r.shape) ≡ true → r.shape ≡ shape.Clock
+is_clock_by r (shape_clock e) y = e
+is_clock_by r (shape_uint w e) y = absurd (grind (arith, common_steps, the_lemmas))
+is_clock_by r (shape_sint w e) y = absurd (grind (arith, common_steps, the_lemmas))
+is_clock_by r (shape_reset e) y = absurd (grind (arith, common_steps, the_lemmas))
+is_clock_by r (shape_bundle fs e) y = absurd (grind (arith, common_steps, the_lemmas))
+is_clock_by r (shape_vector o n e) y = absurd (grind (arith, common_steps, the_lemmas))
 
-vector_by : (l r e : FirType) (n : ℕ) → l.shape ≡ shape.Vector e n → Is e → Look r.shape → are_equivalent l r ≡ true → Equivalent l r
-vector_by l r e n h is (a_vector' o m k) y =
+vector_by : (l r e : FirType) (n : ℕ) → l.shape ≡ shape.Vector e n → Is e → ShapeCase r.shape → are_equivalent l r ≡ true → Equivalent l r
+vector_by l r e n h is (shape_vector o m k) y =
     let both = sym (of-vectors l r e o n m h k) ∙ y in
     let same : n ≡ m = eqb-true n m (first_yes (nat_eq n m) (are_equivalent e o) both) in
     vectors e o n h (k ∙ ap (shape.Vector o) (sym same)) (is o (second_yes (nat_eq n m) (are_equivalent e o) both))
-vector_by l r e n h is (a_uint' w k) y = absurd (grind (arith, common_steps, the_lemmas))
-vector_by l r e n h is (a_sint' w k) y = absurd (grind (arith, common_steps, the_lemmas))
-vector_by l r e n h is (a_clock' k) y = absurd (grind (arith, common_steps, the_lemmas))
-vector_by l r e n h is (a_reset' k) y = absurd (grind (arith, common_steps, the_lemmas))
-vector_by l r e n h is (a_bundle' gs k) y = absurd (grind (arith, common_steps, the_lemmas))
+vector_by l r e n h is (shape_uint w k) y = absurd (grind (arith, common_steps, the_lemmas))
+vector_by l r e n h is (shape_sint w k) y = absurd (grind (arith, common_steps, the_lemmas))
+vector_by l r e n h is (shape_clock k) y = absurd (grind (arith, common_steps, the_lemmas))
+vector_by l r e n h is (shape_reset k) y = absurd (grind (arith, common_steps, the_lemmas))
+vector_by l r e n h is (shape_bundle gs k) y = absurd (grind (arith, common_steps, the_lemmas))
 
 fields_are : (ps : List ((f : Field) × FieldIs f)) (gs : List Field) → fields_same (map (λ e. e.0) ps) gs ≡ true → SameFields (map (λ e. e.0) ps) gs
 fields_are [] [] y = no_fields
@@ -191,31 +191,31 @@ fields_are (p ∷ ps) (g ∷ gs) y =
     (p.1 g.typ (second_yes (same_flip f.flip g.flip) (are_equivalent f.typ g.typ) rest))
     (fields_are ps gs (second_yes (field_same f g) (fields_same (map (λ e. e.0) ps) gs) y))
 
-bundle_by : (l r : FirType) (ps : List ((f : Field) × FieldIs f)) → l.shape ≡ shape.Bundle (map (λ e. e.0) ps) → Look r.shape → are_equivalent l r ≡ true → Equivalent l r
-bundle_by l r ps h (a_bundle' gs k) y =
+bundle_by : (l r : FirType) (ps : List ((f : Field) × FieldIs f)) → l.shape ≡ shape.Bundle (map (λ e. e.0) ps) → ShapeCase r.shape → are_equivalent l r ≡ true → Equivalent l r
+bundle_by l r ps h (shape_bundle gs k) y =
     let fs : List Field = map (λ e. e.0) ps in
     bundles fs gs h k (fields_are ps gs (sym (of-bundles l r fs gs h k) ∙ y))
-bundle_by l r ps h (a_uint' w k) y = absurd (grind (arith, common_steps, the_lemmas))
-bundle_by l r ps h (a_sint' w k) y = absurd (grind (arith, common_steps, the_lemmas))
-bundle_by l r ps h (a_clock' k) y = absurd (grind (arith, common_steps, the_lemmas))
-bundle_by l r ps h (a_reset' k) y = absurd (grind (arith, common_steps, the_lemmas))
-bundle_by l r ps h (a_vector' o m k) y = absurd (grind (arith, common_steps, the_lemmas))
+bundle_by l r ps h (shape_uint w k) y = absurd (grind (arith, common_steps, the_lemmas))
+bundle_by l r ps h (shape_sint w k) y = absurd (grind (arith, common_steps, the_lemmas))
+bundle_by l r ps h (shape_clock k) y = absurd (grind (arith, common_steps, the_lemmas))
+bundle_by l r ps h (shape_reset k) y = absurd (grind (arith, common_steps, the_lemmas))
+bundle_by l r ps h (shape_vector o m k) y = absurd (grind (arith, common_steps, the_lemmas))
 
 shape_is : (y : Shape-F ((s : Shape) × ShapeIs s) ((f : Field) × FieldIs f) ((t : FirType) × Is t))
     → ShapeIs (roll-Shape (map-Shape _ _ _ Shape Field FirType (λ e. e.0) (λ e. e.0) (λ e. e.0) y))
 shape_is (Shape-F.Unsigned w) = subst ShapeIs (sym (rolls-Unsigned w)) (λ place r y.
-    unsigned (a_uint w refl) (is_unsigned_by r (look r.shape) (sym (of-unsigned (record { place = place; shape = shape.Unsigned w }) r w refl) ∙ y)))
+    unsigned (a_uint w refl) (is_unsigned_by r (case_of r.shape) (sym (of-unsigned (record { place = place; shape = shape.Unsigned w }) r w refl) ∙ y)))
 shape_is (Shape-F.Signed w) = subst ShapeIs (sym (rolls-Signed w)) (λ place r y.
-    signed (a_sint w refl) (is_signed_by r (look r.shape) (sym (of-signed (record { place = place; shape = shape.Signed w }) r w refl) ∙ y)))
+    signed (a_sint w refl) (is_signed_by r (case_of r.shape) (sym (of-signed (record { place = place; shape = shape.Signed w }) r w refl) ∙ y)))
 shape_is Shape-F.Clock = subst ShapeIs (sym rolls-Clock) (λ place r y.
-    clocks refl (is_clock_by r (look r.shape) (sym (of-clock (record { place = place; shape = shape.Clock }) r refl) ∙ y)))
+    clocks refl (is_clock_by r (case_of r.shape) (sym (of-clock (record { place = place; shape = shape.Clock }) r refl) ∙ y)))
 shape_is Shape-F.Reset = subst ShapeIs (sym rolls-Reset) (λ place r y.
-    unsigned (a_reset refl) (is_unsigned_by r (look r.shape) (sym (of-reset (record { place = place; shape = shape.Reset }) r refl) ∙ y)))
+    unsigned (a_reset refl) (is_unsigned_by r (case_of r.shape) (sym (of-reset (record { place = place; shape = shape.Reset }) r refl) ∙ y)))
 shape_is (Shape-F.Bundle fields) =
     let fs : List Field = map (λ e. e.0) fields in
-    subst ShapeIs (sym (rolls-Bundle fs)) (λ place r y. bundle_by (record { place = place; shape = shape.Bundle fs }) r fields refl (look r.shape) y)
+    subst ShapeIs (sym (rolls-Bundle fs)) (λ place r y. bundle_by (record { place = place; shape = shape.Bundle fs }) r fields refl (case_of r.shape) y)
 shape_is (Shape-F.Vector element n) = subst ShapeIs (sym (rolls-Vector element.0 n)) (λ place r y.
-    vector_by (record { place = place; shape = shape.Vector element.0 n }) r element.0 n refl element.1 (look r.shape) y)
+    vector_by (record { place = place; shape = shape.Vector element.0 n }) r element.0 n refl element.1 (case_of r.shape) y)
 
 pub is_equivalent : (left right : FirType) → are_equivalent left right ≡ true → Equivalent left right
 is_equivalent = ind-FirType ShapeIs FieldIs Is

@@ -112,7 +112,7 @@ memory ls = record { name = name 9 1; lines = ls }
 no_fault : memory_faults (memory lines) ≡ []
 no_fault = grind (arith, common_steps, the_lemmas)
 
--- A second depth is a fault at its line, a second port of a name at the name, and no line at all five times at the memory.
+-- A second depth is a fault at its line, and a second port of a name at the name. Where no line stands, all five are missing, at the memory's name.
 second_depth : memory_faults (memory (lines ++ line.Depth (at 9) 6 ∷ [])) ≡ one_fault MemoryField (at 9)
 second_depth = grind (arith, common_steps, the_lemmas)
 
