@@ -1,1 +1,5 @@
 mod FaultsOfStatements
+mod Equivalence
+mod Examples
+mod Lines
+mod Seconds

@@ -2,6 +2,7 @@ pub mod Parts
 pub mod Texts
 pub mod Expressions
 pub mod Memories
+pub mod Noted
 pub mod Statements
 pub mod Faults
 pub mod Flows

@@ -7,6 +7,7 @@ pub mod fault;
 mod flows;
 mod found;
 mod judge;
+pub mod laws;
 mod memory;
 pub mod part;
 mod texts;

@@ -1,0 +1,7 @@
+use Rattle.std.proofs.Common.{take, ◌≡◌, ◌++◌}
+use Rattle.std.specs.List.{flat_map}
+use Rattle.type_check.specs.Texts.{twice_in}
+use Rattle.type_check.proofs.texts.+twice.Given as goal
+
+abbrev pub invariant-push_twice_in-loop-field : goal.invariant-push_twice_in-loop-field
+invariant-push_twice_in-loop-field l = l.faults.items ≡ l.fn.faults.items ++ flat_map (λ f. twice_in f.typ) (take l.field-index l.fields)
