@@ -38,12 +38,20 @@ def chain(count):
     return b"FIRRTL version 3.0.0\ncircuit M:\n module M:\n" + "".join(" " + line for line in lines).encode()
 
 
+def wide(references, leaves):
+    """So many references into one bundle of so many leaves."""
+    fields = ", ".join(f"f{k} : UInt<1>" for k in range(leaves))
+    lines = [f"  input b : {{ {fields} }}\n"] + [f"  node {name(k)}=b.f{k % leaves}\n" for k in range(references)]
+    return b"FIRRTL version 3.0.0\ncircuit M:\n module M:\n" + "".join(lines).encode()
+
+
 TEXTS = {
     "comments and infos, 1 MB": filled(b"; a comment, and so on\n@[Chisel.scala 10:20]\n", LIMIT),
     "dense statements, 0.25 MB": dense(LIMIT // 4),
     "dense statements, 1 MB": dense(LIMIT - 200),
     "12,500 declarations and references": chain(12_500),
     "50,000 declarations and references": chain(50_000),
+    "10,000 references to one bundle of 1,000 leaves": wide(10_000, 1_000),
     "comments, 5 MB (too long, so only read)": filled(b"; a comment, and so on\n", 5_242_880),
 }
 
@@ -83,7 +91,7 @@ def peak_bytes(command, path):
 def main():
     check = [os.path.realpath(sys.argv[1]), "check"]
     base = peak_bytes(check, "/dev/null")
-    print(f"{'text':40} {'bytes':>9} {'check ms':>9} {'md5sum ms':>9} {'ratio':>7} {'memory a byte':>13}  answer")
+    print(f"{'text':48} {'bytes':>9} {'check ms':>9} {'md5sum ms':>9} {'ratio':>7} {'memory a byte':>13}  answer")
     with tempfile.TemporaryDirectory() as folder:
         for kind, text in TEXTS.items():
             path = os.path.join(folder, "text")
@@ -91,7 +99,7 @@ def main():
                 file.write(text)
             ours, theirs = best_seconds(check, path), best_seconds(["md5sum"], path)
             memory = max(0, max(peak_bytes(check, path) for _ in range(3)) - base) / len(text)
-            print(f"{kind:40} {len(text):9} {ours * 1000:9.1f} {theirs * 1000:9.1f} {ours / theirs:7.1f} {memory:13.1f}  {answer(check, path)}")
+            print(f"{kind:48} {len(text):9} {ours * 1000:9.1f} {theirs * 1000:9.1f} {ours / theirs:7.1f} {memory:13.1f}  {answer(check, path)}")
 
 
 main()
