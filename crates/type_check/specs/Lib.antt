@@ -5,3 +5,4 @@ pub mod Memories
 pub mod Statements
 pub mod Faults
 pub mod Walks
+pub mod Judging

@@ -1,0 +1,12 @@
+-- What the walk through an expression has in hand, in the words of the definitions.
+use Rattle.std.specs.Prelude.{Option, option_map}
+use Rattle.type_check.specs.declared.part.Part.{Part}
+use Rattle.type_check.specs.declared.steps.Reached.{Reached}
+use Rattle.type_check.specs.Parts.{part_of}
+
+-- what a reference has come to, as a part
+abbrev pub part_at : Reached → Part
+part_at reached = part_of reached.typ.now reached.flow
+
+abbrev pub part_reached : Option Reached → Option Part
+part_reached reached = option_map part_at reached
