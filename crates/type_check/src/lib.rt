@@ -8,6 +8,7 @@ mod found;
 mod judge;
 mod memory;
 pub mod part;
+mod rules;
 mod steps;
 mod texts;
 mod walk;
