@@ -1,5 +1,5 @@
 -- What the walk through an expression has in hand and adds, in the words of the definitions.
-use Rattle.std.specs.Prelude.{◌≡◌, List, ◌∷◌, ◌++◌, flat_map, Option, None, option_map}
+use Rattle.std.specs.Prelude.{◌≡◌, ℕ, List, ◌∷◌, ◌++◌, flat_map, slice_set, Option, Some, None, option_map}
 use Rattle.place_text.specs.declared.place.Place.{Place}
 use Rattle.fir_types.specs.declared.fir_type.FirType.{FirType}
 use Rattle.type_check.specs.declared.found.Findings.{Findings}
@@ -34,3 +34,8 @@ pub record AddsBelow (place : Place) (judgement : Judgement) (old new : Findings
   pub nodes : judgement.nodes ≡ own_type place judgement ∷ below
   pub types : new.types.items ≡ old.types.items ++ below
   pub faults : new.faults.items ≡ old.faults.items ++ judgement.faults
+
+-- the type of a part, where there is one, in the place of the type with this number
+abbrev pub filled : List FirType → ℕ → Option Part → List FirType
+filled types at (Some part) = slice_set types at part.typ
+filled types at None = types

@@ -1,9 +1,9 @@
 //! The walk through an expression.
 
-ghost use Rattle.std.specs.Prelude.{◌≡◌, map, option_map, IfOk, OnOk};
+ghost use Rattle.std.specs.Prelude.{◌≡◌, ◌<◌, length, map, option_map, IfOk, OnOk};
 ghost use Rattle.type_check.specs.Expressions.{found_of, judged, suffix_step, typed_operands, all_among, along, no_type};
 ghost use Rattle.type_check.specs.Parts.{component};
-ghost use Rattle.type_check.specs.Judging.{part_reached, operand_of, together, AddsBelow};
+ghost use Rattle.type_check.specs.Judging.{part_reached, operand_of, together, filled, AddsBelow};
 ghost use Rattle.type_check.specs.Walks.{Adds};
 
 use crate::found::Findings;
@@ -31,10 +31,24 @@ pub fn judge(
     let at = found.types.len();
     found.types.push(untyped(alloc, expr.place))?;
     let part = judge_form(alloc, known, found, expr)?;
-    if let Some(part) = &part {
-        found.types[at] = copy(alloc, &part.typ)?;
-    }
+    fill(alloc, &mut found.types, at, &part)?;
     Ok(part)
+}
+
+/// Puts a copy of the part's type, where there is one, in the place of the type with this number.
+fn fill(
+    alloc: Global,
+    types: &mut Vec<FirType>,
+    at: usize,
+    part: &Option<Part>,
+) -> Result<(), AllocError>
+    requires { at < length types.old.items }
+    ensures { OnOk result (types.new.items ≡ filled types.old.items at part.now) }
+{
+    if let Some(part) = part {
+        types[at] = copy(alloc, &part.typ)?;
+    }
+    Ok(())
 }
 
 /// The same without the type of the node itself.

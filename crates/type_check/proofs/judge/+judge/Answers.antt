@@ -1,0 +1,39 @@
+use Rattle.std.proofs.Common.{rules, refl, sym, ap, ◌∙◌, map, take, subst, ◌≡◌}
+use Rattle.std.specs.Prelude.{Some}
+use Rattle.std.proofs.lemmas.Result.{on_ok_weaker}
+use Rattle.type_check.specs.Expressions.{suffix_step, judged, along, typed_operands}
+use Rattle.type_check.specs.Judging.{part_reached}
+use Rattle.type_check.specs.Walks.{Adds}
+use Rattle.type_check.proofs.Judgements.{map_more, typed-push, together-push, TakesOn, takes_more}
+use Rattle.type_check.proofs.Forms.{adds_literal, adds_operation, adds_choice, adds_filled}
+use Rattle.type_check.proofs.judge.+judge.Goals as goal
+
+pub judge-returns-clause-found : goal.judge-returns-clause-found
+judge-returns-clause-found t c = adds_filled ? ? ? ? ? ? ?
+
+pub judge_form-returns-in-Literal-clause-found : goal.judge_form-returns-in-Literal-clause-found
+judge_form-returns-in-Literal-clause-found t c =
+    on_ok_weaker c.judge_literal.result
+    (λ faults. adds_literal c.args.known.now.entries c.args.expr.now c.in-Literal.sign c.in-Literal.width c.in-Literal.number c.in-Literal.is refl faults)
+    c.judge_literal.ensures.faults
+
+pub judge_form-returns-in-Some-clause-found : goal.judge_form-returns-in-Some-clause-found
+judge_form-returns-in-Some-clause-found t c =
+    on_ok_weaker c.judge_operation.result
+    (λ faults. adds_operation c.args.known.now.entries c.args.expr.now c.in-Prim.op c.in-Prim.operands c.in-Prim.field-2 c.in-Some.typed.items c.in-Prim.is ? ? refl faults)
+    ?
+
+pub judge_form-returns-in-Some-2-clause-found : goal.judge_form-returns-in-Some-2-clause-found
+judge_form-returns-in-Some-2-clause-found t c =
+    on_ok_weaker c.judge_choice.result
+    (λ faults. adds_choice c.args.known.now.entries c.args.expr.now c.in-Mux.operands c.in-Some-2.typed.items c.in-Mux.is (search rules) (search rules) refl faults)
+    (search rules)
+
+pub walk_steps-loop-suffix-preserved : goal.walk_steps-loop-suffix-preserved
+walk_steps-loop-suffix-preserved t c =
+    let on = takes_more (map suffix_step (take c.loop-suffix.suffix-index c.args.suffixes.now)) (suffix_step c.suffix-item.result) c.args.known.now.entries
+        (part_reached c.args.base) (part_reached c.loop-suffix.reached) (part_reached c.in_ok-reached.reached)
+        c.loop-suffix.invariant.part c.loop-suffix.invariant.found c.in_ok-reached.ensures.part c.in_ok-reached.ensures.found in
+    let more = map_more suffix_step c.args.suffixes.now c.loop-suffix.suffix-index c.suffix-item.result (search rules) (search rules) in
+    let all = subst (λ steps. TakesOn steps c.args.known.now.entries (part_reached c.args.base) (part_reached c.in_ok-reached.reached) c.args.found.now c.take_step.new.found) (sym more) on in
+    record { part = all.part; found = all.found }
