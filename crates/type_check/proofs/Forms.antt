@@ -82,21 +82,21 @@ adds_literal known e sign width number {old} {new} is types faults =
     (node_below e.place (unless (fits_literal sign width (integer_of_number number)) LiteralFit e.place) (ground e.place sign width) []
     (record { types = types ∙ sym (append-nil old.types.items); faults = faults }))
 
-pub adds_operation : (known : Known) (e : Expr) (op : PrimOp) (operands : List Expr) (params : List ℕ) (held : List Held) {old between new : Findings}
+pub adds_operation : (known : Known) (e : Expr) (op : PrimOp) (operands : List Expr) (params : List ℕ) (held : List Held) (old between new : Findings)
     → e.form ≡ form.Prim op operands params → typed_operands known (map judged operands) ≡ Some (map operand_of held)
     → Adds (together (all_among known (map judged operands))) old between → new.types.items ≡ between.types.items
     → new.faults.items ≡ between.faults.items ++ (operation op e.place [] (map operand_of held)).faults → AddsBelow e.place (found_of known e) old new
-adds_operation known e op operands params held {old} {between} {new} is typed h types faults =
+adds_operation known e op operands params held old between new is typed h types faults =
     let js = all_among known (map judged operands) in
     let own = operation op e.place [] (map operand_of held) in
     subst (λ j. AddsBelow e.place j old new) (sym (prim_is known e op operands params is ∙ ap (over e.place (operation op e.place) js) typed))
     (node_below e.place own.faults (ground e.place (sign_or_unsigned (row_of op (signs_of (map operand_of held)))) None) js (adds_faults h types faults))
 
-pub adds_choice : (known : Known) (e : Expr) (operands : List Expr) (held : List Held) {old between new : Findings}
+pub adds_choice : (known : Known) (e : Expr) (operands : List Expr) (held : List Held) (old between new : Findings)
     → e.form ≡ form.Mux operands → typed_operands known (map judged operands) ≡ Some (map operand_of held)
     → Adds (together (all_among known (map judged operands))) old between → new.types.items ≡ between.types.items
     → new.faults.items ≡ between.faults.items ++ (choice e.place [] (map operand_of held)).faults → AddsBelow e.place (found_of known e) old new
-adds_choice known e operands held {old} {between} {new} is typed h types faults =
+adds_choice known e operands held old between new is typed h types faults =
     let js = all_among known (map judged operands) in
     subst (λ j. AddsBelow e.place j old new) (sym (mux_is known e operands is ∙ ap (over e.place (choice e.place) js) typed))
     (choice_below e.place js (map operand_of held) (adds_faults h types faults))
@@ -108,10 +108,10 @@ filled_is : (types : List FirType) (place : Place) (part : Option Part) (below :
 filled_is types place (Some part) below = set-append_seam types (no_type place) below part.typ
 filled_is types place None below = refl
 
-pub adds_filled : {place : Place} {judgement : Judgement} {part : Option Part} {at : ℕ} {old between below new : Findings} → at ≡ length old.types.items
+pub adds_filled : (place : Place) (judgement : Judgement) (part : Option Part) (at : ℕ) (old between below new : Findings) → at ≡ length old.types.items
     → between.types.items ≡ old.types.items ++ no_type place ∷ [] → between.faults.items ≡ old.faults.items → AddsBelow place judgement between below → part ≡ judgement.part
     → new.types.items ≡ filled below.types.items at part → new.faults.items ≡ below.faults.items → Adds judgement old new
-adds_filled {place} {judgement} {part} {at} {old} at_end pushed same_faults h is types faults =
+adds_filled place judgement part at old between below new at_end pushed same_faults h is types faults =
     let before = old.types.items in
     let there' = h.types ∙ ap (λ l. l ++ h.below) pushed ∙ append_assoc before (no_type place ∷ []) h.below in
     record {

@@ -1,7 +1,7 @@
 use Rattle.std.proofs.Common.{rules, refl, sym, ap, ◌∙◌, map, take, subst, ◌≡◌}
 use Rattle.std.specs.Prelude.{Some}
 use Rattle.std.proofs.lemmas.Result.{on_ok_weaker}
-use Rattle.type_check.specs.Expressions.{suffix_step, judged, along, typed_operands}
+use Rattle.type_check.specs.Expressions.{found_of, suffix_step}
 use Rattle.type_check.specs.Judging.{part_reached}
 use Rattle.type_check.specs.Walks.{Adds}
 use Rattle.type_check.proofs.Judgements.{map_more, typed-push, together-push, TakesOn, takes_more}
@@ -9,7 +9,11 @@ use Rattle.type_check.proofs.Forms.{adds_literal, adds_operation, adds_choice, a
 use Rattle.type_check.proofs.judge.+judge.Goals as goal
 
 pub judge-returns-clause-found : goal.judge-returns-clause-found
-judge-returns-clause-found t c = adds_filled ? ? ? ? ? ? ?
+judge-returns-clause-found t c =
+    adds_filled c.args.expr.now.place (found_of c.args.known.now.entries c.args.expr.now) c.in_ok-part.part c.len-at.result
+    c.args.found.now (record { types = c.push.new.self; faults = c.args.found.now.faults }) c.judge_form.new.found
+    (record { types = c.fill.new.types; faults = c.judge_form.new.found.faults })
+    (search rules) (search rules) refl c.in_ok-part.ensures.found c.in_ok-part.ensures.part c.in_ok-fill.ensures refl
 
 pub judge_form-returns-in-Literal-clause-found : goal.judge_form-returns-in-Literal-clause-found
 judge_form-returns-in-Literal-clause-found t c =
@@ -20,14 +24,18 @@ judge_form-returns-in-Literal-clause-found t c =
 pub judge_form-returns-in-Some-clause-found : goal.judge_form-returns-in-Some-clause-found
 judge_form-returns-in-Some-clause-found t c =
     on_ok_weaker c.judge_operation.result
-    (λ faults. adds_operation c.args.known.now.entries c.args.expr.now c.in-Prim.op c.in-Prim.operands c.in-Prim.field-2 c.in-Some.typed.items c.in-Prim.is ? ? refl faults)
-    ?
+    (adds_operation c.args.known.now.entries c.args.expr.now c.in-Prim.op c.in-Prim.operands c.in-Prim.field-2 c.in-Some.typed.items
+    c.args.found.now c.judge_all.new.found (record { types = c.judge_all.new.found.types; faults = c.judge_operation.new.faults })
+    c.in-Prim.is (search rules) (rw c.as_slice-in-Prim.ensures at c.in_ok-typed-in-Prim.ensures.found) refl)
+    (rw c.as_slice-in-Some.ensures.value at c.judge_operation.ensures.faults)
 
 pub judge_form-returns-in-Some-2-clause-found : goal.judge_form-returns-in-Some-2-clause-found
 judge_form-returns-in-Some-2-clause-found t c =
     on_ok_weaker c.judge_choice.result
-    (λ faults. adds_choice c.args.known.now.entries c.args.expr.now c.in-Mux.operands c.in-Some-2.typed.items c.in-Mux.is (search rules) (search rules) refl faults)
-    (search rules)
+    (adds_choice c.args.known.now.entries c.args.expr.now c.in-Mux.operands c.in-Some-2.typed.items
+    c.args.found.now c.judge_all-in-Mux.new.found (record { types = c.judge_all-in-Mux.new.found.types; faults = c.judge_choice.new.faults })
+    c.in-Mux.is (search rules) (rw c.as_slice-in-Mux.ensures at c.in_ok-typed-in-Mux.ensures.found) refl)
+    (rw c.as_slice-in-Some-2.ensures.value at c.judge_choice.ensures.faults)
 
 pub walk_steps-loop-suffix-preserved : goal.walk_steps-loop-suffix-preserved
 walk_steps-loop-suffix-preserved t c =
