@@ -6,11 +6,13 @@ use Rattle.std.proofs.lemmas.List.{map-append, take_more}
 use Rattle.std.proofs.lemmas.List.Concat.{flat_map-append}
 use Rattle.place_text.specs.declared.place.Place.{Place}
 use Rattle.fir_types.specs.declared.fir_type.FirType.{FirType}
+use Rattle.fir_tree.specs.declared.expr.Expr.{Expr, the_lemmas}
 use Rattle.type_check.specs.declared.found.Findings.{Findings}
 use Rattle.type_check.specs.declared.part.Part.{Part}
+use Rattle.type_check.specs.declared.rules.Operand.{Operand as Held}
 use Rattle.type_check.specs.Parts.{Known}
-use Rattle.type_check.specs.Expressions.{Judgement, Judged, Step, Operand, behind, along, typed_operands, with_operand, all_among}
-use Rattle.type_check.specs.Judging.{together}
+use Rattle.type_check.specs.Expressions.{Judgement, Judged, Step, Operand, behind, along, typed_operands, with_operand, all_among, judged, found_of}
+use Rattle.type_check.specs.Judging.{together, operand_of}
 use Rattle.type_check.specs.Walks.{Adds}
 
 -- the same parts and lists
@@ -46,7 +48,7 @@ pub map_more : {X Y : Type 0} (f : X → Y) (xs : List X) (i : ℕ) (x : X) → 
 map_more f xs i x lt is = ap (map f) (take_more xs i x lt) ∙ map-append f (take i xs) (get_or xs i x ∷ []) ∙ ap (λ y. map f (take i xs) ++ f y ∷ []) (sym is)
 
 -- one more operand
-abbrev pub then_operand : Option (List Operand) → Place → Option Part → Option (List Operand)
+abbrev then_operand : Option (List Operand) → Place → Option Part → Option (List Operand)
 then_operand (Some operands) place (Some part) = Some (operands ++ record { place = place; typ = part.typ } ∷ [])
 then_operand (Some operands) place None = None
 then_operand None place part = None
@@ -84,11 +86,33 @@ together-push known es e {old} h k =
           ∙ sym (flat_map-append (λ (j : Judgement). j.faults) (all_among known es) (j ∷ [])) ∙ ap (flat_map (λ (j : Judgement). j.faults)) (sym all));
     }
 
--- one more operand is held, or one has no type
-pub held_more : (known : Known) (es : List Judged) (e : Judged) (part : Option Part) (complete : Bool) (held : List Operand)
-    → typed_operands known es ≡ (if complete then Some held else None) → part ≡ (e.among known).part
-    → typed_operands known (es ++ e ∷ []) ≡ then_operand (if complete then Some held else None) e.place part
-held_more known es e part complete held is here' = typed-push known es e ∙ ap₂ (λ o p. then_operand o e.place p) is (sym here')
+held_more : (complete : Bool) (held : List Operand) (place : Place) (part : Part)
+    → then_operand (if complete then Some held else None) place (Some part) ≡ (if complete then Some (held ++ record { place = place; typ = part.typ } ∷ []) else None)
+held_more true held place part = refl
+held_more false held place part = refl
+
+none_more : (complete : Bool) (held : List Operand) (place : Place) → then_operand (if complete then Some held else None) place None ≡ None
+none_more true held place = refl
+none_more false held place = refl
+
+place_is : (e : Expr) → (judged e).place ≡ e.place
+place_is e = grind (arith, common_steps, the_lemmas)
+
+-- one more operand is held
+pub typed_some : (known : Known) (es : List Judged) (e : Expr) (part : Part) (complete : Bool) (held more : List Held)
+    → typed_operands known es ≡ (if complete then Some (map operand_of held) else None) → Some part ≡ (found_of known e).part
+    → more ≡ held ++ record { place = e.place; typ = part.typ } ∷ [] → typed_operands known (es ++ judged e ∷ []) ≡ (if complete then Some (map operand_of more) else None)
+typed_some known es e part complete held more is here' held_is =
+    let one : Held = record { place = e.place; typ = part.typ } in
+    typed-push known es (judged e) ∙ ap₂ (λ o p. then_operand o (judged e).place p) is (sym here')
+    ∙ ap (λ at. then_operand (if complete then Some (map operand_of held) else None) at (Some part)) (place_is e) ∙ held_more complete (map operand_of held) e.place part
+    ∙ ap (λ os. if complete then Some os else None) (sym (ap (map operand_of) held_is ∙ map-append operand_of held (one ∷ [])))
+
+-- or it has no type
+pub typed_none : (known : Known) (es : List Judged) (e : Expr) (complete : Bool) (held : List Held)
+    → typed_operands known es ≡ (if complete then Some (map operand_of held) else None) → None ≡ (found_of known e).part → typed_operands known (es ++ judged e ∷ []) ≡ None
+typed_none known es e complete held is here' =
+    typed-push known es (judged e) ∙ ap₂ (λ o p. then_operand o (judged e).place p) is (sym here') ∙ none_more complete (map operand_of held) (judged e).place
 
 -- one more step was taken
 pub record TakesOn (steps : List Step) (known : Known) (base reached : Option Part) (old new : Findings) : Type 0 where

@@ -1,11 +1,12 @@
-use Rattle.std.proofs.Common.{rules, refl, sym, ap, ◌∙◌, map, take, subst, ◌≡◌}
-use Rattle.std.specs.Prelude.{Some}
+use Rattle.std.proofs.Common.{rules, refl, sym, ap, ◌∙◌, map, take, subst, ◌≡◌, if◌then◌else◌}
+use Rattle.std.specs.Prelude.{Some, None}
 use Rattle.std.proofs.lemmas.Result.{on_ok_weaker}
-use Rattle.type_check.specs.Expressions.{found_of, suffix_step}
-use Rattle.type_check.specs.Judging.{part_reached}
+use Rattle.type_check.specs.Expressions.{found_of, suffix_step, judged, typed_operands, all_among}
+use Rattle.type_check.specs.Judging.{part_reached, operand_of, together}
 use Rattle.type_check.specs.Walks.{Adds}
-use Rattle.type_check.proofs.Judgements.{map_more, typed-push, together-push, TakesOn, takes_more}
+use Rattle.type_check.proofs.Judgements.{map_more, typed_some, typed_none, together-push, TakesOn, takes_more}
 use Rattle.type_check.proofs.Forms.{adds_literal, adds_operation, adds_choice, adds_filled}
+use Rattle.type_check.proofs.judge.+judge.Goals.{judge_all-in-Some+in_ok-push-in-Some, judge_all-in-None}
 use Rattle.type_check.proofs.judge.+judge.Goals as goal
 
 pub judge-returns-clause-found : goal.judge-returns-clause-found
@@ -36,6 +37,27 @@ judge_form-returns-in-Some-2-clause-found t c =
     c.args.found.now c.judge_all-in-Mux.new.found (record { types = c.judge_all-in-Mux.new.found.types; faults = c.judge_choice.new.faults })
     c.in-Mux.is (search rules) (rw c.as_slice-in-Mux.ensures at c.in_ok-typed-in-Mux.ensures.found) refl)
     (rw c.as_slice-in-Some-2.ensures.value at c.judge_choice.ensures.faults)
+
+pub judge_all-loop-expr-preserved : goal.judge_all-loop-expr-preserved
+judge_all-loop-expr-preserved t c =
+    let known = c.args.known.now.entries in
+    let before = map judged (take c.loop-expr.expr-index c.args.exprs.now) in
+    let e = c.expr-item.result in
+    let held = c.match-branch-2.typed.items in
+    let more = map_more judged c.args.exprs.now c.loop-expr.expr-index e (search rules) (search rules) in
+    record {
+      operands = ap (typed_operands known) more ∙ elim c.match-branch-2.branch [
+        | judge_all-in-Some+in_ok-push-in-Some w ↦
+          typed_some known before e w.in-Some.part c.loop-expr.complete c.loop-expr.typed.items held c.loop-expr.invariant.operands
+          (sym w.in-Some.is ∙ c.in_ok-part.ensures.part) (ap (λ v. v.items) w.typed-is ∙ w.in_ok-push-in-Some.ensures.items)
+          ∙ ap (λ b. if b then Some (map operand_of held) else None) (sym w.complete-is)
+        | judge_all-in-None w ↦
+          typed_none known before e c.loop-expr.complete c.loop-expr.typed.items c.loop-expr.invariant.operands
+          (sym w.in-None.is ∙ c.in_ok-part.ensures.part) ∙ ap (λ b. if b then Some (map operand_of held) else None) (sym w.complete-is)
+      ];
+      found = subst (λ es. Adds (together (all_among known es)) c.args.found.now c.judge.new.found) (sym more)
+          (together-push known before (judged e) c.loop-expr.invariant.found c.in_ok-part.ensures.found);
+    }
 
 pub walk_steps-loop-suffix-preserved : goal.walk_steps-loop-suffix-preserved
 walk_steps-loop-suffix-preserved t c =
