@@ -18,7 +18,7 @@ use Rattle.type_check.specs.declared.part.Part.{Part}
 use Rattle.type_check.specs.declared.rules.Operand.{Operand as Held}
 use Rattle.type_check.specs.Parts.{Known, source_of, unless, typed_without}
 use Rattle.type_check.specs.Expressions.{Judgement, Operand, found_of, judged, node, unjudged_node, over, operation, choice, ground, no_type, type_or_none, fits_literal, typed_operands, all_among, sign_or_unsigned, row_of, signs_of}
-use Rattle.type_check.specs.Judging.{operand_of, together, own_type, filled, AddsBelow}
+use Rattle.type_check.specs.Judging.{operand_of, together, filled, AddsBelow}
 use Rattle.type_check.specs.Walks.{Adds}
 
 literal_is : (known : Known) (e : Expr) (sign : Sign) (width : Option ℕ) (number : Number) → e.form ≡ form.Literal sign width number

@@ -73,7 +73,12 @@ fn judge_form(
         }
         Form::Prim(op, operands, _) => {
             match judge_all(alloc, known, found, operands.as_slice())? {
-                Some(typed) => judge_operation(&mut found.faults, *op, expr.place, typed.as_slice()),
+                Some(typed) => judge_operation(
+                    &mut found.faults,
+                    *op,
+                    expr.place,
+                    typed.as_slice(),
+                ),
                 None => Ok(None),
             }
         }

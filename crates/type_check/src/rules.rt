@@ -120,11 +120,14 @@ fn push_choice(
 ) -> Result<(), AllocError>
     ensures { OnOk result (faults.new.items ≡ faults.old.items ++ choice_faults place (operand_of condition.now) (operand_of first.now) (operand_of second.now)) }
 {
-    push_unless(faults, is_unsigned(&condition.typ), Kind::ConditionKind, condition.place)?;
+    let unsigned = is_unsigned(&condition.typ);
+    push_unless(faults, unsigned, Kind::ConditionKind, condition.place)?;
     let clocks = has_clock(&first.typ) || has_clock(&second.typ);
     push_unless(faults, !clocks, Kind::OperandKind, place)?;
-    push_unless(faults, is_passive(&first.typ), Kind::NotPassive, first.place)?;
-    push_unless(faults, is_passive(&second.typ), Kind::NotPassive, second.place)?;
+    let passive = is_passive(&first.typ);
+    push_unless(faults, passive, Kind::NotPassive, first.place)?;
+    let passive = is_passive(&second.typ);
+    push_unless(faults, passive, Kind::NotPassive, second.place)?;
     let equivalent = are_equivalent(&first.typ, &second.typ);
     push_unless(faults, equivalent, Kind::NotEquivalent, second.place)
 }

@@ -1,4 +1,4 @@
-use Rattle.std.proofs.Common.{rules, refl, sym, ap, ◌∙◌, map, take, subst, ◌≡◌, if◌then◌else◌}
+use Rattle.std.proofs.Common.{rules, refl, sym, ap, ◌∙◌, map, take, subst, if◌then◌else◌}
 use Rattle.std.specs.Prelude.{Some, None}
 use Rattle.std.proofs.lemmas.Result.{on_ok_weaker}
 use Rattle.type_check.specs.Expressions.{found_of, suffix_step, judged, typed_operands, all_among}
@@ -48,12 +48,12 @@ judge_all-loop-expr-preserved t c =
     record {
       operands = ap (typed_operands known) more ∙ elim c.match-branch-2.branch [
         | judge_all-in-Some+in_ok-push-in-Some w ↦
-          typed_some known before e w.in-Some.part c.loop-expr.complete c.loop-expr.typed.items held c.loop-expr.invariant.operands
-          (sym w.in-Some.is ∙ c.in_ok-part.ensures.part) (ap (λ v. v.items) w.typed-is ∙ w.in_ok-push-in-Some.ensures.items)
-          ∙ ap (λ b. if b then Some (map operand_of held) else None) (sym w.complete-is)
+            typed_some known before e w.in-Some.part c.loop-expr.complete c.loop-expr.typed.items held c.loop-expr.invariant.operands
+            (sym w.in-Some.is ∙ c.in_ok-part.ensures.part) (ap (λ v. v.items) w.typed-is ∙ w.in_ok-push-in-Some.ensures.items)
+            ∙ ap (λ b. if b then Some (map operand_of held) else None) (sym w.complete-is)
         | judge_all-in-None w ↦
-          typed_none known before e c.loop-expr.complete c.loop-expr.typed.items c.loop-expr.invariant.operands
-          (sym w.in-None.is ∙ c.in_ok-part.ensures.part) ∙ ap (λ b. if b then Some (map operand_of held) else None) (sym w.complete-is)
+            typed_none known before e c.loop-expr.complete c.loop-expr.typed.items c.loop-expr.invariant.operands
+            (sym w.in-None.is ∙ c.in_ok-part.ensures.part) ∙ ap (λ b. if b then Some (map operand_of held) else None) (sym w.complete-is)
       ];
       found = subst (λ es. Adds (together (all_among known es)) c.args.found.now c.judge.new.found) (sym more)
           (together-push known before (judged e) c.loop-expr.invariant.found c.in_ok-part.ensures.found);
@@ -62,8 +62,8 @@ judge_all-loop-expr-preserved t c =
 pub walk_steps-loop-suffix-preserved : goal.walk_steps-loop-suffix-preserved
 walk_steps-loop-suffix-preserved t c =
     let on = takes_more (map suffix_step (take c.loop-suffix.suffix-index c.args.suffixes.now)) (suffix_step c.suffix-item.result) c.args.known.now.entries
-        (part_reached c.args.base) (part_reached c.loop-suffix.reached) (part_reached c.in_ok-reached.reached)
-        c.loop-suffix.invariant.part c.loop-suffix.invariant.found c.in_ok-reached.ensures.part c.in_ok-reached.ensures.found in
+    (part_reached c.args.base) (part_reached c.loop-suffix.reached) (part_reached c.in_ok-reached.reached)
+    c.loop-suffix.invariant.part c.loop-suffix.invariant.found c.in_ok-reached.ensures.part c.in_ok-reached.ensures.found in
     let more = map_more suffix_step c.args.suffixes.now c.loop-suffix.suffix-index c.suffix-item.result (search rules) (search rules) in
     let all = subst (λ steps. TakesOn steps c.args.known.now.entries (part_reached c.args.base) (part_reached c.in_ok-reached.reached) c.args.found.now c.take_step.new.found) (sym more) on in
     record { part = all.part; found = all.found }
