@@ -3,3 +3,6 @@ mod Equivalence
 mod Examples
 mod Lines
 mod Seconds
+mod Forms
+mod Judgements
+mod Ways

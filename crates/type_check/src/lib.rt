@@ -10,6 +10,8 @@ mod judge;
 pub mod laws;
 mod memory;
 pub mod part;
+mod rules;
+mod steps;
 mod texts;
 mod walk;
 

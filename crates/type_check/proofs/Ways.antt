@@ -1,0 +1,39 @@
+-- The steps of references, and the rows of operations.
+use Rattle.std.proofs.Common.{◌≡◌, ◌≤◌, List, [], ◌∷◌, map, length, refl, sym, ap, ◌∙◌, arith}
+use Rattle.std.specs.Prelude.{Option, Some, None, find, ◌==◌}
+use Rattle.std.proofs.lemmas.Grind.{common_steps}
+use Rattle.bit_words.specs.declared.value.Kind.{Kind as Sign}
+use Rattle.prim_ops.specs.declared.operation.PrimOp.{PrimOp}
+use Rattle.fir_types.specs.declared.fir_type.Shape.TheVariants as shape
+use Rattle.fir_types.specs.declared.fir_type.Shape.TheViews.{out-Shape}
+use Rattle.fir_types.specs.declared.fir_type.Shape.TheVariants.{outs-Bundle}
+use Rattle.fir_types.specs.declared.fir_type.Field.{Field}
+use Rattle.fir_types.specs.declared.name.Name.{Name}
+use Rattle.type_check.specs.declared.part.Part.{Part}
+use Rattle.type_check.specs.Parts.{part_of, flow_through}
+use Rattle.type_check.specs.declared.rules.Operand.{Operand as Held}
+use Rattle.type_check.specs.Texts.{sign_of}
+use Rattle.type_check.specs.Expressions.{field_step, field_found, stands, row_of, with_sign, signs_of}
+use Rattle.type_check.specs.Judging.{operand_of}
+
+pub first_field : (name : Name) (base : Part) (fields : List Field) (field : Field) → base.typ.shape ≡ shape.Bundle fields
+    → find (λ f. f.name.id == name.id) fields ≡ Some field
+    → field_step name base (out-Shape base.typ.shape) ≡ stands (part_of field.typ (flow_through field.flip base.flow))
+first_field name base fields field is found =
+    ap (λ s. field_step name base (out-Shape s)) is ∙ ap (field_step name base) (outs-Bundle fields) ∙ ap (field_found name base) found
+
+-- Rows of operations
+
+more_signs : (op : PrimOp) (x y z : Option Sign) (rest : Option (List Sign)) → row_of op (with_sign x (with_sign y (with_sign z rest))) ≡ None
+more_signs op None y z rest = refl
+more_signs op (Some x) None z rest = refl
+more_signs op (Some x) (Some y) None rest = refl
+more_signs op (Some x) (Some y) (Some z) None = refl
+more_signs op (Some x) (Some y) (Some z) (Some rest) = refl
+
+-- no operation takes three operands or more
+pub no_row : (op : PrimOp) (held : List Held) → 3 ≤ length held → None ≡ row_of op (signs_of (map operand_of held))
+no_row op [] h = grind (arith, common_steps)
+no_row op (a ∷ []) h = grind (arith, common_steps)
+no_row op (a ∷ b ∷ []) h = grind (arith, common_steps)
+no_row op (a ∷ b ∷ c ∷ more) h = sym (more_signs op (sign_of a.typ) (sign_of b.typ) (sign_of c.typ) (signs_of (map operand_of more)))

@@ -1,0 +1,16 @@
+use Rattle.std.proofs.Common.{rules, ap, sym, append-nil, ◌∙◌, ◌++◌}
+use Rattle.std.specs.Prelude.{Some}
+use Rattle.type_check.specs.Parts.{part_of}
+use Rattle.type_check.specs.Judging.{part_at}
+use Rattle.type_check.proofs.Ways.{first_field}
+use Rattle.type_check.proofs.steps.to_field.Goals as goal
+
+pub returns-in-Some-clause-part : goal.returns-in-Some-clause-part
+returns-in-Some-clause-part c =
+    let is = first_field c.args.name (part_at c.args.base) c.in-Bundle.fields c.in-Some.field.now (search rules) (search rules) in
+    ap (λ flow. Some (part_of c.in-Some.field.now.typ flow)) c.through.ensures ∙ ap (λ j. j.part) (sym is)
+
+pub returns-in-Some-clause-faults : goal.returns-in-Some-clause-faults
+returns-in-Some-clause-faults c =
+    let is = first_field c.args.name (part_at c.args.base) c.in-Bundle.fields c.in-Some.field.now (search rules) (search rules) in
+    sym (append-nil c.args.faults.now.items) ∙ ap (λ j. c.args.faults.now.items ++ j.faults) (sym is)

@@ -1,0 +1,114 @@
+//! The steps of a reference, each from a part that has a type (FIRRTL specification 3.0, "References" and "Flows").
+
+ghost use Rattle.std.specs.Prelude.{◌≡◌, ◌++◌, ◌∷◌, [], None, IfOk, OnOk};
+ghost use Rattle.fir_types.specs.declared.fir_type.Shape.TheViews.{out-Shape};
+ghost use Rattle.type_check.specs.Parts.{flow_through};
+ghost use Rattle.type_check.specs.Expressions.{field_step, element_step, index_step};
+ghost use Rattle.type_check.specs.Judging.{part_at, part_reached};
+
+use crate::fault::{Found, Kind};
+use crate::part::{Flow, Part};
+use crate::texts::is_unsigned;
+use fir_types::{FirType, Name, Shape, field_of};
+use place_text::Place;
+use std::alloc::AllocError;
+
+/// What a reference has come to.
+#[derive(Clone, Copy)]
+pub struct Reached<'a> {
+    pub typ: &'a FirType,
+    pub flow: Flow,
+}
+
+/// The field of this name, the first one. Adds a fault where there is none.
+pub fn to_field<'a>(
+    faults: &mut Vec<Found>,
+    base: Reached<'a>,
+    name: Name,
+) -> Result<Option<Reached<'a>>, AllocError>
+    ensures part { IfOk result (λ reached. part_reached reached ≡ (field_step name (part_at base.entry) (out-Shape base.entry.typ.now.shape)).part) }
+    ensures faults { OnOk result (faults.new.items ≡ faults.old.items ++ (field_step name (part_at base.entry) (out-Shape base.entry.typ.now.shape)).faults) }
+{
+    let Shape::Bundle(fields) = &base.typ.shape else {
+        return fail(faults, Kind::NotBundle, name.place);
+    };
+    match field_of(fields.as_slice(), name.id) {
+        Some(field) => Ok(Some(Reached {
+            typ: &field.typ,
+            flow: through(field.flip, base.flow),
+        })),
+        None => fail(faults, Kind::FieldUnknown, name.place),
+    }
+}
+
+/// The element of this number, which stands at a place behind the bracket. Adds a fault where there is none.
+pub fn to_element<'a>(
+    faults: &mut Vec<Found>,
+    base: Reached<'a>,
+    bracket: Place,
+    at: Place,
+    number: u128,
+) -> Result<Option<Reached<'a>>, AllocError>
+    ensures part { IfOk result (λ reached. part_reached reached ≡ (element_step bracket at number (part_at base.entry) (out-Shape base.entry.typ.now.shape)).part) }
+    ensures faults { OnOk result (faults.new.items ≡ faults.old.items ++ (element_step bracket at number (part_at base.entry) (out-Shape base.entry.typ.now.shape)).faults) }
+{
+    let Shape::Vector(element, length) = &base.typ.shape else {
+        return fail(faults, Kind::NotVector, bracket);
+    };
+    if number < *length {
+        Ok(Some(Reached {
+            typ: element.get(),
+            flow: base.flow,
+        }))
+    } else {
+        fail(faults, Kind::IndexRange, at)
+    }
+}
+
+/// The element that an index gives, which stands at a place behind the bracket. Adds a fault where there is none.
+pub fn to_indexed<'a>(
+    faults: &mut Vec<Found>,
+    base: Reached<'a>,
+    bracket: Place,
+    at: Place,
+    index: &Part,
+) -> Result<Option<Reached<'a>>, AllocError>
+    ensures part { IfOk result (λ reached. part_reached reached ≡ (index_step bracket at index.now (part_at base.entry) (out-Shape base.entry.typ.now.shape)).part) }
+    ensures faults { OnOk result (faults.new.items ≡ faults.old.items ++ (index_step bracket at index.now (part_at base.entry) (out-Shape base.entry.typ.now.shape)).faults) }
+{
+    let Shape::Vector(element, _) = &base.typ.shape else {
+        return fail(faults, Kind::NotVector, bracket);
+    };
+    if is_unsigned(&index.typ) {
+        Ok(Some(Reached {
+            typ: element.get(),
+            flow: base.flow,
+        }))
+    } else {
+        fail(faults, Kind::IndexKind, at)
+    }
+}
+
+/// The flow of a field of what has this flow.
+fn through(flip: bool, flow: Flow) -> Flow
+    ensures { result ≡ flow_through flip flow }
+{
+    match (flip, flow) {
+        (false, _) | (true, Flow::Duplex) => flow,
+        (true, Flow::Source) => Flow::Sink,
+        (true, Flow::Sink) => Flow::Source,
+    }
+}
+
+/// Adds a fault, behind which nothing is reached.
+fn fail<'a>(
+    faults: &mut Vec<Found>,
+    kind: Kind,
+    place: Place,
+) -> Result<Option<Reached<'a>>, AllocError>
+    ensures none { IfOk result (λ reached. part_reached reached ≡ None) }
+    ensures fault { OnOk result (faults.new.items ≡ faults.old.items ++ record { kind = kind; place = place } ∷ []) }
+{
+    faults.push(Found { kind, place })?;
+    Ok(None)
+}
