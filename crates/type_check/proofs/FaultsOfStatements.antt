@@ -19,8 +19,6 @@ use Rattle.fir_tree.specs.declared.circuit.Module.{Module}
 use Rattle.prim_ops.specs.declared.operation.PrimOp.TheVariants.{Add, AsUInt}
 use Rattle.type_check.specs.declared.part.Flow.TheVariants.{Source, Sink, Duplex}
 use Rattle.type_check.specs.declared.fault.Kind.TheVariants as kind
-use Rattle.type_check.specs.Parts.{Known, part_of}
-use Rattle.type_check.specs.Expressions.{found_of}
 use Rattle.type_check.specs.Statements.{module_walk}
 use Rattle.type_check.specs.Flows.{module_flows}
 
@@ -86,13 +84,6 @@ flip_in_node = grind (arith, common_steps, stmt_lemmas, expr_lemmas, type_lemmas
 too_great : (module_walk [] (module_of [] (stmt.Node (name 24 3) (number 5 2 4) ∷ [])) []).faults
     ≡ record { kind = kind.LiteralFit; place = record { line = 1; column = 5 } } ∷ []
 too_great = grind (arith, common_steps, stmt_lemmas, expr_lemmas, type_lemmas)
-
--- `a.z.q`: the fault in the first step stands, and the second isn't judged.
-abbrev one_known : Known
-one_known = (20, part_of (typ 1 (shape.Bundle (field 30 ∷ []))) Source) ∷ []
-
-first_step : (found_of one_known (part 20 5 (dot 33 6 ∷ dot 34 9 ∷ []))).faults ≡ record { kind = kind.FieldUnknown; place = record { line = 1; column = 6 } } ∷ []
-first_step = grind (arith, common_steps, expr_lemmas)
 
 -- `connect o, asUInt(c)` of a clock: the operation has no row for it, and the connect isn't judged.
 clock_operand : (module_walk [] (module_of (input 20 (typ 1 shape.Clock) ∷ output 22 uint ∷ [])

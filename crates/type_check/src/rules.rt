@@ -10,7 +10,7 @@ ghost use Rattle.type_check.specs.Judging.{operand_of};
 
 use crate::fault::{Found, Kind};
 use crate::part::{Flow, Part};
-use crate::texts::{are_equivalent, fits_literal, is_passive, is_unsigned, sign_of};
+use crate::texts::{are_equivalent, fits_literal, is_passive, is_unsigned, push_unless, sign_of};
 use bit_words::{Kind as Sign, Number};
 use fir_types::{FirType, Shape, copy, has_clock};
 use place_text::Place;
@@ -130,21 +130,6 @@ fn push_choice(
     push_unless(faults, passive, Kind::NotPassive, second.place)?;
     let equivalent = are_equivalent(&first.typ, &second.typ);
     push_unless(faults, equivalent, Kind::NotEquivalent, second.place)
-}
-
-/// Adds a fault where the condition isn't met.
-fn push_unless(
-    faults: &mut Vec<Found>,
-    met: bool,
-    kind: Kind,
-    place: Place,
-) -> Result<(), AllocError>
-    ensures { OnOk result (faults.new.items ≡ faults.old.items ++ unless met kind place) }
-{
-    if !met {
-        faults.push(Found { kind, place })?;
-    }
-    Ok(())
 }
 
 /// A type of this kind.
