@@ -5,3 +5,5 @@ pub mod Memories
 pub mod Statements
 pub mod Faults
 pub mod Walks
+pub mod Earliest
+pub mod Indexes

@@ -3,10 +3,12 @@
 #![tactic(auto)]
 
 mod checking;
+mod earliest;
 pub mod fault;
 mod found;
 mod judge;
 mod memory;
+mod modules;
 pub mod part;
 mod texts;
 mod walk;
