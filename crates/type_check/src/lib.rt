@@ -3,6 +3,8 @@
 #![tactic(auto)]
 
 mod checking;
+mod conditions;
+mod declarations;
 mod earliest;
 pub mod fault;
 mod found;
