@@ -6,7 +6,7 @@ ghost use Rattle.type_check.specs.declared.part.Flow.TheVariants.{Duplex as A_du
 ghost use Rattle.type_check.specs.Parts.{part_of, source_of};
 ghost use Rattle.type_check.specs.Texts.{twice_in, stored_faults};
 ghost use Rattle.type_check.specs.Memories.{memory_faults};
-ghost use Rattle.type_check.specs.Statements.{and_then, notes, declares, expects, names_node, instance_in, port_walk, clock_faults, condition_faults, init_faults};
+ghost use Rattle.type_check.specs.Statements.{and_then, notes, declares, expects, names_node, instance_in, port_walk, port_flow, clock_faults, condition_faults, init_faults};
 ghost use Rattle.type_check.specs.Walks.{Walks};
 
 use crate::conditions::{expect_clock, expect_condition, expect_init, push_unless};
@@ -24,13 +24,19 @@ use std::alloc::{AllocError, Global};
 pub fn declare_port(alloc: Global, walk: &mut Walk, port: &Port) -> Result<(), AllocError>
     ensures { OnOk result (Walks (port_walk port.now) walk.old walk.new) }
 {
-    let flow = if port.output {
+    push_twice(alloc, &mut walk.found.faults, &port.typ)?;
+    declare(alloc, walk, port.name, &port.typ, flow_of(port))
+}
+
+/// An input can be read inside its module, and an output driven.
+fn flow_of(port: &Port) -> Flow
+    ensures { result ≡ port_flow port.now }
+{
+    if port.output {
         Flow::Sink
     } else {
         Flow::Source
-    };
-    push_twice(alloc, &mut walk.found.faults, &port.typ)?;
-    declare(alloc, walk, port.name, &port.typ, flow)
+    }
 }
 
 pub fn declare_wire(
