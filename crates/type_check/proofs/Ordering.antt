@@ -1,6 +1,6 @@
 -- The order of faults, and the earliest of a list.
-use Rattle.std.proofs.Common.{◌≡◌, ℕ, zero, suc, ◌+◌, ◌<◌, ◌≤◌, List, [], ◌∷◌, ◌++◌, length, take, get_or, refl, sym, ap, ap₂, ◌∙◌, subst, arith, ⊎_elim, Some, Option}
-use Rattle.std.specs.Prelude.{None, Contains}
+use Rattle.std.proofs.Common.{◌≡◌, ℕ, zero, suc, ◌+◌, ◌<◌, ◌≤◌, List, [], ◌∷◌, ◌++◌, length, take, get_or, refl, sym, ap, ap₂, ◌∙◌, subst, arith, ⊎_elim, ◌⊎◌, inl, inr, Some, Option}
+use Rattle.std.specs.Prelude.{None, Contains, Result, Ok, Err, IfOk, IfErr, MatchResult}
 use Rattle.std.proofs.lemmas.List.{take_more}
 use Rattle.std.proofs.lemmas.List.Elements.{Contains-append_left, Contains-push, Contains-push_cases}
 use Rattle.place_text.specs.declared.place.Place.{Place}
@@ -8,8 +8,10 @@ use Rattle.type_check.specs.declared.fault.Found.{Found}
 use Rattle.type_check.specs.declared.fault.Kind.{Kind}
 use Rattle.type_check.specs.declared.fault.Kind.TheVariants as kind
 use Rattle.type_check.specs.declared.fault.TypeFault.{TypeFault}
+use Rattle.type_check.specs.declared.fault.TypeFault.TheVariants.{NoMemory}
+use Rattle.fir_types.specs.declared.fir_type.FirType.{FirType}
 use Rattle.type_check.specs.Faults.{IsNotLater, by_line, by_column, by_kind, rank, IsFault, IsFirst, IsFirstAnswer, answer}
-use Rattle.type_check.specs.Statements.{faults_of}
+use Rattle.type_check.specs.Statements.{faults_of, types_of}
 use Rattle.type_check.specs.Earliest.{IsEarliest, Best, Earlier, only, stays, turns}
 use Rattle.fir_tree.specs.declared.circuit.Circuit.{Circuit}
 
@@ -110,3 +112,16 @@ answered circuit faults f given same e is =
 -- no fault is in an empty list
 pub no_fault : (circuit : Circuit) (faults : List Found) → faults ≡ faults_of circuit → faults ≡ [] → (k : Kind) (p : Place) → ¬ (IsFault circuit k p)
 no_fault circuit faults same none k p h = let g : Contains [] (record { kind = k; place = p }) = subst (λ l. Contains l (record { kind = k; place = p })) (sym same ∙ none) h in absurd (omega (arith, g.1))
+
+pub accepts_from : (circuit : Circuit) (result : Result (List FirType) TypeFault) → IfOk result (λ types. types ≡ types_of circuit)
+    → IfErr result (λ fault. (fault ≡ NoMemory) ⊎ IsFirstAnswer circuit fault)
+    → ((k : Kind) (p : Place) → ¬ (IsFault circuit k p)) → MatchResult result (λ types. types ≡ types_of circuit) (λ fault. fault ≡ NoMemory)
+accepts_from circuit (Ok types) ok err none = ok
+accepts_from circuit (Err fault) ok err none = ⊎_elim (λ e. e) (λ f. absurd (none f.kind' f.place f.first.is)) err
+
+pub refuses_from : (circuit : Circuit) (result : Result (List FirType) TypeFault) → IfOk result (λ types. (k : Kind) (p : Place) → ¬ (IsFault circuit k p))
+    → IfErr result (λ fault. (fault ≡ NoMemory) ⊎ IsFirstAnswer circuit fault)
+    → (k : Kind) (p : Place) → IsFirst circuit k p → MatchResult result (λ types. ⊥) (λ fault. (fault ≡ NoMemory) ⊎ (fault ≡ answer k p))
+refuses_from circuit (Ok types) none err k p first = none k p first.is
+refuses_from circuit (Err fault) none err k p first =
+    ⊎_elim (λ e. inl e) (λ f. (let same = one_first f.first first in inr (f.is ∙ ap₂ answer same.0 same.1))) err
