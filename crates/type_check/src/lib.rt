@@ -18,3 +18,6 @@ mod walk;
 pub use checking::check;
 pub use fault::TypeFault;
 pub use part::Flow;
+
+#[cfg(test)]
+mod tests;
