@@ -1,6 +1,6 @@
 -- The numbers of modules by name, one module after another.
-use Rattle.std.proofs.Common.{◌≡◌, ℕ, ◌+◌, ◌<◌, Bool, true, false, List, [], ◌∷◌, ◌++◌, length, take, get_or, refl, sym, ap, ap₂, ◌∙◌, subst, arith, if◌then◌else◌, true≢false}
-use Rattle.std.specs.Prelude.{is_some, cond, nat_eq, Option, Some, None, option_map, slice_get, find, ◌==◌}
+use Rattle.std.proofs.Common.{◌≡◌, ℕ, ◌+◌, ◌<◌, Bool, true, false, List, [], ◌∷◌, ◌++◌, length, take, get_or, refl, sym, ap, ◌∙◌, subst, if◌then◌else◌, true≢false}
+use Rattle.std.specs.Prelude.{is_some, cond, nat_eq, Option, Some, None, option_map, slice_get, ◌==◌}
 use Rattle.std.specs.Map.{lookup}
 use Rattle.std.proofs.lemmas.List.{take_more}
 use Rattle.std.proofs.lemmas.Option.{slice_get-get_or}

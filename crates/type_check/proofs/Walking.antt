@@ -1,7 +1,6 @@
 -- One walk behind another.
 use Rattle.std.proofs.Common.{◌≡◌, ℕ, ◌+◌, List, [], ◌∷◌, ◌++◌, map, length, take, refl, sym, ap, ap₂, ◌∙◌, append_assoc, append-nil, get_or, ◌<◌, subst}
-use Rattle.std.specs.List.{flat_map}
-use Rattle.std.proofs.lemmas.List.{map-append, take_more, nil_from_length}
+use Rattle.std.proofs.lemmas.List.{map-append, take_more}
 use Rattle.type_check.specs.declared.walk.Walk.{Walk}
 use Rattle.type_check.specs.declared.fault.Found.{Found}
 use Rattle.type_check.specs.Parts.{Known}

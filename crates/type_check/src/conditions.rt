@@ -27,11 +27,7 @@ pub fn expect_clock(alloc: Global, walk: &mut Walk, clock: &Expr) -> Result<(), 
 }
 
 /// A condition of an arm, or a reset.
-pub fn expect_condition(
-    alloc: Global,
-    walk: &mut Walk,
-    condition: &Expr,
-) -> Result<(), AllocError>
+pub fn expect_condition(alloc: Global, walk: &mut Walk, condition: &Expr) -> Result<(), AllocError>
     ensures { OnOk result (Walks (expects (condition_faults condition.now.place) condition.now) walk.old walk.new) }
 {
     if let Some(part) = judge(alloc, &walk.known, &mut walk.found, condition)? {
@@ -57,7 +53,12 @@ pub fn expect_init(
 {
     if let Some(part) = judge(alloc, &walk.known, &mut walk.found, init)? {
         let fits = are_equivalent(typ, &part.typ);
-        push_unless(&mut walk.found.faults, fits, Kind::NotEquivalent, init.place)?;
+        push_unless(
+            &mut walk.found.faults,
+            fits,
+            Kind::NotEquivalent,
+            init.place,
+        )?;
     }
     Ok(())
 }
@@ -71,12 +72,7 @@ pub fn invalidate(alloc: Global, walk: &mut Walk, target: &Expr) -> Result<(), A
 }
 
 /// A connect: the left side may be driven, the right side read, and both have equivalent types.
-pub fn connect(
-    alloc: Global,
-    walk: &mut Walk,
-    left: &Expr,
-    right: &Expr,
-) -> Result<(), AllocError>
+pub fn connect(alloc: Global, walk: &mut Walk, left: &Expr, right: &Expr) -> Result<(), AllocError>
     ensures { OnOk result (Walks (connects left.now right.now) walk.old walk.new) }
 {
     let sink = judge(alloc, &walk.known, &mut walk.found, left)?;
@@ -99,11 +95,7 @@ fn push_sink(faults: &mut Vec<Found>, at: Place, left: &Option<Part>) -> Result<
 }
 
 /// Adds a fault where what is read can only be driven. A sink without a `flip` can be read.
-fn push_source(
-    faults: &mut Vec<Found>,
-    at: Place,
-    right: &Option<Part>,
-) -> Result<(), AllocError>
+fn push_source(faults: &mut Vec<Found>, at: Place, right: &Option<Part>) -> Result<(), AllocError>
     ensures { OnOk result (faults.new.items ≡ faults.old.items ++ where_typed (source_faults at) right.now) }
 {
     if let Some(right) = right {

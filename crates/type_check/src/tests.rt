@@ -1,6 +1,6 @@
 use super::*;
 use bit_words::{Kind, List, Number};
-use fir_tree::{Arm, Circuit, Expr, Form, Module, Names, Scope, Stmt, Suffix};
+use fir_tree::{Arm, Circuit, Expr, Form, Module, Names, Scope, Stmt, Suffix, Types};
 use fir_types::{FirType, MemLine, Memory, Name, Port, PortMode, Shape, Under};
 use place_text::Place;
 use prim_ops::Prim;
@@ -153,13 +153,14 @@ fn ground(typ: &FirType) -> (char, Option<u128>) {
 
 /// The lines of a memory of 16 numbers with a port that reads, without the depth.
 fn lines(alloc: Global) -> Result<Vec<MemLine>, AllocError> {
-    vec![in alloc;
+    let lines = vec![in alloc;
         MemLine::Element(at(3), uint(8)),
         MemLine::ReadLatency(at(5), 0),
         MemLine::WriteLatency(at(6), 1),
         MemLine::ReadUnder(at(7), Under::Undefined),
         MemLine::MemPort(at(8), PortMode::Reader, name(B, 9)),
-    ]
+    ]?;
+    Ok(lines)
 }
 
 fn memory(id: u32, lines: Vec<MemLine>) -> Stmt {
@@ -190,24 +191,20 @@ fn when(alloc: Global, condition: Expr, then: Stmt, other: Stmt) -> Result<Stmt,
 ///   30 is invalid
 /// ```
 fn body(alloc: Global) -> Result<Vec<Stmt>, AllocError> {
-    let both = sum(
-        alloc,
-        reference(alloc, A, 16),
-        field(alloc, 31, A, 17)?,
-        15,
-    )?;
+    let both = sum(alloc, reference(alloc, A, 16), field(alloc, 31, A, 17)?, 15)?;
     let choice = when(
         alloc,
         reference(alloc, 32, 20),
         Stmt::Connect(reference(alloc, Y, 21), literal(2, 3, 22)),
         Stmt::Invalidate(reference(alloc, 30, 23)),
     )?;
-    vec![in alloc;
+    let body = vec![in alloc;
         Stmt::Reg(name(30, 10), uint(4), reference(alloc, C, 11)),
         Stmt::Inst(name(31, 12), name(LOW, 13)),
         Stmt::Node(name(32, 14), both),
         choice,
-    ]
+    ]?;
+    Ok(body)
 }
 
 #[test]

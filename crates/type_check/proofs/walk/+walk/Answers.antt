@@ -1,6 +1,6 @@
-use Rattle.std.proofs.Common.{rules, refl, map}
-use Rattle.type_check.specs.Statements.{stmt_walk, arm_walk, in_turn}
-use Rattle.type_check.proofs.Walking.{walks_push, walks_then}
+use Rattle.std.proofs.Common.{rules}
+use Rattle.type_check.specs.Statements.{stmt_walk, arm_walk}
+use Rattle.type_check.proofs.Walking.{walks_push}
 use Rattle.type_check.proofs.walk.+walk.Goals as goal
 
 pub walk_arms-loop-arm-preserved : goal.walk_arms-loop-arm-preserved
