@@ -6,3 +6,6 @@ mod Seconds
 mod Forms
 mod Judgements
 mod Ways
+mod Indexing
+mod Ordering
+mod Walking

@@ -8,3 +8,5 @@ pub mod Faults
 pub mod Flows
 pub mod Walks
 pub mod Judging
+pub mod Earliest
+pub mod Indexes

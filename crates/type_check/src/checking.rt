@@ -1,15 +1,21 @@
 //! The types of all expressions of a circuit, or its first fault.
 
-ghost use Rattle.std.specs.Prelude.{◌≡◌, ◌⊎◌, IfOk, IfErr, MatchResult};
+ghost use Rattle.std.specs.Prelude.{◌≡◌, ◌⊎◌, ◌++◌, [], IfOk, IfErr, OnOk, MatchResult};
+ghost use Rattle.std.specs.List.{flat_map};
 ghost use Rattle.place_text.specs.declared.place.Place.{Place as APlace};
 ghost use Rattle.type_check.specs.declared.fault.Kind.{Kind as AKind};
 ghost use Rattle.type_check.specs.declared.fault.TypeFault.TheVariants.{NoMemory as No_memory};
-ghost use Rattle.type_check.specs.Statements.{types_of};
+ghost use Rattle.type_check.specs.Statements.{types_of, faults_of, module_walk};
 ghost use Rattle.type_check.specs.Faults.{IsFault, IsFirst, IsFirstAnswer, answer};
 
+use crate::earliest::{answer, earliest};
 use crate::fault::TypeFault;
-use fir_tree::{Circuit, Scope, Types};
-use std::alloc::Global;
+use crate::found::Findings;
+use crate::modules::Modules;
+use crate::walk::walk_module;
+use bit_words::List;
+use fir_tree::{Circuit, Module, Scope, Types};
+use std::alloc::{AllocError, Global};
 
 /// The type of each expression in text order, or the first fault of the circuit's types by place, and at one place by kind
 /// (FIRRTL specification 3.0, "Types", "Expressions", "Connects").
@@ -25,5 +31,47 @@ pub fn check(alloc: Global, circuit: &Circuit, scope: &Scope) -> Result<Types, T
     // and a circuit with a fault is answered by the first one, or by want of memory
     ensures refuses { (kind : AKind) (place : APlace) → IsFirst circuit.now kind place → MatchResult result (λ types. ⊥) (λ fault. (fault ≡ No_memory) ⊎ (fault ≡ answer kind place)) }
 {
-    Err(TypeFault::NoMemory)
+    settle(alloc, circuit)
+}
+
+fn settle(alloc: Global, circuit: &Circuit) -> Result<Types, TypeFault>
+    ensures ok { IfOk result (λ types. types ≡ types_of circuit.now) }
+    ensures none { IfOk result (λ types. (kind : AKind) (place : APlace) → ¬ (IsFault circuit.now kind place)) }
+    ensures fault { IfErr result (λ fault. (fault ≡ No_memory) ⊎ IsFirstAnswer circuit.now fault) }
+{
+    let Findings { types, faults } = find(alloc, circuit)?;
+    match earliest(faults.as_slice()) {
+        Some(first) => Err(answer(first)),
+        None => Ok(List::from_vec(types)),
+    }
+}
+
+/// The types, with all faults.
+fn find(alloc: Global, circuit: &Circuit) -> Result<Findings, AllocError>
+    ensures types { IfOk result (λ found. found.types.items ≡ types_of circuit.now) }
+    ensures faults { IfOk result (λ found. found.faults.items ≡ faults_of circuit.now) }
+{
+    let modules = Modules::new(alloc, circuit.modules.as_slice())?;
+    let mut found = Findings {
+        types: Vec::new(alloc),
+        faults: Vec::new(alloc),
+    };
+    walk_modules(alloc, &modules, modules.all, &mut found)?;
+    Ok(found)
+}
+
+/// Adds the types and the faults of some modules, where these are all modules.
+fn walk_modules(
+    alloc: Global,
+    modules: &Modules<'_>,
+    holders: &[Module],
+    found: &mut Findings,
+) -> Result<(), AllocError>
+    ensures types { OnOk result (found.new.types.items ≡ found.old.types.items ++ flat_map (λ m. (module_walk modules.now.all.now m []).nodes) holders.now) }
+    ensures faults { OnOk result (found.new.faults.items ≡ found.old.faults.items ++ flat_map (λ m. (module_walk modules.now.all.now m []).faults) holders.now) }
+{
+    for holder in holders {
+        walk_module(alloc, modules, holder, found)?;
+    }
+    Ok(())
 }

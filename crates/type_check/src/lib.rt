@@ -3,12 +3,16 @@
 #![tactic(auto)]
 
 mod checking;
+mod conditions;
+mod declarations;
+mod earliest;
 pub mod fault;
 mod flows;
 mod found;
 mod judge;
 pub mod laws;
 mod memory;
+mod modules;
 pub mod part;
 mod rules;
 mod steps;
@@ -19,3 +23,6 @@ pub use checking::check;
 pub use fault::TypeFault;
 pub use flows::flow_of;
 pub use part::Flow;
+
+#[cfg(test)]
+mod tests;

@@ -1,0 +1,137 @@
+//! The conditions on the expressions of statements. Each is judged where the expressions that it speaks of have types.
+
+ghost use Rattle.std.specs.Prelude.{◌≡◌, ◌++◌, [], OnOk};
+ghost use Rattle.type_check.specs.Parts.{unless, where_typed};
+ghost use Rattle.type_check.specs.Statements.{expects, connects, clock_faults, condition_faults, init_faults, sink_faults, source_faults, equal_faults};
+ghost use Rattle.type_check.specs.Walks.{Walks};
+
+use crate::fault::{Found, Kind};
+use crate::judge::judge;
+use crate::part::{Flow, Part};
+use crate::texts::{are_equivalent, is_clock, is_passive, is_unsigned};
+use crate::walk::Walk;
+use fir_tree::Expr;
+use fir_types::FirType;
+use place_text::Place;
+use std::alloc::{AllocError, Global};
+
+/// A clock of a register.
+pub fn expect_clock(alloc: Global, walk: &mut Walk, clock: &Expr) -> Result<(), AllocError>
+    ensures { OnOk result (Walks (expects (clock_faults clock.now.place) clock.now) walk.old walk.new) }
+{
+    if let Some(part) = judge(alloc, &walk.known, &mut walk.found, clock)? {
+        let fits = is_clock(&part.typ);
+        push_unless(&mut walk.found.faults, fits, Kind::OperandKind, clock.place)?;
+    }
+    Ok(())
+}
+
+/// A condition of an arm, or a reset.
+pub fn expect_condition(alloc: Global, walk: &mut Walk, condition: &Expr) -> Result<(), AllocError>
+    ensures { OnOk result (Walks (expects (condition_faults condition.now.place) condition.now) walk.old walk.new) }
+{
+    if let Some(part) = judge(alloc, &walk.known, &mut walk.found, condition)? {
+        let fits = is_unsigned(&part.typ);
+        push_unless(
+            &mut walk.found.faults,
+            fits,
+            Kind::ConditionKind,
+            condition.place,
+        )?;
+    }
+    Ok(())
+}
+
+/// The value of a register of this type after a reset.
+pub fn expect_init(
+    alloc: Global,
+    walk: &mut Walk,
+    typ: &FirType,
+    init: &Expr,
+) -> Result<(), AllocError>
+    ensures { OnOk result (Walks (expects (init_faults typ.now init.now.place) init.now) walk.old walk.new) }
+{
+    if let Some(part) = judge(alloc, &walk.known, &mut walk.found, init)? {
+        let fits = are_equivalent(typ, &part.typ);
+        push_unless(
+            &mut walk.found.faults,
+            fits,
+            Kind::NotEquivalent,
+            init.place,
+        )?;
+    }
+    Ok(())
+}
+
+/// What is said to have no value yet: it may be anything.
+pub fn invalidate(alloc: Global, walk: &mut Walk, target: &Expr) -> Result<(), AllocError>
+    ensures { OnOk result (Walks (expects (λ part. []) target.now) walk.old walk.new) }
+{
+    judge(alloc, &walk.known, &mut walk.found, target)?;
+    Ok(())
+}
+
+/// A connect: the left side may be driven, the right side read, and both have equivalent types.
+pub fn connect(alloc: Global, walk: &mut Walk, left: &Expr, right: &Expr) -> Result<(), AllocError>
+    ensures { OnOk result (Walks (connects left.now right.now) walk.old walk.new) }
+{
+    let sink = judge(alloc, &walk.known, &mut walk.found, left)?;
+    let source = judge(alloc, &walk.known, &mut walk.found, right)?;
+    let faults = &mut walk.found.faults;
+    push_sink(faults, left.place, &sink)?;
+    push_source(faults, right.place, &source)?;
+    push_unequal(faults, right.place, &sink, &source)
+}
+
+/// Adds a fault where what is driven can only be read.
+fn push_sink(faults: &mut Vec<Found>, at: Place, left: &Option<Part>) -> Result<(), AllocError>
+    ensures { OnOk result (faults.new.items ≡ faults.old.items ++ where_typed (sink_faults at) left.now) }
+{
+    if let Some(left) = left {
+        let fits = !matches!(left.flow, Flow::Source);
+        push_unless(faults, fits, Kind::FlowSink, at)?;
+    }
+    Ok(())
+}
+
+/// Adds a fault where what is read can only be driven. A sink without a `flip` can be read.
+fn push_source(faults: &mut Vec<Found>, at: Place, right: &Option<Part>) -> Result<(), AllocError>
+    ensures { OnOk result (faults.new.items ≡ faults.old.items ++ where_typed (source_faults at) right.now) }
+{
+    if let Some(right) = right {
+        let fits = !matches!(right.flow, Flow::Sink) || is_passive(&right.typ);
+        push_unless(faults, fits, Kind::FlowSource, at)?;
+    }
+    Ok(())
+}
+
+/// Adds a fault where the types of both sides are not equivalent.
+fn push_unequal(
+    faults: &mut Vec<Found>,
+    at: Place,
+    left: &Option<Part>,
+    right: &Option<Part>,
+) -> Result<(), AllocError>
+    ensures { OnOk result (faults.new.items ≡ faults.old.items ++ where_typed (λ a. where_typed (equal_faults at a) right.now) left.now) }
+{
+    if let (Some(left), Some(right)) = (left, right) {
+        let fits = are_equivalent(&left.typ, &right.typ);
+        push_unless(faults, fits, Kind::NotEquivalent, at)?;
+    }
+    Ok(())
+}
+
+/// Adds a fault of this kind, unless the condition is met.
+pub fn push_unless(
+    faults: &mut Vec<Found>,
+    is_met: bool,
+    kind: Kind,
+    place: Place,
+) -> Result<(), AllocError>
+    ensures { OnOk result (faults.new.items ≡ faults.old.items ++ unless is_met kind place) }
+{
+    if !is_met {
+        faults.push(Found { kind, place })?;
+    }
+    Ok(())
+}

@@ -1,0 +1,148 @@
+//! The declarations of a module.
+
+ghost use Rattle.std.specs.Prelude.{◌≡◌, Some, OnOk};
+ghost use Rattle.fir_types.specs.Bundles.{memory_of};
+ghost use Rattle.type_check.specs.declared.part.Flow.TheVariants.{Duplex as A_duplex};
+ghost use Rattle.type_check.specs.Parts.{part_of, source_of};
+ghost use Rattle.type_check.specs.Texts.{twice_in, stored_faults};
+ghost use Rattle.type_check.specs.Memories.{memory_faults};
+ghost use Rattle.type_check.specs.Statements.{and_then, notes, declares, expects, names_node, instance_in, port_walk, port_flow, clock_faults, condition_faults, init_faults};
+ghost use Rattle.type_check.specs.Walks.{Walks};
+
+use crate::conditions::{expect_clock, expect_condition, expect_init, push_unless};
+use crate::fault::Kind;
+use crate::judge::judge;
+use crate::memory::push_memory;
+use crate::modules::{Modules, insert_new};
+use crate::part::{Flow, Part};
+use crate::texts::{is_passive, push_stored, push_twice};
+use crate::walk::Walk;
+use fir_tree::Expr;
+use fir_types::{FirType, Memory, Name, Port, copy, instance_type, memory_type};
+use std::alloc::{AllocError, Global};
+
+pub fn declare_port(alloc: Global, walk: &mut Walk, port: &Port) -> Result<(), AllocError>
+    ensures { OnOk result (Walks (port_walk port.now) walk.old walk.new) }
+{
+    push_twice(alloc, &mut walk.found.faults, &port.typ)?;
+    declare(alloc, walk, port.name, &port.typ, flow_of(port))
+}
+
+/// An input can be read inside its module, and an output driven.
+fn flow_of(port: &Port) -> Flow
+    ensures { result ≡ port_flow port.now }
+{
+    if port.output {
+        Flow::Sink
+    } else {
+        Flow::Source
+    }
+}
+
+pub fn declare_wire(
+    alloc: Global,
+    walk: &mut Walk,
+    name: Name,
+    typ: &FirType,
+) -> Result<(), AllocError>
+    ensures { OnOk result (Walks (and_then (notes (twice_in typ.now)) (declares name.id (Some (part_of typ.now A_duplex)))) walk.old walk.new) }
+{
+    push_twice(alloc, &mut walk.found.faults, typ)?;
+    declare(alloc, walk, name, typ, Flow::Duplex)
+}
+
+pub fn declare_register(
+    alloc: Global,
+    walk: &mut Walk,
+    name: Name,
+    typ: &FirType,
+    clock: &Expr,
+) -> Result<(), AllocError>
+    ensures { OnOk result (Walks (and_then (notes (stored_faults typ.now)) (and_then (expects (clock_faults clock.now.place) clock.now) (declares name.id (Some (part_of typ.now A_duplex))))) walk.old walk.new) }
+{
+    push_stored(alloc, &mut walk.found.faults, typ)?;
+    expect_clock(alloc, walk, clock)?;
+    declare(alloc, walk, name, typ, Flow::Duplex)
+}
+
+pub fn declare_reset_register(
+    alloc: Global,
+    walk: &mut Walk,
+    name: Name,
+    typ: &FirType,
+    clock: &Expr,
+    reset: &Expr,
+    init: &Expr,
+) -> Result<(), AllocError>
+    ensures { OnOk result (Walks (and_then (notes (stored_faults typ.now)) (and_then (expects (clock_faults clock.now.place) clock.now) (and_then (expects (condition_faults reset.now.place) reset.now) (and_then (expects (init_faults typ.now init.now.place) init.now) (declares name.id (Some (part_of typ.now A_duplex))))))) walk.old walk.new) }
+{
+    push_stored(alloc, &mut walk.found.faults, typ)?;
+    expect_clock(alloc, walk, clock)?;
+    expect_condition(alloc, walk, reset)?;
+    expect_init(alloc, walk, typ, init)?;
+    declare(alloc, walk, name, typ, Flow::Duplex)
+}
+
+pub fn declare_memory(alloc: Global, walk: &mut Walk, memory: &Memory) -> Result<(), AllocError>
+    ensures { OnOk result (Walks (and_then (notes (memory_faults memory.now)) (declares memory.now.name.id (Some (source_of (memory_of memory.now))))) walk.old walk.new) }
+{
+    push_memory(alloc, &mut walk.found.faults, memory)?;
+    let typ = memory_type(alloc, memory)?;
+    declare_source(walk, memory.name, typ)
+}
+
+/// An instance of a module. It has no type where there is no module of the name.
+pub fn declare_instance(
+    alloc: Global,
+    modules: &Modules<'_>,
+    walk: &mut Walk,
+    name: Name,
+    target: Name,
+) -> Result<(), AllocError>
+    ensures { OnOk result (Walks (declares name.id (instance_in modules.now.all.now target.id)) walk.old walk.new) }
+{
+    let Some(target) = modules.first(target.id) else {
+        return Ok(());
+    };
+    let typ = instance_type(alloc, target.ports.as_slice())?;
+    declare_source(walk, name, typ)
+}
+
+/// A node, which has the type of its expression where that has one.
+pub fn declare_node(
+    alloc: Global,
+    walk: &mut Walk,
+    name: Name,
+    expr: &Expr,
+) -> Result<(), AllocError>
+    ensures { OnOk result (Walks (names_node name.id expr.now) walk.old walk.new) }
+{
+    let Some(part) = judge(alloc, &walk.known, &mut walk.found, expr)? else {
+        return Ok(());
+    };
+    let fits = is_passive(&part.typ);
+    push_unless(&mut walk.found.faults, fits, Kind::NotPassive, expr.place)?;
+    declare_source(walk, name, part.typ)
+}
+
+/// A component of this type and flow.
+fn declare(
+    alloc: Global,
+    walk: &mut Walk,
+    name: Name,
+    typ: &FirType,
+    flow: Flow,
+) -> Result<(), AllocError>
+    ensures { OnOk result (Walks (declares name.id (Some (part_of typ.now flow))) walk.old walk.new) }
+{
+    let typ = copy(alloc, typ)?;
+    insert_new(&mut walk.known, name.id, Part { typ, flow })
+}
+
+/// A component of this type that can only be read.
+fn declare_source(walk: &mut Walk, name: Name, typ: FirType) -> Result<(), AllocError>
+    ensures { OnOk result (Walks (declares name.id (Some (source_of typ))) walk.old walk.new) }
+{
+    let flow = Flow::Source;
+    insert_new(&mut walk.known, name.id, Part { typ, flow })
+}
