@@ -1,5 +1,5 @@
--- What the grammar says of a laid list, and the names of its circuit, settle what the text is: accepted with one circuit, or
--- refused with one fault.
+-- What the grammar says of a laid list, and the names and types of its circuit, settle what the text is: accepted with one
+-- circuit, or refused with one fault.
 use Rattle.std.proofs.Common.{◌≡◌, ℕ, ◌≤◌, List, ◌⊎◌, ⊎_elim, length, refl, sym, ap, ◌∙◌, subst}
 use Rattle.std.specs.Prelude.{Option, Some, None, Result, Err}
 use Rattle.place_text.specs.declared.place.Place.{Place}
@@ -17,10 +17,15 @@ use Rattle.fir_names.specs.declared.fault.Kind.{Kind}
 use Rattle.fir_names.specs.declared.fault.Kind.TheVariants as naming
 use Rattle.fir_names.specs.declared.fault.NameFault.{NameFault}
 use Rattle.fir_names.specs.declared.fault.NameFault.TheVariants as given_fault
+use Rattle.type_check.specs.Faults.{IsFault as IsTypeFault, IsFirst as IsFirstOfTypes, IsFirstAnswer as IsFirstTypeAnswer, answer as type_answer}
+use Rattle.type_check.specs.declared.fault.Kind.{Kind as TypeKind}
+use Rattle.type_check.specs.declared.fault.Kind.TheVariants as typing
+use Rattle.type_check.specs.declared.fault.TypeFault.{TypeFault}
+use Rattle.type_check.specs.declared.fault.TypeFault.TheVariants as type_fault
 use Rattle.sim_top.specs.declared.front.TextFault.{TextFault}
 use Rattle.sim_top.specs.declared.front.TextFault.TheVariants.{Fault as Named, NoMemory as No_memory}
 use Rattle.sim_top.specs.declared.fault.Fault.{Fault}
-use Rattle.sim_top.specs.CircuitText.{IsFirstFault, of_tokens, of_layout, of_grammar, of_names, grammar_fault, naming_kind, IsParsed, IsAccepted, IsLaidOnly, IsAcceptedOnly, IsFaultOnly}
+use Rattle.sim_top.specs.CircuitText.{IsFirstFault, of_tokens, of_layout, of_grammar, of_names, of_types, grammar_fault, naming_kind, typing_kind, IsParsed, IsNamed, IsTyped, IsAccepted, IsLaidOnly, IsAcceptedOnly, IsFaultOnly}
 use Rattle.sim_top.specs.Answers.{IsRefusedText, has_fault, IsAcceptedText, circuit_limit}
 use Rattle.sim_top.proofs.Fronts.{same_error}
 
@@ -31,31 +36,30 @@ some_same x y e = cc
 abbrev Shallow : List ℕ → List Laid → Type 0
 Shallow text laid = (k : ℕ) → ¬ (IsDeepAt (pieces_of text laid) k)
 
-abbrev NoNameFault : Circuit → Type 0
-NoNameFault circuit = (kind : Kind) (p : Place) → ¬ (IsNameFault circuit kind p)
-
 -- one circuit
 parsed_once : (text : List ℕ) (circuit : Circuit) (laid : List Laid) → IsLaidOnly text laid → IsCircuit text laid circuit
     → (other : Circuit) (others : List Laid) → IsParsed text other others → (other ≡ circuit) × (others ≡ laid)
 parsed_once text circuit laid o spelled other others a = let same = o.only others a.laid_out in
     (one_circuit text laid other circuit (subst (λ x. IsCircuit text x other) same a.spelled) spelled, same)
 
--- the laid list spells a circuit whose names have no fault
-no_fault : (text : List ℕ) (circuit : Circuit) (laid : List Laid) → IsLaidOnly text laid → IsCircuit text laid circuit → Shallow text laid → NoNameFault circuit
+-- the laid list spells a circuit whose names and types have no fault
+no_fault : (text : List ℕ) (circuit : Circuit) (laid : List Laid) → IsLaidOnly text laid → IsCircuit text laid circuit → Shallow text laid → IsNamed circuit → IsTyped circuit
     → (fault : Fault) → ¬ (IsFirstFault text fault)
-no_fault text circuit laid o spelled shallow named _ (of_tokens at kind f) = o.lexed at kind f
-no_fault text circuit laid o spelled shallow named _ (of_layout at b) = o.indented at b
-no_fault text circuit laid o spelled shallow named _ (of_grammar other refusal fault l f e) =
+no_fault text circuit laid o spelled shallow named typed _ (of_tokens at kind f) = o.lexed at kind f
+no_fault text circuit laid o spelled shallow named typed _ (of_layout at b) = o.indented at b
+no_fault text circuit laid o spelled shallow named typed _ (of_grammar other refusal fault l f e) =
     accepted text laid circuit refusal spelled shallow (subst (λ x. FaultOf text x refusal) (o.only other l) f)
-no_fault text circuit laid o spelled shallow named _ (of_names others other kind p parsed first) =
+no_fault text circuit laid o spelled shallow named typed _ (of_names others other kind p parsed first) =
     named kind p (subst (λ x. IsNameFault x kind p) (parsed_once text circuit laid o spelled other others parsed).0 first.is)
+no_fault text circuit laid o spelled shallow named typed _ (of_types others other kind p parsed named' first) =
+    typed kind p (subst (λ x. IsTypeFault x kind p) (parsed_once text circuit laid o spelled other others parsed).0 first.is)
 
-accepted_only : (text : List ℕ) (circuit : Circuit) (laid : List Laid) → IsLaidOnly text laid → IsCircuit text laid circuit → Shallow text laid → NoNameFault circuit
+accepted_only : (text : List ℕ) (circuit : Circuit) (laid : List Laid) → IsLaidOnly text laid → IsCircuit text laid circuit → Shallow text laid → IsNamed circuit → IsTyped circuit
     → IsAcceptedOnly text circuit laid
-accepted_only text circuit laid o spelled shallow named = record {
-  is = record { parsed = record { laid_out = o.is; spelled = spelled; shallow = shallow }; named = named };
+accepted_only text circuit laid o spelled shallow named typed = record {
+  is = record { parsed = record { laid_out = o.is; spelled = spelled; shallow = shallow }; named = named; typed = typed };
   only = λ other others (a : IsAccepted text other others). parsed_once text circuit laid o spelled other others a.parsed;
-  none = no_fault text circuit laid o spelled shallow named;
+  none = no_fault text circuit laid o spelled shallow named typed;
   inside = o.inside;
 }
 
@@ -72,6 +76,7 @@ fault_only text laid refusal fault o f e _ (of_layout at b) = absurd (o.indented
 fault_only text laid refusal fault o f e _ (of_grammar others r other l g d) =
     let same = one_fault text laid r refusal (subst (λ x. FaultOf text x r) (o.only others l) g) f in some_same other fault (sym d ∙ ap grammar_fault same ∙ e)
 fault_only text laid refusal fault o f e _ (of_names others circuit kind p parsed first) = absurd (not_parsed text laid refusal o f circuit others parsed)
+fault_only text laid refusal fault o f e _ (of_types others circuit kind p parsed named first) = absurd (not_parsed text laid refusal o f circuit others parsed)
 
 refused_only : (text : List ℕ) (laid : List Laid) (refusal : ParseFault) (fault : Fault) → IsLaidOnly text laid → FaultOf text laid refusal → grammar_fault refusal ≡ Some fault
     → IsFaultOnly text fault
@@ -115,29 +120,98 @@ abbrev Refuses : Circuit → NameFault → Type 0
 Refuses circuit given = (kind : Kind) (p : Place) → IsFirst circuit kind p → (given ≡ given_fault.NoMemory) ⊎ (given ≡ answer kind p)
 
 name_fault_only : (text : List ℕ) (circuit : Circuit) (laid : List Laid) (kind : Kind) (p : Place) → IsLaidOnly text laid → IsCircuit text laid circuit → Shallow text laid
-    → Refuses circuit (answer kind p) → (other : Fault) → IsFirstFault text other → other ≡ naming_fault kind p
-name_fault_only text circuit laid kind p o spelled shallow refuses _ (of_tokens at other t) = absurd (o.lexed at other t)
-name_fault_only text circuit laid kind p o spelled shallow refuses _ (of_layout at b) = absurd (o.indented at b)
-name_fault_only text circuit laid kind p o spelled shallow refuses _ (of_grammar others refusal other l g d) =
+    → IsFirst circuit kind p → Refuses circuit (answer kind p) → (other : Fault) → IsFirstFault text other → other ≡ naming_fault kind p
+name_fault_only text circuit laid kind p o spelled shallow first refuses _ (of_tokens at other t) = absurd (o.lexed at other t)
+name_fault_only text circuit laid kind p o spelled shallow first refuses _ (of_layout at b) = absurd (o.indented at b)
+name_fault_only text circuit laid kind p o spelled shallow first refuses _ (of_grammar others refusal other l g d) =
     absurd (accepted text laid circuit refusal spelled shallow (subst (λ x. FaultOf text x refusal) (o.only others l) g))
-name_fault_only text circuit laid kind p o spelled shallow refuses _ (of_names others other of' q parsed first) =
-    same_answer kind of' p q (refuses of' q (subst (λ x. IsFirst x of' q) (parsed_once text circuit laid o spelled other others parsed).0 first))
+name_fault_only text circuit laid kind p o spelled shallow first refuses _ (of_names others other of' q parsed first') =
+    same_answer kind of' p q (refuses of' q (subst (λ x. IsFirst x of' q) (parsed_once text circuit laid o spelled other others parsed).0 first'))
+name_fault_only text circuit laid kind p o spelled shallow first refuses _ (of_types others other of' q parsed named first') =
+    absurd (named kind p (subst (λ x. IsNameFault x kind p) (sym (parsed_once text circuit laid o spelled other others parsed).0) first.is))
 
 misnamed_only : (text : List ℕ) (circuit : Circuit) (laid : List Laid) (kind : Kind) (p : Place) → IsLaidOnly text laid → IsCircuit text laid circuit → Shallow text laid
     → IsFirst circuit kind p → Refuses circuit (answer kind p) → IsFaultOnly text (naming_fault kind p)
 misnamed_only text circuit laid kind p o spelled shallow first refuses = record {
   is = of_names laid circuit kind p (record { laid_out = o.is; spelled = spelled; shallow = shallow }) first;
-  only = name_fault_only text circuit laid kind p o spelled shallow refuses;
+  only = name_fault_only text circuit laid kind p o spelled shallow first refuses;
   none = λ other others (a : IsAccepted text other others).
       a.named kind p (subst (λ x. IsNameFault x kind p) (sym (parsed_once text circuit laid o spelled other others a.parsed).0) first.is);
 }
 
+-- an answer for a fault of types tells its kind and its place
+abbrev typing_fault : TypeKind → Place → Fault
+typing_fault kind p = record { kind = typing_kind kind; place = p }
+
+abbrev told_type : TypeFault → Option Fault
+told_type (type_fault.FieldTwice p) = Some (typing_fault typing.FieldTwice p)
+told_type (type_fault.FieldUnknown p) = Some (typing_fault typing.FieldUnknown p)
+told_type (type_fault.NotBundle p) = Some (typing_fault typing.NotBundle p)
+told_type (type_fault.NotVector p) = Some (typing_fault typing.NotVector p)
+told_type (type_fault.IndexRange p) = Some (typing_fault typing.IndexRange p)
+told_type (type_fault.IndexKind p) = Some (typing_fault typing.IndexKind p)
+told_type (type_fault.OperandKind p) = Some (typing_fault typing.OperandKind p)
+told_type (type_fault.NotEquivalent p) = Some (typing_fault typing.NotEquivalent p)
+told_type (type_fault.FlowSink p) = Some (typing_fault typing.FlowSink p)
+told_type (type_fault.FlowSource p) = Some (typing_fault typing.FlowSource p)
+told_type (type_fault.ConditionKind p) = Some (typing_fault typing.ConditionKind p)
+told_type (type_fault.NotPassive p) = Some (typing_fault typing.NotPassive p)
+told_type (type_fault.LiteralFit p) = Some (typing_fault typing.LiteralFit p)
+told_type (type_fault.MemoryField p) = Some (typing_fault typing.MemoryField p)
+told_type type_fault.NoMemory = None
+
+told_type_answer : (kind : TypeKind) (p : Place) → told_type (type_answer kind p) ≡ Some (typing_fault kind p)
+told_type_answer typing.FieldTwice p = refl
+told_type_answer typing.FieldUnknown p = refl
+told_type_answer typing.NotBundle p = refl
+told_type_answer typing.NotVector p = refl
+told_type_answer typing.IndexRange p = refl
+told_type_answer typing.IndexKind p = refl
+told_type_answer typing.OperandKind p = refl
+told_type_answer typing.NotEquivalent p = refl
+told_type_answer typing.FlowSink p = refl
+told_type_answer typing.FlowSource p = refl
+told_type_answer typing.ConditionKind p = refl
+told_type_answer typing.NotPassive p = refl
+told_type_answer typing.LiteralFit p = refl
+told_type_answer typing.MemoryField p = refl
+
+same_type_answer : (kind other : TypeKind) (p q : Place) → (type_answer kind p ≡ type_fault.NoMemory) ⊎ (type_answer kind p ≡ type_answer other q)
+    → typing_fault other q ≡ typing_fault kind p
+same_type_answer kind other p q found = ⊎_elim
+    (λ m. absurd (let n : None ≡ Some (typing_fault kind p) = sym (ap told_type m) ∙ told_type_answer kind p in cc))
+    (λ e. some_same (typing_fault other q) (typing_fault kind p) (sym (told_type_answer other q) ∙ sym (ap told_type e) ∙ told_type_answer kind p)) found
+
+-- the types of the circuit have a fault, and the first one is answered
+abbrev RefusesTypes : Circuit → TypeFault → Type 0
+RefusesTypes circuit given = (kind : TypeKind) (p : Place) → IsFirstOfTypes circuit kind p → (given ≡ type_fault.NoMemory) ⊎ (given ≡ type_answer kind p)
+
+type_fault_only : (text : List ℕ) (circuit : Circuit) (laid : List Laid) (kind : TypeKind) (p : Place) → IsLaidOnly text laid → IsCircuit text laid circuit → Shallow text laid
+    → IsNamed circuit → RefusesTypes circuit (type_answer kind p) → (other : Fault) → IsFirstFault text other → other ≡ typing_fault kind p
+type_fault_only text circuit laid kind p o spelled shallow named refuses _ (of_tokens at other t) = absurd (o.lexed at other t)
+type_fault_only text circuit laid kind p o spelled shallow named refuses _ (of_layout at b) = absurd (o.indented at b)
+type_fault_only text circuit laid kind p o spelled shallow named refuses _ (of_grammar others refusal other l g d) =
+    absurd (accepted text laid circuit refusal spelled shallow (subst (λ x. FaultOf text x refusal) (o.only others l) g))
+type_fault_only text circuit laid kind p o spelled shallow named refuses _ (of_names others other of' q parsed first) =
+    absurd (named of' q (subst (λ x. IsNameFault x of' q) (parsed_once text circuit laid o spelled other others parsed).0 first.is))
+type_fault_only text circuit laid kind p o spelled shallow named refuses _ (of_types others other of' q parsed named' first) =
+    same_type_answer kind of' p q (refuses of' q (subst (λ x. IsFirstOfTypes x of' q) (parsed_once text circuit laid o spelled other others parsed).0 first))
+
+mistyped_only : (text : List ℕ) (circuit : Circuit) (laid : List Laid) (kind : TypeKind) (p : Place) → IsLaidOnly text laid → IsCircuit text laid circuit → Shallow text laid
+    → IsNamed circuit → IsFirstOfTypes circuit kind p → RefusesTypes circuit (type_answer kind p) → IsFaultOnly text (typing_fault kind p)
+mistyped_only text circuit laid kind p o spelled shallow named first refuses = record {
+  is = of_types laid circuit kind p (record { laid_out = o.is; spelled = spelled; shallow = shallow }) named first;
+  only = type_fault_only text circuit laid kind p o spelled shallow named refuses;
+  none = λ other others (a : IsAccepted text other others).
+      a.typed kind p (subst (λ x. IsTypeFault x kind p) (sym (parsed_once text circuit laid o spelled other others a.parsed).0) first.is);
+}
+
 -- the same for what a reader of the grammar answers, given the list that it read
 pub accepted_text : (text : List ℕ) (circuit : Circuit) (given laid : List Laid) → given ≡ laid → length text ≤ circuit_limit → IsLaidOnly text laid
-    → IsCircuit text given circuit → Shallow text given → NoNameFault circuit → IsAcceptedText text circuit laid
-accepted_text text circuit given laid same short o spelled shallow named = record {
+    → IsCircuit text given circuit → Shallow text given → IsNamed circuit → IsTyped circuit → IsAcceptedText text circuit laid
+accepted_text text circuit given laid same short o spelled shallow named typed = record {
   short = short;
-  accepted_only = accepted_only text circuit laid o (subst (λ x. IsCircuit text x circuit) same spelled) (subst (Shallow text) same shallow) named;
+  accepted_only = accepted_only text circuit laid o (subst (λ x. IsCircuit text x circuit) same spelled) (subst (Shallow text) same shallow) named typed;
 }
 
 pub refused_text : (text : List ℕ) (given laid : List Laid) (refusal : ParseFault) (fault : Fault) → given ≡ laid → length text ≤ circuit_limit → IsLaidOnly text laid
@@ -161,4 +235,20 @@ misnamed_text text circuit given laid found named fault same short o spelled sha
     subst (IsRefusedText text) h (has_fault text (naming_fault f.kind' f.place) short
     (misnamed_only text circuit laid f.kind' f.place o (subst (λ x. IsCircuit text x circuit) same spelled) (subst (Shallow text) same shallow) f.first
     (subst (Refuses circuit) f.is refuses))))
+    answered
+
+-- and for what a judge of types answers
+pub mistyped_text : {V : Type 0} (text : List ℕ) (circuit : Circuit) (given laid : List Laid) (found : TypeFault) (named : TextFault) (fault : Fault) → given ≡ laid
+    → length text ≤ circuit_limit → IsLaidOnly text laid → IsCircuit text given circuit → Shallow text given → IsNamed circuit
+    → (found ≡ type_fault.NoMemory) ⊎ IsFirstTypeAnswer circuit found → RefusesTypes circuit found
+    → ((kind : TypeKind) (p : Place) → found ≡ type_answer kind p → named ≡ Named (typing_fault kind p)) → (found ≡ type_fault.NoMemory → named ≡ No_memory)
+    → ◌≡◌ {A = Result V TextFault} (Err named) (Err (Named fault)) → IsRefusedText text fault
+mistyped_text text circuit given laid found named fault same short o spelled shallow sound answered refuses placed wanting e = ⊎_elim
+    (λ m. let g = wanting m in absurd (let h : No_memory ≡ Named fault = sym g ∙ same_error named (Named fault) e in cc))
+    (λ (f : IsFirstTypeAnswer circuit found).
+    let g = placed f.kind' f.place f.is in
+    let h : typing_fault f.kind' f.place ≡ fault = same_named (typing_fault f.kind' f.place) fault (sym g ∙ same_error named (Named fault) e) in
+    subst (IsRefusedText text) h (has_fault text (typing_fault f.kind' f.place) short
+    (mistyped_only text circuit laid f.kind' f.place o (subst (λ x. IsCircuit text x circuit) same spelled) (subst (Shallow text) same shallow) sound f.first
+    (subst (RefusesTypes circuit) f.is refuses))))
     answered

@@ -8,7 +8,7 @@ use Rattle.fir_layout.specs.Pieces.{pieces_of}
 use Rattle.sim_top.specs.declared.command.Command.{Command}
 use Rattle.sim_top.specs.declared.command.Command.TheVariants.{Run, Check}
 use Rattle.sim_top.specs.declared.fault.FaultKind.{FaultKind}
-use Rattle.sim_top.specs.declared.fault.FaultKind.TheVariants.{TooLong, NoStimulus, BadByte, BadToken, NumberRange, BadIndent, BadSyntax, BadVersion, Unsupported, TooDeep, NoMain, ModuleTwice, ModuleUnknown, InstanceLoop, NameTwice, NameUnknown}
+use Rattle.sim_top.specs.declared.fault.FaultKind.TheVariants.{TooLong, NoStimulus, BadByte, BadToken, NumberRange, BadIndent, BadSyntax, BadVersion, Unsupported, TooDeep, NoMain, ModuleTwice, ModuleUnknown, InstanceLoop, NameTwice, NameUnknown, FieldTwice, FieldUnknown, NotBundle, NotVector, IndexRange, IndexKind, OperandKind, NotEquivalent, FlowSink, FlowSource, ConditionKind, NotPassive, LiteralFit, MemoryField}
 use Rattle.sim_top.specs.declared.fault.Fault.{Fault}
 use Rattle.sim_top.specs.declared.fault.StimulusFault.{StimulusFault}
 use Rattle.sim_top.specs.declared.fault.StimulusFault.TheVariants.{BadLine}
@@ -52,6 +52,20 @@ kind_name ModuleUnknown = codes "ModuleUnknown"
 kind_name InstanceLoop = codes "InstanceLoop"
 kind_name NameTwice = codes "NameTwice"
 kind_name NameUnknown = codes "NameUnknown"
+kind_name FieldTwice = codes "FieldTwice"
+kind_name FieldUnknown = codes "FieldUnknown"
+kind_name NotBundle = codes "NotBundle"
+kind_name NotVector = codes "NotVector"
+kind_name IndexRange = codes "IndexRange"
+kind_name IndexKind = codes "IndexKind"
+kind_name OperandKind = codes "OperandKind"
+kind_name NotEquivalent = codes "NotEquivalent"
+kind_name FlowSink = codes "FlowSink"
+kind_name FlowSource = codes "FlowSource"
+kind_name ConditionKind = codes "ConditionKind"
+kind_name NotPassive = codes "NotPassive"
+kind_name LiteralFit = codes "LiteralFit"
+kind_name MemoryField = codes "MemoryField"
 
 abbrev pub stimulus_fault_name : StimulusFault → List ℕ
 stimulus_fault_name BadLine = codes "BadLine"

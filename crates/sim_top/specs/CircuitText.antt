@@ -1,5 +1,6 @@
 -- The circuit's text, stage by stage: its tokens, its layout, its grammar (FIRRTL specification 3.0, "FIRRTL Language
--- Definition") and its names ("Namespaces"). A stage judges only what the stages before it let pass.
+-- Definition"), its names ("Namespaces") and its types ("Types", "Expressions", "Connects"). A stage judges only what the stages
+-- before it let pass.
 use Rattle.std.specs.Prelude.{◌≡◌, ℕ, ◌≤◌, List, length, All, Option, Some, None}
 use Rattle.place_text.specs.Places.{place}
 use Rattle.fir_lexer.specs.Tokens.{IsFault, FaultKind as LexKind, Bad_byte, Bad_token, Number_range}
@@ -17,9 +18,12 @@ use Rattle.place_text.specs.declared.place.Place.{Place}
 use Rattle.fir_names.specs.Faults.{IsFault as IsNameFault, IsFirst}
 use Rattle.fir_names.specs.declared.fault.Kind.{Kind as NameKind}
 use Rattle.fir_names.specs.declared.fault.Kind.TheVariants as naming
+use Rattle.type_check.specs.Faults.{IsFault as IsTypeFault, IsFirst as IsFirstOfTypes}
+use Rattle.type_check.specs.declared.fault.Kind.{Kind as TypeKind}
+use Rattle.type_check.specs.declared.fault.Kind.TheVariants as typing
 use Rattle.sim_top.specs.declared.fault.Fault.{Fault}
 use Rattle.sim_top.specs.declared.fault.FaultKind.{FaultKind}
-use Rattle.sim_top.specs.declared.fault.FaultKind.TheVariants.{BadByte, BadToken, NumberRange, BadIndent, BadSyntax, BadVersion, Unsupported, TooDeep, NoMain, ModuleTwice, ModuleUnknown, InstanceLoop, NameTwice, NameUnknown}
+use Rattle.sim_top.specs.declared.fault.FaultKind.TheVariants.{BadByte, BadToken, NumberRange, BadIndent, BadSyntax, BadVersion, Unsupported, TooDeep, NoMain, ModuleTwice, ModuleUnknown, InstanceLoop, NameTwice, NameUnknown, FieldTwice, FieldUnknown, NotBundle, NotVector, IndexRange, IndexKind, OperandKind, NotEquivalent, FlowSink, FlowSource, ConditionKind, NotPassive, LiteralFit, MemoryField}
 
 -- the name of a lexer's fault
 abbrev pub lexing_kind : LexKind → FaultKind
@@ -44,11 +48,35 @@ naming_kind naming.InstanceLoop = InstanceLoop
 naming_kind naming.NameTwice = NameTwice
 naming_kind naming.NameUnknown = NameUnknown
 
+-- the name of a fault of types
+abbrev pub typing_kind : TypeKind → FaultKind
+typing_kind typing.FieldTwice = FieldTwice
+typing_kind typing.FieldUnknown = FieldUnknown
+typing_kind typing.NotBundle = NotBundle
+typing_kind typing.NotVector = NotVector
+typing_kind typing.IndexRange = IndexRange
+typing_kind typing.IndexKind = IndexKind
+typing_kind typing.OperandKind = OperandKind
+typing_kind typing.NotEquivalent = NotEquivalent
+typing_kind typing.FlowSink = FlowSink
+typing_kind typing.FlowSource = FlowSource
+typing_kind typing.ConditionKind = ConditionKind
+typing_kind typing.NotPassive = NotPassive
+typing_kind typing.LiteralFit = LiteralFit
+typing_kind typing.MemoryField = MemoryField
+
 -- The grammar accepts the text: it has this laid list, which spells this circuit and goes nowhere too deep.
 pub record IsParsed (text : List ℕ) (circuit : Circuit) (laid : List Laid) : Type 0 where
   pub laid_out : IsLaidOut text laid
   pub spelled : IsCircuit text laid circuit
   pub shallow : (k : ℕ) → ¬ (IsDeepAt (pieces_of text laid) k)
+
+-- the names of a circuit have no fault, and its types have none
+abbrev pub IsNamed : Circuit → Type 0
+IsNamed circuit = (kind : NameKind) (place' : Place) → ¬ (IsNameFault circuit kind place')
+
+abbrev pub IsTyped : Circuit → Type 0
+IsTyped circuit = (kind : TypeKind) (place' : Place) → ¬ (IsTypeFault circuit kind place')
 
 -- The first fault of the text, by the stage that finds it.
 pub data IsFirstFault (text : List ℕ) : Fault → Type 0 where
@@ -58,11 +86,14 @@ pub data IsFirstFault (text : List ℕ) : Fault → Type 0 where
       → grammar_fault refusal ≡ Some fault → IsFirstFault text fault
   of_names : (laid : List Laid) (circuit : Circuit) (kind : NameKind) (place' : Place) → IsParsed text circuit laid → IsFirst circuit kind place'
       → IsFirstFault text (record { kind = naming_kind kind; place = place' })
+  of_types : (laid : List Laid) (circuit : Circuit) (kind : TypeKind) (place' : Place) → IsParsed text circuit laid → IsNamed circuit
+      → IsFirstOfTypes circuit kind place' → IsFirstFault text (record { kind = typing_kind kind; place = place' })
 
--- The text passes all stages: the grammar accepts it, and the names of its circuit have no fault.
+-- The text passes all stages: the grammar accepts it, and the names and the types of its circuit have no fault.
 pub record IsAccepted (text : List ℕ) (circuit : Circuit) (laid : List Laid) : Type 0 where
   pub parsed : IsParsed text circuit laid
-  pub named : (kind : NameKind) (place' : Place) → ¬ (IsNameFault circuit kind place')
+  pub named : IsNamed circuit
+  pub typed : IsTyped circuit
 
 -- a token's bytes lie in the text
 abbrev pub IsInside : List ℕ → Laid → Type 0

@@ -1,4 +1,4 @@
-//! The circuit's text, through all stages that are built: tokens, layout, grammar and names.
+//! The circuit's text, through all stages that are built: tokens, layout, grammar, names and types.
 
 ghost use Rattle.std.specs.Prelude.{◌≡◌, ◌≤◌, Some, None, IfOk, Err, length};
 ghost use Rattle.place_text.specs.declared.place.Place.{Place as APlace};
@@ -6,7 +6,10 @@ ghost use Rattle.fir_tree.specs.declared.fault.ParseFault.{ParseFault as ARefusa
 ghost use Rattle.fir_names.specs.Scopes.{IsScope};
 ghost use Rattle.fir_names.specs.Faults.{answer};
 ghost use Rattle.fir_names.specs.declared.fault.Kind.{Kind as NameKind};
-ghost use Rattle.sim_top.specs.CircuitText.{IsLaidOnly, grammar_fault, naming_kind};
+ghost use Rattle.type_check.specs.Statements.{types_of};
+ghost use Rattle.type_check.specs.Faults.{answer as type_answer};
+ghost use Rattle.type_check.specs.declared.fault.Kind.{Kind as TypeKind};
+ghost use Rattle.sim_top.specs.CircuitText.{IsLaidOnly, grammar_fault, naming_kind, typing_kind};
 ghost use Rattle.sim_top.specs.declared.fault.Fault.{Fault as AFault};
 ghost use Rattle.sim_top.specs.Answers.{IsRefusedText, IsAcceptedText, circuit_limit};
 
@@ -15,14 +18,16 @@ use crate::front::{TextFault, lay_text};
 use fir_layout::Laid;
 use fir_names::{NameFault, resolve};
 use fir_parser::parse;
-use fir_tree::{Circuit, ParseFault, Scope};
+use fir_tree::{Circuit, ParseFault, Scope, Types};
 use std::alloc::Global;
+use type_check::{TypeFault, check};
 
-/// A circuit that has no fault, what its names mean, and the laid list of its text.
+/// A circuit that has no fault, what its names mean, the types of its expressions, and the laid list of its text.
 #[derive(Drop)]
 pub struct Accepted {
     pub circuit: Circuit,
     pub scope: Scope,
+    pub types: Types,
     pub laid: Vec<Laid>,
 }
 
@@ -30,6 +35,7 @@ pub struct Accepted {
 pub fn accept_text(alloc: Global, text: &[u8]) -> Result<Accepted, TextFault>
     ensures accepted { IfOk result (λ accepted. IsAcceptedText text.now accepted.circuit accepted.laid.items) }
     ensures scope { IfOk result (λ accepted. IsScope accepted.circuit accepted.scope) }
+    ensures types { IfOk result (λ accepted. accepted.types ≡ types_of accepted.circuit) }
     ensures fault { (fault : AFault) → result ≡ Err (TextFault.Fault fault) → IsRefusedText text.now fault }
 {
     match lay_text(alloc, text) {
@@ -38,21 +44,26 @@ pub fn accept_text(alloc: Global, text: &[u8]) -> Result<Accepted, TextFault>
     }
 }
 
-/// The circuit of a laid list, or the fault that the grammar finds, or the first one of its names.
+/// The circuit of a laid list, or the fault that the grammar finds, or the first one of its names, or of its types.
 fn accept_laid(alloc: Global, text: &[u8], laid: Vec<Laid>) -> Result<Accepted, TextFault>
     requires short { length text.now ≤ circuit_limit }
     requires laid { IsLaidOnly text.now laid.items }
     ensures accepted { IfOk result (λ accepted. IsAcceptedText text.now accepted.circuit accepted.laid.items) }
     ensures scope { IfOk result (λ accepted. IsScope accepted.circuit accepted.scope) }
+    ensures types { IfOk result (λ accepted. accepted.types ≡ types_of accepted.circuit) }
     ensures fault { (fault : AFault) → result ≡ Err (TextFault.Fault fault) → IsRefusedText text.now fault }
 {
     match parse(alloc, text, &laid) {
         Ok(circuit) => match resolve(alloc, &circuit) {
-            Ok(scope) => Ok(Accepted {
-                circuit,
-                scope,
-                laid,
-            }),
+            Ok(scope) => match check(alloc, &circuit, &scope) {
+                Ok(types) => Ok(Accepted {
+                    circuit,
+                    scope,
+                    types,
+                    laid,
+                }),
+                Err(fault) => Err(of_types(fault)),
+            },
             Err(fault) => Err(of_names(fault)),
         },
         Err(fault) => Err(of_grammar(fault)),
@@ -86,6 +97,31 @@ fn of_names(fault: NameFault) -> TextFault
         NameFault::NameTwice(place) => (FaultKind::NameTwice, place),
         NameFault::NameUnknown(place) => (FaultKind::NameUnknown, place),
         NameFault::NoMemory => return TextFault::NoMemory,
+    };
+    TextFault::Fault(Fault { kind, place })
+}
+
+/// The fault that the types have.
+fn of_types(fault: TypeFault) -> TextFault
+    ensures place { (kind : TypeKind) (place : APlace) → fault ≡ type_answer kind place → result ≡ TextFault.Fault (record { kind = typing_kind kind; place = place }) }
+    ensures memory { fault ≡ TypeFault.NoMemory → result ≡ TextFault.NoMemory }
+{
+    let (kind, place) = match fault {
+        TypeFault::FieldTwice(place) => (FaultKind::FieldTwice, place),
+        TypeFault::FieldUnknown(place) => (FaultKind::FieldUnknown, place),
+        TypeFault::NotBundle(place) => (FaultKind::NotBundle, place),
+        TypeFault::NotVector(place) => (FaultKind::NotVector, place),
+        TypeFault::IndexRange(place) => (FaultKind::IndexRange, place),
+        TypeFault::IndexKind(place) => (FaultKind::IndexKind, place),
+        TypeFault::OperandKind(place) => (FaultKind::OperandKind, place),
+        TypeFault::NotEquivalent(place) => (FaultKind::NotEquivalent, place),
+        TypeFault::FlowSink(place) => (FaultKind::FlowSink, place),
+        TypeFault::FlowSource(place) => (FaultKind::FlowSource, place),
+        TypeFault::ConditionKind(place) => (FaultKind::ConditionKind, place),
+        TypeFault::NotPassive(place) => (FaultKind::NotPassive, place),
+        TypeFault::LiteralFit(place) => (FaultKind::LiteralFit, place),
+        TypeFault::MemoryField(place) => (FaultKind::MemoryField, place),
+        TypeFault::NoMemory => return TextFault::NoMemory,
     };
     TextFault::Fault(Fault { kind, place })
 }

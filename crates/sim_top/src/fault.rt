@@ -25,6 +25,20 @@ pub enum FaultKind {
     InstanceLoop,
     NameTwice,
     NameUnknown,
+    FieldTwice,
+    FieldUnknown,
+    NotBundle,
+    NotVector,
+    IndexRange,
+    IndexKind,
+    OperandKind,
+    NotEquivalent,
+    FlowSink,
+    FlowSource,
+    ConditionKind,
+    NotPassive,
+    LiteralFit,
+    MemoryField,
 }
 
 impl FaultKind {
@@ -52,6 +66,20 @@ impl FaultKind {
             FaultKind::InstanceLoop => "InstanceLoop",
             FaultKind::NameTwice => "NameTwice",
             FaultKind::NameUnknown => "NameUnknown",
+            FaultKind::FieldTwice => "FieldTwice",
+            FaultKind::FieldUnknown => "FieldUnknown",
+            FaultKind::NotBundle => "NotBundle",
+            FaultKind::NotVector => "NotVector",
+            FaultKind::IndexRange => "IndexRange",
+            FaultKind::IndexKind => "IndexKind",
+            FaultKind::OperandKind => "OperandKind",
+            FaultKind::NotEquivalent => "NotEquivalent",
+            FaultKind::FlowSink => "FlowSink",
+            FaultKind::FlowSource => "FlowSource",
+            FaultKind::ConditionKind => "ConditionKind",
+            FaultKind::NotPassive => "NotPassive",
+            FaultKind::LiteralFit => "LiteralFit",
+            FaultKind::MemoryField => "MemoryField",
         }
     }
 }

@@ -46,6 +46,19 @@ fn answer(alloc: Global, call: Call<'_>) -> Result<(u8, Vec<u8>), AllocError> {
     Ok((status, Vec::from_slice(alloc, sink.bytes())?))
 }
 
+/// What `check` answers to a circuit M with these modules.
+fn check_of(alloc: Global, modules: &str) -> Result<(u8, Vec<u8>), AllocError> {
+    let mut input = String::from_str(alloc, "FIRRTL version 3.0.0\ncircuit M :\n")?;
+    input.push_str(modules)?;
+    let call = Call {
+        words: &["check"],
+        input: input.as_str(),
+        shelf_fails: &[],
+        sink_fails: &[],
+    };
+    answer(alloc, call)
+}
+
 #[test]
 fn runs_small_circuits(rt: HostRuntime) -> Result<(), Fail> {
     let clock =
@@ -146,15 +159,58 @@ fn checks_names(rt: HostRuntime) -> Result<(), Fail> {
             "ok\n",
         ),
     ] {
-        let mut input = String::from_str(rt.alloc(), "FIRRTL version 3.0.0\ncircuit M :\n")?;
-        input.push_str(modules)?;
-        let call = Call {
-            words: &["check"],
-            input: input.as_str(),
-            shelf_fails: &[],
-            sink_fails: &[],
-        };
-        let (given, written) = answer(rt.alloc(), call)?;
+        let (given, written) = check_of(rt.alloc(), modules)?;
+        assert_eq!(rt; given, status);
+        assert_eq!(rt; written.as_slice(), bytes.as_bytes());
+    }
+    Ok(())
+}
+
+#[test]
+fn checks_types(rt: HostRuntime) -> Result<(), Fail> {
+    for (modules, status, bytes) in [
+        (
+            "  module M :\n    input a : UInt<1>\n    connect a, UInt<1>(0)\n",
+            2,
+            "circuit FlowSink 5:13\n",
+        ),
+        (
+            "  module M :\n    input a : { x : UInt<1> }\n    node n = a.y\n",
+            2,
+            "circuit FieldUnknown 5:16\n",
+        ),
+        (
+            "  module M :\n    input a : UInt<1>[2]\n    node n = a[2]\n",
+            2,
+            "circuit IndexRange 5:16\n",
+        ),
+        (
+            "  module M :\n    input s : SInt<1>\n    when s :\n      skip\n",
+            2,
+            "circuit ConditionKind 5:10\n",
+        ),
+        (
+            "  module M :\n    node n = UInt<2>(4)\n",
+            2,
+            "circuit LiteralFit 4:14\n",
+        ),
+        (
+            "  module M :\n    skip\n  module N :\n    node n = add(UInt(1), SInt(1))\n",
+            2,
+            "circuit OperandKind 6:14\n",
+        ),
+        (
+            "  module M :\n    input a : UInt<1>\n    connect a, a\n    node n = z\n",
+            2,
+            "circuit NameUnknown 6:14\n",
+        ),
+        (
+            "  module M :\n    input a : UInt<9>\n    output o : UInt<1>\n    connect o, a\n",
+            0,
+            "ok\n",
+        ),
+    ] {
+        let (given, written) = check_of(rt.alloc(), modules)?;
         assert_eq!(rt; given, status);
         assert_eq!(rt; written.as_slice(), bytes.as_bytes());
     }
