@@ -8,7 +8,7 @@ ghost use Rattle.type_check.specs.Walks.{Walks};
 use crate::fault::{Found, Kind};
 use crate::judge::judge;
 use crate::part::{Flow, Part};
-use crate::texts::{are_equivalent, is_clock, is_passive, is_unsigned};
+use crate::texts::{are_equivalent, is_clock, is_passive, is_unsigned, push_unless};
 use crate::walk::Walk;
 use fir_tree::Expr;
 use fir_types::FirType;
@@ -117,21 +117,6 @@ fn push_unequal(
     if let (Some(left), Some(right)) = (left, right) {
         let fits = are_equivalent(&left.typ, &right.typ);
         push_unless(faults, fits, Kind::NotEquivalent, at)?;
-    }
-    Ok(())
-}
-
-/// Adds a fault of this kind, unless the condition is met.
-pub fn push_unless(
-    faults: &mut Vec<Found>,
-    is_met: bool,
-    kind: Kind,
-    place: Place,
-) -> Result<(), AllocError>
-    ensures { OnOk result (faults.new.items ≡ faults.old.items ++ unless is_met kind place) }
-{
-    if !is_met {
-        faults.push(Found { kind, place })?;
     }
     Ok(())
 }

@@ -9,13 +9,13 @@ ghost use Rattle.type_check.specs.Memories.{memory_faults};
 ghost use Rattle.type_check.specs.Statements.{and_then, notes, declares, expects, names_node, instance_in, port_walk, port_flow, clock_faults, condition_faults, init_faults};
 ghost use Rattle.type_check.specs.Walks.{Walks};
 
-use crate::conditions::{expect_clock, expect_condition, expect_init, push_unless};
+use crate::conditions::{expect_clock, expect_condition, expect_init};
 use crate::fault::Kind;
 use crate::judge::judge;
 use crate::memory::push_memory;
 use crate::modules::{Modules, insert_new};
 use crate::part::{Flow, Part};
-use crate::texts::{is_passive, push_stored, push_twice};
+use crate::texts::{is_passive, push_stored, push_twice, push_unless};
 use crate::walk::Walk;
 use fir_tree::Expr;
 use fir_types::{FirType, Memory, Name, Port, copy, instance_type, memory_type};
