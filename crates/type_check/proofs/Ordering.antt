@@ -1,6 +1,6 @@
 -- The order of faults, and the earliest of a list.
 use Rattle.std.proofs.Common.{◌≡◌, ℕ, zero, suc, ◌+◌, ◌<◌, ◌≤◌, List, [], ◌∷◌, ◌++◌, length, take, get_or, refl, sym, ap, ap₂, ◌∙◌, subst, arith, ⊎_elim, ◌⊎◌, inl, inr, Some, Option}
-use Rattle.std.specs.Prelude.{None, Contains, Result, Ok, Err, IfOk, IfErr, MatchResult}
+use Rattle.std.specs.Prelude.{None, Result, Ok, Err, IfOk, IfErr, MatchResult}
 use Rattle.std.proofs.lemmas.List.{take_more}
 use Rattle.std.proofs.lemmas.List.Elements.{Contains-append_left, Contains-push, Contains-push_cases}
 use Rattle.place_text.specs.declared.place.Place.{Place}
@@ -108,10 +108,6 @@ answered circuit faults f given same e is =
       first = record { is = g.stands; first = λ k p h. g.first (record { kind = k; place = p }) h };
       is = is;
     }
-
--- no fault is in an empty list
-pub no_fault : (circuit : Circuit) (faults : List Found) → faults ≡ faults_of circuit → faults ≡ [] → (k : Kind) (p : Place) → ¬ (IsFault circuit k p)
-no_fault circuit faults same none k p h = let g : Contains [] (record { kind = k; place = p }) = subst (λ l. Contains l (record { kind = k; place = p })) (sym same ∙ none) h in absurd (omega (arith, g.1))
 
 pub accepts_from : (circuit : Circuit) (result : Result (List FirType) TypeFault) → IfOk result (λ types. types ≡ types_of circuit)
     → IfErr result (λ fault. (fault ≡ NoMemory) ⊎ IsFirstAnswer circuit fault)

@@ -4,7 +4,7 @@ use Rattle.std.proofs.lemmas.List.{map-append, take_more}
 use Rattle.type_check.specs.declared.walk.Walk.{Walk}
 use Rattle.type_check.specs.declared.fault.Found.{Found}
 use Rattle.type_check.specs.Parts.{Known}
-use Rattle.type_check.specs.Statements.{Walk as Steps, nothing, and_then, in_turn, notes}
+use Rattle.type_check.specs.Statements.{Walk as Steps, and_then, in_turn, notes}
 use Rattle.type_check.specs.Walks.{Walks}
 
 -- a walk is one walk and then another
@@ -44,9 +44,6 @@ pub walks_noted : (faults : List Found) {q : Steps} {a b c : Walk} → b.known.e
 walks_noted faults {q} {a} {b} known types more k =
     let h : Walks (notes faults) a b = record { known = known; types = types ∙ sym (append-nil _); faults = more } in
     walks_then h k
-
-pub walks_nothing : (a : Walk) → Walks nothing a a
-walks_nothing a = record { known = refl; types = sym (append-nil _); faults = sym (append-nil _) }
 
 -- one more of walks in turn
 pub walks_push : {X : Type 0} (steps : X → Steps) (xs : List X) (i : ℕ) (x : X) {a b c : Walk} → i < length xs → x ≡ get_or xs i x

@@ -21,7 +21,8 @@ use std::alloc::{AllocError, Global};
 /// (FIRRTL specification 3.0, "Types", "Expressions", "Connects").
 ///
 /// All names of the circuit are known. A component is known by its name, since all declarations of a module have different
-/// names, so nothing of the scope is asked. Takes time and memory in proportion to the circuit and the types that it answers.
+/// names, so nothing of the scope is asked. Takes time and memory in proportion to the circuit, to the types that it answers,
+/// and to those of all instances and memories.
 pub fn check(alloc: Global, circuit: &Circuit, scope: &Scope) -> Result<Types, TypeFault>
     ensures ok { IfOk result (λ types. types ≡ types_of circuit.now) }
     ensures none { IfOk result (λ types. (kind : AKind) (place : APlace) → ¬ (IsFault circuit.now kind place)) }

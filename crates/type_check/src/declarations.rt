@@ -21,6 +21,7 @@ use fir_tree::Expr;
 use fir_types::{FirType, Memory, Name, Port, copy, instance_type, memory_type};
 use std::alloc::{AllocError, Global};
 
+/// A port, which is read or driven inside its module.
 pub fn declare_port(alloc: Global, walk: &mut Walk, port: &Port) -> Result<(), AllocError>
     ensures { OnOk result (Walks (port_walk port.now) walk.old walk.new) }
 {
@@ -39,6 +40,7 @@ fn flow_of(port: &Port) -> Flow
     }
 }
 
+/// A wire, which can be read and driven.
 pub fn declare_wire(
     alloc: Global,
     walk: &mut Walk,
@@ -51,6 +53,7 @@ pub fn declare_wire(
     declare(alloc, walk, name, typ, Flow::Duplex)
 }
 
+/// A register, with its clock.
 pub fn declare_register(
     alloc: Global,
     walk: &mut Walk,
@@ -65,6 +68,7 @@ pub fn declare_register(
     declare(alloc, walk, name, typ, Flow::Duplex)
 }
 
+/// A register with its clock, its reset, and its value after a reset.
 pub fn declare_reset_register(
     alloc: Global,
     walk: &mut Walk,
@@ -83,6 +87,7 @@ pub fn declare_reset_register(
     declare(alloc, walk, name, typ, Flow::Duplex)
 }
 
+/// A memory, which is a bundle of its ports.
 pub fn declare_memory(alloc: Global, walk: &mut Walk, memory: &Memory) -> Result<(), AllocError>
     ensures { OnOk result (Walks (and_then (notes (memory_faults memory.now)) (declares memory.now.name.id (Some (source_of (memory_of memory.now))))) walk.old walk.new) }
 {
@@ -125,7 +130,7 @@ pub fn declare_node(
     declare_source(walk, name, part.typ)
 }
 
-/// A component of this type and flow.
+/// Declares a component of this type and flow.
 fn declare(
     alloc: Global,
     walk: &mut Walk,
@@ -139,7 +144,7 @@ fn declare(
     insert_new(&mut walk.known, name.id, Part { typ, flow })
 }
 
-/// A component of this type that can only be read.
+/// Declares a component of this type that can only be read.
 fn declare_source(walk: &mut Walk, name: Name, typ: FirType) -> Result<(), AllocError>
     ensures { OnOk result (Walks (declares name.id (Some (source_of typ))) walk.old walk.new) }
 {

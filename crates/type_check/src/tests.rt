@@ -65,12 +65,12 @@ fn reference(alloc: Global, id: u32, column: u32) -> Expr {
     }
 }
 
-/// A field of a component. Its name stands two columns behind the component's.
-fn field(alloc: Global, id: u32, field: u32, column: u32) -> Result<Expr, AllocError> {
-    let suffix = Suffix::Field(name(field, column + 2));
+/// A field of a component.
+fn field(alloc: Global, component: Name, field: Name) -> Result<Expr, AllocError> {
+    let suffix = Suffix::Field(field);
     Ok(Expr {
-        place: at(column),
-        form: Form::Ref(name(id, column), List::from_vec(vec![in alloc; suffix]?)),
+        place: component.place,
+        form: Form::Ref(component, List::from_vec(vec![in alloc; suffix]?)),
     })
 }
 
@@ -191,7 +191,8 @@ fn when(alloc: Global, condition: Expr, then: Stmt, other: Stmt) -> Result<Stmt,
 ///   30 is invalid
 /// ```
 fn body(alloc: Global) -> Result<Vec<Stmt>, AllocError> {
-    let both = sum(alloc, reference(alloc, A, 16), field(alloc, 31, A, 17)?, 15)?;
+    let of_low = field(alloc, name(31, 17), name(A, 18))?;
+    let both = sum(alloc, reference(alloc, A, 16), of_low, 15)?;
     let choice = when(
         alloc,
         reference(alloc, 32, 20),
