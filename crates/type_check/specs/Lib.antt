@@ -6,3 +6,4 @@ pub mod Statements
 pub mod Faults
 pub mod Flows
 pub mod Walks
+pub mod Reached

@@ -3,6 +3,7 @@
 #![tactic(auto)]
 
 mod checking;
+mod component;
 pub mod fault;
 mod flows;
 mod found;
