@@ -1,2 +1,3 @@
 mod Stepping
 mod Ports
+mod Declaring

@@ -7,3 +7,4 @@ pub mod Faults
 pub mod Flows
 pub mod Walks
 pub mod Reached
+pub mod Declarations

@@ -4,6 +4,7 @@
 
 mod checking;
 mod component;
+mod declaration;
 pub mod fault;
 mod flows;
 mod found;
