@@ -1,3 +1,5 @@
 mod Stepping
 mod Ports
 mod Declaring
+mod Passing
+mod Sentences

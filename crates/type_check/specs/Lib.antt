@@ -8,3 +8,4 @@ pub mod Flows
 pub mod Walks
 pub mod Reached
 pub mod Declarations
+pub mod Counting
