@@ -1,5 +1,5 @@
 -- The fields of a memory's port, by their numbers.
-use Rattle.std.proofs.Common.{◌≡◌, ℕ, zero, suc, ◌+◌, ◌==◌, eqb, ◌<◌, ◌≤◌, ◌⊎◌, inl, inr, Bool, true, false, find, List, [], ◌∷◌, Option, Some, None, refl, sym, ap, ◌∙◌, subst, arith, cond}
+use Rattle.std.proofs.Common.{◌≡◌, ℕ, zero, suc, ◌+◌, ◌==◌, eqb, ◌<◌, ◌≤◌, ◌⊎◌, inl, inr, Bool, true, false, find, List, [], ◌∷◌, Some, None, refl, sym, ap, ◌∙◌, subst, arith, cond}
 use Rattle.std.specs.List.{AllByRecursion}
 use Rattle.std.proofs.lemmas.Bool.{ne_eqb, eqb-true, eqb-false}
 use Rattle.place_text.specs.declared.place.Place.{Place}
@@ -83,8 +83,16 @@ pub read_writer-none : (memory : Memory) (place : Place) (id : ℕ) → 2 < id �
     → field_part id (port_part memory mode.ReadWriter place) ≡ port_part memory mode.ReadWriter place
 read_writer-none memory place id l h =
     field-found (port_part memory mode.ReadWriter place) (fields_of_port memory mode.ReadWriter place) id None refl
-    (not_there (fields_of_port memory mode.ReadWriter place) id (ne_eqb 0 id (omega arith), (ne_eqb 1 id (omega arith), (ne_eqb 2 id (omega arith),
-    (ne_eqb 5 id (omega arith), (ne_eqb 6 id (omega arith), (ne_eqb 7 id (omega arith), (ne_eqb 8 id (omega arith), tt))))))))
+    (not_there (fields_of_port memory mode.ReadWriter place) id (
+      ne_eqb 0 id (omega arith),
+      (
+        ne_eqb 1 id (omega arith),
+        (
+          ne_eqb 2 id (omega arith),
+          (ne_eqb 5 id (omega arith), (ne_eqb 6 id (omega arith), (ne_eqb 7 id (omega arith), (ne_eqb 8 id (omega arith), tt)))),
+        ),
+      ),
+    ))
 
 -- the next two numbers
 pub one_of_two : (n id : ℕ) → n ≤ id → id < n + 2 → (id ≡ n) ⊎ (id ≡ n + 1)

@@ -1,5 +1,5 @@
 -- The flows of the references in expressions and statements, part by part.
-use Rattle.std.proofs.Common.{◌≡◌, List, [], ◌∷◌, ◌++◌, map, refl, ap, ◌∙◌, arith}
+use Rattle.std.proofs.Common.{◌≡◌, List, ◌∷◌, ◌++◌, map, arith}
 use Rattle.std.specs.List.{flat_map}
 use Rattle.std.proofs.lemmas.Grind.{common_steps}
 use Rattle.std.proofs.lemmas.List.Folds.{flat_map-map}
@@ -11,7 +11,6 @@ use Rattle.fir_tree.specs.declared.expr.Form.TheVariants as form
 use Rattle.fir_tree.specs.declared.stmt.Stmt.{Stmt, the_lemmas as of_statements}
 use Rattle.fir_tree.specs.declared.stmt.Arm.{Arm}
 use Rattle.fir_tree.specs.declared.stmt.Stmt.TheVariants as stmt
-use Rattle.type_check.specs.declared.part.Flow.{Flow}
 use Rattle.type_check.specs.Flows.{Components, expr_flows, suffix_step, named, stmt_flows, arm_flows}
 use Rattle.type_check.specs.Counting.{suffix_flows}
 

@@ -1,5 +1,5 @@
 -- The steps of a reference, at each kind of component.
-use Rattle.std.proofs.Common.{◌≡◌, ℕ, zero, suc, ◌==◌, ◌<◌, ◌≤◌, ◌+◌, Bool, true, false, not, find, List, [], ◌∷◌, ◌++◌, map, filter_map, option_to_list, option_map, length, take, get_or, Option, Some, None, refl, sym, ap, ap₂, ◌∙◌, subst, arith, inl, inr, ◌⊎◌, cond}
+use Rattle.std.proofs.Common.{◌≡◌, ℕ, zero, suc, ◌==◌, ◌<◌, ◌≤◌, ◌+◌, Bool, true, false, find, List, [], ◌∷◌, map, filter_map, option_to_list, option_map, length, take, get_or, Option, Some, None, refl, sym, ap, ◌∙◌, subst, arith, inl, inr, ◌⊎◌, cond}
 use Rattle.std.specs.List.{cons_option}
 use Rattle.std.proofs.lemmas.Grind.{common_steps}
 use Rattle.std.proofs.lemmas.Bool.{ne_eqb}
@@ -23,8 +23,6 @@ use Rattle.fir_types.specs.declared.name.Name.{Name}
 use Rattle.fir_types.specs.Bundles.{instance_field, instance_of, mask_of, mask_of_field, port_field}
 use Rattle.fir_types.specs.Memories.{element_in, element_of, first_or}
 use Rattle.fir_types.proofs.Lines.{lines_more}
-use Rattle.type_check.specs.declared.part.Flow.{Flow}
-use Rattle.type_check.specs.declared.part.Flow.TheVariants.{Source, Sink, Duplex}
 use Rattle.type_check.specs.declared.part.Part.{Part}
 use Rattle.type_check.specs.Parts.{part_of, source_of, flow_through}
 use Rattle.type_check.specs.Flows.{field_or_whole, field_of_layer, field_part, element_of_layer, element_part, no_part}
@@ -70,12 +68,6 @@ field-bundle part fields name e = field-layer part _ _ name e (outs-Bundle field
 pub field-found : (part : Part) (fields : List Field) (name : ℕ) (found : Option Field) → part.typ.shape ≡ shape.Bundle fields
     → find (λ f. f.name.id == name) fields ≡ found → field_part name part ≡ field_or_whole part found
 field-found part fields name found e h = field-bundle part fields name e ∙ ap (field_or_whole part) h
-
-pub element-vector : (part : Part) (element : FirType) (n : ℕ) → part.typ.shape ≡ shape.Vector element n → element_part part ≡ part_of element part.flow
-element-vector part element n e = element-layer part _ _ e (outs-Vector element n)
-
-element-bundle : (part : Part) (fields : List Field) → part.typ.shape ≡ shape.Bundle fields → element_part part ≡ part
-element-bundle part fields e = element-layer part _ _ e (outs-Bundle fields)
 
 field-vector : (part : Part) (element : FirType) (n name : ℕ) → part.typ.shape ≡ shape.Vector element n → field_part name part ≡ part
 field-vector part element n name e = field-layer part _ _ name e (outs-Vector element n)
@@ -146,9 +138,6 @@ mask_or_whole part None = refl
 field-plain : (part : Part) (name : ℕ) → IsPlain part → IsPlain (mask_of_part part) → field_part name (mask_of_part part) ≡ mask_of_part (field_part name part)
 field-plain part name p q = q.field name ∙ ap mask_of_part (sym (p.field name))
 
-element-plain : (part : Part) → IsPlain part → IsPlain (mask_of_part part) → element_part (mask_of_part part) ≡ mask_of_part (element_part part)
-element-plain part p q = q.element ∙ ap mask_of_part (sym p.element)
-
 pub field-mask : (part : Part) (name : ℕ) → field_part name (mask_of_part part) ≡ mask_of_part (field_part name part)
 field-mask part name = by (formed part.typ.shape)
   where
@@ -162,19 +151,6 @@ field-mask part name = by (formed part.typ.shape)
         ∙ mask_or_whole part (find (λ f. f.name.id == name) fields) ∙ ap mask_of_part (sym (field-bundle part fields name e))
     by (a_vector element n e) =
         field-vector (mask_of_part part) (mask_of element) n name (mask-vector part.typ element n e) ∙ ap mask_of_part (sym (field-vector part element n name e))
-
-pub element-mask : (part : Part) → element_part (mask_of_part part) ≡ mask_of_part (element_part part)
-element-mask part = by (formed part.typ.shape)
-  where
-    by : Formed part.typ.shape → element_part (mask_of_part part) ≡ mask_of_part (element_part part)
-    by (an_unsigned w e) = element-plain part (plain-unsigned part w e) (plain-unsigned (mask_of_part part) (Some 1) (mask-unsigned part.typ w e))
-    by (a_signed w e) = element-plain part (plain-signed part w e) (plain-unsigned (mask_of_part part) (Some 1) (mask-signed part.typ w e))
-    by (a_clock e) = element-plain part (plain-clock part e) (plain-unsigned (mask_of_part part) (Some 1) (mask-clock part.typ e))
-    by (a_reset e) = element-plain part (plain-reset part e) (plain-unsigned (mask_of_part part) (Some 1) (mask-reset part.typ e))
-    by (a_bundle fields e) =
-        element-bundle (mask_of_part part) (map mask_of_field fields) (mask-bundle part.typ fields e) ∙ ap mask_of_part (sym (element-bundle part fields e))
-    by (a_vector element n e) =
-        element-vector (mask_of_part part) (mask_of element) n (mask-vector part.typ element n e) ∙ ap mask_of_part (sym (element-vector part element n e))
 
 -- a port of an instance
 
@@ -250,8 +226,3 @@ pub field-typed : (name : ℕ) (part : Part) (held next : PartRef) → lent next
     → (part ≡ lent held) ⊎ (part ≡ mask_of_part (lent held)) → (field_part name part ≡ lent next) ⊎ (field_part name part ≡ mask_of_part (lent next))
 field-typed name part held next e (inl is) = inl (ap (field_part name) is ∙ sym e)
 field-typed name part held next e (inr is) = inr (ap (field_part name) is ∙ field-mask (lent held) name ∙ ap mask_of_part (sym e))
-
-pub element-typed : (part : Part) (held next : PartRef) → lent next ≡ element_part (lent held)
-    → (part ≡ lent held) ⊎ (part ≡ mask_of_part (lent held)) → (element_part part ≡ lent next) ⊎ (element_part part ≡ mask_of_part (lent next))
-element-typed part held next e (inl is) = inl (ap element_part is ∙ sym e)
-element-typed part held next e (inr is) = inr (ap element_part is ∙ element-mask (lent held) ∙ ap mask_of_part (sym e))

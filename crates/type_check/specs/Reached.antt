@@ -5,7 +5,7 @@ use Rattle.fir_types.specs.declared.memory.Memory.{Memory as AMemory}
 use Rattle.fir_types.specs.declared.memory.PortMode.{PortMode}
 use Rattle.fir_types.specs.Bundles.{instance_of, memory_of, mask_of, port_type}
 use Rattle.fir_types.specs.Memories.{element_of, depth_of}
-use Rattle.type_check.specs.declared.part.Flow.TheVariants.{Source, Sink}
+use Rattle.type_check.specs.declared.part.Flow.TheVariants.{Sink}
 use Rattle.type_check.specs.declared.part.Part.{Part}
 use Rattle.type_check.specs.declared.component.PartRef.{PartRef}
 use Rattle.type_check.specs.declared.component.Reached.{Reached}

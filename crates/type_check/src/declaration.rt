@@ -16,7 +16,7 @@ use fir_tree::{Arm, Module, Stmt};
 use fir_types::{Name, Port};
 
 /// The component of a name in a module: the first declaration of it, and what has no parts where there is none.
-pub fn component<'a>(modules: &'a [Module], holder: &'a Module, id: u32) -> Reached<'a>
+pub fn component_named<'a>(modules: &'a [Module], holder: &'a Module, id: u32) -> Reached<'a>
     ensures { Means result (components_of modules.now holder.now id) }
 {
     if let Some(port) = port_named(holder.ports.as_slice(), id) {
@@ -35,15 +35,15 @@ pub fn component<'a>(modules: &'a [Module], holder: &'a Module, id: u32) -> Reac
 fn port_flow(port: &Port) -> Flow
     ensures { result ≡ port_flow port.now }
 {
-    if port.output { Flow::Sink } else { Flow::Source }
+    if port.output {
+        Flow::Sink
+    } else {
+        Flow::Source
+    }
 }
 
 #[cycle(declared)]
-fn declared_among<'a>(
-    modules: &'a [Module],
-    statements: &'a [Stmt],
-    id: u32,
-) -> Option<Reached<'a>>
+fn declared_among<'a>(modules: &'a [Module], statements: &'a [Stmt], id: u32) -> Option<Reached<'a>>
     ensures { MayMean result (lookup (nat_eq id) (flat_map (stmt_declared modules.now) statements.now)) }
 {
     for statement in statements {
@@ -55,11 +55,7 @@ fn declared_among<'a>(
 }
 
 #[cycle(declared)]
-fn declared_by<'a>(
-    modules: &'a [Module],
-    statement: &'a Stmt,
-    id: u32,
-) -> Option<Reached<'a>>
+fn declared_by<'a>(modules: &'a [Module], statement: &'a Stmt, id: u32) -> Option<Reached<'a>>
     ensures { MayMean result (lookup (nat_eq id) (stmt_declared modules.now statement.now)) }
 {
     match statement {
@@ -88,11 +84,7 @@ fn declared_by<'a>(
 }
 
 #[cycle(declared)]
-fn declared_in_arms<'a>(
-    modules: &'a [Module],
-    arms: &'a [Arm],
-    id: u32,
-) -> Option<Reached<'a>>
+fn declared_in_arms<'a>(modules: &'a [Module], arms: &'a [Arm], id: u32) -> Option<Reached<'a>>
     ensures { MayMean result (lookup (nat_eq id) (flat_map (arm_declared modules.now) arms.now)) }
 {
     for arm in arms {

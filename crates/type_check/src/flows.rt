@@ -2,11 +2,11 @@
 
 ghost use Rattle.std.specs.Prelude.{◌≡◌};
 ghost use Rattle.std.specs.List.{flat_map};
-ghost use Rattle.type_check.specs.Flows.{flow_number, components_of, expr_flows, suffix_step, stmt_flows, arm_flows, module_flows};
+ghost use Rattle.type_check.specs.Flows.{flow_number, components_of, expr_flows, stmt_flows, arm_flows, module_flows};
 ghost use Rattle.type_check.specs.Counting.{passed, suffix_flows};
 
 use crate::component::flow_along;
-use crate::declaration::component;
+use crate::declaration::component_named;
 use crate::part::Flow;
 use fir_tree::{Arm, Checked, Expr, Form, Module, Stmt, Suffix};
 use std::ops::ControlFlow;
@@ -83,12 +83,7 @@ fn pass_statement(
 }
 
 #[cycle(statements)]
-fn pass_arms(
-    modules: &[Module],
-    holder: &Module,
-    arms: &[Arm],
-    left: u32,
-) -> ControlFlow<Flow, u32>
+fn pass_arms(modules: &[Module], holder: &Module, arms: &[Arm], left: u32) -> ControlFlow<Flow, u32>
     ensures { result ≡ passed (flat_map (λ a. arm_flows a (components_of modules.now holder.now)) arms.now) left }
 {
     let mut left = left;
@@ -107,19 +102,14 @@ fn pass_arm(modules: &[Module], holder: &Module, arm: &Arm, left: u32) -> Contro
 }
 
 #[cycle(expressions)]
-fn pass_expr(
-    modules: &[Module],
-    holder: &Module,
-    expr: &Expr,
-    left: u32,
-) -> ControlFlow<Flow, u32>
+fn pass_expr(modules: &[Module], holder: &Module, expr: &Expr, left: u32) -> ControlFlow<Flow, u32>
     ensures { result ≡ passed (expr_flows expr.now (components_of modules.now holder.now)) left }
 {
     match &expr.form {
         Form::Ref(name, suffixes) => {
             let suffixes = suffixes.as_slice();
             if left == 0 {
-                let start = component(modules, holder, name.id);
+                let start = component_named(modules, holder, name.id);
                 return ControlFlow::Break(flow_along(start, suffixes));
             }
             pass_suffixes(modules, holder, suffixes, left - 1)

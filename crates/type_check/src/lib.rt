@@ -18,3 +18,6 @@ pub use checking::check;
 pub use fault::TypeFault;
 pub use flows::flow_of;
 pub use part::Flow;
+
+#[cfg(test)]
+mod flow_tests;

@@ -1,6 +1,3 @@
-use Rattle.std.proofs.Common.{◌≡◌, ◌⊎◌, inl, inr, ap, ◌∙◌, sym}
-use Rattle.type_check.specs.Flows.{field_part}
-use Rattle.type_check.specs.Reached.{lent, mask_of_part}
 use Rattle.type_check.proofs.Stepping.{field-typed}
 use Rattle.type_check.proofs.component.field.Goals as goal
 

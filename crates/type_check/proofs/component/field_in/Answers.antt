@@ -1,4 +1,4 @@
-use Rattle.std.proofs.Common.{sym, ap, ap₂, ◌∙◌, ◌≡◌, Some, None, rules}
+use Rattle.std.proofs.Common.{sym, ap, ◌∙◌, Some, None, rules}
 use Rattle.type_check.specs.Parts.{part_of}
 use Rattle.type_check.specs.Reached.{lent}
 use Rattle.type_check.proofs.Stepping.{field-found}

@@ -1,4 +1,4 @@
-use Rattle.std.proofs.Common.{sym, ap, ap₂, ◌∙◌, ◌≡◌, Some, None, rules, inl}
+use Rattle.std.proofs.Common.{sym, ap, ◌∙◌, Some, None, rules, inl}
 use Rattle.type_check.specs.Parts.{part_of}
 use Rattle.type_check.proofs.Stepping.{field-port}
 use Rattle.type_check.proofs.component.field_of_instance.Goals as goal

@@ -1,5 +1,5 @@
-use Rattle.std.proofs.Common.{◌≡◌, ◌==◌, find, refl, sym, ap, ◌∙◌, rules, filter_map, take, Some, None, ◌+◌}
-use Rattle.std.proofs.lemmas.Bool.{eq-eqb, ne_eqb}
+use Rattle.std.proofs.Common.{◌≡◌, ◌==◌, find, refl, ap, rules, filter_map, None}
+use Rattle.std.proofs.lemmas.Bool.{eq-eqb}
 use Rattle.fir_types.specs.Bundles.{memory_of, port_field}
 use Rattle.fir_types.specs.Memories.{element_of, depth_of}
 use Rattle.type_check.specs.Parts.{source_of}
@@ -8,11 +8,13 @@ use Rattle.type_check.proofs.component.field_of_memory.Goals as goal
 use Rattle.type_check.proofs.component.field_of_memory.Goals.{in-MemPort+else-name-id, in_default}
 
 pub returns-then-name-id : goal.returns-then-name-id
-returns-then-name-id c =
-    (c.in-MemPort.name.place, field-found (source_of (memory_of c.args.memory.now)) _ c.args.id _ refl
-    (found_here (port_field (element_of c.args.memory.now) (depth_of c.args.memory.now)) (λ f. f.name.id == c.args.id) c.args.memory.now.lines c.loop-line.line-index
-    c.line-item.result _ (search rules) (search rules) c.loop-line.invariant (ap (port_field (element_of c.args.memory.now) (depth_of c.args.memory.now)) c.in-MemPort.is)
-    (eq-eqb _ _ c.if-name-id.true)))
+returns-then-name-id c = (
+  c.in-MemPort.name.place,
+  field-found (source_of (memory_of c.args.memory.now)) _ c.args.id _ refl
+      (found_here (port_field (element_of c.args.memory.now) (depth_of c.args.memory.now)) (λ f. f.name.id == c.args.id) c.args.memory.now.lines c.loop-line.line-index
+      c.line-item.result _ (search rules) (search rules) c.loop-line.invariant (ap (port_field (element_of c.args.memory.now) (depth_of c.args.memory.now)) c.in-MemPort.is)
+      (eq-eqb _ _ c.if-name-id.true)),
+)
 
 pub loop-line-preserved : goal.loop-line-preserved
 loop-line-preserved c =

@@ -1,6 +1,4 @@
-use Rattle.std.proofs.Common.{◌≡◌, refl, sym, ap, ◌∙◌, subst, arith, rules}
-use Rattle.type_check.specs.Flows.{field_part}
-use Rattle.type_check.specs.Reached.{Means}
+use Rattle.std.proofs.Common.{arith}
 use Rattle.type_check.proofs.Ports.{reader-data, reader-none}
 use Rattle.type_check.proofs.component.field_of_reader.Goals as goal
 

@@ -1,7 +1,7 @@
-use Rattle.std.proofs.Common.{◌≡◌, refl, sym, ap, ◌∙◌, rules, inl, inr, [], filter_map, take}
+use Rattle.std.proofs.Common.{◌≡◌, refl, ap, rules, inl, inr, [], filter_map}
 use Rattle.fir_types.specs.declared.fir_type.FirType.{FirType}
 use Rattle.fir_types.specs.Bundles.{mask_of}
-use Rattle.fir_types.specs.Memories.{element_in, element_of, first_or}
+use Rattle.fir_types.specs.Memories.{element_in}
 use Rattle.fir_types.proofs.Lines.{first_line, none_more, not_element}
 use Rattle.type_check.specs.Parts.{part_of}
 use Rattle.type_check.proofs.Stepping.{at_end, no_element, plain-empty, mask-empty}
@@ -22,9 +22,15 @@ loop-line-preserved c =
     none_more element_in c.args.memory.now.lines c.loop-line.line-index c.line-item.result (search rules) (search rules) c.loop-line.invariant (not_element c.line-item.result c.in_default.not-Element)
 
 pub returns-clause-element : goal.returns-clause-element
-returns-clause-element c = (refl, plain-empty _ (no_element c.args.memory.now (at_end (λ lines. filter_map element_in lines ≡ []) c.args.memory.now.lines c.loop-line.line-index
-    (rw c.as_slice-line-items.ensures at c.loop-line-test.false) c.loop-line.invariant)))
+returns-clause-element c = (
+  refl,
+  plain-empty _ (no_element c.args.memory.now (at_end (λ lines. filter_map element_in lines ≡ []) c.args.memory.now.lines c.loop-line.line-index
+      (rw c.as_slice-line-items.ensures at c.loop-line-test.false) c.loop-line.invariant)),
+)
 
 pub returns-clause-mask : goal.returns-clause-mask
-returns-clause-mask c = (refl, plain-empty _ (mask-empty _ (no_element c.args.memory.now (at_end (λ lines. filter_map element_in lines ≡ []) c.args.memory.now.lines c.loop-line.line-index
-    (rw c.as_slice-line-items.ensures at c.loop-line-test.false) c.loop-line.invariant))))
+returns-clause-mask c = (
+  refl,
+  plain-empty _ (mask-empty _ (no_element c.args.memory.now (at_end (λ lines. filter_map element_in lines ≡ []) c.args.memory.now.lines c.loop-line.line-index
+      (rw c.as_slice-line-items.ensures at c.loop-line-test.false) c.loop-line.invariant))),
+)

@@ -1,11 +1,8 @@
-use Rattle.std.proofs.Common.{rules, nat_eq, subst, sym, None, Some, arith}
+use Rattle.std.proofs.Common.{nat_eq}
 use Rattle.std.specs.List.{flat_map}
-use Rattle.std.specs.Map.{lookup}
-use Rattle.std.proofs.lemmas.Grind.{common_steps}
-use Rattle.fir_tree.specs.declared.stmt.Stmt.{the_lemmas}
 use Rattle.type_check.specs.Flows.{stmt_declared}
 use Rattle.type_check.specs.Declarations.{arm_declared}
-use Rattle.type_check.specs.Reached.{MayMean, neither}
+use Rattle.type_check.specs.Reached.{neither}
 use Rattle.type_check.proofs.Declaring.{none_before, some_before, none_more, some_here, one_named, one_other, declared-when, declared-arm, declared-inst, no_some, declares_nothing}
 use Rattle.type_check.proofs.declaration.+declared.Goals as goal
 

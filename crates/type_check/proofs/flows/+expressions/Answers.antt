@@ -1,9 +1,9 @@
-use Rattle.std.proofs.Common.{sym, ap, ◌∙◌, ◌∷◌, arith, map}
+use Rattle.std.proofs.Common.{sym, ap, ◌∙◌, arith}
 use Rattle.std.specs.List.{flat_map}
 use Rattle.std.proofs.lemmas.Grind.{common_steps}
 use Rattle.std.proofs.lemmas.List.Folds.{flat_map-map}
 use Rattle.fir_tree.specs.declared.expr.Expr.{the_lemmas}
-use Rattle.type_check.specs.Flows.{components_of, suffix_step, named}
+use Rattle.type_check.specs.Flows.{components_of}
 use Rattle.type_check.specs.Counting.{passed, suffix_flows}
 use Rattle.type_check.proofs.Passing.{passed-front, one_more, broken_here}
 use Rattle.type_check.proofs.Sentences.{flows-ref}

@@ -2,7 +2,7 @@ use Rattle.std.proofs.Common.{◌≡◌, take}
 use Rattle.std.specs.List.{flat_map}
 use Rattle.std.specs.declared.ops.ControlFlow.TheVariants.{Continue}
 use Rattle.type_check.specs.Counting.{passed, suffix_flows}
-use Rattle.type_check.specs.Flows.{components_of, expr_flows, stmt_flows, arm_flows, module_flows}
+use Rattle.type_check.specs.Flows.{components_of, expr_flows}
 use Rattle.type_check.proofs.flows.+expressions.Given as goal
 
 abbrev pub invariant-pass_exprs-loop-expr : goal.invariant-pass_exprs-loop-expr

@@ -1,7 +1,5 @@
 use Rattle.std.proofs.Common.{sym, ◌∙◌, refl}
-use Rattle.std.proofs.lemmas.Grind.{common_steps}
 use Rattle.type_check.specs.Flows.{components_of, expr_flows}
-use Rattle.type_check.specs.Counting.{passed}
 use Rattle.type_check.proofs.Passing.{one_more, broken_here, goes_behind, breaks_before}
 use Rattle.type_check.proofs.Sentences.{flows-reset, flows-connect, flows-when, flows-arm}
 use Rattle.type_check.proofs.flows.+statements.Goals as goal

@@ -1,4 +1,4 @@
-use Rattle.std.proofs.Common.{sym, ◌∙◌, rules}
+use Rattle.std.proofs.Common.{sym}
 use Rattle.type_check.specs.Flows.{reference_flows}
 use Rattle.type_check.proofs.Passing.{flow_at, flow_past}
 use Rattle.type_check.proofs.flows.flow_of.Goals as goal

@@ -1,8 +1,8 @@
 use Rattle.std.proofs.Common.{◌≡◌, take}
 use Rattle.std.specs.List.{flat_map}
 use Rattle.std.specs.declared.ops.ControlFlow.TheVariants.{Continue}
-use Rattle.type_check.specs.Counting.{passed, suffix_flows}
-use Rattle.type_check.specs.Flows.{components_of, expr_flows, stmt_flows, arm_flows, module_flows}
+use Rattle.type_check.specs.Counting.{passed}
+use Rattle.type_check.specs.Flows.{module_flows}
 use Rattle.type_check.proofs.flows.pass_modules.Given as goal
 
 abbrev pub invariant-loop-holder : goal.invariant-loop-holder

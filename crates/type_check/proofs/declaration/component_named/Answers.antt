@@ -1,10 +1,8 @@
-use Rattle.std.proofs.Common.{rules, sym, ap, ◌∙◌, ◌≡◌, inl, Some, None, refl}
+use Rattle.std.proofs.Common.{rules, sym, ap, ◌∙◌, inl, refl}
 use Rattle.type_check.specs.Parts.{part_of}
-use Rattle.type_check.specs.declared.part.Part.{Part}
-use Rattle.type_check.specs.declared.part.Flow.TheVariants.{Source}
 use Rattle.type_check.proofs.Stepping.{plain-no_part}
 use Rattle.type_check.proofs.Declaring.{component-port, body_found, nothing_found}
-use Rattle.type_check.proofs.declaration.component.Goals as goal
+use Rattle.type_check.proofs.declaration.component_named.Goals as goal
 
 pub returns-in-Some : goal.returns-in-Some
 returns-in-Some c =
