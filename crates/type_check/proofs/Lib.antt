@@ -9,3 +9,8 @@ mod Ways
 mod Indexing
 mod Ordering
 mod Walking
+mod Stepping
+mod Ports
+mod Declaring
+mod Passing
+mod Sentences

@@ -10,3 +10,6 @@ pub mod Walks
 pub mod Judging
 pub mod Earliest
 pub mod Indexes
+pub mod Reached
+pub mod Declarations
+pub mod Counting

@@ -6,6 +6,8 @@ mod checking;
 mod conditions;
 mod declarations;
 mod earliest;
+mod component;
+mod declaration;
 pub mod fault;
 mod flows;
 mod found;
@@ -26,3 +28,4 @@ pub use part::Flow;
 
 #[cfg(test)]
 mod tests;
+mod flow_tests;

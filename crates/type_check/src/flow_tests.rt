@@ -1,0 +1,206 @@
+use super::*;
+use bit_words::{Boxed, List};
+use fir_tree::{Checked, Circuit, Expr, Form, Module, Names, Scope, Stmt, Suffix};
+use fir_types::{Field, FirType, MemLine, Memory, Name, Port, PortMode, Shape};
+use place_text::Place;
+use std::alloc::{AllocError, Global};
+use std::test::Fail;
+
+const ADDR: u32 = 0;
+
+const DATA: u32 = 3;
+
+const MASK: u32 = 4;
+
+const TOP: u32 = 9;
+
+const LOW: u32 = 10;
+
+const A: u32 = 11;
+
+const B: u32 = 12;
+
+const X: u32 = 13;
+
+const PLACE: Place = Place { line: 1, column: 1 };
+
+fn name(id: u32) -> Name {
+    Name { id, place: PLACE }
+}
+
+fn bit() -> FirType {
+    FirType {
+        place: PLACE,
+        shape: Shape::Unsigned(Some(1)),
+    }
+}
+
+/// `{ flip x : UInt<1> }`
+fn flipped(alloc: Global) -> Result<FirType, AllocError> {
+    let field = Field {
+        flip: true,
+        name: name(X),
+        typ: bit(),
+    };
+    Ok(FirType {
+        place: PLACE,
+        shape: Shape::Bundle(List::from_vec(vec![in alloc; field]?)),
+    })
+}
+
+fn port(output: bool, id: u32, typ: FirType) -> Port {
+    Port {
+        output,
+        name: name(id),
+        typ,
+    }
+}
+
+fn whole(alloc: Global, id: u32) -> Expr {
+    Expr {
+        place: PLACE,
+        form: Form::Ref(name(id), List::new(alloc)),
+    }
+}
+
+/// The field of a component.
+fn field(alloc: Global, id: u32, first: u32) -> Result<Expr, AllocError> {
+    let suffixes = vec![in alloc; Suffix::Field(name(first))]?;
+    Ok(Expr {
+        place: PLACE,
+        form: Form::Ref(name(id), List::from_vec(suffixes)),
+    })
+}
+
+/// The field of a field of a component.
+fn inner(alloc: Global, id: u32, first: u32, second: u32) -> Result<Expr, AllocError> {
+    let suffixes = vec![in alloc; Suffix::Field(name(first)), Suffix::Field(name(second))]?;
+    Ok(Expr {
+        place: PLACE,
+        form: Form::Ref(name(id), List::from_vec(suffixes)),
+    })
+}
+
+fn holder(id: u32, ports: Vec<Port>, body: Vec<Stmt>) -> Module {
+    Module {
+        name: name(id),
+        ports: List::from_vec(ports),
+        body: List::from_vec(body),
+    }
+}
+
+fn checked(alloc: Global, modules: Vec<Module>) -> Checked {
+    Checked {
+        circuit: Circuit {
+            names: Names::new(alloc),
+            main: name(TOP),
+            modules: List::from_vec(modules),
+        },
+        scope: Scope {
+            reached: List::new(alloc),
+            uses: List::new(alloc),
+            targets: List::new(alloc),
+        },
+        types: List::new(alloc),
+    }
+}
+
+#[test]
+fn ports_are_seen_from_inside(rt: HostRuntime) -> Result<(), Fail> {
+    let alloc = rt.alloc();
+    let ports = vec![in alloc; port(false, A, bit()), port(true, B, flipped(alloc)?)]?;
+    let body = vec![in alloc;
+        Stmt::Connect(whole(alloc, B), whole(alloc, A)),
+        Stmt::Invalidate(field(alloc, B, X)?),
+    ]?;
+    let checked = checked(alloc, vec![in alloc; holder(TOP, ports, body)]?);
+    assert_eq!(rt; flow_of(&checked, 0), Flow::Sink);
+    assert_eq!(rt; flow_of(&checked, 1), Flow::Source);
+    assert_eq!(rt; flow_of(&checked, 2), Flow::Source);
+    Ok(())
+}
+
+#[test]
+fn a_wire_is_duplex_in_each_part(rt: HostRuntime) -> Result<(), Fail> {
+    let alloc = rt.alloc();
+    let body = vec![in alloc;
+        Stmt::Wire(name(A), flipped(alloc)?),
+        Stmt::Connect(field(alloc, A, X)?, whole(alloc, A)),
+    ]?;
+    let top = holder(TOP, Vec::new(alloc), body);
+    let checked = checked(alloc, vec![in alloc; top]?);
+    assert_eq!(rt; flow_of(&checked, 0), Flow::Duplex);
+    assert_eq!(rt; flow_of(&checked, 1), Flow::Duplex);
+    Ok(())
+}
+
+#[test]
+fn an_instance_is_seen_from_outside(rt: HostRuntime) -> Result<(), Fail> {
+    let alloc = rt.alloc();
+    let ports = vec![in alloc; port(false, A, bit()), port(true, B, bit())]?;
+    let low = holder(LOW, ports, Vec::new(alloc));
+    let body = vec![in alloc;
+        Stmt::Inst(name(X), name(LOW)),
+        Stmt::Connect(field(alloc, X, A)?, field(alloc, X, B)?),
+    ]?;
+    let top = holder(TOP, Vec::new(alloc), body);
+    let checked = checked(alloc, vec![in alloc; low, top]?);
+    assert_eq!(rt; flow_of(&checked, 0), Flow::Sink);
+    assert_eq!(rt; flow_of(&checked, 1), Flow::Source);
+    Ok(())
+}
+
+/// A memory with a reader `A` and a writer `B`.
+fn memory(alloc: Global) -> Result<Memory, AllocError> {
+    let lines = vec![in alloc;
+        MemLine::Element(PLACE, bit()),
+        MemLine::MemPort(PLACE, PortMode::Reader, name(A)),
+        MemLine::MemPort(PLACE, PortMode::Writer, name(B)),
+    ]?;
+    Ok(Memory {
+        name: name(X),
+        lines: List::from_vec(lines),
+    })
+}
+
+#[test]
+fn a_memory_is_driven_at_its_ports(rt: HostRuntime) -> Result<(), Fail> {
+    let alloc = rt.alloc();
+    let body = vec![in alloc;
+        Stmt::Mem(memory(alloc)?),
+        Stmt::Connect(inner(alloc, X, A, ADDR)?, inner(alloc, X, A, DATA)?),
+        Stmt::Connect(inner(alloc, X, B, DATA)?, inner(alloc, X, B, MASK)?),
+    ]?;
+    let top = holder(TOP, Vec::new(alloc), body);
+    let checked = checked(alloc, vec![in alloc; top]?);
+    assert_eq!(rt; flow_of(&checked, 0), Flow::Sink);
+    assert_eq!(rt; flow_of(&checked, 1), Flow::Source);
+    assert_eq!(rt; flow_of(&checked, 2), Flow::Sink);
+    assert_eq!(rt; flow_of(&checked, 3), Flow::Sink);
+    Ok(())
+}
+
+#[test]
+fn an_index_counts_behind_its_reference(rt: HostRuntime) -> Result<(), Fail> {
+    let alloc = rt.alloc();
+    let vector = FirType {
+        place: PLACE,
+        shape: Shape::Vector(Boxed::new(alloc, bit())?, 2),
+    };
+    let ports = vec![in alloc; port(false, A, bit()), port(true, B, vector)]?;
+    let suffixes = vec![in alloc; Suffix::Index(PLACE, whole(alloc, A))]?;
+    let indexed = Expr {
+        place: PLACE,
+        form: Form::Ref(name(B), List::from_vec(suffixes)),
+    };
+    let body = vec![in alloc;
+        Stmt::Invalidate(indexed),
+        Stmt::Invalidate(whole(alloc, B)),
+    ]?;
+    let checked = checked(alloc, vec![in alloc; holder(TOP, ports, body)]?);
+    assert_eq!(rt; flow_of(&checked, 0), Flow::Sink);
+    assert_eq!(rt; flow_of(&checked, 1), Flow::Source);
+    assert_eq!(rt; flow_of(&checked, 2), Flow::Sink);
+    assert_eq!(rt; flow_of(&checked, 3), Flow::Source);
+    Ok(())
+}
