@@ -3,11 +3,11 @@
 #![tactic(auto)]
 
 mod checking;
+mod component;
 mod conditions;
+mod declaration;
 mod declarations;
 mod earliest;
-mod component;
-mod declaration;
 pub mod fault;
 mod flows;
 mod found;
@@ -27,5 +27,6 @@ pub use flows::flow_of;
 pub use part::Flow;
 
 #[cfg(test)]
-mod tests;
 mod flow_tests;
+#[cfg(test)]
+mod tests;
