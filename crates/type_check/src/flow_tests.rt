@@ -105,38 +105,78 @@ fn checked(alloc: Global, modules: Vec<Module>) -> Checked {
     }
 }
 
-#[test]
-fn ports_are_seen_from_inside(rt: HostRuntime) -> Result<(), Fail> {
-    let alloc = rt.alloc();
+/// A circuit of one module.
+fn of_body(alloc: Global, ports: Vec<Port>, body: Vec<Stmt>) -> Result<Checked, AllocError> {
+    let modules = vec![in alloc; holder(TOP, ports, body)]?;
+    Ok(checked(alloc, modules))
+}
+
+/// The flows of the first four references.
+fn first_four(checked: &Checked) -> [Flow; 4] {
+    [
+        flow_of(checked, 0),
+        flow_of(checked, 1),
+        flow_of(checked, 2),
+        flow_of(checked, 3),
+    ]
+}
+
+/// ```text
+/// input a : UInt<1>
+/// output b : { flip x : UInt<1> }
+/// connect b a
+/// invalidate b.x
+/// ```
+fn with_ports(alloc: Global) -> Result<Checked, AllocError> {
     let ports = vec![in alloc; port(false, A, bit()), port(true, B, flipped(alloc)?)]?;
     let body = vec![in alloc;
         Stmt::Connect(whole(alloc, B), whole(alloc, A)),
         Stmt::Invalidate(field(alloc, B, X)?),
     ]?;
-    let checked = checked(alloc, vec![in alloc; holder(TOP, ports, body)]?);
-    assert_eq!(rt; flow_of(&checked, 0), Flow::Sink);
-    assert_eq!(rt; flow_of(&checked, 1), Flow::Source);
-    assert_eq!(rt; flow_of(&checked, 2), Flow::Source);
-    Ok(())
+    of_body(alloc, ports, body)
 }
 
 #[test]
-fn a_wire_is_duplex_in_each_part(rt: HostRuntime) -> Result<(), Fail> {
-    let alloc = rt.alloc();
+fn ports_are_seen_from_inside(rt: HostRuntime) -> Result<(), Fail> {
+    let flows = first_four(&with_ports(rt.alloc())?);
+    assert_eq!(rt;
+        flows,
+        [Flow::Sink, Flow::Source, Flow::Source, Flow::Source]
+    );
+    Ok(())
+}
+
+/// ```text
+/// wire a : { flip x : UInt<1> }
+/// connect a.x a
+/// ```
+fn with_wire(alloc: Global) -> Result<Checked, AllocError> {
     let body = vec![in alloc;
         Stmt::Wire(name(A), flipped(alloc)?),
         Stmt::Connect(field(alloc, A, X)?, whole(alloc, A)),
     ]?;
-    let top = holder(TOP, Vec::new(alloc), body);
-    let checked = checked(alloc, vec![in alloc; top]?);
-    assert_eq!(rt; flow_of(&checked, 0), Flow::Duplex);
-    assert_eq!(rt; flow_of(&checked, 1), Flow::Duplex);
-    Ok(())
+    of_body(alloc, Vec::new(alloc), body)
 }
 
 #[test]
-fn an_instance_is_seen_from_outside(rt: HostRuntime) -> Result<(), Fail> {
-    let alloc = rt.alloc();
+fn a_wire_is_duplex_in_each_part(rt: HostRuntime) -> Result<(), Fail> {
+    let flows = first_four(&with_wire(rt.alloc())?);
+    assert_eq!(rt;
+        flows,
+        [Flow::Duplex, Flow::Duplex, Flow::Source, Flow::Source]
+    );
+    Ok(())
+}
+
+/// ```text
+/// module low :
+///   input a : UInt<1>
+///   output b : UInt<1>
+/// module top :
+///   inst x of low
+///   connect x.a x.b
+/// ```
+fn with_instance(alloc: Global) -> Result<Checked, AllocError> {
     let ports = vec![in alloc; port(false, A, bit()), port(true, B, bit())]?;
     let low = holder(LOW, ports, Vec::new(alloc));
     let body = vec![in alloc;
@@ -144,13 +184,20 @@ fn an_instance_is_seen_from_outside(rt: HostRuntime) -> Result<(), Fail> {
         Stmt::Connect(field(alloc, X, A)?, field(alloc, X, B)?),
     ]?;
     let top = holder(TOP, Vec::new(alloc), body);
-    let checked = checked(alloc, vec![in alloc; low, top]?);
-    assert_eq!(rt; flow_of(&checked, 0), Flow::Sink);
-    assert_eq!(rt; flow_of(&checked, 1), Flow::Source);
+    Ok(checked(alloc, vec![in alloc; low, top]?))
+}
+
+#[test]
+fn an_instance_is_seen_from_outside(rt: HostRuntime) -> Result<(), Fail> {
+    let flows = first_four(&with_instance(rt.alloc())?);
+    assert_eq!(rt;
+        flows,
+        [Flow::Sink, Flow::Source, Flow::Source, Flow::Source]
+    );
     Ok(())
 }
 
-/// A memory with a reader `A` and a writer `B`.
+/// A memory with a reader `a` and a writer `b`.
 fn memory(alloc: Global) -> Result<Memory, AllocError> {
     let lines = vec![in alloc;
         MemLine::Element(PLACE, bit()),
@@ -163,44 +210,64 @@ fn memory(alloc: Global) -> Result<Memory, AllocError> {
     })
 }
 
-#[test]
-fn a_memory_is_driven_at_its_ports(rt: HostRuntime) -> Result<(), Fail> {
-    let alloc = rt.alloc();
+/// A connect of two fields of one port of the memory.
+fn in_port(alloc: Global, port: u32, left: u32, right: u32) -> Result<Stmt, AllocError> {
+    let driven = inner(alloc, X, port, left)?;
+    Ok(Stmt::Connect(driven, inner(alloc, X, port, right)?))
+}
+
+/// ```text
+/// mem x : ..
+/// connect x.a.addr x.a.data
+/// connect x.b.data x.b.mask
+/// ```
+fn with_memory(alloc: Global) -> Result<Checked, AllocError> {
     let body = vec![in alloc;
         Stmt::Mem(memory(alloc)?),
-        Stmt::Connect(inner(alloc, X, A, ADDR)?, inner(alloc, X, A, DATA)?),
-        Stmt::Connect(inner(alloc, X, B, DATA)?, inner(alloc, X, B, MASK)?),
+        in_port(alloc, A, ADDR, DATA)?,
+        in_port(alloc, B, DATA, MASK)?,
     ]?;
-    let top = holder(TOP, Vec::new(alloc), body);
-    let checked = checked(alloc, vec![in alloc; top]?);
-    assert_eq!(rt; flow_of(&checked, 0), Flow::Sink);
-    assert_eq!(rt; flow_of(&checked, 1), Flow::Source);
-    assert_eq!(rt; flow_of(&checked, 2), Flow::Sink);
-    assert_eq!(rt; flow_of(&checked, 3), Flow::Sink);
-    Ok(())
+    of_body(alloc, Vec::new(alloc), body)
 }
 
 #[test]
-fn an_index_counts_behind_its_reference(rt: HostRuntime) -> Result<(), Fail> {
-    let alloc = rt.alloc();
+fn a_memory_is_driven_at_its_ports(rt: HostRuntime) -> Result<(), Fail> {
+    let flows = first_four(&with_memory(rt.alloc())?);
+    assert_eq!(rt; flows, [Flow::Sink, Flow::Source, Flow::Sink, Flow::Sink]);
+    Ok(())
+}
+
+/// `b[a]`
+fn indexed(alloc: Global) -> Result<Expr, AllocError> {
+    let suffixes = vec![in alloc; Suffix::Index(PLACE, whole(alloc, A))]?;
+    Ok(Expr {
+        place: PLACE,
+        form: Form::Ref(name(B), List::from_vec(suffixes)),
+    })
+}
+
+/// ```text
+/// input a : UInt<1>
+/// output b : UInt<1>[2]
+/// invalidate b[a]
+/// invalidate b
+/// ```
+fn with_index(alloc: Global) -> Result<Checked, AllocError> {
     let vector = FirType {
         place: PLACE,
         shape: Shape::Vector(Boxed::new(alloc, bit())?, 2),
     };
     let ports = vec![in alloc; port(false, A, bit()), port(true, B, vector)]?;
-    let suffixes = vec![in alloc; Suffix::Index(PLACE, whole(alloc, A))]?;
-    let indexed = Expr {
-        place: PLACE,
-        form: Form::Ref(name(B), List::from_vec(suffixes)),
-    };
     let body = vec![in alloc;
-        Stmt::Invalidate(indexed),
+        Stmt::Invalidate(indexed(alloc)?),
         Stmt::Invalidate(whole(alloc, B)),
     ]?;
-    let checked = checked(alloc, vec![in alloc; holder(TOP, ports, body)]?);
-    assert_eq!(rt; flow_of(&checked, 0), Flow::Sink);
-    assert_eq!(rt; flow_of(&checked, 1), Flow::Source);
-    assert_eq!(rt; flow_of(&checked, 2), Flow::Sink);
-    assert_eq!(rt; flow_of(&checked, 3), Flow::Source);
+    of_body(alloc, ports, body)
+}
+
+#[test]
+fn an_index_counts_behind_its_reference(rt: HostRuntime) -> Result<(), Fail> {
+    let flows = first_four(&with_index(rt.alloc())?);
+    assert_eq!(rt; flows, [Flow::Sink, Flow::Source, Flow::Sink, Flow::Source]);
     Ok(())
 }
