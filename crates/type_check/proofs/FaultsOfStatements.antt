@@ -1,8 +1,7 @@
 -- The faults of single statements, and the flows of some references.
 use Rattle.std.proofs.Common.{◌≡◌, ℕ, true, false, List, [], ◌∷◌, Some, None, arith}
 use Rattle.std.proofs.lemmas.Grind.{common_steps}
-use Rattle.place_text.specs.declared.place.Place.{Place}
-use Rattle.bit_words.specs.declared.value.Kind.TheVariants.{Unsigned, Signed}
+use Rattle.bit_words.specs.declared.value.Kind.TheVariants.{Unsigned}
 use Rattle.fir_types.specs.declared.name.Name.{Name}
 use Rattle.fir_types.specs.declared.fir_type.FirType.{FirType, the_lemmas as type_lemmas}
 use Rattle.fir_types.specs.declared.fir_type.Shape.{Shape}

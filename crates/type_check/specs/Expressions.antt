@@ -1,10 +1,9 @@
 -- The types of expressions (FIRRTL specification 3.0, "Expressions", "References", "Primitive Operations", "Multiplexers"), by cases
 -- on the node. A node has a type where its operands have types and it meets the conditions on them; where they have types and
 -- it doesn't, it is at fault; where one has none, it isn't judged.
-use Rattle.std.specs.Prelude.{◌≡◌, ℕ, zero, suc, ◌^◌, nat_lt, nat_le, Bool, true, false, not, ◌||◌, ◌&&◌, List, [], ◌∷◌, ◌++◌, map, flat_map, find, ◌==◌, Option, Some, None, option_map, is_some, ℤ, pos, neg_ℤ, int_le, int_lt}
+use Rattle.std.specs.Prelude.{◌≡◌, ℕ, zero, suc, ◌^◌, nat_lt, Bool, true, false, ◌||◌, ◌&&◌, List, [], ◌∷◌, ◌++◌, map, flat_map, find, ◌==◌, Option, Some, None, option_map, is_some, ℤ, pos, neg_ℤ, int_le, int_lt}
 use Rattle.bit_words.specs.declared.value.Kind.{Kind as Sign}
 use Rattle.bit_words.specs.declared.value.Kind.TheVariants.{Unsigned, Signed}
-use Rattle.bit_words.specs.declared.number.Number.{Number}
 use Rattle.bit_words.specs.Numbers.{integer_of_number}
 use Rattle.place_text.specs.declared.place.Place.{Place}
 use Rattle.fir_types.specs.declared.fir_type.FirType.{FirType}

@@ -1,6 +1,6 @@
 -- The flows of references (FIRRTL specification 3.0, "Flows"): by the declaration, and then by each step of the reference. A field
 -- that is flipped turns a source and a sink round, and duplex stays; an index keeps the flow.
-use Rattle.std.specs.Prelude.{ℕ, ◌==◌, nat_eq, List, [], ◌∷◌, ◌++◌, map, flat_map, find, get_or, Option, Some, None, option_map, fold}
+use Rattle.std.specs.Prelude.{ℕ, ◌==◌, nat_eq, List, [], ◌∷◌, ◌++◌, map, flat_map, find, get_or, Option, Some, None, fold}
 use Rattle.std.specs.Map.{lookup}
 use Rattle.fir_types.specs.declared.fir_type.FirType.{FirType}
 use Rattle.fir_types.specs.declared.fir_type.Shape.{Shape}
@@ -19,7 +19,7 @@ use Rattle.fir_tree.specs.declared.stmt.Stmt.{Stmt, fold-Stmt}
 use Rattle.fir_tree.specs.declared.stmt.Arm.{Arm, fold-Arm}
 use Rattle.fir_tree.specs.declared.stmt.Stmt.TheOpen.{Stmt-F, Arm-F}
 use Rattle.type_check.specs.declared.part.Flow.{Flow}
-use Rattle.type_check.specs.declared.part.Flow.TheVariants.{Source, Sink, Duplex}
+use Rattle.type_check.specs.declared.part.Flow.TheVariants.{Source, Duplex}
 use Rattle.type_check.specs.declared.part.Part.{Part}
 use Rattle.type_check.specs.Parts.{part_of, source_of, flow_through}
 use Rattle.type_check.specs.Statements.{port_flow, instance_in}

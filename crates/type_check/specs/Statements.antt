@@ -1,6 +1,6 @@
 -- The conditions on statements (FIRRTL specification 3.0, "Statements", "Connects", "Registers", "Conditionals"). Each is judged where
 -- the expressions that it speaks of have types.
-use Rattle.std.specs.Prelude.{ℕ, Bool, true, false, ◌&&◌, ◌==◌, find, List, [], ◌∷◌, ◌++◌, map, flat_map, Option, Some, None, option_map, if◌then◌else◌}
+use Rattle.std.specs.Prelude.{ℕ, Bool, true, false, ◌&&◌, ◌==◌, find, List, [], ◌∷◌, ◌++◌, map, flat_map, Option, Some, option_map, if◌then◌else◌}
 use Rattle.place_text.specs.declared.place.Place.{Place}
 use Rattle.fir_types.specs.declared.fir_type.FirType.{FirType}
 use Rattle.fir_types.specs.declared.port.Port.{Port}
@@ -19,7 +19,7 @@ use Rattle.type_check.specs.declared.fault.Kind.TheVariants.{OperandKind, NotEqu
 use Rattle.type_check.specs.declared.fault.Found.{Found}
 use Rattle.type_check.specs.Parts.{Known, known_with, part_of, source_of, unless, when, where_typed}
 use Rattle.type_check.specs.Texts.{twice_in, stored_faults, is_unsigned, is_a_clock, is_passive, are_equivalent}
-use Rattle.type_check.specs.Expressions.{Judgement, found_of}
+use Rattle.type_check.specs.Expressions.{found_of}
 use Rattle.type_check.specs.Memories.{memory_faults}
 
 -- What is found of statements, from the components that are known before them: those known behind them, the types of their
