@@ -1,7 +1,7 @@
 -- The least widths that meet the rules (FIRRTL specification 3.0, "Width Inference").
 use Rattle.std.specs.Prelude.{◌≡◌, ℕ, ◌<◌, ◌≤◌, List, length, get_or, All}
 use Rattle.prim_ops.specs.declared.widths.Width.{Width}
-use Rattle.prim_ops.specs.declared.widths.Width.TheVariants.{Bits}
+use Rattle.prim_ops.specs.declared.widths.Width.TheVariants.{Bits, Over}
 use Rattle.width_rules.specs.declared.rule.Rule.{Rule}
 use Rattle.width_rules.specs.Formulas.{level, width_under, IsFormula}
 
@@ -24,10 +24,15 @@ MeetsOne rule widths = level (width_under rule.formula widths) ≤ level_at widt
 abbrev pub Meets : List Rule → List Width → Type 0
 Meets rules widths = All (λ rule. MeetsOne rule widths) rules
 
+-- 0 to 128 bits, or Over
+abbrev pub IsWidth : Width → Type 0
+IsWidth (Bits n) = n ≤ 128
+IsWidth Over = Unit {0}
+
 -- as many widths as variables, each 0 to 128 bits or Over
 pub record IsAssignment (count : ℕ) (widths : List Width) : Type 0 where
   pub counted : length widths ≡ count
-  pub bounded : (k : ℕ) → level_at widths k ≤ 129
+  pub bounded : (k : ℕ) → IsWidth (get_or widths k (Bits 0))
 
 -- place by place at or below
 abbrev pub AtOrBelow : List Width → List Width → Type 0
