@@ -2,6 +2,7 @@
 //! a place the rule that the variable is at least the source's width.
 #![tactic(auto)]
 
+pub mod laws;
 pub mod rule;
 
 pub use rule::{Formula, Rule, Rules};
