@@ -1,0 +1,3 @@
+pub mod Greatest
+pub mod Variables
+pub mod Noting

@@ -8,7 +8,7 @@ use crate::rounds::go_round;
 use bit_words::List;
 use prim_ops::Width;
 use std::alloc::{AllocError, Global};
-use width_rules::Rules;
+use width_rules::{Rule, Rules};
 
 /// A width for each variable.
 pub type Widths = List<Width>;
@@ -22,17 +22,30 @@ pub fn solve(alloc: Global, rules: &Rules) -> Result<Widths, AllocError>
     requires { AreRules (length rules.now.places) rules.now.rules }
     ensures { IfOk result (λ widths. IsLeast rules.now.rules (length rules.now.places) widths) }
 {
-    let count = rules.places.len();
-    let rules = rules.rules.as_slice();
+    let widths = least_widths(alloc, rules.rules.as_slice(), rules.places.len())?;
+    Ok(List::from_vec(widths))
+}
+
+fn least_widths(alloc: Global, rules: &[Rule], count: usize) -> Result<Vec<Width>, AllocError>
+    requires rules { AreRules count rules.now }
+    ensures { IfOk result (λ widths. IsLeast rules.now count widths.items) }
+{
     let readers = readers_of(alloc, rules, count)?;
     let readers = readers.as_slice();
     let mut widths = vec![in alloc; Width::Bits(0); count]?;
     let mut waits = vec![in alloc; true; rules.len()]?;
     let mut pending = numbers_below(alloc, rules.len())?;
-    while !pending.is_empty() {
-        pending = go_round(alloc, rules, readers, pending.as_slice(), &mut widths, &mut waits)?;
+    'rounds: while !pending.is_empty() {
+        pending = go_round(
+            alloc,
+            rules,
+            readers,
+            pending.as_slice(),
+            &mut widths,
+            &mut waits,
+        )?;
     }
-    Ok(List::from_vec(widths))
+    Ok(widths)
 }
 
 /// The numbers from 0 up to below this one.
