@@ -1,3 +1,5 @@
 pub mod Greatest
-pub mod Variables
 pub mod Noting
+pub mod Standing
+pub mod Variables
+pub mod Waking

@@ -74,7 +74,8 @@ fn note_one(
     requires within { variable < length readers.old.items }
     ensures { OnOk result (Notes (variable ∷ []) number readers.old.items readers.new.items) }
 {
-    readers[variable as usize].push(number)
+    readers[variable as usize].push(number)?;
+    Ok(())
 }
 
 /// Adds the variables of a formula.
