@@ -62,5 +62,5 @@ same_width v w = formula_induction (Same v w)
     (λ n h. width-Fixed n v ∙ sym (width-Fixed n w))
     (λ x h. width-Var x v ∙ h x (rw (variables-Var x) (Contains-push [] x)) ∙ sym (width-Var x w))
     (λ prim kinds parts params all h. width-Op prim kinds parts params v
-        ∙ ap (λ ws. row_width prim kinds ws params) (parts_same v w parts all (rw (variables-Op prim kinds parts params) at h)) ∙ sym (width-Op prim kinds parts params w))
+    ∙ ap (λ ws. row_width prim kinds ws params) (parts_same v w parts all (rw (variables-Op prim kinds parts params) at h)) ∙ sym (width-Op prim kinds parts params w))
     (λ parts all h. width-Greatest parts v ∙ ap greatest (parts_same v w parts all (rw (variables-Greatest parts) at h)) ∙ sym (width-Greatest parts w))

@@ -8,10 +8,10 @@ use Rattle.std.proofs.lemmas.List.Elements.{All-take, All-drop, All-head, All-pu
 use Rattle.width_solver.specs.Rounds.{Waits, Wakes}
 use Rattle.width_solver.proofs.Noting.{Contains-nil, one_only}
 
-all_left : {X : Type 0} (P : X → Type 0) (xs ys : List X) → All P (xs ++ ys) → All P xs
+pub all_left : {X : Type 0} (P : X → Type 0) (xs ys : List X) → All P (xs ++ ys) → All P xs
 all_left P xs ys h = rw (take_at xs ys (length xs) refl) at (All-take P (length xs) (xs ++ ys) h)
 
-all_right : {X : Type 0} (P : X → Type 0) (xs ys : List X) → All P (xs ++ ys) → All P ys
+pub all_right : {X : Type 0} (P : X → Type 0) (xs ys : List X) → All P (xs ++ ys) → All P ys
 all_right P xs ys h = rw (drop_at xs ys (length xs) refl) at (All-drop P (length xs) (xs ++ ys) h)
 
 pub wakes_none : (waits : List Bool) (next : List ℕ) → Wakes [] waits next waits next

@@ -20,7 +20,13 @@ pub fn width_of_formula(formula: &Formula, widths: &[Width]) -> Width
         Formula::Fixed(bits) => at_most_128(*bits),
         Formula::Var(variable) => widths[*variable as usize],
         Formula::Op(prim, kinds, parts, params) => {
-            width_of_operation(*prim, kinds.as_slice(), parts.as_slice(), params.as_slice(), widths)
+            width_of_operation(
+                *prim,
+                kinds.as_slice(),
+                parts.as_slice(),
+                params.as_slice(),
+                widths,
+            )
         }
         Formula::Greatest(parts) => greatest_of(parts.as_slice(), widths),
     }

@@ -52,11 +52,7 @@ fn note(
     note_all(read.as_slice(), number, readers)
 }
 
-fn note_all(
-    read: &[u32],
-    number: usize,
-    readers: &mut Vec<List<usize>>,
-) -> Result<(), AllocError>
+fn note_all(read: &[u32], number: usize, readers: &mut Vec<List<usize>>) -> Result<(), AllocError>
     requires within { All (λ x. x < length readers.old.items) read.now }
     ensures { OnOk result (Notes read.now number readers.old.items readers.new.items) }
 {
@@ -66,11 +62,7 @@ fn note_all(
     Ok(())
 }
 
-fn note_one(
-    variable: u32,
-    number: usize,
-    readers: &mut Vec<List<usize>>,
-) -> Result<(), AllocError>
+fn note_one(variable: u32, number: usize, readers: &mut Vec<List<usize>>) -> Result<(), AllocError>
     requires within { variable < length readers.old.items }
     ensures { OnOk result (Notes (variable ∷ []) number readers.old.items readers.new.items) }
 {

@@ -74,11 +74,7 @@ fn raise(rule: &Rule, widths: &mut Vec<Width>) -> bool
 }
 
 /// Lets rules wait.
-fn wake(
-    numbers: &[usize],
-    waits: &mut Vec<bool>,
-    next: &mut Vec<usize>,
-) -> Result<(), AllocError>
+fn wake(numbers: &[usize], waits: &mut Vec<bool>, next: &mut Vec<usize>) -> Result<(), AllocError>
     requires within { All (λ k. k < length waits.old.items) numbers.now }
     ensures { OnOk result (Wakes numbers.now waits.old.items next.old.items waits.new.items next.new.items) }
 {
@@ -88,11 +84,7 @@ fn wake(
     Ok(())
 }
 
-fn wake_one(
-    number: usize,
-    waits: &mut Vec<bool>,
-    next: &mut Vec<usize>,
-) -> Result<(), AllocError>
+fn wake_one(number: usize, waits: &mut Vec<bool>, next: &mut Vec<usize>) -> Result<(), AllocError>
     requires within { number < length waits.old.items }
     ensures { OnOk result (Wakes (number ∷ []) waits.old.items next.old.items waits.new.items next.new.items) }
 {

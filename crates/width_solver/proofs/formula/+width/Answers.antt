@@ -25,7 +25,7 @@ width_of_formula-greatest_of-requires t c =
 pub width_of_formula-returns-in-Op : goal.width_of_formula-returns-in-Op
 width_of_formula-returns-in-Op t c =
     rw (c.in-Op.is, width-Op c.in-Op.prim c.in-Op.kinds c.in-Op.parts c.in-Op.params _)
-        (rw (c.as_slice.ensures, c.as_slice-in-Op.ensures, c.as_slice-in-Op-2.ensures) at c.width_of_operation.ensures)
+    (rw (c.as_slice.ensures, c.as_slice-in-Op.ensures, c.as_slice-in-Op-2.ensures) at c.width_of_operation.ensures)
 
 pub width_of_formula-returns-in-Greatest : goal.width_of_formula-returns-in-Greatest
 width_of_formula-returns-in-Greatest t c = grind (arith, common_steps, c.in-Greatest.is, width-Greatest)
@@ -33,4 +33,4 @@ width_of_formula-returns-in-Greatest t c = grind (arith, common_steps, c.in-Grea
 pub greatest_of-loop-part-preserved : goal.greatest_of-loop-part-preserved
 greatest_of-loop-part-preserved t c =
     rw (greatest_more c.args.widths.now c.args.parts.now _ _ c.loop-part-test.true c.part-item.is, ← c.loop-part.invariant)
-        (rw c.width_of_formula.ensures at c.wider-most.ensures)
+    (rw c.width_of_formula.ensures at c.wider-most.ensures)

@@ -6,4 +6,4 @@ use Rattle.width_solver.proofs.readers.note_one.Goals as goal
 pub returns : goal.returns
 returns c =
     rw (c.in_ok-push.ensures.ok, c.index_mut.ensures.value, get_or_default c.args.readers.now.items c.args.variable _ [] c.requires.within)
-        (notes_one c.args.readers.now.items c.args.variable c.args.number c.requires.within)
+    (notes_one c.args.readers.now.items c.args.variable c.args.number c.requires.within)
