@@ -20,7 +20,7 @@ level_small Over h = omega arith
 
 -- numbers of bits
 
-level-bounded : (n : ℕ) → level (bounded n) ≡ min n 129
+pub level-bounded : (n : ℕ) → level (bounded n) ≡ min n 129
 level-bounded n = by (nat_le n 128) refl
   where
     by : (b : Bool) → nat_le n 128 ≡ b → level (if b then Bits n else Over) ≡ min n 129

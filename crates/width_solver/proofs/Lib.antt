@@ -1,3 +1,4 @@
+pub mod Examples
 pub mod Greatest
 pub mod Noting
 pub mod Standing

@@ -8,3 +8,6 @@ mod rounds;
 mod solving;
 
 pub use solving::solve;
+
+#[cfg(test)]
+mod tests;
