@@ -1,18 +1,18 @@
 -- Formulas: induction, and what their widths are.
-use Rattle.std.proofs.Common.{◌≡◌, ℕ, ◌+◌, ◌<◌, ◌≤◌, List, [], ◌∷◌, map, length, get_or, refl, sym, subst, ap, ◌∙◌, arith, IsSome}
+use Rattle.std.proofs.Common.{◌≡◌, ℕ, ◌<◌, List, [], ◌∷◌, map, length, get_or, refl, sym, subst, ap, arith, IsSome}
 use Rattle.std.specs.List.{AllByRecursion}
 use Rattle.std.proofs.lemmas.Grind.{common_steps}
 use Rattle.bit_words.specs.declared.value.Kind.{Kind}
 use Rattle.prim_ops.specs.declared.operation.PrimOp.{PrimOp}
 use Rattle.prim_ops.specs.declared.widths.Width.{Width}
-use Rattle.prim_ops.specs.declared.widths.Width.TheVariants.{Bits, Over}
+use Rattle.prim_ops.specs.declared.widths.Width.TheVariants.{Bits}
 use Rattle.prim_ops.specs.Operations.{arity_of}
 use Rattle.prim_ops.specs.Kinds.{row_kind}
 use Rattle.prim_ops.specs.Widths.{bounded, row_width}
 use Rattle.width_rules.specs.declared.rule.Formula.{Formula, ind-Formula, roll-Formula, map-Formula, the_lemmas, every_here-Formula, every_held-Formula}
 use Rattle.width_rules.specs.declared.rule.Formula.TheVariants.{Fixed, Var, Op, Greatest, rolls-Fixed, rolls-Var, rolls-Op, rolls-Greatest, outs-Var, outs-Op, outs-Greatest}
 use Rattle.width_rules.specs.declared.rule.Formula.TheOpen.{Formula-F}
-use Rattle.width_rules.specs.Formulas.{level, greatest, width_under, LayerFits, IsFormula}
+use Rattle.width_rules.specs.Formulas.{greatest, width_under, LayerFits, IsFormula}
 
 module _ (P : Formula → Type 0) (fixed : (n : ℕ) → P (Fixed n)) (var : (x : ℕ) → P (Var x))
     (op : (prim : PrimOp) (kinds : List Kind) (parts : List Formula) (params : List ℕ) → AllByRecursion P parts → P (Op prim kinds parts params))

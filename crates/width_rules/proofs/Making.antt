@@ -1,5 +1,5 @@
 -- Formulas over a number of variables are made of such formulas.
-use Rattle.std.proofs.Common.{◌≡◌, ℕ, ◌<◌, List, [], ◌∷◌, map, length, refl, ap, arith, IsSome}
+use Rattle.std.proofs.Common.{◌≡◌, ℕ, ◌<◌, List, [], ◌∷◌, map, length, refl, ap, IsSome}
 use Rattle.std.specs.List.{AllByRecursion}
 use Rattle.bit_words.specs.declared.value.Kind.{Kind}
 use Rattle.prim_ops.specs.declared.operation.PrimOp.{PrimOp}
@@ -28,7 +28,7 @@ pub op_is_formula : (count : ℕ) (prim : PrimOp) (kinds : List Kind) (parts : L
     → length params ≡ (arity_of prim).1 → IsSome (row_kind prim kinds) → AllByRecursion (IsFormula count) parts → IsFormula count (Op prim kinds parts params)
 op_is_formula count prim kinds parts params k p n row all =
     rw (← rolls-Op prim kinds parts params) (every_made-Formula (LayerFits count) (Formula-F.Op prim kinds parts params) (Formula-F.Op prim kinds (pairs_of count parts all) params)
-        (ap (λ fs. Formula-F.Op prim kinds fs params) (parts_of count parts all)) (k, p, n, row))
+    (ap (λ fs. Formula-F.Op prim kinds fs params) (parts_of count parts all)) (k, p, n, row))
 
 pub greatest_is_formula : (count : ℕ) (parts : List Formula) → AllByRecursion (IsFormula count) parts → IsFormula count (Greatest parts)
 greatest_is_formula count parts all =

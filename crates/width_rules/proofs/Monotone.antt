@@ -1,7 +1,6 @@
 -- The width of a formula grows with the widths of the variables.
-use Rattle.std.proofs.Common.{◌≡◌, ℕ, ◌<◌, ◌≤◌, max, min, Bool, true, false, nat_le, if◌then◌else◌, List, [], ◌∷◌, Option, Some, None, option_map, get_or, refl, arith}
+use Rattle.std.proofs.Common.{◌≡◌, ℕ, ◌≤◌, max, min, Bool, true, false, nat_le, if◌then◌else◌, List, [], ◌∷◌, Option, Some, None, option_map, get_or, refl, arith}
 use Rattle.std.specs.List.{AllByRecursion}
-use Rattle.std.proofs.lemmas.Grind.{common_steps}
 use Rattle.std.proofs.lemmas.Bool.{leb-true, leb-false}
 use Rattle.bit_words.specs.declared.value.Kind.{Kind}
 use Rattle.prim_ops.specs.declared.operation.PrimOp.{PrimOp}
@@ -106,5 +105,5 @@ width_grows v w is h = formula_induction (λ f. level (width_under f v) ≤ leve
     (λ n. rw (width-Fixed n v, width-Fixed n w) (omega arith))
     (λ x. rw (width-Var x v, width-Var x w) (h x))
     (λ prim kinds parts params all. rw (width-Op prim kinds parts params v, width-Op prim kinds parts params w)
-        (row_grows prim kinds params (numbers_of (widths_under parts v)) (numbers_of (widths_under parts w)) (beyond v w is parts all)))
+    (row_grows prim kinds params (numbers_of (widths_under parts v)) (numbers_of (widths_under parts w)) (beyond v w is parts all)))
     (λ parts all. rw (width-Greatest parts v, width-Greatest parts w) (greatest_grows v w parts all))

@@ -1,13 +1,11 @@
 -- Rules whose least widths are stated.
-use Rattle.std.proofs.Common.{◌≡◌, ℕ, zero, suc, ◌+◌, ◌<◌, ◌≤◌, max, min, List, [], ◌∷◌, get_or, refl, arith}
-use Rattle.std.proofs.lemmas.Grind.{common_steps}
+use Rattle.std.proofs.Common.{◌≡◌, ℕ, zero, suc, ◌+◌, ◌≤◌, max, min, List, [], ◌∷◌, get_or, refl, arith}
 use Rattle.std.proofs.lemmas.List.Elements.{All-nil, All-cons, All-head, All-tail}
 use Rattle.bit_words.specs.declared.value.Kind.TheVariants.{Unsigned}
 use Rattle.prim_ops.specs.declared.operation.PrimOp.TheVariants.{Add}
 use Rattle.prim_ops.specs.declared.widths.Width.{Width}
 use Rattle.prim_ops.specs.declared.widths.Width.TheVariants.{Bits, Over}
-use Rattle.width_rules.specs.declared.rule.Formula.{Formula}
-use Rattle.width_rules.specs.declared.rule.Formula.TheVariants.{Fixed, Var, Op, Greatest}
+use Rattle.width_rules.specs.declared.rule.Formula.TheVariants.{Fixed, Var, Op}
 use Rattle.width_rules.specs.declared.rule.Rule.{Rule}
 use Rattle.width_rules.specs.Formulas.{level, width_under}
 use Rattle.width_rules.specs.Solutions.{level_at, IsWidth, IsAssignment, MeetsOne, Meets, AtOrBelow, IsLeast}

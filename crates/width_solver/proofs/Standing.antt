@@ -1,18 +1,17 @@
 -- How things stand when a rule was looked at.
-use Rattle.std.proofs.Common.{◌≡◌, ◌≢◌, ◌⊎◌, inl, inr, ⊎_elim, ℕ, zero, suc, ◌+◌, ◌-◌, ◌*◌, ◌<◌, ◌≤◌, min, Bool, true, false, List, [], ◌∷◌, ◌++◌, length, take, drop, replicate, get_or, set, slice_get, Some, sum_by, refl, ap, sym, subst, ◌∙◌, arith, get_or-set_same, get_or-set_other}
+use Rattle.std.proofs.Common.{◌≡◌, ◌≢◌, ◌⊎◌, inl, inr, ⊎_elim, ℕ, zero, suc, ◌+◌, ◌-◌, ◌*◌, ◌<◌, ◌≤◌, min, Bool, true, false, List, [], ◌∷◌, ◌++◌, length, replicate, get_or, set, slice_get, Some, refl, ap, sym, ◌∙◌, arith, get_or-set_same, get_or-set_other}
 use Rattle.std.specs.Prelude.{nat_eq}
 use Rattle.std.specs.List.{All, Contains}
 use Rattle.std.proofs.lemmas.Bool.{eqb-true, eqb-false}
-use Rattle.std.proofs.lemmas.Grind.{common_steps}
-use Rattle.std.proofs.lemmas.List.{length-set, length-replicate, get_or-replicate, get_or_past, drop_more, drop_all}
+use Rattle.std.proofs.lemmas.List.{length-set, length-replicate, get_or-replicate}
 use Rattle.std.proofs.lemmas.List.Elements.{All-tail, All-append, All-contains_itself, All-weaker, Contains-append_left, Contains-append_right, Contains-append_cases, Contains-push}
 use Rattle.std.proofs.lemmas.List.Sums.{sum_by-set, sum_by-cons}
 use Rattle.std.proofs.lemmas.Option.{slice_get_within, slice_get-get_or, get_or_from_slice_get}
 use Rattle.prim_ops.specs.declared.widths.Width.{Width}
-use Rattle.prim_ops.specs.declared.widths.Width.TheVariants.{Bits, Over}
+use Rattle.prim_ops.specs.declared.widths.Width.TheVariants.{Bits}
 use Rattle.width_rules.specs.declared.rule.Rule.{Rule}
 use Rattle.width_rules.specs.Formulas.{level, width_under}
-use Rattle.width_rules.specs.Solutions.{level_at, IsRule, AreRules, IsWidth, IsAssignment, MeetsOne, Meets, AtOrBelow, IsLeast}
+use Rattle.width_rules.specs.Solutions.{level_at, IsRule, IsWidth, IsAssignment, MeetsOne, Meets, AtOrBelow, IsLeast}
 use Rattle.width_rules.proofs.Monotone.{level_small, width_is_width, width_grows}
 use Rattle.width_solver.specs.Readers.{variables, readers_at, AreReaders}
 use Rattle.width_solver.specs.Rounds.{total, Waits, Wakes, Stands, Rises}

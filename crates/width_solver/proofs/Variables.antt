@@ -1,5 +1,5 @@
 -- The variables of a formula.
-use Rattle.std.proofs.Common.{◌≡◌, ℕ, ◌+◌, ◌<◌, ◌≤◌, List, [], ◌∷◌, ◌++◌, map, length, take, get_or, refl, ap, ap₂, sym, ◌∙◌, arith}
+use Rattle.std.proofs.Common.{◌≡◌, ℕ, ◌<◌, List, [], ◌∷◌, get_or, refl, ap, ap₂, sym, ◌∙◌, arith}
 use Rattle.std.specs.List.{AllByRecursion, All, Contains, flat_map}
 use Rattle.std.proofs.lemmas.Grind.{common_steps}
 use Rattle.std.proofs.lemmas.List.Folds.{flat_map-map}
@@ -7,7 +7,7 @@ use Rattle.std.proofs.lemmas.List.Elements.{All-nil, All-cons, All-append, Conta
 use Rattle.bit_words.specs.declared.value.Kind.{Kind}
 use Rattle.prim_ops.specs.declared.operation.PrimOp.{PrimOp}
 use Rattle.prim_ops.specs.declared.widths.Width.{Width}
-use Rattle.prim_ops.specs.declared.widths.Width.TheVariants.{Bits, Over}
+use Rattle.prim_ops.specs.declared.widths.Width.TheVariants.{Bits}
 use Rattle.prim_ops.specs.Widths.{row_width}
 use Rattle.width_rules.specs.declared.rule.Formula.{Formula, the_lemmas}
 use Rattle.width_rules.specs.declared.rule.Formula.TheVariants.{Fixed, Var, Op, Greatest}

@@ -1,5 +1,5 @@
 -- How the widths rise, rule by rule.
-use Rattle.std.specs.Prelude.{◌≡◌, ◌⊎◌, ℕ, ◌<◌, ◌≤◌, List, [], ◌∷◌, ◌++◌, length, get_or, set, slice_get, Some, Contains, All, Bool, true, false, sum_by}
+use Rattle.std.specs.Prelude.{◌≡◌, ◌⊎◌, ℕ, ◌<◌, ◌≤◌, List, [], length, get_or, set, slice_get, Some, Contains, All, Bool, true, false, sum_by}
 use Rattle.prim_ops.specs.declared.widths.Width.{Width}
 use Rattle.width_rules.specs.declared.rule.Rule.{Rule}
 use Rattle.width_rules.specs.Formulas.{level, width_under}

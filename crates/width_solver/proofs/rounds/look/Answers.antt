@@ -1,4 +1,4 @@
-use Rattle.std.proofs.Common.{◌≡◌, [], false, length, refl, ◌∙◌, arith}
+use Rattle.std.proofs.Common.{[], false, refl}
 use Rattle.std.proofs.lemmas.List.{length-set, get_or_read}
 use Rattle.std.proofs.lemmas.Option.{slice_get_read}
 use Rattle.width_solver.proofs.Standing.{readers_within, stands_met, stands_raised, rises_raised}
