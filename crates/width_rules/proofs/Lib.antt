@@ -1,0 +1,4 @@
+pub mod FormulaLemmas
+pub mod Growing
+pub mod Making
+pub mod Monotone

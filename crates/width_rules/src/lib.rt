@@ -5,6 +5,7 @@
 
 mod component;
 mod gathering;
+pub mod laws;
 pub mod rule;
 mod slot;
 

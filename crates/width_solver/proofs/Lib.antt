@@ -1,0 +1,6 @@
+pub mod Examples
+pub mod Greatest
+pub mod Noting
+pub mod Standing
+pub mod Variables
+pub mod Waking

@@ -2,6 +2,12 @@
 //! at or below every assignment that does.
 #![tactic(auto)]
 
+mod formula;
+mod readers;
+mod rounds;
 mod solving;
 
 pub use solving::solve;
+
+#[cfg(test)]
+mod tests;
