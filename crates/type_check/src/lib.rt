@@ -4,15 +4,10 @@
 
 mod checking;
 pub mod fault;
-mod flows;
 mod found;
-mod judge;
-mod memory;
 pub mod part;
-mod texts;
 mod walk;
 
 pub use checking::check;
 pub use fault::TypeFault;
-pub use flows::flow_of;
 pub use part::Flow;
