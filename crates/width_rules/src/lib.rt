@@ -12,6 +12,7 @@ pub mod rule;
 mod sizes;
 mod slot;
 mod steps;
+mod walk;
 
 pub use gathering::rules_of;
 pub use rule::{Formula, Rule, Rules};

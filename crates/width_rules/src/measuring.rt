@@ -296,7 +296,8 @@ fn ground(place: Place, kind: Kind, width: Option<u128>) -> FirType
     FirType { place, shape }
 }
 
-fn source(typ: FirType) -> Part
+/// What can only be read.
+pub fn source(typ: FirType) -> Part
     ensures { result ≡ source_of typ }
 {
     Part {
