@@ -1,7 +1,10 @@
+pub mod Bounds
 pub mod Expressions
+pub mod Fitting
 pub mod Flips
 pub mod Literals
 pub mod Ports
+pub mod Rows
 pub mod Spots
 pub mod Walking
 pub mod Whole
