@@ -5,6 +5,7 @@ pub mod Flips
 pub mod Literals
 pub mod Ports
 pub mod Rows
+pub mod Ruled
 pub mod Spots
 pub mod Walking
 pub mod Whole

@@ -1,9 +1,12 @@
-use Rattle.std.proofs.Common.{◌≡◌, rules, map, length, [], ◌++◌, ap, ap₂, ◌∙◌}
+use Rattle.std.proofs.Common.{◌≡◌, rules, map, length, [], ◌++◌, ap, ap₂, ◌∙◌, sym, subst}
 use Rattle.std.specs.List.{flat_map}
 use Rattle.width_rules.specs.Circuits.{modules_from}
 use Rattle.width_rules.specs.Walks.{ported, AreInstances, bodies_among}
 use Rattle.width_rules.proofs.Ports.{module_places}
+use Rattle.width_rules.specs.declared.rule.Rules.{Rules}
+use Rattle.width_rules.specs.Solutions.{AreRules}
 use Rattle.width_rules.proofs.Whole.{exactly}
+use Rattle.width_rules.proofs.Ruled.{are_rules}
 use Rattle.width_rules.proofs.gathering.rules_of.Goals as goal
 
 pub returns-clause-exact : goal.returns-clause-exact
@@ -18,3 +21,6 @@ returns-clause-exact c =
     exactly circuit.modules all listed ports c.from_vec.result c.from_vec-2.result first are placed
     (c.from_vec.ensures ∙ c.in_ok-walk_bodies.ensures.places)
     (c.from_vec-2.ensures ∙ c.in_ok-walk_bodies.ensures.rules ∙ ap (λ l. l ++ (bodies_among listed (length ports) all).rules) c.new-3.ensures.items)
+
+pub returns-clause-rules : goal.returns-clause-rules
+returns-clause-rules c = subst (λ (r : Rules). AreRules (length r.places) r.rules) (sym (returns-clause-exact c)) (are_rules c.args.checked.now.circuit.modules)
