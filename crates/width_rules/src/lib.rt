@@ -16,3 +16,6 @@ mod walk;
 
 pub use gathering::rules_of;
 pub use rule::{Formula, Rule, Rules};
+
+#[cfg(test)]
+mod tests;
