@@ -2,3 +2,14 @@ pub mod FormulaLemmas
 pub mod Growing
 pub mod Making
 pub mod Monotone
+pub mod Bounds
+pub mod Expressions
+pub mod Fitting
+pub mod Flips
+pub mod Literals
+pub mod Ports
+pub mod Rows
+pub mod Ruled
+pub mod Spots
+pub mod Walking
+pub mod Whole

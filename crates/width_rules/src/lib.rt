@@ -4,10 +4,19 @@
 #![tactic(auto)]
 
 mod component;
+mod driving;
 mod gathering;
 pub mod laws;
+mod measuring;
+mod memories;
 pub mod rule;
+mod sizes;
 mod slot;
+mod steps;
+mod walk;
 
 pub use gathering::rules_of;
 pub use rule::{Formula, Rule, Rules};
+
+#[cfg(test)]
+mod tests;
