@@ -1,4 +1,4 @@
-use Rattle.std.proofs.Common.{rules, arith, ◌≤◌, ◌≡◌, length, subst, IfOk}
+use Rattle.std.proofs.Common.{rules, arith, ◌≡◌, subst, IfOk}
 use Rattle.std.proofs.lemmas.Grind.{common_steps}
 use Rattle.width_rules.specs.Sources.{measured}
 use Rattle.width_rules.specs.Parts.{measured_by}
