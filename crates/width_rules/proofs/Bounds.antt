@@ -1,11 +1,9 @@
 -- All variables of formulas are below a number.
-use Rattle.std.proofs.Common.{◌≡◌, ℕ, ◌+◌, ◌≤◌, ◌<◌, Bool, true, false, ◌&&◌, List, [], ◌∷◌, ◌++◌, map, length, take, drop, zip, fold, Option, Some, None, is_some, IsSome, if◌then◌else◌, nat_eq, refl, sym, ap, ◌∙◌, subst, arith, All, zero, suc, rules}
+use Rattle.std.proofs.Common.{◌≡◌, ℕ, ◌<◌, Bool, true, false, ◌&&◌, List, [], ◌∷◌, ◌++◌, map, length, take, drop, zip, Option, Some, None, is_some, IsSome, if◌then◌else◌, nat_eq, refl, sym, ap, ◌∙◌, subst, All, zero, suc, rules}
 use Rattle.std.proofs.lemmas.Bool.{eqb-true}
 use Rattle.std.proofs.lemmas.List.{length-map}
 use Rattle.std.proofs.lemmas.List.Elements.{All-nil, All-cons}
-use Rattle.place_text.specs.declared.place.Place.{Place}
 use Rattle.bit_words.specs.declared.value.Kind.{Kind}
-use Rattle.bit_words.specs.Numbers.{integer_of_number}
 use Rattle.prim_ops.specs.declared.operation.PrimOp.{PrimOp}
 use Rattle.prim_ops.specs.Operations.{arity_of}
 use Rattle.prim_ops.specs.Kinds.{row_kind}
@@ -14,7 +12,6 @@ use Rattle.fir_types.specs.declared.fir_type.Shape.{Shape}
 use Rattle.fir_types.specs.declared.fir_type.Shape.TheOpen.{Shape-F}
 use Rattle.fir_types.specs.declared.fir_type.Shape.TheViews.{out-Shape}
 use Rattle.fir_types.specs.declared.fir_type.Field.{Field}
-use Rattle.width_rules.specs.declared.component.Component.{Component}
 use Rattle.width_rules.specs.declared.slot.Slot.{Slot}
 use Rattle.width_rules.specs.declared.slot.Slot.TheVariants as slot
 use Rattle.width_rules.specs.declared.rule.Formula.{Formula, the_lemmas}

@@ -1,5 +1,5 @@
 -- Expressions over their parts, and references step by step.
-use Rattle.std.proofs.Common.{◌≡◌, ℕ, suc, ◌+◌, ◌≤◌, ◌<◌, List, [], ◌∷◌, ◌++◌, map, length, take, get_or, zip, fold, find, ◌==◌, Option, Some, None, refl, sym, ap, ap₂, ◌∙◌, arith}
+use Rattle.std.proofs.Common.{◌≡◌, ℕ, ◌+◌, ◌≤◌, ◌<◌, List, [], ◌∷◌, ◌++◌, map, length, take, get_or, zip, find, ◌==◌, Some, None, sym, ap, ap₂, ◌∙◌, arith}
 use Rattle.std.proofs.lemmas.Grind.{common_steps}
 use Rattle.std.proofs.lemmas.List.{map-append, take_more}
 use Rattle.std.proofs.lemmas.List.Sums.{fold-append}
@@ -8,17 +8,15 @@ use Rattle.bit_words.specs.declared.value.Kind.{Kind}
 use Rattle.prim_ops.specs.declared.operation.PrimOp.{PrimOp}
 use Rattle.fir_types.specs.declared.fir_type.FirType.{the_lemmas as the_type_lemmas}
 use Rattle.fir_types.specs.declared.fir_type.Shape.TheVariants as shape
-use Rattle.fir_types.specs.declared.fir_type.Shape.TheViews.{out-Shape}
 use Rattle.fir_types.specs.declared.fir_type.Field.{Field}
 use Rattle.fir_tree.specs.declared.expr.Expr.{Expr, the_lemmas}
 use Rattle.fir_tree.specs.declared.expr.Suffix.{Suffix}
 use Rattle.fir_tree.specs.declared.expr.Form.TheVariants as form
 use Rattle.type_check.specs.declared.part.Flow.{Flow}
 use Rattle.type_check.specs.Parts.{source_of, flow_through}
-use Rattle.type_check.specs.Flows.{field_or_whole, field_of_layer, field_part}
 use Rattle.width_rules.specs.declared.slot.Slot.{Slot}
 use Rattle.width_rules.specs.declared.rule.Formula.{Formula}
-use Rattle.width_rules.specs.Places.{field_slots, slots_of_layer, slots_of_field}
+use Rattle.width_rules.specs.Places.{field_slots}
 use Rattle.width_rules.specs.declared.component.Component.{Component}
 use Rattle.width_rules.specs.Sources.{Known, Measured, measured, suffix_step, field_step, named, kind_of, lone, operation, choice, greater_of}
 use Rattle.width_rules.specs.Parts.{operation_over}

@@ -1,8 +1,6 @@
 -- All variables of expressions, components and rules are below a number.
-use Rattle.std.proofs.Common.{◌≡◌, ℕ, ◌+◌, ◌≤◌, ◌<◌, Bool, true, false, List, [], ◌∷◌, ◌++◌, map, length, replicate, fold, find, option_map, Option, Some, None, is_some, if◌then◌else◌, nat_eq, ◌==◌, cond, refl, sym, ap, ◌∙◌, subst, arith, length-append}
-use Rattle.std.specs.List.{flat_map}
+use Rattle.std.proofs.Common.{ℕ, Bool, true, false, List, [], ◌∷◌, ◌++◌, map, Some, is_some, if◌then◌else◌, nat_eq, cond, sym, subst}
 use Rattle.std.specs.Map.{lookup}
-use Rattle.std.proofs.lemmas.List.{length-replicate}
 use Rattle.place_text.specs.declared.place.Place.{Place}
 use Rattle.bit_words.specs.Numbers.{integer_of_number}
 use Rattle.fir_tree.specs.declared.expr.Expr.{Expr, roll-Expr, map-Expr}
@@ -11,10 +9,8 @@ use Rattle.fir_tree.specs.declared.expr.Suffix.{Suffix, roll-Suffix, map-Suffix}
 use Rattle.fir_tree.specs.declared.expr.Form.TheOpen.{Form-F, Suffix-F, Expr-F}
 use Rattle.fir_tree.specs.declared.expr.Form.TheFolds.{ind-Expr, fold-roll-Form, fold-roll-Suffix, fold-roll-Expr}
 use Rattle.width_rules.specs.declared.component.Component.{Component}
-use Rattle.width_rules.specs.declared.rule.Formula.{Formula}
-use Rattle.width_rules.specs.Formulas.{IsFormula}
-use Rattle.width_rules.specs.Sources.{Known, Among, Measured, component, component_or_none, known_with, named, measured, suffix_step, formula_of, literal_width, operation_formula, choice, of_form, of_suffix, of_expr}
-use Rattle.width_rules.proofs.Bounds.{Each, each_append, fixed_is, SlotFits, SlotsFit, FormulasFit, slot_formulas, step_fits, MeasureFits, operation_fits, choice_fits}
+use Rattle.width_rules.specs.Sources.{Known, Among, component, component_or_none, known_with, named, measured, suffix_step, literal_width, of_form, of_suffix, of_expr}
+use Rattle.width_rules.proofs.Bounds.{Each, each_append, fixed_is, SlotsFit, FormulasFit, slot_formulas, step_fits, MeasureFits, operation_fits, choice_fits}
 
 -- Components
 

@@ -6,8 +6,7 @@ use Rattle.width_rules.specs.declared.slot.Slot.{Slot}
 use Rattle.width_rules.specs.declared.rule.Formula.{Formula}
 use Rattle.width_rules.specs.declared.rule.Rule.{Rule}
 use Rattle.width_rules.specs.Places.{Spot}
-use Rattle.width_rules.specs.Sources.{formula_of}
-use Rattle.width_rules.specs.Circuits.{driven, connected, zeroed, invalidated, at_least, node_rules}
+use Rattle.width_rules.specs.Circuits.{driven, connected, zeroed, invalidated, node_rules}
 use Rattle.width_rules.specs.Layers.{flip_of, connected_by, invalidated_by}
 
 pub by_flips : (spots : List Spot) (ls rs : List Formula) → connected_by (map (flip_of false) spots) ls rs ≡ connected spots ls rs

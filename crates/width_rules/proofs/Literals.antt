@@ -1,5 +1,5 @@
 -- The least width that holds a literal.
-use Rattle.std.proofs.Common.{◌≡◌, ℕ, zero, suc, ◌+◌, ◌≤◌, ◌<◌, ◌^◌, min, Bool, true, false, not, ◌&&◌, T, refl, sym, ap, ◌∙◌, arith, subst, ℤ, pos, negsuc, neg_ℤ, ◌≤ℤ◌, ◌<ℤ◌, int_le, int_lt, if◌then◌else◌, ◌⊎◌, inl, inr, Option, Some, None, IfSome, IfNone}
+use Rattle.std.proofs.Common.{◌≡◌, ℕ, zero, suc, ◌+◌, ◌≤◌, ◌<◌, ◌^◌, min, Bool, true, false, ◌&&◌, T, refl, sym, ap, ◌∙◌, arith, ℤ, pos, negsuc, neg_ℤ, int_le, int_lt, if◌then◌else◌, ◌⊎◌, inl, inr, Option, Some, None, IfSome, IfNone}
 use Rattle.std.specs.Prelude.{nat_lt}
 use Rattle.std.specs.Option.{unwrap_or}
 use Rattle.std.proofs.lemmas.Bool.{ltb-true, ltb-false}

@@ -1,5 +1,5 @@
 -- A row of the table has as many kinds as the operation has operands.
-use Rattle.std.proofs.Common.{◌≡◌, ℕ, true, List, [], ◌∷◌, length, is_some, refl}
+use Rattle.std.proofs.Common.{◌≡◌, true, List, [], ◌∷◌, length, is_some, refl}
 use Rattle.bit_words.specs.declared.value.Kind.{Kind}
 use Rattle.prim_ops.specs.declared.operation.PrimOp.{PrimOp}
 use Rattle.prim_ops.specs.declared.operation.PrimOp.TheVariants.{Add, Sub, Mul, Div, Rem, Lt, Leq, Gt, Geq, Eq, Neq, Pad, AsUInt, AsSInt, Shl, Shr, Dshl, Dshr, Cvt, Neg, Not, And, Or, Xor, Andr, Orr, Xorr, Cat, Bits, Head, Tail}

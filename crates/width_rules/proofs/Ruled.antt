@@ -1,10 +1,9 @@
 -- All rules of a circuit are over the variables that have places.
-use Rattle.std.proofs.Common.{◌≡◌, ℕ, ◌+◌, ◌≤◌, ◌<◌, Bool, true, false, List, [], ◌∷◌, ◌++◌, map, length, find, option_map, Option, Some, None, if◌then◌else◌, ◌==◌, cond, refl, sym, ap, ◌∙◌, subst, arith, length-append}
+use Rattle.std.proofs.Common.{ℕ, ◌+◌, ◌≤◌, Bool, true, false, List, [], ◌∷◌, ◌++◌, map, length, find, option_map, Option, Some, None, ◌==◌, cond, sym, subst, arith, length-append}
 use Rattle.std.specs.List.{flat_map}
 use Rattle.std.proofs.lemmas.List.{length-replicate}
 use Rattle.place_text.specs.declared.place.Place.{Place}
 use Rattle.fir_types.specs.declared.port.Port.{Port}
-use Rattle.fir_types.specs.declared.name.Name.{Name}
 use Rattle.fir_types.specs.declared.memory.Memory.{Memory}
 use Rattle.fir_types.specs.declared.memory.MemLine.{MemLine}
 use Rattle.fir_types.specs.declared.memory.MemLine.TheVariants as line
@@ -19,7 +18,6 @@ use Rattle.fir_tree.specs.declared.stmt.Stmt.TheFolds.{ind-Stmt, fold-roll-Stmt,
 use Rattle.type_check.specs.declared.part.Flow.{Flow}
 use Rattle.type_check.specs.declared.part.Flow.TheVariants.{Source, Sink, Duplex}
 use Rattle.type_check.specs.Parts.{flow_through}
-use Rattle.width_rules.specs.declared.component.Component.{Component}
 use Rattle.width_rules.specs.declared.slot.Slot.{Slot}
 use Rattle.width_rules.specs.declared.slot.Slot.TheVariants as slot
 use Rattle.width_rules.specs.declared.rule.Formula.{Formula}
@@ -32,7 +30,7 @@ use Rattle.width_rules.specs.Sources.{Known, known_with, measured, formula_of, c
 use Rattle.width_rules.specs.Circuits.{Walk, Gathered, WithPorts, mask_slots, line_slots, at_least, driven, connected, zeroed, invalidated, node_rules, nothing, and_then, in_turn, places_for, instance_in, instance_component, of_stmt, of_arm, stmt_walk, arm_walk, known_ports, body_walk, bodies_from, ports_from, open_ports, modules_from, all_open, rules_of_modules}
 use Rattle.width_rules.proofs.Bounds.{Each, each_all, each_append, fixed_is, var_below, SlotFits, SlotsFit, FormulasFit, slot_formula, slot_formulas}
 use Rattle.width_rules.proofs.Fitting.{KnownFits, with_fits, measured_fits}
-use Rattle.width_rules.proofs.Ports.{module_places, ports_open, modules_open}
+use Rattle.width_rules.proofs.Ports.{module_places, modules_open}
 
 -- Widths
 

@@ -2,7 +2,6 @@
 use Rattle.std.proofs.Common.{◌≡◌, ℕ, ◌+◌, ◌<◌, List, [], ◌∷◌, ◌++◌, map, length, take, get_or, filter_map, refl, sym, ap, ap₂, ◌∙◌, arith, append_assoc, append-nil, length-append, subst}
 use Rattle.std.proofs.lemmas.List.{map-append, take_more}
 use Rattle.std.specs.List.{flat_map}
-use Rattle.place_text.specs.declared.place.Place.{Place}
 use Rattle.fir_types.specs.declared.memory.Memory.{Memory}
 use Rattle.fir_types.specs.declared.memory.MemLine.{MemLine}
 use Rattle.fir_types.specs.declared.memory.MemLine.TheVariants as line
@@ -11,15 +10,13 @@ use Rattle.fir_types.specs.declared.fir_type.FirType.{FirType}
 use Rattle.fir_types.specs.declared.fir_type.Shape.TheVariants as shape
 use Rattle.fir_types.specs.Bundles.{nowhere}
 use Rattle.fir_types.specs.Memories.{element_of, depth_of, first_or, element_in, depth_in}
-use Rattle.fir_tree.specs.declared.stmt.Stmt.{Stmt, fold-Stmt}
-use Rattle.fir_tree.specs.declared.stmt.Stmt.TheOpen.{Stmt-F, Arm-F}
+use Rattle.fir_tree.specs.declared.stmt.Stmt.{fold-Stmt}
+use Rattle.fir_tree.specs.declared.stmt.Stmt.TheOpen.{Stmt-F}
 use Rattle.width_rules.specs.declared.slot.Slot.{Slot}
-use Rattle.width_rules.specs.declared.rule.Rule.{Rule}
-use Rattle.width_rules.specs.declared.component.Component.{Component}
 use Rattle.width_rules.specs.declared.walk.Found.{Found}
 use Rattle.width_rules.specs.Layers.{line_widths}
 use Rattle.width_rules.specs.Places.{spots, slots_from}
-use Rattle.width_rules.specs.Sources.{Known, component, component_or_none}
+use Rattle.width_rules.specs.Sources.{Known, component_or_none}
 use Rattle.width_rules.specs.Circuits.{Walk, Gathered, WithPorts, and_then, in_turn, nothing, line_slots, memory_slots, of_stmt, of_arm, stmt_walk}
 use Rattle.width_rules.specs.Walks.{Walks, AreInstances, declares_component, of_stmt_among, stmt_walk_among}
 

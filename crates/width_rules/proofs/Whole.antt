@@ -1,12 +1,11 @@
 -- The rules of a whole circuit.
-use Rattle.std.proofs.Common.{◌≡◌, ℕ, ◌+◌, List, [], ◌∷◌, ◌++◌, map, length, refl, sym, ap, ap₂, ◌∙◌}
+use Rattle.std.proofs.Common.{◌≡◌, ℕ, ◌+◌, List, [], ◌∷◌, ◌++◌, map, length, refl, ap, ap₂, ◌∙◌}
 use Rattle.std.specs.List.{flat_map}
 use Rattle.place_text.specs.declared.place.Place.{Place}
 use Rattle.fir_tree.specs.declared.circuit.Module.{Module}
 use Rattle.width_rules.specs.declared.rule.Rule.{Rule}
-use Rattle.width_rules.specs.declared.rule.Rules.{Rules}
 use Rattle.width_rules.specs.Sources.{Known}
-use Rattle.width_rules.specs.Circuits.{WithPorts, Bodies, in_turn, known_ports, body_walk, bodies_from, modules_from, port_places, rules_of_modules}
+use Rattle.width_rules.specs.Circuits.{WithPorts, in_turn, known_ports, body_walk, bodies_from, modules_from, rules_of_modules}
 use Rattle.width_rules.specs.Walks.{AreInstances, body_among, bodies_among}
 use Rattle.width_rules.proofs.Ports.{module_places}
 use Rattle.width_rules.proofs.Walking.{same_walk}

@@ -1,5 +1,5 @@
 -- What the places of a type are by the fields of bundles, and the walk over two lists of formulas by the flips alone.
-use Rattle.std.specs.Prelude.{◌≡◌, ℕ, ◌++◌, Bool, true, false, not, if◌then◌else◌, List, [], ◌∷◌, map, length}
+use Rattle.std.specs.Prelude.{◌≡◌, ℕ, ◌++◌, Bool, not, if◌then◌else◌, List, [], ◌∷◌, map, length}
 use Rattle.place_text.specs.declared.place.Place.{Place}
 use Rattle.fir_types.specs.declared.fir_type.FirType.{FirType}
 use Rattle.fir_types.specs.declared.fir_type.Field.{Field, fold-Field}

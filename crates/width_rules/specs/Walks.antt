@@ -8,7 +8,7 @@ use Rattle.fir_types.specs.Bundles.{memory_of}
 use Rattle.type_check.specs.Parts.{source_of}
 use Rattle.fir_tree.specs.declared.stmt.Stmt.{Stmt, fold-Stmt}
 use Rattle.fir_tree.specs.declared.stmt.Arm.{Arm, fold-Arm}
-use Rattle.fir_tree.specs.declared.stmt.Stmt.TheOpen.{Stmt-F, Arm-F}
+use Rattle.fir_tree.specs.declared.stmt.Stmt.TheOpen.{Stmt-F}
 use Rattle.width_rules.specs.declared.component.Component.{Component}
 use Rattle.width_rules.specs.declared.walk.Found.{Found}
 use Rattle.width_rules.specs.declared.gathering.Ported.{Ported}

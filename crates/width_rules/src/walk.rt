@@ -194,12 +194,7 @@ fn copy_component(alloc: Global, component: &Component) -> Result<Component, All
 }
 
 /// A node has a variable for each place, which is at least the expression's width.
-fn declare_node(
-    alloc: Global,
-    found: &mut Found,
-    name: Name,
-    expr: &Expr,
-) -> Result<(), AllocError>
+fn declare_node(alloc: Global, found: &mut Found, name: Name, expr: &Expr) -> Result<(), AllocError>
     ensures { OnOk result (Walks (names_node name expr.now) found.old found.new) }
 {
     let Measure { part, formulas } = measure_expr(alloc, &found.known, expr)?;
@@ -209,12 +204,7 @@ fn declare_node(
     note(&mut found.known, name.id, Component { part, slots })
 }
 
-fn connect(
-    alloc: Global,
-    found: &mut Found,
-    left: &Expr,
-    right: &Expr,
-) -> Result<(), AllocError>
+fn connect(alloc: Global, found: &mut Found, left: &Expr, right: &Expr) -> Result<(), AllocError>
     ensures { OnOk result (Walks (connects left.now right.now) found.old found.new) }
 {
     let Measure {

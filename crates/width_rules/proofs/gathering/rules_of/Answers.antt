@@ -1,4 +1,4 @@
-use Rattle.std.proofs.Common.{◌≡◌, rules, map, length, [], ◌++◌, ap, ap₂, ◌∙◌, sym, subst}
+use Rattle.std.proofs.Common.{◌≡◌, map, length, ◌++◌, ap, ap₂, ◌∙◌, sym, subst}
 use Rattle.std.specs.List.{flat_map}
 use Rattle.width_rules.specs.Circuits.{modules_from}
 use Rattle.width_rules.specs.Walks.{ported, AreInstances, bodies_among}

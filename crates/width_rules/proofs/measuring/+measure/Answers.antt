@@ -1,4 +1,4 @@
-use Rattle.std.proofs.Common.{rules, arith, ◌≤◌, ◌≡◌, length, subst, IfOk}
+use Rattle.std.proofs.Common.{rules, arith, ◌≡◌, subst, IfOk}
 use Rattle.std.proofs.lemmas.Grind.{common_steps}
 use Rattle.width_rules.specs.Sources.{measured}
 use Rattle.width_rules.specs.Parts.{measured_by}
@@ -8,7 +8,7 @@ use Rattle.width_rules.proofs.measuring.+measure.Goals as goal
 pub measure_expr-returns-in_ok-params-in-Prim : goal.measure_expr-returns-in_ok-params-in-Prim
 measure_expr-returns-in_ok-params-in-Prim t c =
     let e = prim_told c.args.expr.now c.in-Prim.prim c.in-Prim.operands c.in-Prim.params c.in_ok-params-in-Prim.params c.args.known.now.entries c.measure_operands.new.kinds c.measure_operands.new.formulas
-        c.in-Prim.is (search rules) (search rules) (search rules) in
+    c.in-Prim.is (search rules) (search rules) (search rules) in
     subst (λ x. IfOk c.operation.result (λ m. measured_by m ≡ x)) e c.operation.ensures
 
 pub measure_expr-returns-in-Mux : goal.measure_expr-returns-in-Mux

@@ -1,4 +1,4 @@
-use Rattle.std.proofs.Common.{rules, ◌≡◌, ap, ◌∙◌, sym, min}
+use Rattle.std.proofs.Common.{◌≡◌, ap, ◌∙◌, sym, min}
 use Rattle.std.specs.Option.{unwrap_or}
 use Rattle.bit_words.specs.Numbers.{integer_of_number}
 use Rattle.width_rules.specs.Sources.{literal_width}

@@ -1,4 +1,4 @@
-use Rattle.std.proofs.Common.{◌≡◌, ◌++◌, ◌-◌, ◌^◌, min, map, sum, take}
+use Rattle.std.proofs.Common.{◌≡◌, ◌++◌, map, take}
 use Rattle.std.specs.List.{flat_map}
 use Rattle.width_rules.specs.Layers.{field_spots, flip_of}
 use Rattle.width_rules.proofs.sizes.+flips.Given as goal

@@ -1,4 +1,4 @@
-use Rattle.std.proofs.Common.{◌≡◌, ◌++◌, ◌-◌, ◌^◌, min, map, sum, take}
+use Rattle.std.proofs.Common.{◌≡◌, ◌++◌, take}
 use Rattle.std.specs.List.{flat_map}
 use Rattle.width_rules.specs.Layers.{mask_field_widths}
 use Rattle.width_rules.proofs.sizes.+mask.Given as goal

@@ -1,4 +1,4 @@
-use Rattle.std.proofs.Common.{rules, arith}
+use Rattle.std.proofs.Common.{arith}
 use Rattle.std.proofs.lemmas.Grind.{common_steps}
 use Rattle.width_rules.proofs.Spots.{size-bundle, size-field}
 use Rattle.width_rules.proofs.sizes.+size.Goals as goal

@@ -1,5 +1,4 @@
-use Rattle.std.proofs.Common.{◌≡◌, ◌++◌, ◌-◌, ◌^◌, min, map, sum, take}
-use Rattle.std.specs.List.{flat_map}
+use Rattle.std.proofs.Common.{◌≡◌, ◌-◌, ◌^◌, min, map, sum, take}
 use Rattle.width_rules.specs.Layers.{field_size}
 use Rattle.width_rules.proofs.sizes.+size.Given as goal
 

@@ -1,4 +1,4 @@
-use Rattle.std.proofs.Common.{◌≡◌, rules, arith, length, ap, ◌∙◌, ◌++◌}
+use Rattle.std.proofs.Common.{◌≡◌, arith, length, ap, ◌∙◌, ◌++◌}
 use Rattle.std.proofs.lemmas.Grind.{common_steps}
 use Rattle.width_rules.specs.Circuits.{places_for}
 use Rattle.width_rules.specs.Places.{spots, size}
