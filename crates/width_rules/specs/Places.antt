@@ -61,7 +61,7 @@ abbrev pub node_slots : ℕ → List Spot → List Slot
 node_slots n [] = []
 node_slots n (spot ∷ rest) = Var n ∷ node_slots (n + 1) rest
 
--- Of the widths of a bundle's places those of the first field of a name; and all of them where there is no such field.
+-- Of the widths of a bundle's places those of the first field of a name; and what is left behind all fields where there is no such field.
 abbrev pub field_slots : ℕ → List Field → List Slot → List Slot
 field_slots name [] slots = slots
 field_slots name (f ∷ fields) slots = if f.name.id == name then take (size f.typ) slots else field_slots name fields (drop (size f.typ) slots)
