@@ -2,6 +2,8 @@
 //! at or below every assignment that does.
 #![tactic(auto)]
 
+pub mod fault;
 mod solving;
 
+pub use fault::WidthFault;
 pub use solving::solve;
