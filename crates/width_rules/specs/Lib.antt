@@ -1,5 +1,7 @@
-pub mod Formulas
-pub mod Solutions
-pub mod Places
-pub mod Sources
 pub mod Circuits
+pub mod Formulas
+pub mod Layers
+pub mod Parts
+pub mod Places
+pub mod Solutions
+pub mod Sources

@@ -5,8 +5,11 @@
 
 mod component;
 mod gathering;
+mod measuring;
 pub mod rule;
+mod sizes;
 mod slot;
+mod steps;
 
 pub use gathering::rules_of;
 pub use rule::{Formula, Rule, Rules};

@@ -1,0 +1,173 @@
+-- The places of bundles and vectors.
+use Rattle.std.proofs.Common.{◌≡◌, ℕ, zero, suc, ◌+◌, ◌<◌, Bool, true, false, not, List, [], ◌∷◌, ◌++◌, map, sum, length, take, replicate, get_or, if◌then◌else◌, refl, sym, ap, ap₂, ◌∙◌, subst, arith, append_assoc, append-nil, length-append, Option, Some, None}
+use Rattle.std.specs.List.{flat_map}
+use Rattle.std.specs.Bool.{beq}
+use Rattle.std.proofs.lemmas.Grind.{common_steps}
+use Rattle.std.proofs.lemmas.List.{map-append, take_more, length-map, length-replicate, replicate-append-replicate, replicate_more}
+use Rattle.std.proofs.lemmas.List.Folds.{flat_map-map}
+use Rattle.std.proofs.lemmas.List.Concat.{flat_map-append}
+use Rattle.place_text.specs.declared.place.Place.{Place}
+use Rattle.fir_types.specs.declared.fir_type.FirType.{FirType, the_lemmas}
+use Rattle.fir_types.specs.declared.fir_type.Shape.TheVariants as shape
+use Rattle.fir_types.specs.declared.fir_type.Field.{Field}
+use Rattle.fir_types.specs.Bundles.{mask_of, mask_of_field}
+use Rattle.width_rules.specs.declared.slot.Slot.{Slot}
+use Rattle.width_rules.specs.declared.slot.Slot.TheVariants as slot
+use Rattle.width_rules.specs.Places.{Spot, spots, size, turned, slot_of, is_open, slots_from, open_spots, node_slots}
+use Rattle.width_rules.specs.Circuits.{places_for}
+use Rattle.width_rules.specs.Layers.{field_spots, field_size, flip_of, flips_under, one_bit, mask_widths, mask_field_widths, Adds}
+
+-- Layers
+
+pub spots-bundle : (t : FirType) (fs : List Field) → t.shape ≡ shape.Bundle fs → spots t ≡ flat_map field_spots fs
+spots-bundle t fs e = grind (arith, common_steps, the_lemmas, flat_map-map)
+
+pub spots-vector : (t e : FirType) (n : ℕ) → t.shape ≡ shape.Vector e n → spots t ≡ spots e
+spots-vector t e n h = grind (arith, common_steps, the_lemmas)
+
+pub spots-field : (f : Field) → field_spots f ≡ map (turned f.flip) (spots f.typ)
+spots-field f = grind (arith, common_steps, the_lemmas)
+
+-- one field more of a list
+fields_next : {X : Type 0} (g : Field → List X) (fs : List Field) (i : ℕ) (f : Field) → i < length fs → f ≡ get_or fs i f → flat_map g (take (i + 1) fs) ≡ flat_map g (take i fs) ++ g f
+fields_next g fs i f lt is = grind (arith, common_steps)
+
+-- Sizes
+
+pub size-field : (f : Field) → field_size f ≡ size f.typ
+size-field f = ap length (spots-field f) ∙ length-map (spots f.typ) (turned f.flip)
+
+size-fields : (fs : List Field) → length (flat_map field_spots fs) ≡ sum (map field_size fs)
+size-fields [] = refl
+size-fields (f ∷ fs) = let h = length-append (field_spots f) (flat_map field_spots fs) in grind (arith, common_steps, h, size-fields fs)
+
+pub size-bundle : (t : FirType) (fs : List Field) → t.shape ≡ shape.Bundle fs → size t ≡ sum (map field_size fs)
+size-bundle t fs e = ap length (spots-bundle t fs e) ∙ size-fields fs
+
+-- Flips
+
+xor_is : (a b : Bool) → not (beq a b) ≡ (if a then not b else b)
+xor_is true true = refl
+xor_is true false = refl
+xor_is false true = refl
+xor_is false false = refl
+
+flips_twice : (a b : Bool) (ss : List Spot) → map (flip_of (not (beq a b))) ss ≡ map (flip_of a) (map (turned b) ss)
+flips_twice a b [] = refl
+flips_twice a b (s ∷ ss) = ap₂ (λ x xs. x ∷ xs) (one a b s.flip) (flips_twice a b ss)
+  where
+    one : (a b c : Bool) → (if not (beq a b) then not c else c) ≡ (if a then not (if b then not c else c) else if b then not c else c)
+    one true true true = refl
+    one true true false = refl
+    one true false c = refl
+    one false true c = refl
+    one false false c = refl
+
+pub flips_more : (fs : List Field) (i : ℕ) (f : Field) (flip : Bool) (before listed after : List Bool) → i < length fs → f ≡ get_or fs i f
+    → listed ≡ before ++ map (flip_of flip) (flat_map field_spots (take i fs)) → after ≡ listed ++ flips_under (not (beq flip f.flip)) f.typ
+    → after ≡ before ++ map (flip_of flip) (flat_map field_spots (take (i + 1) fs))
+flips_more fs i f flip before listed after lt is h a =
+    let one : flips_under (not (beq flip f.flip)) f.typ ≡ map (flip_of flip) (field_spots f) = flips_twice flip f.flip (spots f.typ) ∙ ap (map (flip_of flip)) (sym (spots-field f)) in
+    let next : map (flip_of flip) (flat_map field_spots (take (i + 1) fs)) ≡ map (flip_of flip) (flat_map field_spots (take i fs)) ++ map (flip_of flip) (field_spots f)
+    = ap (map (flip_of flip)) (fields_next field_spots fs i f lt is) ∙ map-append (flip_of flip) (flat_map field_spots (take i fs)) (field_spots f) in
+    a ∙ ap₂ (λ x y. x ++ y) h one ∙ append_assoc before _ _ ∙ ap (λ x. before ++ x) (sym next)
+
+-- Masks
+
+mask-bundle : (t : FirType) (fs : List Field) → t.shape ≡ shape.Bundle fs → (mask_of t).shape ≡ shape.Bundle (map mask_of_field fs)
+mask-bundle t fs e = grind (arith, common_steps, the_lemmas)
+
+masks_by_fields : (fs : List Field) → map one_bit (flat_map field_spots (map mask_of_field fs)) ≡ flat_map mask_field_widths fs
+masks_by_fields [] = refl
+masks_by_fields (f ∷ fs) = map-append one_bit (field_spots (mask_of_field f)) (flat_map field_spots (map mask_of_field fs)) ∙ ap (λ x. mask_field_widths f ++ x) (masks_by_fields fs)
+
+pub masks-bundle : (t : FirType) (fs : List Field) → t.shape ≡ shape.Bundle fs → mask_widths t ≡ flat_map mask_field_widths fs
+masks-bundle t fs e = ap (map one_bit) (spots-bundle (mask_of t) (map mask_of_field fs) (mask-bundle t fs e)) ∙ masks_by_fields fs
+
+one_bits : (b : Bool) (ss : List Spot) → map one_bit (map (turned b) ss) ≡ map one_bit ss
+one_bits b [] = refl
+one_bits b (s ∷ ss) = ap (λ x. slot.Fixed 1 ∷ x) (one_bits b ss)
+
+mask-field : (f : Field) → (mask_of_field f).typ ≡ mask_of f.typ
+mask-field f = grind (arith, common_steps, the_lemmas)
+
+pub masks-field : (f : Field) → mask_field_widths f ≡ mask_widths f.typ
+masks-field f = ap (map one_bit) (spots-field (mask_of_field f)) ∙ one_bits (mask_of_field f).flip (spots (mask_of_field f).typ) ∙ ap (λ t. map one_bit (spots t)) (mask-field f)
+
+pub masks_more : (fs : List Field) (i : ℕ) (f : Field) (before listed after : List Slot) → i < length fs → f ≡ get_or fs i f
+    → listed ≡ before ++ flat_map mask_field_widths (take i fs) → after ≡ listed ++ mask_widths f.typ → after ≡ before ++ flat_map mask_field_widths (take (i + 1) fs)
+masks_more fs i f before listed after lt is h a =
+    a ∙ ap₂ (λ x y. x ++ y) h (sym (masks-field f)) ∙ append_assoc before _ _ ∙ ap (λ x. before ++ x) (sym (fields_next mask_field_widths fs i f lt is))
+
+-- Widths with variables
+
+pub slots_from-append : (n : ℕ) (xs ys : List Spot) → slots_from n (xs ++ ys) ≡ slots_from n xs ++ slots_from (n + open_spots xs) ys
+slots_from-append n [] ys = ap (λ k. slots_from k ys) (omega arith)
+slots_from-append n (x ∷ xs) ys = ap (λ l. slot_of n x.width ∷ l) (slots_from-append (n + is_open x.width) xs ys ∙ ap (λ k. slots_from (n + is_open x.width) xs ++ slots_from k ys) (omega arith))
+
+pub open_spots-append : (xs ys : List Spot) → open_spots (xs ++ ys) ≡ open_spots xs + open_spots ys
+open_spots-append [] ys = omega arith
+open_spots-append (x ∷ xs) ys = ap (λ n. is_open x.width + n) (open_spots-append xs ys) ∙ omega arith
+
+slots_turned : (n : ℕ) (b : Bool) (ss : List Spot) → slots_from n (map (turned b) ss) ≡ slots_from n ss
+slots_turned n b [] = refl
+slots_turned n b (s ∷ ss) = ap (λ l. slot_of n s.width ∷ l) (slots_turned (n + is_open s.width) b ss)
+
+open_turned : (b : Bool) (ss : List Spot) → open_spots (map (turned b) ss) ≡ open_spots ss
+open_turned b [] = refl
+open_turned b (s ∷ ss) = ap (λ n. is_open s.width + n) (open_turned b ss)
+
+pub adds_none : (place : Place) (slots : List Slot) (places : List Place) → Adds place [] slots slots places places
+adds_none place slots places = record { slots = sym (append-nil slots); places = sym (append-nil places) }
+
+places_after : (place : Place) {ss : List Spot} {a b : List Slot} {p q : List Place} → Adds place ss a b p q → length q ≡ length p + open_spots ss
+places_after place {ss} {a} {b} {p} h = ap length h.places ∙ length-append p (places_for place (open_spots ss)) ∙ ap (λ n. length p + n) (length-replicate (open_spots ss) place)
+
+pub adds_then : (place : Place) {xs ys : List Spot} {a b c : List Slot} {p q r : List Place} → Adds place xs a b p q → Adds place ys b c q r → Adds place (xs ++ ys) a c p r
+adds_then place {xs} {ys} {a} {b} {c} {p} {q} h k = record {
+  slots = k.slots ∙ ap₂ (λ l n. l ++ slots_from n ys) h.slots (places_after place h) ∙ append_assoc a _ _ ∙ ap (λ l. a ++ l) (sym (slots_from-append (length p) xs ys));
+  places = k.places ∙ ap (λ l. l ++ places_for place (open_spots ys)) h.places ∙ append_assoc p _ _
+      ∙ ap (λ l. p ++ l) (replicate-append-replicate (open_spots xs) (open_spots ys) place ∙ ap (places_for place) (sym (open_spots-append xs ys)));
+}
+
+adds_turned : (place : Place) (f : Bool) {ss : List Spot} {a b : List Slot} {p q : List Place} → Adds place ss a b p q → Adds place (map (turned f) ss) a b p q
+adds_turned place f {ss} {a} {b} {p} h = record {
+  slots = h.slots ∙ ap (λ l. a ++ l) (sym (slots_turned (length p) f ss));
+  places = h.places ∙ ap (λ n. p ++ places_for place n) (sym (open_turned f ss));
+}
+
+pub adds_more : (place : Place) (fs : List Field) (i : ℕ) (f : Field) {a b c : List Slot} {p q r : List Place} → i < length fs → f ≡ get_or fs i f
+    → Adds place (flat_map field_spots (take i fs)) a b p q → Adds place (spots f.typ) b c q r → Adds place (flat_map field_spots (take (i + 1) fs)) a c p r
+adds_more place fs i f {a} {b} {c} {p} {q} {r} lt is h k =
+    subst (λ ss. Adds place ss a c p r) (sym (fields_next field_spots fs i f lt is))
+    (adds_then place h (subst (λ ss. Adds place ss b c q r) (sym (spots-field f)) (adds_turned place f.flip k)))
+
+-- Nodes
+
+-- as many variables, from n on
+abbrev pub counted_slots : ℕ → ℕ → List Slot
+counted_slots n zero = []
+counted_slots n (suc more) = slot.Var n ∷ counted_slots (n + 1) more
+
+pub counted_more : (n more : ℕ) → counted_slots n (more + 1) ≡ counted_slots n more ++ slot.Var (n + more) ∷ []
+counted_more n zero = ap (λ k. slot.Var k ∷ []) (omega arith)
+counted_more n (suc more) =
+    let step : suc more + 1 ≡ suc (more + 1) = omega arith in
+    ap (counted_slots n) step ∙ ap (λ l. slot.Var n ∷ l) (counted_more (n + 1) more ∙ ap (λ k. counted_slots (n + 1) more ++ slot.Var k ∷ []) (omega arith))
+
+pub counted_is : (n : ℕ) (ss : List Spot) → counted_slots n (length ss) ≡ node_slots n ss
+counted_is n [] = refl
+counted_is n (s ∷ ss) = ap (λ l. slot.Var n ∷ l) (counted_is (n + 1) ss)
+
+pub record Variables (place : Place) (n : ℕ) (after : List Slot) (from to : List Place) : Type 0 where
+  pub slots : after ≡ counted_slots (length from) n
+  pub places : to ≡ from ++ places_for place n
+
+pub variables_more : (place : Place) (n : ℕ) {b c : List Slot} {p q r : List Place} → b ≡ counted_slots (length p) n → q ≡ p ++ places_for place n
+    → c ≡ b ++ slot.Var (length q) ∷ [] → r ≡ q ++ place ∷ [] → Variables place (n + 1) c p r
+variables_more place n {b} {c} {p} {q} {r} slots places new from =
+    let len : length q ≡ length p + n = ap length places ∙ length-append p (places_for place n) ∙ ap (λ k. length p + k) (length-replicate n place) in
+    record {
+      slots = new ∙ ap₂ (λ l k. l ++ slot.Var k ∷ []) slots len ∙ sym (counted_more (length p) n);
+      places = from ∙ ap (λ l. l ++ place ∷ []) places ∙ append_assoc p _ _ ∙ ap (λ l. p ++ l) (replicate_more n place);
+    }

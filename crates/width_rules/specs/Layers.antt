@@ -1,0 +1,53 @@
+-- What the places of a type are by the fields of bundles, and the walk over two lists of formulas by the flips alone.
+use Rattle.std.specs.Prelude.{◌≡◌, ℕ, ◌++◌, Bool, true, false, not, if◌then◌else◌, List, [], ◌∷◌, map, length}
+use Rattle.place_text.specs.declared.place.Place.{Place}
+use Rattle.fir_types.specs.declared.fir_type.FirType.{FirType}
+use Rattle.fir_types.specs.declared.fir_type.Field.{Field, fold-Field}
+use Rattle.fir_types.specs.Bundles.{mask_of, mask_of_field}
+use Rattle.type_check.specs.declared.part.Flow.{Flow}
+use Rattle.type_check.specs.Parts.{flow_through}
+use Rattle.width_rules.specs.declared.slot.Slot.{Slot}
+use Rattle.width_rules.specs.declared.slot.Slot.TheVariants as slot
+use Rattle.width_rules.specs.declared.rule.Formula.{Formula}
+use Rattle.width_rules.specs.declared.rule.Rule.{Rule}
+use Rattle.width_rules.specs.Places.{Spot, spots, of_shape, of_field, slots_from, open_spots}
+use Rattle.width_rules.specs.Circuits.{driven, zeroed, places_for}
+
+-- the places of a field, turned round where the field is flipped
+abbrev pub field_spots : Field → List Spot
+field_spots = fold-Field (List Spot) (List Spot) (List Spot) of_shape of_field (λ t. t.shape)
+
+-- how many places a field has
+abbrev pub field_size : Field → ℕ
+field_size field = length (field_spots field)
+
+-- whether a place is flipped, under a flip or not
+abbrev pub flip_of : Bool → Spot → Bool
+flip_of flip spot = if flip then not spot.flip else spot.flip
+
+abbrev pub flips_under : Bool → FirType → List Bool
+flips_under flip typ = map (flip_of flip) (spots typ)
+
+-- the width of a mask's place
+abbrev pub one_bit : Spot → Slot
+one_bit spot = slot.Fixed 1
+
+abbrev pub mask_widths : FirType → List Slot
+mask_widths typ = map one_bit (spots (mask_of typ))
+
+abbrev pub mask_field_widths : Field → List Slot
+mask_field_widths field = map one_bit (field_spots (mask_of_field field))
+
+-- widths and places of variables are added for these spots
+pub record Adds (place : Place) (found : List Spot) (before after : List Slot) (from to : List Place) : Type 0 where
+  pub slots : after ≡ before ++ slots_from (length from) found
+  pub places : to ≡ from ++ places_for place (open_spots found)
+
+-- Each place is at least the source's, by the flips of the places.
+abbrev pub connected_by : List Bool → List Formula → List Formula → List Rule
+connected_by (flip ∷ flips) (l ∷ ls) (r ∷ rs) = driven flip l r ++ connected_by flips ls rs
+connected_by _ _ _ = []
+
+abbrev pub invalidated_by : Flow → List Bool → List Formula → List Rule
+invalidated_by flow (flip ∷ flips) (f ∷ fs) = zeroed (flow_through flip flow) f ++ invalidated_by flow flips fs
+invalidated_by flow _ _ = []

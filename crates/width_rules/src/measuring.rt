@@ -1,0 +1,306 @@
+//! The widths of expressions.
+
+ghost use Rattle.std.specs.Prelude.{◌≡◌, ◌++◌, ◌∷◌, [], map, zip, None, OnOk, IfOk};
+ghost use Rattle.bit_words.specs.Numbers.{integer_of_number};
+ghost use Rattle.prim_ops.specs.Kinds.{row_kind};
+ghost use Rattle.type_check.specs.Parts.{source_of};
+ghost use Rattle.type_check.specs.Texts.{sign_of};
+ghost use Rattle.type_check.specs.Expressions.{ground, sign_or_unsigned};
+ghost use Rattle.width_rules.specs.Sources.{component, component_or_none, named, measured, measured_reference, suffix_step, formula_of, literal_width, lone, kind_of, greater_of, choice};
+ghost use Rattle.width_rules.specs.Parts.{measured_by, operation_over};
+
+use crate::component::Component;
+use crate::rule::Formula;
+use crate::slot::Slot;
+use crate::steps::walk_steps;
+use bit_words::literal::least_width;
+use bit_words::{Kind, List, Number};
+use fir_tree::{Expr, Form, Suffix};
+use fir_types::{FirType, Shape, copy};
+use indexmap::IndexMap;
+use place_text::Place;
+use prim_ops::{Prim, arity};
+use std::alloc::{AllocError, Global};
+use type_check::part::{Flow, Part};
+
+/// An expression: its type with its flow, and a formula for the width of each of its type's places.
+#[derive(Drop)]
+pub struct Measure {
+    pub part: Part,
+    pub formulas: List<Formula>,
+}
+
+/// The widths of an expression, among the components that are declared before it.
+#[cycle(measure)]
+pub fn measure_expr(
+    alloc: Global,
+    known: &IndexMap<u32, Component>,
+    expr: &Expr,
+) -> Result<Measure, AllocError>
+    ensures { IfOk result (λ m. measured_by m ≡ measured expr.now known.now.entries) }
+{
+    match &expr.form {
+        Form::Ref(name, suffixes) => reference(alloc, known, name.id, suffixes.as_slice()),
+        Form::Literal(kind, width, number) => literal(alloc, expr.place, *kind, *width, *number),
+        Form::Prim(prim, operands, params) => {
+            let mut kinds = List::new(alloc);
+            let mut formulas = List::new(alloc);
+            measure_operands(alloc, known, operands.as_slice(), &mut kinds, &mut formulas)?;
+            let params = List::from_slice(alloc, params.as_slice())?;
+            operation(alloc, *prim, expr.place, kinds, formulas, params)
+        }
+        Form::Mux(operands) => measure_choice(alloc, known, operands.as_slice()),
+    }
+}
+
+/// Adds the kinds and the widths of operands.
+#[cycle(measure)]
+fn measure_operands(
+    alloc: Global,
+    known: &IndexMap<u32, Component>,
+    operands: &[Expr],
+    kinds: &mut List<Kind>,
+    formulas: &mut List<Formula>,
+) -> Result<(), AllocError>
+    ensures kinds { OnOk result (kinds.new ≡ kinds.old ++ map (λ e. kind_of (measured e known.now.entries)) operands.now) }
+    ensures formulas { OnOk result (formulas.new ≡ formulas.old ++ map (λ e. lone (measured e known.now.entries).formulas) operands.now) }
+{
+    for operand in operands {
+        let measured = measure_expr(alloc, known, operand)?;
+        kinds.push(kind(&measured.part.typ))?;
+        formulas.push(first_of(measured.formulas))?;
+    }
+    Ok(())
+}
+
+/// A choice between the second and the third operand.
+#[cycle(measure)]
+fn measure_choice(
+    alloc: Global,
+    known: &IndexMap<u32, Component>,
+    operands: &[Expr],
+) -> Result<Measure, AllocError>
+    ensures { IfOk result (λ m. measured_by m ≡ choice (map (λ e. measured e known.now.entries) operands.now)) }
+{
+    let [_, first, second] = operands else {
+        return Ok(Measure {
+            part: no_part(alloc),
+            formulas: List::new(alloc),
+        });
+    };
+    let first = measure_expr(alloc, known, first)?;
+    let second = measure_expr(alloc, known, second)?;
+    Ok(Measure {
+        part: Part {
+            typ: first.part.typ,
+            flow: Flow::Source,
+        },
+        formulas: greater_of(alloc, first.formulas, second.formulas)?,
+    })
+}
+
+/// Place by place the greater of two widths.
+fn greater_of(
+    alloc: Global,
+    first: List<Formula>,
+    second: List<Formula>,
+) -> Result<List<Formula>, AllocError>
+    ensures { IfOk result (λ greater. greater ≡ map greater_of (zip first second)) }
+{
+    let mut greater = List::new(alloc);
+    let mut others = second.into_vec().into_iter();
+    for formula in first.into_vec() {
+        let Some(other) = others.next() else {
+            break;
+        };
+        greater.push(pair(alloc, formula, other)?)?;
+    }
+    Ok(greater)
+}
+
+fn pair(alloc: Global, first: Formula, second: Formula) -> Result<Formula, AllocError>
+    ensures { IfOk result (λ greater. greater ≡ greater_of (first, second)) }
+{
+    let mut both = List::new(alloc);
+    both.push(first)?;
+    both.push(second)?;
+    Ok(Formula::Greatest(both))
+}
+
+fn reference(
+    alloc: Global,
+    known: &IndexMap<u32, Component>,
+    name: u32,
+    suffixes: &[Suffix],
+) -> Result<Measure, AllocError>
+    ensures { IfOk result (λ m. measured_by m ≡ measured_reference (named (map suffix_step suffixes.now) (component known.now.entries name))) }
+{
+    let nothing = no_component(alloc);
+    let component = look_up(known, name, &nothing);
+    let view = walk_steps(component, suffixes);
+    Ok(Measure {
+        part: Part {
+            typ: copy(alloc, view.typ)?,
+            flow: view.flow,
+        },
+        formulas: formulas_of(alloc, view.slots)?,
+    })
+}
+
+/// The component of a name, or the other one.
+pub fn look_up<'a>(
+    known: &'a IndexMap<u32, Component>,
+    name: u32,
+    nothing: &'a Component,
+) -> &'a Component
+    requires { nothing.now ≡ component_or_none None }
+    ensures { result.now ≡ component known.now.entries name }
+{
+    match known.get(&name) {
+        Some(component) => component,
+        None => nothing,
+    }
+}
+
+/// What stands for a component that isn't known.
+pub fn no_component(alloc: Global) -> Component
+    ensures { result ≡ component_or_none None }
+{
+    Component {
+        part: no_part(alloc),
+        slots: List::new(alloc),
+    }
+}
+
+fn no_part(alloc: Global) -> Part
+    ensures { result ≡ (component_or_none None).part }
+{
+    Part {
+        typ: FirType {
+            place: Place { line: 1, column: 1 },
+            shape: Shape::Bundle(List::new(alloc)),
+        },
+        flow: Flow::Source,
+    }
+}
+
+/// Widths as formulas.
+pub fn formulas_of(alloc: Global, slots: &[Slot]) -> Result<List<Formula>, AllocError>
+    ensures { IfOk result (λ formulas. formulas ≡ map formula_of slots.now) }
+{
+    let mut formulas = List::new(alloc);
+    for slot in slots {
+        formulas.push(formula_of(*slot))?;
+    }
+    Ok(formulas)
+}
+
+pub fn formula_of(slot: Slot) -> Formula
+    ensures { result ≡ formula_of slot }
+{
+    match slot {
+        Slot::Fixed(width) => Formula::Fixed(width),
+        Slot::Var(variable) => Formula::Var(variable),
+    }
+}
+
+fn literal(
+    alloc: Global,
+    place: Place,
+    kind: Kind,
+    width: Option<u128>,
+    number: Number,
+) -> Result<Measure, AllocError>
+    ensures { IfOk result (λ m. measured_by m ≡ record { part = source_of (ground place kind width); formulas = Formula.Fixed (literal_width kind (integer_of_number number) width) ∷ [] }) }
+{
+    let mut formulas = List::new(alloc);
+    formulas.push(Formula::Fixed(width_of(kind, width, number)))?;
+    Ok(Measure {
+        part: source(ground(place, kind, width)),
+        formulas,
+    })
+}
+
+/// The width that a literal gives, or the least that holds it, at most 129. It is 129 for a negative `UInt`, which no
+/// circuit without a fault has.
+fn width_of(kind: Kind, width: Option<u128>, number: Number) -> u128
+    ensures { result ≡ literal_width kind (integer_of_number number) width }
+{
+    match width {
+        Some(width) => width,
+        None => least_width(kind, number).unwrap_or(129).min(129),
+    }
+}
+
+fn operation(
+    alloc: Global,
+    prim: Prim,
+    place: Place,
+    kinds: List<Kind>,
+    formulas: List<Formula>,
+    params: List<u128>,
+) -> Result<Measure, AllocError>
+    ensures { IfOk result (λ m. measured_by m ≡ operation_over prim place kinds formulas params) }
+{
+    let row = row_of(prim, kinds.as_slice());
+    let mut whole = List::new(alloc);
+    let takes = params.len() == arity(prim).1 as usize;
+    if row.is_some() && takes {
+        whole.push(Formula::Op(prim, kinds, formulas, params))?;
+    } else {
+        whole.push(Formula::Fixed(0))?;
+    }
+    Ok(Measure {
+        part: source(ground(place, row.unwrap_or(Kind::Unsigned), None)),
+        formulas: whole,
+    })
+}
+
+/// The kind of an operation's result, where it takes operands of these kinds.
+fn row_of(prim: Prim, kinds: &[Kind]) -> Option<Kind>
+    ensures { result ≡ row_kind prim kinds.now }
+{
+    if kinds.len() == arity(prim).0 as usize {
+        prim_ops::kind_of(prim, kinds)
+    } else {
+        None
+    }
+}
+
+/// The kind of a number's type.
+fn kind(typ: &FirType) -> Kind
+    ensures { result ≡ sign_or_unsigned (sign_of typ.now) }
+{
+    match &typ.shape {
+        Shape::Signed(_) => Kind::Signed,
+        _ => Kind::Unsigned,
+    }
+}
+
+fn first_of(formulas: List<Formula>) -> Formula
+    ensures { result ≡ lone formulas }
+{
+    match formulas.into_vec().into_iter().next() {
+        Some(formula) => formula,
+        None => Formula::Fixed(0),
+    }
+}
+
+fn ground(place: Place, kind: Kind, width: Option<u128>) -> FirType
+    ensures { result ≡ ground place kind width }
+{
+    let shape = match kind {
+        Kind::Unsigned => Shape::Unsigned(width),
+        Kind::Signed => Shape::Signed(width),
+    };
+    FirType { place, shape }
+}
+
+fn source(typ: FirType) -> Part
+    ensures { result ≡ source_of typ }
+{
+    Part {
+        typ,
+        flow: Flow::Source,
+    }
+}
