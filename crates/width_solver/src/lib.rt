@@ -3,7 +3,9 @@
 #![tactic(auto)]
 
 pub mod fault;
+mod judging;
 mod solving;
 
 pub use fault::WidthFault;
-pub use solving::solve;
+pub use judging::judge;
+pub use solving::{Widths, solve};
