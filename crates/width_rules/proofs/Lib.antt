@@ -1,3 +1,4 @@
-pub mod Literals
 pub mod Expressions
+pub mod Flips
+pub mod Literals
 pub mod Spots

@@ -3,7 +3,11 @@ use Rattle.std.specs.Prelude.{◌≡◌, ℕ, ◌++◌, Bool, true, false, not, 
 use Rattle.place_text.specs.declared.place.Place.{Place}
 use Rattle.fir_types.specs.declared.fir_type.FirType.{FirType}
 use Rattle.fir_types.specs.declared.fir_type.Field.{Field, fold-Field}
-use Rattle.fir_types.specs.Bundles.{mask_of, mask_of_field}
+use Rattle.fir_types.specs.declared.memory.MemLine.{MemLine}
+use Rattle.fir_types.specs.declared.memory.MemLine.TheVariants as line
+use Rattle.fir_types.specs.declared.memory.PortMode.{PortMode}
+use Rattle.fir_types.specs.declared.memory.PortMode.TheVariants as mode
+use Rattle.fir_types.specs.Bundles.{mask_of, mask_of_field, address_bits}
 use Rattle.type_check.specs.declared.part.Flow.{Flow}
 use Rattle.type_check.specs.Parts.{flow_through}
 use Rattle.width_rules.specs.declared.slot.Slot.{Slot}
@@ -51,3 +55,14 @@ connected_by _ _ _ = []
 abbrev pub invalidated_by : Flow → List Bool → List Formula → List Rule
 invalidated_by flow (flip ∷ flips) (f ∷ fs) = zeroed (flow_through flip flow) f ++ invalidated_by flow flips fs
 invalidated_by flow _ _ = []
+
+-- the widths of a memory's ports, by the type of its elements, its depth and the elements' widths
+
+abbrev pub mode_widths : FirType → List Slot → PortMode → List Slot
+mode_widths typ element mode.Reader = element
+mode_widths typ element mode.Writer = element ++ mask_widths typ
+mode_widths typ element mode.ReadWriter = element ++ (slot.Fixed 1 ∷ (element ++ mask_widths typ))
+
+abbrev pub line_widths : FirType → ℕ → List Slot → MemLine → List Slot
+line_widths typ depth element (line.MemPort at m name) = slot.Fixed (address_bits depth) ∷ (slot.Fixed 1 ∷ mode_widths typ element m)
+line_widths typ depth element _ = []

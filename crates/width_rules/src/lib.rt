@@ -4,8 +4,10 @@
 #![tactic(auto)]
 
 mod component;
+mod driving;
 mod gathering;
 mod measuring;
+mod memories;
 pub mod rule;
 mod sizes;
 mod slot;
