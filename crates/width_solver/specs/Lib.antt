@@ -2,3 +2,5 @@ pub mod Filling
 pub mod Judging
 pub mod Faults
 pub mod Fitting
+pub mod Layers
+pub mod Earliest

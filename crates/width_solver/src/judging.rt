@@ -10,8 +10,12 @@ ghost use Rattle.width_solver.specs.Judging.{told_of};
 ghost use Rattle.width_solver.specs.Fitting.{IsFitted};
 ghost use Rattle.width_solver.specs.Faults.{IsFault, IsFirst, IsFirstAnswer, answer};
 
+use crate::earliest::{answer, earliest};
 use crate::fault::WidthFault;
+use crate::found::Findings;
 use crate::solving::Widths;
+use crate::telling::tell;
+use bit_words::List;
 use fir_tree::{Checked, Fitted};
 use std::alloc::Global;
 use width_rules::Rules;
@@ -37,5 +41,31 @@ pub fn judge(
     // and a circuit with a fault is answered by the first one, or by want of memory
     ensures refuses { (kind : AKind) (place : APlace) → IsFirst checked widths.now kind place → MatchResult result (λ fitted. ⊥) (λ fault. (fault ≡ No_memory) ⊎ (fault ≡ answer kind place)) }
 {
-    Err(WidthFault::NoMemory)
+    settle(alloc, checked, rules, widths)
+}
+
+fn settle(
+    alloc: Global,
+    checked: Checked,
+    rules: &Rules,
+    widths: &Widths,
+) -> Result<Fitted, WidthFault>
+    requires rules { rules.now ≡ rules_in checked.circuit }
+    ensures ok { IfOk result (IsFitted checked widths.now) }
+    ensures none { IfOk result (λ fitted. (kind : AKind) (place : APlace) → ¬ (IsFault checked widths.now kind place)) }
+    ensures fault { IfErr result (λ fault. (fault ≡ No_memory) ⊎ IsFirstAnswer checked widths.now fault) }
+{
+    let Findings {
+        declared,
+        nodes,
+        faults,
+    } = tell(alloc, &checked, rules, widths)?;
+    match earliest(faults.as_slice()) {
+        Some(first) => Err(answer(first)),
+        None => Ok(Fitted {
+            checked,
+            declared: List::from_vec(declared),
+            nodes: List::from_vec(nodes),
+        }),
+    }
 }

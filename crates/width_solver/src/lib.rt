@@ -2,9 +2,13 @@
 //! at or below every assignment that does.
 #![tactic(auto)]
 
+mod earliest;
 pub mod fault;
+mod filling;
+mod found;
 mod judging;
 mod solving;
+mod telling;
 
 pub use fault::WidthFault;
 pub use judging::judge;
