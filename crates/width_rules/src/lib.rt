@@ -3,15 +3,15 @@
 //! that the circuit's definition gives.
 #![tactic(auto)]
 
-mod component;
+pub mod component;
 mod driving;
 mod gathering;
-mod measuring;
-mod memories;
+pub mod measuring;
+pub mod memories;
 pub mod rule;
-mod sizes;
-mod slot;
-mod steps;
+pub mod sizes;
+pub mod slot;
+pub mod steps;
 
 pub use gathering::rules_of;
 pub use rule::{Formula, Rule, Rules};

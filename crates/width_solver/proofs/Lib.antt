@@ -1,1 +1,3 @@
+mod Formulas
 mod Ordering
+mod Surveys

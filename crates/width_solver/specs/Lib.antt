@@ -4,3 +4,4 @@ pub mod Faults
 pub mod Fitting
 pub mod Layers
 pub mod Earliest
+pub mod Surveys

@@ -55,11 +55,7 @@ fn settle(
     ensures none { IfOk result (λ fitted. (kind : AKind) (place : APlace) → ¬ (IsFault checked widths.now kind place)) }
     ensures fault { IfErr result (λ fault. (fault ≡ No_memory) ⊎ IsFirstAnswer checked widths.now fault) }
 {
-    let Findings {
-        declared,
-        nodes,
-        faults,
-    } = tell(alloc, &checked, rules, widths)?;
+    let (declared, Findings { nodes, faults }) = tell(alloc, &checked, rules, widths)?;
     match earliest(faults.as_slice()) {
         Some(first) => Err(answer(first)),
         None => Ok(Fitted {

@@ -4,11 +4,14 @@
 
 mod earliest;
 pub mod fault;
+mod faults;
 mod filling;
 mod found;
 mod judging;
 mod solving;
+mod survey;
 mod telling;
+mod widths;
 
 pub use fault::WidthFault;
 pub use judging::judge;

@@ -7,6 +7,7 @@ ghost use Rattle.width_solver.specs.Judging.{told_of};
 use crate::found::Findings;
 use crate::solving::Widths;
 use fir_tree::Checked;
+use fir_types::FirType;
 use std::alloc::{AllocError, Global};
 use width_rules::Rules;
 
@@ -16,11 +17,11 @@ pub fn tell(
     checked: &Checked,
     rules: &Rules,
     widths: &Widths,
-) -> Result<Findings, AllocError>
+) -> Result<(Vec<FirType>, Findings), AllocError>
     requires { rules.now ≡ rules_in checked.now.circuit }
-    ensures declared { IfOk result (λ found. found.declared.items ≡ (told_of checked.now widths.now).declared) }
-    ensures nodes { IfOk result (λ found. found.nodes.items ≡ (told_of checked.now widths.now).nodes) }
-    ensures faults { IfOk result (λ found. found.faults.items ≡ (told_of checked.now widths.now).faults) }
+    ensures declared { IfOk result (λ told. told.0.items ≡ (told_of checked.now widths.now).declared) }
+    ensures nodes { IfOk result (λ told. told.1.nodes.items ≡ (told_of checked.now widths.now).nodes) }
+    ensures faults { IfOk result (λ told. told.1.faults.items ≡ (told_of checked.now widths.now).faults) }
 {
     Err(AllocError)
 }
