@@ -1,4 +1,11 @@
+pub mod Bounds
 pub mod Expressions
+pub mod Fitting
 pub mod Flips
 pub mod Literals
+pub mod Ports
+pub mod Rows
+pub mod Ruled
 pub mod Spots
+pub mod Walking
+pub mod Whole

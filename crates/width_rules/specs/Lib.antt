@@ -5,3 +5,4 @@ pub mod Parts
 pub mod Places
 pub mod Solutions
 pub mod Sources
+pub mod Walks

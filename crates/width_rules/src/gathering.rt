@@ -1,12 +1,30 @@
 //! The rules of a circuit.
 
-ghost use Rattle.std.specs.Prelude.{◌≡◌, length, IfOk};
-ghost use Rattle.width_rules.specs.Circuits.{rules_in};
+ghost use Rattle.std.specs.Prelude.{◌≡◌, ◌++◌, [], map, flat_map, length, IfOk, OnOk};
+ghost use Rattle.width_rules.specs.Circuits.{rules_in, ports_from, port_places, modules_from, instance_component, known_ports};
+ghost use Rattle.width_rules.specs.Walks.{AreInstances, ported, body_among, bodies_among, WalksBodies};
 ghost use Rattle.width_rules.specs.Solutions.{AreRules};
 
+use crate::component::Component;
+use crate::measuring::source;
+use crate::memories::push_all;
 use crate::rule::Rules;
-use fir_tree::Checked;
+use crate::slot::Slot;
+use crate::walk::{Found, note, slots_of_type, walk_statements};
+use bit_words::List;
+use fir_tree::{Checked, Module};
+use fir_types::{Port, copy, instance_type};
+use indexmap::IndexMap;
+use place_text::Place;
 use std::alloc::{AllocError, Global};
+use type_check::part::{Flow, Part};
+
+/// A module with the widths of its ports.
+#[derive(Drop)]
+pub struct Ported<'a> {
+    pub holder: &'a Module,
+    pub ports: List<List<Slot>>,
+}
 
 /// The rules of a circuit's widths (FIRRTL specification 3.0, "Width Inference"): one for each place with a variable that a
 /// connect, a value after a reset, a node's expression or an `invalidate` drives, through instances as well.
@@ -16,5 +34,143 @@ pub fn rules_of(alloc: Global, checked: &Checked) -> Result<Rules, AllocError>
     ensures exact { IfOk result (λ rules. rules ≡ rules_in checked.now.circuit) }
     ensures rules { IfOk result (λ rules. AreRules (length rules.places) rules.rules) }
 {
-    Err(AllocError)
+    let mut found = Found {
+        known: IndexMap::new(alloc),
+        places: Vec::new(alloc),
+        rules: Vec::new(alloc),
+    };
+    let modules = with_ports(alloc, &mut found.places, checked.circuit.modules.as_slice())?;
+    let instances = instances_of(alloc, modules.as_slice())?;
+    walk_bodies(alloc, &instances, &mut found, modules)?;
+    Ok(Rules {
+        places: List::from_vec(found.places),
+        rules: List::from_vec(found.rules),
+    })
+}
+
+/// The modules with the widths of their ports, which have the first variables.
+pub fn with_ports<'a>(
+    alloc: Global,
+    places: &mut Vec<Place>,
+    modules: &'a [Module],
+) -> Result<Vec<Ported<'a>>, AllocError>
+    ensures modules { IfOk result (λ all. map ported all.items ≡ modules_from (length places.old.items) modules.now) }
+    ensures places { OnOk result (places.new.items ≡ places.old.items ++ flat_map (λ m. flat_map port_places m.ports) modules.now) }
+{
+    let mut all = Vec::new(alloc);
+    for holder in modules {
+        let ports = ports_of(alloc, places, holder.ports.as_slice())?;
+        all.push(Ported { holder, ports })?;
+    }
+    Ok(all)
+}
+
+/// The widths of ports, one port behind another.
+fn ports_of(
+    alloc: Global,
+    places: &mut Vec<Place>,
+    ports: &[Port],
+) -> Result<List<List<Slot>>, AllocError>
+    ensures slots { IfOk result (λ all. all ≡ ports_from (length places.old.items) ports.now) }
+    ensures places { OnOk result (places.new.items ≡ places.old.items ++ flat_map port_places ports.now) }
+{
+    let mut all = List::new(alloc);
+    for port in ports {
+        all.push(slots_of_type(alloc, places, port.name.place, &port.typ)?)?;
+    }
+    Ok(all)
+}
+
+/// The components of instances, by the names of their modules: of each name the first.
+pub fn instances_of(
+    alloc: Global,
+    modules: &[Ported<'_>],
+) -> Result<IndexMap<u32, Component>, AllocError>
+    ensures { IfOk result (λ instances. AreInstances (map ported modules.now) instances.entries) }
+{
+    let mut instances = IndexMap::new(alloc);
+    for held in modules {
+        let component = instance_of(alloc, held)?;
+        note(&mut instances, held.holder.name.id, component)?;
+    }
+    Ok(instances)
+}
+
+fn instance_of(alloc: Global, held: &Ported<'_>) -> Result<Component, AllocError>
+    ensures { IfOk result (λ component. component ≡ instance_component (ported held.now)) }
+{
+    let part = source(instance_type(alloc, held.holder.ports.as_slice())?);
+    let slots = joined(alloc, held.ports.as_slice())?;
+    Ok(Component { part, slots })
+}
+
+/// The widths of all ports, one port behind another.
+fn joined(alloc: Global, ports: &[List<Slot>]) -> Result<List<Slot>, AllocError>
+    ensures { IfOk result (λ slots. slots ≡ flat_map (λ own. own) ports.now) }
+{
+    let mut slots = List::new(alloc);
+    for own in ports {
+        push_all(&mut slots, own.as_slice())?;
+    }
+    Ok(slots)
+}
+
+/// The bodies of modules in order.
+fn walk_bodies(
+    alloc: Global,
+    instances: &IndexMap<u32, Component>,
+    found: &mut Found,
+    modules: Vec<Ported<'_>>,
+) -> Result<(), AllocError>
+    ensures { OnOk result (WalksBodies (bodies_among instances.now.entries (length found.old.places.items) (map ported modules.entry.items)) found.old found.new) }
+{
+    for held in modules {
+        walk_body(alloc, instances, found, held)?;
+    }
+    Ok(())
+}
+
+fn walk_body(
+    alloc: Global,
+    instances: &IndexMap<u32, Component>,
+    found: &mut Found,
+    held: Ported<'_>,
+) -> Result<(), AllocError>
+    ensures places { OnOk result (found.new.places.items ≡ found.old.places.items ++ (body_among instances.now.entries (ported held.entry) (length found.old.places.items)).places) }
+    ensures rules { OnOk result (found.new.rules.items ≡ found.old.rules.items ++ (body_among instances.now.entries (ported held.entry) (length found.old.places.items)).rules) }
+{
+    found.known = IndexMap::new(alloc);
+    note_ports(
+        alloc,
+        &mut found.known,
+        held.holder.ports.as_slice(),
+        held.ports,
+    )?;
+    walk_statements(alloc, instances, found, held.holder.body.as_slice())
+}
+
+/// Notes the ports of a module as components.
+pub fn note_ports(
+    alloc: Global,
+    known: &mut IndexMap<u32, Component>,
+    ports: &[Port],
+    widths: List<List<Slot>>,
+) -> Result<(), AllocError>
+    ensures { OnOk result (known.new.entries ≡ known_ports ports.now widths known.old.entries) }
+{
+    let mut widths = widths.into_vec().into_iter();
+    for port in ports {
+        let Some(slots) = widths.next() else {
+            return Ok(());
+        };
+        let flow = if port.output {
+            Flow::Sink
+        } else {
+            Flow::Source
+        };
+        let typ = copy(alloc, &port.typ)?;
+        let part = Part { typ, flow };
+        note(known, port.name.id, Component { part, slots })?;
+    }
+    Ok(())
 }

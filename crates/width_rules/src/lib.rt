@@ -5,13 +5,14 @@
 
 pub mod component;
 mod driving;
-mod gathering;
+pub mod gathering;
 pub mod measuring;
 pub mod memories;
 pub mod rule;
 pub mod sizes;
 pub mod slot;
 pub mod steps;
+pub mod walk;
 
 pub use gathering::rules_of;
 pub use rule::{Formula, Rule, Rules};

@@ -102,18 +102,18 @@ chosen_is ws place (a ∷ b ∷ c ∷ []) =
 chosen_is ws place (a ∷ b ∷ c ∷ d ∷ all) = refl
 
 -- the widths of the shorter list are all compared
+abbrev the_none : List Width
+the_none = []
+
+none_with : (vs : List Width) → zip vs (the_none) ≡ []
+none_with [] = refl
+none_with (w ∷ vs) = refl
+
 none_left : (first second : List Width) (n : ℕ) → min (length first) (length second) ≤ n → zip (drop n first) (drop n second) ≡ []
-none_left [] second n le = by n
-  where
-    by : (n : ℕ) → zip (drop n []) (drop n second) ≡ []
-    by zero = refl
-    by (suc n) = refl
+none_left [] second zero le = refl
+none_left [] second (suc n) le = refl
 none_left (v ∷ first) [] zero le = refl
-none_left (v ∷ first) [] (suc n) le = by (drop n first)
-  where
-    by : (vs : List Width) → zip vs [] ≡ []
-    by [] = refl
-    by (w ∷ vs) = refl
+none_left (v ∷ first) [] (suc n) le = none_with (drop n first)
 none_left (v ∷ first) (w ∷ second) zero le = absurd (omega (arith, le))
 none_left (v ∷ first) (w ∷ second) (suc n) le = none_left first second n (omega (arith, le))
 

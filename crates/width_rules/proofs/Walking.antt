@@ -1,0 +1,112 @@
+-- One part of a body walked behind another.
+use Rattle.std.proofs.Common.{◌≡◌, ℕ, ◌+◌, ◌<◌, List, [], ◌∷◌, ◌++◌, map, length, take, get_or, filter_map, refl, sym, ap, ap₂, ◌∙◌, arith, append_assoc, append-nil, length-append, subst}
+use Rattle.std.proofs.lemmas.List.{map-append, take_more}
+use Rattle.std.specs.List.{flat_map}
+use Rattle.place_text.specs.declared.place.Place.{Place}
+use Rattle.fir_types.specs.declared.memory.Memory.{Memory}
+use Rattle.fir_types.specs.declared.memory.MemLine.{MemLine}
+use Rattle.fir_types.specs.declared.memory.MemLine.TheVariants as line
+use Rattle.fir_types.specs.declared.memory.PortMode.TheVariants as mode
+use Rattle.fir_types.specs.declared.fir_type.FirType.{FirType}
+use Rattle.fir_types.specs.declared.fir_type.Shape.TheVariants as shape
+use Rattle.fir_types.specs.Bundles.{nowhere}
+use Rattle.fir_types.specs.Memories.{element_of, depth_of, first_or, element_in, depth_in}
+use Rattle.fir_tree.specs.declared.stmt.Stmt.{Stmt, fold-Stmt}
+use Rattle.fir_tree.specs.declared.stmt.Stmt.TheOpen.{Stmt-F, Arm-F}
+use Rattle.width_rules.specs.declared.slot.Slot.{Slot}
+use Rattle.width_rules.specs.declared.rule.Rule.{Rule}
+use Rattle.width_rules.specs.declared.component.Component.{Component}
+use Rattle.width_rules.specs.declared.walk.Found.{Found}
+use Rattle.width_rules.specs.Layers.{line_widths}
+use Rattle.width_rules.specs.Places.{spots, slots_from}
+use Rattle.width_rules.specs.Sources.{Known, component, component_or_none}
+use Rattle.width_rules.specs.Circuits.{Walk, Gathered, WithPorts, and_then, in_turn, nothing, line_slots, memory_slots, of_stmt, of_arm, stmt_walk}
+use Rattle.width_rules.specs.Walks.{Walks, AreInstances, declares_component, of_stmt_among, stmt_walk_among}
+
+-- Parts in turn
+
+gathered : {a b : Gathered} → a.known ≡ b.known → a.places ≡ b.places → a.rules ≡ b.rules → a ≡ b
+gathered p q r = λ i. record { known = p i; places = q i; rules = r i }
+
+pub in_turn-push : (ps : List Walk) (p : Walk) (known : Known) (n : ℕ) → in_turn (ps ++ p ∷ []) known n ≡ and_then (in_turn ps) p known n
+in_turn-push [] p known n =
+    let e : p known n ≡ p known (n + 0) = ap (p known) (omega arith) in
+    gathered (ap (λ g. g.known) e) (append-nil _ ∙ ap (λ g. g.places) e) (append-nil _ ∙ ap (λ g. g.rules) e)
+in_turn-push (q ∷ qs) p known n =
+    let a = q known n in
+    let d = in_turn qs a.known (n + length a.places) in
+    let h : in_turn (qs ++ p ∷ []) a.known (n + length a.places) ≡ and_then (in_turn qs) p a.known (n + length a.places) = in_turn-push qs p a.known (n + length a.places) in
+    let k : p d.known ((n + length a.places) + length d.places) ≡ p d.known (n + length (a.places ++ d.places)) = ap (p d.known) (omega (arith, length-append a.places d.places)) in
+    gathered (ap (λ g. g.known) h ∙ ap (λ g. g.known) k)
+    (ap (λ g. a.places ++ g.places) h ∙ ap (λ g. a.places ++ (d.places ++ g.places)) k ∙ sym (append_assoc a.places d.places _))
+    (ap (λ g. a.rules ++ g.rules) h ∙ ap (λ g. a.rules ++ (d.rules ++ g.rules)) k ∙ sym (append_assoc a.rules d.rules _))
+
+pub walks_nothing : (a : Found) → Walks nothing a a
+walks_nothing a = record { known = refl; places = sym (append-nil _); rules = sym (append-nil _) }
+
+pub walks_same : {p q : Walk} {a b : Found} → ((known : Known) (n : ℕ) → p known n ≡ q known n) → Walks p a b → Walks q a b
+walks_same {p} {q} {a} {b} same h =
+    let e = same a.known.entries (length a.places.items) in
+    record { known = h.known ∙ ap (λ g. g.known) e; places = h.places ∙ ap (λ g. a.places.items ++ g.places) e; rules = h.rules ∙ ap (λ g. a.rules.items ++ g.rules) e }
+
+pub walks_then : {p q : Walk} {a b c : Found} → Walks p a b → Walks q b c → Walks (and_then p q) a c
+walks_then {p} {q} {a} {b} {c} h k =
+    let first = p a.known.entries (length a.places.items) in
+    let len : length b.places.items ≡ length a.places.items + length first.places = ap length h.places ∙ length-append a.places.items first.places in
+    let e : q b.known.entries (length b.places.items) ≡ q first.known (length a.places.items + length first.places) = ap₂ q h.known len in
+    record {
+      known = k.known ∙ ap (λ g. g.known) e;
+      places = k.places ∙ ap₂ (λ l g. l ++ g.places) h.places e ∙ append_assoc a.places.items _ _;
+      rules = k.rules ∙ ap₂ (λ l g. l ++ g.rules) h.rules e ∙ append_assoc a.rules.items _ _;
+    }
+
+-- one more of parts in turn
+pub walks_push : {X : Type 0} (part : X → Walk) (xs : List X) (i : ℕ) (x : X) {a b c : Found} → i < length xs → x ≡ get_or xs i x
+    → Walks (in_turn (map part (take i xs))) a b → Walks (part x) b c → Walks (in_turn (map part (take (i + 1) xs))) a c
+walks_push part xs i x {a} {b} {c} lt is h k =
+    let step : map part (take (i + 1) xs) ≡ map part (take i xs) ++ part x ∷ []
+    = ap (map part) (take_more xs i x lt) ∙ map-append part (take i xs) (get_or xs i x ∷ []) ∙ ap (λ y. map part (take i xs) ++ part y ∷ []) (sym is) in
+    subst (λ ps. Walks (in_turn ps) a c) (sym step) (walks_same (λ known n. sym (in_turn-push (map part (take i xs)) (part x) known n)) (walks_then h k))
+
+-- Memories
+
+line_is : (memory : Memory) (element : List Slot) (l : MemLine) → line_widths (element_of memory) (depth_of memory) element l ≡ line_slots memory element l
+line_is memory element (line.MemPort at mode.Reader name) = refl
+line_is memory element (line.MemPort at mode.Writer name) = refl
+line_is memory element (line.MemPort at mode.ReadWriter name) = refl
+line_is memory element (line.Element at typ) = refl
+line_is memory element (line.Depth at n) = refl
+line_is memory element (line.ReadLatency at n) = refl
+line_is memory element (line.WriteLatency at n) = refl
+line_is memory element (line.ReadUnder at u) = refl
+
+pub lines_are : (memory : Memory) (element : List Slot) (ls : List MemLine) → flat_map (line_widths (element_of memory) (depth_of memory) element) ls ≡ flat_map (line_slots memory element) ls
+lines_are memory element [] = refl
+lines_are memory element (l ∷ ls) = ap₂ (λ x xs. x ++ xs) (line_is memory element l) (lines_are memory element ls)
+
+pub memory_told : (memory : Memory) (ls : List MemLine) (typ : FirType) (widths slots : List Slot) (n : ℕ) → ls ≡ memory.lines → typ ≡ first_or (record { place = nowhere; shape = shape.Bundle [] }) (filter_map element_in ls)
+    → widths ≡ slots_from n (spots typ) → slots ≡ flat_map (line_widths typ (first_or 1 (filter_map depth_in ls)) widths) ls → slots ≡ memory_slots memory (slots_from n (spots (element_of memory)))
+memory_told memory ls typ widths slots n is t w s =
+    let element : typ ≡ element_of memory = t ∙ ap (λ l. first_or (record { place = nowhere; shape = shape.Bundle [] }) (filter_map element_in l)) is in
+    let own : widths ≡ slots_from n (spots (element_of memory)) = w ∙ ap (λ x. slots_from n (spots x)) element in
+    s ∙ ap₂ (λ x l. flat_map (line_widths x (first_or 1 (filter_map depth_in l)) widths) l) element is
+    ∙ ap (λ l. flat_map (line_widths (element_of memory) (depth_of memory) l) memory.lines) own ∙ lines_are memory (slots_from n (spots (element_of memory))) memory.lines
+
+-- Instances by their list
+
+same_layer : (modules : List WithPorts) (instances : Known) → AreInstances modules instances → (s : Stmt-F Walk Walk) → of_stmt_among instances s ≡ of_stmt modules s
+same_layer modules instances h (Stmt-F.Wire name typ) = refl
+same_layer modules instances h (Stmt-F.Reg name typ clock) = refl
+same_layer modules instances h (Stmt-F.RegReset name typ clock reset init) = refl
+same_layer modules instances h (Stmt-F.Mem memory) = refl
+same_layer modules instances h (Stmt-F.Inst name target) = ap (λ sized. declares_component name (component_or_none sized)) (h.found target.id)
+same_layer modules instances h (Stmt-F.Node name e) = refl
+same_layer modules instances h (Stmt-F.Connect left right) = refl
+same_layer modules instances h (Stmt-F.Invalidate target) = refl
+same_layer modules instances h (Stmt-F.When arms other) = refl
+same_layer modules instances h (Stmt-F.Skip place) = refl
+
+pub same_walk : (modules : List WithPorts) (instances : Known) → AreInstances modules instances → stmt_walk_among instances ≡ stmt_walk modules
+same_walk modules instances h =
+    let layers : of_stmt_among instances ≡ of_stmt modules = λ i s. same_layer modules instances h s i in
+    ap (λ f. fold-Stmt Walk Walk f of_arm) layers
