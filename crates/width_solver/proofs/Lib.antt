@@ -1,3 +1,5 @@
 mod Formulas
+mod Measured
 mod Ordering
 mod Surveys
+mod Walking

@@ -5,3 +5,5 @@ pub mod Fitting
 pub mod Layers
 pub mod Earliest
 pub mod Surveys
+pub mod Marks
+pub mod Walks

@@ -7,10 +7,12 @@ pub mod fault;
 mod faults;
 mod filling;
 mod found;
+mod given;
 mod judging;
 mod solving;
 mod survey;
 mod telling;
+mod walk;
 mod widths;
 
 pub use fault::WidthFault;
