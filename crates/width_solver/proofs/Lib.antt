@@ -1,4 +1,6 @@
+mod Declaring
 mod Formulas
+mod Marking
 mod Measured
 mod Ordering
 mod Surveys

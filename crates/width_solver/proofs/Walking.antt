@@ -17,7 +17,7 @@ findings p q r s t = λ i. record { known = p i; count = q i; declared = r i; no
 in_turn-push : (ps : List Surveys) (p : Surveys) (known : Known) (n : ℕ) → in_turn (ps ++ p ∷ []) known n ≡ and_then (in_turn ps) p known n
 in_turn-push [] p known n =
     let e : p known n ≡ p known (n + 0) = ap (p known) (omega arith) in
-    findings (ap (λ g. g.known) e) (let c : (p known n).count + 0 ≡ (p known n).count = omega arith in c ∙ ap (λ g. g.count) e)
+    findings (ap (λ g. g.known) e) (let c : (p known n).count + 0 ≡ 0 + (p known n).count = omega arith in c ∙ ap (λ g. 0 + g.count) e)
     (append-nil _ ∙ ap (λ g. g.declared) e) (append-nil _ ∙ ap (λ g. g.nodes) e) (append-nil _ ∙ ap (λ g. g.faults) e)
 in_turn-push (q ∷ qs) p known n =
     let a = q known n in

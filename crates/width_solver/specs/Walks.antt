@@ -64,11 +64,11 @@ told_among all instances n (m ∷ rest) reached =
     }
 
 -- a module was walked, with these faults
-pub record WalksModule (one : Findings) (faults : List Found) (old new : Walk) : Type 0 where
+pub record WalksModule (one : Findings) (told : List Found) (old new : Walk) : Type 0 where
   pub count : length new.places.items ≡ length old.places.items + one.count
   pub declared : new.declared.items ≡ old.declared.items ++ one.declared
   pub nodes : new.found.nodes.items ≡ old.found.nodes.items ++ one.nodes
-  pub faults : new.found.faults.items ≡ old.found.faults.items ++ faults
+  pub faults : new.found.faults.items ≡ old.found.faults.items ++ told
 
 -- all modules were walked
 pub record WalksAll (told : Told) (old new : Walk) : Type 0 where
