@@ -5,3 +5,4 @@ mod Measured
 mod Ordering
 mod Surveys
 mod Walking
+mod Whole
