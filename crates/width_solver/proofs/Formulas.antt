@@ -74,7 +74,7 @@ operated_is ws prim place params all m is =
     let ms = map (λ (s : Survey). s.measured) all in
     ap₂ (λ kinds widths. operated prim place kinds widths params) (kinds-kept ws all) (widths-kept ws all)
     ∙ ap (λ w. record { place = place; part = (operation prim place ms params).part; widths = w ∷ [] })
-        (in_row (is_some (row_kind prim (map kind_of ms)) && nat_eq (length params) (arity_of prim).1) prim (map kind_of ms) (map (λ (m : Measured). lone m.formulas) ms) params ws)
+    (in_row (is_some (row_kind prim (map kind_of ms)) && nat_eq (length params) (arity_of prim).1) prim (map kind_of ms) (map (λ (m : Measured). lone m.formulas) ms) params ws)
     ∙ ap (λ m'. record { place = place; part = m'.part; widths = widths_of ws m' }) (sym is)
 
 wider-none : (w : Width) → wider w (Bits 0) ≡ w

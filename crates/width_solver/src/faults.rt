@@ -28,11 +28,7 @@ pub fn push_where(
 }
 
 /// Adds a fault where one of the widths is over the limit.
-pub fn push_over(
-    faults: &mut Vec<Found>,
-    place: Place,
-    widths: &[Width],
-) -> Result<(), AllocError>
+pub fn push_over(faults: &mut Vec<Found>, place: Place, widths: &[Width]) -> Result<(), AllocError>
     ensures { OnOk result (faults.new.items ≡ faults.old.items ++ where_ (list_any is_over widths.now) WidthOver place) }
 {
     push_where(faults, any_over(widths), Kind::WidthOver, place)

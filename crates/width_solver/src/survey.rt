@@ -214,12 +214,7 @@ fn survey_operation(
     let kinds = kinds_of(alloc, operands)?;
     let widths = lone_widths(alloc, operands)?;
     let mut whole = List::new(alloc);
-    whole.push(width_in_row(
-        prim,
-        kinds.as_slice(),
-        widths.as_slice(),
-        params,
-    ))?;
+    whole.push(width_in_row(prim, kinds.as_slice(), widths.as_slice(), params))?;
     push_over(faults, place, whole.as_slice())?;
     push_parameters(faults, prim, place, widths.as_slice(), params)?;
     let kind = row_of(prim, kinds.as_slice()).unwrap_or(Kind::Unsigned);

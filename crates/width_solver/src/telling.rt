@@ -139,7 +139,14 @@ fn declare_ports(
     ensures faults { OnOk result (faults.new.items ≡ faults.old.items ++ ports_faults (solved given.now) ports.now widths.now) }
 {
     for at in 0..ports.len().min(widths.len()) {
-        declare_port(alloc, given, declared, faults, &ports[at], widths[at].as_slice())?;
+        declare_port(
+            alloc,
+            given,
+            declared,
+            faults,
+            &ports[at],
+            widths[at].as_slice(),
+        )?;
     }
     Ok(())
 }

@@ -15,8 +15,8 @@ use crate::found::Findings;
 use crate::given::Given;
 use crate::survey::survey_expr;
 use crate::widths::slot_widths;
-use fir_tree::{Arm, Expr, Stmt};
 use bit_words::List;
+use fir_tree::{Arm, Expr, Stmt};
 use fir_types::{FirType, Memory, Name, memory_type};
 use indexmap::IndexMap;
 use place_text::Place;
@@ -129,12 +129,7 @@ fn walk_arm(
 }
 
 /// An expression.
-fn look_at(
-    alloc: Global,
-    given: &Given<'_>,
-    walk: &mut Walk,
-    expr: &Expr,
-) -> Result<(), AllocError>
+fn look_at(alloc: Global, given: &Given<'_>, walk: &mut Walk, expr: &Expr) -> Result<(), AllocError>
     ensures { OnOk result (Walks (looks_at given.now.widths.now expr.now) walk.old walk.new) }
 {
     survey_expr(alloc, given.widths, &walk.known, &mut walk.found, expr)?;
@@ -166,7 +161,13 @@ fn declare_storage(
     let slots = slots_of_type(alloc, &mut walk.places, name.place, typ)?;
     let widths = slot_widths(alloc, given.widths, slots.as_slice())?;
     walk.declared.push(filled(alloc, typ, widths.as_slice())?)?;
-    push_component(&mut walk.found.faults, given, name.place, slots.as_slice(), widths.as_slice())?;
+    push_component(
+        &mut walk.found.faults,
+        given,
+        name.place,
+        slots.as_slice(),
+        widths.as_slice(),
+    )?;
     let part = duplex(alloc, typ)?;
     note(&mut walk.known, name.id, Component { part, slots })
 }
@@ -183,7 +184,13 @@ fn declare_memory(
     let (element, slots) = memory_slots(alloc, &mut walk.places, memory)?;
     let widths = slot_widths(alloc, given.widths, element.as_slice())?;
     let place = memory.name.place;
-    push_component(&mut walk.found.faults, given, place, element.as_slice(), widths.as_slice())?;
+    push_component(
+        &mut walk.found.faults,
+        given,
+        place,
+        element.as_slice(),
+        widths.as_slice(),
+    )?;
     let typ = memory_type(alloc, memory)?;
     let widths = slot_widths(alloc, given.widths, slots.as_slice())?;
     walk.declared.push(filled(alloc, &typ, widths.as_slice())?)?;
@@ -223,7 +230,8 @@ fn declare_instance(
     let nothing = no_component(alloc);
     let instance = copy_component(alloc, look_up(instances, target.id, &nothing))?;
     let widths = slot_widths(alloc, given.widths, instance.slots.as_slice())?;
-    walk.declared.push(filled(alloc, &instance.part.typ, widths.as_slice())?)?;
+    walk.declared
+        .push(filled(alloc, &instance.part.typ, widths.as_slice())?)?;
     note(&mut walk.known, name.id, instance)
 }
 
@@ -240,8 +248,15 @@ fn declare_node(
     let part = survey_expr(alloc, given.widths, &walk.known, &mut walk.found, expr)?.part;
     let slots = variables(alloc, &mut walk.places, name.place, &part.typ)?;
     let widths = slot_widths(alloc, given.widths, slots.as_slice())?;
-    walk.declared.push(filled(alloc, &part.typ, widths.as_slice())?)?;
-    push_component(&mut walk.found.faults, given, name.place, slots.as_slice(), widths.as_slice())?;
+    walk.declared
+        .push(filled(alloc, &part.typ, widths.as_slice())?)?;
+    push_component(
+        &mut walk.found.faults,
+        given,
+        name.place,
+        slots.as_slice(),
+        widths.as_slice(),
+    )?;
     let part = source(part.typ);
     note(&mut walk.known, name.id, Component { part, slots })
 }

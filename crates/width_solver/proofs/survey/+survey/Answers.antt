@@ -42,7 +42,7 @@ survey_form-returns-in-Literal-clause-found t c =
 pub survey_form-returns-in_ok-operands-in-Prim-clause-is : goal.survey_form-returns-in_ok-operands-in-Prim-clause-is
 survey_form-returns-in_ok-operands-in-Prim-clause-is t c =
     let e = prim_is c.args.widths.now c.args.expr.now c.in-Prim.prim c.in-Prim.operands c.in-Prim.params c.as_slice-params.result.now c.args.known.now.entries c.as_slice-in-Prim.result.now
-        c.in-Prim.is (search rules) (c.as_slice-in-Prim.ensures.value ∙ rw c.as_slice.ensures at c.in_ok-operands-in-Prim.ensures.are) in
+    c.in-Prim.is (search rules) (c.as_slice-in-Prim.ensures.value ∙ rw c.as_slice.ensures at c.in_ok-operands-in-Prim.ensures.are) in
     subst (λ x. IfOk c.survey_operation.result (λ s. s ≡ x)) e c.survey_operation.ensures.is
 
 pub survey_form-returns-in_ok-operands-in-Prim-clause-found : goal.survey_form-returns-in_ok-operands-in-Prim-clause-found
@@ -56,7 +56,7 @@ survey_form-returns-in_ok-operands-in-Prim-clause-found t c =
 pub survey_form-returns-in_ok-operands-in-Mux-clause-is : goal.survey_form-returns-in_ok-operands-in-Mux-clause-is
 survey_form-returns-in_ok-operands-in-Mux-clause-is t c =
     let e = mux_is c.args.widths.now c.args.expr.now c.in-Mux.operands c.args.known.now.entries c.as_slice-in-Mux-2.result.now
-        c.in-Mux.is (c.as_slice-in-Mux-2.ensures.value ∙ rw c.as_slice-in-Mux.ensures at c.in_ok-operands-in-Mux.ensures.are) in
+    c.in-Mux.is (c.as_slice-in-Mux-2.ensures.value ∙ rw c.as_slice-in-Mux.ensures at c.in_ok-operands-in-Mux.ensures.are) in
     subst (λ x. IfOk c.survey_choice.result (λ s. s ≡ x)) e c.survey_choice.ensures.is
 
 pub survey_form-returns-in_ok-operands-in-Mux-clause-found : goal.survey_form-returns-in_ok-operands-in-Mux-clause-found
