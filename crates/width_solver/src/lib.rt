@@ -18,3 +18,6 @@ mod widths;
 pub use fault::WidthFault;
 pub use judging::judge;
 pub use solving::{Widths, solve};
+
+#[cfg(test)]
+mod judge_tests;
