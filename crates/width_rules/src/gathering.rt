@@ -49,7 +49,7 @@ pub fn rules_of(alloc: Global, checked: &Checked) -> Result<Rules, AllocError>
 }
 
 /// The modules with the widths of their ports, which have the first variables.
-fn with_ports<'a>(
+pub fn with_ports<'a>(
     alloc: Global,
     places: &mut Vec<Place>,
     modules: &'a [Module],
@@ -82,7 +82,7 @@ fn ports_of(
 }
 
 /// The components of instances, by the names of their modules: of each name the first.
-fn instances_of(
+pub fn instances_of(
     alloc: Global,
     modules: &[Ported<'_>],
 ) -> Result<IndexMap<u32, Component>, AllocError>
@@ -150,7 +150,7 @@ fn walk_body(
 }
 
 /// Notes the ports of a module as components.
-fn note_ports(
+pub fn note_ports(
     alloc: Global,
     known: &mut IndexMap<u32, Component>,
     ports: &[Port],

@@ -3,17 +3,20 @@
 //! that the circuit's definition gives.
 #![tactic(auto)]
 
-mod component;
+pub mod component;
 mod driving;
 mod gathering;
 pub mod laws;
 mod measuring;
 mod memories;
+pub mod gathering;
+pub mod measuring;
+pub mod memories;
 pub mod rule;
-mod sizes;
-mod slot;
-mod steps;
-mod walk;
+pub mod sizes;
+pub mod slot;
+pub mod steps;
+pub mod walk;
 
 pub use gathering::rules_of;
 pub use rule::{Formula, Rule, Rules};

@@ -172,7 +172,7 @@ pub fn no_component(alloc: Global) -> Component
     }
 }
 
-fn no_part(alloc: Global) -> Part
+pub fn no_part(alloc: Global) -> Part
     ensures { result ≡ (component_or_none None).part }
 {
     Part {
@@ -223,7 +223,7 @@ fn literal(
 
 /// The width that a literal gives, or the least that holds it, at most 129. It is 129 for a negative `UInt`, which no
 /// circuit without a fault has.
-fn width_of(kind: Kind, width: Option<u128>, number: Number) -> u128
+pub fn width_of(kind: Kind, width: Option<u128>, number: Number) -> u128
     ensures { result ≡ literal_width kind (integer_of_number number) width }
 {
     match width {
@@ -257,7 +257,7 @@ fn operation(
 }
 
 /// The kind of an operation's result, where it takes operands of these kinds.
-fn row_of(prim: Prim, kinds: &[Kind]) -> Option<Kind>
+pub fn row_of(prim: Prim, kinds: &[Kind]) -> Option<Kind>
     ensures { result ≡ row_kind prim kinds.now }
 {
     if kinds.len() == arity(prim).0 as usize {
@@ -268,7 +268,7 @@ fn row_of(prim: Prim, kinds: &[Kind]) -> Option<Kind>
 }
 
 /// The kind of a number's type.
-fn kind(typ: &FirType) -> Kind
+pub fn kind(typ: &FirType) -> Kind
     ensures { result ≡ sign_or_unsigned (sign_of typ.now) }
 {
     match &typ.shape {
@@ -286,7 +286,7 @@ fn first_of(formulas: List<Formula>) -> Formula
     }
 }
 
-fn ground(place: Place, kind: Kind, width: Option<u128>) -> FirType
+pub fn ground(place: Place, kind: Kind, width: Option<u128>) -> FirType
     ensures { result ≡ ground place kind width }
 {
     let shape = match kind {

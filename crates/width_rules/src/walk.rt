@@ -130,7 +130,7 @@ fn declare_with(
     note(&mut found.known, name.id, Component { part, slots })
 }
 
-fn duplex(alloc: Global, typ: &FirType) -> Result<Part, AllocError>
+pub fn duplex(alloc: Global, typ: &FirType) -> Result<Part, AllocError>
     ensures { IfOk result (λ part. part ≡ part_of typ.now Duplex) }
 {
     Ok(Part {
@@ -147,7 +147,7 @@ fn declare_memory(alloc: Global, found: &mut Found, memory: &Memory) -> Result<(
 }
 
 /// A memory, whose ports share the widths of its elements.
-fn memory_component(
+pub fn memory_component(
     alloc: Global,
     places: &mut Vec<Place>,
     memory: &Memory,
@@ -181,7 +181,7 @@ fn declare_instance(
     note(&mut found.known, name.id, instance)
 }
 
-fn copy_component(alloc: Global, component: &Component) -> Result<Component, AllocError>
+pub fn copy_component(alloc: Global, component: &Component) -> Result<Component, AllocError>
     ensures { IfOk result (λ copied. copied ≡ component.now) }
 {
     Ok(Component {
