@@ -15,7 +15,7 @@ use Rattle.type_check.specs.declared.part.Flow.TheVariants.{Duplex}
 use Rattle.type_check.specs.Parts.{part_of, source_of}
 use Rattle.width_rules.specs.declared.slot.Slot.{Slot}
 use Rattle.width_rules.specs.Places.{spots, size, slots_from, open_spots, node_slots}
-use Rattle.width_rules.specs.Sources.{Known, known_with, measured}
+use Rattle.width_rules.specs.Sources.{known_with}
 use Rattle.width_rules.specs.Circuits.{places_for, memory_slots}
 use Rattle.width_solver.specs.declared.fault.Found.{Found}
 use Rattle.width_solver.specs.declared.fault.Kind.TheVariants.{WidthUnknown, WidthOver}

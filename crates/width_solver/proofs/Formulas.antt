@@ -1,5 +1,5 @@
 -- The widths of formulas, and of what is kept of operands.
-use Rattle.std.proofs.Common.{◌≡◌, ℕ, zero, suc, nat_eq, nat_le, ◌&&◌, Bool, true, false, is_some, if◌then◌else◌, List, [], ◌∷◌, map, zip, length, get_or, drop, min, ◌≤◌, ◌++◌, append-nil, refl, sym, ap, ap₂, ◌∙◌, arith}
+use Rattle.std.proofs.Common.{◌≡◌, ℕ, zero, suc, nat_eq, ◌&&◌, Bool, true, false, is_some, if◌then◌else◌, List, [], ◌∷◌, map, zip, length, get_or, drop, min, ◌≤◌, ◌++◌, append-nil, refl, sym, ap, ap₂, ◌∙◌, arith}
 use Rattle.std.proofs.lemmas.Grind.{common_steps}
 use Rattle.std.proofs.lemmas.Simd.{map-map}
 use Rattle.bit_words.specs.declared.value.Kind.{Kind}
@@ -14,12 +14,11 @@ use Rattle.width_rules.specs.declared.slot.Slot.{Slot}
 use Rattle.width_rules.specs.declared.slot.Slot.TheVariants as slot
 use Rattle.width_rules.specs.declared.rule.Formula.{Formula, the_lemmas}
 use Rattle.width_rules.specs.declared.rule.Formula.TheVariants as formula
-use Rattle.width_rules.specs.Formulas.{level, wider, greatest, width_under}
-use Rattle.width_rules.specs.Sources.{Measured, formula_of, lone, kind_of, operation_formula, operation, greater_of, choice, measured_reference}
+use Rattle.width_rules.specs.Formulas.{wider, greatest, width_under}
+use Rattle.width_rules.specs.Sources.{Measured, formula_of, lone, kind_of, operation, greater_of, choice, measured_reference}
 use Rattle.width_rules.specs.declared.component.Component.{Component}
-use Rattle.width_solver.specs.declared.found.Surveyed.{Surveyed}
 use Rattle.width_solver.specs.Judging.{Survey, slot_width, widths_of, lone_width}
-use Rattle.width_solver.specs.Surveys.{kept, lone_of, kept_kind, kept_width, width_in_row, operated, wider_of, chosen}
+use Rattle.width_solver.specs.Surveys.{kept, lone_of, kept_kind, kept_width, operated, wider_of, chosen}
 
 pub width-fixed : (n : ℕ) (ws : List Width) → width_under (formula.Fixed n) ws ≡ bounded n
 width-fixed n ws = grind (arith, common_steps, the_lemmas)

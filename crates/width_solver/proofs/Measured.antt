@@ -1,14 +1,14 @@
 -- What the survey of an expression measures is what the rules measure.
-use Rattle.std.proofs.Common.{◌≡◌, ℕ, List, [], ◌∷◌, map, refl, sym, ap, ap₂, ◌∙◌, subst}
+use Rattle.std.proofs.Common.{◌≡◌, List, [], ◌∷◌, map, refl, sym, ap, ap₂, ◌∙◌, subst}
 use Rattle.std.proofs.lemmas.Simd.{map-map}
 use Rattle.place_text.specs.declared.place.Place.{Place}
 use Rattle.prim_ops.specs.declared.widths.Width.{Width}
 use Rattle.fir_tree.specs.declared.expr.Expr.{Expr, ind-Expr}
 use Rattle.fir_tree.specs.declared.expr.Form.{Form, fold-Form}
 use Rattle.fir_tree.specs.declared.expr.Suffix.{Suffix}
-use Rattle.fir_tree.specs.declared.expr.Form.TheOpen.{Form-F, Suffix-F, Expr-F}
-use Rattle.fir_tree.specs.declared.expr.Form.TheFolds.{map-Form, map-Suffix, map-Expr, fold-roll-Form, fold-roll-Expr}
-use Rattle.fir_tree.specs.declared.expr.Form.TheViews.{roll-Form, roll-Suffix, roll-Expr}
+use Rattle.fir_tree.specs.declared.expr.Form.TheOpen.{Form-F, Expr-F}
+use Rattle.fir_tree.specs.declared.expr.Form.TheFolds.{map-Form, map-Expr, fold-roll-Form, fold-roll-Expr}
+use Rattle.fir_tree.specs.declared.expr.Form.TheViews.{roll-Form, roll-Expr}
 use Rattle.width_rules.specs.declared.component.Component.{Component}
 use Rattle.width_rules.specs.Sources as sources
 use Rattle.width_rules.specs.Sources.{Known, Measured, measured, named, component, measured_reference, operation, choice}

@@ -1,5 +1,5 @@
 -- The survey of each form of an expression, and one survey behind another.
-use Rattle.std.proofs.Common.{◌≡◌, ℕ, ◌+◌, ◌<◌, List, [], ◌∷◌, ◌++◌, map, length, take, drop, get_or, fold, refl, sym, ap, ap₂, ◌∙◌, arith, append_assoc, append-nil, subst, Option, Some, None}
+use Rattle.std.proofs.Common.{◌≡◌, ℕ, ◌+◌, ◌<◌, List, [], ◌∷◌, ◌++◌, map, length, take, drop, get_or, refl, sym, ap, ap₂, ◌∙◌, arith, append_assoc, append-nil, subst, Option}
 use Rattle.std.specs.Prelude.{flat_map, slice_set}
 use Rattle.std.proofs.Math.Seq.{set-append_seam}
 use Rattle.std.proofs.lemmas.Grind.{common_steps}
@@ -24,14 +24,13 @@ use Rattle.fir_tree.specs.declared.expr.Form.TheViews.{out-Suffix}
 use Rattle.fir_tree.specs.declared.expr.Suffix.{Suffix}
 use Rattle.type_check.specs.Parts.{source_of}
 use Rattle.type_check.specs.Expressions.{no_type, ground}
-use Rattle.width_rules.specs.declared.component.Component.{Component}
 use Rattle.width_rules.specs.Sources as sources
 use Rattle.width_rules.specs.Sources.{Known, Measured, named, component, measured_reference, literal_width, operation, choice}
 use Rattle.width_solver.specs.declared.fault.Found.{Found}
 use Rattle.width_solver.specs.declared.found.Findings.{Findings}
 use Rattle.width_solver.specs.declared.found.Surveyed.{Surveyed}
 use Rattle.width_solver.specs.Filling.{filled}
-use Rattle.width_solver.specs.Judging.{Survey, survey, surveyed, suffix_step, widths_of, measured_literal, lone_width, parameter_faults, choice_faults, condition_faults, fit_width}
+use Rattle.width_solver.specs.Judging.{Survey, survey, surveyed, suffix_step, widths_of, measured_literal, parameter_faults, choice_faults}
 use Rattle.width_solver.specs.Surveys.{kept, all_surveys, index_surveys, reference_survey, literal_survey, operation_survey, choice_survey, reference_kept, over_faults, parameters_over, first_condition, operated, chosen, kept_kind, kept_width, Adds, AddsAll, AddsBelow}
 use Rattle.width_solver.proofs.Formulas.{width-fixed, reference-widths, lone-kept, operated_is, chosen_is}
 

@@ -1,14 +1,14 @@
 -- One part of a body walked behind another.
 use Rattle.std.proofs.Common.{◌≡◌, ℕ, ◌+◌, ◌<◌, List, [], ◌∷◌, ◌++◌, map, length, take, get_or, refl, sym, ap, ap₂, ◌∙◌, arith, append_assoc, append-nil, subst}
 use Rattle.std.proofs.lemmas.List.{map-append, take_more}
-use Rattle.fir_tree.specs.declared.stmt.Stmt.{Stmt, fold-Stmt}
+use Rattle.fir_tree.specs.declared.stmt.Stmt.{fold-Stmt}
 use Rattle.fir_tree.specs.declared.stmt.Stmt.TheOpen.{Stmt-F}
-use Rattle.width_rules.specs.Sources.{Known, component, component_or_none, known_with}
+use Rattle.width_rules.specs.Sources.{Known, component_or_none, known_with}
 use Rattle.width_rules.specs.Circuits.{WithPorts}
 use Rattle.width_rules.specs.Walks.{AreInstances}
 use Rattle.width_solver.specs.declared.walk.Walk.{Walk}
 use Rattle.width_solver.specs.Filling.{filled}
-use Rattle.width_solver.specs.Judging.{Solved, Surveys, Findings, slot_width, declares, nothing, and_then, in_turn, of_stmt, of_arm, stmt_survey}
+use Rattle.width_solver.specs.Judging.{Solved, Surveys, Findings, slot_width, declares, and_then, in_turn, of_stmt, of_arm, stmt_survey}
 use Rattle.width_solver.specs.Walks.{Walks, of_stmt_among, stmt_among}
 
 findings : {a b : Findings} → a.known ≡ b.known → a.count ≡ b.count → a.declared ≡ b.declared → a.nodes ≡ b.nodes → a.faults ≡ b.faults → a ≡ b

@@ -1,7 +1,6 @@
 -- The walk through all modules.
-use Rattle.std.proofs.Common.{◌≡◌, ℕ, zero, suc, ◌+◌, ◌≤◌, min, Bool, true, false, List, [], ◌∷◌, ◌++◌, map, length, drop, get_or, take, refl, sym, ap, ap₂, ◌∙◌, arith, append_assoc, append-nil}
+use Rattle.std.proofs.Common.{◌≡◌, ℕ, zero, suc, ◌+◌, ◌≤◌, min, Bool, false, List, [], ◌∷◌, ◌++◌, map, length, drop, get_or, refl, sym, ap, ap₂, ◌∙◌, arith, append-nil}
 use Rattle.std.specs.List.{flat_map}
-use Rattle.std.proofs.lemmas.Grind.{common_steps}
 use Rattle.place_text.specs.declared.place.Place.{Place}
 use Rattle.prim_ops.specs.declared.widths.Width.{Width}
 use Rattle.fir_types.specs.declared.port.Port.{Port}
@@ -11,7 +10,6 @@ use Rattle.width_rules.specs.Sources.{Known}
 use Rattle.width_rules.specs.Circuits.{WithPorts, modules_from, all_open, known_ports, rules_in}
 use Rattle.width_rules.specs.Walks.{AreInstances}
 use Rattle.width_rules.proofs.Ports.{module_places, modules_open}
-use Rattle.width_solver.specs.declared.fault.Found.{Found}
 use Rattle.width_solver.specs.Judging.{Solved, Findings, Told, in_turn, ports_declared, ports_faults, module_survey, told_from, told_of, where_reached}
 use Rattle.width_solver.specs.Walks.{module_among, told_among}
 use Rattle.width_solver.proofs.Walking.{same_walk}

@@ -8,7 +8,7 @@ use Rattle.fir_tree.specs.declared.expr.Expr.{Expr}
 use Rattle.fir_tree.specs.declared.expr.Suffix.{Suffix}
 use Rattle.prim_ops.specs.declared.operation.PrimOp.{PrimOp}
 use Rattle.prim_ops.specs.declared.widths.Width.{Width}
-use Rattle.prim_ops.specs.declared.widths.Width.TheVariants.{Bits, Over}
+use Rattle.prim_ops.specs.declared.widths.Width.TheVariants.{Bits}
 use Rattle.prim_ops.specs.Operations.{arity_of}
 use Rattle.prim_ops.specs.Kinds.{row_kind}
 use Rattle.prim_ops.specs.Widths.{row_width}
@@ -24,7 +24,7 @@ use Rattle.width_solver.specs.declared.fault.Kind.TheVariants.{WidthOver, Parame
 use Rattle.width_solver.specs.declared.found.Findings.{Findings}
 use Rattle.width_solver.specs.declared.found.Surveyed.{Surveyed}
 use Rattle.width_solver.specs.Filling.{filled}
-use Rattle.width_solver.specs.Judging.{Survey, Step, survey, surveyed, suffix_step, measured_literal, slot_width, widths_of, where_, is_over, fit_width, parameter_faults, choice_faults}
+use Rattle.width_solver.specs.Judging.{Survey, survey, surveyed, suffix_step, measured_literal, slot_width, widths_of, where_, is_over, fit_width, parameter_faults, choice_faults}
 
 -- what is kept of a survey
 abbrev pub kept : List Width → Survey → Surveyed

@@ -1,4 +1,4 @@
-use Rattle.std.proofs.Common.{◌≡◌, take, drop, false}
+use Rattle.std.proofs.Common.{◌≡◌, drop}
 use Rattle.std.specs.List.{list_any}
 use Rattle.width_solver.specs.Judging.{is_over}
 use Rattle.width_solver.proofs.faults.any_over.Given as goal

@@ -1,8 +1,8 @@
-use Rattle.std.proofs.Common.{rules, refl, sym, ap, ◌∙◌, ◌≡◌, map, take, subst, IfOk, OnOk}
+use Rattle.std.proofs.Common.{rules, refl, sym, ◌∙◌, ◌≡◌, subst, IfOk, OnOk}
 use Rattle.std.proofs.lemmas.Result.{on_ok_weaker}
 use Rattle.width_solver.specs.Judging.{survey}
 use Rattle.width_solver.specs.Surveys.{kept, AddsBelow}
-use Rattle.width_solver.proofs.Surveys.{survey-reference, survey-literal, adds_more, kept_more, indexes_more, adds_filled, prim_is, prim_adds, mux_is, mux_adds, literal_below, reference_is, reference_below}
+use Rattle.width_solver.proofs.Surveys.{survey-reference, survey-literal, adds_more, kept_more, adds_filled, prim_is, prim_adds, mux_is, mux_adds, literal_below, reference_is, reference_below}
 use Rattle.width_solver.proofs.survey.+survey.Goals as goal
 
 pub survey_all-loop-expr-preserved : goal.survey_all-loop-expr-preserved

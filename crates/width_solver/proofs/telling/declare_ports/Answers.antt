@@ -1,4 +1,4 @@
-use Rattle.std.proofs.Common.{rules, drop, arith}
+use Rattle.std.proofs.Common.{arith}
 use Rattle.width_solver.specs.Judging.{ports_declared, ports_faults}
 use Rattle.width_solver.specs.Walks.{solved}
 use Rattle.width_solver.proofs.Whole.{all_added, all_declared, all_told}

@@ -1,4 +1,4 @@
-use Rattle.std.proofs.Common.{rules, refl}
+use Rattle.std.proofs.Common.{refl}
 use Rattle.std.proofs.lemmas.Result.{on_ok_weaker}
 use Rattle.width_solver.proofs.Declaring.{asks_walks}
 use Rattle.width_solver.proofs.walk.ask.Goals as goal

@@ -1,4 +1,4 @@
-use Rattle.std.proofs.Common.{rules, refl, ap, ◌∙◌, map, ◌++◌}
+use Rattle.std.proofs.Common.{refl, ap, ◌∙◌, map, ◌++◌}
 use Rattle.std.proofs.lemmas.Result.{on_ok_weaker}
 use Rattle.width_solver.specs.Filling.{filled}
 use Rattle.width_solver.specs.Judging.{slot_width, component_faults}

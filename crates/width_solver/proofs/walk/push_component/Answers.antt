@@ -1,4 +1,3 @@
-use Rattle.std.proofs.Common.{rules}
 use Rattle.std.proofs.lemmas.Result.{on_ok_weaker}
 use Rattle.width_solver.specs.Walks.{solved}
 use Rattle.width_solver.proofs.Declaring.{component_told}

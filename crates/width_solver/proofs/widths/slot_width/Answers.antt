@@ -1,4 +1,4 @@
-use Rattle.std.proofs.Common.{rules, sym, arith}
+use Rattle.std.proofs.Common.{arith}
 use Rattle.std.proofs.lemmas.Grind.{common_steps}
 use Rattle.width_solver.proofs.Formulas.{slot-fixed, slot-var}
 use Rattle.width_solver.proofs.widths.slot_width.Goals as goal

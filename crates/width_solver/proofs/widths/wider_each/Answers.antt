@@ -1,5 +1,4 @@
-use Rattle.std.proofs.Common.{rules, sym, ◌∙◌, min, length, ◌≤◌, ◌≡◌, arith}
-use Rattle.std.proofs.lemmas.Grind.{common_steps}
+use Rattle.std.proofs.Common.{arith}
 use Rattle.width_solver.proofs.Formulas.{all_compared}
 use Rattle.width_solver.proofs.widths.wider_each.Goals as goal
 
