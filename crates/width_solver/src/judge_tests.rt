@@ -48,11 +48,7 @@ fn head(alloc: Global, id: u32, count: u128, line: u32) -> Result<Expr, AllocErr
     let params = vec![in alloc; count]?;
     Ok(Expr {
         place: at(line),
-        form: Form::Prim(
-            Prim::Head,
-            List::from_vec(operands),
-            List::from_vec(params),
-        ),
+        form: Form::Prim(Prim::Head, List::from_vec(operands), List::from_vec(params)),
     })
 }
 
