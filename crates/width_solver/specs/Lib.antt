@@ -1,0 +1,11 @@
+pub mod Readers
+pub mod Rounds
+pub mod Filling
+pub mod Judging
+pub mod Faults
+pub mod Fitting
+pub mod Layers
+pub mod Earliest
+pub mod Surveys
+pub mod Marks
+pub mod Walks
