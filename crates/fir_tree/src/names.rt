@@ -1,6 +1,6 @@
 //! The texts of names.
 
-ghost use Rattle.std.specs.Prelude.{◌≡◌, ◌<◌, ◌≤◌, ◌^◌, ◌+◌, ◌-◌, [], length, Some, slice_get, IfOk, OnErr};
+ghost use Rattle.std.specs.Prelude.{◌≡◌, ◌<◌, ◌≤◌, ◌^◌, ◌+◌, ◌-◌, [], length, Some, slice_get, option_copied, IfOk, OnErr};
 ghost use Rattle.fir_tree.specs.Numbered.{AddsName};
 
 use indexmap::IndexSet;
@@ -46,6 +46,14 @@ impl Names {
         let owned = String::from_str(self.alloc, text)?;
         let (id, _) = self.texts.insert_full(owned)?;
         Ok(id as u32)
+    }
+
+    /// The text of a number, or `None` where no text has it.
+    pub fn get(&self, id: u32) -> Option<&str>
+        ensures { option_copied result ≡ slice_get self.now id }
+    {
+        let text = self.texts.get_index(id as usize)?;
+        Some(text.as_str())
     }
 
     /// The text of a number.

@@ -22,6 +22,8 @@ fn texts_are_numbered_in_order_of_first_use(rt: HostRuntime) -> Result<(), Fail>
     let second = names.add("b")?;
     let again = names.add("a")?;
     assert_eq!(rt; (first, second, again), (0, 1, 0));
+    assert_eq!(rt; (names.get(0), names.get(1)), (Some("a"), Some("b")));
+    assert_eq!(rt; names.get(2), None);
     Ok(())
 }
 

@@ -60,15 +60,16 @@ pub fn memory_type(alloc: Global, memory: &Memory) -> Result<FirType, AllocError
         place: NOWHERE,
         shape: Shape::Bundle(List::new(alloc)),
     };
-    let fields = port_fields(alloc, lines, element(lines, &empty), depth(lines))?;
+    let fields = port_fields(alloc, lines, element_of(lines, &empty), depth_of(lines))?;
     Ok(FirType {
         place: NOWHERE,
         shape: Shape::Bundle(fields),
     })
 }
 
-/// The type of the elements, by the first line that gives it.
-fn element<'a>(lines: &'a [MemLine], other: &'a FirType) -> &'a FirType
+/// The type of a memory's elements, by the first line that gives it, or the other one where there is none (FIRRTL
+/// specification 3.0, "Memories").
+pub fn element_of<'a>(lines: &'a [MemLine], other: &'a FirType) -> &'a FirType
     ensures { result.now ≡ first_or other.now (filter_map element_in lines.now) }
 {
     for line in lines {
@@ -79,8 +80,9 @@ fn element<'a>(lines: &'a [MemLine], other: &'a FirType) -> &'a FirType
     other
 }
 
-/// The number of elements, by the first line that gives it.
-fn depth(lines: &[MemLine]) -> u128
+/// The number of a memory's elements, by the first line that gives it, or 1 where there is none (FIRRTL specification 3.0,
+/// "Memories").
+pub fn depth_of(lines: &[MemLine]) -> u128
     ensures { result ≡ first_or 1 (filter_map depth_in lines.now) }
 {
     for line in lines {
@@ -210,8 +212,8 @@ fn clock(place: Place) -> FirType
     }
 }
 
-/// The bits of an address below the depth, at least one.
-fn address_width(depth: u128) -> u128
+/// The bits of an address below a memory's depth, at least one (FIRRTL specification 3.0, "Memories").
+pub fn address_width(depth: u128) -> u128
     ensures { result ≡ address_bits depth }
 {
     if depth <= 2 {

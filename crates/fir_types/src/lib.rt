@@ -16,7 +16,7 @@ pub mod name;
 pub mod passivity;
 pub mod port;
 
-pub use bundles::{instance_type, memory_type};
+pub use bundles::{address_width, depth_of, element_of, instance_type, memory_type};
 pub use copying::copy;
 pub use counting::{has_clock, leaf_count};
 pub use equivalence::{equivalent, field_of};

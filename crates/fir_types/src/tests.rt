@@ -175,6 +175,11 @@ fn ports_of_a_memory_are_flipped(rt: HostRuntime) -> Result<(), Fail> {
         name: name(31),
         lines,
     };
+    assert_eq!(rt; depth_of(memory.lines.as_slice()), 5);
+    assert_eq!(rt; (address_width(1), address_width(4), address_width(5)), (1, 2, 3));
+    let clock = typ(Shape::Clock);
+    let element = element_of(memory.lines.as_slice(), &clock);
+    assert!(rt; matches!(&element.shape, Shape::Unsigned(Some(4))));
     let whole = memory_type(alloc, &memory)?;
     // { flip w : { addr : UInt<3>, en : UInt<1>, clk : Clock, data : UInt<4>, mask : UInt<1> } }
     assert_eq!(rt; leaf_count(&whole), 5);

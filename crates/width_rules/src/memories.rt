@@ -1,39 +1,14 @@
 //! The widths of memories.
 
 ghost use Rattle.std.specs.Prelude.{◌≡◌, ◌++◌, ◌∷◌, filter_map, flat_map, OnOk, IfOk};
-ghost use Rattle.fir_types.specs.Memories.{element_in, depth_in, first_or};
-ghost use Rattle.fir_types.specs.Bundles.{address_bits};
+ghost use Rattle.fir_types.specs.Memories.{depth_in, first_or};
 ghost use Rattle.width_rules.specs.Layers.{line_widths, mode_widths};
 
 use crate::sizes::push_mask;
 use crate::slot::Slot;
 use bit_words::List;
-use fir_types::{FirType, MemLine, PortMode};
+use fir_types::{FirType, MemLine, PortMode, address_width, depth_of};
 use std::alloc::{AllocError, Global};
-
-/// The type of the elements, by the first line that gives it, or the other one.
-pub fn element_of<'a>(lines: &'a [MemLine], other: &'a FirType) -> &'a FirType
-    ensures { result.now ≡ first_or other.now (filter_map element_in lines.now) }
-{
-    for line in lines {
-        if let MemLine::Element(_, typ) = line {
-            return typ;
-        }
-    }
-    other
-}
-
-/// The number of elements, by the first line that gives it, or 1.
-fn depth_of(lines: &[MemLine]) -> u128
-    ensures { result ≡ first_or 1 (filter_map depth_in lines.now) }
-{
-    for line in lines {
-        if let MemLine::Depth(_, depth) = line {
-            return *depth;
-        }
-    }
-    1
-}
 
 /// The widths of a memory's ports, whose elements have this type and these widths.
 pub fn port_slots(
@@ -99,15 +74,4 @@ pub fn push_all(slots: &mut List<Slot>, more: &[Slot]) -> Result<(), AllocError>
         slots.push(*slot)?;
     }
     Ok(())
-}
-
-/// The bits of an address below the depth, at least one.
-fn address_width(depth: u128) -> u128
-    ensures { result ≡ address_bits depth }
-{
-    if depth <= 2 {
-        1
-    } else {
-        u128::from((depth - 1).ilog2()) + 1
-    }
 }

@@ -12,13 +12,13 @@ ghost use Rattle.width_rules.specs.Walks.{Walks, memory_component, declares_comp
 use crate::component::Component;
 use crate::driving::{push_connected, push_invalidated, push_node};
 use crate::measuring::{Measure, formulas_of, look_up, measure_expr, no_component, source};
-use crate::memories::{element_of, port_slots};
+use crate::memories::port_slots;
 use crate::rule::Rule;
 use crate::sizes::{push_slots, variables};
 use crate::slot::Slot;
 use bit_words::List;
 use fir_tree::{Arm, Expr, Stmt};
-use fir_types::{FirType, Memory, Name, Shape, copy, memory_type};
+use fir_types::{FirType, Memory, Name, Shape, copy, element_of, memory_type};
 use indexmap::IndexMap;
 use place_text::Place;
 use std::alloc::{AllocError, Global};

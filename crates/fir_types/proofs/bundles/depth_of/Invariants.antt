@@ -1,6 +1,6 @@
 use Rattle.std.proofs.Common.{◌≡◌, [], filter_map, take}
 use Rattle.fir_types.specs.Memories.{depth_in}
-use Rattle.width_rules.proofs.memories.depth_of.Given as goal
+use Rattle.fir_types.proofs.bundles.depth_of.Given as goal
 
 abbrev pub invariant-loop-line : goal.invariant-loop-line
 invariant-loop-line l = filter_map depth_in (take l.line-index l.lines) ≡ []

@@ -1,7 +1,7 @@
 use Rattle.std.proofs.Common.{sym, ap}
 use Rattle.fir_types.specs.Memories.{depth_in}
 use Rattle.fir_types.proofs.Lines.{first_line, none_more, not_depth}
-use Rattle.fir_types.proofs.bundles.depth.Goals as goal
+use Rattle.fir_types.proofs.bundles.depth_of.Goals as goal
 
 pub returns-in-Depth : goal.returns-in-Depth
 returns-in-Depth c =

@@ -1,7 +1,7 @@
 use Rattle.std.proofs.Common.{sym, ap}
 use Rattle.fir_types.specs.Memories.{element_in}
 use Rattle.fir_types.proofs.Lines.{first_line, none_more, not_element}
-use Rattle.fir_types.proofs.bundles.element.Goals as goal
+use Rattle.fir_types.proofs.bundles.element_of.Goals as goal
 
 pub returns-in-Element : goal.returns-in-Element
 returns-in-Element c =

@@ -1,6 +1,0 @@
-use Rattle.std.proofs.Common.{◌≡◌, [], filter_map, take}
-use Rattle.fir_types.specs.Memories.{depth_in}
-use Rattle.fir_types.proofs.bundles.depth.Given as goal
-
-abbrev pub invariant-loop-line : goal.invariant-loop-line
-invariant-loop-line l = filter_map depth_in (take l.line-index l.lines) ≡ []
