@@ -176,7 +176,10 @@ fn ports_of_a_memory_are_flipped(rt: HostRuntime) -> Result<(), Fail> {
         lines,
     };
     assert_eq!(rt; depth_of(memory.lines.as_slice()), 5);
-    assert_eq!(rt; (address_width(1), address_width(4), address_width(5)), (1, 2, 3));
+    assert_eq!(rt;
+        (address_width(1), address_width(4), address_width(5)),
+        (1, 2, 3)
+    );
     let clock = typ(Shape::Clock);
     let element = element_of(memory.lines.as_slice(), &clock);
     assert!(rt; matches!(&element.shape, Shape::Unsigned(Some(4))));
