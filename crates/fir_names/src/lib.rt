@@ -6,6 +6,7 @@ mod earliest;
 pub mod fault;
 mod gather;
 mod graph;
+pub mod laws;
 mod loops;
 mod references;
 mod scoping;

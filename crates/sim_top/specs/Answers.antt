@@ -1,14 +1,14 @@
 -- What the program is to answer: a status and the bytes that are written.
-use Rattle.std.specs.Prelude.{◌≡◌, ℕ, ◌<◌, ◌≤◌, List, [], ◌∷◌, length, Option, Some, None, if◌then◌else◌, codes}
+use Rattle.std.specs.Prelude.{◌≡◌, ℕ, ◌<◌, ◌≤◌, Bool, true, false, List, [], ◌∷◌, length, Option, Some, None, if◌then◌else◌, codes}
 use Rattle.std.specs.Str.{bytes_eq}
 use Rattle.place_text.specs.Places.{fault_line_bytes, first_place}
 use Rattle.place_text.specs.declared.place.TextPart.TheVariants.{Circuit as Circuit_part, Stimulus as Stimulus_part}
 use Rattle.fir_layout.specs.declared.laid.Laid.{Laid}
 use Rattle.fir_layout.specs.Pieces.{pieces_of}
 use Rattle.sim_top.specs.declared.command.Command.{Command}
-use Rattle.sim_top.specs.declared.command.Command.TheVariants.{Run, Check}
+use Rattle.sim_top.specs.declared.command.Command.TheVariants.{Run, Check, Widths}
 use Rattle.sim_top.specs.declared.fault.FaultKind.{FaultKind}
-use Rattle.sim_top.specs.declared.fault.FaultKind.TheVariants.{TooLong, NoStimulus, BadByte, BadToken, NumberRange, BadIndent, BadSyntax, BadVersion, Unsupported, TooDeep, NoMain, ModuleTwice, ModuleUnknown, InstanceLoop, NameTwice, NameUnknown, FieldTwice, FieldUnknown, NotBundle, NotVector, IndexRange, IndexKind, OperandKind, NotEquivalent, FlowSink, FlowSource, ConditionKind, NotPassive, LiteralFit, MemoryField}
+use Rattle.sim_top.specs.declared.fault.FaultKind.TheVariants.{TooLong, NoStimulus, BadByte, BadToken, NumberRange, BadIndent, BadSyntax, BadVersion, Unsupported, TooDeep, NoMain, ModuleTwice, ModuleUnknown, InstanceLoop, NameTwice, NameUnknown, FieldTwice, FieldUnknown, NotBundle, NotVector, IndexRange, IndexKind, OperandKind, NotEquivalent, FlowSink, FlowSource, ConditionKind, NotPassive, LiteralFit, MemoryField, WidthUnknown, WidthOver, ParameterRange, ConditionWidth, TooLarge}
 use Rattle.sim_top.specs.declared.fault.Fault.{Fault}
 use Rattle.sim_top.specs.declared.fault.StimulusFault.{StimulusFault}
 use Rattle.sim_top.specs.declared.fault.StimulusFault.TheVariants.{BadLine}
@@ -16,14 +16,20 @@ use Rattle.sim_top.specs.declared.circuit.SmallCircuit.{SmallCircuit}
 use Rattle.sim_top.specs.declared.stimulus.SmallStimulus.{SmallStimulus}
 use Rattle.sim_top.specs.StimulusLine.{IsSplit, HasNone}
 use Rattle.fir_tree.specs.declared.circuit.Circuit.{Circuit}
-use Rattle.sim_top.specs.CircuitText.{IsFirstFault, IsAccepted, IsFaultOnly, IsAcceptedOnly}
+use Rattle.fir_tree.specs.declared.scope.Fitted.{Fitted}
+use Rattle.prim_ops.specs.declared.widths.Width.{Width}
+use Rattle.width_solver.specs.Fitting.{IsFitted}
+use Rattle.trace_print.specs.Listing.{listing_of, leaves_listed}
+use Rattle.sim_top.specs.CircuitText.{IsFirstFault, IsAccepted, IsFaultOnly, IsAcceptedOnly, IsSolved}
 use Rattle.sim_top.specs.SmallCircuits.{IsSmallCircuit}
 use Rattle.sim_top.specs.SmallStimuli.{IsSmallStimulus}
 use Rattle.sim_top.specs.Cycles.{trace}
 
 -- The words: a command by itself, or a command and `-`, which is standard input.
 abbrev pub named_command : List ℕ → Option Command
-named_command word = if bytes_eq word (codes "run") then Some Run else (if bytes_eq word (codes "check") then Some Check else None)
+named_command word =
+    if bytes_eq word (codes "run") then Some Run
+    else (if bytes_eq word (codes "check") then Some Check else (if bytes_eq word (codes "widths") then Some Widths else None))
 
 abbrev pub command_of : List (List ℕ) → Option Command
 command_of [] = None
@@ -66,6 +72,11 @@ kind_name ConditionKind = codes "ConditionKind"
 kind_name NotPassive = codes "NotPassive"
 kind_name LiteralFit = codes "LiteralFit"
 kind_name MemoryField = codes "MemoryField"
+kind_name WidthUnknown = codes "WidthUnknown"
+kind_name WidthOver = codes "WidthOver"
+kind_name ParameterRange = codes "ParameterRange"
+kind_name ConditionWidth = codes "ConditionWidth"
+kind_name TooLarge = codes "TooLarge"
 
 abbrev pub stimulus_fault_name : StimulusFault → List ℕ
 stimulus_fault_name BadLine = codes "BadLine"
@@ -74,10 +85,16 @@ stimulus_fault_name BadLine = codes "BadLine"
 abbrev pub at_front : FaultKind → Fault
 at_front kind = record { kind = kind; place = first_place }
 
--- The circuit's text: what stands before the line `%stimulus`, and for `check` all of it where there is no such line.
+-- whether a command takes all of a text for the circuit's where it has no line `%stimulus`
+abbrev pub reads_all : Command → Bool
+reads_all Run = false
+reads_all Check = true
+reads_all Widths = true
+
+-- The circuit's text: what stands before the line `%stimulus`, and for `check` and `widths` all of it where there is no such line.
 pub data IsPart : Command → List ℕ → List ℕ → Type 0 where
   before_line : (command : Command) (joined circuit stimulus : List ℕ) → IsSplit joined circuit stimulus → IsPart command joined circuit
-  all_of_it : (joined : List ℕ) → HasNone joined → IsPart Check joined joined
+  all_of_it : (command : Command) (joined : List ℕ) → reads_all command ≡ true → HasNone joined → IsPart command joined joined
 
 -- the greatest lengths of a joined text and of a circuit's text, in bytes
 abbrev pub joined_limit : ℕ
@@ -104,19 +121,36 @@ pub data RunsSmall (c : SmallCircuit) (stimulus : List ℕ) : ℕ → List ℕ �
   traced : (s : SmallStimulus) → IsSmallStimulus c stimulus s → RunsSmall c stimulus 0 (trace c s)
   bad_stimulus : ((s : SmallStimulus) → ¬ (IsSmallStimulus c stimulus s)) → RunsSmall c stimulus 3 (stimulus_fault_bytes BadLine)
 
--- a circuit that the program doesn't run, named at its name
-abbrev pub unsupported : Circuit → Fault
-unsupported circuit = record { kind = Unsupported; place = circuit.main.place }
+-- a fault of the circuit as a whole, named at its name
+abbrev pub at_name : FaultKind → Circuit → Fault
+at_name kind circuit = record { kind = kind; place = circuit.main.place }
+
+-- the greatest number of leaves that a listing may have
+abbrev pub leaf_limit : ℕ
+leaf_limit = 65536
+
+-- the circuit with the types that its least widths give
+pub record IsFittedCircuit (circuit : Circuit) (fitted : Fitted) : Type 0 where
+  pub widths : List Width
+  pub solved : IsSolved circuit fitted.checked widths
+  pub fitted_is : IsFitted fitted.checked widths fitted
+
+-- What the listing of widths answers.
+pub data Lists (circuit : Circuit) (fitted : Fitted) : ℕ → List ℕ → Type 0 where
+  small_enough : leaves_listed fitted ≤ leaf_limit → Lists circuit fitted 0 (listing_of fitted)
+  over : leaf_limit < leaves_listed fitted → Lists circuit fitted 2 (fault_bytes (at_name TooLarge circuit))
 
 -- What a command answers where the circuit's text was taken: the first fault of the text; or for `check` that there is none;
--- or for `run` what a run of the small circuit answers, and that the circuit isn't supported where it is no small one.
+-- or for `widths` the listing; or for `run` what a run of the small circuit answers, and that the circuit isn't supported where it is no small one.
 pub data JudgesTaken : Command → List ℕ → List ℕ → ℕ → List ℕ → Type 0 where
   refused : (command : Command) (joined text : List ℕ) (fault : Fault) → IsFirstFault text fault → JudgesTaken command joined text 2 (fault_bytes fault)
   accepted : (joined text : List ℕ) (circuit : Circuit) (laid : List Laid) → IsAccepted text circuit laid → JudgesTaken Check joined text 0 (codes "ok\n")
+  lists : (joined text : List ℕ) (circuit : Circuit) (laid : List Laid) (fitted : Fitted) (status : ℕ) (bytes : List ℕ) → IsAccepted text circuit laid
+      → IsFittedCircuit circuit fitted → Lists circuit fitted status bytes → JudgesTaken Widths joined text status bytes
   runs : (joined text stimulus : List ℕ) (circuit : Circuit) (laid : List Laid) (c : SmallCircuit) (status : ℕ) (bytes : List ℕ) → IsSplit joined text stimulus
       → IsAccepted text circuit laid → IsSmallCircuit (pieces_of text laid) c → RunsSmall c stimulus status bytes → JudgesTaken Run joined text status bytes
   not_small : (joined text : List ℕ) (circuit : Circuit) (laid : List Laid) → IsAccepted text circuit laid
-      → ((c : SmallCircuit) → ¬ (IsSmallCircuit (pieces_of text laid) c)) → JudgesTaken Run joined text 2 (fault_bytes (unsupported circuit))
+      → ((c : SmallCircuit) → ¬ (IsSmallCircuit (pieces_of text laid) c)) → JudgesTaken Run joined text 2 (fault_bytes (at_name Unsupported circuit))
 
 -- What a command answers to the text of standard input. Of the faults of the text as a whole the first in this order counts.
 pub data Judges : Command → List ℕ → ℕ → List ℕ → Type 0 where
@@ -163,6 +197,13 @@ pub record Replies (words : List (List ℕ)) (texts : List ℕ → Option (List 
 pub data IsRefusedText : List ℕ → Fault → Type 0 where
   too_long : (text : List ℕ) → circuit_limit < length text → IsRefusedText text (at_front TooLong)
   has_fault : (text : List ℕ) (fault : Fault) → length text ≤ circuit_limit → IsFaultOnly text fault → IsRefusedText text fault
+
+-- the command `widths` answers this for the circuit, and nothing else
+pub record SettlesListing (circuit : Circuit) (status : ℕ) (bytes : List ℕ) : Type 0 where
+  pub fitted : Fitted
+  pub is_fitted : IsFittedCircuit circuit fitted
+  pub lists : Lists circuit fitted status bytes
+  pub only : (other : Fitted) (other_status : ℕ) (others : List ℕ) → IsFittedCircuit circuit other → Lists circuit other other_status others → (other_status ≡ status) × (others ≡ bytes)
 
 -- a circuit's text that is accepted: it is within its limit, and passes all stages
 pub record IsAcceptedText (text : List ℕ) (circuit : Circuit) (laid : List Laid) : Type 0 where

@@ -1,6 +1,6 @@
 -- The circuit's text, stage by stage: its tokens, its layout, its grammar (FIRRTL specification 3.0, "FIRRTL Language
--- Definition"), its names ("Namespaces") and its types ("Types", "Expressions", "Connects"). A stage judges only what the stages
--- before it let pass.
+-- Definition"), its names ("Namespaces"), its types ("Types", "Expressions", "Connects") and its widths ("Width Inference"). A stage
+-- judges only what the stages before it let pass.
 use Rattle.std.specs.Prelude.{◌≡◌, ℕ, ◌≤◌, List, length, All, Option, Some, None}
 use Rattle.place_text.specs.Places.{place}
 use Rattle.fir_lexer.specs.Tokens.{IsFault, FaultKind as LexKind, Bad_byte, Bad_token, Number_range}
@@ -21,9 +21,18 @@ use Rattle.fir_names.specs.declared.fault.Kind.TheVariants as naming
 use Rattle.type_check.specs.Faults.{IsFault as IsTypeFault, IsFirst as IsFirstOfTypes}
 use Rattle.type_check.specs.declared.fault.Kind.{Kind as TypeKind}
 use Rattle.type_check.specs.declared.fault.Kind.TheVariants as typing
+use Rattle.type_check.specs.Statements.{types_of}
+use Rattle.fir_names.specs.Scopes.{IsScope}
+use Rattle.fir_tree.specs.declared.scope.Checked.{Checked}
+use Rattle.prim_ops.specs.declared.widths.Width.{Width}
+use Rattle.width_rules.specs.Circuits.{rules_in}
+use Rattle.width_rules.specs.Solutions.{IsLeast}
+use Rattle.width_solver.specs.Faults.{IsFault as IsWidthFault, IsFirst as IsFirstOfWidths}
+use Rattle.width_solver.specs.declared.fault.Kind.{Kind as WidthKind}
+use Rattle.width_solver.specs.declared.fault.Kind.TheVariants as fitting
 use Rattle.sim_top.specs.declared.fault.Fault.{Fault}
 use Rattle.sim_top.specs.declared.fault.FaultKind.{FaultKind}
-use Rattle.sim_top.specs.declared.fault.FaultKind.TheVariants.{BadByte, BadToken, NumberRange, BadIndent, BadSyntax, BadVersion, Unsupported, TooDeep, NoMain, ModuleTwice, ModuleUnknown, InstanceLoop, NameTwice, NameUnknown, FieldTwice, FieldUnknown, NotBundle, NotVector, IndexRange, IndexKind, OperandKind, NotEquivalent, FlowSink, FlowSource, ConditionKind, NotPassive, LiteralFit, MemoryField}
+use Rattle.sim_top.specs.declared.fault.FaultKind.TheVariants.{BadByte, BadToken, NumberRange, BadIndent, BadSyntax, BadVersion, Unsupported, TooDeep, NoMain, ModuleTwice, ModuleUnknown, InstanceLoop, NameTwice, NameUnknown, FieldTwice, FieldUnknown, NotBundle, NotVector, IndexRange, IndexKind, OperandKind, NotEquivalent, FlowSink, FlowSource, ConditionKind, NotPassive, LiteralFit, MemoryField, WidthUnknown, WidthOver, ParameterRange, ConditionWidth}
 
 -- the name of a lexer's fault
 abbrev pub lexing_kind : LexKind → FaultKind
@@ -65,6 +74,13 @@ typing_kind typing.NotPassive = NotPassive
 typing_kind typing.LiteralFit = LiteralFit
 typing_kind typing.MemoryField = MemoryField
 
+-- the name of a fault of widths
+abbrev pub fitting_kind : WidthKind → FaultKind
+fitting_kind fitting.WidthUnknown = WidthUnknown
+fitting_kind fitting.WidthOver = WidthOver
+fitting_kind fitting.ParameterRange = ParameterRange
+fitting_kind fitting.ConditionWidth = ConditionWidth
+
 -- The grammar accepts the text: it has this laid list, which spells this circuit and goes nowhere too deep.
 pub record IsParsed (text : List ℕ) (circuit : Circuit) (laid : List Laid) : Type 0 where
   pub laid_out : IsLaidOut text laid
@@ -78,6 +94,17 @@ IsNamed circuit = (kind : NameKind) (place' : Place) → ¬ (IsNameFault circuit
 abbrev pub IsTyped : Circuit → Type 0
 IsTyped circuit = (kind : TypeKind) (place' : Place) → ¬ (IsTypeFault circuit kind place')
 
+-- a circuit with a scope of its names and the types of its expressions, and the least widths that meet its rules
+pub record IsSolved (circuit : Circuit) (checked : Checked) (widths : List Width) : Type 0 where
+  pub circuit_is : checked.circuit ≡ circuit
+  pub scope : IsScope circuit checked.scope
+  pub types : checked.types ≡ types_of circuit
+  pub least : IsLeast (rules_in circuit).rules (length (rules_in circuit).places) widths
+
+-- with its least widths the circuit has no fault
+abbrev pub IsWidthed : Circuit → Type 0
+IsWidthed circuit = (checked : Checked) (widths : List Width) (kind : WidthKind) (place' : Place) → IsSolved circuit checked widths → ¬ (IsWidthFault checked widths kind place')
+
 -- The first fault of the text, by the stage that finds it.
 pub data IsFirstFault (text : List ℕ) : Fault → Type 0 where
   of_tokens : (at : ℕ) (kind : LexKind) → IsFault text at kind → IsFirstFault text (record { kind = lexing_kind kind; place = place text at })
@@ -88,12 +115,16 @@ pub data IsFirstFault (text : List ℕ) : Fault → Type 0 where
       → IsFirstFault text (record { kind = naming_kind kind; place = place' })
   of_types : (laid : List Laid) (circuit : Circuit) (kind : TypeKind) (place' : Place) → IsParsed text circuit laid → IsNamed circuit
       → IsFirstOfTypes circuit kind place' → IsFirstFault text (record { kind = typing_kind kind; place = place' })
+  of_widths : (laid : List Laid) (circuit : Circuit) (checked : Checked) (widths : List Width) (kind : WidthKind) (place' : Place) → IsParsed text circuit laid
+      → IsNamed circuit → IsTyped circuit → IsSolved circuit checked widths → IsFirstOfWidths checked widths kind place'
+      → IsFirstFault text (record { kind = fitting_kind kind; place = place' })
 
--- The text passes all stages: the grammar accepts it, and the names and the types of its circuit have no fault.
+-- The text passes all stages: the grammar accepts it, and the names, the types and the widths of its circuit have no fault.
 pub record IsAccepted (text : List ℕ) (circuit : Circuit) (laid : List Laid) : Type 0 where
   pub parsed : IsParsed text circuit laid
   pub named : IsNamed circuit
   pub typed : IsTyped circuit
+  pub widthed : IsWidthed circuit
 
 -- a token's bytes lie in the text
 abbrev pub IsInside : List ℕ → Laid → Type 0

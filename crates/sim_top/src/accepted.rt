@@ -1,4 +1,4 @@
-//! The circuit's text, through all stages that are built: tokens, layout, grammar, names and types.
+//! The circuit's text, through all stages that are built: tokens, layout, grammar, names, types and widths.
 
 ghost use Rattle.std.specs.Prelude.{◌≡◌, ◌≤◌, Some, None, IfOk, Err, length};
 ghost use Rattle.place_text.specs.declared.place.Place.{Place as APlace};
@@ -18,24 +18,23 @@ use crate::front::{TextFault, lay_text};
 use fir_layout::Laid;
 use fir_names::{NameFault, resolve};
 use fir_parser::parse;
-use fir_tree::{Circuit, ParseFault, Scope, Types};
+use fir_tree::{Checked, Fitted, ParseFault};
 use std::alloc::Global;
 use type_check::{TypeFault, check};
+use width_rules::rules_of;
+use width_solver::{WidthFault, judge, solve};
 
-/// A circuit that has no fault, what its names mean, the types of its expressions, and the laid list of its text.
+/// A circuit that has no fault, with what its names mean and the types of all its parts, and the laid list of its text.
 #[derive(Drop)]
 pub struct Accepted {
-    pub circuit: Circuit,
-    pub scope: Scope,
-    pub types: Types,
+    pub fitted: Fitted,
     pub laid: Vec<Laid>,
 }
 
 /// The circuit of a text, or the text's first fault.
 pub fn accept_text(alloc: Global, text: &[u8]) -> Result<Accepted, TextFault>
-    ensures accepted { IfOk result (λ accepted. IsAcceptedText text.now accepted.circuit accepted.laid.items) }
-    ensures scope { IfOk result (λ accepted. IsScope accepted.circuit accepted.scope) }
-    ensures types { IfOk result (λ accepted. accepted.types ≡ types_of accepted.circuit) }
+    ensures accepted { IfOk result (λ accepted. IsAcceptedText text.now accepted.fitted.checked.circuit accepted.laid.items) }
+    ensures fitted { IfOk result (λ accepted. IsFittedCircuit accepted.fitted.checked.circuit accepted.fitted) }
     ensures fault { (fault : AFault) → result ≡ Err (TextFault.Fault fault) → IsRefusedText text.now fault }
 {
     match lay_text(alloc, text) {
@@ -44,30 +43,45 @@ pub fn accept_text(alloc: Global, text: &[u8]) -> Result<Accepted, TextFault>
     }
 }
 
-/// The circuit of a laid list, or the fault that the grammar finds, or the first one of its names, or of its types.
+/// The circuit of a laid list, or the fault that the grammar finds, or the first one of its names, of its types, or of its
+/// widths.
 fn accept_laid(alloc: Global, text: &[u8], laid: Vec<Laid>) -> Result<Accepted, TextFault>
     requires short { length text.now ≤ circuit_limit }
     requires laid { IsLaidOnly text.now laid.items }
-    ensures accepted { IfOk result (λ accepted. IsAcceptedText text.now accepted.circuit accepted.laid.items) }
-    ensures scope { IfOk result (λ accepted. IsScope accepted.circuit accepted.scope) }
-    ensures types { IfOk result (λ accepted. accepted.types ≡ types_of accepted.circuit) }
+    ensures accepted { IfOk result (λ accepted. IsAcceptedText text.now accepted.fitted.checked.circuit accepted.laid.items) }
+    ensures fitted { IfOk result (λ accepted. IsFittedCircuit accepted.fitted.checked.circuit accepted.fitted) }
     ensures fault { (fault : AFault) → result ≡ Err (TextFault.Fault fault) → IsRefusedText text.now fault }
 {
     match parse(alloc, text, &laid) {
         Ok(circuit) => match resolve(alloc, &circuit) {
             Ok(scope) => match check(alloc, &circuit, &scope) {
-                Ok(types) => Ok(Accepted {
-                    circuit,
-                    scope,
-                    types,
-                    laid,
-                }),
+                Ok(types) => {
+                    let checked = Checked {
+                        circuit,
+                        scope,
+                        types,
+                    };
+                    match fit_widths(alloc, checked) {
+                        Ok(fitted) => Ok(Accepted { fitted, laid }),
+                        Err(fault) => Err(of_widths(fault)),
+                    }
+                }
                 Err(fault) => Err(of_types(fault)),
             },
             Err(fault) => Err(of_names(fault)),
         },
         Err(fault) => Err(of_grammar(fault)),
     }
+}
+
+/// The circuit with the types that its least widths give, or the first fault of its widths.
+fn fit_widths(alloc: Global, checked: Checked) -> Result<Fitted, WidthFault>
+    ensures ok { IfOk result (λ fitted. (widths : List AWidth) × AreLeast checked.circuit widths × IsFitted checked widths fitted × HasNoWidthFault checked widths) }
+    ensures fault { IfErr result (λ fault. (fault ≡ WidthFault.NoMemory) ⊎ ((widths : List AWidth) × AreLeast checked.circuit widths × IsFirstAnswer checked widths fault)) }
+{
+    let rules = rules_of(alloc, &checked)?;
+    let widths = solve(alloc, &rules)?;
+    judge(alloc, checked, &rules, &widths)
 }
 
 /// The fault that the grammar found.
@@ -122,6 +136,21 @@ fn of_types(fault: TypeFault) -> TextFault
         TypeFault::LiteralFit(place) => (FaultKind::LiteralFit, place),
         TypeFault::MemoryField(place) => (FaultKind::MemoryField, place),
         TypeFault::NoMemory => return TextFault::NoMemory,
+    };
+    TextFault::Fault(Fault { kind, place })
+}
+
+/// The fault that the widths have.
+fn of_widths(fault: WidthFault) -> TextFault
+    ensures place { (kind : WidthKind) (place : APlace) → fault ≡ width_answer kind place → result ≡ TextFault.Fault (record { kind = fitting_kind kind; place = place }) }
+    ensures memory { fault ≡ WidthFault.NoMemory → result ≡ TextFault.NoMemory }
+{
+    let (kind, place) = match fault {
+        WidthFault::WidthUnknown(place) => (FaultKind::WidthUnknown, place),
+        WidthFault::WidthOver(place) => (FaultKind::WidthOver, place),
+        WidthFault::ParameterRange(place) => (FaultKind::ParameterRange, place),
+        WidthFault::ConditionWidth(place) => (FaultKind::ConditionWidth, place),
+        WidthFault::NoMemory => return TextFault::NoMemory,
     };
     TextFault::Fault(Fault { kind, place })
 }

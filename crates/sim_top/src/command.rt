@@ -10,6 +10,8 @@ pub enum Command {
     Run,
     /// Says whether a circuit has a fault.
     Check,
+    /// Lists the widths of a circuit.
+    Widths,
 }
 
 /// The command of some words: its name, and `-` behind it or nothing.
@@ -31,6 +33,8 @@ fn named(word: &str) -> Option<Command>
         Some(Command::Run)
     } else if word == "check" {
         Some(Command::Check)
+    } else if word == "widths" {
+        Some(Command::Widths)
     } else {
         None
     }

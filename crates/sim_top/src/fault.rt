@@ -39,6 +39,12 @@ pub enum FaultKind {
     NotPassive,
     LiteralFit,
     MemoryField,
+    WidthUnknown,
+    WidthOver,
+    ParameterRange,
+    ConditionWidth,
+    /// A circuit over a limit of its size.
+    TooLarge,
 }
 
 impl FaultKind {
@@ -80,6 +86,11 @@ impl FaultKind {
             FaultKind::NotPassive => "NotPassive",
             FaultKind::LiteralFit => "LiteralFit",
             FaultKind::MemoryField => "MemoryField",
+            FaultKind::WidthUnknown => "WidthUnknown",
+            FaultKind::WidthOver => "WidthOver",
+            FaultKind::ParameterRange => "ParameterRange",
+            FaultKind::ConditionWidth => "ConditionWidth",
+            FaultKind::TooLarge => "TooLarge",
         }
     }
 }

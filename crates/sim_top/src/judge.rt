@@ -3,11 +3,11 @@
 ghost use Rattle.std.specs.Prelude.{◌≡◌, ℕ, List, ◌≤◌, length, IfOk, Err, codes};
 ghost use Rattle.sim_top.specs.StimulusLine.{IsSplit};
 ghost use Rattle.sim_top.specs.CircuitText.{IsAcceptedOnly};
-ghost use Rattle.sim_top.specs.Answers.{fault_bytes, stimulus_fault_bytes, at_front, unsupported, joined_limit, IsPart, Settles, SettlesTaken, SettlesSmall};
+ghost use Rattle.sim_top.specs.Answers.{fault_bytes, stimulus_fault_bytes, at_front, at_name, joined_limit, IsPart, Settles, SettlesTaken, SettlesSmall, SettlesListing, IsFittedCircuit};
 ghost use Rattle.sim_top.specs.SmallCircuits.{IsWellFormed};
 ghost use Rattle.sim_top.specs.SmallStimuli.{IsStimulusOf};
 ghost use Rattle.sim_top.specs.Cycles.{trace};
-ghost use Rattle.sim_top.specs.declared.command.Command.TheVariants.{Run, Check};
+ghost use Rattle.sim_top.specs.declared.command.Command.TheVariants.{Run, Check, Widths};
 
 use crate::accepted::{Accepted, accept_text};
 use crate::circuit::SmallCircuit;
@@ -18,9 +18,13 @@ use crate::small::{read_small, small_stimulus};
 use crate::split::split;
 use crate::stimulus::SmallStimulus;
 use crate::trace::trace_of;
-use fir_tree::Circuit;
+use fir_tree::{Circuit, Fitted};
 use place_text::{Place, TextPart, fault_line};
 use std::alloc::{AllocError, Global};
+use trace_print::{listed_leaves, widths_text};
+
+/// The greatest number of leaves that a listing may have.
+const LEAF_LIMIT: u128 = 65_536;
 
 /// A status and the bytes that are written.
 #[derive(Debug, Drop)]
@@ -39,6 +43,8 @@ pub fn judge(alloc: Global, command: Command, text: &[u8]) -> Result<Reply, Allo
         (Command::Run, None) => Ok(refuse_whole(alloc, FaultKind::NoStimulus)?),
         (Command::Check, Some((circuit, _))) => Ok(check(alloc, circuit)?),
         (Command::Check, None) => Ok(check(alloc, text)?),
+        (Command::Widths, Some((circuit, _))) => Ok(list(alloc, circuit)?),
+        (Command::Widths, None) => Ok(list(alloc, text)?),
     }
 }
 
@@ -63,6 +69,31 @@ fn accept(alloc: Global) -> Result<Reply, AllocError>
     })
 }
 
+/// Lists the widths of the circuit of a text.
+fn list(alloc: Global, text: &[u8]) -> Result<Reply, AllocError>
+    ensures { IfOk result (λ r. (joined : List ℕ) → length joined ≤ joined_limit → IsPart Widths joined text.now → Settles Widths joined r.status r.bytes.items) }
+{
+    match accept_text(alloc, text) {
+        Ok(accepted) => Ok(list_fitted(alloc, &accepted.fitted)?),
+        Err(TextFault::Fault(fault)) => Ok(refuse(alloc, fault)?),
+        Err(TextFault::NoMemory) => Err(AllocError),
+    }
+}
+
+/// Lists the widths of a circuit without a fault, where it isn't too large.
+fn list_fitted(alloc: Global, fitted: &Fitted) -> Result<Reply, AllocError>
+    requires { IsFittedCircuit fitted.now.checked.circuit fitted.now }
+    ensures { IfOk result (λ r. SettlesListing fitted.now.checked.circuit r.status r.bytes.items) }
+{
+    if listed_leaves(alloc, fitted)? > LEAF_LIMIT {
+        return Ok(refuse_at_name(alloc, FaultKind::TooLarge, &fitted.checked.circuit)?);
+    }
+    Ok(Reply {
+        status: 0,
+        bytes: widths_text(alloc, fitted)?,
+    })
+}
+
 /// Runs the circuit of a text.
 fn run(alloc: Global, text: &[u8], stimulus: &[u8]) -> Result<Reply, AllocError>
     ensures { IfOk result (λ r. (joined : List ℕ) → length joined ≤ joined_limit → IsSplit joined text.now stimulus.now → Settles Run joined r.status r.bytes.items) }
@@ -81,12 +112,16 @@ fn run_accepted(
     accepted: &Accepted,
     stimulus: &[u8],
 ) -> Result<Reply, AllocError>
-    requires { IsAcceptedOnly text.now accepted.now.circuit accepted.now.laid.items }
+    requires { IsAcceptedOnly text.now accepted.now.fitted.checked.circuit accepted.now.laid.items }
     ensures { IfOk result (λ r. (joined : List ℕ) → IsSplit joined text.now stimulus.now → SettlesTaken Run joined text.now r.status r.bytes.items) }
 {
     match read_small(alloc, text, &accepted.laid)? {
         Some(small) => Ok(run_small(alloc, &small, stimulus)?),
-        None => Ok(refuse_at_name(alloc, &accepted.circuit)?),
+        None => Ok(refuse_at_name(
+            alloc,
+            FaultKind::Unsupported,
+            &accepted.fitted.checked.circuit,
+        )?),
     }
 }
 
@@ -140,17 +175,12 @@ fn refuse(alloc: Global, fault: Fault) -> Result<Reply, AllocError>
     })
 }
 
-/// The line of a circuit that isn't supported, with the place of the circuit's name.
-fn refuse_at_name(alloc: Global, circuit: &Circuit) -> Result<Reply, AllocError>
-    ensures { IfOk result (λ r. (r.status ≡ 2) × (r.bytes.items ≡ fault_bytes (unsupported circuit.now))) }
+/// The line of a fault of the circuit as a whole, at its name.
+fn refuse_at_name(alloc: Global, kind: FaultKind, circuit: &Circuit) -> Result<Reply, AllocError>
+    ensures { IfOk result (λ r. (r.status ≡ 2) × (r.bytes.items ≡ fault_bytes (at_name kind circuit.now))) }
 {
-    refuse(
-        alloc,
-        Fault {
-            kind: FaultKind::Unsupported,
-            place: circuit.main.place,
-        },
-    )
+    let place = circuit.main.place;
+    refuse(alloc, Fault { kind, place })
 }
 
 /// The line of a stimulus that is refused as a whole.

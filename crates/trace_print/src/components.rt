@@ -1,0 +1,117 @@
+//! The declarations of a circuit in text order.
+
+ghost use Rattle.std.specs.Prelude.{◌≡◌, ◌×◌, ◌++◌, ◌∷◌, [], flat_map, drop, get_or, false, IfOk, OnOk};
+ghost use Rattle.trace_print.specs.Components.{components_of, module_declared, stmt_declared, arm_declared};
+
+use crate::component::Component;
+use fir_tree::{Arm, Checked, Module, Stmt};
+use fir_types::{Name, Port};
+use std::alloc::{AllocError, Global};
+
+/// The declarations of all modules in text order, ports first in each. There are as many as the fitted circuit has declared
+/// types.
+pub fn components(alloc: Global, checked: &Checked) -> Result<Vec<Component>, AllocError>
+    ensures { IfOk result (λ all. all.items ≡ components_of checked.now.circuit.modules checked.now.scope.reached) }
+{
+    let mut all = Vec::new(alloc);
+    let mut rest = checked.scope.reached.as_slice();
+    for module in checked.circuit.modules.as_slice() {
+        let (reached, others) = take_flag(rest);
+        push_module(&mut all, module, reached)?;
+        rest = others;
+    }
+    Ok(all)
+}
+
+/// The first flag, which is false where there is none, and those behind it.
+fn take_flag(flags: &[bool]) -> (bool, &[bool])
+    ensures { (result.0 ≡ get_or flags.now 0 false) × (result.1.now ≡ drop 1 flags.now) }
+{
+    match flags {
+        [first, others @ ..] => (*first, others),
+        [] => (false, flags),
+    }
+}
+
+fn push_module(
+    all: &mut Vec<Component>,
+    module: &Module,
+    reached: bool,
+) -> Result<(), AllocError>
+    ensures { OnOk result (all.new.items ≡ all.old.items ++ module_declared module.now reached) }
+{
+    for port in module.ports.as_slice() {
+        push(all, module.name, port.name, reached)?;
+    }
+    push_statements(all, module.name, reached, module.body.as_slice())
+}
+
+/// Adds a declaration.
+fn push(
+    all: &mut Vec<Component>,
+    holder: Name,
+    name: Name,
+    listed: bool,
+) -> Result<(), AllocError>
+    ensures { OnOk result (all.new.items ≡ all.old.items ++ record { holder = holder.id; name = name.id; listed = listed } ∷ []) }
+{
+    all.push(Component {
+        holder: holder.id,
+        name: name.id,
+        listed,
+    })
+}
+
+#[cycle(walk)]
+fn push_statements(
+    all: &mut Vec<Component>,
+    holder: Name,
+    reached: bool,
+    statements: &[Stmt],
+) -> Result<(), AllocError>
+    ensures { OnOk result (all.new.items ≡ all.old.items ++ flat_map (λ statement. stmt_declared statement holder reached) statements.now) }
+{
+    for statement in statements {
+        push_statement(all, holder, reached, statement)?;
+    }
+    Ok(())
+}
+
+#[cycle(walk)]
+fn push_statement(
+    all: &mut Vec<Component>,
+    holder: Name,
+    reached: bool,
+    statement: &Stmt,
+) -> Result<(), AllocError>
+    ensures { OnOk result (all.new.items ≡ all.old.items ++ stmt_declared statement.now holder reached) }
+{
+    match statement {
+        Stmt::Wire(name, _)
+        | Stmt::Reg(name, _, _)
+        | Stmt::RegReset(name, _, _, _, _)
+        | Stmt::Node(name, _) => push(all, holder, *name, reached),
+        Stmt::Mem(memory) => push(all, holder, memory.name, reached),
+        Stmt::Inst(name, _) => push(all, holder, *name, false),
+        Stmt::When(arms, other) => {
+            push_arms(all, holder, reached, arms.as_slice())?;
+            push_statements(all, holder, reached, other.as_slice())
+        }
+        Stmt::Connect(_, _) | Stmt::Invalidate(_) | Stmt::Skip(_) => Ok(()),
+    }
+}
+
+#[cycle(walk)]
+fn push_arms(
+    all: &mut Vec<Component>,
+    holder: Name,
+    reached: bool,
+    arms: &[Arm],
+) -> Result<(), AllocError>
+    ensures { OnOk result (all.new.items ≡ all.old.items ++ flat_map (λ arm. arm_declared arm holder reached) arms.now) }
+{
+    for arm in arms {
+        push_statements(all, holder, reached, arm.body.as_slice())?;
+    }
+    Ok(())
+}

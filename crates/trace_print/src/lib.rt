@@ -1,0 +1,17 @@
+//! Lines and listings: the lines of a trace, and the listing of a circuit's widths. Keeps the contract that each is, byte by
+//! byte, the text of what it is made from.
+#![tactic(auto)]
+
+pub mod component;
+pub mod components;
+mod leaf_lines;
+mod listing;
+mod trace;
+
+pub use component::Component;
+pub use components::components;
+pub use listing::{listed_leaves, widths_text};
+pub use trace::{header, trace_line};
+
+#[cfg(test)]
+mod tests;

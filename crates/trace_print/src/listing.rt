@@ -1,0 +1,70 @@
+//! The listing of a circuit's widths.
+
+ghost use Rattle.std.specs.Prelude.{◌≡◌, ◌++◌, ◌-◌, ◌^◌, flat_map, min, sum, codes, zip, map, IfOk, OnOk};
+ghost use Rattle.trace_print.specs.Listing.{text_of, component_lines, listing_of, leaves_listed};
+
+use crate::component::Component;
+use crate::components::components;
+use crate::leaf_lines::push_lines;
+use fir_tree::{Fitted, Names};
+use fir_types::{FirType, leaf_count};
+use std::alloc::{AllocError, Global};
+
+/// The listing of the widths: a line `MODULE LEAF KIND WIDTH` for each leaf of the ports, wires, registers, nodes and memory
+/// ports of the modules that the main module reaches, in text order, each line ended by a line feed. KIND is `UInt` or `SInt`.
+/// A clock has no line, and an instance none beside those of its module's ports.
+pub fn widths_text(alloc: Global, fitted: &Fitted) -> Result<Vec<u8>, AllocError>
+    ensures { IfOk result (λ text. text.items ≡ listing_of fitted.now) }
+{
+    let all = components(alloc, &fitted.checked)?;
+    let names = &fitted.checked.circuit.names;
+    let mut text = Vec::new(alloc);
+    for (component, typ) in all.iter().zip(fitted.declared.as_slice()) {
+        push_component(alloc, &mut text, names, *component, typ)?;
+    }
+    Ok(text)
+}
+
+/// Adds the lines of a declaration.
+fn push_component(
+    alloc: Global,
+    text: &mut Vec<u8>,
+    names: &Names,
+    component: Component,
+    typ: &FirType,
+) -> Result<(), AllocError>
+    ensures { OnOk result (text.new.items ≡ text.old.items ++ component_lines names.now (component, typ.now)) }
+{
+    if component.listed {
+        let mut front = Vec::new(alloc);
+        push_name(&mut front, names, component.holder)?;
+        front.push(b' ')?;
+        push_name(&mut front, names, component.name)?;
+        push_lines(text, &mut front, names, typ)?;
+    }
+    Ok(())
+}
+
+/// Adds the text of a name.
+pub fn push_name(text: &mut Vec<u8>, names: &Names, id: u32) -> Result<(), AllocError>
+    ensures { OnOk result (text.new.items ≡ text.old.items ++ text_of names.now id) }
+{
+    if let Some(name) = names.get(id) {
+        text.extend_from_slice(name.as_bytes())?;
+    }
+    Ok(())
+}
+
+/// How many leaves the listed declarations have in all, clocks among them, or 2^128 - 1 where there are more.
+pub fn listed_leaves(alloc: Global, fitted: &Fitted) -> Result<u128, AllocError>
+    ensures { IfOk result (λ total. total ≡ min (leaves_listed fitted.now) (2 ^ 128 - 1)) }
+{
+    let all = components(alloc, &fitted.checked)?;
+    let mut total: u128 = 0;
+    for (component, typ) in all.iter().zip(fitted.declared.as_slice()) {
+        if component.listed {
+            total = total.saturating_add(leaf_count(typ));
+        }
+    }
+    Ok(total)
+}
