@@ -1,0 +1,57 @@
+//! Fits the widths of a chain or a ring of many components without widths, to be timed from outside. The words are the shape,
+//! `forward`, `backward` or `ring`, and how many components there are; it writes the sum of their widths, 7 for each.
+#![tactic(auto)]
+
+mod circuit;
+
+use circuit::{Chain, circuit_of};
+use fir_tree::Fitted;
+use fir_types::Shape;
+use std::alloc::Global;
+use std::env;
+use std::process::ExitCode;
+use width_rules::rules_of;
+use width_solver::{judge, solve};
+
+fn main(rt: HostRuntime) -> ExitCode {
+    match run(&rt) {
+        Some(total) => match println!(rt; "{total}") {
+            Ok(()) => ExitCode::from(0),
+            Err(_) => ExitCode::from(5),
+        },
+        None => ExitCode::from(1),
+    }
+}
+
+/// The sum of the widths, where the words of the command line name a circuit.
+fn run(rt: &HostRuntime) -> Option<u128> {
+    let mut words = env::args(rt).ok()?.skip(1);
+    let chain = match words.next()?.as_bytes() {
+        b"forward" => Chain::Forward,
+        b"backward" => Chain::Backward,
+        b"ring" => Chain::Ring,
+        _ => return None,
+    };
+    let count: u32 = words.next()?.as_str().parse().ok()?;
+    total_width(rt.alloc(), chain, count)
+}
+
+/// The sum of the widths of all components.
+fn total_width(alloc: Global, chain: Chain, count: u32) -> Option<u128> {
+    let checked = circuit_of(alloc, chain, count).ok()?;
+    let rules = rules_of(alloc, &checked).ok()?;
+    let widths = solve(alloc, &rules).ok()?;
+    let fitted = judge(alloc, checked, &rules, &widths).ok()?;
+    Some(sum_of_widths(&fitted))
+}
+
+/// The sum of the widths of the declarations, as far as they are single numbers.
+fn sum_of_widths(fitted: &Fitted) -> u128 {
+    let mut total: u128 = 0;
+    for typ in fitted.declared.as_slice() {
+        if let Shape::Unsigned(Some(width)) = &typ.shape {
+            total = total.saturating_add(*width);
+        }
+    }
+    total
+}
