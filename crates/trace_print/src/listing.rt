@@ -4,7 +4,7 @@ ghost use Rattle.std.specs.Prelude.{◌≡◌, ◌++◌, ◌-◌, ◌^◌, flat_
 ghost use Rattle.trace_print.specs.Listing.{text_of, component_lines, listing_of, leaves_listed};
 
 use crate::component::Component;
-use crate::components::components;
+use crate::declarations::components;
 use crate::leaf_lines::push_lines;
 use fir_tree::{Fitted, Names};
 use fir_types::{FirType, leaf_count};

@@ -1,6 +1,6 @@
 //! The declarations of a circuit in text order.
 
-ghost use Rattle.std.specs.Prelude.{◌≡◌, ◌×◌, ◌++◌, ◌∷◌, [], flat_map, drop, get_or, false, IfOk, OnOk};
+ghost use Rattle.std.specs.Prelude.{◌≡◌, ◌++◌, ◌∷◌, [], flat_map, drop, get_or, false, IfOk, OnOk};
 ghost use Rattle.trace_print.specs.Components.{components_of, module_declared, stmt_declared, arm_declared};
 
 use crate::component::Component;
@@ -25,7 +25,8 @@ pub fn components(alloc: Global, checked: &Checked) -> Result<Vec<Component>, Al
 
 /// The first flag, which is false where there is none, and those behind it.
 fn take_flag(flags: &[bool]) -> (bool, &[bool])
-    ensures { (result.0 ≡ get_or flags.now 0 false) × (result.1.now ≡ drop 1 flags.now) }
+    ensures first { result.0 ≡ get_or flags.now 0 false }
+    ensures rest { result.1.now ≡ drop 1 flags.now }
 {
     match flags {
         [first, others @ ..] => (*first, others),
@@ -38,7 +39,7 @@ fn push_module(
     module: &Module,
     reached: bool,
 ) -> Result<(), AllocError>
-    ensures { OnOk result (all.new.items ≡ all.old.items ++ module_declared module.now reached) }
+    ensures { OnOk result (all.new.items ≡ all.old.items ++ module_declared «module».now reached) }
 {
     for port in module.ports.as_slice() {
         push(all, module.name, port.name, reached)?;
@@ -59,7 +60,8 @@ fn push(
         holder: holder.id,
         name: name.id,
         listed,
-    })
+    })?;
+    Ok(())
 }
 
 #[cycle(walk)]
