@@ -36,15 +36,15 @@ fn take_flag(flags: &[bool]) -> (bool, &[bool])
 
 fn push_module(
     all: &mut Vec<Component>,
-    module: &Module,
+    holder: &Module,
     reached: bool,
 ) -> Result<(), AllocError>
-    ensures { OnOk result (all.new.items ≡ all.old.items ++ module_declared «module».now reached) }
+    ensures { OnOk result (all.new.items ≡ all.old.items ++ module_declared holder.now reached) }
 {
-    for port in module.ports.as_slice() {
-        push(all, module.name, port.name, reached)?;
+    for port in holder.ports.as_slice() {
+        push(all, holder.name, port.name, reached)?;
     }
-    push_statements(all, module.name, reached, module.body.as_slice())
+    push_statements(all, holder.name, reached, holder.body.as_slice())
 }
 
 /// Adds a declaration.
