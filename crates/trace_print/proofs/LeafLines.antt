@@ -1,16 +1,15 @@
 -- The lines of leaves behind a front that grows by the steps to them.
-use Rattle.std.proofs.Common.{◌≡◌, ℕ, zero, suc, ◌+◌, ◌<◌, Bool, false, List, [], ◌∷◌, ◌++◌, map, length, take, get_or, Option, None, refl, sym, ap, ap₂, ◌∙◌, subst, arith, append_assoc, add-one}
+use Rattle.std.proofs.Common.{◌≡◌, ℕ, zero, suc, ◌+◌, ◌<◌, Bool, false, List, [], ◌∷◌, ◌++◌, map, length, take, get_or, None, refl, sym, ap, ap₂, ◌∙◌, subst, arith, append_assoc, add-one, decimal}
 use Rattle.std.specs.List.{flat_map, slice_get}
 use Rattle.std.proofs.lemmas.Grind.{common_steps, flat_map-append}
 use Rattle.std.proofs.lemmas.List.{take_more}
-use Rattle.fir_types.specs.declared.fir_type.FirType.{FirType}
+use Rattle.std.proofs.Math.Seq.{take-append_seam}
 use Rattle.fir_types.specs.declared.fir_type.Field.{Field}
 use Rattle.fir_types.specs.declared.leaf.TypeLeaf.{TypeLeaf}
 use Rattle.fir_types.specs.declared.leaf.PathStep.{PathStep}
 use Rattle.fir_types.specs.declared.leaf.PathStep.TheVariants as step
-use Rattle.fir_types.specs.Leaves.{leaves, count, field_leaves, elements, under}
+use Rattle.fir_types.specs.Leaves.{leaves, field_leaves, elements, under}
 use Rattle.fir_types.proofs.Layers.{leaves-field}
-use Rattle.fir_types.proofs.Walks.{no_leaves}
 use Rattle.trace_print.specs.Listing.{Texts, text_of, step_text, shape_line, leaf_line}
 
 -- a name without a text
@@ -58,3 +57,21 @@ fields_more texts fs i f front way start text after l q h w a =
 pub no_elements : (ls : List TypeLeaf) (n : ℕ) → ls ≡ [] → elements ls n ≡ []
 no_elements ls zero e = refl
 no_elements ls (suc n) e = ap₂ (λ xs ys. xs ++ map (under (step.Element n ∷ []) false) ys) (no_elements ls n e) e
+
+-- the front with an element's number
+pub at_element : (front walked opened digits numbered way : List ℕ) (i : ℕ) → walked ≡ front → opened ≡ walked ++ 91 ∷ [] → numbered ≡ opened ++ digits → digits ≡ decimal i → way ≡ numbered ++ 93 ∷ []
+    → way ≡ front ++ (91 ∷ [] ++ decimal i ++ 93 ∷ [])
+at_element front walked opened digits numbered way i w o n d e =
+    let a = append_assoc front (91 ∷ []) (decimal i) in
+    let b = append_assoc front (91 ∷ [] ++ decimal i) (93 ∷ []) in
+    cc
+
+-- the front with a field's name
+pub at_field : (front walked dotted name way : List ℕ) → walked ≡ front → dotted ≡ walked ++ 46 ∷ [] → way ≡ dotted ++ name → way ≡ front ++ (46 ∷ [] ++ name)
+at_field front walked dotted name way w d e =
+    let a = append_assoc front (46 ∷ []) name in
+    cc
+
+-- the front cut back
+pub cut_back : (front more way walked cut : List ℕ) (n : ℕ) → way ≡ front ++ more → walked ≡ way → n ≡ length front → cut ≡ take n walked → cut ≡ front
+cut_back front more way walked cut n e w l c = c ∙ ap₂ take l (w ∙ e) ∙ take-append_seam front more
