@@ -34,11 +34,7 @@ fn take_flag(flags: &[bool]) -> (bool, &[bool])
     }
 }
 
-fn push_module(
-    all: &mut Vec<Component>,
-    holder: &Module,
-    reached: bool,
-) -> Result<(), AllocError>
+fn push_module(all: &mut Vec<Component>, holder: &Module, reached: bool) -> Result<(), AllocError>
     ensures { OnOk result (all.new.items ≡ all.old.items ++ module_declared holder.now reached) }
 {
     for port in holder.ports.as_slice() {
@@ -48,12 +44,7 @@ fn push_module(
 }
 
 /// Adds a declaration.
-fn push(
-    all: &mut Vec<Component>,
-    holder: Name,
-    name: Name,
-    listed: bool,
-) -> Result<(), AllocError>
+fn push(all: &mut Vec<Component>, holder: Name, name: Name, listed: bool) -> Result<(), AllocError>
     ensures { OnOk result (all.new.items ≡ all.old.items ++ record { holder = holder.id; name = name.id; listed = listed } ∷ []) }
 {
     all.push(Component {

@@ -25,7 +25,7 @@ push_element_lines-loop-index-preserved t c =
     record {
       text = elements_more c.args.names.now (leaves c.args.element.now) c.loop-index.index c.args.front.now.items c.push-in-loop-index.new.self.items c.args.text.now.items c.loop-index.text.items
           c.push_lines.new.text.items c.loop-index.invariant.text way c.in_ok-push_lines.ensures.text;
-      front = cut_back c.args.front.now.items _ c.push-in-loop-index.new.self.items c.push_lines.new.front.items c.truncate.new.self.items c.len-length.result way c.in_ok-push_lines.ensures.front
+      front = cut_back c.args.front.now.items _ c.push-in-loop-index.new.self.items c.push_lines.new.front.items c.truncate.new.self.items c.len-before.result way c.in_ok-push_lines.ensures.front
           (grind (arith, common_steps)) c.truncate.ensures.items;
     }
 

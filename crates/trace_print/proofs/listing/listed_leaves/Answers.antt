@@ -1,4 +1,4 @@
-use Rattle.std.proofs.Common.{◌≡◌, ℕ, ◌-◌, ◌^◌, min, sum, map, true, false, sym, ap, ◌∙◌, arith}
+use Rattle.std.proofs.Common.{◌≡◌, ℕ, ◌-◌, ◌^◌, min, sum, map, ap, ◌∙◌}
 use Rattle.std.specs.Iterator.Adapters.{zip_first, zip_second}
 use Rattle.std.specs.Slice.Iter.{iter_rest}
 use Rattle.std.proofs.lemmas.Slice.Zip.{zip_turn, zip_end}
@@ -13,17 +13,6 @@ use Rattle.trace_print.proofs.listing.listed_leaves.Goals as goal
 abbrev leaves_of : Component × FirType → ℕ
 leaves_of one = leaves_where one.0.listed (count one.1)
 
-pub loop-component-preserved-then-component : goal.loop-component-preserved-then-component
-loop-component-preserved-then-component c =
-    let all = components_of c.args.fitted.now.checked.circuit.modules c.args.fitted.now.checked.scope.reached in
-    let first = ap (λ s. iter_rest (zip_first s)) c.into_iter-component-iterator.ensures.into_iter_gives ∙ ap iter_rest c.zip-component-items.ensures.first ∙ c.iter.ensures.rest ∙ c.deref.ensures.value ∙ c.in_ok-all.ensures in
-    let second = ap (λ s. iter_rest (zip_second s)) c.into_iter-component-iterator.ensures.into_iter_gives ∙ c.zip-component-items.ensures.second.0 ∙ c.as_slice.ensures in
-    let z = zip_turn all c.args.fitted.now.declared c.loop-component.yielded c.into_iter-component-iterator.result c.loop-component.component-iterator c.next.new.self c.next.result
-    first second c.loop-component.yielded_by (c.in-Some.component, c.in-Some.typ) c.in-Some.is c.next.ensures.steps in
-    total_more leaves_of all c.args.fitted.now.declared c.loop-component.yielded (c.in-Some.component, c.in-Some.typ) c.in-Some.component.now c.in-Some.typ.now
-    _ c.loop-component.total c.leaf_count.result c.saturating_add-total.result z.0 z.1 z.2 z.3 c.loop-component.invariant
-    (c.leaf_count.ensures ∙ ap (λ b. min (leaves_where b (count c.in-Some.typ.now)) _) (sym c.if-component.true)) c.saturating_add-total.ensures
-
 pub loop-component-preserved : goal.loop-component-preserved
 loop-component-preserved c =
     let all = components_of c.args.fitted.now.checked.circuit.modules c.args.fitted.now.checked.scope.reached in
@@ -31,9 +20,8 @@ loop-component-preserved c =
     let second = ap (λ s. iter_rest (zip_second s)) c.into_iter-component-iterator.ensures.into_iter_gives ∙ c.zip-component-items.ensures.second.0 ∙ c.as_slice.ensures in
     let z = zip_turn all c.args.fitted.now.declared c.loop-component.yielded c.into_iter-component-iterator.result c.loop-component.component-iterator c.next.new.self c.next.result
     first second c.loop-component.yielded_by (c.in-Some.component, c.in-Some.typ) c.in-Some.is c.next.ensures.steps in
-    let none : leaves_of (c.in-Some.component.now, c.in-Some.typ.now) ≡ 0 = ap (λ b. leaves_where b (count c.in-Some.typ.now)) c.if-component.false in
     total_more leaves_of all c.args.fitted.now.declared c.loop-component.yielded (c.in-Some.component, c.in-Some.typ) c.in-Some.component.now c.in-Some.typ.now
-    _ c.loop-component.total 0 c.loop-component.total z.0 z.1 z.2 z.3 c.loop-component.invariant (omega (arith, none)) (omega (arith, c.loop-component.invariant))
+    _ c.loop-component.total c.counted.result c.saturating_add-total.result z.0 z.1 z.2 z.3 c.loop-component.invariant c.counted.ensures c.saturating_add-total.ensures
 
 pub returns : goal.returns
 returns c =
