@@ -1,6 +1,6 @@
 //! The lines of a type's leaves.
 
-ghost use Rattle.std.specs.Prelude.{◌≡◌, ◌++◌, flat_map, map, decimal, codes, OnOk};
+ghost use Rattle.std.specs.Prelude.{◌≡◌, ◌++◌, flat_map, OnOk};
 ghost use Rattle.fir_types.specs.Leaves.{leaves, field_leaves, elements};
 ghost use Rattle.trace_print.specs.Listing.{leaf_line, width_line};
 
@@ -88,14 +88,14 @@ fn push_element_lines(
     ensures text { OnOk result (text.new.items ≡ text.old.items ++ flat_map (leaf_line names.now front.old.items) (elements (leaves element.now) count)) }
     ensures front { OnOk result (front.new.items ≡ front.old.items) }
 {
-    let length = front.len();
+    let before = front.len();
     for index in 0..count {
         let mut digits = Buffer::new();
         front.push(b'[')?;
         front.extend_from_slice(digits.format(index).as_bytes())?;
         front.push(b']')?;
         push_lines(text, front, names, element)?;
-        front.truncate(length);
+        front.truncate(before);
     }
     Ok(())
 }

@@ -3,13 +3,13 @@
 #![tactic(auto)]
 
 pub mod component;
-pub mod components;
+pub mod declarations;
 mod leaf_lines;
 mod listing;
 mod trace;
 
 pub use component::Component;
-pub use components::components;
+pub use declarations::components;
 pub use listing::{listed_leaves, widths_text};
 pub use trace::{header, trace_line};
 

@@ -1,10 +1,11 @@
 //! The listing of a circuit's widths.
 
-ghost use Rattle.std.specs.Prelude.{◌≡◌, ◌++◌, ◌-◌, ◌^◌, flat_map, min, sum, codes, zip, map, IfOk, OnOk};
-ghost use Rattle.trace_print.specs.Listing.{text_of, component_lines, listing_of, leaves_listed};
+ghost use Rattle.std.specs.Prelude.{◌≡◌, ◌++◌, ◌-◌, ◌^◌, min, IfOk, OnOk};
+ghost use Rattle.fir_types.specs.Leaves.{count};
+ghost use Rattle.trace_print.specs.Listing.{text_of, component_lines, listing_of, leaves_where, leaves_listed};
 
 use crate::component::Component;
-use crate::components::components;
+use crate::declarations::components;
 use crate::leaf_lines::push_lines;
 use fir_tree::{Fitted, Names};
 use fir_types::{FirType, leaf_count};
@@ -62,9 +63,14 @@ pub fn listed_leaves(alloc: Global, fitted: &Fitted) -> Result<u128, AllocError>
     let all = components(alloc, &fitted.checked)?;
     let mut total: u128 = 0;
     for (component, typ) in all.iter().zip(fitted.declared.as_slice()) {
-        if component.listed {
-            total = total.saturating_add(leaf_count(typ));
-        }
+        total = total.saturating_add(counted(*component, typ));
     }
     Ok(total)
+}
+
+/// How many leaves a declaration has, where it is listed.
+fn counted(component: Component, typ: &FirType) -> u128
+    ensures { result ≡ min (leaves_where component.listed (count typ.now)) (2 ^ 128 - 1) }
+{
+    if component.listed { leaf_count(typ) } else { 0 }
 }

@@ -1,6 +1,6 @@
 //! The lines of a trace.
 
-ghost use Rattle.std.specs.Prelude.{◌≡◌, ◌++◌, IfOk};
+ghost use Rattle.std.specs.Prelude.{◌≡◌, IfOk};
 ghost use Rattle.trace_print.specs.Trace.{header_of, trace_line_of};
 
 use bit_words::{List, Row, Text, push_decimal};

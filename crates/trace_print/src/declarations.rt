@@ -1,6 +1,6 @@
 //! The declarations of a circuit in text order.
 
-ghost use Rattle.std.specs.Prelude.{◌≡◌, ◌×◌, ◌++◌, ◌∷◌, [], flat_map, drop, get_or, false, IfOk, OnOk};
+ghost use Rattle.std.specs.Prelude.{◌≡◌, ◌++◌, ◌∷◌, [], flat_map, drop, get_or, false, IfOk, OnOk};
 ghost use Rattle.trace_print.specs.Components.{components_of, module_declared, stmt_declared, arm_declared};
 
 use crate::component::Component;
@@ -25,7 +25,8 @@ pub fn components(alloc: Global, checked: &Checked) -> Result<Vec<Component>, Al
 
 /// The first flag, which is false where there is none, and those behind it.
 fn take_flag(flags: &[bool]) -> (bool, &[bool])
-    ensures { (result.0 ≡ get_or flags.now 0 false) × (result.1.now ≡ drop 1 flags.now) }
+    ensures first { result.0 ≡ get_or flags.now 0 false }
+    ensures rest { result.1.now ≡ drop 1 flags.now }
 {
     match flags {
         [first, others @ ..] => (*first, others),
@@ -33,33 +34,25 @@ fn take_flag(flags: &[bool]) -> (bool, &[bool])
     }
 }
 
-fn push_module(
-    all: &mut Vec<Component>,
-    module: &Module,
-    reached: bool,
-) -> Result<(), AllocError>
-    ensures { OnOk result (all.new.items ≡ all.old.items ++ module_declared module.now reached) }
+fn push_module(all: &mut Vec<Component>, holder: &Module, reached: bool) -> Result<(), AllocError>
+    ensures { OnOk result (all.new.items ≡ all.old.items ++ module_declared holder.now reached) }
 {
-    for port in module.ports.as_slice() {
-        push(all, module.name, port.name, reached)?;
+    for port in holder.ports.as_slice() {
+        push(all, holder.name, port.name, reached)?;
     }
-    push_statements(all, module.name, reached, module.body.as_slice())
+    push_statements(all, holder.name, reached, holder.body.as_slice())
 }
 
 /// Adds a declaration.
-fn push(
-    all: &mut Vec<Component>,
-    holder: Name,
-    name: Name,
-    listed: bool,
-) -> Result<(), AllocError>
+fn push(all: &mut Vec<Component>, holder: Name, name: Name, listed: bool) -> Result<(), AllocError>
     ensures { OnOk result (all.new.items ≡ all.old.items ++ record { holder = holder.id; name = name.id; listed = listed } ∷ []) }
 {
     all.push(Component {
         holder: holder.id,
         name: name.id,
         listed,
-    })
+    })?;
+    Ok(())
 }
 
 #[cycle(walk)]

@@ -1,0 +1,76 @@
+-- The lines of leaves behind a front that grows by the steps to them.
+use Rattle.std.proofs.Common.{◌≡◌, ℕ, zero, suc, ◌+◌, ◌<◌, Bool, false, List, [], ◌∷◌, ◌++◌, map, length, take, get_or, None, refl, sym, ap, ap₂, ◌∙◌, subst, arith, append_assoc, add-one, decimal}
+use Rattle.std.specs.List.{flat_map, slice_get}
+use Rattle.std.proofs.lemmas.Grind.{common_steps, flat_map-append}
+use Rattle.std.proofs.Math.Seq.{take-append_seam}
+use Rattle.fir_types.specs.declared.fir_type.Field.{Field}
+use Rattle.fir_types.specs.declared.leaf.TypeLeaf.{TypeLeaf}
+use Rattle.fir_types.specs.declared.leaf.PathStep.{PathStep}
+use Rattle.fir_types.specs.declared.leaf.PathStep.TheVariants as step
+use Rattle.fir_types.specs.Leaves.{leaves, field_leaves, elements, under}
+use Rattle.fir_types.proofs.Layers.{leaves-field}
+use Rattle.trace_print.specs.Listing.{Texts, text_of, step_text, shape_line, leaf_line}
+
+-- a name without a text
+pub no_text : (texts : Texts) (id : ℕ) → slice_get texts id ≡ None → text_of texts id ≡ []
+no_text [] id h = refl
+no_text (t ∷ ts) zero h = absurd cc
+no_text (t ∷ ts) (suc id) h = no_text ts id h
+
+step_line : (texts : Texts) (front : List ℕ) (s : PathStep) (flip : Bool) (leaf : TypeLeaf) → leaf_line texts front (under (s ∷ []) flip leaf) ≡ leaf_line texts (front ++ step_text texts s) leaf
+step_line texts front s flip leaf = ap (λ way. shape_line way leaf.typ.shape) (sym (append_assoc front (step_text texts s) (flat_map (step_text texts) leaf.path)))
+
+-- the lines of the leaves behind a step
+step_lines : (texts : Texts) (front : List ℕ) (s : PathStep) (flip : Bool) (ls : List TypeLeaf)
+    → flat_map (leaf_line texts front) (map (under (s ∷ []) flip) ls) ≡ flat_map (leaf_line texts (front ++ step_text texts s)) ls
+step_lines texts front s flip [] = refl
+step_lines texts front s flip (l ∷ ls) = ap₂ (λ line lines. line ++ lines) (step_line texts front s flip l) (step_lines texts front s flip ls)
+
+added : (texts : Texts) (front way : List ℕ) (s : PathStep) (flip : Bool) (ls before : List TypeLeaf) (start text after : List ℕ)
+    → text ≡ start ++ flat_map (leaf_line texts front) before → way ≡ front ++ step_text texts s → after ≡ text ++ flat_map (leaf_line texts way) ls
+    → after ≡ start ++ flat_map (leaf_line texts front) (before ++ map (under (s ∷ []) flip) ls)
+added texts front way s flip ls before start text after h w a =
+    let there = subst (λ x. after ≡ text ++ flat_map (leaf_line texts x) ls) w a in
+    let lines = step_lines texts front s flip ls in
+    let split = flat_map-append (leaf_line texts front) before (map (under (s ∷ []) flip) ls) in
+    let assoc = append_assoc start (flat_map (leaf_line texts front) before) (flat_map (leaf_line texts (front ++ step_text texts s)) ls) in
+    cc
+
+-- one element more
+pub elements_more : (texts : Texts) (ls : List TypeLeaf) (i : ℕ) (front way start text after : List ℕ)
+    → text ≡ start ++ flat_map (leaf_line texts front) (elements ls i) → way ≡ front ++ step_text texts (step.Element i) → after ≡ text ++ flat_map (leaf_line texts way) ls
+    → after ≡ start ++ flat_map (leaf_line texts front) (elements ls (i + 1))
+elements_more texts ls i front way start text after h w a = rw add-one (added texts front way (step.Element i) false ls (elements ls i) start text after h w a)
+
+-- one field more
+pub fields_more : (texts : Texts) (fs : List Field) (i : ℕ) (f : Field) (front way start text after : List ℕ) → i < length fs → f ≡ get_or fs i f
+    → text ≡ start ++ flat_map (leaf_line texts front) (flat_map field_leaves (take i fs)) → way ≡ front ++ step_text texts (step.Field f.name.id)
+    → after ≡ text ++ flat_map (leaf_line texts way) (leaves f.typ)
+    → after ≡ start ++ flat_map (leaf_line texts front) (flat_map field_leaves (take (i + 1) fs))
+fields_more texts fs i f front way start text after l q h w a =
+    let split : flat_map field_leaves (take (i + 1) fs) ≡ flat_map field_leaves (take i fs) ++ field_leaves f = grind (arith, common_steps) in
+    let whole = added texts front way (step.Field f.name.id) f.flip (leaves f.typ) (flat_map field_leaves (take i fs)) start text after h w a in
+    whole ∙ ap (λ x. start ++ flat_map (leaf_line texts front) x) (ap (λ x. flat_map field_leaves (take i fs) ++ x) (sym (leaves-field f)) ∙ sym split)
+
+-- an element without leaves
+pub no_elements : (ls : List TypeLeaf) (n : ℕ) → ls ≡ [] → elements ls n ≡ []
+no_elements ls zero e = refl
+no_elements ls (suc n) e = ap₂ (λ xs ys. xs ++ map (under (step.Element n ∷ []) false) ys) (no_elements ls n e) e
+
+-- the front with an element's number
+pub at_element : (front walked opened digits numbered way : List ℕ) (i : ℕ) → walked ≡ front → opened ≡ walked ++ 91 ∷ [] → numbered ≡ opened ++ digits → digits ≡ decimal i → way ≡ numbered ++ 93 ∷ []
+    → way ≡ front ++ (91 ∷ [] ++ decimal i ++ 93 ∷ [])
+at_element front walked opened digits numbered way i w o n d e =
+    let a = append_assoc front (91 ∷ []) (decimal i) in
+    let b = append_assoc front (91 ∷ [] ++ decimal i) (93 ∷ []) in
+    cc
+
+-- the front with a field's name
+pub at_field : (front walked dotted name way : List ℕ) → walked ≡ front → dotted ≡ walked ++ 46 ∷ [] → way ≡ dotted ++ name → way ≡ front ++ (46 ∷ [] ++ name)
+at_field front walked dotted name way w d e =
+    let a = append_assoc front (46 ∷ []) name in
+    cc
+
+-- the front cut back
+pub cut_back : (front more way walked cut : List ℕ) (n : ℕ) → way ≡ front ++ more → walked ≡ way → n ≡ length front → cut ≡ take n walked → cut ≡ front
+cut_back front more way walked cut n e w l c = c ∙ ap₂ take l (w ∙ e) ∙ take-append_seam front more

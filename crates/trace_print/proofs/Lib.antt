@@ -1,0 +1,4 @@
+pub mod Declared
+pub mod LeafLines
+pub mod Pairs
+pub mod Examples
