@@ -5,7 +5,7 @@ use Rattle.std.proofs.lemmas.Bool.{ltb-true, ltb-false}
 use Rattle.std.proofs.lemmas.List.{take_more, take_all}
 use Rattle.std.proofs.lemmas.Option.{slice_get_within, slice_get_read}
 use Rattle.fir_names.specs.declared.graph.Edge.{Edge}
-use Rattle.fir_names.specs.declared.fault.Found.{Found}
+use Rattle.fir_names.specs.Found.{Found}
 use Rattle.fir_names.specs.declared.fault.Kind.TheVariants.{InstanceLoop}
 use Rattle.fir_names.specs.Scopes.{In, here}
 use Rattle.fir_names.specs.Graphs.{Graph, IsGraph, Out, Leads, stays, goes, LoopsOf, LoopsBefore, Adds, Rises, ends}

@@ -6,7 +6,8 @@ use Rattle.place_text.specs.declared.place.Place.{Place}
 use Rattle.fir_names.specs.declared.fault.Kind.TheVariants as kind
 use Rattle.fir_names.specs.Extents.{Seen, Use, refer, declare, followed_by, all_marks, block_marks, uses_behind}
 use Rattle.fir_names.specs.Scopes.{here, Names, Instance, itself, through}
-use Rattle.fir_names.specs.Faults.{IsFault, instance_loop, IsNotLater, by_line, by_kind}
+use Rattle.fault_order.specs.Order.{IsNotLater, by_line, by_kind}
+use Rattle.fir_names.specs.Faults.{IsFault, instance_loop, rank}
 
 abbrev seeing : Name → List Seen → Use
 seeing name seen = record { name = name; seen = seen }
@@ -40,8 +41,8 @@ two_modules : (circuit : Circuit) (first second : Name) → Instance circuit 0 s
 two_modules circuit first second one other = instance_loop 0 1 second one (through 1 0 first itself other)
 
 -- A fault of a lower line is told first, whichever its kind; at one place the kind decides.
-lines_first : IsNotLater kind.NameUnknown (record { line = 1; column = 9 }) kind.NoMain (record { line = 2; column = 1 })
+lines_first : IsNotLater (record { line = 1; column = 9 }) (rank kind.NameUnknown) (record { line = 2; column = 1 }) (rank kind.NoMain)
 lines_first = by_line (omega arith)
 
-kinds_last : (p : Place) → IsNotLater kind.ModuleTwice p kind.ModuleUnknown p
+kinds_last : (p : Place) → IsNotLater p (rank kind.ModuleTwice) p (rank kind.ModuleUnknown)
 kinds_last p = by_kind refl refl (omega arith)

@@ -7,7 +7,7 @@ use Rattle.std.proofs.lemmas.List.Folds.{list_any-append}
 use Rattle.std.proofs.lemmas.Bool.{eqb-true}
 use Rattle.indexmap.specs.IndexSet.{insert_key}
 use Rattle.fir_types.specs.declared.name.Name.{Name}
-use Rattle.fir_names.specs.declared.fault.Found.{Found}
+use Rattle.fir_names.specs.Found.{Found}
 use Rattle.fir_names.specs.declared.fault.Kind.{Kind}
 use Rattle.fir_names.specs.Extents.{Seen}
 use Rattle.fir_names.specs.Scopes.{texts}

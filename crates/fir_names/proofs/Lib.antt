@@ -6,3 +6,4 @@ mod Meaning
 mod Ordering
 mod Walking
 mod Agreement
+mod Uniqueness

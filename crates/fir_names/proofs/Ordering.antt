@@ -1,31 +1,19 @@
--- The order of faults, and the earliest of a list.
-use Rattle.std.proofs.Common.{◌≡◌, ℕ, zero, suc, ◌+◌, ◌<◌, ◌≤◌, List, [], ◌∷◌, ◌++◌, length, take, get_or, refl, sym, ap, ap₂, ◌∙◌, subst, arith, ⊎_elim, Some, Option}
-use Rattle.std.specs.Prelude.{None}
+-- The order of kinds, and the answer for the earliest fault.
+use Rattle.std.proofs.Common.{◌≡◌, ℕ, zero, suc, ◌+◌, ◌<◌, ◌≤◌, List, [], ◌∷◌, ◌++◌, length, take, get_or, refl, sym, ap, ap₂, ◌∙◌, subst, arith, ⊎_elim, ◌⊎◌, inl, inr, Some, Option}
+use Rattle.std.specs.Prelude.{Contains, Result, Ok, Err, IfOk, IfErr, MatchResult}
 use Rattle.std.proofs.lemmas.List.{take_more}
 use Rattle.place_text.specs.declared.place.Place.{Place}
-use Rattle.fir_names.specs.declared.fault.Found.{Found}
+use Rattle.fir_names.specs.Found.{Found}
 use Rattle.fir_names.specs.declared.fault.Kind.{Kind}
 use Rattle.fir_names.specs.declared.fault.Kind.TheVariants as kind
-use Rattle.fir_names.specs.Scopes.{In, here}
-use Rattle.fir_names.specs.Faults.{IsNotLater, by_line, by_column, by_kind, rank, IsFault, IsFirst, IsFirstAnswer, answer}
+use Rattle.fir_names.specs.Scopes.{In, here, there, IsScope}
+use Rattle.fir_tree.specs.declared.scope.Scope.{Scope}
+use Rattle.fir_names.specs.declared.fault.NameFault.TheVariants.{NoMemory}
+use Rattle.fault_order.specs.Earliest.{IsEarliest}
+use Rattle.fault_order.proofs.Ordering.{same_fault}
+use Rattle.fir_names.specs.Faults.{rank, IsFault, IsFirst, IsFirstAnswer, answer}
 use Rattle.fir_names.specs.declared.fault.NameFault.{NameFault}
-use Rattle.fir_names.specs.Finds.{IsEarliest, Best, Earlier, only, stays, turns}
 use Rattle.fir_tree.specs.declared.circuit.Circuit.{Circuit}
-use Rattle.fir_names.proofs.Graphs.{In-left, In-right, In-either, In-one}
-
-pub later_trans : {k l m : Kind} {p q r : Place} → IsNotLater k p l q → IsNotLater l q m r → IsNotLater k p m r
-later_trans (by_line a) (by_line b) = by_line (omega (arith, a, b))
-later_trans (by_line a) (by_column b c) = by_line (omega (arith, a, b))
-later_trans (by_line a) (by_kind b c d) = by_line (omega (arith, a, b))
-later_trans (by_column a b) (by_line c) = by_line (omega (arith, a, c))
-later_trans (by_column a b) (by_column c d) = by_column (a ∙ c) (omega (arith, b, d))
-later_trans (by_column a b) (by_kind c d e) = by_column (a ∙ c) (omega (arith, b, d))
-later_trans (by_kind a b c) (by_line d) = by_line (omega (arith, a, d))
-later_trans (by_kind a b c) (by_column d e) = by_column (a ∙ d) (omega (arith, b, e))
-later_trans (by_kind a b c) (by_kind d e f) = by_kind (a ∙ d) (b ∙ e) (omega (arith, c, f))
-
-pub not_later_itself : (k : Kind) (p : Place) → IsNotLater k p k p
-not_later_itself k p = by_kind refl refl (omega arith)
 
 kind_of_rank : ℕ → Kind
 kind_of_rank zero = kind.NoMain
@@ -44,47 +32,47 @@ back kind.InstanceLoop = refl
 back kind.NameTwice = refl
 back kind.NameUnknown = refl
 
-same_rank : (k l : Kind) → rank k ≤ rank l → rank l ≤ rank k → k ≡ l
-same_rank k l h g = let e : rank k ≡ rank l = omega (arith, h, g) in sym (back k) ∙ ap kind_of_rank e ∙ back l
-
-pub same_fault : {k l : Kind} {p q : Place} → IsNotLater k p l q → IsNotLater l q k p → (k ≡ l) × (p ≡ q)
-same_fault (by_line a) (by_line b) = absurd (omega (arith, a, b))
-same_fault (by_line a) (by_column b c) = absurd (omega (arith, a, b))
-same_fault (by_line a) (by_kind b c d) = absurd (omega (arith, a, b))
-same_fault (by_column a b) (by_line c) = absurd (omega (arith, a, c))
-same_fault (by_column a b) (by_column c d) = absurd (omega (arith, b, d))
-same_fault (by_column a b) (by_kind c d e) = absurd (omega (arith, b, d))
-same_fault (by_kind a b c) (by_line d) = absurd (omega (arith, a, d))
-same_fault (by_kind a b c) (by_column d e) = absurd (omega (arith, b, e))
-same_fault {k} {l} {p} {q} (by_kind a b c) (by_kind d e f) = (same_rank k l c f, ap₂ (λ x y. record { line = x; column = y }) a b)
+same_rank : (k l : Kind) → rank k ≡ rank l → k ≡ l
+same_rank k l e = sym (back k) ∙ ap kind_of_rank e ∙ back l
 
 pub one_first : {circuit : Circuit} {k l : Kind} {p q : Place} → IsFirst circuit k p → IsFirst circuit l q → (k ≡ l) × (p ≡ q)
-one_first {k = k} {l = l} {p = p} {q = q} f g = same_fault (f.first l q g.is) (g.first k p f.is)
+one_first {k = k} {l = l} {p = p} {q = q} f g = let same = same_fault (f.first l q g.is) (g.first k p f.is) in (same_rank k l same.1, same.0)
 
-pub best_more : (faults : List Found) (i : ℕ) (d : Found) (best : Option Found) (f : Found) → i < length faults → Best (take i faults) best → Earlier best (get_or faults i d) f
-    → IsEarliest (take (i + 1) faults) f
-best_more faults i d best f lt b e = subst (λ l. IsEarliest l f) (sym (take_more faults i d lt)) (by best (get_or faults i d) f b e)
-  where
-    by : (best : Option Found) (x f : Found) → Best (take i faults) best → Earlier best x f → IsEarliest (take i faults ++ x ∷ []) f
-    by None x f b (only y) = record {
-      stands = In-right (take i faults) (here []);
-      first = λ o i'. let e : o ≡ x = In-one (subst (λ l. In o (l ++ x ∷ [])) b i') in subst (λ z. IsNotLater x.kind x.place z.kind z.place) (sym e) (not_later_itself x.kind x.place);
-    }
-    by (Some y) x f b (stays best' found h) = record {
-      stands = In-left b.stands (x ∷ []);
-      first = λ o i'. ⊎_elim (λ l. b.first o l) (λ r. subst (λ z. IsNotLater y.kind y.place z.kind z.place) (sym (In-one r)) h) (In-either (take i faults) (x ∷ []) i');
-    }
-    by (Some y) x f b (turns best' found h) = record {
-      stands = In-right (take i faults) (here []);
-      first = λ o i'. ⊎_elim (λ l. later_trans h (b.first o l)) (λ r. subst (λ z. IsNotLater x.kind x.place z.kind z.place) (sym (In-one r)) (not_later_itself x.kind x.place)) (In-either (take i faults) (x ∷ []) i');
-    }
+In-at : {X : Type 0} (xs : List X) (k : ℕ) (d : X) → k < length xs → In (get_or xs k d) xs
+In-at [] k d lt = absurd (omega (arith, lt))
+In-at (x ∷ xs) zero d lt = here xs
+In-at (x ∷ xs) (suc k) d lt = there x xs (In-at xs k d (omega (arith, lt)))
+
+from_contains : {X : Type 0} (xs : List X) (x : X) → Contains xs x → In x xs
+from_contains xs x h = subst (λ y. In y xs) h.2 (In-at xs h.0 x h.1)
+
+to_contains : {X : Type 0} (xs : List X) (x : X) → In x xs → Contains xs x
+to_contains [] x i = elim i [ ]
+to_contains (y ∷ ys) x (here rest) = (0, omega arith, refl)
+to_contains (y ∷ ys) x (there z rest i) = let h = to_contains ys x i in (suc h.0, omega (arith, h.1), h.2)
 
 -- the earliest of all faults is the first
-pub answered : (circuit : Circuit) (faults : List Found) (f : Found) (given : NameFault) → IsEarliest faults f → ((x : Found) → In x faults → IsFault circuit x.kind x.place)
+pub answered : (circuit : Circuit) (faults : List Found) (f : Found) (given : NameFault) → IsEarliest rank faults f → ((x : Found) → In x faults → IsFault circuit x.kind x.place)
     → ((k : Kind) (p : Place) → IsFault circuit k p → In (record { kind = k; place = p }) faults) → given ≡ answer f.kind f.place → IsFirstAnswer circuit given
 answered circuit faults f given e sound complete is = record {
   kind' = f.kind;
   place = f.place;
-  first = record { is = sound f e.stands; first = λ k p h. e.first (record { kind = k; place = p }) (complete k p h) };
+  first = record {
+    is = sound f (from_contains faults f e.stands);
+    first = λ k p h. (let other : Found = record { kind = k; place = p } in e.first other (to_contains faults other (complete k p h)));
+  };
   is = is;
 }
+
+pub accepts_from : (circuit : Circuit) (result : Result Scope NameFault) → IfOk result (IsScope circuit)
+    → IfErr result (λ fault. (fault ≡ NoMemory) ⊎ IsFirstAnswer circuit fault)
+    → ((k : Kind) (p : Place) → ¬ (IsFault circuit k p)) → MatchResult result (IsScope circuit) (λ fault. fault ≡ NoMemory)
+accepts_from circuit (Ok scope) ok err none = ok
+accepts_from circuit (Err fault) ok err none = ⊎_elim (λ e. e) (λ f. absurd (none f.kind' f.place f.first.is)) err
+
+pub refuses_from : (circuit : Circuit) (result : Result Scope NameFault) → IfOk result (λ scope. (k : Kind) (p : Place) → ¬ (IsFault circuit k p))
+    → IfErr result (λ fault. (fault ≡ NoMemory) ⊎ IsFirstAnswer circuit fault)
+    → (k : Kind) (p : Place) → IsFirst circuit k p → MatchResult result (λ scope. ⊥) (λ fault. (fault ≡ NoMemory) ⊎ (fault ≡ answer k p))
+refuses_from circuit (Ok scope) none err k p first = none k p first.is
+refuses_from circuit (Err fault) none err k p first =
+    ⊎_elim (λ e. inl e) (λ f. (let same = one_first f.first first in inr (f.is ∙ ap₂ answer same.0 same.1))) err

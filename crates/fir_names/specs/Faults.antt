@@ -1,7 +1,8 @@
 -- The faults of a circuit's names, and which is the first (FIRRTL specification 3.0, "Circuits and Modules", "Instances", "Namespaces",
 -- "Scoping").
-use Rattle.std.specs.Prelude.{◌≡◌, ℕ, ◌<◌, ◌≤◌, List, ◌∷◌, ◌++◌}
+use Rattle.std.specs.Prelude.{◌≡◌, ℕ, List, ◌∷◌, ◌++◌}
 use Rattle.place_text.specs.declared.place.Place.{Place}
+use Rattle.fault_order.specs.Order.{IsNotLater}
 use Rattle.fir_types.specs.declared.name.Name.{Name}
 use Rattle.fir_tree.specs.declared.circuit.Circuit.{Circuit}
 use Rattle.fir_tree.specs.declared.circuit.Module.{Module}
@@ -38,16 +39,10 @@ rank kind.InstanceLoop = 3
 rank kind.NameTwice = 4
 rank kind.NameUnknown = 5
 
--- a fault is told before another one: by line, then by column, and at one place by kind; or both are the same
-pub data IsNotLater (kind' : Kind) (place : Place) (other : Kind) (there' : Place) : Type 0 where
-  by_line : place.line < there'.line → IsNotLater kind' place other there'
-  by_column : place.line ≡ there'.line → place.column < there'.column → IsNotLater kind' place other there'
-  by_kind : place.line ≡ there'.line → place.column ≡ there'.column → rank kind' ≤ rank other → IsNotLater kind' place other there'
-
 -- the fault that is told: no other one comes before it
 pub record IsFirst (circuit : Circuit) (kind' : Kind) (place : Place) : Type 0 where
   pub is : IsFault circuit kind' place
-  pub first : (other : Kind) (there' : Place) → IsFault circuit other there' → IsNotLater kind' place other there'
+  pub first : (other : Kind) (there' : Place) → IsFault circuit other there' → IsNotLater place (rank kind') there' (rank other)
 
 -- what is answered for a fault
 abbrev pub answer : Kind → Place → NameFault

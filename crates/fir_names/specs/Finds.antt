@@ -5,12 +5,11 @@ use Rattle.place_text.specs.declared.place.Place.{Place}
 use Rattle.fir_types.specs.declared.name.Name.{Name}
 use Rattle.fir_tree.specs.declared.circuit.Circuit.{Circuit}
 use Rattle.fir_tree.specs.declared.circuit.Module.{Module}
-use Rattle.fir_names.specs.declared.fault.Found.{Found}
+use Rattle.fir_names.specs.Found.{Found}
 use Rattle.fir_names.specs.declared.fault.Kind.{Kind}
 use Rattle.fir_names.specs.declared.fault.Kind.TheVariants.{NoMain, ModuleTwice, ModuleUnknown, NameTwice}
 use Rattle.fir_names.specs.declared.graph.Edge.{Edge}
 use Rattle.fir_names.specs.declared.gather.Gathered.{Gathered}
-use Rattle.fir_names.specs.Faults.{IsNotLater}
 use Rattle.fir_names.specs.Graphs.{LoopsBefore, Adds}
 use Rattle.fir_names.specs.Extents.{Seen, declared_in, instances_in, uses_in}
 use Rattle.fir_names.specs.Scopes.{In, texts, module_names}
@@ -68,18 +67,3 @@ pub record IsFound (circuit : Circuit) (main : ℕ) (found : Gathered) : Type 0 
   pub targets : found.targets.items ≡ map (number_in (known_of circuit)) (flat_map instances_in circuit.modules)
   pub graph : found.graph.items ≡ map (edges_of (known_of circuit)) circuit.modules
   pub faults : Adds (LoopsBefore found.graph.items (length found.graph.items)) (faults_in circuit) found.faults.items
-
--- the fault of a list that is told
-pub record IsEarliest (faults : List Found) (found : Found) : Type 0 where
-  pub stands : In found faults
-  pub first : (other : Found) → In other faults → IsNotLater found.kind found.place other.kind other.place
-
-abbrev pub Best : List Found → Option Found → Type 0
-Best faults (Some found) = IsEarliest faults found
-Best faults None = faults ≡ []
-
--- the earlier of two faults, or the only one
-pub data Earlier : Option Found → Found → Found → Type 0 where
-  only : (found : Found) → Earlier None found found
-  stays : (best found : Found) → IsNotLater best.kind best.place found.kind found.place → Earlier (Some best) found best
-  turns : (best found : Found) → IsNotLater found.kind found.place best.kind best.place → Earlier (Some best) found found

@@ -1,7 +1,7 @@
 -- Modules and the instances between them as a graph: for each module the edges that go out from it.
 use Rattle.std.specs.Prelude.{◌≡◌, ℕ, ◌+◌, ◌<◌, Bool, true, false, ◌⊎◌, ◌↔◌, List, [], ◌∷◌, ◌++◌, map, length, slice_get, slice_index, Some}
 use Rattle.fir_names.specs.declared.graph.Edge.{Edge}
-use Rattle.fir_names.specs.declared.fault.Found.{Found}
+use Rattle.fir_names.specs.Found.{Found}
 use Rattle.fir_names.specs.declared.fault.Kind.TheVariants.{InstanceLoop}
 use Rattle.fir_names.specs.Scopes.{In}
 

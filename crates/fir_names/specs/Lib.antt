@@ -5,3 +5,4 @@ pub mod Parts
 pub mod Scopes
 pub mod Faults
 pub mod Walks
+pub mod Found

@@ -5,7 +5,7 @@ use Rattle.std.specs.Map.{lookup}
 use Rattle.place_text.specs.declared.place.Place.{Place}
 use Rattle.fir_types.specs.declared.name.Name.{Name}
 use Rattle.fir_names.specs.declared.walk.Walk.{Walk}
-use Rattle.fir_names.specs.declared.fault.Found.{Found}
+use Rattle.fir_names.specs.Found.{Found}
 use Rattle.fir_names.specs.declared.fault.Kind.{Kind}
 use Rattle.fir_names.specs.declared.fault.Kind.TheVariants.{NameUnknown}
 use Rattle.fir_tree.specs.declared.circuit.Module.{Module}

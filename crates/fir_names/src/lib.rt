@@ -2,7 +2,7 @@
 //! the main one reaches. Keeps the contract that the answer is the scope of the circuit, or its first fault.
 #![tactic(auto)]
 
-mod earliest;
+mod answers;
 pub mod fault;
 mod gather;
 mod graph;

@@ -11,12 +11,13 @@ ghost use Rattle.fir_names.specs.Graphs.{IsGraph, Leads};
 ghost use Rattle.fir_names.specs.Walks.{number_in, fault_in};
 ghost use Rattle.fir_names.specs.Finds.{IsFound};
 
-use crate::earliest::{answer, earliest};
+use crate::answers::answer;
 use crate::fault::{Found, Kind, NameFault};
 use crate::gather::{Gathered, gather, numbers_of, push_twice};
 use crate::graph::reach;
 use crate::loops::push_loops;
 use bit_words::List;
+use fault_order::earliest;
 use fir_tree::{Circuit, Module, Scope};
 use fir_types::Name;
 use indexmap::IndexMap;

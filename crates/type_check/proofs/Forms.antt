@@ -11,7 +11,7 @@ use Rattle.prim_ops.specs.declared.operation.PrimOp.{PrimOp}
 use Rattle.fir_types.specs.declared.fir_type.FirType.{FirType}
 use Rattle.fir_tree.specs.declared.expr.Expr.{Expr, the_lemmas}
 use Rattle.fir_tree.specs.declared.expr.Form.TheVariants as form
-use Rattle.type_check.specs.declared.fault.Found.{Found}
+use Rattle.type_check.specs.Found.{Found}
 use Rattle.type_check.specs.declared.fault.Kind.TheVariants.{LiteralFit}
 use Rattle.type_check.specs.declared.found.Findings.{Findings}
 use Rattle.type_check.specs.declared.part.Part.{Part}

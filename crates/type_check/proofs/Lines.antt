@@ -2,7 +2,7 @@
 use Rattle.std.proofs.Common.{◌≡◌, ℕ, ◌+◌, ◌<◌, Bool, true, false, List, [], ◌∷◌, ◌++◌, length, take, get_or, refl, sym, ap, ap₂, ◌∙◌, append_assoc, append-nil, not, subst}
 use Rattle.std.proofs.lemmas.List.{take_more}
 use Rattle.fir_types.specs.declared.memory.MemLine.{MemLine}
-use Rattle.type_check.specs.declared.fault.Found.{Found}
+use Rattle.type_check.specs.Found.{Found}
 use Rattle.type_check.specs.declared.fault.Kind.TheVariants.{MemoryField}
 use Rattle.type_check.specs.declared.memory.Said.{Said}
 use Rattle.type_check.specs.Parts.{unless, when}

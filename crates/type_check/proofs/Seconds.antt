@@ -12,7 +12,7 @@ use Rattle.fir_types.specs.declared.fir_type.FirType.{FirType, the_lemmas}
 use Rattle.fir_types.specs.declared.fir_type.Shape.TheVariants as shape
 use Rattle.fir_types.specs.declared.fir_type.Field.{Field, fold-Field}
 use Rattle.fir_types.specs.declared.name.Name.{Name}
-use Rattle.type_check.specs.declared.fault.Found.{Found}
+use Rattle.type_check.specs.Found.{Found}
 use Rattle.type_check.specs.declared.fault.Kind.{Kind}
 use Rattle.type_check.specs.declared.fault.Kind.TheVariants.{FieldTwice}
 use Rattle.type_check.specs.Parts.{unless, when}

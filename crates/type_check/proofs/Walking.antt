@@ -2,7 +2,7 @@
 use Rattle.std.proofs.Common.{◌≡◌, ℕ, ◌+◌, List, [], ◌∷◌, ◌++◌, map, length, take, refl, sym, ap, ap₂, ◌∙◌, append_assoc, append-nil, get_or, ◌<◌, subst}
 use Rattle.std.proofs.lemmas.List.{map-append, take_more}
 use Rattle.type_check.specs.declared.walk.Walk.{Walk}
-use Rattle.type_check.specs.declared.fault.Found.{Found}
+use Rattle.type_check.specs.Found.{Found}
 use Rattle.type_check.specs.Parts.{Known}
 use Rattle.type_check.specs.Statements.{Walk as Steps, and_then, in_turn, notes}
 use Rattle.type_check.specs.Walks.{Walks}

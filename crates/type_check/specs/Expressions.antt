@@ -22,7 +22,7 @@ use Rattle.type_check.specs.declared.part.Flow.{Flow}
 use Rattle.type_check.specs.declared.part.Flow.TheVariants.{Source}
 use Rattle.type_check.specs.declared.part.Part.{Part}
 use Rattle.type_check.specs.declared.fault.Kind.TheVariants.{FieldUnknown, NotBundle, NotVector, IndexRange, IndexKind, OperandKind, NotEquivalent, ConditionKind, NotPassive, LiteralFit}
-use Rattle.type_check.specs.declared.fault.Found.{Found}
+use Rattle.type_check.specs.Found.{Found}
 use Rattle.type_check.specs.Parts.{Known, component, part_of, source_of, flow_through, unless, when, one_fault, typed_without}
 use Rattle.type_check.specs.Texts.{sign_of, is_unsigned, has_clock, is_passive, are_equivalent}
 

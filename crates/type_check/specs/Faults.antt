@@ -1,6 +1,7 @@
 -- The faults of a circuit's types, and which is the first (FIRRTL specification 3.0, "Types", "Connects", "Expressions").
-use Rattle.std.specs.Prelude.{◌≡◌, ℕ, ◌<◌, ◌≤◌, Contains}
+use Rattle.std.specs.Prelude.{◌≡◌, ℕ, Contains}
 use Rattle.place_text.specs.declared.place.Place.{Place}
+use Rattle.fault_order.specs.Order.{IsNotLater}
 use Rattle.fir_tree.specs.declared.circuit.Circuit.{Circuit}
 use Rattle.type_check.specs.declared.fault.Kind.{Kind}
 use Rattle.type_check.specs.declared.fault.Kind.TheVariants as kind
@@ -29,16 +30,10 @@ rank kind.NotPassive = 11
 rank kind.LiteralFit = 12
 rank kind.MemoryField = 13
 
--- a fault is told before another one: by line, then by column, and at one place by kind; or both are the same
-pub data IsNotLater (kind' : Kind) (place : Place) (other : Kind) (there' : Place) : Type 0 where
-  by_line : place.line < there'.line → IsNotLater kind' place other there'
-  by_column : place.line ≡ there'.line → place.column < there'.column → IsNotLater kind' place other there'
-  by_kind : place.line ≡ there'.line → place.column ≡ there'.column → rank kind' ≤ rank other → IsNotLater kind' place other there'
-
 -- the fault that is told: no other one comes before it
 pub record IsFirst (circuit : Circuit) (kind' : Kind) (place : Place) : Type 0 where
   pub is : IsFault circuit kind' place
-  pub first : (other : Kind) (there' : Place) → IsFault circuit other there' → IsNotLater kind' place other there'
+  pub first : (other : Kind) (there' : Place) → IsFault circuit other there' → IsNotLater place (rank kind') there' (rank other)
 
 -- what is answered for a fault
 abbrev pub answer : Kind → Place → TypeFault

@@ -8,8 +8,8 @@ pub mod Faults
 pub mod Flows
 pub mod Walks
 pub mod Judging
-pub mod Earliest
 pub mod Indexes
 pub mod Reached
 pub mod Declarations
 pub mod Counting
+pub mod Found

@@ -7,7 +7,7 @@ use Rattle.fir_types.specs.declared.memory.Memory.{Memory}
 use Rattle.fir_types.specs.declared.memory.MemLine.{MemLine}
 use Rattle.fir_types.specs.declared.memory.MemLine.TheVariants as line
 use Rattle.type_check.specs.declared.fault.Kind.TheVariants.{MemoryField}
-use Rattle.type_check.specs.declared.fault.Found.{Found}
+use Rattle.type_check.specs.Found.{Found}
 use Rattle.type_check.specs.Parts.{unless, when}
 use Rattle.type_check.specs.Texts.{stored_faults}
 

@@ -7,7 +7,7 @@ use Rattle.type_check.specs.declared.part.Flow.{Flow}
 use Rattle.type_check.specs.declared.part.Flow.TheVariants.{Source, Sink, Duplex}
 use Rattle.type_check.specs.declared.part.Part.{Part}
 use Rattle.type_check.specs.declared.fault.Kind.{Kind}
-use Rattle.type_check.specs.declared.fault.Found.{Found}
+use Rattle.type_check.specs.Found.{Found}
 
 -- A flip turns a source and a sink round; duplex stays.
 abbrev pub turned : Flow → Flow

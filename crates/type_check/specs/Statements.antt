@@ -16,7 +16,7 @@ use Rattle.type_check.specs.declared.part.Flow.{Flow}
 use Rattle.type_check.specs.declared.part.Flow.TheVariants.{Source, Sink, Duplex}
 use Rattle.type_check.specs.declared.part.Part.{Part}
 use Rattle.type_check.specs.declared.fault.Kind.TheVariants.{OperandKind, NotEquivalent, FlowSink, FlowSource, ConditionKind, NotPassive}
-use Rattle.type_check.specs.declared.fault.Found.{Found}
+use Rattle.type_check.specs.Found.{Found}
 use Rattle.type_check.specs.Parts.{Known, known_with, part_of, source_of, unless, when, where_typed}
 use Rattle.type_check.specs.Texts.{twice_in, stored_faults, is_unsigned, is_a_clock, is_passive, are_equivalent}
 use Rattle.type_check.specs.Expressions.{found_of}

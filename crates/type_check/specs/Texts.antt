@@ -13,7 +13,7 @@ use Rattle.fir_types.specs.declared.name.Name.{Name}
 use Rattle.fir_types.specs.Leaves.{leaves, is_clock}
 use Rattle.fir_types.specs.Passivity.{has_flip}
 use Rattle.type_check.specs.declared.fault.Kind.TheVariants.{FieldTwice, OperandKind, NotPassive}
-use Rattle.type_check.specs.declared.fault.Found.{Found}
+use Rattle.type_check.specs.Found.{Found}
 use Rattle.type_check.specs.Parts.{unless, when}
 
 -- The kind of an operand: a `UInt`, a `SInt`, and none for what is no number. `Reset` is `UInt<1>`.

@@ -8,12 +8,13 @@ ghost use Rattle.type_check.specs.declared.fault.TypeFault.TheVariants.{NoMemory
 ghost use Rattle.type_check.specs.Statements.{types_of, faults_of, module_walk};
 ghost use Rattle.type_check.specs.Faults.{IsFault, IsFirst, IsFirstAnswer, answer};
 
-use crate::earliest::{answer, earliest};
+use crate::answers::answer;
 use crate::fault::TypeFault;
 use crate::found::Findings;
 use crate::modules::Modules;
 use crate::walk::walk_module;
 use bit_words::List;
+use fault_order::earliest;
 use fir_tree::{Circuit, Module, Scope, Types};
 use std::alloc::{AllocError, Global};
 

@@ -2,12 +2,12 @@
 //! that the answer is the list of all types in text order, or the first fault.
 #![tactic(auto)]
 
+mod answers;
 mod checking;
 mod component;
 mod conditions;
 mod declaration;
 mod declarations;
-mod earliest;
 pub mod fault;
 mod flows;
 mod found;
