@@ -143,7 +143,7 @@ first_none n (x ∷ xs) t e i = by (nat_eq t x.id) refl e (λ h j. first_none (n
     by true same h rest = cc
     by false other h rest = ⊎_elim (λ l. eqb-false t x.id other (In-one l)) (λ r. rest h r) (In-either (x.id ∷ []) (texts xs) i)
 
-pub first_unique : {xs : List ℕ} {t i j : ℕ} → FirstOf xs t i → FirstOf xs t j → i ≡ j
+first_unique : {xs : List ℕ} {t i j : ℕ} → FirstOf xs t i → FirstOf xs t j → i ≡ j
 first_unique {xs} {t} {i} {j} f g = by (nat_lt i j) refl (nat_lt j i) refl
   where
     by : (b : Bool) → nat_lt i j ≡ b → (c : Bool) → nat_lt j i ≡ c → i ≡ j

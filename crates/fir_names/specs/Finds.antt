@@ -12,7 +12,7 @@ use Rattle.fir_names.specs.declared.graph.Edge.{Edge}
 use Rattle.fir_names.specs.declared.gather.Gathered.{Gathered}
 use Rattle.fir_names.specs.Graphs.{LoopsBefore, Adds}
 use Rattle.fir_names.specs.Extents.{Seen, declared_in, instances_in, uses_in}
-use Rattle.fir_names.specs.Scopes.{In, texts, module_names}
+use Rattle.fir_names.specs.Scopes.{texts, module_names}
 use Rattle.fir_names.specs.Walks.{kept_of, first_of, number_in, fault_in, number_of, fault_of}
 
 -- names with their numbers, from n on

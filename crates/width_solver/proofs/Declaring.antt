@@ -17,7 +17,7 @@ use Rattle.width_rules.specs.declared.slot.Slot.{Slot}
 use Rattle.width_rules.specs.Places.{spots, size, slots_from, open_spots, node_slots}
 use Rattle.width_rules.specs.Sources.{known_with}
 use Rattle.width_rules.specs.Circuits.{places_for, memory_slots}
-use Rattle.width_solver.specs.declared.fault.Found.{Found}
+use Rattle.width_solver.specs.Found.{Found}
 use Rattle.width_solver.specs.declared.fault.Kind.TheVariants.{WidthUnknown, WidthOver}
 use Rattle.width_solver.specs.declared.found.Findings.{Findings}
 use Rattle.width_solver.specs.declared.found.Surveyed.{Surveyed}

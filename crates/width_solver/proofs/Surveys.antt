@@ -26,7 +26,7 @@ use Rattle.type_check.specs.Parts.{source_of}
 use Rattle.type_check.specs.Expressions.{no_type, ground}
 use Rattle.width_rules.specs.Sources as sources
 use Rattle.width_rules.specs.Sources.{Known, Measured, named, component, measured_reference, literal_width, operation, choice}
-use Rattle.width_solver.specs.declared.fault.Found.{Found}
+use Rattle.width_solver.specs.Found.{Found}
 use Rattle.width_solver.specs.declared.found.Findings.{Findings}
 use Rattle.width_solver.specs.declared.found.Surveyed.{Surveyed}
 use Rattle.width_solver.specs.Filling.{filled}

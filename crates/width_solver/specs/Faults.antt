@@ -1,6 +1,7 @@
 -- The faults of a circuit's widths, and which is the first (FIRRTL specification 3.0, "Width Inference").
-use Rattle.std.specs.Prelude.{◌≡◌, ℕ, ◌<◌, ◌≤◌, List, Contains}
+use Rattle.std.specs.Prelude.{◌≡◌, ℕ, List, Contains}
 use Rattle.place_text.specs.declared.place.Place.{Place}
+use Rattle.fault_order.specs.Order.{IsNotLater}
 use Rattle.prim_ops.specs.declared.widths.Width.{Width}
 use Rattle.fir_tree.specs.declared.scope.Checked.{Checked}
 use Rattle.width_solver.specs.declared.fault.Kind.{Kind}
@@ -20,16 +21,10 @@ rank kind.WidthOver = 1
 rank kind.ParameterRange = 2
 rank kind.ConditionWidth = 3
 
--- a fault is told before another one: by line, then by column, and at one place by kind; or both are the same
-pub data IsNotLater (kind' : Kind) (place : Place) (other : Kind) (there' : Place) : Type 0 where
-  by_line : place.line < there'.line → IsNotLater kind' place other there'
-  by_column : place.line ≡ there'.line → place.column < there'.column → IsNotLater kind' place other there'
-  by_kind : place.line ≡ there'.line → place.column ≡ there'.column → rank kind' ≤ rank other → IsNotLater kind' place other there'
-
 -- the fault that is told: no other one comes before it
 pub record IsFirst (checked : Checked) (widths : List Width) (kind' : Kind) (place : Place) : Type 0 where
   pub is : IsFault checked widths kind' place
-  pub first : (other : Kind) (there' : Place) → IsFault checked widths other there' → IsNotLater kind' place other there'
+  pub first : (other : Kind) (there' : Place) → IsFault checked widths other there' → IsNotLater place (rank kind') there' (rank other)
 
 -- what is answered for a fault
 abbrev pub answer : Kind → Place → WidthFault

@@ -1,6 +1,6 @@
 -- The fitted types of a circuit and the faults of its widths (FIRRTL specification 3.0, "Width Inference", "Primitive Operations",
 -- "Conditionals"). Fitted types are told of all modules; faults only of those that the main module reaches.
-use Rattle.std.specs.Prelude.{ℕ, ◌+◌, ◌==◌, nat_eq, nat_le, not, ◌&&◌, Bool, true, false, List, [], ◌∷◌, ◌++◌, map, flat_map, length, zip, slice_index, drop, get_or, find, Option, Some, None}
+use Rattle.std.specs.Prelude.{ℕ, ◌+◌, nat_eq, nat_le, not, ◌&&◌, Bool, true, false, List, [], ◌∷◌, ◌++◌, map, flat_map, slice_index, drop, get_or, Option}
 use Rattle.std.specs.List.{list_any}
 use Rattle.place_text.specs.declared.place.Place.{Place}
 use Rattle.fir_types.specs.declared.fir_type.FirType.{FirType}
@@ -12,8 +12,6 @@ use Rattle.prim_ops.specs.declared.operation.PrimOp.{PrimOp}
 use Rattle.prim_ops.specs.declared.operation.PrimOp.TheVariants as op
 use Rattle.prim_ops.specs.declared.widths.Width.{Width}
 use Rattle.prim_ops.specs.declared.widths.Width.TheVariants.{Bits, Over}
-use Rattle.fir_tree.specs.declared.circuit.Circuit.{Circuit}
-use Rattle.fir_tree.specs.declared.circuit.Module.{Module}
 use Rattle.fir_tree.specs.declared.scope.Checked.{Checked}
 use Rattle.fir_tree.specs.declared.expr.Expr.{Expr, fold-Expr}
 use Rattle.fir_tree.specs.declared.expr.Suffix.{Suffix, fold-Suffix}
@@ -24,7 +22,6 @@ use Rattle.fir_tree.specs.declared.stmt.Stmt.TheOpen.{Stmt-F, Arm-F}
 use Rattle.width_rules.specs.declared.component.Component.{Component}
 use Rattle.width_rules.specs.declared.slot.Slot.{Slot}
 use Rattle.width_rules.specs.declared.slot.Slot.TheVariants as slot
-use Rattle.width_rules.specs.declared.rule.Formula.{Formula}
 use Rattle.width_rules.specs.declared.rule.Rule.{Rule}
 use Rattle.width_rules.specs.Formulas.{level, width_under}
 use Rattle.width_rules.specs.Places.{spots, size, slots_from, open_spots, node_slots}
@@ -40,7 +37,7 @@ use Rattle.width_rules.specs.Circuits.{WithPorts, modules_from, all_open, rules_
 use Rattle.width_rules.specs.Circuits.{declares as storage}
 use Rattle.width_solver.specs.declared.fault.Kind.{Kind}
 use Rattle.width_solver.specs.declared.fault.Kind.TheVariants.{WidthUnknown, WidthOver, ParameterRange, ConditionWidth}
-use Rattle.width_solver.specs.declared.fault.Found.{Found}
+use Rattle.width_solver.specs.Found.{Found}
 use Rattle.width_solver.specs.Filling.{filled}
 
 -- What is known of all widths: those of the variables, and the rules.

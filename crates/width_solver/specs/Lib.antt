@@ -5,7 +5,7 @@ pub mod Judging
 pub mod Faults
 pub mod Fitting
 pub mod Layers
-pub mod Earliest
 pub mod Surveys
 pub mod Marks
 pub mod Walks
+pub mod Found

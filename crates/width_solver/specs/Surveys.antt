@@ -19,7 +19,7 @@ use Rattle.type_check.specs.Flows.{no_part}
 use Rattle.width_rules.specs.declared.component.Component.{Component}
 use Rattle.width_rules.specs.Formulas.{level, wider}
 use Rattle.width_rules.specs.Sources.{Known, operation, choice, measured_reference, named, component}
-use Rattle.width_solver.specs.declared.fault.Found.{Found}
+use Rattle.width_solver.specs.Found.{Found}
 use Rattle.width_solver.specs.declared.fault.Kind.TheVariants.{WidthOver, ParameterRange, ConditionWidth}
 use Rattle.width_solver.specs.declared.found.Findings.{Findings}
 use Rattle.width_solver.specs.declared.found.Surveyed.{Surveyed}

@@ -6,7 +6,7 @@ use Rattle.fir_tree.specs.declared.stmt.Arm.{Arm, fold-Arm}
 use Rattle.fir_tree.specs.declared.stmt.Stmt.TheOpen.{Stmt-F}
 use Rattle.width_rules.specs.Sources.{Known, component, known_with}
 use Rattle.width_rules.specs.Circuits.{WithPorts, known_ports}
-use Rattle.width_solver.specs.declared.fault.Found.{Found}
+use Rattle.width_solver.specs.Found.{Found}
 use Rattle.width_solver.specs.declared.given.Given.{Given}
 use Rattle.width_solver.specs.declared.walk.Walk.{Walk}
 use Rattle.width_solver.specs.Filling.{filled}

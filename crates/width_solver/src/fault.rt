@@ -44,8 +44,4 @@ pub enum Kind {
 }
 
 /// A fault of a kind, at a place.
-#[derive(Clone, Copy, Debug, PartialEq, Eq)]
-pub struct Found {
-    pub kind: Kind,
-    pub place: Place,
-}
+pub type Found = fault_order::Found<Kind>;

@@ -1,7 +1,7 @@
 use super::*;
 use bit_words::List;
-use earliest::earliest;
 use fault::{Found, Kind};
+use fault_order::earliest;
 use fir_tree::{Checked, Circuit, Expr, Form, Module, Names, Scope, Stmt};
 use fir_types::{FirType, Name, Shape};
 use place_text::Place;

@@ -10,12 +10,13 @@ ghost use Rattle.width_solver.specs.Judging.{told_of};
 ghost use Rattle.width_solver.specs.Fitting.{IsFitted};
 ghost use Rattle.width_solver.specs.Faults.{IsFault, IsFirst, IsFirstAnswer, answer};
 
-use crate::earliest::{answer, earliest};
+use crate::answers::answer;
 use crate::fault::WidthFault;
 use crate::found::Findings;
 use crate::solving::Widths;
 use crate::telling::tell;
 use bit_words::List;
+use fault_order::earliest;
 use fir_tree::{Checked, Fitted};
 use std::alloc::Global;
 use width_rules::Rules;

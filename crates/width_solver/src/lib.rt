@@ -3,7 +3,7 @@
 //! the types with these widths, or the first fault.
 #![tactic(auto)]
 
-mod earliest;
+mod answers;
 pub mod fault;
 mod faults;
 mod filling;
