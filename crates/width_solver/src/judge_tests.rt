@@ -2,7 +2,7 @@ use super::*;
 use bit_words::List;
 use fault::{Found, Kind};
 use fault_order::earliest;
-use fir_tree::{Checked, Circuit, Expr, Form, Module, Names, Scope, Stmt};
+use fir_tree::{Checked, Circuit, Expr, Fitted, Form, Module, Names, Scope, Stmt};
 use fir_types::{FirType, Name, Shape};
 use place_text::Place;
 use prim_ops::{Prim, Width};
@@ -195,5 +195,53 @@ fn a_wire_and_its_reference_are_fitted(rt: HostRuntime) -> Result<(), Fail> {
     assert_eq!(rt; found.nodes.first().map(width_of), Some(Some(3)));
     assert_eq!(rt; found.nodes.len(), 2);
     assert_eq!(rt; found.faults.len(), 0);
+    Ok(())
+}
+
+/// What `judge` answers with the least widths that meet the rules of the circuit.
+fn judged(alloc: Global, checked: Checked) -> Result<Fitted, WidthFault> {
+    let rules = rules_of(alloc, &checked)?;
+    let widths = solve(alloc, &rules)?;
+    judge(alloc, checked, &rules, &widths)
+}
+
+/// The widths of the declarations, as far as they are unsigned.
+fn declared_widths(alloc: Global, fitted: &Fitted) -> Result<Vec<Option<u128>>, AllocError> {
+    let mut widths = Vec::new(alloc);
+    for typ in fitted.declared.as_slice() {
+        widths.push(width_of(typ))?;
+    }
+    Ok(widths)
+}
+
+#[test]
+fn the_least_widths_are_fitted(rt: HostRuntime) -> Result<(), Fail> {
+    let alloc = rt.alloc();
+    let body = vec![in alloc;
+        Stmt::Wire(name(A, 2), unsigned(None)),
+        Stmt::Wire(name(B, 3), unsigned(Some(3))),
+        Stmt::Connect(refer(alloc, A, 4), refer(alloc, B, 4)),
+    ]?;
+    let fitted = judged(alloc, circuit(alloc, body, true)?);
+    assert!(rt; fitted.is_ok());
+    if let Ok(fitted) = fitted {
+        let widths = declared_widths(alloc, &fitted)?;
+        assert_eq!(rt; widths.as_slice(), [Some(3), Some(3)].as_slice());
+        assert_eq!(rt; fitted.nodes.len(), 2);
+    }
+    Ok(())
+}
+
+#[test]
+fn the_first_fault_under_the_least_widths_is_told(rt: HostRuntime) -> Result<(), Fail> {
+    let alloc = rt.alloc();
+    let body = vec![in alloc;
+        Stmt::Wire(name(A, 2), unsigned(Some(4))),
+        Stmt::Node(name(B, 3), head(alloc, A, 5, 3)?),
+    ]?;
+    let answer = judged(alloc, circuit(alloc, body, true)?);
+    assert!(rt; matches!(answer, Err(WidthFault::ParameterRange(place)) if place == at(3)));
+    let answer = judged(alloc, of_129_bits(alloc, true)?);
+    assert!(rt; matches!(answer, Err(WidthFault::WidthOver(place)) if place == at(2)));
     Ok(())
 }
