@@ -15,18 +15,17 @@ use Rattle.type_check.specs.Judging.{together, operand_of}
 use Rattle.type_check.specs.Walks.{Adds}
 
 -- the same parts and lists
-same : {a b : Judgement} → a.part ≡ b.part → a.nodes ≡ b.nodes → a.flows ≡ b.flows → a.faults ≡ b.faults → a ≡ b
-same {a} {b} part nodes flows faults =
-    ap (λ p. record { part = p; nodes = a.nodes; flows = a.flows; faults = a.faults }) part
-    ∙ ap (λ l. record { part = b.part; nodes = l; flows = a.flows; faults = a.faults }) nodes
-    ∙ ap (λ l. record { part = b.part; nodes = b.nodes; flows = l; faults = a.faults }) flows
-    ∙ ap (λ l. record { part = b.part; nodes = b.nodes; flows = b.flows; faults = l }) faults
+same : {a b : Judgement} → a.part ≡ b.part → a.nodes ≡ b.nodes → a.faults ≡ b.faults → a ≡ b
+same {a} {b} part nodes faults =
+    ap (λ p. record { part = p; nodes = a.nodes; faults = a.faults }) part
+    ∙ ap (λ l. record { part = b.part; nodes = l; faults = a.faults }) nodes
+    ∙ ap (λ l. record { part = b.part; nodes = b.nodes; faults = l }) faults
 
 behind_assoc : (a b c : Judgement) → behind a (behind b c) ≡ behind (behind a b) c
-behind_assoc a b c = same refl (sym (append_assoc a.nodes b.nodes c.nodes)) (sym (append_assoc a.flows b.flows c.flows)) (sym (append_assoc a.faults b.faults c.faults))
+behind_assoc a b c = same refl (sym (append_assoc a.nodes b.nodes c.nodes)) (sym (append_assoc a.faults b.faults c.faults))
 
-behind_none : (a : Judgement) (part : Option Part) → a.part ≡ part → behind a (record { part = part; nodes = []; flows = []; faults = [] }) ≡ a
-behind_none a part is = same (sym is) (append-nil a.nodes) (append-nil a.flows) (append-nil a.faults)
+behind_none : (a : Judgement) (part : Option Part) → a.part ≡ part → behind a (record { part = part; nodes = []; faults = [] }) ≡ a
+behind_none a part is = same (sym is) (append-nil a.nodes) (append-nil a.faults)
 
 pub adds_behind : {a b : Judgement} {old between new : Findings} → Adds a old between → Adds b between new → Adds (behind a b) old new
 adds_behind {a} {b} {old} h k = record {

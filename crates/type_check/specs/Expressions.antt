@@ -18,28 +18,25 @@ use Rattle.prim_ops.specs.Kinds.{row_kind}
 use Rattle.fir_tree.specs.declared.expr.Expr.{Expr, fold-Expr}
 use Rattle.fir_tree.specs.declared.expr.Suffix.{Suffix, fold-Suffix}
 use Rattle.fir_tree.specs.declared.expr.Form.TheOpen.{Form-F, Suffix-F, Expr-F}
-use Rattle.type_check.specs.declared.part.Flow.{Flow}
-use Rattle.type_check.specs.declared.part.Flow.TheVariants.{Source}
 use Rattle.type_check.specs.declared.part.Part.{Part}
 use Rattle.type_check.specs.declared.fault.Kind.TheVariants.{FieldUnknown, NotBundle, NotVector, IndexRange, IndexKind, OperandKind, NotEquivalent, ConditionKind, NotPassive, LiteralFit}
 use Rattle.type_check.specs.Found.{Found}
 use Rattle.type_check.specs.Parts.{Known, component, part_of, source_of, flow_through, unless, when, one_fault, typed_without}
 use Rattle.type_check.specs.Texts.{sign_of, is_unsigned, has_clock, is_passive, are_equivalent}
 
--- What is found of an expression, or of a reference up to some step: the part with its type, the types of its nodes and the
--- flows of its references in text order, and the faults.
+-- What is found of an expression, or of a reference up to some step: the part with its type, the types of its nodes in
+-- text order, and the faults.
 pub record Judgement : Type 0 where
   pub part : Option Part
   pub nodes : List FirType
-  pub flows : List Flow
   pub faults : List Found
 
 -- what is found of a part that stands or of a fault, without nodes
 abbrev pub stands : Part → Judgement
-stands part = record { part = Some part; nodes = []; flows = []; faults = [] }
+stands part = record { part = Some part; nodes = []; faults = [] }
 
 abbrev pub fails : List Found → Judgement
-fails faults = record { part = None; nodes = []; flows = []; faults = faults }
+fails faults = record { part = None; nodes = []; faults = faults }
 
 -- what stands in the list of types for a node without one
 abbrev pub no_type : Place → FirType
@@ -98,24 +95,18 @@ Step = Known → Option Part → Judgement
 
 -- one judgement behind another
 abbrev pub behind : Judgement → Judgement → Judgement
-behind first second = record { part = second.part; nodes = first.nodes ++ second.nodes; flows = first.flows ++ second.flows; faults = first.faults ++ second.faults }
+behind first second = record { part = second.part; nodes = first.nodes ++ second.nodes; faults = first.faults ++ second.faults }
 
 -- the steps of a reference in order
 abbrev pub along : List Step → Step
-along [] known base = record { part = base; nodes = []; flows = []; faults = [] }
+along [] known base = record { part = base; nodes = []; faults = [] }
 along (step ∷ steps) known base = let first = step known base in behind first (along steps known first.part)
-
--- what has no type counts as a source
-abbrev pub flow_or_source : Option Part → Flow
-flow_or_source (Some part) = part.flow
-flow_or_source None = Source
 
 -- a reference as a node
 abbrev pub as_node : Place → Judgement → Judgement
 as_node place way = record {
   part = way.part;
   nodes = type_or_none place (option_map (λ part. part.typ) way.part) ∷ way.nodes;
-  flows = flow_or_source way.part ∷ way.flows;
   faults = way.faults;
 }
 
@@ -145,7 +136,6 @@ node place faults typ operands =
     record {
       part = option_map source_of own;
       nodes = type_or_none place own ∷ flat_map (λ j. j.nodes) operands;
-      flows = flat_map (λ j. j.flows) operands;
       faults = flat_map (λ j. j.faults) operands ++ faults;
     }
 
@@ -154,7 +144,6 @@ abbrev pub unjudged_node : Place → List Judgement → Judgement
 unjudged_node place operands = record {
   part = None;
   nodes = no_type place ∷ flat_map (λ j. j.nodes) operands;
-  flows = flat_map (λ j. j.flows) operands;
   faults = flat_map (λ j. j.faults) operands;
 }
 

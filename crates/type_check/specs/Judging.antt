@@ -22,7 +22,7 @@ operand_of held = record { place = held.place; typ = held.typ }
 
 -- what is found of several expressions
 abbrev pub together : List Judgement → Judgement
-together js = record { part = None; nodes = flat_map (λ j. j.nodes) js; flows = flat_map (λ j. j.flows) js; faults = flat_map (λ j. j.faults) js }
+together js = record { part = None; nodes = flat_map (λ j. j.nodes) js; faults = flat_map (λ j. j.faults) js }
 
 -- the type of a node at this place, or what stands for it
 abbrev pub own_type : Place → Judgement → FirType

@@ -23,25 +23,24 @@ use Rattle.type_check.specs.Expressions.{found_of}
 use Rattle.type_check.specs.Memories.{memory_faults}
 
 -- What is found of statements, from the components that are known before them: those known behind them, the types of their
--- expressions and the flows of their references in text order, and the faults.
+-- expressions in text order, and the faults.
 pub record Findings : Type 0 where
   pub known : Known
   pub nodes : List FirType
-  pub flows : List Flow
   pub faults : List Found
 
 abbrev pub Walk : Type 0
 Walk = Known → Findings
 
 abbrev pub nothing : Walk
-nothing known = record { known = known; nodes = []; flows = []; faults = [] }
+nothing known = record { known = known; nodes = []; faults = [] }
 
 -- one walk behind another
 abbrev pub and_then : Walk → Walk → Walk
 and_then first second known =
     let a = first known in
     let b = second a.known in
-    record { known = b.known; nodes = a.nodes ++ b.nodes; flows = a.flows ++ b.flows; faults = a.faults ++ b.faults }
+    record { known = b.known; nodes = a.nodes ++ b.nodes; faults = a.faults ++ b.faults }
 
 abbrev pub in_turn : List Walk → Walk
 in_turn [] = nothing
@@ -49,15 +48,15 @@ in_turn (walk ∷ walks) = and_then walk (in_turn walks)
 
 -- faults that are there whatever is known
 abbrev pub notes : List Found → Walk
-notes faults known = record { known = known; nodes = []; flows = []; faults = faults }
+notes faults known = record { known = known; nodes = []; faults = faults }
 
 -- a declaration
 abbrev pub declares : ℕ → Option Part → Walk
-declares name part known = record { known = known_with known name part; nodes = []; flows = []; faults = [] }
+declares name part known = record { known = known_with known name part; nodes = []; faults = [] }
 
 -- an expression, with a condition on it
 abbrev pub expects : (Part → List Found) → Expr → Walk
-expects condition e known = let j = found_of known e in record { known = known; nodes = j.nodes; flows = j.flows; faults = j.faults ++ where_typed condition j.part }
+expects condition e known = let j = found_of known e in record { known = known; nodes = j.nodes; faults = j.faults ++ where_typed condition j.part }
 
 -- The conditions
 
@@ -100,7 +99,6 @@ connects left right known =
     record {
       known = known;
       nodes = l.nodes ++ r.nodes;
-      flows = l.flows ++ r.flows;
       faults = l.faults ++ (r.faults ++ (where_typed (sink_faults left.place) l.part
           ++ (where_typed (source_faults right.place) r.part ++ where_typed (λ a. where_typed (equal_faults right.place a) r.part) l.part)));
     }
@@ -112,7 +110,6 @@ names_node name e known =
     record {
       known = known_with known name (option_map (λ part. source_of part.typ) j.part);
       nodes = j.nodes;
-      flows = j.flows;
       faults = j.faults ++ where_typed (node_faults e.place) j.part;
     }
 
@@ -161,10 +158,6 @@ module_walk modules m = and_then (in_turn (map port_walk m.ports)) (in_turn (map
 -- The types of all expressions of a circuit in text order.
 abbrev pub types_of : Circuit → List FirType
 types_of circuit = flat_map (λ m. (module_walk circuit.modules m []).nodes) circuit.modules
-
--- The flows of all references of a circuit in text order.
-abbrev pub flows_of : Circuit → List Flow
-flows_of circuit = flat_map (λ m. (module_walk circuit.modules m []).flows) circuit.modules
 
 -- All faults of a circuit's types.
 abbrev pub faults_of : Circuit → List Found
