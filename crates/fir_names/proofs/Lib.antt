@@ -4,5 +4,6 @@ mod Examples
 mod Finding
 mod Meaning
 mod Ordering
+pub mod Reached
 mod Walking
 mod Agreement
