@@ -6,6 +6,7 @@ use std::test::Fail;
 
 /// The greatest number of leaves of a listing: clocks count, and have no lines.
 const MOST_LEAVES: &str = "  module M :\n    input a : Clock[65536]\n";
+
 const ONE_LEAF_MORE: &str = "  module M :\n    input a : UInt<1>[65537]\n";
 
 const TWO_LEVELS: &str = "  module C :
