@@ -57,4 +57,4 @@ line = refl
 
 pub empty_refused : Judges Check [] 2 (codes "circuit BadSyntax 1:1\n")
 empty_refused = rw line at (taken Check [] [] 2 (fault_bytes (record { kind = BadSyntax; place = first_place }))
-    (record { within = omega arith; part = all_of_it [] has_none; short = omega arith }) (refused Check [] [] (record { kind = BadSyntax; place = first_place }) first_fault))
+    (record { within = omega arith; part = all_of_it Check [] refl has_none; short = omega arith }) (refused Check [] [] (record { kind = BadSyntax; place = first_place }) first_fault))

@@ -20,7 +20,7 @@ use Rattle.sim_top.specs.declared.front.TextFault.TheVariants.{Fault as Named, N
 use Rattle.sim_top.specs.declared.fault.Fault.{Fault}
 use Rattle.sim_top.specs.declared.fault.FaultKind.TheVariants.{BadIndent}
 use Rattle.sim_top.specs.Answers.{IsRefusedText, has_fault, circuit_limit}
-use Rattle.sim_top.specs.CircuitText.{lexing_kind, IsFirstFault, of_tokens, of_layout, of_grammar, of_names, of_types, IsInside, IsLaidOnly, IsFaultOnly}
+use Rattle.sim_top.specs.CircuitText.{lexing_kind, IsFirstFault, of_tokens, of_layout, of_grammar, of_names, of_types, of_widths, IsInside, IsLaidOnly, IsFaultOnly}
 
 -- a laid text and a text with a bad indent have tokens
 tokens_laid : (text : List ℕ) (laid : List Laid) → IsLaidOut text laid → (tokens : List Token) × AreTokens text tokens
@@ -40,6 +40,8 @@ token_fault_only text at kind f _ (of_layout to b) = let t = tokens_indented tex
 token_fault_only text at kind f _ (of_grammar laid refusal fault l g e) = let t = tokens_laid text laid l in absurd (no_tokens text at kind t.0 f t.1)
 token_fault_only text at kind f _ (of_names laid circuit other p parsed first) = let t = tokens_laid text laid parsed.laid_out in absurd (no_tokens text at kind t.0 f t.1)
 token_fault_only text at kind f _ (of_types laid circuit other p parsed named first) = let t = tokens_laid text laid parsed.laid_out in absurd (no_tokens text at kind t.0 f t.1)
+token_fault_only text at kind f _ (of_widths laid circuit checked widths other p parsed named typed solved first) =
+    let t = tokens_laid text laid parsed.laid_out in absurd (no_tokens text at kind t.0 f t.1)
 
 pub token_faults : (text : List ℕ) (at : ℕ) (kind : FaultKind) → IsFault text at kind → IsFaultOnly text (record { kind = lexing_kind kind; place = place text at })
 token_faults text at kind f = record {
@@ -69,6 +71,7 @@ layout_fault_only text tokens p lexed accepts refuses _ (of_tokens at kind f) = 
 layout_fault_only text tokens p lexed accepts refuses _ (of_grammar laid refusal fault l g e) = absurd (no_place p (accepts laid l))
 layout_fault_only text tokens p lexed accepts refuses _ (of_names laid circuit kind q parsed first) = absurd (no_place p (accepts laid parsed.laid_out))
 layout_fault_only text tokens p lexed accepts refuses _ (of_types laid circuit kind q parsed named first) = absurd (no_place p (accepts laid parsed.laid_out))
+layout_fault_only text tokens p lexed accepts refuses _ (of_widths laid circuit checked widths kind q parsed named typed solved first) = absurd (no_place p (accepts laid parsed.laid_out))
 layout_fault_only text tokens p lexed accepts refuses _ (of_layout at b) =
     ⊎_elim (λ m. absurd (no_place p m)) (λ e. ap (λ q. record { kind = BadIndent; place = q }) (sym (same_place p (place text at) e))) (refuses at b)
 

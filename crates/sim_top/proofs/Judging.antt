@@ -1,14 +1,16 @@
 -- What a command answers is settled by what the text is.
-use Rattle.std.proofs.Common.{◌≡◌, ℕ, ◌<◌, ◌≤◌, List, ◌⊎◌, ⊎_elim, inl, inr, length, refl, sym, ap, subst, arith}
+use Rattle.std.proofs.Common.{◌≡◌, ℕ, ◌<◌, ◌≤◌, min, List, ◌⊎◌, ⊎_elim, inl, inr, length, refl, sym, ap, subst, arith}
 use Rattle.std.specs.Prelude.{codes, Some, None}
 use Rattle.fir_layout.specs.Pieces.{pieces_of}
 use Rattle.fir_layout.specs.declared.laid.Laid.{Laid}
 use Rattle.sim_top.specs.declared.command.Command.{Command}
-use Rattle.sim_top.specs.declared.command.Command.TheVariants.{Run, Check}
+use Rattle.sim_top.specs.declared.command.Command.TheVariants.{Run, Check, Widths}
 use Rattle.sim_top.specs.declared.fault.Fault.{Fault}
-use Rattle.sim_top.specs.declared.fault.FaultKind.TheVariants.{TooLong, NoStimulus}
+use Rattle.sim_top.specs.declared.fault.FaultKind.TheVariants.{TooLong, NoStimulus, Unsupported, TooLarge}
 use Rattle.sim_top.specs.declared.fault.StimulusFault.TheVariants.{BadLine}
 use Rattle.fir_tree.specs.declared.circuit.Circuit.{Circuit}
+use Rattle.fir_tree.specs.declared.scope.Fitted.{Fitted}
+use Rattle.trace_print.specs.Listing.{listing_of, leaves_listed}
 use Rattle.sim_top.specs.declared.circuit.SmallCircuit.{SmallCircuit}
 use Rattle.sim_top.specs.declared.stimulus.SmallStimulus.{SmallStimulus}
 use Rattle.sim_top.specs.StimulusLine.{HasNone, IsSplit}
@@ -16,7 +18,8 @@ use Rattle.sim_top.specs.CircuitText.{IsAcceptedOnly, IsFaultOnly}
 use Rattle.sim_top.specs.SmallCircuits.{IsSmallCircuit}
 use Rattle.sim_top.specs.SmallStimuli.{IsSmallStimulus}
 use Rattle.sim_top.specs.Cycles.{trace}
-use Rattle.sim_top.specs.Answers.{fault_bytes, stimulus_fault_bytes, at_front, unsupported, joined_limit, circuit_limit, IsPart, before_line, IsTaken, RunsSmall, traced, bad_stimulus, JudgesTaken, refused, accepted, runs, not_small, Judges, joined_too_long, no_stimulus, circuit_too_long, taken, Settles, SettlesTaken, SettlesSmall, IsRefusedText, too_long, has_fault, IsAcceptedText}
+use Rattle.sim_top.specs.Answers.{fault_bytes, stimulus_fault_bytes, at_front, at_name, joined_limit, circuit_limit, IsPart, before_line, IsTaken, RunsSmall, traced, bad_stimulus, JudgesTaken, refused, accepted, lists, runs, not_small, leaf_limit, IsFittedCircuit, Lists, small_enough, over, SettlesListing, Judges, joined_too_long, no_stimulus, circuit_too_long, taken, Settles, SettlesTaken, SettlesSmall, IsRefusedText, too_long, has_fault, IsAcceptedText}
+use Rattle.sim_top.proofs.Solving.{same_listing, same_leaves}
 use Rattle.sim_top.proofs.Splitting.{split_once, part_once, run_has_line}
 
 -- the joined text is too long
@@ -72,6 +75,7 @@ fault_only : (command : Command) (joined text : List ℕ) (fault : Fault) → Is
     → (s ≡ 2) × (b ≡ fault_bytes fault)
 fault_only command joined text fault f _ b (refused _ _ _ other o) = (refl, ap fault_bytes (f.only other o))
 fault_only Check joined text fault f _ b (accepted _ _ circuit laid a) = absurd (f.none circuit laid a)
+fault_only Widths joined text fault f s b (lists _ _ circuit laid fitted _ _ a i l) = absurd (f.none circuit laid a)
 fault_only Run joined text fault f s b (runs _ _ stimulus circuit laid c _ _ p a i r) = absurd (f.none circuit laid a)
 fault_only Run joined text fault f _ b (not_small _ _ circuit laid a n) = absurd (f.none circuit laid a)
 
@@ -95,6 +99,45 @@ pub settles_checked : (joined text : List ℕ) (circuit : Circuit) (laid : List 
     → Settles Check joined 0 (codes "ok\n")
 settles_checked joined text circuit laid w p a = settles_taken Check joined text 0 (codes "ok\n") (record { within = w; part = p; short = a.short })
     (record { is = accepted joined text circuit laid a.accepted_only.is; only = accepted_only joined text circuit laid a.accepted_only })
+
+-- the listing of a circuit
+small_listing_only : (circuit : Circuit) (fitted : Fitted) → IsFittedCircuit circuit fitted → leaves_listed fitted ≤ leaf_limit → (other : Fitted) (s : ℕ) (b : List ℕ)
+    → IsFittedCircuit circuit other → Lists circuit other s b → (s ≡ 0) × (b ≡ listing_of fitted)
+small_listing_only circuit fitted f le other _ _ g (small_enough l) = (refl, same_listing circuit other fitted g f)
+small_listing_only circuit fitted f le other _ _ g (over l) = absurd (omega (arith, le, l, same_leaves circuit other fitted g f))
+
+pub settles_small_listing : (circuit : Circuit) (fitted : Fitted) → IsFittedCircuit circuit fitted → leaves_listed fitted ≤ leaf_limit → SettlesListing circuit 0 (listing_of fitted)
+settles_small_listing circuit fitted f le = record { fitted = fitted; is_fitted = f; lists = small_enough le; only = small_listing_only circuit fitted f le }
+
+large_only : (circuit : Circuit) (fitted : Fitted) → IsFittedCircuit circuit fitted → leaf_limit < leaves_listed fitted → (other : Fitted) (s : ℕ) (b : List ℕ)
+    → IsFittedCircuit circuit other → Lists circuit other s b → (s ≡ 2) × (b ≡ fault_bytes (at_name TooLarge circuit))
+large_only circuit fitted f lt other _ _ g (small_enough l) = absurd (omega (arith, lt, l, same_leaves circuit other fitted g f))
+large_only circuit fitted f lt other _ _ g (over l) = (refl, refl)
+
+pub settles_large : (circuit : Circuit) (fitted : Fitted) → IsFittedCircuit circuit fitted → leaf_limit < leaves_listed fitted
+    → SettlesListing circuit 2 (fault_bytes (at_name TooLarge circuit))
+settles_large circuit fitted f lt = record { fitted = fitted; is_fitted = f; lists = over lt; only = large_only circuit fitted f lt }
+
+-- a count that stops at a greatest number tells whether it is within a limit below that
+pub counted_within : (total n most limit : ℕ) → total ≡ min n most → limit < most → total ≤ limit → n ≤ limit
+counted_within total n most limit e lt le = omega arith
+
+pub counted_over : (total n most limit : ℕ) → total ≡ min n most → limit < total → limit < n
+counted_over total n most limit e lt = omega arith
+
+-- `widths` on a text without a fault
+listed_only : (joined text : List ℕ) (circuit : Circuit) (laid : List Laid) (status : ℕ) (bytes : List ℕ) → IsAcceptedOnly text circuit laid → SettlesListing circuit status bytes
+    → (s : ℕ) (b : List ℕ) → JudgesTaken Widths joined text s b → (s ≡ status) × (b ≡ bytes)
+listed_only joined text circuit laid status bytes o settled _ b (refused _ _ _ other f) = absurd (o.none other f)
+listed_only joined text circuit laid status bytes o settled s b (lists _ _ other others fitted _ _ a i l) =
+    let same = (o.only other others a).0 in settled.only fitted s b (subst (λ x. IsFittedCircuit x fitted) same i) (subst (λ x. Lists x fitted s b) same l)
+
+pub settles_listed : (joined text : List ℕ) (circuit : Circuit) (laid : List Laid) (status : ℕ) (bytes : List ℕ) → length joined ≤ joined_limit → IsPart Widths joined text
+    → IsAcceptedText text circuit laid → SettlesListing circuit status bytes → Settles Widths joined status bytes
+settles_listed joined text circuit laid status bytes w p a settled = settles_taken Widths joined text status bytes (record { within = w; part = p; short = a.short }) (record {
+  is = lists joined text circuit laid settled.fitted status bytes a.accepted_only.is settled.is_fitted settled.lists;
+  only = listed_only joined text circuit laid status bytes a.accepted_only settled;
+})
 
 -- a run of a small circuit
 some_same : {A : Type 0} (x y : A) → Some x ≡ Some y → x ≡ y
@@ -148,14 +191,14 @@ settles_small joined text stimulus circuit laid c status bytes p o i once settle
 -- and where it is none
 not_small_only : (joined text : List ℕ) (circuit : Circuit) (laid : List Laid) → IsAcceptedOnly text circuit laid
     → ((d : SmallCircuit) → IsSmallCircuit (pieces_of text laid) d → None ≡ Some d)
-    → (code : ℕ) (b : List ℕ) → JudgesTaken Run joined text code b → (code ≡ 2) × (b ≡ fault_bytes (unsupported circuit))
+    → (code : ℕ) (b : List ℕ) → JudgesTaken Run joined text code b → (code ≡ 2) × (b ≡ fault_bytes (at_name Unsupported circuit))
 not_small_only joined text circuit laid o none _ b (refused _ _ _ other f) = absurd (o.none other f)
 not_small_only joined text circuit laid o none code b (runs _ _ behind other others d _ _ q a j r) =
     absurd (none_is d (none d (subst (λ l. IsSmallCircuit (pieces_of text l) d) (o.only other others a).1 j)))
-not_small_only joined text circuit laid o none _ b (not_small _ _ other others a n) = (refl, ap (λ x. fault_bytes (unsupported x)) (o.only other others a).0)
+not_small_only joined text circuit laid o none _ b (not_small _ _ other others a n) = (refl, ap (λ x. fault_bytes (at_name Unsupported x)) (o.only other others a).0)
 
 pub settles_not_small : (joined text : List ℕ) (circuit : Circuit) (laid : List Laid) → IsAcceptedOnly text circuit laid
-    → ((d : SmallCircuit) → IsSmallCircuit (pieces_of text laid) d → None ≡ Some d) → SettlesTaken Run joined text 2 (fault_bytes (unsupported circuit))
+    → ((d : SmallCircuit) → IsSmallCircuit (pieces_of text laid) d → None ≡ Some d) → SettlesTaken Run joined text 2 (fault_bytes (at_name Unsupported circuit))
 settles_not_small joined text circuit laid o none = record {
   is = not_small joined text circuit laid o.is (λ d i. none_is d (none d i));
   only = not_small_only joined text circuit laid o none;
@@ -171,9 +214,14 @@ ran_status : (c : SmallCircuit) (stimulus : List ℕ) (s : ℕ) (b : List ℕ) �
 ran_status c stimulus _ _ (traced t i) = inl refl
 ran_status c stimulus _ _ (bad_stimulus n) = inr (inr refl)
 
+listed_status : (circuit : Circuit) (fitted : Fitted) (s : ℕ) (b : List ℕ) → Lists circuit fitted s b → (s ≡ 0) ⊎ ((s ≡ 2) ⊎ (s ≡ 3))
+listed_status circuit fitted _ _ (small_enough l) = inl refl
+listed_status circuit fitted _ _ (over l) = inr (inl refl)
+
 taken_status : (command : Command) (joined text : List ℕ) (s : ℕ) (b : List ℕ) → JudgesTaken command joined text s b → (s ≡ 0) ⊎ ((s ≡ 2) ⊎ (s ≡ 3))
 taken_status command joined text _ _ (refused _ _ _ fault f) = inr (inl refl)
 taken_status Check joined text _ _ (accepted _ _ circuit laid a) = inl refl
+taken_status Widths joined text s b (lists _ _ circuit laid fitted _ _ a i l) = listed_status circuit fitted s b l
 taken_status Run joined text s b (runs _ _ stimulus circuit laid c _ _ p a i r) = ran_status c stimulus s b r
 taken_status Run joined text _ _ (not_small _ _ circuit laid a n) = inr (inl refl)
 

@@ -21,5 +21,6 @@ pub mod WritableLemmas
 pub mod RoomLemmas
 pub mod Fronts
 pub mod CounterFormed
+pub mod Solving
 pub mod Accepting
 pub mod EmptyText

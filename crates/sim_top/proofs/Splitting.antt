@@ -1,7 +1,7 @@
 -- A joined text is split in one way.
-use Rattle.std.proofs.Common.{◌≡◌, ℕ, ◌≤◌, List, ⊎_elim, drop, take, refl, sym, ap, ◌∙◌, subst, arith, lt_of_not-le}
+use Rattle.std.proofs.Common.{◌≡◌, ℕ, ◌≤◌, false, true, List, ⊎_elim, drop, take, refl, sym, ap, ◌∙◌, subst, arith, lt_of_not-le}
 use native.Mathlib.Decide.{dec_le}
-use Rattle.sim_top.specs.declared.command.Command.TheVariants.{Run, Check}
+use Rattle.sim_top.specs.declared.command.Command.TheVariants.{Run}
 use Rattle.sim_top.specs.declared.command.Command.{Command}
 use Rattle.sim_top.specs.StimulusLine.{IsStimulusLine, StandsAt, NoneBefore, HasNone, IsSplit}
 use Rattle.sim_top.specs.Answers.{IsPart, before_line, all_of_it}
@@ -30,10 +30,11 @@ split_or_none text a b p none = none p.at b p.stands
 
 pub part_once : (command : Command) (text a b : List ℕ) → IsPart command text a → IsPart command text b → a ≡ b
 part_once command text a b (before_line _ _ _ s p) (before_line _ _ _ t q) = (split_once text a s b t p q).0
-part_once Check text a _ (before_line _ _ _ s p) (all_of_it _ n) = absurd (split_or_none text a s p n)
-part_once Check text _ b (all_of_it _ n) (before_line _ _ _ t q) = absurd (split_or_none text b t q n)
-part_once Check text _ _ (all_of_it _ n) (all_of_it _ m) = refl
+part_once command text a _ (before_line _ _ _ s p) (all_of_it _ _ r n) = absurd (split_or_none text a s p n)
+part_once command text _ b (all_of_it _ _ r n) (before_line _ _ _ t q) = absurd (split_or_none text b t q n)
+part_once command text _ _ (all_of_it _ _ r n) (all_of_it _ _ s m) = refl
 
 -- `run` has no part where there is no line
 pub run_has_line : (text a : List ℕ) → IsPart Run text a → HasNone text → ⊥
 run_has_line text a (before_line _ _ _ s p) none = split_or_none text a s p none
+run_has_line text _ (all_of_it _ _ r n) none = let e : false ≡ true = r in cc

@@ -1,7 +1,7 @@
 -- The circuit's text, stage by stage: its tokens, its layout, its grammar (FIRRTL specification 3.0, "FIRRTL Language
 -- Definition"), its names ("Namespaces"), its types ("Types", "Expressions", "Connects") and its widths ("Width Inference"). A stage
 -- judges only what the stages before it let pass.
-use Rattle.std.specs.Prelude.{◌≡◌, ℕ, ◌≤◌, List, length, All, Option, Some, None}
+use Rattle.std.specs.Prelude.{◌≡◌, ◌⊎◌, ℕ, ◌≤◌, List, length, All, Option, Some, None}
 use Rattle.place_text.specs.Places.{place}
 use Rattle.fir_lexer.specs.Tokens.{IsFault, FaultKind as LexKind, Bad_byte, Bad_token, Number_range}
 use Rattle.fir_layout.specs.Layout.{IsLaidOut, IsBadIndent}
@@ -24,12 +24,16 @@ use Rattle.type_check.specs.declared.fault.Kind.TheVariants as typing
 use Rattle.type_check.specs.Statements.{types_of}
 use Rattle.fir_names.specs.Scopes.{IsScope}
 use Rattle.fir_tree.specs.declared.scope.Checked.{Checked}
+use Rattle.fir_tree.specs.declared.scope.Fitted.{Fitted}
 use Rattle.prim_ops.specs.declared.widths.Width.{Width}
 use Rattle.width_rules.specs.Circuits.{rules_in}
 use Rattle.width_rules.specs.Solutions.{IsLeast}
-use Rattle.width_solver.specs.Faults.{IsFault as IsWidthFault, IsFirst as IsFirstOfWidths}
+use Rattle.width_solver.specs.Fitting.{IsFitted}
+use Rattle.width_solver.specs.Faults.{IsFault as IsWidthFault, IsFirst as IsFirstOfWidths, IsFirstAnswer as IsFirstWidthAnswer, answer as width_answer}
 use Rattle.width_solver.specs.declared.fault.Kind.{Kind as WidthKind}
 use Rattle.width_solver.specs.declared.fault.Kind.TheVariants as fitting
+use Rattle.width_solver.specs.declared.fault.WidthFault.{WidthFault}
+use Rattle.width_solver.specs.declared.fault.WidthFault.TheVariants.{NoMemory as No_memory}
 use Rattle.sim_top.specs.declared.fault.Fault.{Fault}
 use Rattle.sim_top.specs.declared.fault.FaultKind.{FaultKind}
 use Rattle.sim_top.specs.declared.fault.FaultKind.TheVariants.{BadByte, BadToken, NumberRange, BadIndent, BadSyntax, BadVersion, Unsupported, TooDeep, NoMain, ModuleTwice, ModuleUnknown, InstanceLoop, NameTwice, NameUnknown, FieldTwice, FieldUnknown, NotBundle, NotVector, IndexRange, IndexKind, OperandKind, NotEquivalent, FlowSink, FlowSource, ConditionKind, NotPassive, LiteralFit, MemoryField, WidthUnknown, WidthOver, ParameterRange, ConditionWidth}
@@ -94,16 +98,34 @@ IsNamed circuit = (kind : NameKind) (place' : Place) → ¬ (IsNameFault circuit
 abbrev pub IsTyped : Circuit → Type 0
 IsTyped circuit = (kind : TypeKind) (place' : Place) → ¬ (IsTypeFault circuit kind place')
 
+-- the least widths that meet the rules of a circuit
+abbrev pub AreLeast : Circuit → List Width → Type 0
+AreLeast circuit widths = IsLeast (rules_in circuit).rules (length (rules_in circuit).places) widths
+
 -- a circuit with a scope of its names and the types of its expressions, and the least widths that meet its rules
 pub record IsSolved (circuit : Circuit) (checked : Checked) (widths : List Width) : Type 0 where
   pub circuit_is : checked.circuit ≡ circuit
   pub scope : IsScope circuit checked.scope
   pub types : checked.types ≡ types_of circuit
-  pub least : IsLeast (rules_in circuit).rules (length (rules_in circuit).places) widths
+  pub least : AreLeast circuit widths
 
 -- with its least widths the circuit has no fault
 abbrev pub IsWidthed : Circuit → Type 0
 IsWidthed circuit = (checked : Checked) (widths : List Width) (kind : WidthKind) (place' : Place) → IsSolved circuit checked widths → ¬ (IsWidthFault checked widths kind place')
+
+-- the least widths have no fault, and the fitted circuit has the types that they give
+pub record IsFit (checked : Checked) (fitted : Fitted) : Type 0 where
+  pub widths : List Width
+  pub least : AreLeast checked.circuit widths
+  pub fitted_is : IsFitted checked widths fitted
+  pub none : (kind : WidthKind) (place' : Place) → ¬ (IsWidthFault checked widths kind place')
+
+-- the least widths have a fault, and the answer is the first one, or want of memory
+pub record IsUnfit (checked : Checked) (given : WidthFault) : Type 0 where
+  pub widths : List Width
+  pub least : AreLeast checked.circuit widths
+  pub first : IsFirstWidthAnswer checked widths given
+  pub only : (kind : WidthKind) (place' : Place) → IsFirstOfWidths checked widths kind place' → (given ≡ No_memory) ⊎ (given ≡ width_answer kind place')
 
 -- The first fault of the text, by the stage that finds it.
 pub data IsFirstFault (text : List ℕ) : Fault → Type 0 where

@@ -1,6 +1,6 @@
 //! The circuit's text, through all stages that are built: tokens, layout, grammar, names, types and widths.
 
-ghost use Rattle.std.specs.Prelude.{◌≡◌, ◌≤◌, Some, None, IfOk, Err, length};
+ghost use Rattle.std.specs.Prelude.{◌≡◌, ◌⊎◌, ◌≤◌, Some, None, IfOk, IfErr, Err, length};
 ghost use Rattle.place_text.specs.declared.place.Place.{Place as APlace};
 ghost use Rattle.fir_tree.specs.declared.fault.ParseFault.{ParseFault as ARefusal};
 ghost use Rattle.fir_names.specs.Scopes.{IsScope};
@@ -9,9 +9,11 @@ ghost use Rattle.fir_names.specs.declared.fault.Kind.{Kind as NameKind};
 ghost use Rattle.type_check.specs.Statements.{types_of};
 ghost use Rattle.type_check.specs.Faults.{answer as type_answer};
 ghost use Rattle.type_check.specs.declared.fault.Kind.{Kind as TypeKind};
-ghost use Rattle.sim_top.specs.CircuitText.{IsLaidOnly, grammar_fault, naming_kind, typing_kind};
+ghost use Rattle.width_solver.specs.Faults.{answer as width_answer};
+ghost use Rattle.width_solver.specs.declared.fault.Kind.{Kind as WidthKind};
+ghost use Rattle.sim_top.specs.CircuitText.{IsLaidOnly, grammar_fault, naming_kind, typing_kind, fitting_kind, IsFit, IsUnfit};
 ghost use Rattle.sim_top.specs.declared.fault.Fault.{Fault as AFault};
-ghost use Rattle.sim_top.specs.Answers.{IsRefusedText, IsAcceptedText, circuit_limit};
+ghost use Rattle.sim_top.specs.Answers.{IsRefusedText, IsAcceptedText, IsFittedCircuit, circuit_limit};
 
 use crate::fault::{Fault, FaultKind};
 use crate::front::{TextFault, lay_text};
@@ -76,8 +78,8 @@ fn accept_laid(alloc: Global, text: &[u8], laid: Vec<Laid>) -> Result<Accepted, 
 
 /// The circuit with the types that its least widths give, or the first fault of its widths.
 fn fit_widths(alloc: Global, checked: Checked) -> Result<Fitted, WidthFault>
-    ensures ok { IfOk result (λ fitted. (widths : List AWidth) × AreLeast checked.circuit widths × IsFitted checked widths fitted × HasNoWidthFault checked widths) }
-    ensures fault { IfErr result (λ fault. (fault ≡ WidthFault.NoMemory) ⊎ ((widths : List AWidth) × AreLeast checked.circuit widths × IsFirstAnswer checked widths fault)) }
+    ensures ok { IfOk result (IsFit checked) }
+    ensures fault { IfErr result (λ fault. (fault ≡ WidthFault.NoMemory) ⊎ IsUnfit checked fault) }
 {
     let rules = rules_of(alloc, &checked)?;
     let widths = solve(alloc, &rules)?;

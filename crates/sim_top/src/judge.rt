@@ -85,13 +85,12 @@ fn list_fitted(alloc: Global, fitted: &Fitted) -> Result<Reply, AllocError>
     requires { IsFittedCircuit fitted.now.checked.circuit fitted.now }
     ensures { IfOk result (λ r. SettlesListing fitted.now.checked.circuit r.status r.bytes.items) }
 {
-    if listed_leaves(alloc, fitted)? > LEAF_LIMIT {
+    let leaves = listed_leaves(alloc, fitted)?;
+    if leaves > LEAF_LIMIT {
         return Ok(refuse_at_name(alloc, FaultKind::TooLarge, &fitted.checked.circuit)?);
     }
-    Ok(Reply {
-        status: 0,
-        bytes: widths_text(alloc, fitted)?,
-    })
+    let bytes = widths_text(alloc, fitted)?;
+    Ok(Reply { status: 0, bytes })
 }
 
 /// Runs the circuit of a text.

@@ -34,5 +34,7 @@ mod stimulus;
 mod tests;
 mod top;
 mod trace;
+#[cfg(test)]
+mod width_tests;
 
 pub use top::run_program;

@@ -22,15 +22,15 @@ cycles 4
 
 /// A call of the program over texts and bytes in memory.
 #[derive(Clone, Copy)]
-struct Call<'a> {
-    words: &'a [&'a str],
-    input: &'a str,
-    shelf_fails: &'a [u64],
-    sink_fails: &'a [u64],
+pub struct Call<'a> {
+    pub words: &'a [&'a str],
+    pub input: &'a str,
+    pub shelf_fails: &'a [u64],
+    pub sink_fails: &'a [u64],
 }
 
 /// The status of the call and what it wrote, with pieces of one byte.
-fn answer(alloc: Global, call: Call<'_>) -> Result<(u8, Vec<u8>), AllocError> {
+pub fn answer(alloc: Global, call: Call<'_>) -> Result<(u8, Vec<u8>), AllocError> {
     let mut words = Vec::new(alloc);
     for word in call.words {
         words.push(String::from_str(alloc, word)?)?;
