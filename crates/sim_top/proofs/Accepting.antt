@@ -38,7 +38,7 @@ use Rattle.sim_top.specs.declared.fault.Fault.{Fault}
 use Rattle.sim_top.specs.CircuitText.{IsFirstFault, of_tokens, of_layout, of_grammar, of_names, of_types, of_widths, grammar_fault, naming_kind, typing_kind, fitting_kind, IsParsed, IsNamed, IsTyped, IsSolved, IsWidthed, IsFit, IsUnfit, IsAccepted, IsLaidOnly, IsAcceptedOnly, IsFaultOnly}
 use Rattle.sim_top.specs.Answers.{IsRefusedText, has_fault, IsAcceptedText, circuit_limit}
 use Rattle.sim_top.proofs.Fronts.{same_error}
-use Rattle.sim_top.proofs.Solving.{same_first, solved_by, fit_widthed}
+use Rattle.sim_top.proofs.Solving.{same_first, solved_by, no_width_fault, fit_widthed}
 
 some_same : {A : Type 0} (x y : A) → Some x ≡ Some y → x ≡ y
 some_same x y e = cc
@@ -65,7 +65,7 @@ no_fault text circuit laid o spelled shallow named typed widthed _ (of_names oth
 no_fault text circuit laid o spelled shallow named typed widthed _ (of_types others other kind p parsed named' first) =
     typed kind p (subst (λ x. IsTypeFault x kind p) (parsed_once text circuit laid o spelled other others parsed).0 first.is)
 no_fault text circuit laid o spelled shallow named typed widthed _ (of_widths others other checked widths kind p parsed named' typed' solved first) =
-    widthed checked widths kind p (subst (λ x. IsSolved x checked widths) (parsed_once text circuit laid o spelled other others parsed).0 solved) first.is
+    no_width_fault circuit widthed checked widths kind p (subst (λ x. IsSolved x checked widths) (parsed_once text circuit laid o spelled other others parsed).0 solved) first.is
 
 accepted_only : (text : List ℕ) (circuit : Circuit) (laid : List Laid) → IsLaidOnly text laid → IsCircuit text laid circuit → Shallow text laid → IsNamed circuit → IsTyped circuit
     → IsWidthed circuit → IsAcceptedOnly text circuit laid
@@ -274,7 +274,7 @@ misfitted_only text circuit laid checked widths kind p o spelled shallow named t
   is = of_widths laid circuit checked widths kind p (record { laid_out = o.is; spelled = spelled; shallow = shallow }) named typed solved first;
   only = width_fault_only text circuit laid checked widths kind p o spelled shallow named typed solved refuses;
   none = λ other others (a : IsAccepted text other others).
-      a.widthed checked widths kind p (subst (λ x. IsSolved x checked widths) (sym (parsed_once text circuit laid o spelled other others a.parsed).0) solved) first.is;
+      no_width_fault other a.widthed checked widths kind p (subst (λ x. IsSolved x checked widths) (sym (parsed_once text circuit laid o spelled other others a.parsed).0) solved) first.is;
 }
 
 -- the same for what a reader of the grammar answers, given the list that it read

@@ -55,10 +55,10 @@ same_first circuit first second v w kind p f s h = record {
   first = λ other there' g. h.first other there' (same_fault circuit second first w v other there' s f g);
 }
 
--- widths without a fault are all that the circuit has
-pub widthed : (circuit : Circuit) (checked : Checked) (widths : List Width) → IsSolved circuit checked widths → ((kind : Kind) (p : Place) → ¬ (IsFault checked widths kind p))
-    → IsWidthed circuit
-widthed circuit checked widths solved none other more kind p there' h = none kind p (same_fault circuit other checked more widths kind p there' solved h)
+-- a circuit whose widths have no fault has none, whichever scope of it is taken
+pub no_width_fault : (circuit : Circuit) → IsWidthed circuit → (other : Checked) (more : List Width) (kind : Kind) (p : Place) → IsSolved circuit other more
+    → ¬ (IsFault other more kind p)
+no_width_fault circuit w other more kind p solved h = w.none kind p (same_fault circuit other w.checked more w.widths kind p solved w.solved h)
 
 -- a circuit with these flags and these types of its declarations
 abbrev declared_at : Circuit → List Bool → List FirType → Fitted
@@ -112,4 +112,5 @@ fitted_circuit checked fitted scope types fit =
 
 pub fit_widthed : (checked : Checked) (fitted : Fitted) → IsScope checked.circuit checked.scope → checked.types ≡ types_of checked.circuit → IsFit checked fitted
     → IsWidthed checked.circuit
-fit_widthed checked fitted scope types fit = widthed checked.circuit checked fit.widths (solved_by checked fit.widths scope types fit.least) fit.none
+fit_widthed checked fitted scope types fit =
+    record { checked = checked; widths = fit.widths; solved = solved_by checked fit.widths scope types fit.least; none = fit.none }

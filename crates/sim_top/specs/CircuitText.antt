@@ -109,9 +109,12 @@ pub record IsSolved (circuit : Circuit) (checked : Checked) (widths : List Width
   pub types : checked.types ≡ types_of circuit
   pub least : AreLeast circuit widths
 
--- with its least widths the circuit has no fault
-abbrev pub IsWidthed : Circuit → Type 0
-IsWidthed circuit = (checked : Checked) (widths : List Width) (kind : WidthKind) (place' : Place) → IsSolved circuit checked widths → ¬ (IsWidthFault checked widths kind place')
+-- the circuit has least widths, and with them no fault
+pub record IsWidthed (circuit : Circuit) : Type 0 where
+  pub checked : Checked
+  pub widths : List Width
+  pub solved : IsSolved circuit checked widths
+  pub none : (kind : WidthKind) (place' : Place) → ¬ (IsWidthFault checked widths kind place')
 
 -- the least widths have no fault, and the fitted circuit has the types that they give
 pub record IsFit (checked : Checked) (fitted : Fitted) : Type 0 where

@@ -11,7 +11,7 @@ use std::alloc::Global;
 use std::env;
 use std::process::ExitCode;
 use width_rules::rules_of;
-use width_solver::{judge, solve};
+use width_solver::{WidthFault, judge, solve};
 
 fn main(rt: HostRuntime) -> ExitCode {
     match run(&rt) {
@@ -33,16 +33,16 @@ fn run(rt: &HostRuntime) -> Option<u128> {
         _ => return None,
     };
     let count: u32 = words.next()?.as_str().parse().ok()?;
-    total_width(rt.alloc(), chain, count)
+    total_width(rt.alloc(), chain, count).ok()
 }
 
 /// The sum of the widths of all components.
-fn total_width(alloc: Global, chain: Chain, count: u32) -> Option<u128> {
-    let checked = circuit_of(alloc, chain, count).ok()?;
-    let rules = rules_of(alloc, &checked).ok()?;
-    let widths = solve(alloc, &rules).ok()?;
-    let fitted = judge(alloc, checked, &rules, &widths).ok()?;
-    Some(sum_of_widths(&fitted))
+fn total_width(alloc: Global, chain: Chain, count: u32) -> Result<u128, WidthFault> {
+    let checked = circuit_of(alloc, chain, count)?;
+    let rules = rules_of(alloc, &checked)?;
+    let widths = solve(alloc, &rules)?;
+    let fitted = judge(alloc, checked, &rules, &widths)?;
+    Ok(sum_of_widths(&fitted))
 }
 
 /// The sum of the widths of the declarations, as far as they are single numbers.
