@@ -8,6 +8,7 @@ pub mod laws;
 pub mod list;
 pub mod literal;
 pub mod number;
+pub mod shared;
 pub mod value;
 pub mod words;
 
@@ -17,6 +18,7 @@ pub use fitting::fit;
 pub use list::List;
 pub use literal::{least_width, value_from};
 pub use number::{Base, Number, NumberFault, digits_value, fits, read_magnitude, read_number};
+pub use shared::{Shared, SharedList};
 pub use value::{Kind, Value};
 pub use words::{from_words, high_word, low_word};
 

@@ -19,3 +19,4 @@ pub mod LiteralHeads
 pub mod LiteralIntegers
 pub mod LiteralBrackets
 pub mod LineTables
+mod Underway

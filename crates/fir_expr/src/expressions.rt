@@ -196,12 +196,16 @@ fn suffixes(
     ensures ok { IfOk result (λ end. HasSuffixes text.now laid.now at names.old read.old read.new end names.new) }
     ensures err { IfErr result (λ fault. IsRefused (A Suffixes ∷ []) text.now laid.now at fault) }
 {
-    let Some((next, behind)) = suffix(alloc, text, laid, names, at, brackets, count)? else {
-        return Ok(at);
-    };
-    read.push(next)?;
-    let end = suffixes(alloc, text, laid, names, behind, brackets, count + 1, read)?;
-    Ok(end)
+    let mut here = at;
+    let mut passed = count;
+    loop {
+        let Some((next, behind)) = suffix(alloc, text, laid, names, here, brackets, passed)? else {
+            return Ok(here);
+        };
+        read.push(next)?;
+        here = behind;
+        passed += 1;
+    }
 }
 
 /// Reads a suffix, where one stands, of a reference that has so many already. So many brackets are open before it.

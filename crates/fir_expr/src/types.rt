@@ -14,7 +14,7 @@ use crate::take::{
     is_mark, is_word, open_bracket, part_at, place_of_part, take_field, take_mark, take_number,
 };
 use crate::text::Text;
-use bit_words::{Boxed, Kind, List};
+use bit_words::{Kind, List, Shared};
 use fir_layout::Laid;
 use fir_tree::{Names, ParseFault};
 use fir_types::{Field, FirType, Name, Shape};
@@ -143,7 +143,7 @@ fn lengths(
     let (length, end) = length(text, laid, at, brackets, suffixes)?;
     let vector = FirType {
         place: element.place,
-        shape: Shape::Vector(Boxed::new(alloc, element)?, length),
+        shape: Shape::Vector(Shared::new(alloc, element)?, length),
     };
     let (read, end) = lengths(alloc, text, laid, vector, end, brackets, suffixes + 1)?;
     Ok((read, end))
@@ -240,7 +240,7 @@ fn bundle(
     let place = place_of_part(text, part);
     let first = at + 1;
     let (fields, end) = fields(alloc, text, laid, names, first, brackets + 1)?;
-    let shape = Shape::Bundle(fields);
+    let shape = Shape::Bundle(Shared::new(alloc, fields)?);
     Ok((FirType { place, shape }, end))
 }
 

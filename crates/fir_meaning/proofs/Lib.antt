@@ -5,10 +5,10 @@ mod ExampleOfARun
 mod Settling
 mod Ports
 mod Chains
-mod Blocks
+pub mod Blocks
 mod Sides
-mod Covering
-mod Tracking
+pub mod Covering
+pub mod Tracking
 mod Equations
 mod Samples
 mod Examples

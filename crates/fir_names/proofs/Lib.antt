@@ -6,4 +6,4 @@ mod Meaning
 mod Ordering
 pub mod Reached
 mod Walking
-mod Agreement
+pub mod Agreement

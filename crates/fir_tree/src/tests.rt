@@ -1,5 +1,5 @@
 use super::*;
-use bit_words::{Boxed, Kind, List, Number};
+use bit_words::{Kind, List, Number, Shared};
 use fir_types::{FirType, Name, Shape};
 use place_text::Place;
 use std::alloc::{AllocError, Global};
@@ -72,7 +72,7 @@ fn nested_vectors(alloc: Global) -> Result<FirType, AllocError> {
     for _level in 0..MOST {
         typ = FirType {
             place: PLACE,
-            shape: Shape::Vector(Boxed::new(alloc, typ)?, 2),
+            shape: Shape::Vector(Shared::new(alloc, typ)?, 2),
         };
     }
     Ok(typ)

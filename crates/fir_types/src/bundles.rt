@@ -6,7 +6,7 @@ ghost use Rattle.fir_types.specs.Memories.{element_in, depth_in, first_or};
 
 use crate::copying::copy;
 use crate::{Field, FirType, MemLine, Memory, Name, Port, PortMode, Shape};
-use bit_words::{Boxed, List};
+use bit_words::{List, Shared};
 use place_text::Place;
 use std::alloc::{AllocError, Global};
 
@@ -41,12 +41,12 @@ pub fn instance_type(alloc: Global, ports: &[Port]) -> Result<FirType, AllocErro
         fields.push(Field {
             flip: !port.output,
             name: port.name,
-            typ: copy(alloc, &port.typ)?,
+            typ: copy(&port.typ)?,
         })?;
     }
     Ok(FirType {
         place: NOWHERE,
-        shape: Shape::Bundle(fields),
+        shape: Shape::Bundle(Shared::new(alloc, fields)?),
     })
 }
 
@@ -58,12 +58,12 @@ pub fn memory_type(alloc: Global, memory: &Memory) -> Result<FirType, AllocError
     let lines = memory.lines.as_slice();
     let empty = FirType {
         place: NOWHERE,
-        shape: Shape::Bundle(List::new(alloc)),
+        shape: Shape::Bundle(Shared::new(alloc, List::new(alloc))?),
     };
     let fields = port_fields(alloc, lines, element_of(lines, &empty), depth_of(lines))?;
     Ok(FirType {
         place: NOWHERE,
-        shape: Shape::Bundle(fields),
+        shape: Shape::Bundle(Shared::new(alloc, fields)?),
     })
 }
 
@@ -145,7 +145,7 @@ fn port_bundle(
     push_mode_fields(alloc, &mut fields, element, mode, place)?;
     Ok(FirType {
         place,
-        shape: Shape::Bundle(fields),
+        shape: Shape::Bundle(Shared::new(alloc, fields)?),
     })
 }
 
@@ -159,15 +159,15 @@ fn push_mode_fields(
     ensures { OnOk result (fields.new ≡ fields.old ++ fields_of_mode place element.now mode) }
 {
     match mode {
-        PortMode::Reader => fields.push(flipped(place, DATA, copy(alloc, element)?))?,
+        PortMode::Reader => fields.push(flipped(place, DATA, copy(element)?))?,
         PortMode::Writer => {
-            fields.push(plain(place, DATA, copy(alloc, element)?))?;
+            fields.push(plain(place, DATA, copy(element)?))?;
             fields.push(plain(place, MASK, mask(alloc, element)?))?;
         }
         PortMode::ReadWriter => {
-            fields.push(flipped(place, RDATA, copy(alloc, element)?))?;
+            fields.push(flipped(place, RDATA, copy(element)?))?;
             fields.push(plain(place, WMODE, uint(place, 1)))?;
-            fields.push(plain(place, WDATA, copy(alloc, element)?))?;
+            fields.push(plain(place, WDATA, copy(element)?))?;
             fields.push(plain(place, WMASK, mask(alloc, element)?))?;
         }
     }
@@ -232,10 +232,13 @@ fn mask(alloc: Global, typ: &FirType) -> Result<FirType, AllocError>
         Shape::Unsigned(_) | Shape::Signed(_) | Shape::Clock | Shape::Reset => {
             Shape::Unsigned(Some(1))
         }
-        Shape::Bundle(fields) => Shape::Bundle(mask_fields(alloc, fields.as_slice())?),
+        Shape::Bundle(fields) => {
+            let masks = mask_fields(alloc, fields.as_slice())?;
+            Shape::Bundle(Shared::new(alloc, masks)?)
+        }
         Shape::Vector(element, length) => {
             let masked = mask(alloc, element.get())?;
-            Shape::Vector(Boxed::new(alloc, masked)?, *length)
+            Shape::Vector(Shared::new(alloc, masked)?, *length)
         }
     };
     Ok(FirType {

@@ -1,7 +1,7 @@
 //! Types (FIRRTL specification 3.0, "Types").
 
 use crate::Name;
-use bit_words::{Boxed, List};
+use bit_words::{Shared, SharedList};
 use place_text::Place;
 
 /// A type as a circuit writes it, with the place of its first token.
@@ -25,9 +25,9 @@ pub enum Shape {
     /// `Reset`, which is equivalent to `UInt<1>`.
     Reset,
     /// `{ field : type .. }`, the fields in text order.
-    Bundle(List<Field>),
+    Bundle(SharedList<Field>),
     /// `type[n]`: n elements of one type. The length may be 0.
-    Vector(Boxed<FirType>, u128),
+    Vector(Shared<FirType>, u128),
 }
 
 /// A field of a bundle.

@@ -39,7 +39,7 @@ fn push_leaves(
             listed.push(TypeLeaf {
                 path: List::from_slice(alloc, path.as_slice())?,
                 flip,
-                typ: copy(alloc, typ)?,
+                typ: copy(typ)?,
             })?;
             Ok(())
         }

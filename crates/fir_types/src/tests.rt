@@ -1,5 +1,5 @@
 use super::*;
-use bit_words::{Boxed, List};
+use bit_words::{List, Shared};
 use place_text::Place;
 use std::alloc::{AllocError, Global};
 use std::test::Fail;
@@ -18,7 +18,7 @@ fn uint(width: u128) -> FirType {
 }
 
 fn vector(alloc: Global, element: FirType, length: u128) -> Result<FirType, AllocError> {
-    Ok(typ(Shape::Vector(Boxed::new(alloc, element)?, length)))
+    Ok(typ(Shape::Vector(Shared::new(alloc, element)?, length)))
 }
 
 fn name(id: u32) -> Name {
@@ -38,7 +38,7 @@ fn pair(alloc: Global, first: FirType, flip: bool, second: FirType) -> Result<Fi
         name: name(11),
         typ: second,
     })?;
-    Ok(typ(Shape::Bundle(fields)))
+    Ok(typ(Shape::Bundle(Shared::new(alloc, fields)?)))
 }
 
 /// The fields of a bundle, and none of another type.
@@ -136,7 +136,7 @@ fn equivalence_ignores_widths_alone(rt: HostRuntime) -> Result<(), Fail> {
 fn copies_are_equivalent(rt: HostRuntime) -> Result<(), Fail> {
     let alloc = rt.alloc();
     let typ = nested(alloc)?;
-    let copied = copy(alloc, &typ)?;
+    let copied = copy(&typ)?;
     assert!(rt; equivalent(&typ, &copied));
     Ok(())
 }

@@ -1,5 +1,5 @@
 -- The change that each call makes on the table is a step of the core.
-use Rattle.std.proofs.Common.{◌≡◌, ℕ, zero, suc, ◌+◌, ◌*◌, ◌%◌, ◌<◌, ◌≤◌, Bool, true, false, List, [], ◌∷◌, ◌++◌, map, length, drop, get_or, set, sym, ap, ◌∙◌, arith, Option, Some, None, add-one}
+use Rattle.std.proofs.Common.{◌≡◌, ℕ, zero, suc, ◌+◌, ◌*◌, ◌%◌, ◌<◌, ◌≤◌, Bool, true, false, List, [], ◌∷◌, ◌++◌, map, length, drop, get_or, set, sym, ap, ◌∙◌, subst, arith, Option, Some, None, add-one}
 use Rattle.std.specs.Prelude.{slice_get}
 use mathlib.Core.Option.{none, some, some-ne-none}
 use mathlib.Core.List.{map-append}
@@ -14,13 +14,13 @@ use Rattle.phase_core.specs.declared.model.Publication.{Publication}
 use Rattle.phase_core.specs.declared.model.View.{View}
 use Rattle.phase_core.specs.declared.model.PhaseState.{PhaseState}
 use Rattle.phase_core.specs.declared.model.Step.TheVariants.{Split, Stay, Pass, Arrive, Load, Publish, Join}
-use Rattle.phase_core.specs.Sound.{part_of, Live}
+use Rattle.phase_core.specs.Sound.{part_of, Live, Sound}
 use Rattle.phase_core.specs.Steps.{left_part, right_part, after_pass, after_arrival, after_publication, may_split, may_stay, may_pass, may_arrive, may_load, may_publish, may_join, may_close, next_of, put, on_live, on_next, when, stepped}
 use Rattle.phase_core.proofs.Lists.{at_index, at-get_or}
 use Rattle.phase_core.proofs.Keeps.{arrives, counted_low}
 use Rattle.phase_core.proofs.Runs.{stored, joined}
 use Rattle.register_table.specs.Rule.{view_of, seated, left_of, right_of, both_of, spent_of}
-use Rattle.register_table.specs.Laws.{Table, core_state, changed, Seated, SharesAsSplit, LooksAsStay, LooksAsPass, ArrivesAsArrive, ReadsAsLoad, PublishesAsPublish, UnitesAsJoin, FinishesAsClose}
+use Rattle.register_table.specs.Laws.{Table, core_state, changed, Seated, SharesAsSplit, LooksAsStay, LooksAsPass, ArrivesAsArrive, ReadsAsLoad, PublishesAsPublish, UnitesAsJoin, FinishesAsClose, StaysSound}
 
 abbrev Views : Type 0
 Views = List (Option View)
@@ -124,3 +124,6 @@ unites s t id other v u a there k p k' p' meet =
 
 pub finishes : FinishesAsClose
 finishes s t id v a low high last = step_taken (V s t id v a) id v (may_close s) (λ w. record (core_state t) { closed = true }) (live s t id v a) (grind (arith, nat_tests))
+
+pub stays_sound : StaysSound
+stays_sound s t h = subst (λ (l : List ℕ). Sound s (get_or l 0 0) (drop 1 l) (map view_of t.views)) (sym h.words_are) h.sound

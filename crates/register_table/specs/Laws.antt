@@ -11,7 +11,7 @@ use Rattle.phase_core.specs.declared.model.PhaseState.{PhaseState}
 use Rattle.phase_core.specs.declared.model.Step.{Step}
 use Rattle.phase_core.specs.declared.model.Step.TheVariants.{Split, Stay, Pass, Arrive, Load, Publish, Join, Close}
 use Rattle.phase_core.specs.Script.{IsScript}
-use Rattle.phase_core.specs.Sound.{part_of}
+use Rattle.phase_core.specs.Sound.{part_of, Sound}
 use Rattle.phase_core.specs.Steps.{after_pass, after_arrival, after_publication, stepped, begun}
 use Rattle.register_table.specs.declared.plays.Held.{Held}
 use Rattle.register_table.specs.Rule.{Holds, view_of, seated, begin_view, left_of, right_of, both_of, spent_of}
@@ -75,3 +75,7 @@ UnitesAsJoin = (s : Script) (t : Table) (id other : ℕ) (v u : View) → Seated
 abbrev pub FinishesAsClose : Type 0
 FinishesAsClose = (s : Script) (t : Table) (id : ℕ) (v : View) → Seated s t id v → v.low ≡ 0 → v.high ≡ s.workers → v.passed ≡ 2 * s.cycles
     → stepped s (core_state t) (Close id) ≡ Some (record (core_state t) { closed = true })
+
+-- at every moment the words and the live views of a table are sound for its script
+abbrev pub StaysSound : Type 0
+StaysSound = (s : Script) (t : Table) → Holds s t.words t.views → Sound s (core_state t).barrier (core_state t).words (core_state t).views

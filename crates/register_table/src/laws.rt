@@ -1,6 +1,6 @@
 //! Which step of the core each call makes, as laws. No program needs to call them.
 
-ghost use Rattle.register_table.specs.Laws.{OpensAsBegin, SharesAsSplit, LooksAsStay, LooksAsPass, ArrivesAsArrive, ReadsAsLoad, PublishesAsPublish, UnitesAsJoin, FinishesAsClose};
+ghost use Rattle.register_table.specs.Laws.{OpensAsBegin, SharesAsSplit, LooksAsStay, LooksAsPass, ArrivesAsArrive, ReadsAsLoad, PublishesAsPublish, UnitesAsJoin, FinishesAsClose, StaysSound};
 
 /// What each call does to the words of the table and to the views of its posts is one step of the core: `share` splits,
 /// a load of the barrier in `pass` stays or passes, `arrive` arrives, `read` loads, `publish` publishes, `unite` joins
@@ -15,4 +15,5 @@ pub fn calls_are_steps()
     ensures publishes { PublishesAsPublish }
     ensures unites { UnitesAsJoin }
     ensures finishes { FinishesAsClose }
+    ensures sound { StaysSound }
 {}

@@ -1,6 +1,6 @@
 //! The table and the posts.
 
-ghost use Rattle.std.specs.Prelude.{◌≡◌, ◌+◌, [], length};
+ghost use Rattle.std.specs.Prelude.{◌≡◌, ◌+◌, ◌≤◌, [], length};
 ghost use Rattle.phase_core.specs.Script.{IsScript};
 ghost use Rattle.register_table.specs.Rule.{seated};
 
@@ -41,6 +41,8 @@ pub struct Post<N: Plan> {
     pub view: View,
     pub(crate) of: PhantomData<N>,
     ghost held: { seat.me ≡ (seated view N.script, []) },
+    ghost behind: { view.passed ≤ view.arrivals },
+    ghost fresh: { view.arrivals ≡ 0 → view.done ≡ 0 },
 }
 
 /// A table that was closed behind its last cycle. `RegisterTable::finish` alone makes one.

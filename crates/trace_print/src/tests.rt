@@ -1,5 +1,5 @@
 use super::*;
-use bit_words::{Boxed, Kind, List, Row, Text, from_words};
+use bit_words::{Kind, List, Row, Shared, Text, from_words};
 use fir_tree::{Arm, Checked, Circuit, Expr, Fitted, Form, Module, Names, Scope, Stmt};
 use fir_types::{Field, FirType, Memory, Name, Port, Shape};
 use place_text::Place;
@@ -114,10 +114,10 @@ fn nested(alloc: Global) -> Result<FirType, AllocError> {
         field(true, LEAF, uint(3)),
         field(false, NODE, typ(Shape::Reset)),
     ]?;
-    let element = typ(Shape::Bundle(List::from_vec(element)));
-    let vector = typ(Shape::Vector(Boxed::new(alloc, element)?, 2));
+    let element = typ(Shape::Bundle(Shared::new(alloc, List::from_vec(element))?));
+    let vector = typ(Shape::Vector(Shared::new(alloc, element)?, 2));
     let fields = vec![in alloc; field(false, VEC, vector)]?;
-    Ok(typ(Shape::Bundle(List::from_vec(fields))))
+    Ok(typ(Shape::Bundle(Shared::new(alloc, List::from_vec(fields))?)))
 }
 
 /// `{ flip v : { x : UInt<2>, clk : Clock, flip w : UInt<8> } }`, as of a memory with a port `v`.
@@ -127,9 +127,9 @@ fn memory(alloc: Global) -> Result<FirType, AllocError> {
         field(false, CLK, typ(Shape::Clock)),
         field(true, WIRE, uint(8)),
     ]?;
-    let port = typ(Shape::Bundle(List::from_vec(port)));
+    let port = typ(Shape::Bundle(Shared::new(alloc, List::from_vec(port))?));
     let ports = vec![in alloc; field(true, VEC, port)]?;
-    Ok(typ(Shape::Bundle(List::from_vec(ports))))
+    Ok(typ(Shape::Bundle(Shared::new(alloc, List::from_vec(ports))?)))
 }
 
 fn refer(alloc: Global, id: u32) -> Expr {

@@ -140,7 +140,7 @@ fn declare(
 ) -> Result<(), AllocError>
     ensures { OnOk result (Walks (declares name.id (Some (part_of typ.now flow))) walk.old walk.new) }
 {
-    let typ = copy(alloc, typ)?;
+    let typ = copy(typ)?;
     insert_new(&mut walk.known, name.id, Part { typ, flow })
 }
 

@@ -1,5 +1,5 @@
 use super::*;
-use bit_words::{Boxed, List};
+use bit_words::{List, Shared};
 use fir_tree::{Checked, Circuit, Expr, Form, Module, Names, Scope, Stmt, Suffix};
 use fir_types::{Field, FirType, MemLine, Memory, Name, Port, PortMode, Shape};
 use place_text::Place;
@@ -44,7 +44,7 @@ fn flipped(alloc: Global) -> Result<FirType, AllocError> {
     };
     Ok(FirType {
         place: PLACE,
-        shape: Shape::Bundle(List::from_vec(vec![in alloc; field]?)),
+        shape: Shape::Bundle(Shared::new(alloc, List::from_vec(vec![in alloc; field]?))?),
     })
 }
 
@@ -255,7 +255,7 @@ fn indexed(alloc: Global) -> Result<Expr, AllocError> {
 fn with_index(alloc: Global) -> Result<Checked, AllocError> {
     let vector = FirType {
         place: PLACE,
-        shape: Shape::Vector(Boxed::new(alloc, bit())?, 2),
+        shape: Shape::Vector(Shared::new(alloc, bit())?, 2),
     };
     let ports = vec![in alloc; port(false, A, bit()), port(true, B, vector)]?;
     let body = vec![in alloc;

@@ -10,7 +10,7 @@ use crate::found::Findings;
 use crate::part::Part;
 use crate::rules::{Operand, judge_choice, judge_literal, judge_operation};
 use crate::steps::{Reached, to_element, to_field, to_indexed};
-use bit_words::List;
+use bit_words::{List, Shared};
 use fir_tree::{Expr, Form, Suffix};
 use fir_types::{FirType, Shape, copy};
 use indexmap::IndexMap;
@@ -29,7 +29,7 @@ pub fn judge(
     ensures found { OnOk result (Adds (found_of known.now.entries expr.now) found.old found.new) }
 {
     let at = found.types.len();
-    found.types.push(untyped(alloc, expr.place))?;
+    found.types.push(untyped(alloc, expr.place)?)?;
     let part = judge_form(alloc, known, found, expr)?;
     fill(alloc, &mut found.types, at, &part)?;
     Ok(part)
@@ -46,7 +46,7 @@ fn fill(
     ensures { OnOk result (types.new.items ≡ filled types.old.items at part.now) }
 {
     if let Some(part) = part {
-        types[at] = copy(alloc, &part.typ)?;
+        types[at] = copy(&part.typ)?;
     }
     Ok(())
 }
@@ -185,17 +185,17 @@ fn copied(alloc: Global, reached: Option<Reached<'_>>) -> Result<Option<Part>, A
         return Ok(None);
     };
     Ok(Some(Part {
-        typ: copy(alloc, reached.typ)?,
+        typ: copy(reached.typ)?,
         flow: reached.flow,
     }))
 }
 
 /// What stands for the type of a node that has none.
-fn untyped(alloc: Global, place: Place) -> FirType
-    ensures { result ≡ no_type place }
+fn untyped(alloc: Global, place: Place) -> Result<FirType, AllocError>
+    ensures { IfOk result (λ typ. typ ≡ no_type place) }
 {
-    FirType {
+    Ok(FirType {
         place,
-        shape: Shape::Bundle(List::new(alloc)),
-    }
+        shape: Shape::Bundle(Shared::new(alloc, List::new(alloc))?),
+    })
 }

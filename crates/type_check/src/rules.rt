@@ -106,7 +106,7 @@ pub fn judge_choice(
     if faults.len() > before {
         return Ok(None);
     }
-    Ok(Some(read_only(copy(alloc, &first.typ)?)))
+    Ok(Some(read_only(copy(&first.typ)?)))
 }
 
 /// Adds the faults of a choice: over what is no condition, over clocks, over types with a `flip`, and over two types that

@@ -168,7 +168,7 @@ pub fn note_ports(
         } else {
             Flow::Source
         };
-        let typ = copy(alloc, &port.typ)?;
+        let typ = copy(&port.typ)?;
         let part = Part { typ, flow };
         note(known, port.name.id, Component { part, slots })?;
     }

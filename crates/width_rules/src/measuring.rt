@@ -14,7 +14,7 @@ use crate::rule::Formula;
 use crate::slot::Slot;
 use crate::steps::walk_steps;
 use bit_words::literal::least_width;
-use bit_words::{Kind, List, Number};
+use bit_words::{Kind, List, Number, Shared};
 use fir_tree::{Expr, Form, Suffix};
 use fir_types::{FirType, Shape, copy};
 use indexmap::IndexMap;
@@ -84,7 +84,7 @@ fn measure_choice(
 {
     let [_, first, second] = operands else {
         return Ok(Measure {
-            part: no_part(alloc),
+            part: no_part(alloc)?,
             formulas: List::new(alloc),
         });
     };
@@ -135,12 +135,12 @@ fn reference(
 ) -> Result<Measure, AllocError>
     ensures { IfOk result (λ m. measured_by m ≡ measured_reference (named (map suffix_step suffixes.now) (component known.now.entries name))) }
 {
-    let nothing = no_component(alloc);
+    let nothing = no_component(alloc)?;
     let component = look_up(known, name, &nothing);
     let view = walk_steps(component, suffixes);
     Ok(Measure {
         part: Part {
-            typ: copy(alloc, view.typ)?,
+            typ: copy(view.typ)?,
             flow: view.flow,
         },
         formulas: formulas_of(alloc, view.slots)?,
@@ -163,25 +163,25 @@ pub fn look_up<'a>(
 }
 
 /// What stands for a component that isn't known.
-pub fn no_component(alloc: Global) -> Component
-    ensures { result ≡ component_or_none None }
+pub fn no_component(alloc: Global) -> Result<Component, AllocError>
+    ensures { IfOk result (λ nothing. nothing ≡ component_or_none None) }
 {
-    Component {
-        part: no_part(alloc),
+    Ok(Component {
+        part: no_part(alloc)?,
         slots: List::new(alloc),
-    }
+    })
 }
 
-pub fn no_part(alloc: Global) -> Part
-    ensures { result ≡ (component_or_none None).part }
+pub fn no_part(alloc: Global) -> Result<Part, AllocError>
+    ensures { IfOk result (λ part. part ≡ (component_or_none None).part) }
 {
-    Part {
+    Ok(Part {
         typ: FirType {
             place: Place { line: 1, column: 1 },
-            shape: Shape::Bundle(List::new(alloc)),
+            shape: Shape::Bundle(Shared::new(alloc, List::new(alloc))?),
         },
         flow: Flow::Source,
-    }
+    })
 }
 
 /// Widths as formulas.

@@ -16,7 +16,7 @@ use crate::memories::port_slots;
 use crate::rule::Rule;
 use crate::sizes::{push_slots, variables};
 use crate::slot::Slot;
-use bit_words::List;
+use bit_words::{List, Shared};
 use fir_tree::{Arm, Expr, Stmt};
 use fir_types::{FirType, Memory, Name, Shape, copy, element_of, memory_type};
 use indexmap::IndexMap;
@@ -134,7 +134,7 @@ pub fn duplex(alloc: Global, typ: &FirType) -> Result<Part, AllocError>
     ensures { IfOk result (λ part. part ≡ part_of typ.now Duplex) }
 {
     Ok(Part {
-        typ: copy(alloc, typ)?,
+        typ: copy(typ)?,
         flow: Flow::Duplex,
     })
 }
@@ -157,7 +157,7 @@ pub fn memory_component(
 {
     let empty = FirType {
         place: Place { line: 1, column: 1 },
-        shape: Shape::Bundle(List::new(alloc)),
+        shape: Shape::Bundle(Shared::new(alloc, List::new(alloc))?),
     };
     let lines = memory.lines.as_slice();
     let element = element_of(lines, &empty);
@@ -176,7 +176,7 @@ fn declare_instance(
 ) -> Result<(), AllocError>
     ensures { OnOk result (Walks (declares_component name (component instances.now.entries target.id)) found.old found.new) }
 {
-    let nothing = no_component(alloc);
+    let nothing = no_component(alloc)?;
     let instance = copy_component(alloc, look_up(instances, target.id, &nothing))?;
     note(&mut found.known, name.id, instance)
 }
@@ -186,7 +186,7 @@ pub fn copy_component(alloc: Global, component: &Component) -> Result<Component,
 {
     Ok(Component {
         part: Part {
-            typ: copy(alloc, &component.part.typ)?,
+            typ: copy(&component.part.typ)?,
             flow: component.part.flow,
         },
         slots: List::from_slice(alloc, component.slots.as_slice())?,

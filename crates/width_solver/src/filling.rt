@@ -4,7 +4,7 @@ ghost use Rattle.std.specs.Prelude.{◌≡◌, IfOk};
 ghost use Rattle.width_solver.specs.Filling.{filled, taking, first_number, behind_first};
 ghost use Rattle.width_solver.specs.Layers.{shape_taking, fields_taking};
 
-use bit_words::{Boxed, List};
+use bit_words::{List, Shared};
 use fir_types::{Field, FirType, Shape};
 use prim_ops::Width;
 use std::alloc::{AllocError, Global};
@@ -55,16 +55,16 @@ fn fill_shape<'a>(
         }
         Shape::Clock => Ok((Shape::Clock, widths)),
         Shape::Reset => {
-            let (_, rest) = take_first(widths);
-            Ok((Shape::Reset, rest))
+            let (width, rest) = take_first(widths);
+            Ok((Shape::Unsigned(width), rest))
         }
         Shape::Bundle(fields) => {
             let (fields, rest) = fill_fields(alloc, fields.as_slice(), widths)?;
-            Ok((Shape::Bundle(fields), rest))
+            Ok((Shape::Bundle(Shared::new(alloc, fields)?), rest))
         }
         Shape::Vector(element, length) => {
             let (element, rest) = fill(alloc, element.get(), widths)?;
-            Ok((Shape::Vector(Boxed::new(alloc, element)?, *length), rest))
+            Ok((Shape::Vector(Shared::new(alloc, element)?, *length), rest))
         }
     }
 }

@@ -13,7 +13,7 @@ use crate::faults::{push_condition, push_over, push_parameters};
 use crate::filling::filled;
 use crate::found::{Findings, Surveyed};
 use crate::widths::{bounded, kinds_of, lone_widths, slot_widths, wider_each, width_in_row};
-use bit_words::{Kind, List, Number};
+use bit_words::{Kind, List, Number, Shared};
 use fir_tree::{Expr, Form, Suffix};
 use fir_types::{FirType, Shape, copy};
 use indexmap::IndexMap;
@@ -39,7 +39,7 @@ pub fn survey_expr(
     ensures found { OnOk result (Adds (survey widths.now expr.now known.now.entries) found.old found.new) }
 {
     let at = found.nodes.len();
-    found.nodes.push(unfitted(alloc, expr.place))?;
+    found.nodes.push(unfitted(alloc, expr.place)?)?;
     let surveyed = survey_form(alloc, widths, known, found, expr)?;
     found.nodes[at] = filled(alloc, &surveyed.part.typ, surveyed.widths.as_slice())?;
     Ok(surveyed)
@@ -166,12 +166,12 @@ fn reference(
 ) -> Result<Surveyed, AllocError>
     ensures { IfOk result (λ s. s ≡ reference_kept widths.now place (named (map suffix_step suffixes.now) (component known.now.entries name))) }
 {
-    let nothing = no_component(alloc);
+    let nothing = no_component(alloc)?;
     let view = walk_steps(look_up(known, name, &nothing), suffixes);
     Ok(Surveyed {
         place,
         part: Part {
-            typ: copy(alloc, view.typ)?,
+            typ: copy(view.typ)?,
             flow: view.flow,
         },
         widths: slot_widths(alloc, widths, view.slots)?,
@@ -249,23 +249,23 @@ fn choice(alloc: Global, place: Place, operands: &[Surveyed]) -> Result<Surveyed
     let [_, first, second] = operands else {
         return Ok(Surveyed {
             place,
-            part: no_part(alloc),
+            part: no_part(alloc)?,
             widths: List::new(alloc),
         });
     };
     Ok(Surveyed {
         place,
-        part: source(copy(alloc, &first.part.typ)?),
+        part: source(copy(&first.part.typ)?),
         widths: wider_each(alloc, first.widths.as_slice(), second.widths.as_slice())?,
     })
 }
 
 /// What stands for the fitted type of a node until it is known.
-fn unfitted(alloc: Global, place: Place) -> FirType
-    ensures { result ≡ no_type place }
+fn unfitted(alloc: Global, place: Place) -> Result<FirType, AllocError>
+    ensures { IfOk result (λ typ. typ ≡ no_type place) }
 {
-    FirType {
+    Ok(FirType {
         place,
-        shape: Shape::Bundle(List::new(alloc)),
-    }
+        shape: Shape::Bundle(Shared::new(alloc, List::new(alloc))?),
+    })
 }

@@ -208,7 +208,7 @@ fn memory_slots(
     ensures ports { IfOk result (λ slots. slots.1 ≡ memory_slots memory.now (slots_from (length places.old.items) (spots (element_of memory.now)))) }
     ensures places { OnOk result (places.new.items ≡ places.old.items ++ places_for memory.now.name.place (open_spots (spots (element_of memory.now)))) }
 {
-    let empty = no_part(alloc).typ;
+    let empty = no_part(alloc)?.typ;
     let lines = memory.lines.as_slice();
     let element = element_of(lines, &empty);
     let own = slots_of_type(alloc, places, memory.name.place, element)?;
@@ -227,7 +227,7 @@ fn declare_instance(
 ) -> Result<(), AllocError>
     ensures { OnOk result (Walks (of_instance_among (solved given.now) instances.now.entries name target) walk.old walk.new) }
 {
-    let nothing = no_component(alloc);
+    let nothing = no_component(alloc)?;
     let instance = copy_component(alloc, look_up(instances, target.id, &nothing))?;
     let widths = slot_widths(alloc, given.widths, instance.slots.as_slice())?;
     walk.declared

@@ -5,9 +5,10 @@ use Rattle.fir_expr.proofs.Bracketed.{opener_call, stands_opened, stands_indexed
 use Rattle.fir_expr.proofs.Depth.{whole_stands}
 use Rattle.fir_expr.proofs.Passing.{room_step, room_name}
 use Rattle.fir_expr.proofs.Sources.{source_part}
-use Rattle.fir_expr.proofs.OperandsRead.{component_here, component_read, component_refused, operands_none, operands_no_operand, operands_refused, operands_more, mux_no_call, mux_no_operand, mux_not_closed, mux_read, operation_no_call, operation_no_operand, operation_no_number, operation_not_closed, operation_read, reference_no_name, name_begins, reference_refused, reference_read, suffixes_none, suffixes_more, index_no_mark, index_refused, index_not_closed, index_stepped}
+use Rattle.fir_expr.proofs.OperandsRead.{component_here, component_read, component_refused, operands_none, operands_no_operand, operands_refused, operands_more, mux_no_call, mux_no_operand, mux_not_closed, mux_read, operation_no_call, operation_no_operand, operation_no_number, operation_not_closed, operation_read, reference_no_name, name_begins, reference_refused, reference_read, suffixes_none, index_no_mark, index_refused, index_not_closed, index_stepped}
 use Rattle.prim_ops.specs.Operations.{name_of}
 use Rattle.std.specs.Prelude.{codes}
+use Rattle.fir_expr.proofs.Underway.{underway_more}
 use Rattle.fir_expr.proofs.expressions.+expr.Goals as goal
 
 -- expressions
@@ -156,22 +157,17 @@ reference-returns t c = reference_read c.in_ok-name.ensures.ok c.requires.stands
 
 -- suffixes
 
+pub suffixes-returns-in_default-clause-ok : goal.suffixes-returns-in_default-clause-ok
+suffixes-returns-in_default-clause-ok t c =
+    let none = rw c.in_default.is at c.in_ok-next.ensures.none in c.loop-next.invariant.goes_on (suffixes_none c.loop-next.read c.loop-next.invariant.stands none.0 none.1)
+
 pub suffixes-returns-in_err-push-clause-err : goal.suffixes-returns-in_err-push-clause-err
 suffixes-returns-in_err-push-clause-err t c = let p = err_from_is_err_and c.from_residual-in_err-push.result c.from_residual-in_err-push.ensures.1 in rw (p.1, p.2) no_memory
 
-pub suffixes-suffixes-requires : goal.suffixes-suffixes-requires
-suffixes-suffixes-requires t c =
+pub suffixes-loop-next-preserved : goal.suffixes-loop-next-preserved
+suffixes-loop-next-preserved t c =
     let step = rw c.in-Some.is at c.in_ok-next.ensures.some in
-    let few = rw c.in-Some.is at c.in_ok-next.ensures.few in
-    (omega (arith, few, c.decreases), (c.requires.source, (omega (arith, step.room, c.requires.room), (step.stands c.requires.stands, omega (arith, step.counted, c.requires.counted)))))
-
-pub suffixes-returns-clause-ok : goal.suffixes-returns-clause-ok
-suffixes-returns-clause-ok t c =
-    let step = rw c.in-Some.is at c.in_ok-next.ensures.some in
-    suffixes_more step (rw c.in_ok-push.ensures.ok at c.in_ok-end.ensures.ok)
-
-pub suffixes-returns-in_default-clause-ok : goal.suffixes-returns-in_default-clause-ok
-suffixes-returns-in_default-clause-ok t c = let none = rw c.in_default.is at c.in_ok-next.ensures.none in suffixes_none c.args.read.now c.requires.stands none.0 none.1
+    rw c.in_ok-push.ensures.ok (underway_more c.loop-next.invariant step)
 
 -- one suffix
 

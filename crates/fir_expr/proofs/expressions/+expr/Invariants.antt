@@ -1,4 +1,5 @@
 use Rattle.std.proofs.Common.{◌+◌, ◌-◌, ◌*◌}
+use Rattle.fir_expr.proofs.Underway.{IsUnderway}
 use Rattle.fir_expr.proofs.expressions.+expr.Given as goal
 
 -- Each bracket that opens leaves less; within one, operands read expressions, and these references, and these suffixes.
@@ -19,7 +20,14 @@ abbrev pub decreases-reference : goal.decreases-reference
 decreases-reference l = 1000000000000 * (128 - l.brackets) + 900
 
 abbrev pub decreases-suffixes : goal.decreases-suffixes
-decreases-suffixes l = 1000000000000 * (128 - l.brackets) + 300 + (128 - l.count)
+decreases-suffixes l = 1000000000000 * (128 - l.brackets) + 300
+
+-- what is read from here on was read from the start
+abbrev pub invariant-suffixes-loop-next : goal.invariant-suffixes-loop-next
+invariant-suffixes-loop-next l = IsUnderway l.text l.laid l.initial.here l.initial.names l.initial.read l.here l.names l.read l.brackets l.passed
+
+abbrev pub decreases-suffixes-loop-next : goal.decreases-suffixes-loop-next
+decreases-suffixes-loop-next l = 128 - l.passed
 
 abbrev pub decreases-index : goal.decreases-index
 decreases-index l = 1000000000000 * (128 - l.brackets) + 200

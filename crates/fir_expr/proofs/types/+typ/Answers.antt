@@ -81,8 +81,11 @@ bundle-returns-in_err-fields-clause-read t c =
     let p = err_from_is_err_and c.from_residual-in_err-fields.result c.from_residual-in_err-fields.ensures.1 in
     rw (p.1, p.2) (bundle_no_fields c.requires.begins c.requires.into c.in_ok-part.ensures.taken c.in_err-fields.ensures.err)
 
+pub bundle-returns-in_err-new-clause-read : goal.bundle-returns-in_err-new-clause-read
+bundle-returns-in_err-new-clause-read t c = let p = err_from_is_err_and c.from_residual-in_err-new.result c.from_residual-in_err-new.ensures.1 in rw (p.1, p.2) no_memory
+
 pub bundle-returns-clause-read : goal.bundle-returns-clause-read
-bundle-returns-clause-read t c = rw c.place_of_part-place.ensures (bundle_read c.requires.begins c.requires.into c.in_ok-part.ensures.taken c.in_ok-fields.ensures.ok)
+bundle-returns-clause-read t c = rw (c.place_of_part-place.ensures, c.in_ok-new.ensures) (bundle_read c.requires.begins c.requires.into c.in_ok-part.ensures.taken c.in_ok-fields.ensures.ok)
 
 pub bundle-returns-clause-begins : goal.bundle-returns-clause-begins
 bundle-returns-clause-begins t c = bundle_begins c.requires.begins c.requires.into c.in_ok-part.ensures.taken c.in_ok-fields.ensures.ok

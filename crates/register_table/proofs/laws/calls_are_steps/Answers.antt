@@ -1,5 +1,5 @@
 use Rattle.std.proofs.Common.{refl}
-use Rattle.register_table.proofs.Steps.{shares, stays, passes, arrives_is, reads, publishes_is, unites, finishes}
+use Rattle.register_table.proofs.Steps.{shares, stays, passes, arrives_is, reads, publishes_is, unites, finishes, stays_sound}
 use Rattle.register_table.proofs.laws.calls_are_steps.Goals as goal
 
 pub returns : goal.returns
@@ -13,4 +13,5 @@ returns c = record {
   publishes = publishes_is;
   unites = unites;
   finishes = finishes;
+  sound = stays_sound;
 }
