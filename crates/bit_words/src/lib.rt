@@ -30,6 +30,3 @@ pub type Row = List<Value>;
 
 /// Rows one after another.
 pub type Rows = List<Row>;
-
-#[cfg(test)]
-mod tests;

@@ -8,6 +8,3 @@ pub mod order;
 
 pub use found::{FaultKind, Found};
 pub use order::{earliest, is_not_later};
-
-#[cfg(test)]
-mod tests;

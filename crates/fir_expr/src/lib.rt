@@ -12,8 +12,3 @@ mod text;
 mod types;
 
 pub use reader::{Reader, read_expr, read_reference, read_type};
-
-#[cfg(test)]
-mod expression_tests;
-#[cfg(test)]
-mod tests;

@@ -8,6 +8,3 @@ mod lines;
 
 pub use laid::Laid;
 pub use layout::{LayoutFault, lay_out};
-
-#[cfg(test)]
-mod tests;

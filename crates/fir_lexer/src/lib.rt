@@ -12,6 +12,3 @@ pub use laws::{texts_have_one_fault, texts_have_one_reading};
 pub use lexing::{LexFault, lex};
 pub use pieces::{PieceKind, piece};
 pub use token::{Token, TokenKind};
-
-#[cfg(test)]
-mod tests;

@@ -14,6 +14,3 @@ mod walk;
 
 pub use fault::NameFault;
 pub use scoping::resolve;
-
-#[cfg(test)]
-mod tests;

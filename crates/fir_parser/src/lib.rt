@@ -13,8 +13,3 @@ mod take;
 mod version;
 
 pub use parser::parse;
-
-#[cfg(test)]
-mod fault_tests;
-#[cfg(test)]
-mod tests;

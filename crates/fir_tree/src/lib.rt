@@ -16,6 +16,3 @@ pub use fault::ParseFault;
 pub use names::Names;
 pub use scope::{Checked, Fitted, Scope, Types};
 pub use stmt::{Arm, Stmt};
-
-#[cfg(test)]
-mod tests;

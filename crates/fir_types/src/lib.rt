@@ -27,6 +27,3 @@ pub use memory::{MemLine, Memory, PortMode, Under};
 pub use name::Name;
 pub use passivity::passive;
 pub use port::Port;
-
-#[cfg(test)]
-mod tests;

@@ -9,8 +9,6 @@ mod laws;
 mod model;
 mod shape;
 mod steps;
-#[cfg(test)]
-mod tests;
 
 pub use laws::{ends_with_the_last, loads_the_cycle, stays_sound};
 pub use model::{PhaseState, Publication, Script, Step, View};

@@ -6,8 +6,6 @@
 
 pub mod fault;
 pub mod place;
-#[cfg(test)]
-mod tests;
 
 pub use fault::fault_line;
 pub use place::{Place, TextPart, place_of};

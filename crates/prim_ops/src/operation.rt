@@ -186,6 +186,3 @@ pub fn named(text: &[u8]) -> Option<PrimOp>
         _ => None,
     }
 }
-
-#[cfg(test)]
-mod tests;

@@ -97,8 +97,3 @@ fn on_two(prim: PrimOp, first: Value, second: Value) -> Value
         _ => unreachable!(),
     }
 }
-
-#[cfg(test)]
-mod cases;
-#[cfg(test)]
-mod tests;

@@ -196,6 +196,3 @@ fn fit_on(prim: PrimOp, width: u8, first: u128, second: u128) -> bool
         _ => true,
     }
 }
-
-#[cfg(test)]
-mod tests;

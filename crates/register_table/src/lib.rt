@@ -13,8 +13,6 @@ mod plan;
 mod plays;
 mod post;
 mod table;
-#[cfg(test)]
-mod tests;
 
 pub use laws::calls_are_steps;
 pub use plan::Plan;

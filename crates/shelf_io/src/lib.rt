@@ -9,8 +9,6 @@
 pub mod memory;
 pub mod real;
 pub mod take;
-#[cfg(test)]
-mod tests;
 pub mod traits;
 
 pub use memory::{ShelfMemory, SinkMemory};

@@ -9,8 +9,6 @@ mod check_circuit;
 mod check_names;
 mod check_statements;
 mod check_stimulus;
-#[cfg(test)]
-mod check_tests;
 mod circuit;
 mod command;
 mod decimal;
@@ -24,17 +22,11 @@ mod piece;
 mod read_circuit;
 mod read_line;
 mod read_stimulus;
-#[cfg(test)]
-mod reader_tests;
 mod short;
 mod small;
 mod split;
 mod stimulus;
-#[cfg(test)]
-mod tests;
 mod top;
 mod trace;
-#[cfg(test)]
-mod width_tests;
 
 pub use top::run_program;

@@ -104,6 +104,3 @@ fn push_decimal(out: &mut Vec<u8>, number: u64) -> Result<(), AllocError>
     let mut buffer = Buffer::new();
     out.extend_from_slice(buffer.format(number).as_bytes())
 }
-
-#[cfg(test)]
-mod tests;

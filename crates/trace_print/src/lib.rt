@@ -12,6 +12,3 @@ pub use component::Component;
 pub use declarations::components;
 pub use listing::{listed_leaves, widths_text};
 pub use trace::{header, trace_line};
-
-#[cfg(test)]
-mod tests;

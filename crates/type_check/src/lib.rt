@@ -25,8 +25,3 @@ pub use checking::check;
 pub use fault::TypeFault;
 pub use flows::flow_of;
 pub use part::Flow;
-
-#[cfg(test)]
-mod flow_tests;
-#[cfg(test)]
-mod tests;

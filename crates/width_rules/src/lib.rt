@@ -18,6 +18,3 @@ pub mod walk;
 
 pub use gathering::rules_of;
 pub use rule::{Formula, Rule, Rules};
-
-#[cfg(test)]
-mod tests;

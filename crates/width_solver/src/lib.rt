@@ -22,8 +22,3 @@ mod widths;
 pub use fault::WidthFault;
 pub use judging::judge;
 pub use solving::{Widths, solve};
-
-#[cfg(test)]
-mod judge_tests;
-#[cfg(test)]
-mod tests;
