@@ -15,11 +15,11 @@ use Rattle.fir_tree.specs.declared.expr.Form.TheVariants as form
 use Rattle.fir_tree.specs.Numbered.{AddsName}
 use Rattle.fir_layout.specs.Pieces.{Piece, A_token, A_line_end, A_block_opens, A_block_closes, The_end}
 use Rattle.prim_ops.specs.declared.operation.PrimOp.TheVariants.{Add, Tail}
-use Rattle.fir_tree.specs.Grammar.{Takes, A_number, Symbol, A, Expression, Module, Port, Statement, Statements, Text, Type_of, IsCase, a_block, a_bundle, a_clock, a_component, a_connect, a_data_type, a_depth, a_field_suffix, a_memory, a_module, a_negative_integer, a_node, a_plain_integer, a_read_latency, a_read_under_write, a_reader, a_reference, a_register, a_reset_register, a_signed_literal, a_skip, a_text, a_type, a_when, a_wide_unsigned_literal, a_width, a_wire, a_write_latency, an_element_suffix, an_index_suffix, an_input, an_instance, an_invalidate, an_operation, an_unsigned, an_unsigned_literal, else_, else_when, flipped_field, last_field, last_length, last_memory_line, last_statement, next_field, next_length, next_memory_line, next_statement, no_block, no_branch, no_module_body, no_modules, no_more_expressions, no_more_numbers, no_suffix, one_more_expression, one_more_number, plain_field, under_old, Derives, done, meets, expands, Front, Spells, no_symbol, a_rule, a_piece, a_place, a_name, a_magnitude}
-use Rattle.fir_tree.specs.Faults.{IsListed}
-use Rattle.fir_tree.proofs.Fronts.{Front-taken, Front-entered}
-use Rattle.fir_tree.proofs.Follows.{texts_apart}
-use Rattle.fir_tree.proofs.Agreement.{fresh_none}
+use Rattle.fir_grammar.specs.Grammar.{Takes, A_number, Symbol, A, Expression, Module, Port, Statement, Statements, Text, Type_of, IsCase, a_block, a_bundle, a_clock, a_component, a_connect, a_data_type, a_depth, a_field_suffix, a_memory, a_module, a_negative_integer, a_node, a_plain_integer, a_read_latency, a_read_under_write, a_reader, a_reference, a_register, a_reset_register, a_signed_literal, a_skip, a_text, a_type, a_when, a_wide_unsigned_literal, a_width, a_wire, a_write_latency, an_element_suffix, an_index_suffix, an_input, an_instance, an_invalidate, an_operation, an_unsigned, an_unsigned_literal, else_, else_when, flipped_field, last_field, last_length, last_memory_line, last_statement, next_field, next_length, next_memory_line, next_statement, no_block, no_branch, no_module_body, no_modules, no_more_expressions, no_more_numbers, no_suffix, one_more_expression, one_more_number, plain_field, under_old, Derives, done, meets, expands, Front, Spells, no_symbol, a_rule, a_piece, a_place, a_name, a_magnitude}
+use Rattle.fir_grammar.specs.Faults.{IsListed}
+use Rattle.fir_grammar.proofs.Fronts.{Front-taken, Front-entered}
+use Rattle.fir_grammar.proofs.Follows.{texts_apart}
+use Rattle.fir_tree.proofs.Distinct.{fresh_none}
 
 abbrev w : String → Piece
 w text = A_token kind.Word (codes text)

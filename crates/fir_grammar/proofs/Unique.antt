@@ -8,12 +8,14 @@ use Rattle.fir_layout.specs.Pieces.{pieces_of, bytes_of}
 use Rattle.bit_words.specs.declared.number.Number.{Number}
 use Rattle.fir_types.specs.declared.name.Name.{Name}
 use Rattle.fir_tree.specs.declared.circuit.Circuit.{Circuit}
-use Rattle.fir_tree.specs.Grammar.{Rule, Symbol, A, Tree, Values, tree, Derives, done, Text, IsCircuit, start_of, name_in, Spells, no_symbol, a_rule, a_piece, a_place, a_name, a_magnitude, a_placed_magnitude, a_quoted}
-use Rattle.fir_tree.specs.Reading.{IsSettled}
-use Rattle.fir_tree.proofs.Fronts.{spelled_derives}
-use Rattle.fir_tree.proofs.Follows.{settled_case}
-use Rattle.fir_tree.proofs.Agreement.{IsDistinct, fields_distinct, magnitudes_agree, quoted_agree, names_agree}
-use Rattle.fir_tree.proofs.Cases.{Chosen, same_case}
+use Rattle.fir_grammar.specs.Grammar.{Rule, Symbol, A, Tree, Values, tree, Derives, done, Text, IsCircuit, start_of, name_in, Spells, no_symbol, a_rule, a_piece, a_place, a_name, a_magnitude, a_placed_magnitude, a_quoted}
+use Rattle.fir_grammar.specs.Reading.{IsSettled}
+use Rattle.fir_grammar.proofs.Fronts.{spelled_derives}
+use Rattle.fir_grammar.proofs.Follows.{settled_case}
+use Rattle.fir_tree.specs.Numbered.{IsDistinct}
+use Rattle.fir_tree.proofs.Distinct.{names_agree}
+use Rattle.fir_grammar.proofs.Agreement.{fields_distinct, magnitudes_agree, quoted_agree}
+use Rattle.fir_grammar.proofs.Cases.{Chosen, same_case}
 
 pub record Agree (ss : List Symbol) (v w : Values ss) (rest rest' : List Laid) (after after' : List (List ℕ)) : Type 0 where
   pub values : Path (Values ss) v w

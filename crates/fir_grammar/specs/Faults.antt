@@ -7,7 +7,7 @@ use Rattle.fir_layout.specs.declared.laid.Laid.{Laid}
 use Rattle.fir_layout.specs.Pieces.{Piece, A_token, A_line_end, A_block_opens, A_block_closes, The_end, piece_of, pieces_of}
 use Rattle.fir_tree.specs.declared.fault.ParseFault.{ParseFault}
 use Rattle.fir_tree.specs.declared.fault.ParseFault.TheVariants.{BadSyntax, BadVersion, Unsupported, TooDeep}
-use Rattle.fir_tree.specs.Grammar.{Takes, A_number, A, Text, Front, start_of}
+use Rattle.fir_grammar.specs.Grammar.{Takes, A_number, A, Text, Front, start_of}
 
 -- How deep the pieces up to a place have gone: the blocks that are open, for each open bracket and for outside of all of
 -- them, the innermost first, the `.` and `[` of the reference or type that stands there last, and whether the last piece is

@@ -4,9 +4,9 @@ ghost use Rattle.std.specs.Prelude.{◌≡◌, ℕ, List, [], ◌∷◌, ◌++�
 ghost use Rattle.fir_layout.specs.declared.laid.Laid.{Laid as LaidPart};
 ghost use Rattle.fir_layout.specs.Pieces.{Piece, pieces_of};
 ghost use Rattle.fir_tree.specs.declared.circuit.Circuit.{Circuit as TheCircuit};
-ghost use Rattle.fir_tree.specs.Grammar.{Symbol, A, Text, Derives, Front, IsCircuit};
-ghost use Rattle.fir_tree.specs.Faults.{FaultOf, IsDeepAt};
-ghost use Rattle.fir_tree.specs.Reading.{Stands, IsSettled};
+ghost use Rattle.fir_grammar.specs.Grammar.{Symbol, A, Text, Derives, Front, IsCircuit};
+ghost use Rattle.fir_grammar.specs.Faults.{FaultOf, IsDeepAt};
+ghost use Rattle.fir_grammar.specs.Reading.{Stands, IsSettled};
 ghost use Rattle.fir_tree.specs.declared.fault.ParseFault.{ParseFault as TheFault};
 
 /// Every prefix of a derived list is a front.

@@ -9,9 +9,9 @@ use Rattle.fir_layout.specs.Pieces.{Piece, piece_of, pieces_of}
 use Rattle.fir_tree.specs.declared.circuit.Circuit.{Circuit}
 use Rattle.fir_tree.specs.declared.fault.ParseFault.{ParseFault}
 use Rattle.fir_tree.specs.declared.fault.ParseFault.TheVariants.{BadVersion, TooDeep}
-use Rattle.fir_tree.specs.Grammar.{Symbol, A, Text, Takes, A_number, Front, cut, takes_on, goes_into, done, IsCircuit, start_of}
-use Rattle.fir_tree.specs.Faults.{IsDeepAt, IsBad, IsTooDeep, IsNamed, listed, unlisted, FaultOf, a_version, a_bad_piece, a_deep_piece}
-use Rattle.fir_tree.proofs.Fronts.{Derives-front, spelled_derives}
+use Rattle.fir_grammar.specs.Grammar.{Symbol, A, Text, Takes, A_number, Front, cut, takes_on, goes_into, done, IsCircuit, start_of}
+use Rattle.fir_grammar.specs.Faults.{IsDeepAt, IsBad, IsTooDeep, IsNamed, listed, unlisted, FaultOf, a_version, a_bad_piece, a_deep_piece}
+use Rattle.fir_grammar.proofs.Fronts.{Derives-front, spelled_derives}
 
 -- a prefix of a shorter prefix is one of the whole
 take-shorter : (ps : List Piece) (i k : ℕ) → i ≤ k → take i (take k ps) ≡ take i ps

@@ -4,9 +4,9 @@ use Rattle.std.proofs.lemmas.Slice.Eq.{bytes_eq-Decides}
 use Rattle.fir_lexer.specs.declared.token.TokenKind.TheVariants as kind
 use Rattle.fir_layout.specs.Pieces.{Piece, A_token, A_block_opens}
 use Rattle.prim_ops.specs.Operations.{arity_of}
-use Rattle.fir_tree.specs.Grammar.{Terminal, The_word, The_mark, Opens, Takes, Kept, Symbol, Is, A, close, mark, line_end, Front, Rule, Modules, Module, Ports, Type_of, Lengths, Base_type, Fields, Field, Statements, Statement, Block, Branches, Memory_lines, Expression, Expressions, Numbers, Reference, Suffixes, IsCase, a_text, no_modules, some_modules, last_module, next_module, a_module, no_module_body, a_module_body, next_port, last_port, an_input, an_output, a_type, last_length, next_length, an_unsigned, a_signed, a_clock, a_reset, a_bundle, no_width, a_width, last_field, next_field, plain_field, flipped_field, last_statement, next_statement, a_wire, a_register, a_reset_register, a_memory, an_instance, a_node, a_connect, an_invalidate, a_when, a_skip, no_branch, else_when, else_, no_block, a_block, last_memory_line, next_memory_line, a_data_type, a_depth, a_read_latency, a_write_latency, a_read_under_write, under_old, under_new, under_undefined, a_reader, a_writer, a_readwriter, a_reference, a_mux, an_operation, no_more_expressions, one_more_expression, no_more_numbers, one_more_number, a_component, no_suffix, a_field_suffix, an_element_suffix, an_index_suffix, an_unsigned_literal, a_signed_literal, a_wide_unsigned_literal, a_wide_signed_literal, a_plain_integer, a_negative_integer, a_quoted_integer}
-use Rattle.fir_tree.specs.Reading.{goes_on_with, CannotBegin, CannotBeginAll, IsSettled, Stands, at_first, into_case, behind_rule, behind_piece}
-use Rattle.fir_tree.proofs.Fronts.{Front-taken, Front-entered}
+use Rattle.fir_grammar.specs.Grammar.{Terminal, The_word, The_mark, Opens, Takes, Kept, Symbol, Is, A, close, mark, line_end, Front, Rule, Modules, Module, Ports, Type_of, Lengths, Base_type, Fields, Field, Statements, Statement, Block, Branches, Memory_lines, Expression, Expressions, Numbers, Reference, Suffixes, IsCase, a_text, no_modules, some_modules, last_module, next_module, a_module, no_module_body, a_module_body, next_port, last_port, an_input, an_output, a_type, last_length, next_length, an_unsigned, a_signed, a_clock, a_reset, a_bundle, no_width, a_width, last_field, next_field, plain_field, flipped_field, last_statement, next_statement, a_wire, a_register, a_reset_register, a_memory, an_instance, a_node, a_connect, an_invalidate, a_when, a_skip, no_branch, else_when, else_, no_block, a_block, last_memory_line, next_memory_line, a_data_type, a_depth, a_read_latency, a_write_latency, a_read_under_write, under_old, under_new, under_undefined, a_reader, a_writer, a_readwriter, a_reference, a_mux, an_operation, no_more_expressions, one_more_expression, no_more_numbers, one_more_number, a_component, no_suffix, a_field_suffix, an_element_suffix, an_index_suffix, an_unsigned_literal, a_signed_literal, a_wide_unsigned_literal, a_wide_signed_literal, a_plain_integer, a_negative_integer, a_quoted_integer}
+use Rattle.fir_grammar.specs.Reading.{goes_on_with, CannotBegin, CannotBeginAll, IsSettled, Stands, at_first, into_case, behind_rule, behind_piece}
+use Rattle.fir_grammar.proofs.Fronts.{Front-taken, Front-entered}
 
 pub apart : (m n : ℕ) → eqb m n ≡ false → m ≡ n → ⊥
 apart m n differ same = let equal : eqb m n ≡ true = eq-eqb m n same in cc

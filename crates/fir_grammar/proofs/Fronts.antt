@@ -3,7 +3,7 @@ use Rattle.std.proofs.Common.{ℕ, zero, suc, List, ◌∷◌, ◌++◌, take}
 use Rattle.std.proofs.Math.Seq.{take-nil}
 use Rattle.fir_layout.specs.declared.laid.Laid.{Laid}
 use Rattle.fir_layout.specs.Pieces.{Piece, pieces_of}
-use Rattle.fir_tree.specs.Grammar.{Terminal, Takes, Rule, Symbol, Is, A, IsCase, Derives, done, meets, expands, Front, cut, takes_on, goes_into, Values, Spells, no_symbol, a_rule, a_piece, a_place, a_name, a_magnitude, a_placed_magnitude, a_quoted}
+use Rattle.fir_grammar.specs.Grammar.{Terminal, Takes, Rule, Symbol, Is, A, IsCase, Derives, done, meets, expands, Front, cut, takes_on, goes_into, Values, Spells, no_symbol, a_rule, a_piece, a_place, a_name, a_magnitude, a_placed_magnitude, a_quoted}
 
 pub Derives-front : {ss : List Symbol} {ps : List Piece} (k : ℕ) → Derives ss ps → Front ss (take k ps)
 Derives-front k done = rw (take-nil k) cut

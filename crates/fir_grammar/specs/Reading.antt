@@ -10,8 +10,8 @@ use Rattle.fir_layout.specs.declared.laid.Laid.{Laid}
 use Rattle.fir_layout.specs.Pieces.{Piece, piece_of, pieces_of}
 use Rattle.fir_tree.specs.declared.fault.ParseFault.{ParseFault}
 use Rattle.fir_tree.specs.declared.fault.ParseFault.TheVariants.{NoMemory, TooDeep}
-use Rattle.fir_tree.specs.Grammar.{Terminal, The_word, The_mark, Opens, Takes, Symbol, Kept, Is, A, Rule, IsCase, Text, Tree, Circuit_body, Module, Module_body, Port, Type_of, Lengths, Base_type, Width, Field, Statement, Block, Branches, Memory_line, Expression, Expressions, Reference, Suffixes, Front, Values, Spells, start_of}
-use Rattle.fir_tree.specs.Faults.{IsShallow, IsDeepAt, IsNamed}
+use Rattle.fir_grammar.specs.Grammar.{Terminal, The_word, The_mark, Opens, Takes, Symbol, Kept, Is, A, Rule, IsCase, Text, Tree, Circuit_body, Module, Module_body, Port, Type_of, Lengths, Base_type, Width, Field, Statement, Block, Branches, Memory_line, Expression, Expressions, Reference, Suffixes, Front, Values, Spells, start_of}
+use Rattle.fir_grammar.specs.Faults.{IsShallow, IsDeepAt, IsNamed}
 
 -- the pieces that a rule could go on with behind some of its lists
 abbrev pub goes_on_with : Rule → List Terminal

@@ -5,11 +5,11 @@ use Rattle.std.proofs.lemmas.Grind.{common_steps}
 use Rattle.std.proofs.lemmas.Option.{slice_get_within, get_or_from_slice_get}
 use Rattle.std.proofs.lemmas.Bool.{cases_lt}
 use Rattle.fir_layout.specs.Pieces.{Piece}
-use Rattle.fir_tree.specs.Grammar.{Terminal, Takes, Kept, Symbol, Is, A, Rule, IsCase, Front, cut, takes_on, goes_into}
-use Rattle.fir_tree.specs.Reading.{part, Leads, Stops, IsSettled}
-use Rattle.fir_tree.proofs.Fronts.{Front-taken, Front-entered}
-use Rattle.fir_tree.proofs.Cases.{Chosen, choose, chooses, some_injective}
-use Rattle.fir_tree.proofs.Completion.{Front-completes}
+use Rattle.fir_grammar.specs.Grammar.{Terminal, Takes, Kept, Symbol, Is, A, Rule, IsCase, Front, cut, takes_on, goes_into}
+use Rattle.fir_grammar.specs.Reading.{part, Leads, Stops, IsSettled}
+use Rattle.fir_grammar.proofs.Fronts.{Front-taken, Front-entered}
+use Rattle.fir_grammar.proofs.Cases.{Chosen, choose, chooses, some_injective}
+use Rattle.fir_grammar.proofs.Completion.{Front-completes}
 
 pub part-here : (pieces : List Piece) (i k : ℕ) → k ≤ i → part pieces i k ≡ []
 unfolding part

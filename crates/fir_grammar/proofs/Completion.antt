@@ -4,7 +4,7 @@ use Rattle.bit_words.specs.declared.number.Base.TheVariants.{Hexadecimal}
 use Rattle.bit_words.specs.Numbers.{plain}
 use Rattle.fir_lexer.specs.declared.token.TokenKind.TheVariants as kind
 use Rattle.fir_layout.specs.Pieces.{Piece, A_token, A_line_end, A_block_opens, A_block_closes, The_end}
-use Rattle.fir_tree.specs.Grammar.{Terminal, The_word, The_call, A_name, A_field, A_number, Three, A_quoted_number, The_mark, The_arrow, Line_ends, Opens, Closes, Ends, Takes, quoted, Kept, Symbol, Is, A, Rule, Text, Circuit_body, Modules, Module, Module_body, Ports, Port, Type_of, Lengths, Base_type, Width, Fields, Field, Statements, Statement, Block, Branches, Memory_lines, Memory_line, Under_write, Expression, Expressions, Numbers, Reference, Suffixes, Integer, IsCase, a_text, no_modules, last_module, a_module, no_module_body, last_port, an_input, a_type, last_length, a_clock, no_width, last_field, plain_field, last_statement, a_skip, no_branch, no_block, last_memory_line, a_depth, under_old, a_reference, no_more_expressions, one_more_expression, no_more_numbers, one_more_number, a_component, no_suffix, a_plain_integer, Derives, done, meets, expands, Front, cut, takes_on, goes_into}
+use Rattle.fir_grammar.specs.Grammar.{Terminal, The_word, The_call, A_name, A_field, A_number, Three, A_quoted_number, The_mark, The_arrow, Line_ends, Opens, Closes, Ends, Takes, quoted, Kept, Symbol, Is, A, Rule, Text, Circuit_body, Modules, Module, Module_body, Ports, Port, Type_of, Lengths, Base_type, Width, Fields, Field, Statements, Statement, Block, Branches, Memory_lines, Memory_line, Under_write, Expression, Expressions, Numbers, Reference, Suffixes, Integer, IsCase, a_text, no_modules, last_module, a_module, no_module_body, last_port, an_input, a_type, last_length, a_clock, no_width, last_field, plain_field, last_statement, a_skip, no_branch, no_block, last_memory_line, a_depth, under_old, a_reference, no_more_expressions, one_more_expression, no_more_numbers, one_more_number, a_component, no_suffix, a_plain_integer, Derives, done, meets, expands, Front, cut, takes_on, goes_into}
 
 -- what symbols derive one behind the other
 Derives-append : {ss others : List Symbol} {ps qs : List Piece} → Derives ss ps → Derives others qs → Derives (ss ++ others) (ps ++ qs)
