@@ -16,7 +16,6 @@ use Rattle.fir_tree.specs.declared.stmt.Stmt.{Stmt, the_lemmas as stmt_lemmas}
 use Rattle.fir_tree.specs.declared.stmt.Stmt.TheVariants as stmt
 use Rattle.fir_tree.specs.declared.circuit.Module.{Module}
 use Rattle.prim_ops.specs.declared.operation.PrimOp.TheVariants.{Add, AsUInt}
-use Rattle.circuit_parts.specs.declared.part.Flow.TheVariants.{Source, Sink, Duplex}
 use Rattle.type_check.specs.declared.fault.TypeFault.TheVariants as kind
 use Rattle.type_check.specs.Statements.{module_walk}
 

@@ -1,7 +1,7 @@
 -- The types of expressions (FIRRTL specification 3.0, "Expressions", "References", "Primitive Operations", "Multiplexers"), by cases
 -- on the node. A node has a type where its operands have types and it meets the conditions on them; where they have types and
 -- it doesn't, it is at fault; where one has none, it isn't judged.
-use Rattle.std.specs.Prelude.{◌≡◌, ℕ, zero, suc, ◌^◌, nat_lt, Bool, true, false, ◌||◌, ◌&&◌, List, [], ◌∷◌, ◌++◌, map, flat_map, find, ◌==◌, Option, Some, None, option_map, is_some, ℤ, pos, neg_ℤ, int_le, int_lt}
+use Rattle.std.specs.Prelude.{◌≡◌, ℕ, nat_lt, Bool, true, false, ◌||◌, List, [], ◌∷◌, ◌++◌, map, flat_map, find, ◌==◌, Option, Some, None, option_map, is_some, ℤ, pos, int_le}
 use Rattle.bit_words.specs.declared.value.Kind.{Kind as Sign}
 use Rattle.bit_words.specs.declared.value.Kind.TheVariants.{Unsigned, Signed}
 use Rattle.bit_words.specs.Numbers.{integer_of_number}
@@ -10,7 +10,6 @@ use Rattle.fir_types.specs.declared.fir_type.FirType.{FirType}
 use Rattle.fir_types.specs.declared.fir_type.Shape.{Shape}
 use Rattle.fir_types.specs.declared.fir_type.Shape.TheOpen.{Shape-F}
 use Rattle.fir_types.specs.declared.fir_type.Shape.TheViews.{out-Shape}
-use Rattle.fir_types.specs.declared.fir_type.Shape.TheVariants as shape
 use Rattle.fir_types.specs.declared.fir_type.Field.{Field}
 use Rattle.fir_types.specs.declared.name.Name.{Name}
 use Rattle.prim_ops.specs.declared.operation.PrimOp.{PrimOp}

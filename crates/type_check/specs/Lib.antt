@@ -5,7 +5,6 @@ pub mod Expressions
 pub mod Memories
 pub mod Statements
 pub mod Faults
-
 -- what the bodies keep, and what proofs need
 pub mod Noted
 pub mod Walks

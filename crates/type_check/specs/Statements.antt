@@ -1,10 +1,10 @@
 -- The conditions on statements (FIRRTL specification 3.0, "Statements", "Connects", "Registers", "Conditionals"). Each is judged where
 -- the expressions that it speaks of have types.
-use Rattle.std.specs.Prelude.{ℕ, Bool, true, false, ◌&&◌, ◌==◌, find, List, [], ◌∷◌, ◌++◌, map, flat_map, Option, Some, option_map, if◌then◌else◌}
+use Rattle.std.specs.Prelude.{ℕ, Bool, true, false, ◌&&◌, List, [], ◌∷◌, ◌++◌, map, flat_map, Option, Some, option_map}
 use Rattle.place_text.specs.declared.place.Place.{Place}
 use Rattle.fir_types.specs.declared.fir_type.FirType.{FirType}
 use Rattle.fir_types.specs.declared.port.Port.{Port}
-use Rattle.fir_types.specs.Bundles.{instance_of, memory_of}
+use Rattle.fir_types.specs.Bundles.{memory_of}
 use Rattle.fir_types.specs.Passivity.{has_flip}
 use Rattle.fir_tree.specs.declared.circuit.Circuit.{Circuit}
 use Rattle.fir_tree.specs.declared.circuit.Module.{Module}
