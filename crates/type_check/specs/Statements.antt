@@ -18,6 +18,7 @@ use Rattle.circuit_parts.specs.declared.part.Part.{Part}
 use Rattle.type_check.specs.declared.fault.TypeFault.TheVariants.{OperandKind, NotEquivalent, FlowSink, FlowSource, ConditionKind, NotPassive}
 use Rattle.type_check.specs.declared.fault.TypeFault.{TypeFault}
 use Rattle.type_check.specs.Parts.{Known, known_with, unless, when, where_typed}
+use Rattle.circuit_parts.specs.Turns.{in_order}
 use Rattle.circuit_parts.specs.Parts.{port_flow, instance_in, part_of, source_of}
 use Rattle.type_check.specs.Texts.{twice_in, stored_faults, is_passive, are_equivalent}
 use Rattle.circuit_parts.specs.Kinds.{is_unsigned, is_a_clock}
@@ -45,8 +46,7 @@ and_then first second known =
     record { known = b.known; nodes = a.nodes ++ b.nodes; faults = a.faults ++ b.faults }
 
 abbrev pub in_turn : List Walk → Walk
-in_turn [] = nothing
-in_turn (walk ∷ walks) = and_then walk (in_turn walks)
+in_turn = in_order and_then nothing
 
 -- faults that are there whatever is known
 abbrev pub notes : List TypeFault → Walk
