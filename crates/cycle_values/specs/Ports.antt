@@ -33,8 +33,8 @@ after_port depth before port element way =
     if (port.writes && nat_lt port.address depth) && ((port.address == element) && port.masked way) then port.written way else before element way
 
 -- The contents after all writes of a cycle, port by port in declared order: of two writes to one leaf the later port's stays.
-abbrev pub after_ports : {Way : Type 0} → ℕ → List (Shown Way) → Held Way → Held Way
-after_ports depth ports before = fold (after_port depth) before ports
+abbrev pub after_ports : {Way Port : Type 0} → ℕ → (Port → Shown Way) → List Port → Held Way → Held Way
+after_ports depth show ports before = fold (λ held port. after_port depth held (show port)) before ports
 
 -- What a port reads from given contents: 0 where it doesn't read, and past the depth.
 abbrev pub read_by_port : {Way : Type 0} → ℕ → Held Way → Shown Way → Way → ℤ

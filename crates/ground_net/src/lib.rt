@@ -7,6 +7,7 @@ pub mod circuit;
 pub mod copying;
 pub mod ground;
 pub mod net;
+pub mod ports;
 pub mod renumbering;
 
 pub use circuit::{
@@ -22,4 +23,5 @@ pub use net::{
     Cut, CutPart, ElementLeaf, Leaf, Net, NetMemory, NetPort, NetRead, NetRegister, NetReset,
     NetWrite, Ordered, PortLeaf, Ports, Role,
 };
+pub use ports::ports_of;
 pub use renumbering::{renumbered, renumbered_all};

@@ -5,13 +5,13 @@ use Rattle.std.specs.Prelude.{Option, Some, None, Result, Err}
 use Rattle.place_text.specs.declared.place.Place.{Place}
 use Rattle.fir_layout.specs.declared.laid.Laid.{Laid}
 use Rattle.fir_layout.specs.Pieces.{pieces_of}
-use Rattle.fir_tree.specs.Grammar.{IsCircuit}
-use Rattle.fir_tree.specs.Faults.{FaultOf, IsDeepAt}
+use Rattle.fir_grammar.specs.Grammar.{IsCircuit}
+use Rattle.fir_grammar.specs.Faults.{FaultOf, IsDeepAt}
 use Rattle.fir_tree.specs.declared.circuit.Circuit.{Circuit}
 use Rattle.fir_tree.specs.declared.fault.ParseFault.{ParseFault}
 use Rattle.fir_tree.specs.declared.fault.ParseFault.TheVariants.{NoMemory}
-use Rattle.fir_tree.proofs.Unique.{one_circuit}
-use Rattle.fir_tree.proofs.OneFault.{one_fault, accepted}
+use Rattle.fir_grammar.proofs.Unique.{one_circuit}
+use Rattle.fir_grammar.proofs.OneFault.{one_fault, accepted}
 use Rattle.fir_names.specs.Faults.{IsFault as IsNameFault, IsFirst, IsFirstAnswer, answer}
 use Rattle.fir_names.specs.declared.fault.Kind.{Kind}
 use Rattle.fir_names.specs.declared.fault.Kind.TheVariants as naming

@@ -8,8 +8,8 @@ use Rattle.fir_layout.specs.Layout.{IsLaidOut, IsBadIndent}
 use Rattle.fir_layout.specs.Pieces.{pieces_of}
 use Rattle.fir_layout.specs.declared.laid.Laid.{Laid}
 use Rattle.fir_layout.specs.declared.laid.Laid.TheVariants.{Item, LineEnd, Open, Close, End}
-use Rattle.fir_tree.specs.Grammar.{IsCircuit}
-use Rattle.fir_tree.specs.Faults.{FaultOf, IsDeepAt}
+use Rattle.fir_grammar.specs.Grammar.{IsCircuit}
+use Rattle.fir_grammar.specs.Faults.{FaultOf, IsDeepAt}
 use Rattle.fir_tree.specs.declared.circuit.Circuit.{Circuit}
 use Rattle.fir_tree.specs.declared.fault.ParseFault.{ParseFault}
 use Rattle.fir_tree.specs.declared.fault.ParseFault.TheVariants as grammar
