@@ -10,9 +10,9 @@ use Rattle.std.specs.declared.vec.Vec.{Vec}
 use Rattle.place_text.specs.declared.place.Place.{Place}
 use Rattle.ground_net.specs.declared.net.Net.{Net}
 use Rattle.read_graph.specs.Graph.{Graph, AreVertices, Reads as Edge, Through as Walk, itself as one_edge, others as more_edges, IsFirstOnLoop, IsOrder as IsOrderOf}
-use Rattle.comb_order.specs.Loops.{direct_reads, read_of, Reads, Through, itself, others, IsOnLoop, MentionsLeaves, IsAssigned, HasPlace, IsFirstLoop, IsOrder}
+use Rattle.ground_net.specs.Reads.{direct_reads, read_of, Reads, Through, itself, others, MentionsLeaves, IsAssigned, HasNoLoop, IsFirstLoop, IsOrder}
 use Rattle.read_graph.proofs.Reaches.{loop_inside}
-use Rattle.comb_order.specs.Graphs.{IsGraph, Keeps}
+use Rattle.comb_order.specs.Graphs.{IsGraph, Keeps, HasPlace}
 
 -- only leaves read
 reader_inside : (net : Net) (a b : ℕ) → Reads net a b → a < length net.leaves
@@ -55,8 +55,8 @@ module _ (net : Net) (g : Graph) (h : IsGraph net g) where
       let below = mentions k (slice_index row.items i) (reads_to k (slice_index row.items i) edge) in
       omega (arith, h.count, below, get_or_default row.items i e 0 inside)
 
-  pub no_loop : ((x : ℕ) → Walk g x x → ⊥) → (x : ℕ) → IsOnLoop net x → ⊥
-  no_loop none x loop = none x (walk_from x x loop)
+  pub no_loop : ((x : ℕ) → Walk g x x → ⊥) → HasNoLoop net
+  no_loop none = record { none = λ x loop. none x (walk_from x x loop) }
 
   pub first_inside : (x : ℕ) → IsFirstOnLoop g x → x < length net.leaves
   first_inside x first = omega (arith, h.count, loop_inside g x first.here)
@@ -64,9 +64,11 @@ module _ (net : Net) (g : Graph) (h : IsGraph net g) where
   pub first_loop : (x : ℕ) (place : Place) → IsFirstOnLoop g x → HasPlace net.leaves x place → IsFirstLoop net place
   first_loop x place first placed = record {
     at = x;
+    leaf = placed.leaf;
+    there = placed.there;
     here = walk_to x x first.here;
     first = λ y lt loop. first.first y lt (walk_from y y loop);
-    placed = placed;
+    is = placed.is;
   }
 
   -- the assignments of an order are in order

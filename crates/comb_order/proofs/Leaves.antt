@@ -3,7 +3,7 @@ use Rattle.std.proofs.Common.{◌≡◌, ℕ, ◌<◌, List, length, slice_get, 
 use Rattle.std.proofs.lemmas.Option.{slice_get-get_or}
 use Rattle.ground_net.specs.declared.net.Leaf.{Leaf}
 use Rattle.ground_net.specs.declared.net.Role.TheVariants as role
-use Rattle.comb_order.specs.Loops.{IsAssigned}
+use Rattle.ground_net.specs.Reads.{IsAssigned}
 
 pub leaf_there : (leaves : List Leaf) (x : ℕ) (leaf : Leaf) → x < length leaves → leaf ≡ get_or leaves x leaf → slice_get leaves x ≡ Some leaf
 leaf_there leaves x leaf lt e = slice_get-get_or leaves x leaf lt ∙ ap Some (sym e)

@@ -1,3 +1,4 @@
 pub mod Keeping
 pub mod Graphs
 pub mod Leaves
+pub mod Verdicts

@@ -3,8 +3,10 @@ use Rattle.std.specs.Prelude.{◌≡◌, ◌≢◌, ℕ, ◌<◌, List, length, 
 use Rattle.read_graph.specs.Graph.{Graph}
 use Rattle.std.specs.declared.alloc.Global.{Global}
 use Rattle.std.specs.declared.vec.Vec.{Vec}
+use Rattle.place_text.specs.declared.place.Place.{Place}
 use Rattle.ground_net.specs.declared.net.Net.{Net}
-use Rattle.comb_order.specs.Loops.{direct_reads}
+use Rattle.ground_net.specs.declared.net.Leaf.{Leaf}
+use Rattle.ground_net.specs.Reads.{direct_reads}
 
 -- a vertex for each leaf, which reads what the leaf reads directly
 pub record IsGraph (net : Net) (g : Graph) : Type 0 where
@@ -27,3 +29,9 @@ pub record Keeps (is : ℕ → Type 0) (s kept : List ℕ) : Type 0 where
   pub stood : (k : ℕ) → k < length kept → StoodAt is s kept k
   pub all : (i : ℕ) → i < length s → is (slice_index s i) → (k : ℕ) × (k < length kept) × (slice_index kept k ≡ slice_index s i)
   pub once : IsOnce s → IsOnce kept
+
+-- the leaf of this number has this place, that of its component's name
+pub record HasPlace (leaves : List Leaf) (x : ℕ) (place : Place) : Type 0 where
+  pub leaf : Leaf
+  pub there : slice_get leaves x ≡ Some leaf
+  pub is : leaf.place ≡ place

@@ -1,5 +1,6 @@
 //! The reason to refuse a net.
 
+use fault_order::Fault;
 use place_text::Place;
 use std::alloc::AllocError;
 use thiserror::Error;
@@ -23,4 +24,40 @@ impl From<AllocError> for OrderFault {
     fn from(_: AllocError) -> OrderFault {
         OrderFault::NoMemory
     }
+}
+
+impl Fault for OrderFault {
+    ghost use Rattle.comb_order.specs.Faults.{place_of, rank_of, kind_of};
+    ghost use Rattle.comb_order.specs.Ranks.{one_each, one_nowhere};
+
+    ghost place = { place_of };
+
+    ghost rank = { rank_of };
+
+    ghost kind = { kind_of };
+
+    fn place(&self) -> Option<Place> {
+        match self {
+            OrderFault::CombLoop(place) => Some(*place),
+            OrderFault::NoMemory => None,
+        }
+    }
+
+    fn rank(&self) -> u8 {
+        match self {
+            OrderFault::CombLoop(_) => 0,
+            OrderFault::NoMemory => 1,
+        }
+    }
+
+    fn kind(&self) -> &'static str {
+        match self {
+            OrderFault::CombLoop(_) => "CombLoop",
+            OrderFault::NoMemory => "NoMemory",
+        }
+    }
+
+    ghost one_each = { one_each };
+
+    ghost one_nowhere = { one_nowhere };
 }

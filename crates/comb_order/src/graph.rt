@@ -2,7 +2,7 @@
 
 ghost use Rattle.std.specs.Prelude.{◌≡◌, ◌<◌, ◌++◌, length, map, IfOk, OnOk};
 ghost use Rattle.ground_net.specs.Grounds.{mentions, joined};
-ghost use Rattle.comb_order.specs.Loops.{direct_reads};
+ghost use Rattle.ground_net.specs.Reads.{direct_reads};
 ghost use Rattle.comb_order.specs.Graphs.{IsGraph};
 
 use ground_net::{Ground, Net, Role};
@@ -43,10 +43,11 @@ fn push_mentions(ground: &Ground, row: &mut Vec<u32>) -> Result<(), AllocError>
             row.push(*leaf)?;
             Ok(())
         }
-        Ground::Op(_, items, _)
-        | Ground::Mux(items)
-        | Ground::Load(_, _, items)
-        | Ground::Fit(_, _, items) => push_all(items.as_slice(), row),
+        Ground::Op(_, items, _) | Ground::Mux(items) | Ground::Fit(_, _, items) => {
+            push_all(items.as_slice(), row)
+        }
+        // The address and the condition.
+        Ground::Load(_, _, items) => push_all(items.as_slice(), row),
         Ground::Select(index, items) => {
             push_all(index.as_slice(), row)?;
             push_all(items.as_slice(), row)

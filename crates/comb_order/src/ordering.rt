@@ -2,8 +2,10 @@
 
 ghost use Rattle.std.specs.Prelude.{◌≡◌, ℕ, ◌<◌, length, All, IfOk, OnOk, Err, MatchBool};
 ghost use Rattle.place_text.specs.declared.place.Place.{Place as APlace};
-ghost use Rattle.comb_order.specs.Loops.{MentionsLeaves, IsAssigned, IsOrder, IsOnLoop, IsFirstLoop, HasPlace};
-ghost use Rattle.comb_order.specs.Graphs.{Keeps};
+ghost use Rattle.ground_net.specs.Reads.{MentionsLeaves, IsAssigned, IsOrder, HasNoLoop, IsFirstLoop};
+ghost use Rattle.fault_order.specs.Verdicts.{IsVerdict};
+ghost use Rattle.comb_order.specs.Faults.{IsFault, IsOrdered, place_of, rank_of};
+ghost use Rattle.comb_order.specs.Graphs.{Keeps, HasPlace};
 
 use crate::fault::OrderFault;
 use crate::graph::graph_of;
@@ -13,14 +15,14 @@ use place_text::Place;
 use read_graph::GraphFault;
 use std::alloc::{AllocError, Global};
 
-/// The net with its assignments in an order, each after all that it reads; or the place of the first leaf that is on a loop.
+/// The net with its assignments in an order, each after all that it reads; or the place of the first leaf, in flat order, that is
+/// on a loop (FIRRTL specification 3.0, "Combinational Loops").
+///
+/// Takes time and memory in proportion to the leaves and what they read.
 pub fn order(alloc: Global, net: Net) -> Result<Ordered, OrderFault>
     requires mentions { MentionsLeaves net }
     requires few { length net.leaves < 4294967296 }
-    ensures net { IfOk result (λ ordered. ordered.net ≡ net) }
-    ensures ordered { IfOk result (λ ordered. IsOrder net ordered.sequence) }
-    ensures no_loop { OnOk result ((x : ℕ) → IsOnLoop net x → ⊥) }
-    ensures looped { (place : APlace) → result ≡ Err (OrderFault.CombLoop place) → IsFirstLoop net place }
+    ensures { IsVerdict place_of rank_of (IsFault net) (IsOrdered net) result }
 {
     let sequence = sequence_of(alloc, &net)?;
     Ok(Ordered { net, sequence })
@@ -31,7 +33,7 @@ fn sequence_of(alloc: Global, net: &Net) -> Result<List<u32>, OrderFault>
     requires mentions { MentionsLeaves net.now }
     requires few { length net.now.leaves < 4294967296 }
     ensures ordered { IfOk result (IsOrder net.now) }
-    ensures no_loop { OnOk result ((x : ℕ) → IsOnLoop net.now x → ⊥) }
+    ensures no_loop { OnOk result (HasNoLoop net.now) }
     ensures looped { (place : APlace) → result ≡ Err (OrderFault.CombLoop place) → IsFirstLoop net.now place }
 {
     let graph = graph_of(alloc, net)?;

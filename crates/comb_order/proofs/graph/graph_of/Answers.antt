@@ -1,6 +1,6 @@
 use Rattle.std.proofs.Common.{◌≡◌, ℕ, length, slice_get, Some, Vec, Global, ◌+◌, ◌∙◌, ap, sym, subst}
 use Rattle.std.proofs.lemmas.List.{length_push}
-use Rattle.comb_order.specs.Loops.{direct_reads}
+use Rattle.ground_net.specs.Reads.{direct_reads}
 use Rattle.comb_order.proofs.Graphs.{rows_more}
 use Rattle.comb_order.proofs.graph.graph_of.Goals as goal
 

@@ -1,5 +1,5 @@
 use Rattle.std.proofs.Common.{◌≡◌, ℕ, length, slice_get, Some, Vec, Global}
-use Rattle.comb_order.specs.Loops.{direct_reads}
+use Rattle.ground_net.specs.Reads.{direct_reads}
 use Rattle.comb_order.proofs.graph.graph_of.Given as goal
 
 abbrev pub invariant-loop-number : goal.invariant-loop-number

@@ -1,6 +1,6 @@
 use Rattle.std.proofs.Common.{[], ◌∷◌, ◌++◌, ◌∙◌, take, slice_index, sym, subst}
 use Rattle.std.proofs.lemmas.List.{take_more}
-use Rattle.comb_order.specs.Loops.{IsAssigned}
+use Rattle.ground_net.specs.Reads.{IsAssigned}
 use Rattle.comb_order.specs.Graphs.{Keeps}
 use Rattle.comb_order.proofs.Keeping.{keeps_past, keeps_more}
 use Rattle.comb_order.proofs.ordering.assignments_of.Goals as goal

@@ -1,5 +1,5 @@
 use Rattle.std.proofs.Common.{take}
-use Rattle.comb_order.specs.Loops.{IsAssigned}
+use Rattle.ground_net.specs.Reads.{IsAssigned}
 use Rattle.comb_order.specs.Graphs.{Keeps}
 use Rattle.comb_order.proofs.ordering.assignments_of.Given as goal
 

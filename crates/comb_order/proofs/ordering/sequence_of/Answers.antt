@@ -1,7 +1,7 @@
 use Rattle.std.proofs.Common.{◌≡◌, ◌<◌, length, Err, sym, subst, ap}
 use Rattle.read_graph.specs.Graph.{IsOrder}
-use Rattle.comb_order.specs.Loops.{IsAssigned, HasPlace}
-use Rattle.comb_order.specs.Graphs.{IsGraph, Keeps}
+use Rattle.ground_net.specs.Reads.{IsAssigned}
+use Rattle.comb_order.specs.Graphs.{IsGraph, Keeps, HasPlace}
 use Rattle.comb_order.proofs.Graphs.{vertices, no_loop, first_inside, first_loop, ordered}
 use Rattle.comb_order.proofs.ordering.sequence_of.Goals as goal
 
