@@ -1,5 +1,5 @@
 -- Drivers of a net of so many leaves.
-use Rattle.std.specs.Prelude.{◌≡◌, ℕ, ◌<◌, List, length, slice_get, Option, Some, Contains}
+use Rattle.std.specs.Prelude.{ℕ, ◌<◌, Option, Contains}
 use Rattle.ground_net.specs.declared.ground.Ground.{Ground}
 use Rattle.ground_net.specs.declared.net.Role.TheVariants as role
 use Rattle.ground_net.specs.Reads.{read_by}

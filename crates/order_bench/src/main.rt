@@ -50,7 +50,9 @@ fn run(rt: &HostRuntime) -> Option<Answer> {
 
 /// The answer for a net of a shape, unless memory is wanting.
 fn answer_of(alloc: Global, shape: Shape, count: u32) -> Option<Answer> {
-    let net = net_of(alloc, shape, count).ok()?;
+    let Ok(net) = net_of(alloc, shape, count) else {
+        return None;
+    };
     match order(alloc, net) {
         Ok(ordered) => Some(Answer::Ordered(ordered.sequence.len())),
         Err(OrderFault::CombLoop(place)) => Some(Answer::Looped(place.line)),
