@@ -21,6 +21,7 @@ use Rattle.fir_tree.specs.declared.stmt.Arm.{Arm, fold-Arm}
 use Rattle.fir_tree.specs.declared.stmt.Stmt.TheOpen.{Stmt-F, Arm-F}
 use Rattle.circuit_parts.specs.declared.part.Flow.{Flow}
 use Rattle.circuit_parts.specs.declared.part.Flow.TheVariants.{Source, Sink, Duplex}
+use Rattle.circuit_parts.specs.Turns.{in_order}
 use Rattle.circuit_parts.specs.Parts.{part_of, source_of, flow_through, port_flow}
 use Rattle.width_rules.specs.declared.component.Component.{Component}
 use Rattle.width_rules.specs.declared.slot.Slot.{Slot}
@@ -127,8 +128,7 @@ and_then first second known n =
     record { known = b.known; places = a.places ++ b.places; rules = a.rules ++ b.rules }
 
 abbrev pub in_turn : List Walk → Walk
-in_turn [] = nothing
-in_turn (walk ∷ walks) = and_then walk (in_turn walks)
+in_turn = in_order and_then nothing
 
 -- a wire or a register
 abbrev pub declares : Name → FirType → Walk
