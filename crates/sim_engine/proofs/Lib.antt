@@ -1,0 +1,4 @@
+pub mod FirstOfStage
+pub mod Solving
+pub mod Once
+pub mod Given
