@@ -1,5 +1,0 @@
-use Rattle.phase_core.specs.Steps.{SoundState}
-use Rattle.phase_core.proofs.tests.take_steps.Given as goal
-
-abbrev pub invariant-loop-step : goal.invariant-loop-step
-invariant-loop-step g l = SoundState l.script l.state

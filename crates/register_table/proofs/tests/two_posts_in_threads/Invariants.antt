@@ -1,4 +1,0 @@
-use Rattle.register_table.proofs.tests.two_posts_in_threads.Given as goal
-
-abbrev pub ghosts-run_in_threads : goal.ghosts-run_in_threads
-ghosts-run_in_threads g a = record { script = a.script.now }
