@@ -13,13 +13,13 @@ use Rattle.fir_layout.specs.declared.laid.Laid.{Laid}
 use Rattle.fir_layout.specs.Pieces.{Piece, piece_of, pieces_of}
 use Rattle.fir_tree.specs.declared.fault.ParseFault.{ParseFault}
 use Rattle.fir_tree.specs.declared.fault.ParseFault.TheVariants.{TooDeep}
-use Rattle.fir_tree.specs.Grammar.{Terminal, Takes, Kept, Nothing, Its_place, Its_name, Its_magnitude, Its_place_and_magnitude, Its_number, Symbol, Is, A, Rule, IsCase, Front, cut, takes_on, goes_into, Values, tree, start_of, Spells, no_symbol, a_rule, a_piece, a_place, a_name, a_magnitude, a_placed_magnitude, a_quoted}
-use Rattle.fir_tree.specs.Faults.{IsShallow, IsDeepAt, IsNamed, is_deep, levels}
-use Rattle.fir_tree.specs.Reading.{part, Leads, IsSettled, HasRead, IsRefused, no_memory, at_bad_piece, at_deep_piece}
-use Rattle.fir_tree.proofs.Cases.{choose, some_injective}
-use Rattle.fir_tree.proofs.Follows.{settled_case}
-use Rattle.fir_tree.proofs.Fronts.{Front-entered}
-use Rattle.fir_tree.proofs.ReadingLaws.{part-here, part-cons, Leads-refl, Leads-trans, Stops-trans, Leads-piece, Stops-piece, Leads-case, Leads-case-of-two, Stops-rule}
+use Rattle.fir_grammar.specs.Grammar.{Terminal, Takes, Kept, Nothing, Its_place, Its_name, Its_magnitude, Its_place_and_magnitude, Its_number, Symbol, Is, A, Rule, IsCase, Front, cut, takes_on, goes_into, Values, tree, start_of, Spells, no_symbol, a_rule, a_piece, a_place, a_name, a_magnitude, a_placed_magnitude, a_quoted}
+use Rattle.fir_grammar.specs.Faults.{IsShallow, IsDeepAt, IsNamed, is_deep, levels}
+use Rattle.fir_grammar.specs.Reading.{part, Leads, IsSettled, HasRead, IsRefused, no_memory, at_bad_piece, at_deep_piece}
+use Rattle.fir_grammar.proofs.Cases.{choose, some_injective}
+use Rattle.fir_grammar.proofs.Follows.{settled_case}
+use Rattle.fir_grammar.proofs.Fronts.{Front-entered}
+use Rattle.fir_grammar.proofs.ReadingLaws.{part-here, part-cons, Leads-refl, Leads-trans, Stops-trans, Leads-piece, Stops-piece, Leads-case, Leads-case-of-two, Stops-rule}
 
 -- the values of symbols, and then those of the symbols behind them
 abbrev pub joined : (ss more : List Symbol) → Values ss → Values more → Values (ss ++ more)

@@ -11,10 +11,10 @@ use Rattle.fir_layout.specs.Pieces.{Piece, A_token, piece_of, pieces_of}
 use Rattle.fir_tree.specs.declared.fault.ParseFault.{ParseFault}
 use Rattle.fir_tree.specs.declared.expr.Expr.{Expr}
 use Rattle.fir_tree.specs.declared.expr.Form.TheVariants as form
-use Rattle.fir_tree.specs.Grammar.{Terminal, The_word, The_call, The_mark, A_number, Takes, Nothing, Its_place, Its_magnitude, Symbol, Is, A, close, mark, number, Expression, Integer, IsCase, Values, tree, start_of, Front, cut, takes_on, an_unsigned_literal, a_signed_literal, a_wide_unsigned_literal, a_wide_signed_literal}
-use Rattle.fir_tree.specs.Faults.{most, Levels, levels, is_deep}
-use Rattle.fir_tree.specs.Reading.{HasRead, IsRefused}
-use Rattle.fir_tree.proofs.Cases.{choose, Chosen, starts_mark}
+use Rattle.fir_grammar.specs.Grammar.{Terminal, The_word, The_call, The_mark, A_number, Takes, Nothing, Its_place, Its_magnitude, Symbol, Is, A, close, mark, number, Expression, Integer, IsCase, Values, tree, start_of, Front, cut, takes_on, an_unsigned_literal, a_signed_literal, a_wide_unsigned_literal, a_wide_signed_literal}
+use Rattle.fir_grammar.specs.Faults.{most, Levels, levels, is_deep}
+use Rattle.fir_grammar.specs.Reading.{HasRead, IsRefused}
+use Rattle.fir_grammar.proofs.Cases.{choose, Chosen, starts_mark}
 use Rattle.fir_expr.specs.Standing.{StandsIn}
 use Rattle.fir_expr.specs.Parts.{IsTaken, IsNotTaken, IsNumberAt, HasPassed, StartsWith, kind_name}
 use Rattle.fir_expr.proofs.Composition.{joined, read_then, Enters, enters_by_piece, enters_by_two, piece_at, refused_first, refused_behind, refused_case}

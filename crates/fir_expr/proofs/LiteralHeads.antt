@@ -11,8 +11,8 @@ use Rattle.fir_lexer.specs.declared.token.TokenKind.TheVariants as kind
 use Rattle.fir_layout.specs.declared.laid.Laid.{Laid}
 use Rattle.fir_layout.specs.declared.laid.Laid.TheVariants.{Item, LineEnd, Open, Close, End}
 use Rattle.fir_layout.specs.Pieces.{Piece, A_token, A_line_end, A_block_opens, A_block_closes, The_end, piece_of, pieces_of, bytes_of}
-use Rattle.fir_tree.specs.Grammar.{The_word, The_call, The_mark, Takes, Expression, a_reference, a_component, an_operation, cut, takes_on, goes_into}
-use Rattle.fir_tree.proofs.Cases.{choose, Chosen, operation_in, operations}
+use Rattle.fir_grammar.specs.Grammar.{The_word, The_call, The_mark, Takes, Expression, a_reference, a_component, an_operation, cut, takes_on, goes_into}
+use Rattle.fir_grammar.proofs.Cases.{choose, Chosen, operation_in, operations}
 use Rattle.fir_expr.specs.declared.literals.Head.{Head as TheHead}
 use Rattle.fir_expr.specs.declared.literals.Head.TheVariants as head
 use Rattle.fir_expr.specs.Parts.{StartsWith, GoesInto, kind_name, IsHeadAt}

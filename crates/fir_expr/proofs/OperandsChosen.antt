@@ -6,9 +6,9 @@ use Rattle.fir_layout.specs.Pieces.{Piece, A_token, piece_of, pieces_of}
 use Rattle.prim_ops.specs.declared.operation.PrimOp.{PrimOp}
 use Rattle.prim_ops.specs.declared.operation.PrimOp.TheVariants.{Add, Sub, Mul, Div, Rem, Lt, Leq, Gt, Geq, Eq, Neq, Pad, AsUInt, AsSInt, Shl, Shr, Dshl, Dshr, Cvt, Neg, Not, And, Or, Xor, Andr, Orr, Xorr, Cat, Bits, Head, Tail}
 use Rattle.prim_ops.specs.Operations.{name_of}
-use Rattle.fir_tree.specs.Grammar.{The_call, The_mark, Takes, Symbol, A, Rule, IsCase, Expression, Expressions, Reference, Suffixes, Front, cut, takes_on, goes_into, a_mux, an_operation, no_more_expressions, one_more_expression, a_component, no_suffix, a_field_suffix, an_element_suffix, an_index_suffix, name}
-use Rattle.fir_tree.specs.Reading.{part}
-use Rattle.fir_tree.proofs.Cases.{choose, starts_mark, starts_digits}
+use Rattle.fir_grammar.specs.Grammar.{The_call, The_mark, Takes, Symbol, A, Rule, IsCase, Expression, Expressions, Reference, Suffixes, Front, cut, takes_on, goes_into, a_mux, an_operation, no_more_expressions, one_more_expression, a_component, no_suffix, a_field_suffix, an_element_suffix, an_index_suffix, name}
+use Rattle.fir_grammar.specs.Reading.{part}
+use Rattle.fir_grammar.proofs.Cases.{choose, starts_mark, starts_digits}
 use Rattle.fir_expr.specs.Parts.{StartsWith}
 use Rattle.fir_expr.specs.Operands.{IsDigits, HasDigits, HasNoDigits}
 use Rattle.fir_expr.proofs.Composition.{Enters, enters_by_piece, enters_by_two, piece_at}

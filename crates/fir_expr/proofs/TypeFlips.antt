@@ -7,8 +7,8 @@ use Rattle.fir_layout.specs.Pieces.{Piece, A_token, piece_of, pieces_of}
 use Rattle.fir_types.specs.declared.fir_type.FirType.{FirType}
 use Rattle.fir_types.specs.declared.name.Name.{Name}
 use Rattle.fir_tree.specs.declared.fault.ParseFault.{ParseFault}
-use Rattle.fir_tree.specs.Grammar.{The_word, The_mark, A_field, Takes, Nothing, Symbol, A, Field, IsCase, field, plain_field, flipped_field, Front, cut, takes_on, Type_of, colon, word}
-use Rattle.fir_tree.specs.Reading.{IsRefused}
+use Rattle.fir_grammar.specs.Grammar.{The_word, The_mark, A_field, Takes, Nothing, Symbol, A, Field, IsCase, field, plain_field, flipped_field, Front, cut, takes_on, Type_of, colon, word}
+use Rattle.fir_grammar.specs.Reading.{IsRefused}
 use Rattle.fir_expr.specs.Standing.{StandsIn, BeginsType, wanted}
 use Rattle.fir_expr.specs.Parts.{IsTaken, IsNotTaken, IsNameAt, GoesInto, StartsWith, HasPassed}
 use Rattle.fir_expr.specs.TypeParts.{Flips}

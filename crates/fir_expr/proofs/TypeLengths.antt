@@ -6,9 +6,9 @@ use Rattle.fir_layout.specs.Pieces.{Piece, piece_of, pieces_of}
 use Rattle.fir_types.specs.declared.fir_type.FirType.{FirType}
 use Rattle.fir_types.specs.declared.fir_type.Shape.TheVariants as shape
 use Rattle.fir_tree.specs.declared.fault.ParseFault.{ParseFault}
-use Rattle.fir_tree.specs.Grammar.{The_mark, A_number, Takes, Nothing, Its_magnitude, Symbol, A, Front, cut, goes_into, Type_of, Base_type, Lengths, mark, number, vectors, a_type, last_length, next_length}
-use Rattle.fir_tree.specs.Faults.{levels, last_suffixes, most}
-use Rattle.fir_tree.specs.Reading.{IsRefused}
+use Rattle.fir_grammar.specs.Grammar.{The_mark, A_number, Takes, Nothing, Its_magnitude, Symbol, A, Front, cut, goes_into, Type_of, Base_type, Lengths, mark, number, vectors, a_type, last_length, next_length}
+use Rattle.fir_grammar.specs.Faults.{levels, last_suffixes, most}
+use Rattle.fir_grammar.specs.Reading.{IsRefused}
 use Rattle.fir_expr.specs.Standing.{StandsIn}
 use Rattle.fir_expr.specs.Parts.{IsTaken, IsNotTaken, IsNumberAt, HasPassed}
 use Rattle.fir_expr.specs.TypeParts.{HasLengths}

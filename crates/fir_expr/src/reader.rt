@@ -4,8 +4,8 @@ ghost use Rattle.std.specs.Prelude.{◌≡◌, ◌≤◌, ◌<◌, ◌+◌, ◌-
 ghost use Rattle.fir_layout.specs.Pieces.{piece_of, pieces_of};
 ghost use Rattle.place_text.specs.Places.{place};
 ghost use Rattle.fir_layout.specs.declared.laid.Laid.{Laid as TheLaid};
-ghost use Rattle.fir_tree.specs.Grammar.{Type_of, Expression, Reference, Terminal, Takes, start_of};
-ghost use Rattle.fir_tree.specs.Reading.{Reads as ReadsRule};
+ghost use Rattle.fir_grammar.specs.Grammar.{Type_of, Expression, Reference, Terminal, Takes, start_of};
+ghost use Rattle.fir_grammar.specs.Reading.{Reads as ReadsRule};
 ghost use Rattle.fir_expr.specs.LineStarts.{AreLines};
 ghost use Rattle.fir_expr.specs.Parts.{IsSource, IsNotTaken};
 ghost use Rattle.fir_expr.specs.Standing.{IsLaidFrom, StandsIn, BeginsType, IsWhole, wanted};

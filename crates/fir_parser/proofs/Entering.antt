@@ -9,10 +9,10 @@ use Rattle.std.proofs.lemmas.Slice.Eq.{bytes_eq-Decides}
 use Rattle.fir_lexer.specs.declared.token.TokenKind.TheVariants as kind
 use Rattle.fir_layout.specs.declared.laid.Laid.{Laid}
 use Rattle.fir_layout.specs.Pieces.{Piece, A_token, A_line_end, A_block_opens, A_block_closes, The_end, piece_of}
-use Rattle.fir_tree.specs.Grammar.{The_word, The_mark, Opens, Closes, Takes, Symbol, Rule, IsCase, next_memory_line, next_statement, next_module, next_port, last_port, no_block, no_module_body, no_modules, no_branch, else_, else_when, an_output, under_undefined, a_readwriter, a_skip, a_module, cut, takes_on, goes_into}
-use Rattle.fir_tree.specs.Reading.{part}
-use Rattle.fir_tree.proofs.Cases.{choose, starts_word, starts_mark, opens, closes}
-use Rattle.fir_tree.proofs.ReadingLaws.{part-here, part-cons}
+use Rattle.fir_grammar.specs.Grammar.{The_word, The_mark, Opens, Closes, Takes, Symbol, Rule, IsCase, next_memory_line, next_statement, next_module, next_port, last_port, no_block, no_module_body, no_modules, no_branch, else_, else_when, an_output, under_undefined, a_readwriter, a_skip, a_module, cut, takes_on, goes_into}
+use Rattle.fir_grammar.specs.Reading.{part}
+use Rattle.fir_grammar.proofs.Cases.{choose, starts_word, starts_mark, opens, closes}
+use Rattle.fir_grammar.proofs.ReadingLaws.{part-here, part-cons}
 use Rattle.fir_expr.specs.declared.reader.Reader.{Reader}
 use Rattle.fir_expr.proofs.Composition.{Enters, enters_by_piece, enters_by_two, piece_at}
 use Rattle.fir_parser.specs.Taking.{pieces}

@@ -8,10 +8,10 @@ use Rattle.fir_lexer.specs.Tokens.{no_piece, AreTokens}
 use Rattle.fir_layout.specs.Layout.{IsLaidOut, no_line}
 use Rattle.fir_layout.specs.Pieces.{The_end}
 use Rattle.fir_layout.specs.declared.laid.Laid.TheVariants.{End}
-use Rattle.fir_tree.specs.Grammar.{Symbol, A, Text, IsCase, a_text, Front, cut}
-use Rattle.fir_tree.specs.Faults.{IsBad, FaultOf, a_bad_piece, unlisted}
+use Rattle.fir_grammar.specs.Grammar.{Symbol, A, Text, IsCase, a_text, Front, cut}
+use Rattle.fir_grammar.specs.Faults.{IsBad, FaultOf, a_bad_piece, unlisted}
 use Rattle.fir_tree.specs.declared.fault.ParseFault.TheVariants as grammar
-use Rattle.fir_tree.proofs.Fronts.{Front-taken, Front-entered}
+use Rattle.fir_grammar.proofs.Fronts.{Front-taken, Front-entered}
 use Rattle.sim_engine.specs.Faults.{fault_place}
 use Rattle.sim_engine.specs.Stages.{IsLaid, IsFirstFault, of_grammar}
 use Rattle.sim_engine.specs.declared.fault.CircuitFault.TheVariants.{Parse}

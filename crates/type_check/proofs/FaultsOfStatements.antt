@@ -16,10 +16,9 @@ use Rattle.fir_tree.specs.declared.stmt.Stmt.{Stmt, the_lemmas as stmt_lemmas}
 use Rattle.fir_tree.specs.declared.stmt.Stmt.TheVariants as stmt
 use Rattle.fir_tree.specs.declared.circuit.Module.{Module}
 use Rattle.prim_ops.specs.declared.operation.PrimOp.TheVariants.{Add, AsUInt}
-use Rattle.type_check.specs.declared.part.Flow.TheVariants.{Source, Sink, Duplex}
+use Rattle.circuit_parts.specs.declared.part.Flow.TheVariants.{Source, Sink, Duplex}
 use Rattle.type_check.specs.declared.fault.Kind.TheVariants as kind
 use Rattle.type_check.specs.Statements.{module_walk}
-use Rattle.type_check.specs.Flows.{module_flows}
 
 -- Places by their columns, on one line. Names: the inputs a and s are 20 and 21, the output o is 22, the wire w is 23.
 abbrev name : ℕ → ℕ → Name
@@ -100,10 +99,3 @@ all_typed : (module_walk [] (module_of (input 20 uint ∷ output 22 uint ∷ [])
     (stmt.Connect (ref 22 5) (record { place = record { line = 1; column = 8 }; form = form.Prim Add (ref 20 9 ∷ number 10 3 4 ∷ []) [] }) ∷ [])) []).nodes
     ≡ uint ∷ typ 8 (shape.Unsigned None) ∷ uint ∷ typ 10 (shape.Unsigned (Some 3)) ∷ []
 all_typed = grind (arith, common_steps, stmt_lemmas, expr_lemmas, type_lemmas)
-
--- The flows of `io.x`, `io.y` of an output whose y is flipped, and of a wire's flipped field.
-of_an_output : module_flows [] (module_of (output 22 pair ∷ []) (stmt.Connect (part 22 5 (dot 30 6 ∷ [])) (part 22 8 (dot 31 9 ∷ [])) ∷ [])) ≡ Sink ∷ Source ∷ []
-of_an_output = grind (arith, common_steps, stmt_lemmas, expr_lemmas, type_lemmas)
-
-of_a_wire : module_flows [] (module_of [] (stmt.Wire (name 23 3) pair ∷ stmt.Invalidate (part 23 5 (dot 31 6 ∷ [])) ∷ [])) ≡ Duplex ∷ []
-of_a_wire = grind (arith, common_steps, stmt_lemmas, expr_lemmas, type_lemmas)

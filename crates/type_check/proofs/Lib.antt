@@ -9,8 +9,3 @@ mod Ways
 mod Indexing
 mod Ordering
 mod Walking
-mod Stepping
-mod Ports
-mod Declaring
-mod Passing
-mod Sentences

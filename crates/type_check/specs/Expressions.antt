@@ -18,11 +18,13 @@ use Rattle.prim_ops.specs.Kinds.{row_kind}
 use Rattle.fir_tree.specs.declared.expr.Expr.{Expr, fold-Expr}
 use Rattle.fir_tree.specs.declared.expr.Suffix.{Suffix, fold-Suffix}
 use Rattle.fir_tree.specs.declared.expr.Form.TheOpen.{Form-F, Suffix-F, Expr-F}
-use Rattle.type_check.specs.declared.part.Part.{Part}
+use Rattle.circuit_parts.specs.declared.part.Part.{Part}
 use Rattle.type_check.specs.declared.fault.Kind.TheVariants.{FieldUnknown, NotBundle, NotVector, IndexRange, IndexKind, OperandKind, NotEquivalent, ConditionKind, NotPassive, LiteralFit}
 use Rattle.type_check.specs.Found.{Found}
-use Rattle.type_check.specs.Parts.{Known, component, part_of, source_of, flow_through, unless, when, one_fault, typed_without}
-use Rattle.type_check.specs.Texts.{sign_of, is_unsigned, has_clock, is_passive, are_equivalent}
+use Rattle.type_check.specs.Parts.{Known, component, unless, when, one_fault, typed_without}
+use Rattle.circuit_parts.specs.Parts.{part_of, source_of, flow_through}
+use Rattle.circuit_parts.specs.Kinds.{holds, ground, sign_or_unsigned, no_type, sign_of, is_unsigned}
+use Rattle.type_check.specs.Texts.{has_clock, is_passive, are_equivalent}
 
 -- What is found of an expression, or of a reference up to some step: the part with its type, the types of its nodes in
 -- text order, and the faults.
@@ -37,10 +39,6 @@ stands part = record { part = Some part; nodes = []; faults = [] }
 
 abbrev pub fails : List Found → Judgement
 fails faults = record { part = None; nodes = []; faults = faults }
-
--- what stands in the list of types for a node without one
-abbrev pub no_type : Place → FirType
-no_type place = record { place = place; shape = shape.Bundle [] }
 
 abbrev pub type_or_none : Place → Option FirType → FirType
 type_or_none place (Some typ) = typ
@@ -112,22 +110,11 @@ as_node place way = record {
 
 -- Literals
 
--- whether a literal of this kind and width holds a number: at width 0 only 0
-abbrev pub holds : Sign → ℕ → ℤ → Bool
-holds sign zero n = int_le n (pos 0) && int_le (pos 0) n
-holds Unsigned (suc w) n = int_le (pos 0) n && int_lt n (pos (2 ^ suc w))
-holds Signed (suc w) n = int_le (neg_ℤ (pos (2 ^ w))) n && int_lt n (pos (2 ^ w))
-
 -- whether a literal may be written: without a width a UInt is not negative
 abbrev pub fits_literal : Sign → Option ℕ → ℤ → Bool
 fits_literal sign (Some width) n = holds sign width n
 fits_literal Unsigned None n = int_le (pos 0) n
 fits_literal Signed None n = true
-
--- a type of this kind
-abbrev pub ground : Place → Sign → Option ℕ → FirType
-ground place Unsigned width = record { place = place; shape = shape.Unsigned width }
-ground place Signed width = record { place = place; shape = shape.Signed width }
 
 -- a node that can only be read: its own faults, its type where it has none, and what is found of its operands
 abbrev pub node : Place → List Found → FirType → List Judgement → Judgement
@@ -178,10 +165,6 @@ signs_of (operand ∷ operands) = with_sign (sign_of operand.typ) (signs_of oper
 abbrev pub row_of : PrimOp → Option (List Sign) → Option Sign
 row_of op (Some signs) = row_kind op signs
 row_of op None = None
-
-abbrev pub sign_or_unsigned : Option Sign → Sign
-sign_or_unsigned (Some sign) = sign
-sign_or_unsigned None = Unsigned
 
 -- The type of a result has a width of its own, which is not told here.
 abbrev pub operation : PrimOp → Place → List Judgement → List Operand → Judgement

@@ -5,11 +5,7 @@ pub mod Memories
 pub mod Noted
 pub mod Statements
 pub mod Faults
-pub mod Flows
 pub mod Walks
 pub mod Judging
 pub mod Indexes
-pub mod Reached
-pub mod Declarations
-pub mod Counting
 pub mod Found

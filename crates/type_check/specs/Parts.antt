@@ -1,31 +1,11 @@
--- Components and their parts, with types and flows (FIRRTL specification 3.0, "Flows" and "References"), and the faults of a node.
+-- The components that are known, and the faults of a node.
 use Rattle.std.specs.Prelude.{ℕ, Bool, true, false, List, [], ◌∷◌, ◌++◌, Option, Some, None, is_some, if◌then◌else◌, nat_eq}
 use Rattle.std.specs.Map.{lookup}
 use Rattle.place_text.specs.declared.place.Place.{Place}
 use Rattle.fir_types.specs.declared.fir_type.FirType.{FirType}
-use Rattle.type_check.specs.declared.part.Flow.{Flow}
-use Rattle.type_check.specs.declared.part.Flow.TheVariants.{Source, Sink, Duplex}
-use Rattle.type_check.specs.declared.part.Part.{Part}
+use Rattle.circuit_parts.specs.declared.part.Part.{Part}
 use Rattle.type_check.specs.declared.fault.Kind.{Kind}
 use Rattle.type_check.specs.Found.{Found}
-
--- A flip turns a source and a sink round; duplex stays.
-abbrev pub turned : Flow → Flow
-turned Source = Sink
-turned Sink = Source
-turned Duplex = Duplex
-
--- the flow of a field, whether it is flipped, of what has this flow
-abbrev pub flow_through : Bool → Flow → Flow
-flow_through true flow = turned flow
-flow_through false flow = flow
-
-abbrev pub part_of : FirType → Flow → Part
-part_of typ flow = record { typ = typ; flow = flow }
-
--- what can only be read
-abbrev pub source_of : FirType → Part
-source_of typ = part_of typ Source
 
 -- The components that are declared so far in a module, by the numbers of their names. All declarations of a module have
 -- different names, so a name means the first that has it.

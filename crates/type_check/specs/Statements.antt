@@ -12,13 +12,15 @@ use Rattle.fir_tree.specs.declared.expr.Expr.{Expr}
 use Rattle.fir_tree.specs.declared.stmt.Stmt.{Stmt, fold-Stmt}
 use Rattle.fir_tree.specs.declared.stmt.Arm.{Arm, fold-Arm}
 use Rattle.fir_tree.specs.declared.stmt.Stmt.TheOpen.{Stmt-F, Arm-F}
-use Rattle.type_check.specs.declared.part.Flow.{Flow}
-use Rattle.type_check.specs.declared.part.Flow.TheVariants.{Source, Sink, Duplex}
-use Rattle.type_check.specs.declared.part.Part.{Part}
+use Rattle.circuit_parts.specs.declared.part.Flow.{Flow}
+use Rattle.circuit_parts.specs.declared.part.Flow.TheVariants.{Source, Sink, Duplex}
+use Rattle.circuit_parts.specs.declared.part.Part.{Part}
 use Rattle.type_check.specs.declared.fault.Kind.TheVariants.{OperandKind, NotEquivalent, FlowSink, FlowSource, ConditionKind, NotPassive}
 use Rattle.type_check.specs.Found.{Found}
-use Rattle.type_check.specs.Parts.{Known, known_with, part_of, source_of, unless, when, where_typed}
-use Rattle.type_check.specs.Texts.{twice_in, stored_faults, is_unsigned, is_a_clock, is_passive, are_equivalent}
+use Rattle.type_check.specs.Parts.{Known, known_with, unless, when, where_typed}
+use Rattle.circuit_parts.specs.Parts.{port_flow, instance_in, part_of, source_of}
+use Rattle.type_check.specs.Texts.{twice_in, stored_faults, is_passive, are_equivalent}
+use Rattle.circuit_parts.specs.Kinds.{is_unsigned, is_a_clock}
 use Rattle.type_check.specs.Expressions.{found_of}
 use Rattle.type_check.specs.Memories.{memory_faults}
 
@@ -113,13 +115,6 @@ names_node name e known =
       faults = j.faults ++ where_typed (node_faults e.place) j.part;
     }
 
--- an instance of the first module of a name
-abbrev pub instance_part : Module → Part
-instance_part target = source_of (instance_of target.ports)
-
-abbrev pub instance_in : List Module → ℕ → Option Part
-instance_in modules name = option_map instance_part (find (λ m. m.name.id == name) modules)
-
 abbrev pub of_stmt : List Module → Stmt-F Walk Walk → Walk
 of_stmt modules (Stmt-F.Wire name typ) = and_then (notes (twice_in typ)) (declares name.id (Some (part_of typ Duplex)))
 of_stmt modules (Stmt-F.Reg name typ clock) =
@@ -143,10 +138,6 @@ stmt_walk modules = fold-Stmt Walk Walk (of_stmt modules) of_arm
 
 abbrev pub arm_walk : List Module → Arm → Walk
 arm_walk modules = fold-Arm Walk Walk (of_stmt modules) of_arm
-
--- An input can be read inside its module, and an output driven.
-abbrev pub port_flow : Port → Flow
-port_flow port = if port.output then Sink else Source
 
 abbrev pub port_walk : Port → Walk
 port_walk port = and_then (notes (twice_in port.typ)) (declares port.name.id (Some (part_of port.typ (port_flow port))))

@@ -14,33 +14,8 @@ use Rattle.fir_types.specs.Leaves.{leaves, is_clock}
 use Rattle.fir_types.specs.Passivity.{has_flip}
 use Rattle.type_check.specs.declared.fault.Kind.TheVariants.{FieldTwice, OperandKind, NotPassive}
 use Rattle.type_check.specs.Found.{Found}
+use Rattle.circuit_parts.specs.Kinds.{is_clock_layer}
 use Rattle.type_check.specs.Parts.{unless, when}
-
--- The kind of an operand: a `UInt`, a `SInt`, and none for what is no number. `Reset` is `UInt<1>`.
-abbrev pub sign_of_shape : Shape-F Shape Field FirType → Option Sign
-sign_of_shape (Shape-F.Unsigned width) = Some Unsigned
-sign_of_shape (Shape-F.Signed width) = Some Signed
-sign_of_shape Shape-F.Reset = Some Unsigned
-sign_of_shape _ = None
-
-abbrev pub sign_of : FirType → Option Sign
-sign_of typ = sign_of_shape (out-Shape typ.shape)
-
-abbrev pub is_unsigned_sign : Option Sign → Bool
-is_unsigned_sign (Some Unsigned) = true
-is_unsigned_sign _ = false
-
--- whether a type is a `UInt`
-abbrev pub is_unsigned : FirType → Bool
-is_unsigned typ = is_unsigned_sign (sign_of typ)
-
-abbrev pub is_clock_layer : Shape-F Shape Field FirType → Bool
-is_clock_layer Shape-F.Clock = true
-is_clock_layer _ = false
-
--- whether a type is a `Clock`
-abbrev pub is_a_clock : FirType → Bool
-is_a_clock typ = is_clock_layer (out-Shape typ.shape)
 
 -- whether a leaf of a type is a `Clock`
 abbrev pub has_clock : FirType → Bool

@@ -7,9 +7,10 @@ ghost use Rattle.type_check.specs.Walks.{Walks};
 
 use crate::fault::{Found, Kind};
 use crate::judge::judge;
-use crate::part::{Flow, Part};
-use crate::texts::{are_equivalent, is_clock, is_passive, is_unsigned, push_unless};
+use crate::texts::{are_equivalent, is_passive, push_unless};
 use crate::walk::Walk;
+use circuit_parts::kinds::{is_clock, is_unsigned};
+use circuit_parts::{Flow, Part};
 use fir_tree::Expr;
 use fir_types::FirType;
 use place_text::Place;

@@ -4,15 +4,19 @@ ghost use Rattle.std.specs.Prelude.{◌≡◌, ◌++◌, [], None, map, IfOk, On
 ghost use Rattle.bit_words.specs.Numbers.{integer_of_number};
 ghost use Rattle.prim_ops.specs.Kinds.{row_kind};
 ghost use Rattle.type_check.specs.declared.fault.Kind.TheVariants.{LiteralFit};
-ghost use Rattle.type_check.specs.Parts.{unless, source_of};
-ghost use Rattle.type_check.specs.Expressions.{fits_literal, ground, node, row_of, signs_of, operation, choice, choice_faults};
+ghost use Rattle.type_check.specs.Parts.{unless};
+ghost use Rattle.circuit_parts.specs.Parts.{source_of};
+ghost use Rattle.type_check.specs.Expressions.{fits_literal, node, row_of, signs_of, operation, choice, choice_faults};
+ghost use Rattle.circuit_parts.specs.Kinds.{ground};
 ghost use Rattle.type_check.specs.Judging.{operand_of};
 
 use crate::fault::{Found, Kind};
-use crate::part::{Flow, Part};
-use crate::texts::{are_equivalent, fits_literal, is_passive, is_unsigned, push_unless, sign_of};
+use crate::texts::{are_equivalent, fits_literal, is_passive, push_unless};
 use bit_words::{Kind as Sign, Number};
-use fir_types::{FirType, Shape, copy, has_clock};
+use circuit_parts::Part;
+use circuit_parts::kinds::{ground, is_unsigned, sign_of};
+use circuit_parts::steps::source;
+use fir_types::{FirType, copy, has_clock};
 use place_text::Place;
 use prim_ops::{Prim, arity, kind_of};
 use std::alloc::{AllocError, Global};
@@ -42,7 +46,7 @@ pub fn judge_literal(
         })?;
         return Ok(None);
     }
-    Ok(Some(read_only(typ_of(place, sign, width))))
+    Ok(Some(source(ground(place, sign, width))))
 }
 
 /// An operation, which has to take operands of these kinds.
@@ -56,7 +60,7 @@ pub fn judge_operation(
     ensures faults { OnOk result (faults.new.items ≡ faults.old.items ++ (operation op place [] (map operand_of operands.now)).faults) }
 {
     match row(op, operands) {
-        Some(sign) => Ok(Some(read_only(typ_of(place, sign, None)))),
+        Some(sign) => Ok(Some(source(ground(place, sign, None)))),
         None => {
             faults.push(Found {
                 kind: Kind::OperandKind,
@@ -106,7 +110,7 @@ pub fn judge_choice(
     if faults.len() > before {
         return Ok(None);
     }
-    Ok(Some(read_only(copy(&first.typ)?)))
+    Ok(Some(source(copy(&first.typ)?)))
 }
 
 /// Adds the faults of a choice: over what is no condition, over clocks, over types with a `flip`, and over two types that
@@ -130,25 +134,4 @@ fn push_choice(
     push_unless(faults, passive, Kind::NotPassive, second.place)?;
     let equivalent = are_equivalent(&first.typ, &second.typ);
     push_unless(faults, equivalent, Kind::NotEquivalent, second.place)
-}
-
-/// A type of this kind.
-fn typ_of(place: Place, sign: Sign, width: Option<u128>) -> FirType
-    ensures { result ≡ ground place sign width }
-{
-    let shape = match sign {
-        Sign::Unsigned => Shape::Unsigned(width),
-        Sign::Signed => Shape::Signed(width),
-    };
-    FirType { place, shape }
-}
-
-/// What can only be read.
-fn read_only(typ: FirType) -> Part
-    ensures { result ≡ source_of typ }
-{
-    Part {
-        typ,
-        flow: Flow::Source,
-    }
 }

@@ -2,13 +2,14 @@
 
 ghost use Rattle.std.specs.Prelude.{◌≡◌, ◌++◌, ◌∷◌, [], None, IfOk, OnOk};
 ghost use Rattle.fir_types.specs.declared.fir_type.Shape.TheViews.{out-Shape};
-ghost use Rattle.type_check.specs.Parts.{flow_through};
+ghost use Rattle.circuit_parts.specs.Parts.{flow_through};
 ghost use Rattle.type_check.specs.Expressions.{field_step, element_step, index_step};
 ghost use Rattle.type_check.specs.Judging.{part_at, part_reached};
 
 use crate::fault::{Found, Kind};
-use crate::part::{Flow, Part};
-use crate::texts::is_unsigned;
+use circuit_parts::kinds::is_unsigned;
+use circuit_parts::steps::through;
+use circuit_parts::{Flow, Part};
 use fir_types::{FirType, Name, Shape, field_of};
 use place_text::Place;
 use std::alloc::AllocError;
@@ -86,17 +87,6 @@ pub fn to_indexed<'a>(
         }))
     } else {
         fail(faults, Kind::IndexKind, at)
-    }
-}
-
-/// The flow of a field of what has this flow.
-fn through(flip: bool, flow: Flow) -> Flow
-    ensures { result ≡ flow_through flip flow }
-{
-    match (flip, flow) {
-        (false, _) | (true, Flow::Duplex) => flow,
-        (true, Flow::Source) => Flow::Sink,
-        (true, Flow::Sink) => Flow::Source,
     }
 }
 

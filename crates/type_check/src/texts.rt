@@ -4,7 +4,8 @@ ghost use Rattle.std.specs.Prelude.{◌≡◌, ◌++◌, [], map, OnOk};
 ghost use Rattle.std.specs.List.{flat_map};
 ghost use Rattle.bit_words.specs.Numbers.{integer_of_number};
 ghost use Rattle.type_check.specs.Parts.{unless};
-ghost use Rattle.type_check.specs.Texts.{sign_of, is_unsigned, is_a_clock, is_passive, are_equivalent, seconds_behind, twice_in, stored_faults};
+ghost use Rattle.circuit_parts.specs.Kinds.{sign_of, is_unsigned, is_a_clock};
+ghost use Rattle.type_check.specs.Texts.{is_passive, are_equivalent, seconds_behind, twice_in, stored_faults};
 ghost use Rattle.type_check.specs.Expressions.{fits_literal};
 
 use crate::fault::{Found, Kind as FaultKind};
@@ -13,31 +14,6 @@ use fir_types::{Field, FirType, Shape, equivalent, has_clock, passive};
 use indexmap::IndexSet;
 use place_text::Place;
 use std::alloc::{AllocError, Global};
-
-/// The kind of a type as an operand; None for what is no number. `Reset` is `UInt<1>`.
-pub fn sign_of(typ: &FirType) -> Option<Kind>
-    ensures { result ≡ sign_of typ.now }
-{
-    match &typ.shape {
-        Shape::Unsigned(_) | Shape::Reset => Some(Kind::Unsigned),
-        Shape::Signed(_) => Some(Kind::Signed),
-        Shape::Clock | Shape::Bundle(_) | Shape::Vector(_, _) => None,
-    }
-}
-
-/// Whether a type is a `UInt`.
-pub fn is_unsigned(typ: &FirType) -> bool
-    ensures { result ≡ is_unsigned typ.now }
-{
-    matches!(&typ.shape, Shape::Unsigned(_) | Shape::Reset)
-}
-
-/// Whether a type is a `Clock`.
-pub fn is_clock(typ: &FirType) -> bool
-    ensures { result ≡ is_a_clock typ.now }
-{
-    matches!(&typ.shape, Shape::Clock)
-}
 
 /// Whether no `flip` stands in a type.
 pub fn is_passive(typ: &FirType) -> bool

@@ -19,10 +19,9 @@ use Rattle.fir_tree.specs.declared.expr.Expr.{Expr}
 use Rattle.fir_tree.specs.declared.stmt.Stmt.{Stmt, fold-Stmt}
 use Rattle.fir_tree.specs.declared.stmt.Arm.{Arm, fold-Arm}
 use Rattle.fir_tree.specs.declared.stmt.Stmt.TheOpen.{Stmt-F, Arm-F}
-use Rattle.type_check.specs.declared.part.Flow.{Flow}
-use Rattle.type_check.specs.declared.part.Flow.TheVariants.{Source, Sink, Duplex}
-use Rattle.type_check.specs.Parts.{part_of, source_of, flow_through}
-use Rattle.type_check.specs.Statements.{port_flow}
+use Rattle.circuit_parts.specs.declared.part.Flow.{Flow}
+use Rattle.circuit_parts.specs.declared.part.Flow.TheVariants.{Source, Sink, Duplex}
+use Rattle.circuit_parts.specs.Parts.{part_of, source_of, flow_through, port_flow}
 use Rattle.width_rules.specs.declared.component.Component.{Component}
 use Rattle.width_rules.specs.declared.slot.Slot.{Slot}
 use Rattle.width_rules.specs.declared.slot.Slot.TheVariants as slot

@@ -1,0 +1,66 @@
+-- The values of ground expressions, and the leaves that they mention (FIRRTL specification 3.0, "Expressions").
+use Rattle.std.specs.Prelude.{ℕ, Bool, List, [], ◌∷◌, ◌++◌, map, flat_map, ℤ, pos, negsuc, Option, Some, None, if◌then◌else◌, slice_get}
+use Rattle.bit_words.specs.declared.value.Value.{Value}
+use Rattle.bit_words.specs.Values.{integer_of}
+use Rattle.ground_net.specs.declared.ground.Ground.{Ground, fold-Ground}
+use Rattle.ground_net.specs.declared.ground.Ground.TheOpen.{Ground-F}
+use Rattle.cycle_values.specs.Values.{fitted, lone, is_one, operation}
+
+-- What is seen in a cycle: the value of each leaf, and of each leaf of each element of each memory, by its address.
+pub record Sight : Type 0 where
+  pub leaf : ℕ → Value
+  pub load : ℕ → ℕ → Value → Value
+
+abbrev pub InSight : Type 0
+InSight = Sight → Value
+
+-- The value behind the first condition that is 1, else the last item.
+abbrev pub chosen : List Value → Value
+chosen [] = lone []
+chosen (last ∷ []) = last
+chosen (condition ∷ value ∷ rest) = if is_one condition then value else chosen rest
+
+-- the value, or 0 of the first item's kind and width where there is none
+abbrev pub or_zero : List Value → Option Value → Value
+or_zero items (Some v) = v
+or_zero items None = fitted (lone items).kind (lone items).width (pos 0)
+
+-- The item of this number, and 0 past the last one.
+abbrev pub selected : ℤ → List Value → Value
+selected (pos n) items = or_zero items (slice_get items n)
+selected (negsuc n) items = or_zero items None
+
+-- what is loaded at an address where the condition is 1, and else 0 of the same kind and width
+abbrev pub loaded : (Value → Value) → List Value → Value
+loaded element (address ∷ condition ∷ rest) = if is_one condition then element address else fitted (element address).kind (element address).width (pos 0)
+loaded element _ = lone []
+
+abbrev pub of_layer : Ground-F InSight → InSight
+of_layer (Ground-F.Const v) sight = v
+of_layer (Ground-F.Leaf x) sight = sight.leaf x
+of_layer (Ground-F.Op prim operands params) sight = operation prim (map (λ g. g sight) operands) params
+of_layer (Ground-F.Mux items) sight = chosen (map (λ g. g sight) items)
+of_layer (Ground-F.Select index items) sight = selected (integer_of (lone (map (λ g. g sight) index))) (map (λ g. g sight) items)
+of_layer (Ground-F.Load memory leaf items) sight = loaded (sight.load memory leaf) (map (λ g. g sight) items)
+of_layer (Ground-F.Fit kind width items) sight = fitted kind width (integer_of (lone (map (λ g. g sight) items)))
+
+-- The value of a ground expression.
+abbrev pub value : Ground → Sight → Value
+value = fold-Ground InSight of_layer
+
+-- all of the lists, one after the other
+abbrev pub joined : List (List ℕ) → List ℕ
+joined = flat_map (λ leaves. leaves)
+
+abbrev pub mentioned_in : Ground-F (List ℕ) → List ℕ
+mentioned_in (Ground-F.Const v) = []
+mentioned_in (Ground-F.Leaf x) = x ∷ []
+mentioned_in (Ground-F.Op prim operands params) = joined operands
+mentioned_in (Ground-F.Mux items) = joined items
+mentioned_in (Ground-F.Select index items) = joined index ++ joined items
+mentioned_in (Ground-F.Load memory leaf items) = joined items
+mentioned_in (Ground-F.Fit kind width items) = joined items
+
+-- The leaves that a ground expression mentions.
+abbrev pub mentions : Ground → List ℕ
+mentions = fold-Ground (List ℕ) mentioned_in

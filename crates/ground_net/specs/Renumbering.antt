@@ -1,0 +1,19 @@
+-- Expressions with other numbers for their leaves.
+use Rattle.std.specs.Prelude.{ℕ}
+use Rattle.ground_net.specs.declared.ground.Ground.{Ground, fold-Ground}
+use Rattle.ground_net.specs.declared.ground.Ground.TheOpen.{Ground-F}
+use Rattle.ground_net.specs.declared.ground.Ground.TheViews.{roll-Ground}
+use Rattle.ground_net.specs.Grounds.{Sight}
+
+-- A leaf gets its new number, and all else stays.
+abbrev pub renamed_layer : (ℕ → ℕ) → Ground-F Ground → Ground
+renamed_layer number (Ground-F.Leaf x) = roll-Ground (Ground-F.Leaf (number x))
+renamed_layer number g = roll-Ground g
+
+-- The expression with these numbers for its leaves.
+abbrev pub with_numbers : (ℕ → ℕ) → Ground → Ground
+with_numbers number = fold-Ground Ground (renamed_layer number)
+
+-- What is seen of a cycle where each leaf is looked for under its new number.
+abbrev pub seen_by : (ℕ → ℕ) → Sight → Sight
+seen_by number sight = record { leaf = λ x. sight.leaf (number x); load = sight.load }

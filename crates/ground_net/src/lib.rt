@@ -1,0 +1,27 @@
+//! The net of a run, plain data with a meaning of its own: ground expressions and statements over numbered leaves, what they
+//! leave in a leaf and what the leaf reads; and the circuits, nets, orders and cuts that are made of them. Keeps the contracts
+//! of copies, of new numbers, and of the leaves by which a run is fed and watched.
+#![tactic(auto)]
+
+pub mod circuit;
+pub mod copying;
+pub mod ground;
+pub mod net;
+pub mod ports;
+pub mod renumbering;
+
+pub use circuit::{
+    DrivenCircuit, DrivenModule, FlatCircuit, GroundArm, GroundCircuit, GroundInstance, GroundLeaf,
+    GroundMemory, GroundModule, GroundRole, GroundStmt,
+};
+pub use copying::{
+    copied, copied_all, copied_elements, copied_instances, copied_leaf, copied_leaves,
+    copied_memories, copied_port, copied_ports, copied_register, copied_registers, copied_text,
+};
+pub use ground::Ground;
+pub use net::{
+    Cut, CutPart, ElementLeaf, Leaf, Net, NetMemory, NetPort, NetRead, NetRegister, NetReset,
+    NetWrite, Ordered, PortLeaf, Ports, Role,
+};
+pub use ports::ports_of;
+pub use renumbering::{renumbered, renumbered_all};

@@ -1,0 +1,66 @@
+//! Expressions with other numbers for their leaves.
+
+ghost use Rattle.std.specs.Prelude.{◌≡◌, map, slice_index, IfOk};
+ghost use Rattle.ground_net.specs.Grounds.{Sight, value, mentions};
+ghost use Rattle.ground_net.specs.Renumbering.{with_numbers, seen_by};
+
+use crate::Ground;
+use bit_words::List;
+use std::alloc::{AllocError, Global};
+
+/// The expression with the number that stands for each leaf in this list. A leaf without one gets the number 0.
+#[cycle(renumbered)]
+pub fn renumbered(alloc: Global, ground: &Ground, numbers: &[u32]) -> Result<Ground, AllocError>
+    ensures itself { IfOk result (λ it. it ≡ with_numbers (slice_index numbers.now) ground.now) }
+{
+    Ok(match ground {
+        Ground::Const(value) => Ground::Const(*value),
+        Ground::Leaf(leaf) => Ground::Leaf(number_of(numbers, *leaf)),
+        Ground::Op(prim, operands, params) => Ground::Op(
+            *prim,
+            renumbered_all(alloc, operands.as_slice(), numbers)?,
+            List::from_slice(alloc, params.as_slice())?,
+        ),
+        Ground::Mux(items) => Ground::Mux(renumbered_all(alloc, items.as_slice(), numbers)?),
+        Ground::Select(index, items) => Ground::Select(
+            renumbered_all(alloc, index.as_slice(), numbers)?,
+            renumbered_all(alloc, items.as_slice(), numbers)?,
+        ),
+        Ground::Load(memory, leaf, items) => Ground::Load(
+            *memory,
+            *leaf,
+            renumbered_all(alloc, items.as_slice(), numbers)?,
+        ),
+        Ground::Fit(kind, width, items) => Ground::Fit(
+            *kind,
+            *width,
+            renumbered_all(alloc, items.as_slice(), numbers)?,
+        ),
+    })
+}
+
+/// The expressions with these numbers for their leaves, in order.
+#[cycle(renumbered)]
+pub fn renumbered_all(
+    alloc: Global,
+    grounds: &[Ground],
+    numbers: &[u32],
+) -> Result<List<Ground>, AllocError>
+    ensures { IfOk result (λ them. them ≡ map (with_numbers (slice_index numbers.now)) grounds.now) }
+{
+    let mut them = List::new(alloc);
+    for ground in grounds {
+        them.push(renumbered(alloc, ground, numbers)?)?;
+    }
+    Ok(them)
+}
+
+/// The number that stands for a leaf.
+fn number_of(numbers: &[u32], leaf: u32) -> u32
+    ensures { result ≡ slice_index numbers.now leaf }
+{
+    match numbers.get(leaf as usize) {
+        Some(number) => *number,
+        None => 0,
+    }
+}

@@ -1,0 +1,4 @@
+pub mod Steps
+pub mod Begins
+pub mod Reaches
+pub mod Orders
