@@ -1,4 +1,3 @@
-pub mod FirstOfStage
 pub mod Solving
 pub mod Once
 pub mod Given

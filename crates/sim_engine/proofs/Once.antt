@@ -1,46 +1,39 @@
 -- A text has at most one first fault, and none where it passes all stages: each stage is passed in one way or has one first
 -- fault, and what stops at a stage passes none behind it.
-use Rattle.std.proofs.Common.{◌≡◌, ℕ, zero, suc, ◌<◌, ◌≤◌, List, ◌⊎◌, ⊎_elim, inl, inr, refl, sym, ap, ap₂, ◌∙◌, subst, arith}
-use Rattle.std.specs.Prelude.{Option, Some, None}
+use Rattle.std.proofs.Common.{◌≡◌, ℕ, zero, suc, ◌<◌, ◌≤◌, List, ⊎_elim, refl, sym, ap, ◌∙◌, subst, arith}
 use Rattle.std.proofs.lemmas.Bool.{cases_eq, cases_lt}
-use Rattle.place_text.specs.declared.place.Place.{Place}
 use Rattle.place_text.specs.Places.{place}
+use Rattle.fault_order.proofs.Ordering.{one_first}
 use Rattle.fir_lexer.specs.declared.token.Token.{Token}
-use Rattle.fir_lexer.specs.Tokens.{IsFault as IsTokenFault, FaultKind as TokenKind, Bad_byte, Bad_token, Number_range, fault_at}
+use Rattle.fir_lexer.specs.declared.fault.LexFault.{LexFault}
+use Rattle.fir_lexer.specs.Tokens.{IsFault as IsTokenFault}
 use Rattle.fir_lexer.proofs.Readings.{no_tokens, one_tokens, one_fault as one_token_fault}
 use Rattle.fir_layout.specs.Layout.{IsBadIndent, tokens_in}
-use Rattle.fir_layout.specs.Pieces.{Piece}
 use Rattle.fir_layout.specs.declared.laid.Laid.{Laid}
-use Rattle.fir_layout.specs.declared.layout.LayoutFault.TheVariants.{BadIndent}
+use Rattle.fir_layout.specs.declared.fault.LayoutFault.TheVariants.{BadIndent}
 use Rattle.fir_layout.proofs.Layouts.{one_layout, no_layout, one_bad_indent}
-use Rattle.fir_tree.specs.Grammar.{IsCircuit}
-use Rattle.fir_tree.specs.Faults.{FaultOf, a_bad_piece, IsNamed as IsNamed'}
+use Rattle.fir_grammar.specs.Grammar.{IsCircuit}
+use Rattle.fir_grammar.specs.Faults.{FaultOf}
+use Rattle.fir_grammar.proofs.Unique.{one_circuit}
+use Rattle.fir_grammar.proofs.OneFault.{one_fault as one_parse_fault, accepted}
 use Rattle.fir_tree.specs.declared.circuit.Circuit.{Circuit}
 use Rattle.fir_tree.specs.declared.scope.Checked.{Checked}
 use Rattle.fir_tree.specs.declared.fault.ParseFault.{ParseFault}
-use Rattle.fir_tree.specs.declared.fault.ParseFault.TheVariants as parse
-use Rattle.fir_tree.proofs.Unique.{one_circuit}
-use Rattle.fir_tree.proofs.OneFault.{one_fault as one_parse_fault, accepted}
-use Rattle.fir_names.specs.Faults.{IsFault as IsNameFault, IsFirst as IsFirstOfNames, IsFirstAnswer as IsFirstNameFault, answer as name_answer}
-use Rattle.fir_names.specs.declared.fault.Kind.{Kind as NameKind}
-use Rattle.fir_names.specs.declared.fault.Kind.TheVariants as naming
+use Rattle.fir_names.specs.Faults.{IsFault as IsNameFault, IsFirst as IsFirstOfNames, place_of as place_of_names, rank_of as rank_of_names}
+use Rattle.fir_names.specs.Ranks.{one_each as one_name_each}
 use Rattle.fir_names.specs.declared.fault.NameFault.{NameFault}
-use Rattle.type_check.specs.Faults.{IsFault as IsTypeFault, IsFirst as IsFirstOfTypes, IsFirstAnswer as IsFirstTypeFault, answer as type_answer}
-use Rattle.type_check.specs.declared.fault.Kind.{Kind as TypeKind}
-use Rattle.type_check.specs.declared.fault.Kind.TheVariants as typing
+use Rattle.type_check.specs.Faults.{IsFault as IsTypeFault, IsFirst as IsFirstOfTypes, place_of as place_of_types, rank_of as rank_of_types}
+use Rattle.type_check.specs.Ranks.{one_each as one_type_each}
 use Rattle.type_check.specs.declared.fault.TypeFault.{TypeFault}
-use Rattle.width_solver.specs.Faults.{IsFault as IsWidthFault, IsFirst as IsFirstOfWidths, IsFirstAnswer as IsFirstWidthFault, answer as width_answer}
-use Rattle.width_solver.specs.declared.fault.Kind.{Kind as WidthKind}
-use Rattle.width_solver.specs.declared.fault.Kind.TheVariants as fitting
-use Rattle.width_solver.specs.declared.fault.WidthFault.{WidthFault}
+use Rattle.width_fit.specs.Faults.{IsFirst as IsFirstOfWidths, place_of as place_of_widths, rank_of as rank_of_widths}
+use Rattle.width_fit.specs.Fitting.{IsSolved}
+use Rattle.width_fit.specs.Ranks.{one_each as one_width_each}
+use Rattle.width_fit.specs.declared.fault.WidthFault.{WidthFault}
 use Rattle.prim_ops.specs.declared.widths.Width.{Width}
 use Rattle.sim_engine.specs.Only.{IsOnly}
-use Rattle.sim_engine.specs.Widths.{IsSolved}
 use Rattle.sim_engine.specs.Stages.{IsLexed, IsLaid, IsParsed, IsNamed, IsTyped, IsWidthed, IsAccepted, IsFirstFault, of_tokens, of_layout, of_grammar, of_names, of_types, of_widths}
-use Rattle.sim_engine.specs.Faults.{fault_place}
 use Rattle.sim_engine.specs.declared.fault.CircuitFault.{CircuitFault}
 use Rattle.sim_engine.specs.declared.fault.CircuitFault.TheVariants as fault
-use Rattle.sim_engine.proofs.FirstOfStage.{one_name_fault, one_type_fault, one_of_widths}
 use Rattle.sim_engine.proofs.Solving.{same_fault, same_first}
 
 -- a stage is passed in one way
@@ -62,25 +55,29 @@ parsed_clean : (text : List ℕ) (circuit : Circuit) (laid : List Laid) (given :
 parsed_clean text circuit laid given p l f =
     accepted text p.list circuit given p.spelled p.shallow (subst (λ x. FaultOf text x given) (laid_once text laid p.list l p.laid) f)
 
-named_clean : (text : List ℕ) (circuit other : Circuit) (given : NameFault) → IsNamed text circuit → IsParsed text other → IsFirstNameFault other given → ⊥
-named_clean text circuit other given n p f =
-    n.none f.kind' f.place (subst (λ x. IsNameFault x f.kind' f.place) (parsed_once text other circuit p n.parsed) f.first.is)
+named_clean : (text : List ℕ) (circuit other : Circuit) (given : NameFault) → IsNamed text circuit → IsParsed text other → IsFirstOfNames other given → ⊥
+named_clean text circuit other given n p f = n.none given (subst (λ x. IsNameFault x given) (parsed_once text other circuit p n.parsed) f.is)
 
-typed_clean : (text : List ℕ) (circuit other : Circuit) (given : TypeFault) → IsTyped text circuit → IsNamed text other → IsFirstTypeFault other given → ⊥
-typed_clean text circuit other given t n f =
-    t.none f.kind' f.place (subst (λ x. IsTypeFault x f.kind' f.place) (parsed_once text other circuit n.parsed t.named.parsed) f.first.is)
+typed_clean : (text : List ℕ) (circuit other : Circuit) (given : TypeFault) → IsTyped text circuit → IsNamed text other → IsFirstOfTypes other given → ⊥
+typed_clean text circuit other given t n f = t.none given (subst (λ x. IsTypeFault x given) (parsed_once text other circuit n.parsed t.named.parsed) f.is)
 
 widthed_clean : (text : List ℕ) (circuit other : Circuit) (checked : Checked) (widths : List Width) (given : WidthFault) → IsWidthed text circuit → IsTyped text other
-    → IsSolved other checked widths → IsFirstWidthFault checked widths given → ⊥
+    → IsSolved other checked widths → IsFirstOfWidths checked widths given → ⊥
 widthed_clean text circuit other checked widths given w t solved f =
     let same = parsed_once text other circuit t.named.parsed w.typed.named.parsed in
-    w.none f.kind' f.place (same_fault circuit checked w.checked widths w.widths f.kind' f.place (subst (λ x. IsSolved x checked widths) same solved) w.solved f.first.is)
+    w.none given (same_fault circuit checked w.checked widths w.widths given (subst (λ x. IsSolved x checked widths) same solved) w.solved f.is)
 
--- the fault of a stage is one
+-- the first fault of a stage is one
+one_name_fault : (circuit : Circuit) (first second : NameFault) → IsFirstOfNames circuit first → IsFirstOfNames circuit second → first ≡ second
+one_name_fault circuit first second f s = one_first place_of_names rank_of_names one_name_each first second f s
+
+one_type_fault : (circuit : Circuit) (first second : TypeFault) → IsFirstOfTypes circuit first → IsFirstOfTypes circuit second → first ≡ second
+one_type_fault circuit first second f s = one_first place_of_types rank_of_types one_type_each first second f s
+
 one_width_fault : (circuit : Circuit) (checked others : Checked) (v w : List Width) (first second : WidthFault) → IsSolved circuit checked v → IsSolved circuit others w
-    → IsFirstWidthFault checked v first → IsFirstWidthFault others w second → first ≡ second
+    → IsFirstOfWidths checked v first → IsFirstOfWidths others w second → first ≡ second
 one_width_fault circuit checked others v w first second p q f s =
-    let e = one_of_widths others w f.kind' s.kind' f.place s.place (same_first circuit checked others v w f.kind' f.place p q f.first) s.first in f.is ∙ ap₂ width_answer e.0 e.1 ∙ sym s.is
+    one_first place_of_widths rank_of_widths one_width_each first second (same_first circuit checked others v w first p q f) s
 
 -- The stages by number, from 0: what the text is where it passes those below a number,
 abbrev Passed : ℕ → List ℕ → Type 0
@@ -103,14 +100,14 @@ stage_of (fault.Width given) = 5
 stage_of fault.NoMemory = 6
 
 abbrev First : ℕ → List ℕ → CircuitFault → Type 0
-First zero text f = (at : ℕ) × (kind : TokenKind) × IsTokenFault text at kind × (f ≡ fault.Lex (fault_at kind (place text at)))
+First zero text f = (at : ℕ) × (given : LexFault) × IsTokenFault text at given × (f ≡ fault.Lex given)
 First (suc zero) text f = (tokens : List Token) × (at : ℕ) × IsLexed text tokens × IsBadIndent text at × (f ≡ fault.Layout (BadIndent (place text at)))
 First (suc (suc zero)) text f = (laid : List Laid) × (given : ParseFault) × IsLaid text laid × FaultOf text laid given × (f ≡ fault.Parse given)
-First (suc (suc (suc zero))) text f = (circuit : Circuit) × (given : NameFault) × IsParsed text circuit × IsFirstNameFault circuit given × (f ≡ fault.Name given)
-First (suc (suc (suc (suc zero)))) text f = (circuit : Circuit) × (given : TypeFault) × IsNamed text circuit × IsFirstTypeFault circuit given × (f ≡ fault.Typing given)
+First (suc (suc (suc zero))) text f = (circuit : Circuit) × (given : NameFault) × IsParsed text circuit × IsFirstOfNames circuit given × (f ≡ fault.Name given)
+First (suc (suc (suc (suc zero)))) text f = (circuit : Circuit) × (given : TypeFault) × IsNamed text circuit × IsFirstOfTypes circuit given × (f ≡ fault.Typing given)
 First (suc (suc (suc (suc (suc zero))))) text f =
     (circuit : Circuit) × (checked : Checked) × (widths : List Width) × (given : WidthFault) × IsTyped text circuit × IsSolved circuit checked widths
-    × IsFirstWidthFault checked widths given × (f ≡ fault.Width given)
+    × IsFirstOfWidths checked widths given × (f ≡ fault.Width given)
 First (suc (suc (suc (suc (suc (suc n)))))) text f = ⊥
 
 first : (text : List ℕ) (f : CircuitFault) → IsFirstFault text f → First (stage_of f) text f
@@ -123,15 +120,14 @@ first text _ (of_widths circuit checked widths given t solved f) = (circuit, che
 
 -- it is one
 once : (n : ℕ) (text : List ℕ) (f g : CircuitFault) → First n text f → First n text g → f ≡ g
-once zero text f g p q =
-    let e = one_token_fault text p.0 q.0 p.1 q.1 p.2 q.2 in p.3 ∙ ap₂ (λ at kind. fault.Lex (fault_at kind (place text at))) e.0 e.1 ∙ sym q.3
+once zero text f g p q = p.3 ∙ ap fault.Lex (one_token_fault text p.0 q.0 p.1 q.1 p.2 q.2).1 ∙ sym q.3
 once (suc zero) text f g p q = p.4 ∙ ap (λ at. fault.Layout (BadIndent (place text at))) (one_bad_indent text p.1 q.1 p.3 q.3) ∙ sym q.4
 once (suc (suc zero)) text f g p q =
     p.4 ∙ ap fault.Parse (one_parse_fault text q.0 p.1 q.1 (subst (λ x. FaultOf text x p.1) (laid_once text p.0 q.0 p.2 q.2) p.3) q.3) ∙ sym q.4
 once (suc (suc (suc zero))) text f g p q =
-    p.4 ∙ ap fault.Name (one_name_fault q.0 p.1 q.1 (subst (λ x. IsFirstNameFault x p.1) (parsed_once text p.0 q.0 p.2 q.2) p.3) q.3) ∙ sym q.4
+    p.4 ∙ ap fault.Name (one_name_fault q.0 p.1 q.1 (subst (λ x. IsFirstOfNames x p.1) (parsed_once text p.0 q.0 p.2 q.2) p.3) q.3) ∙ sym q.4
 once (suc (suc (suc (suc zero)))) text f g p q =
-    p.4 ∙ ap fault.Typing (one_type_fault q.0 p.1 q.1 (subst (λ x. IsFirstTypeFault x p.1) (parsed_once text p.0 q.0 p.2.parsed q.2.parsed) p.3) q.3) ∙ sym q.4
+    p.4 ∙ ap fault.Typing (one_type_fault q.0 p.1 q.1 (subst (λ x. IsFirstOfTypes x p.1) (parsed_once text p.0 q.0 p.2.parsed q.2.parsed) p.3) q.3) ∙ sym q.4
 once (suc (suc (suc (suc (suc zero))))) text f g p q =
     let same = parsed_once text p.0 q.0 p.4.named.parsed q.4.named.parsed in
     p.7 ∙ ap fault.Width (one_width_fault q.0 p.1 q.1 p.2 q.2 p.3 q.3 (subst (λ x. IsSolved x p.1 p.2) same p.5) q.5 p.6 q.6) ∙ sym q.7
@@ -209,60 +205,3 @@ only_circuit text circuit a = record { is = a; only = λ other b. accepted_once 
 
 pub only_laid : (text : List ℕ) (laid : List Laid) → IsLaid text laid → IsOnly (IsLaid text) laid
 only_laid text laid l = record { is = l; only = λ other m. laid_once text other laid m l }
-
--- a first fault has its place
-lex_placed : (kind : TokenKind) (p : Place) → fault_place (fault.Lex (fault_at kind p)) ≡ Some p
-lex_placed Bad_byte p = refl
-lex_placed Bad_token p = refl
-lex_placed Number_range p = refl
-
-name_placed : (kind : NameKind) (p : Place) → fault_place (fault.Name (name_answer kind p)) ≡ Some p
-name_placed naming.NoMain p = refl
-name_placed naming.ModuleTwice p = refl
-name_placed naming.ModuleUnknown p = refl
-name_placed naming.InstanceLoop p = refl
-name_placed naming.NameTwice p = refl
-name_placed naming.NameUnknown p = refl
-
-type_placed : (kind : TypeKind) (p : Place) → fault_place (fault.Typing (type_answer kind p)) ≡ Some p
-type_placed typing.FieldTwice p = refl
-type_placed typing.FieldUnknown p = refl
-type_placed typing.NotBundle p = refl
-type_placed typing.NotVector p = refl
-type_placed typing.IndexRange p = refl
-type_placed typing.IndexKind p = refl
-type_placed typing.OperandKind p = refl
-type_placed typing.NotEquivalent p = refl
-type_placed typing.FlowSink p = refl
-type_placed typing.FlowSource p = refl
-type_placed typing.ConditionKind p = refl
-type_placed typing.NotPassive p = refl
-type_placed typing.LiteralFit p = refl
-type_placed typing.MemoryField p = refl
-
-width_placed : (kind : WidthKind) (p : Place) → fault_place (fault.Width (width_answer kind p)) ≡ Some p
-width_placed fitting.WidthUnknown p = refl
-width_placed fitting.WidthOver p = refl
-width_placed fitting.ParameterRange p = refl
-width_placed fitting.ConditionWidth p = refl
-
-no_memory_named : {piece : Piece} {p : Place} → IsNamed' piece p parse.NoMemory → ⊥
-no_memory_named h = elim h [ ]
-
-no_memory_spelled : (text : List ℕ) (laid : List Laid) → FaultOf text laid parse.NoMemory → ⊥
-no_memory_spelled text laid (a_bad_piece k l _ stands bad other named) = no_memory_named named
-
-parse_placed : (text : List ℕ) (laid : List Laid) (given : ParseFault) → FaultOf text laid given → (p : Place) × (fault_place (fault.Parse given) ≡ Some p)
-parse_placed text laid (parse.BadSyntax p) f = (p, refl)
-parse_placed text laid (parse.BadVersion p) f = (p, refl)
-parse_placed text laid (parse.Unsupported p) f = (p, refl)
-parse_placed text laid (parse.TooDeep p) f = (p, refl)
-parse_placed text laid parse.NoMemory f = absurd (no_memory_spelled text laid f)
-
-pub placed : (text : List ℕ) (f : CircuitFault) → IsFirstFault text f → (p : Place) × (fault_place f ≡ Some p)
-placed text _ (of_tokens at kind f) = (place text at, lex_placed kind (place text at))
-placed text _ (of_layout tokens at l b) = (place text at, refl)
-placed text _ (of_grammar laid given l f) = parse_placed text laid given f
-placed text _ (of_names circuit given n f) = (f.place, ap (λ x. fault_place (fault.Name x)) f.is ∙ name_placed f.kind' f.place)
-placed text _ (of_types circuit given n f) = (f.place, ap (λ x. fault_place (fault.Typing x)) f.is ∙ type_placed f.kind' f.place)
-placed text _ (of_widths circuit checked widths given t solved f) = (f.place, ap (λ x. fault_place (fault.Width x)) f.is ∙ width_placed f.kind' f.place)

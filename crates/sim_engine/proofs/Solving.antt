@@ -1,8 +1,7 @@
 -- A circuit has one least assignment of widths, and its scopes say the same of which modules are reached: what is told of its
 -- widths depends on nothing else.
 use Rattle.std.proofs.Common.{◌≡◌, Bool, List, [], ◌⊎◌, ⊎_elim, inl, inr, refl, sym, ap, ◌∙◌, subst}
-use Rattle.std.specs.Prelude.{Result, Ok, Err, IfOk, IfErr, Contains, length}
-use Rattle.place_text.specs.declared.place.Place.{Place}
+use Rattle.std.specs.Prelude.{None, Result, Ok, Err, IfOk, IfErr, Contains, length}
 use Rattle.prim_ops.specs.declared.widths.Width.{Width}
 use Rattle.fir_tree.specs.declared.circuit.Circuit.{Circuit}
 use Rattle.fir_tree.specs.declared.scope.Checked.{Checked}
@@ -14,22 +13,21 @@ use Rattle.width_rules.specs.Circuits.{rules_in}
 use Rattle.width_rules.specs.Solutions.{IsLeast}
 use Rattle.width_rules.specs.declared.rule.Rules.{Rules}
 use Rattle.width_rules.proofs.Least.{least_once}
-use Rattle.width_solver.specs.Judging.{Told, told_of}
-use Rattle.width_solver.specs.Fitting.{IsFitted}
-use Rattle.width_solver.specs.Faults.{IsFault, IsFirst, IsFirstAnswer}
-use Rattle.width_solver.specs.declared.fault.Kind.{Kind}
-use Rattle.width_solver.specs.declared.fault.WidthFault.{WidthFault}
-use Rattle.width_solver.specs.declared.fault.WidthFault.TheVariants.{NoMemory}
-use Rattle.sim_engine.specs.Widths.{AreLeast, IsSolved, IsFit, IsUnfit, IsFittedCircuit}
+use Rattle.width_fit.specs.Judging.{Told, told_of}
+use Rattle.width_fit.specs.Fitting.{IsFitted, AreLeast, IsSolved, IsFit, IsFittedCircuit}
+use Rattle.fault_order.specs.Verdicts.{IsVerdict}
+use Rattle.width_fit.specs.Faults.{IsFault, IsFirst, place_of, rank_of}
+use Rattle.width_fit.specs.declared.fault.WidthFault.{WidthFault}
+use Rattle.sim_engine.specs.Unfit.{IsUnfit}
 
 -- a circuit with these flags, and what is told of it with these widths
-abbrev flagged : Circuit → List Bool → Checked
+abbrev pub flagged : Circuit → List Bool → Checked
 flagged circuit reached = record { circuit = circuit; scope = record { reached = reached; uses = []; targets = [] }; types = [] }
 
 abbrev told_at : Circuit → List Bool → List Width → Told
 told_at circuit reached widths = told_of (flagged circuit reached) widths
 
-same_at : {X : Type 0} (f : Circuit → List Bool → X) (c d : Circuit) (r s : List Bool) → c ≡ d → r ≡ s → f c r ≡ f d s
+pub same_at : {X : Type 0} (f : Circuit → List Bool → X) (c d : Circuit) (r s : List Bool) → c ≡ d → r ≡ s → f c r ≡ f d s
 same_at f c d r s e h = ap (λ x. f x r) e ∙ ap (λ x. f d x) h
 
 same_reached : (circuit : Circuit) (first second : Checked) (v w : List Width) → IsSolved circuit first v → IsSolved circuit second w → first.scope.reached ≡ second.scope.reached
@@ -41,15 +39,15 @@ same_told circuit first second v w f s =
     same_at (λ c r. told_at c r v) first.circuit second.circuit first.scope.reached second.scope.reached (f.circuit_is ∙ sym s.circuit_is) (same_reached circuit first second v w f s)
     ∙ ap (λ x. told_at second.circuit second.scope.reached x) one
 
-pub same_fault : (circuit : Circuit) (first second : Checked) (v w : List Width) (kind : Kind) (p : Place) → IsSolved circuit first v → IsSolved circuit second w
-    → IsFault first v kind p → IsFault second w kind p
-same_fault circuit first second v w kind p f s h = subst (λ (t : Told). Contains t.faults (record { kind = kind; place = p })) (same_told circuit first second v w f s) h
+pub same_fault : (circuit : Circuit) (first second : Checked) (v w : List Width) (given : WidthFault) → IsSolved circuit first v → IsSolved circuit second w
+    → IsFault first v given → IsFault second w given
+same_fault circuit first second v w given f s h = subst (λ (t : Told). Contains t.faults given) (same_told circuit first second v w f s) h
 
-pub same_first : (circuit : Circuit) (first second : Checked) (v w : List Width) (kind : Kind) (p : Place) → IsSolved circuit first v → IsSolved circuit second w
-    → IsFirst first v kind p → IsFirst second w kind p
-same_first circuit first second v w kind p f s h = record {
-  is = same_fault circuit first second v w kind p f s h.is;
-  first = λ other there' g. h.first other there' (same_fault circuit second first w v other there' s f g);
+pub same_first : (circuit : Circuit) (first second : Checked) (v w : List Width) (given : WidthFault) → IsSolved circuit first v → IsSolved circuit second w
+    → IsFirst first v given → IsFirst second w given
+same_first circuit first second v w given f s h = record {
+  is = same_fault circuit first second v w given f s h.is;
+  first = λ other g. h.first other (same_fault circuit second first w v other s f g);
 }
 
 -- fitted circuits of one circuit have the same types, and reach the same modules
@@ -67,18 +65,17 @@ same_modules circuit first second f s = same_reached circuit first.checked secon
 
 -- what the judge of widths answers, where the rules and the widths are the circuit's
 pub fit_from : (checked : Checked) (rules : Rules) (widths : List Width) (result : Result Fitted WidthFault) → rules ≡ rules_in checked.circuit
-    → IsLeast rules.rules (length rules.places) widths → IfOk result (IsFitted checked widths)
-    → IfOk result (λ fitted. (kind : Kind) (p : Place) → ¬ (IsFault checked widths kind p)) → IfOk result (IsFit checked)
-fit_from checked rules widths (Ok fitted) same least is none =
-    record { widths = widths; least = subst (λ (x : Rules). IsLeast x.rules (length x.places) widths) same least; fitted_is = is; none = none }
-fit_from checked rules widths (Err fault) same least is none = tt
+    → IsLeast rules.rules (length rules.places) widths → IsVerdict place_of rank_of (IsFault checked widths) (IsFitted checked widths) result → IfOk result (IsFit checked)
+fit_from checked rules widths (Ok fitted) same least v =
+    record { widths = widths; least = subst (λ (x : Rules). IsLeast x.rules (length x.places) widths) same least; fitted_is = v.ok; none = v.none }
+fit_from checked rules widths (Err fault) same least v = tt
 
 pub unfit_from : (checked : Checked) (rules : Rules) (widths : List Width) (result : Result Fitted WidthFault) → rules ≡ rules_in checked.circuit
-    → IsLeast rules.rules (length rules.places) widths → IfErr result (λ fault. (fault ≡ NoMemory) ⊎ IsFirstAnswer checked widths fault)
-    → IfErr result (λ fault. (fault ≡ NoMemory) ⊎ IsUnfit checked fault)
-unfit_from checked rules widths (Ok fitted) same least found = tt
-unfit_from checked rules widths (Err fault) same least found = ⊎_elim (λ m. inl m)
-    (λ f. inr (record { widths = widths; least = subst (λ (x : Rules). IsLeast x.rules (length x.places) widths) same least; first = f })) found
+    → IsLeast rules.rules (length rules.places) widths → IsVerdict place_of rank_of (IsFault checked widths) (IsFitted checked widths) result
+    → IfErr result (λ fault. (place_of fault ≡ None) ⊎ IsUnfit checked fault)
+unfit_from checked rules widths (Ok fitted) same least v = tt
+unfit_from checked rules widths (Err fault) same least v = ⊎_elim (λ m. inl m)
+    (λ f. inr (record { widths = widths; least = subst (λ (x : Rules). IsLeast x.rules (length x.places) widths) same least; first = f })) v.fault
 
 -- a circuit whose names and types are known, with its least widths
 pub solved_by : (checked : Checked) (widths : List Width) → IsScope checked.circuit checked.scope → checked.types ≡ types_of checked.circuit → AreLeast checked.circuit widths

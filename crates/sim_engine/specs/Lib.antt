@@ -1,4 +1,4 @@
-pub mod Widths
 pub mod Stages
 pub mod Faults
 pub mod Only
+pub mod Unfit

@@ -1,9 +1,12 @@
 //! The circuit's text, through all stages.
 
-ghost use Rattle.std.specs.Prelude.{◌≡◌, ◌⊎◌, ◌≤◌, None, IfOk, IfErr, MatchResult, length};
+ghost use Rattle.std.specs.Prelude.{◌≡◌, ◌⊎◌, ◌≤◌, Some, None, IfOk, IfErr, MatchResult, length};
 ghost use Rattle.fir_tree.specs.declared.circuit.Circuit.{Circuit as ACircuit};
-ghost use Rattle.sim_engine.specs.Widths.{IsFit, IsUnfit, IsFittedCircuit};
-ghost use Rattle.sim_engine.specs.Stages.{circuit_limit, IsLaid, IsAccepted, IsFirstFault};
+ghost use Rattle.place_text.specs.declared.place.Place.{Place as APlace};
+ghost use Rattle.width_fit.specs.Faults.{place_of};
+ghost use Rattle.width_fit.specs.Fitting.{IsFit, IsFittedCircuit};
+ghost use Rattle.sim_engine.specs.Unfit.{IsUnfit};
+ghost use Rattle.sim_engine.specs.Stages.{circuit_limit, IsLaid, IsAccepted, IsFirstFault, IsGiven};
 ghost use Rattle.sim_engine.specs.Faults.{fault_place};
 ghost use Rattle.sim_engine.specs.declared.fault.CircuitFault.{CircuitFault as AFault};
 ghost use Rattle.sim_engine.specs.declared.fault.CircuitFault.TheVariants.{NoMemory as No_memory};
@@ -17,7 +20,8 @@ use fir_tree::{Checked, Fitted};
 use std::alloc::Global;
 use type_check::check;
 use width_rules::rules_of;
-use width_solver::{WidthFault, judge, solve};
+use width_fit::{WidthFault, judge};
+use width_solver::solve;
 
 /// The greatest length of a circuit's text in bytes.
 pub const CIRCUIT_LIMIT: usize = 1_048_576;
@@ -39,7 +43,7 @@ pub fn accept_text(alloc: Global, bytes: &[u8]) -> Result<Accepted, CircuitFault
     ensures laid { IfOk result (λ accepted. IsLaid bytes.now accepted.laid.items) }
     ensures fault { IfErr result (λ fault. (fault ≡ No_memory) ⊎ IsFirstFault bytes.now fault) }
     // want of memory is said by one variant alone: every other fault has its place
-    ensures memory { IfErr result (λ fault. fault_place fault ≡ None → fault ≡ No_memory) }
+    ensures placed { IfErr result (λ fault. (fault ≡ No_memory) ⊎ ((there' : APlace) × (fault_place fault ≡ Some there'))) }
     // a text that passes all stages is refused for want of memory alone
     ensures accepts { (circuit : ACircuit) → IsAccepted bytes.now circuit → MatchResult result (λ accepted. accepted.fitted.checked.circuit ≡ circuit) (λ fault. fault ≡ No_memory) }
     // and a text with a fault is answered by its first one, or by want of memory
@@ -53,7 +57,7 @@ fn pass_stages(alloc: Global, bytes: &[u8]) -> Result<Accepted, CircuitFault>
     ensures ok { IfOk result (λ accepted. IsAccepted bytes.now accepted.fitted.checked.circuit) }
     ensures fitted { IfOk result (λ accepted. IsFittedCircuit accepted.fitted.checked.circuit accepted.fitted) }
     ensures laid { IfOk result (λ accepted. IsLaid bytes.now accepted.laid.items) }
-    ensures fault { IfErr result (λ fault. (fault ≡ No_memory) ⊎ IsFirstFault bytes.now fault) }
+    ensures fault { IfErr result (IsGiven bytes.now) }
 {
     let tokens = lex(alloc, bytes)?;
     let laid = lay_out(alloc, bytes, &tokens)?;
@@ -72,7 +76,7 @@ fn pass_stages(alloc: Global, bytes: &[u8]) -> Result<Accepted, CircuitFault>
 /// The circuit with the types that its least widths give, or the first fault of its widths.
 fn fit_widths(alloc: Global, checked: Checked) -> Result<Fitted, WidthFault>
     ensures ok { IfOk result (IsFit checked) }
-    ensures fault { IfErr result (λ fault. (fault ≡ WidthFault.NoMemory) ⊎ IsUnfit checked fault) }
+    ensures fault { IfErr result (λ fault. (place_of fault ≡ None) ⊎ IsUnfit checked fault) }
 {
     let rules = rules_of(alloc, &checked)?;
     let widths = solve(alloc, &rules)?;

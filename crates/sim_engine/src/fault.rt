@@ -1,10 +1,16 @@
 //! The reasons to refuse a circuit's text.
 
 ghost use Rattle.std.specs.Prelude.{◌≡◌};
-ghost use Rattle.sim_engine.specs.Faults.{kind_name, fault_place, told, of_lex, of_layout_fault, of_parse, of_name, of_typing, of_width};
-ghost use Rattle.sim_engine.specs.declared.fault.CircuitFault.TheVariants.{NoMemory as No_memory};
+ghost use Rattle.fir_lexer.specs.Faults.{place_of as place_of_tokens};
+ghost use Rattle.fir_layout.specs.Faults.{place_of as place_of_layout};
+ghost use Rattle.fir_tree.specs.Faults.{place_of as place_of_grammar};
+ghost use Rattle.fir_names.specs.Faults.{place_of as place_of_names};
+ghost use Rattle.type_check.specs.Faults.{place_of as place_of_types};
+ghost use Rattle.width_fit.specs.Faults.{place_of as place_of_widths};
+ghost use Rattle.sim_engine.specs.Faults.{kind_name, fault_place, unless_wanting};
+ghost use Rattle.sim_engine.specs.declared.fault.CircuitFault.TheVariants.{Lex as Of_tokens, Layout as Of_layout, Parse as Of_grammar, Name as Of_names, Typing as Of_types, Width as Of_widths, NoMemory as No_memory};
 
-use crate::told;
+use fault_order::Fault;
 use fir_layout::LayoutFault;
 use fir_lexer::LexFault;
 use fir_names::NameFault;
@@ -13,7 +19,7 @@ use place_text::Place;
 use std::alloc::AllocError;
 use thiserror::Error;
 use type_check::TypeFault;
-use width_solver::WidthFault;
+use width_fit::WidthFault;
 
 /// Why a text isn't accepted: its first fault, by the stage that finds it. Want of memory is said by `NoMemory` alone.
 #[derive(Debug, Drop, Error)]
@@ -39,97 +45,95 @@ impl CircuitFault {
     pub fn kind(&self) -> &str
         ensures { result.now ≡ kind_name self.now }
     {
-        let (kind, _) = self.told();
-        kind
+        match self {
+            CircuitFault::Lex(fault) => fault.kind(),
+            CircuitFault::Layout(fault) => fault.kind(),
+            CircuitFault::Parse(fault) => fault.kind(),
+            CircuitFault::Name(fault) => fault.kind(),
+            CircuitFault::Typing(fault) => fault.kind(),
+            CircuitFault::Width(fault) => fault.kind(),
+            CircuitFault::NoMemory => "NoMemory",
+        }
     }
 
     /// The fault's place: none for want of memory, and only for that.
     pub fn place(&self) -> Option<Place>
         ensures { result ≡ fault_place self.now }
     {
-        let (_, place) = self.told();
-        place
-    }
-
-    /// The name of the fault's kind, and its place.
-    fn told(&self) -> (&'static str, Option<Place>)
-        ensures kind { result.0.now ≡ kind_name self.now }
-        ensures place { result.1 ≡ fault_place self.now }
-    {
         match self {
-            CircuitFault::Lex(fault) => told::of_tokens(fault),
-            CircuitFault::Layout(fault) => told::of_layout(fault),
-            CircuitFault::Parse(fault) => told::of_grammar(fault),
-            CircuitFault::Name(fault) => told::of_names(fault),
-            CircuitFault::Typing(fault) => told::of_types(fault),
-            CircuitFault::Width(fault) => told::of_widths(fault),
-            CircuitFault::NoMemory => ("NoMemory", None),
+            CircuitFault::Lex(fault) => fault.place(),
+            CircuitFault::Layout(fault) => fault.place(),
+            CircuitFault::Parse(fault) => fault.place(),
+            CircuitFault::Name(fault) => fault.place(),
+            CircuitFault::Typing(fault) => fault.place(),
+            CircuitFault::Width(fault) => fault.place(),
+            CircuitFault::NoMemory => None,
         }
     }
 }
 
 impl From<LexFault> for CircuitFault {
-    ghost from_gives = { λ fault given. given ≡ of_lex fault };
+    ghost from_gives = { λ fault given. given ≡ unless_wanting (place_of_tokens fault) (Of_tokens fault) };
 
     fn from(fault: LexFault) -> CircuitFault {
-        match fault {
-            LexFault::NoMemory => CircuitFault::NoMemory,
-            fault => CircuitFault::Lex(fault),
+        match fault.place() {
+            Some(_) => CircuitFault::Lex(fault),
+            None => CircuitFault::NoMemory,
         }
     }
 }
 
 impl From<LayoutFault> for CircuitFault {
-    ghost from_gives = { λ fault given. given ≡ of_layout_fault fault };
+    ghost from_gives = { λ fault given. given ≡ unless_wanting (place_of_layout fault) (Of_layout fault) };
 
     fn from(fault: LayoutFault) -> CircuitFault {
-        match fault {
-            LayoutFault::NoMemory => CircuitFault::NoMemory,
-            fault => CircuitFault::Layout(fault),
+        match fault.place() {
+            Some(_) => CircuitFault::Layout(fault),
+            None => CircuitFault::NoMemory,
         }
     }
 }
 
 impl From<ParseFault> for CircuitFault {
-    ghost from_gives = { λ fault given. given ≡ of_parse fault };
+    ghost from_gives = { λ fault given. given ≡ unless_wanting (place_of_grammar fault) (Of_grammar fault) };
 
     fn from(fault: ParseFault) -> CircuitFault {
-        match fault {
-            ParseFault::NoMemory => CircuitFault::NoMemory,
-            fault => CircuitFault::Parse(fault),
+        match fault.place() {
+            Some(_) => CircuitFault::Parse(fault),
+            None => CircuitFault::NoMemory,
         }
     }
 }
 
 impl From<NameFault> for CircuitFault {
-    ghost from_gives = { λ fault given. given ≡ of_name fault };
+    ghost from_gives = { λ fault given. given ≡ unless_wanting (place_of_names fault) (Of_names fault) };
 
     fn from(fault: NameFault) -> CircuitFault {
-        match fault {
-            NameFault::NoMemory => CircuitFault::NoMemory,
-            fault => CircuitFault::Name(fault),
+        match fault.place() {
+            Some(_) => CircuitFault::Name(fault),
+            None => CircuitFault::NoMemory,
         }
     }
 }
 
 impl From<TypeFault> for CircuitFault {
-    ghost from_gives = { λ fault given. given ≡ of_typing fault };
+    ghost from_gives = { λ fault given. given ≡ unless_wanting (place_of_types fault) (Of_types fault) };
 
     fn from(fault: TypeFault) -> CircuitFault {
-        match fault {
-            TypeFault::NoMemory => CircuitFault::NoMemory,
-            fault => CircuitFault::Typing(fault),
+        match fault.place() {
+            Some(_) => CircuitFault::Typing(fault),
+            None => CircuitFault::NoMemory,
         }
     }
 }
 
 impl From<WidthFault> for CircuitFault {
-    ghost from_gives = { λ fault given. given ≡ of_width fault };
+    ghost from_gives = { λ fault given. given ≡ unless_wanting (place_of_widths fault) (Of_widths fault) };
 
     fn from(fault: WidthFault) -> CircuitFault {
-        match fault {
-            WidthFault::NoMemory => CircuitFault::NoMemory,
-            fault => CircuitFault::Width(fault),
+        match fault.place() {
+            Some(_) => CircuitFault::Width(fault),
+            None => CircuitFault::NoMemory,
         }
     }
 }

@@ -6,7 +6,6 @@
 pub mod accept;
 pub mod fault;
 pub mod laws;
-mod told;
 
 pub use accept::{Accepted, CIRCUIT_LIMIT, accept_text};
 pub use fault::CircuitFault;

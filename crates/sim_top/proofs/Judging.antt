@@ -1,5 +1,5 @@
 -- What a command answers, from what the text is.
-use Rattle.std.proofs.Common.{◌≡◌, ℕ, ◌<◌, ◌≤◌, min, List, length, refl, arith}
+use Rattle.std.proofs.Common.{◌≡◌, ℕ, ◌<◌, ◌≤◌, min, List, ◌⊎◌, ⊎_elim, length, refl, sym, ap, ◌∙◌, arith}
 use Rattle.std.specs.Prelude.{codes, Some, None}
 use Rattle.place_text.specs.declared.place.Place.{Place}
 use Rattle.fir_tree.specs.declared.circuit.Circuit.{Circuit}
@@ -8,6 +8,7 @@ use Rattle.trace_print.specs.Listing.{leaves_listed}
 use Rattle.sim_engine.specs.Stages.{circuit_limit, IsAccepted, IsFirstFault}
 use Rattle.sim_engine.specs.Faults.{fault_place}
 use Rattle.sim_engine.specs.declared.fault.CircuitFault.{CircuitFault}
+use Rattle.sim_engine.specs.declared.fault.CircuitFault.TheVariants.{NoMemory}
 use Rattle.sim_top.specs.declared.command.Command.{Command}
 use Rattle.sim_top.specs.declared.command.Command.TheVariants.{Run, Check, Widths}
 use Rattle.sim_top.specs.declared.circuit.SmallCircuit.{SmallCircuit}
@@ -30,10 +31,13 @@ pub judged_part : (command : Command) (joined circuit stimulus : List ℕ) (stat
 judged_part command joined circuit stimulus status bytes cut short j =
     taken command joined circuit status bytes (record { within = cut.within; part = cut.part; short = short }) j
 
-pub judged_refused : (command : Command) (joined circuit stimulus : List ℕ) (fault : CircuitFault) (place : Place) → IsCut command joined circuit stimulus
-    → length circuit ≤ circuit_limit → IsFirstFault circuit fault → fault_place fault ≡ Some place → Judges command joined 2 (fault_bytes fault place)
-judged_refused command joined circuit stimulus fault place cut short f at =
-    judged_part command joined circuit stimulus 2 (fault_bytes fault place) cut short (refused command joined circuit fault place f at)
+-- a fault that has a place isn't want of memory
+pub refused_from : (command : Command) (joined circuit stimulus : List ℕ) (fault : CircuitFault) (place : Place) (status : ℕ) (bytes : List ℕ) → IsCut command joined circuit stimulus
+    → length circuit ≤ circuit_limit → (fault ≡ NoMemory) ⊎ IsFirstFault circuit fault → fault_place fault ≡ Some place → status ≡ 2 → bytes ≡ fault_bytes fault place
+    → Judges command joined status bytes
+refused_from command joined circuit stimulus fault place status bytes cut short found at two e = rw (two, e)
+    (⊎_elim (λ m. absurd (let n : None ≡ Some place = sym (ap fault_place m) ∙ at in cc))
+    (λ f. judged_part command joined circuit stimulus 2 (fault_bytes fault place) cut short (refused command joined circuit fault place f at)) found)
 
 pub listed : (joined text : List ℕ) (circuit : Circuit) (status : ℕ) (bytes : List ℕ) → IsAccepted text circuit → ListsCircuit circuit status bytes
     → JudgesTaken Widths joined text status bytes

@@ -9,7 +9,7 @@ use Rattle.fir_layout.specs.Pieces.{pieces_of}
 use Rattle.fir_tree.specs.declared.circuit.Circuit.{Circuit}
 use Rattle.fir_tree.specs.declared.scope.Fitted.{Fitted}
 use Rattle.trace_print.specs.Listing.{listing_of, leaves_listed}
-use Rattle.sim_engine.specs.Widths.{IsFittedCircuit}
+use Rattle.width_fit.specs.Fitting.{IsFittedCircuit}
 use Rattle.sim_engine.specs.Stages.{circuit_limit, IsLaid, IsAccepted, IsFirstFault}
 use Rattle.sim_engine.specs.Faults.{kind_name, fault_place}
 use Rattle.sim_engine.specs.declared.fault.CircuitFault.{CircuitFault}

@@ -4,7 +4,7 @@ ghost use Rattle.std.specs.Prelude.{◌≡◌, ℕ, List, ◌≤◌, length, IfO
 ghost use Rattle.place_text.specs.Places.{first_place};
 ghost use Rattle.place_text.specs.declared.place.Place.{Place as APlace};
 ghost use Rattle.fir_layout.specs.Pieces.{pieces_of};
-ghost use Rattle.sim_engine.specs.Widths.{IsFittedCircuit};
+ghost use Rattle.width_fit.specs.Fitting.{IsFittedCircuit};
 ghost use Rattle.sim_engine.specs.Stages.{IsLaid, IsAccepted};
 ghost use Rattle.sim_engine.specs.Faults.{fault_place};
 ghost use Rattle.sim_top.specs.Answers.{fault_bytes, whole_bytes, stimulus_bytes, joined_limit, IsCut, Judges, JudgesTaken, RunsSmall, ListsCircuit};

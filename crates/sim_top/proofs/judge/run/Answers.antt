@@ -10,7 +10,7 @@ none_is : (x : SmallCircuit) → None ≡ Some x → ⊥
 none_is x e = cc
 
 pub read_small-requires : goal.read_small-requires
-read_small-requires c = all_inside c.args.text.now _ _ c.requires.laid c.deref.ensures.value
+read_small-requires c = record { inside = all_inside c.args.text.now _ _ c.requires.laid c.deref.ensures.value }
 
 pub run_small-requires : goal.run_small-requires
 run_small-requires c = (c.in_ok-small.ensures.some c.in-Some.small (ap Ok c.in-Some.is)).formed
