@@ -1,3 +1,5 @@
-mod Loops
-mod Settling
-mod Shaping
+pub mod Loops
+pub mod Settling
+pub mod Shaping
+mod Mentioning
+mod Examples

@@ -157,29 +157,29 @@ fit_shape kind width (v ∷ w ∷ vs) s n q = absurd (none_some q)
 
 -- Expressions
 
-abbrev shapes_of : List Ground → Table → List (Option Shape)
+abbrev pub shapes_of : List Ground → Table → List (Option Shape)
 shapes_of items table = map (λ g. shape g table) items
 
-shape-Const : (v : Value) (table : Table) → shape (Const v) table ≡ Some (shape_of_value v)
+pub shape-Const : (v : Value) (table : Table) → shape (Const v) table ≡ Some (shape_of_value v)
 shape-Const v table = grind (arith, common_steps, the_lemmas)
 
-shape-Leaf : (x : ℕ) (table : Table) → shape (Leaf x) table ≡ table.leaf x
+pub shape-Leaf : (x : ℕ) (table : Table) → shape (Leaf x) table ≡ table.leaf x
 shape-Leaf x table = grind (arith, common_steps, the_lemmas)
 
-shape-Op : (prim : PrimOp) (operands : List Ground) (params : List ℕ) (table : Table) → shape (Op prim operands params) table ≡ option_and_then (shape_of_row prim params) (all_of (shapes_of operands table))
+pub shape-Op : (prim : PrimOp) (operands : List Ground) (params : List ℕ) (table : Table) → shape (Op prim operands params) table ≡ option_and_then (shape_of_row prim params) (all_of (shapes_of operands table))
 shape-Op prim operands params table = grind (arith, common_steps, the_lemmas, maps)
 
-shape-Mux : (items : List Ground) (table : Table) → shape (Mux items) table ≡ option_and_then shape_of_choice (all_of (shapes_of items table))
+pub shape-Mux : (items : List Ground) (table : Table) → shape (Mux items) table ≡ option_and_then shape_of_choice (all_of (shapes_of items table))
 shape-Mux items table = grind (arith, common_steps, the_lemmas, maps)
 
-shape-Select : (index items : List Ground) (table : Table)
+pub shape-Select : (index items : List Ground) (table : Table)
     → shape (Select index items) table ≡ option_and_then (λ i. option_and_then (shape_of_selection i) (all_of (shapes_of items table))) (all_of (shapes_of index table))
 shape-Select index items table = grind (arith, common_steps, the_lemmas, maps)
 
-shape-Load : (m k : ℕ) (items : List Ground) (table : Table) → shape (Load m k items) table ≡ option_and_then (shape_of_load (table.element m k)) (all_of (shapes_of items table))
+pub shape-Load : (m k : ℕ) (items : List Ground) (table : Table) → shape (Load m k items) table ≡ option_and_then (shape_of_load (table.element m k)) (all_of (shapes_of items table))
 shape-Load m k items table = grind (arith, common_steps, the_lemmas, maps)
 
-shape-Fit : (kind : Kind) (width : ℕ) (items : List Ground) (table : Table) → shape (Fit kind width items) table ≡ option_and_then (shape_of_fit kind width) (all_of (shapes_of items table))
+pub shape-Fit : (kind : Kind) (width : ℕ) (items : List Ground) (table : Table) → shape (Fit kind width items) table ≡ option_and_then (shape_of_fit kind width) (all_of (shapes_of items table))
 shape-Fit kind width items table = grind (arith, common_steps, the_lemmas, maps)
 
 module _ (table : Table) (sight : Sight) (h : HasShapes table sight) where

@@ -89,7 +89,7 @@ pub record IsNet (net : Net) : Type 0 where
   pub ports : net.ports ≤ length net.leaves
   pub drivers : length net.drivers ≡ length net.leaves
   -- each assignment has a driver; besides, only a register's leaf may have one
-  pub assigned : (x : ℕ) → IsAssigned net.leaves x → IsSome (driver_of net x)
+  pub assigned : (x : ℕ) → IsAssigned net.leaves x → (driver : Ground) × (driver_of net x ≡ Some driver)
   pub undriven : (x : ℕ) (leaf : Leaf) → slice_get net.leaves x ≡ Some leaf → may_be_driven leaf.role ≡ false → driver_of net x ≡ None
   -- a driver has the kind and the width of its leaf
   pub shapes : (x : ℕ) (leaf : Leaf) (driver : Ground) → slice_get net.leaves x ≡ Some leaf → driver_of net x ≡ Some driver → shape driver (table_of net) ≡ Some (leaf_shape leaf)

@@ -4,16 +4,20 @@ ghost use Rattle.std.specs.Prelude.{◌≡◌, ℕ, List, Some};
 ghost use Rattle.ground_net.specs.declared.ground.Ground.{Ground as TheGround};
 ghost use Rattle.ground_net.specs.declared.net.Net.{Net as TheNet};
 ghost use Rattle.ground_net.specs.Grounds.{Sight, value};
-ghost use Rattle.ground_net.specs.Reads.{IsAssigned, driver_of, IsOrder, HasNoLoop, MentionsLeaves};
+ghost use Rattle.ground_net.specs.Reads.{IsOrder, HasNoLoop, MentionsLeaves};
 ghost use Rattle.net_meaning.specs.Shapes.{Shape, Table, HasShapes, shape, shape_of_value};
 ghost use Rattle.net_meaning.specs.Cycles.{NetState, Inputs, Valuation, Settled, HasOneSettled, IsWithin, sight_of, next};
 ghost use Rattle.net_meaning.specs.Nets.{IsNet};
 ghost use Rattle.net_meaning.specs.Words.{words_of, state_of};
 
-/// An order of the assignments gives exactly one settled valuation for each state and each inputs, where drivers mention leaves
-/// of the net.
+/// An order of the assignments of a well formed net gives exactly one settled valuation for each state and each inputs.
 pub fn one_settled()
-    ensures { (net : TheNet) (sequence : List ℕ) → MentionsLeaves net → ((x : ℕ) → IsAssigned net.leaves x → (g : TheGround) × (driver_of net x ≡ Some g)) → IsOrder net sequence → (s : NetState) (given : Inputs) → HasOneSettled net s given }
+    ensures { (net : TheNet) (sequence : List ℕ) → IsNet net → IsOrder net sequence → (s : NetState) (given : Inputs) → HasOneSettled net s given }
+{}
+
+/// What an assignment of a well formed net reads is a leaf of the net.
+pub fn drivers_mention_leaves()
+    ensures { (net : TheNet) → IsNet net → MentionsLeaves net }
 {}
 
 /// Where the assignments have an order, no leaf reads itself.
