@@ -7,5 +7,5 @@ mod Forms
 mod Judgements
 mod Ways
 mod Indexing
-mod Ordering
 mod Walking
+mod Telling

@@ -1,11 +1,13 @@
+-- what a reader must believe
 pub mod Parts
 pub mod Texts
 pub mod Expressions
 pub mod Memories
-pub mod Noted
 pub mod Statements
 pub mod Faults
+-- what the bodies keep, and what proofs need
+pub mod Noted
 pub mod Walks
 pub mod Judging
 pub mod Indexes
-pub mod Found
+pub mod Ranks

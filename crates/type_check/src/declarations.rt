@@ -10,7 +10,7 @@ ghost use Rattle.type_check.specs.Statements.{and_then, notes, declares, expects
 ghost use Rattle.type_check.specs.Walks.{Walks};
 
 use crate::conditions::{expect_clock, expect_condition, expect_init};
-use crate::fault::Kind;
+use crate::fault::TypeFault;
 use crate::judge::judge;
 use crate::memory::push_memory;
 use crate::modules::{Modules, insert_new};
@@ -116,7 +116,11 @@ pub fn declare_node(
         return Ok(());
     };
     let fits = is_passive(&part.typ);
-    push_unless(&mut walk.found.faults, fits, Kind::NotPassive, expr.place)?;
+    push_unless(
+        &mut walk.found.faults,
+        fits,
+        TypeFault::NotPassive(expr.place),
+    )?;
     declare_source(walk, name, part.typ)
 }
 

@@ -2,7 +2,6 @@
 //! all types in text order, or the first fault.
 #![tactic(auto)]
 
-mod answers;
 mod checking;
 mod conditions;
 mod declarations;

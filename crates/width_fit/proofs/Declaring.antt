@@ -17,8 +17,8 @@ use Rattle.width_rules.specs.declared.slot.Slot.{Slot}
 use Rattle.width_rules.specs.Places.{spots, size, slots_from, open_spots, node_slots}
 use Rattle.width_rules.specs.Sources.{known_with}
 use Rattle.width_rules.specs.Circuits.{places_for, memory_slots}
-use Rattle.width_fit.specs.Found.{Found}
-use Rattle.width_fit.specs.declared.fault.Kind.TheVariants.{WidthUnknown, WidthOver}
+use Rattle.width_fit.specs.declared.fault.WidthFault.{WidthFault}
+use Rattle.width_fit.specs.declared.fault.WidthFault.TheVariants.{WidthUnknown, WidthOver}
 use Rattle.width_fit.specs.declared.found.Findings.{Findings}
 use Rattle.width_fit.specs.declared.found.Surveyed.{Surveyed}
 use Rattle.width_fit.specs.declared.walk.Walk.{Walk}
@@ -33,11 +33,11 @@ any-map : {A B : Type 0} (p : B → Bool) (f : A → B) (xs : List A) → list_a
 any-map p f [] = refl
 any-map p f (x ∷ xs) = grind (arith, any-map p f xs)
 
-pub component_told : (all : Solved) (place : Place) (slots : List Slot) (widths : List Width) (unknown : Bool) (old between new : List Found) → unknown ≡ list_any (is_unknown all.rules) slots
-    → widths ≡ map (slot_width all.widths) slots → between ≡ old ++ where_ unknown WidthUnknown place → new ≡ between ++ where_ (list_any is_over widths) WidthOver place
+pub component_told : (all : Solved) (place : Place) (slots : List Slot) (widths : List Width) (unknown : Bool) (old between new : List WidthFault) → unknown ≡ list_any (is_unknown all.rules) slots
+    → widths ≡ map (slot_width all.widths) slots → between ≡ old ++ where_ unknown (WidthUnknown place) → new ≡ between ++ where_ (list_any is_over widths) (WidthOver place)
     → new ≡ old ++ component_faults all place slots
 component_told all place slots widths unknown old between new u w b n =
-    n ∙ ap₂ (λ l o. l ++ where_ o WidthOver place) (b ∙ ap (λ k. old ++ where_ k WidthUnknown place) u) (ap (list_any is_over) w ∙ any-map is_over (slot_width all.widths) slots)
+    n ∙ ap₂ (λ l o. l ++ where_ o (WidthOver place)) (b ∙ ap (λ k. old ++ where_ k (WidthUnknown place)) u) (ap (list_any is_over) w ∙ any-map is_over (slot_width all.widths) slots)
     ∙ append_assoc old _ _
 
 counted : (a b : Walk) (place : Place) (k : ℕ) → b.places.items ≡ a.places.items ++ places_for place k → length b.places.items ≡ length a.places.items + k

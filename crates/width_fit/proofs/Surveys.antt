@@ -26,7 +26,7 @@ use Rattle.circuit_parts.specs.Parts.{source_of}
 use Rattle.circuit_parts.specs.Kinds.{no_type, ground}
 use Rattle.width_rules.specs.Sources as sources
 use Rattle.width_rules.specs.Sources.{Known, Measured, named, component, measured_reference, literal_width, operation, choice}
-use Rattle.width_fit.specs.Found.{Found}
+use Rattle.width_fit.specs.declared.fault.WidthFault.{WidthFault}
 use Rattle.width_fit.specs.declared.found.Findings.{Findings}
 use Rattle.width_fit.specs.declared.found.Surveyed.{Surveyed}
 use Rattle.width_fit.specs.Filling.{filled}
@@ -113,7 +113,7 @@ indexes_more ws known ss i s {a} {b} {c} lt is h k =
     subst (λ l. AddsAll l a c) (sym (flat_more (index_surveys ws known) ss i s lt is)) (adds_both (flat_map (index_surveys ws known) (take i ss)) (index_surveys ws known s) h k)
 
 -- the faults of a node itself, behind those of its operands
-pub below_from : (ws : List Width) (place : Place) (m : Measured) (own : List Found) (all : List Survey) {a b c : Findings} → AddsAll all a b
+pub below_from : (ws : List Width) (place : Place) (m : Measured) (own : List WidthFault) (all : List Survey) {a b c : Findings} → AddsAll all a b
     → c.nodes.items ≡ b.nodes.items → c.faults.items ≡ (b.faults.items ++ over_faults place (widths_of ws m)) ++ own → AddsBelow ws (surveyed ws place m own all) a c
 below_from ws place m own all {a} {b} {c} h nodes faults =
     let over = over_faults place (widths_of ws m) in
@@ -195,7 +195,7 @@ literal_is ws kind width number place bits w is bound =
     ap (λ v. record { place = place; part = source_of (ground place kind width); widths = v ∷ [] })
     (bound ∙ ap bounded is ∙ sym (width-fixed (literal_width kind (integer_of_number number) width) ws))
 
-pub literal_adds : (ws : List Width) (kind : Sign) (width : Option ℕ) (number : Number) (place : Place) (bits : ℕ) (w : Width) (old new : List Found)
+pub literal_adds : (ws : List Width) (kind : Sign) (width : Option ℕ) (number : Number) (place : Place) (bits : ℕ) (w : Width) (old new : List WidthFault)
     → bits ≡ literal_width kind (integer_of_number number) width → w ≡ bounded bits → new ≡ old ++ over_faults place (w ∷ [])
     → new ≡ old ++ (literal_survey ws kind width number place).faults
 literal_adds ws kind width number place bits w old new is bound h =

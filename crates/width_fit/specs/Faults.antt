@@ -1,41 +1,41 @@
 -- The faults of a circuit's widths, and which is the first (FIRRTL specification 3.0, "Width Inference").
-use Rattle.std.specs.Prelude.{◌≡◌, ℕ, List, Contains}
+use Rattle.std.specs.Prelude.{ℕ, List, Option, Some, None, Contains, codes}
 use Rattle.place_text.specs.declared.place.Place.{Place}
-use Rattle.fault_order.specs.Order.{IsNotLater}
+use Rattle.fault_order.specs.First.{IsFirst as IsFirstOf}
 use Rattle.prim_ops.specs.declared.widths.Width.{Width}
 use Rattle.fir_tree.specs.declared.scope.Checked.{Checked}
-use Rattle.width_fit.specs.declared.fault.Kind.{Kind}
-use Rattle.width_fit.specs.declared.fault.Kind.TheVariants as kind
 use Rattle.width_fit.specs.declared.fault.WidthFault.{WidthFault}
-use Rattle.width_fit.specs.declared.fault.WidthFault.TheVariants as fault
+use Rattle.width_fit.specs.declared.fault.WidthFault.TheVariants.{WidthUnknown, WidthOver, ParameterRange, ConditionWidth, NoMemory}
 use Rattle.width_fit.specs.Judging.{told_of}
 
 -- the circuit has this fault, where its variables have these widths
-abbrev pub IsFault : Checked → List Width → Kind → Place → Type 0
-IsFault checked widths kind' place = Contains (told_of checked widths).faults (record { kind = kind'; place = place })
+abbrev pub IsFault : Checked → List Width → WidthFault → Type 0
+IsFault checked widths fault = Contains (told_of checked widths).faults fault
 
--- the order of kinds at one place
-abbrev pub rank : Kind → ℕ
-rank kind.WidthUnknown = 0
-rank kind.WidthOver = 1
-rank kind.ParameterRange = 2
-rank kind.ConditionWidth = 3
+-- where a fault stands; want of memory stands nowhere
+abbrev pub place_of : WidthFault → Option Place
+place_of (WidthUnknown place) = Some place
+place_of (WidthOver place) = Some place
+place_of (ParameterRange place) = Some place
+place_of (ConditionWidth place) = Some place
+place_of NoMemory = None
+
+-- the order of faults at one place
+abbrev pub rank_of : WidthFault → ℕ
+rank_of (WidthUnknown place) = 0
+rank_of (WidthOver place) = 1
+rank_of (ParameterRange place) = 2
+rank_of (ConditionWidth place) = 3
+rank_of NoMemory = 4
+
+-- the name of a fault's kind
+abbrev pub kind_of : WidthFault → List ℕ
+kind_of (WidthUnknown place) = codes "WidthUnknown"
+kind_of (WidthOver place) = codes "WidthOver"
+kind_of (ParameterRange place) = codes "ParameterRange"
+kind_of (ConditionWidth place) = codes "ConditionWidth"
+kind_of NoMemory = codes "NoMemory"
 
 -- the fault that is told: no other one comes before it
-pub record IsFirst (checked : Checked) (widths : List Width) (kind' : Kind) (place : Place) : Type 0 where
-  pub is : IsFault checked widths kind' place
-  pub first : (other : Kind) (there' : Place) → IsFault checked widths other there' → IsNotLater place (rank kind') there' (rank other)
-
--- what is answered for a fault
-abbrev pub answer : Kind → Place → WidthFault
-answer kind.WidthUnknown place = fault.WidthUnknown place
-answer kind.WidthOver place = fault.WidthOver place
-answer kind.ParameterRange place = fault.ParameterRange place
-answer kind.ConditionWidth place = fault.ConditionWidth place
-
--- the answer for the first fault
-pub record IsFirstAnswer (checked : Checked) (widths : List Width) (given : WidthFault) : Type 0 where
-  pub kind' : Kind
-  pub place : Place
-  pub first : IsFirst checked widths kind' place
-  pub is : given ≡ answer kind' place
+abbrev pub IsFirst : Checked → List Width → WidthFault → Type 0
+IsFirst checked widths = IsFirstOf place_of rank_of (IsFault checked widths)

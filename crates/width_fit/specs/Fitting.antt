@@ -1,6 +1,6 @@
 -- A circuit with fitted types.
 use Rattle.std.specs.Prelude.{◌≡◌, List, length}
-use Rattle.place_text.specs.declared.place.Place.{Place}
+use Rattle.fault_order.specs.First.{HasNone}
 use Rattle.prim_ops.specs.declared.widths.Width.{Width}
 use Rattle.fir_tree.specs.declared.circuit.Circuit.{Circuit}
 use Rattle.fir_tree.specs.declared.scope.Checked.{Checked}
@@ -9,7 +9,6 @@ use Rattle.fir_names.specs.Scopes.{IsScope}
 use Rattle.type_check.specs.Statements.{types_of}
 use Rattle.width_rules.specs.Circuits.{rules_in}
 use Rattle.width_rules.specs.Solutions.{IsLeast}
-use Rattle.width_fit.specs.declared.fault.Kind.{Kind}
 use Rattle.width_fit.specs.Judging.{told_of}
 use Rattle.width_fit.specs.Faults.{IsFault}
 
@@ -35,7 +34,7 @@ pub record IsFit (checked : Checked) (fitted : Fitted) : Type 0 where
   pub widths : List Width
   pub least : AreLeast checked.circuit widths
   pub fitted_is : IsFitted checked widths fitted
-  pub none : (kind : Kind) (place : Place) → ¬ (IsFault checked widths kind place)
+  pub none : HasNone (IsFault checked widths)
 
 -- the circuit with the types that its least widths give
 pub record IsFittedCircuit (circuit : Circuit) (fitted : Fitted) : Type 0 where

@@ -35,9 +35,8 @@ use Rattle.width_rules.specs.declared.rule.Formula.TheVariants as formula
 use Rattle.fir_types.specs.declared.memory.Memory.{Memory}
 use Rattle.width_rules.specs.Circuits.{WithPorts, modules_from, all_open, rules_in, known_ports, instance_in, memory_slots, declares_memory, declares_instance, names_node}
 use Rattle.width_rules.specs.Circuits.{declares as storage}
-use Rattle.width_fit.specs.declared.fault.Kind.{Kind}
-use Rattle.width_fit.specs.declared.fault.Kind.TheVariants.{WidthUnknown, WidthOver, ParameterRange, ConditionWidth}
-use Rattle.width_fit.specs.Found.{Found}
+use Rattle.width_fit.specs.declared.fault.WidthFault.TheVariants.{WidthUnknown, WidthOver, ParameterRange, ConditionWidth}
+use Rattle.width_fit.specs.declared.fault.WidthFault.{WidthFault}
 use Rattle.width_fit.specs.Filling.{filled}
 
 -- What is known of all widths: those of the variables, and the rules.
@@ -53,9 +52,9 @@ abbrev pub is_over : Width → Bool
 is_over (Bits n) = false
 is_over Over = true
 
-abbrev pub where_ : Bool → Kind → Place → List Found
-where_ true kind place = record { kind = kind; place = place } ∷ []
-where_ false kind place = []
+abbrev pub where_ : Bool → WidthFault → List WidthFault
+where_ true fault = fault ∷ []
+where_ false fault = []
 
 -- a variable that no rule has as its target
 abbrev pub is_unknown : List Rule → Slot → Bool
@@ -63,9 +62,9 @@ is_unknown rules (slot.Fixed n) = false
 is_unknown rules (slot.Var x) = not (list_any (λ rule. nat_eq rule.target x) rules)
 
 -- The faults of a component, from the widths of its places.
-abbrev pub component_faults : Solved → Place → List Slot → List Found
+abbrev pub component_faults : Solved → Place → List Slot → List WidthFault
 component_faults all place slots =
-    where_ (list_any (is_unknown all.rules) slots) WidthUnknown place ++ where_ (list_any (λ s. is_over (slot_width all.widths s)) slots) WidthOver place
+    where_ (list_any (is_unknown all.rules) slots) (WidthUnknown place) ++ where_ (list_any (λ s. is_over (slot_width all.widths s)) slots) (WidthOver place)
 
 -- Expressions: the formulas of a node, the fitted types of all nodes in text order, and the faults.
 
@@ -73,7 +72,7 @@ pub record Survey : Type 0 where
   pub place : Place
   pub measured : Measured
   pub nodes : List FirType
-  pub faults : List Found
+  pub faults : List WidthFault
 
 abbrev pub Among : Type 0
 Among = Known → Survey
@@ -82,12 +81,12 @@ abbrev pub widths_of : List Width → Measured → List Width
 widths_of widths m = map (λ f. width_under f widths) m.formulas
 
 -- a node with these faults of its own, over its operands
-abbrev pub surveyed : List Width → Place → Measured → List Found → List Survey → Survey
+abbrev pub surveyed : List Width → Place → Measured → List WidthFault → List Survey → Survey
 surveyed widths place m own operands = record {
   place = place;
   measured = m;
   nodes = filled m.part.typ (widths_of widths m) ∷ flat_map (λ s. s.nodes) operands;
-  faults = flat_map (λ s. s.faults) operands ++ (where_ (list_any is_over (widths_of widths m)) WidthOver place ++ own);
+  faults = flat_map (λ s. s.faults) operands ++ (where_ (list_any is_over (widths_of widths m)) (WidthOver place) ++ own);
 }
 
 -- the width of what is no bundle and no vector
@@ -95,8 +94,8 @@ abbrev pub lone_width : List Width → Measured → Width
 lone_width widths m = width_under (lone m.formulas) widths
 
 -- A condition has at most one bit.
-abbrev pub condition_faults : List Width → Survey → List Found
-condition_faults widths condition = where_ (not (nat_le (level (lone_width widths condition.measured)) 1)) ConditionWidth condition.place
+abbrev pub condition_faults : List Width → Survey → List WidthFault
+condition_faults widths condition = where_ (not (nat_le (level (lone_width widths condition.measured)) 1)) (ConditionWidth condition.place)
 
 -- The parameters of an operation fit its operand of this width: `lo <= hi < w` for `bits`, and `n <= w` for `head` and `tail`.
 abbrev pub fit_on : PrimOp → ℕ → ℕ → ℕ → Bool
@@ -109,11 +108,11 @@ abbrev pub fit_width : PrimOp → List ℕ → Width → Bool
 fit_width prim params (Bits w) = fit_on prim w (slice_index params 0) (slice_index params 1)
 fit_width prim params Over = true
 
-abbrev pub parameter_faults : List Width → PrimOp → Place → List ℕ → List Survey → List Found
-parameter_faults widths prim place params (operand ∷ []) = where_ (not (fit_width prim params (lone_width widths operand.measured))) ParameterRange place
+abbrev pub parameter_faults : List Width → PrimOp → Place → List ℕ → List Survey → List WidthFault
+parameter_faults widths prim place params (operand ∷ []) = where_ (not (fit_width prim params (lone_width widths operand.measured))) (ParameterRange place)
 parameter_faults widths prim place params _ = []
 
-abbrev pub choice_faults : List Width → List Survey → List Found
+abbrev pub choice_faults : List Width → List Survey → List WidthFault
 choice_faults widths (condition ∷ operands) = condition_faults widths condition
 choice_faults widths [] = []
 
@@ -160,7 +159,7 @@ pub record Findings : Type 0 where
   pub count : ℕ
   pub declared : List FirType
   pub nodes : List FirType
-  pub faults : List Found
+  pub faults : List WidthFault
 
 -- among what is known, with variables from this number on
 abbrev pub Surveys : Type 0
@@ -189,7 +188,7 @@ asks widths e known n =
     record { known = known; count = 0; declared = []; nodes = s.nodes; faults = s.faults ++ condition_faults widths s }
 
 -- a declaration: what the rules' walk knows behind it, its fitted type, and its faults
-abbrev pub declares : Known → ℕ → FirType → List Found → Findings
+abbrev pub declares : Known → ℕ → FirType → List WidthFault → Findings
 declares known count typ faults = record { known = known; count = count; declared = typ ∷ []; nodes = []; faults = faults }
 
 abbrev pub of_storage : Solved → Name → FirType → Surveys
@@ -248,7 +247,7 @@ abbrev pub ports_declared : Solved → List Port → List (List Slot) → List F
 ports_declared all (port ∷ ports) (slots ∷ rest) = filled port.typ (map (slot_width all.widths) slots) ∷ ports_declared all ports rest
 ports_declared all _ _ = []
 
-abbrev pub ports_faults : Solved → List Port → List (List Slot) → List Found
+abbrev pub ports_faults : Solved → List Port → List (List Slot) → List WidthFault
 ports_faults all (port ∷ ports) (slots ∷ rest) = component_faults all port.name.place slots ++ ports_faults all ports rest
 ports_faults all _ _ = []
 
@@ -267,9 +266,9 @@ module_survey all modules m n =
 pub record Told : Type 0 where
   pub declared : List FirType
   pub nodes : List FirType
-  pub faults : List Found
+  pub faults : List WidthFault
 
-abbrev pub where_reached : Bool → List Found → List Found
+abbrev pub where_reached : Bool → List WidthFault → List WidthFault
 where_reached true faults = faults
 where_reached false faults = []
 

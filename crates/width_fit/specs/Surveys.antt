@@ -17,8 +17,8 @@ use Rattle.circuit_parts.specs.Kinds.{sign_of, ground, sign_or_unsigned}
 use Rattle.width_rules.specs.declared.component.Component.{Component}
 use Rattle.width_rules.specs.Formulas.{level, wider}
 use Rattle.width_rules.specs.Sources.{Known, operation, choice, measured_reference, named, component}
-use Rattle.width_fit.specs.Found.{Found}
-use Rattle.width_fit.specs.declared.fault.Kind.TheVariants.{WidthOver, ParameterRange, ConditionWidth}
+use Rattle.width_fit.specs.declared.fault.WidthFault.{WidthFault}
+use Rattle.width_fit.specs.declared.fault.WidthFault.TheVariants.{WidthOver, ParameterRange, ConditionWidth}
 use Rattle.width_fit.specs.declared.found.Findings.{Findings}
 use Rattle.width_fit.specs.declared.found.Surveyed.{Surveyed}
 use Rattle.width_fit.specs.Filling.{filled}
@@ -80,18 +80,18 @@ chosen place _ = record { place = place; part = no_part; widths = [] }
 abbrev pub reference_kept : List Width → Place → Component → Surveyed
 reference_kept widths place sized = record { place = place; part = sized.part; widths = map (slot_width widths) sized.slots }
 
-abbrev pub over_faults : Place → List Width → List Found
-over_faults place widths = where_ (list_any is_over widths) WidthOver place
+abbrev pub over_faults : Place → List Width → List WidthFault
+over_faults place widths = where_ (list_any is_over widths) (WidthOver place)
 
-abbrev pub condition_over : Place → List Width → List Found
-condition_over place widths = where_ (not (nat_le (level (lone_of widths)) 1)) ConditionWidth place
+abbrev pub condition_over : Place → List Width → List WidthFault
+condition_over place widths = where_ (not (nat_le (level (lone_of widths)) 1)) (ConditionWidth place)
 
-abbrev pub first_condition : List Surveyed → List Found
+abbrev pub first_condition : List Surveyed → List WidthFault
 first_condition (condition ∷ operands) = condition_over condition.place condition.widths
 first_condition [] = []
 
-abbrev pub parameters_over : PrimOp → Place → List ℕ → List Width → List Found
-parameters_over prim place params (width ∷ []) = where_ (not (fit_width prim params width)) ParameterRange place
+abbrev pub parameters_over : PrimOp → Place → List ℕ → List Width → List WidthFault
+parameters_over prim place params (width ∷ []) = where_ (not (fit_width prim params width)) (ParameterRange place)
 parameters_over prim place params _ = []
 
 -- What is added.

@@ -6,7 +6,7 @@ use Rattle.fir_tree.specs.declared.stmt.Arm.{Arm, fold-Arm}
 use Rattle.fir_tree.specs.declared.stmt.Stmt.TheOpen.{Stmt-F}
 use Rattle.width_rules.specs.Sources.{Known, component, known_with}
 use Rattle.width_rules.specs.Circuits.{WithPorts, known_ports}
-use Rattle.width_fit.specs.Found.{Found}
+use Rattle.width_fit.specs.declared.fault.WidthFault.{WidthFault}
 use Rattle.width_fit.specs.declared.given.Given.{Given}
 use Rattle.width_fit.specs.declared.walk.Walk.{Walk}
 use Rattle.width_fit.specs.Filling.{filled}
@@ -64,7 +64,7 @@ told_among all instances n (m ∷ rest) reached =
     }
 
 -- a module was walked, with these faults
-pub record WalksModule (one : Findings) (told : List Found) (old new : Walk) : Type 0 where
+pub record WalksModule (one : Findings) (told : List WidthFault) (old new : Walk) : Type 0 where
   pub count : length new.places.items ≡ length old.places.items + one.count
   pub declared : new.declared.items ≡ old.declared.items ++ one.declared
   pub nodes : new.found.nodes.items ≡ old.found.nodes.items ++ one.nodes

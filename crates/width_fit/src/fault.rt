@@ -1,5 +1,6 @@
 //! The reasons to refuse a circuit for its widths.
 
+use fault_order::Fault;
 use place_text::Place;
 use std::alloc::AllocError;
 use thiserror::Error;
@@ -34,14 +35,47 @@ impl From<AllocError> for WidthFault {
     }
 }
 
-/// A kind of fault. At one place an earlier kind is told before a later one.
-#[derive(Clone, Copy, Debug, PartialEq, Eq)]
-pub enum Kind {
-    WidthUnknown,
-    WidthOver,
-    ParameterRange,
-    ConditionWidth,
-}
+impl Fault for WidthFault {
+    ghost use Rattle.width_fit.specs.Faults.{place_of, rank_of, kind_of};
+    ghost use Rattle.width_fit.specs.Ranks.{one_each, one_nowhere};
 
-/// A fault of a kind, at a place.
-pub type Found = fault_order::Found<Kind>;
+    ghost place = { place_of };
+
+    ghost rank = { rank_of };
+
+    ghost kind = { kind_of };
+
+    fn place(&self) -> Option<Place> {
+        match self {
+            WidthFault::WidthUnknown(place)
+            | WidthFault::WidthOver(place)
+            | WidthFault::ParameterRange(place)
+            | WidthFault::ConditionWidth(place) => Some(*place),
+            WidthFault::NoMemory => None,
+        }
+    }
+
+    fn rank(&self) -> u8 {
+        match self {
+            WidthFault::WidthUnknown(_) => 0,
+            WidthFault::WidthOver(_) => 1,
+            WidthFault::ParameterRange(_) => 2,
+            WidthFault::ConditionWidth(_) => 3,
+            WidthFault::NoMemory => 4,
+        }
+    }
+
+    fn kind(&self) -> &'static str {
+        match self {
+            WidthFault::WidthUnknown(_) => "WidthUnknown",
+            WidthFault::WidthOver(_) => "WidthOver",
+            WidthFault::ParameterRange(_) => "ParameterRange",
+            WidthFault::ConditionWidth(_) => "ConditionWidth",
+            WidthFault::NoMemory => "NoMemory",
+        }
+    }
+
+    ghost one_each = { one_each };
+
+    ghost one_nowhere = { one_nowhere };
+}

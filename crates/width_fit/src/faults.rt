@@ -2,11 +2,11 @@
 
 ghost use Rattle.std.specs.Prelude.{◌≡◌, ◌++◌, OnOk};
 ghost use Rattle.std.specs.List.{list_any};
-ghost use Rattle.width_fit.specs.declared.fault.Kind.TheVariants.{WidthOver};
+ghost use Rattle.width_fit.specs.declared.fault.WidthFault.TheVariants.{WidthOver};
 ghost use Rattle.width_fit.specs.Judging.{where_, is_over, fit_on, fit_width};
 ghost use Rattle.width_fit.specs.Surveys.{lone_of, condition_over, parameters_over};
 
-use crate::fault::{Found, Kind};
+use crate::fault::WidthFault;
 use place_text::Place;
 use prim_ops::{Prim, Width};
 use std::alloc::AllocError;
@@ -14,24 +14,27 @@ use width_rules::widths::level;
 
 /// Adds a fault where it is one.
 pub fn push_where(
-    faults: &mut Vec<Found>,
+    faults: &mut Vec<WidthFault>,
     is_fault: bool,
-    kind: Kind,
-    place: Place,
+    fault: WidthFault,
 ) -> Result<(), AllocError>
-    ensures { OnOk result (faults.new.items ≡ faults.old.items ++ where_ is_fault kind place) }
+    ensures { OnOk result (faults.new.items ≡ faults.old.items ++ where_ is_fault fault) }
 {
     if is_fault {
-        faults.push(Found { kind, place })?;
+        faults.push(fault)?;
     }
     Ok(())
 }
 
 /// Adds a fault where one of the widths is over the limit.
-pub fn push_over(faults: &mut Vec<Found>, place: Place, widths: &[Width]) -> Result<(), AllocError>
-    ensures { OnOk result (faults.new.items ≡ faults.old.items ++ where_ (list_any is_over widths.now) WidthOver place) }
+pub fn push_over(
+    faults: &mut Vec<WidthFault>,
+    place: Place,
+    widths: &[Width],
+) -> Result<(), AllocError>
+    ensures { OnOk result (faults.new.items ≡ faults.old.items ++ where_ (list_any is_over widths.now) (WidthOver place)) }
 {
-    push_where(faults, any_over(widths), Kind::WidthOver, place)
+    push_where(faults, any_over(widths), WidthFault::WidthOver(place))
 }
 
 fn any_over(widths: &[Width]) -> bool
@@ -56,19 +59,19 @@ fn is_over(width: Width) -> bool
 
 /// Adds a fault where a condition at this place has more than one bit.
 pub fn push_condition(
-    faults: &mut Vec<Found>,
+    faults: &mut Vec<WidthFault>,
     place: Place,
     widths: &[Width],
 ) -> Result<(), AllocError>
     ensures { OnOk result (faults.new.items ≡ faults.old.items ++ condition_over place widths.now) }
 {
     let several = level(lone(widths)) > 1;
-    push_where(faults, several, Kind::ConditionWidth, place)
+    push_where(faults, several, WidthFault::ConditionWidth(place))
 }
 
 /// Adds a fault where the parameters of an operation don't fit its one operand.
 pub fn push_parameters(
-    faults: &mut Vec<Found>,
+    faults: &mut Vec<WidthFault>,
     prim: Prim,
     place: Place,
     widths: &[Width],
@@ -80,7 +83,7 @@ pub fn push_parameters(
         return Ok(());
     };
     let fits = fit_width(prim, params, *width);
-    push_where(faults, !fits, Kind::ParameterRange, place)
+    push_where(faults, !fits, WidthFault::ParameterRange(place))
 }
 
 /// Whether parameters fit an operand of this width.

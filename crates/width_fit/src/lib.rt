@@ -2,7 +2,6 @@
 //! is the types with these widths, or the first fault.
 #![tactic(auto)]
 
-mod answers;
 pub mod fault;
 mod faults;
 mod filling;

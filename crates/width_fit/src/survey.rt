@@ -8,21 +8,21 @@ ghost use Rattle.width_rules.specs.Sources.{component, named, suffix_step};
 ghost use Rattle.width_fit.specs.Judging.{survey};
 ghost use Rattle.width_fit.specs.Surveys.{kept, all_surveys, index_surveys, reference_survey, operation_survey, choice_survey, literal_survey, reference_kept, over_faults, parameters_over, operated, kept_kind, kept_width, chosen, first_condition, Adds, AddsAll, AddsBelow};
 
-use crate::fault::Found;
+use crate::fault::WidthFault;
 use crate::faults::{push_condition, push_over, push_parameters};
 use crate::filling::filled;
 use crate::found::{Findings, Surveyed};
 use crate::widths::{kinds_of, lone_widths, slot_widths, wider_each, width_in_row};
 use bit_words::{Kind, List, Number};
+use circuit_parts::Part;
+use circuit_parts::kinds::{ground, no_type};
+use circuit_parts::steps::{no_part, source};
 use fir_tree::{Expr, Form, Suffix};
 use fir_types::copy;
 use indexmap::IndexMap;
 use place_text::Place;
 use prim_ops::{Prim, Width};
 use std::alloc::{AllocError, Global};
-use circuit_parts::Part;
-use circuit_parts::kinds::{ground, no_type};
-use circuit_parts::steps::{no_part, source};
 use width_rules::component::Component;
 use width_rules::measuring::{look_up, no_component, row_of, width_of};
 use width_rules::steps::walk_steps;
@@ -183,7 +183,7 @@ fn reference(
 
 fn survey_literal(
     alloc: Global,
-    faults: &mut Vec<Found>,
+    faults: &mut Vec<WidthFault>,
     place: Place,
     kind: Kind,
     width: Option<u128>,
@@ -205,7 +205,7 @@ fn survey_literal(
 /// An operation over its operands.
 fn survey_operation(
     alloc: Global,
-    faults: &mut Vec<Found>,
+    faults: &mut Vec<WidthFault>,
     prim: Prim,
     place: Place,
     operands: &[Surveyed],
@@ -231,7 +231,7 @@ fn survey_operation(
 /// A choice between the second and the third operand.
 fn survey_choice(
     alloc: Global,
-    faults: &mut Vec<Found>,
+    faults: &mut Vec<WidthFault>,
     place: Place,
     operands: &[Surveyed],
 ) -> Result<Surveyed, AllocError>

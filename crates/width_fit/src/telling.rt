@@ -7,7 +7,7 @@ ghost use Rattle.width_fit.specs.Filling.{filled as filled_with};
 ghost use Rattle.width_fit.specs.Judging.{told_of, slot_width, component_faults, ports_declared, ports_faults, where_reached};
 ghost use Rattle.width_fit.specs.Walks.{solved, module_among, told_among, WalksModule, WalksAll};
 
-use crate::fault::Found;
+use crate::fault::WidthFault;
 use crate::filling::filled;
 use crate::found::Findings;
 use crate::given::Given;
@@ -18,10 +18,10 @@ use fir_tree::Checked;
 use fir_types::{FirType, Port};
 use indexmap::IndexMap;
 use std::alloc::{AllocError, Global};
-use width_rules::{Rules, Widths};
 use width_rules::component::Component;
 use width_rules::gathering::{Ported, instances_of, note_ports, with_ports};
 use width_rules::slot::Slot;
+use width_rules::{Rules, Widths};
 
 /// The fitted types of all modules, with the faults of those that the main module reaches.
 pub fn tell(
@@ -130,7 +130,7 @@ fn declare_ports(
     alloc: Global,
     given: &Given<'_>,
     declared: &mut Vec<FirType>,
-    faults: &mut Vec<Found>,
+    faults: &mut Vec<WidthFault>,
     ports: &[Port],
     widths: &[List<Slot>],
 ) -> Result<(), AllocError>
@@ -154,7 +154,7 @@ fn declare_port(
     alloc: Global,
     given: &Given<'_>,
     declared: &mut Vec<FirType>,
-    faults: &mut Vec<Found>,
+    faults: &mut Vec<WidthFault>,
     port: &Port,
     slots: &[Slot],
 ) -> Result<(), AllocError>

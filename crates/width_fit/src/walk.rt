@@ -8,7 +8,7 @@ ghost use Rattle.width_rules.specs.Circuits.{places_for, memory_slots};
 ghost use Rattle.width_fit.specs.Judging.{in_turn, is_unknown, component_faults, slot_width, looks_at, asks, of_storage, of_memory, of_node};
 ghost use Rattle.width_fit.specs.Walks.{Walks, solved, of_instance_among, stmt_among, arm_among};
 
-use crate::fault::{Found, Kind};
+use crate::fault::WidthFault;
 use crate::faults::{push_condition, push_over, push_where};
 use crate::filling::filled;
 use crate::found::Findings;
@@ -264,7 +264,7 @@ fn declare_node(
 
 /// Adds the faults of a component at this place, whose widths these are.
 pub fn push_component(
-    faults: &mut Vec<Found>,
+    faults: &mut Vec<WidthFault>,
     given: &Given<'_>,
     place: Place,
     slots: &[Slot],
@@ -273,7 +273,11 @@ pub fn push_component(
     requires { widths.now ≡ map (slot_width given.now.widths.now) slots.now }
     ensures { OnOk result (faults.new.items ≡ faults.old.items ++ component_faults (solved given.now) place slots.now) }
 {
-    push_where(faults, any_unknown(given, slots), Kind::WidthUnknown, place)?;
+    push_where(
+        faults,
+        any_unknown(given, slots),
+        WidthFault::WidthUnknown(place),
+    )?;
     push_over(faults, place, widths)
 }
 

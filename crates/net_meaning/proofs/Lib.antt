@@ -1,0 +1,5 @@
+pub mod Loops
+pub mod Settling
+pub mod Shaping
+mod Mentioning
+mod Examples
