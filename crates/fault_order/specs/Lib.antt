@@ -1,2 +1,3 @@
 pub mod Order
-pub mod Earliest
+pub mod First
+pub mod Verdicts

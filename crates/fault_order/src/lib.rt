@@ -1,10 +1,10 @@
-//! The order of faults: by line, then by column, and at one place by the rank of the kind. Keeps the contract that
-//! `earliest` answers a fault of the list which no other one of the list comes before.
+//! What the faults of each stage tell, their order, and what a stage answers: by line, then by column, and at one place by
+//! rank. Keeps the contract that `earliest` answers a fault of the list which no other one of the list comes before.
 #![tactic(auto)]
 
-pub mod found;
+pub mod fault;
 pub mod laws;
 pub mod order;
 
-pub use found::{FaultKind, Found};
+pub use fault::Fault;
 pub use order::{earliest, is_not_later};

@@ -3,8 +3,8 @@ use Rattle.std.proofs.Common.{◌≡◌, ℕ, ◌+◌, ◌<◌, false, List, [],
 use Rattle.fir_lexer.specs.declared.token.TokenKind.TheVariants as kind
 use Rattle.fir_layout.specs.declared.laid.Laid.{Laid}
 use Rattle.fir_layout.specs.Pieces.{Piece, A_token, piece_of, pieces_of}
-use Rattle.fir_tree.specs.Grammar.{Terminal, The_call, The_mark, Takes}
-use Rattle.fir_tree.specs.Faults.{Levels, levels, past, past_mark, with_suffix, last_suffixes, without_last, most}
+use Rattle.fir_grammar.specs.Grammar.{Terminal, The_call, The_mark, Takes}
+use Rattle.fir_grammar.specs.Faults.{Levels, levels, past, past_mark, with_suffix, last_suffixes, without_last, most}
 use Rattle.fir_expr.specs.Standing.{StandsIn, BeginsType, IsWhole}
 use Rattle.fir_expr.specs.Parts.{IsTaken}
 use Rattle.fir_expr.proofs.Composition.{piece_at}

@@ -3,8 +3,8 @@ use Rattle.std.proofs.Common.{◌≡◌, ℕ, Bool, true, false, List, ◌∷◌
 use Rattle.fir_lexer.specs.declared.token.TokenKind.TheVariants as kind
 use Rattle.fir_layout.specs.declared.laid.Laid.{Laid}
 use Rattle.fir_layout.specs.Pieces.{Piece, A_token, piece_of, pieces_of}
-use Rattle.fir_tree.specs.Grammar.{The_mark, Takes, last_length, next_length, no_width, a_width}
-use Rattle.fir_tree.proofs.Cases.{starts_mark}
+use Rattle.fir_grammar.specs.Grammar.{The_mark, Takes, last_length, next_length, no_width, a_width}
+use Rattle.fir_grammar.proofs.Cases.{starts_mark}
 use Rattle.fir_expr.proofs.Composition.{Enters, enters_by_piece, piece_at}
 
 -- tests of a first piece

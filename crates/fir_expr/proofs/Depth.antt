@@ -5,7 +5,7 @@ use Rattle.std.proofs.lemmas.Grind.{common_steps}
 use Rattle.std.proofs.lemmas.List.Sums.{fold-append}
 use Rattle.std.proofs.lemmas.Option.{slice_get_within, get_or_from_slice_get}
 use Rattle.fir_layout.specs.Pieces.{Piece}
-use Rattle.fir_tree.specs.Faults.{levels, no_levels, past, without_last}
+use Rattle.fir_grammar.specs.Faults.{levels, no_levels, past, without_last}
 use Rattle.fir_expr.specs.Standing.{StandsIn, IsWhole}
 
 take-next : {X : Type 0} (xs : List X) (i : ℕ) (x : X) → slice_get xs i ≡ Some x → take (i + 1) xs ≡ take i xs ++ x ∷ []

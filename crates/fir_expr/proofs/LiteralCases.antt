@@ -5,8 +5,8 @@ use Rattle.place_text.specs.declared.place.Place.{Place}
 use Rattle.fir_layout.specs.declared.laid.Laid.{Laid}
 use Rattle.fir_layout.specs.Pieces.{piece_of, pieces_of}
 use Rattle.fir_tree.specs.declared.fault.ParseFault.{ParseFault}
-use Rattle.fir_tree.specs.Grammar.{A_number, Its_magnitude, A, Numbers, no_more_numbers, one_more_number}
-use Rattle.fir_tree.specs.Reading.{IsRefused}
+use Rattle.fir_grammar.specs.Grammar.{A_number, Its_magnitude, A, Numbers, no_more_numbers, one_more_number}
+use Rattle.fir_grammar.specs.Reading.{IsRefused}
 use Rattle.fir_expr.specs.Standing.{StandsIn, IsWhole}
 use Rattle.fir_expr.specs.Parts.{IsNotTaken, IsNumberAt, HasPassed}
 use Rattle.fir_expr.specs.LiteralParts.{AddsNumbers}

@@ -18,10 +18,10 @@ use Rattle.fir_layout.specs.declared.laid.Laid.{Laid}
 use Rattle.fir_layout.specs.declared.laid.Laid.TheVariants.{Item}
 use Rattle.fir_layout.specs.Pieces.{Piece, A_token, piece_of, pieces_of, bytes_of}
 use Rattle.fir_tree.specs.declared.fault.ParseFault.{ParseFault}
-use Rattle.fir_tree.specs.Faults.{Levels, levels, past, is_deep}
-use Rattle.fir_tree.specs.Grammar.{The_mark, A_number, A_quoted_number, Takes, IsQuotedNumber, quoted, quoted_minus, Nothing, Its_magnitude, Its_number, Is, A, Integer, a_plain_integer, a_negative_integer, a_quoted_integer, a_quoted, no_symbol}
-use Rattle.fir_tree.specs.Reading.{IsRefused}
-use Rattle.fir_tree.proofs.Cases.{choose, starts_string}
+use Rattle.fir_grammar.specs.Faults.{Levels, levels, past, is_deep}
+use Rattle.fir_grammar.specs.Grammar.{The_mark, A_number, A_quoted_number, Takes, IsQuotedNumber, quoted, quoted_minus, Nothing, Its_magnitude, Its_number, Is, A, Integer, a_plain_integer, a_negative_integer, a_quoted_integer, a_quoted, no_symbol}
+use Rattle.fir_grammar.specs.Reading.{IsRefused}
+use Rattle.fir_grammar.proofs.Cases.{choose, starts_string}
 use Rattle.fir_expr.specs.Standing.{StandsIn}
 use Rattle.fir_expr.specs.Parts.{IsTaken, IsNotTaken, IsNumberAt, IsTokenIn, HasPassed}
 use Rattle.fir_expr.specs.LiteralIntegers.{IsString}

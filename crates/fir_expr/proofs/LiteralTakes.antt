@@ -7,8 +7,8 @@ use Rattle.fir_lexer.specs.declared.token.TokenKind.TheVariants as kind
 use Rattle.fir_layout.specs.declared.laid.Laid.{Laid}
 use Rattle.fir_layout.specs.Pieces.{Piece, A_token, piece_of, pieces_of}
 use Rattle.fir_tree.specs.declared.fault.ParseFault.TheVariants.{TooDeep}
-use Rattle.fir_tree.specs.Grammar.{The_mark, The_call, Takes, start_of}
-use Rattle.fir_tree.specs.Faults.{most, last_suffixes, Levels, levels, is_deep}
+use Rattle.fir_grammar.specs.Grammar.{The_mark, The_call, Takes, start_of}
+use Rattle.fir_grammar.specs.Faults.{most, last_suffixes, Levels, levels, is_deep}
 use Rattle.fir_expr.specs.Standing.{StandsIn}
 use Rattle.fir_expr.specs.Parts.{IsTaken, IsNotTaken, StartsWith, is_suffix_mark}
 use Rattle.fir_expr.proofs.Composition.{one_at}

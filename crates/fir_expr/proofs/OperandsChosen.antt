@@ -1,42 +1,29 @@
 -- Which case of a rule is chosen by the first pieces of operations and references.
-use Rattle.std.proofs.Common.{◌≡◌, ℕ, suc, ◌+◌, Bool, true, false, List, ◌∷◌, ◌++◌, codes, slice_get, Some, refl, arith, eqb, eqb→eq}
+use Rattle.std.proofs.Common.{◌≡◌, ℕ, suc, ◌+◌, Bool, true, false, List, [], ◌∷◌, ◌++◌, codes, slice_get, Some, refl, arith, eqb, eqb→eq}
+use Rattle.std.proofs.Math.Path.{Path}
 use Rattle.fir_lexer.specs.declared.token.TokenKind.TheVariants as kind
 use Rattle.fir_layout.specs.declared.laid.Laid.{Laid}
 use Rattle.fir_layout.specs.Pieces.{Piece, A_token, piece_of, pieces_of}
 use Rattle.prim_ops.specs.declared.operation.PrimOp.{PrimOp}
 use Rattle.prim_ops.specs.declared.operation.PrimOp.TheVariants.{Add, Sub, Mul, Div, Rem, Lt, Leq, Gt, Geq, Eq, Neq, Pad, AsUInt, AsSInt, Shl, Shr, Dshl, Dshr, Cvt, Neg, Not, And, Or, Xor, Andr, Orr, Xorr, Cat, Bits, Head, Tail}
 use Rattle.prim_ops.specs.Operations.{name_of}
-use Rattle.fir_tree.specs.Grammar.{The_call, The_mark, Takes, Symbol, A, Rule, IsCase, Expression, Expressions, Reference, Suffixes, Front, cut, takes_on, goes_into, a_mux, an_operation, no_more_expressions, one_more_expression, a_component, no_suffix, a_field_suffix, an_element_suffix, an_index_suffix, name}
-use Rattle.fir_tree.specs.Reading.{part}
-use Rattle.fir_tree.proofs.Cases.{choose, starts_mark, starts_digits}
+use Rattle.fir_grammar.specs.Grammar.{The_call, The_mark, Takes, Its_place, Symbol, Is, A, Rule, IsCase, Derives, mark, Expression, Expressions, Reference, Suffixes, Front, cut, takes_on, goes_into, a_mux, an_operation, no_more_expressions, one_more_expression, a_component, no_suffix, a_field_suffix, an_element_suffix, an_index_suffix, name}
+use Rattle.fir_grammar.specs.Reading.{part, IsSettled}
+use Rattle.fir_grammar.proofs.Cases.{choose, starts_mark, starts_digits}
+use Rattle.fir_grammar.proofs.Empty.{empty_rule}
+use Rattle.fir_grammar.proofs.ReadingLaws.{Derives-taken, derived_chosen, chosen_alone, never_alone}
 use Rattle.fir_expr.specs.Parts.{StartsWith}
 use Rattle.fir_expr.specs.Operands.{IsDigits, HasDigits, HasNoDigits}
-use Rattle.fir_expr.proofs.Composition.{Enters, enters_by_piece, enters_by_two, piece_at}
+use Rattle.fir_expr.proofs.Composition.{Enters, enters_by_piece, enters_by_two, enters_always, piece_at}
 
--- a rule of which one case is left, whatever stands there
+none_case : (other : List Symbol) → IsCase (Expressions 0) other → Path (List Symbol) other []
+none_case _ no_more_expressions = refl
 
-entered : {r : Rule} {ss : List Symbol} {ps : List Piece} (body : List Symbol) → ((other : List Symbol) → IsCase r other → Front (other ++ ss) ps → Front (body ++ ss) ps) → Front (A r ∷ ss) ps → Front (body ++ ss) ps
-entered body only cut = cut
-entered body only (goes_into other case f) = only other case f
+more_case : (n : ℕ) (other : List Symbol) → IsCase (Expressions (suc n)) other → Path (List Symbol) other (A Expression ∷ A (Expressions n) ∷ [])
+more_case n _ (one_more_expression _) = refl
 
-pub enters_always : {r : Rule} {body : List Symbol} (pieces : List Piece) (i : ℕ) (case : IsCase r body) → ((other ss : List Symbol) (ps : List Piece) → IsCase r other → Front (other ++ ss) ps → Front (body ++ ss) ps)
-    → Enters pieces i case
-enters_always {r} {body} pieces i case only = record {
-  into = λ rest settled. record {
-    onward = omega arith;
-    back = λ k l f. goes_into body case f;
-    forth = λ k l f. entered body (λ other also g. only other rest (part pieces i k) also g) f;
-  };
-}
-
-none_case : (other ss : List Symbol) (ps : List Piece) → IsCase (Expressions 0) other → Front (other ++ ss) ps → Front ss ps
-none_case _ ss ps no_more_expressions f = f
-
-more_case : (n : ℕ) (other ss : List Symbol) (ps : List Piece) → IsCase (Expressions (suc n)) other → Front (other ++ ss) ps → Front (A Expression ∷ A (Expressions n) ∷ ss) ps
-more_case n _ ss ps (one_more_expression _) f = f
-
-component_case : (other ss : List Symbol) (ps : List Piece) → IsCase Reference other → Front (other ++ ss) ps → Front (name ∷ A Suffixes ∷ ss) ps
-component_case _ ss ps a_component f = f
+component_case : (other : List Symbol) → IsCase Reference other → Path (List Symbol) other (name ∷ A Suffixes ∷ [])
+component_case _ a_component = refl
 
 pub enters_none : (pieces : List Piece) (i : ℕ) → Enters pieces i no_more_expressions
 enters_none pieces i = enters_always pieces i no_more_expressions none_case
@@ -122,6 +109,17 @@ index_piece : (p q : Piece) → Takes (The_mark 91) p → ¬ (IsDigits q) → (p
 index_piece (A_token (kind.Mark n) bytes) q same is ps = rw (same, no_number_first q ps is) refl
 index_piece _ q none is ps = absurd none
 
+index_alone : (p : Piece) → Takes (The_mark 91) p → choose Suffixes (p ∷ []) ≡ Some (_, an_index_suffix)
+index_alone (A_token (kind.Mark n) bytes) same = rw same refl
+index_alone _ none = absurd none
+
+-- no suffix is a `[` alone
+bracket_never_alone : (p : Piece) → Takes (The_mark 91) p → (rest : List Symbol) → IsSettled (A Suffixes ∷ rest) → ¬ (Derives (A Suffixes ∷ rest) (p ∷ []))
+bracket_never_alone p takes rest settled d = no_expression (derived_chosen Suffixes _ an_index_suffix rest (p ∷ []) settled (index_alone p takes) d)
+  where
+    no_expression : Derives (Is Its_place (The_mark 91) ∷ A Expression ∷ mark 93 ∷ A Suffixes ∷ rest) (p ∷ []) → ⊥
+    no_expression d = elim (empty_rule (Derives-taken d)).0 [ ]
+
 pub enters_no_suffix : (text : List ℕ) (list : List Laid) (i : ℕ) (l : Laid) → slice_get list i ≡ Some l → ¬ (Takes (The_mark 46) (piece_of text l)) → ¬ (Takes (The_mark 91) (piece_of text l)) → Enters (pieces_of text list) i no_suffix
 enters_no_suffix text list i l h a b = enters_by_piece (pieces_of text list) i no_suffix (piece_of text l) (piece_at text list i l h) (no_suffix_piece (piece_of text l) a b)
 
@@ -138,8 +136,8 @@ module _ {text : List ℕ} {list : List Laid} {i : ℕ} where
 
   pub enters_element : StartsWith (The_mark 91) text list i → HasDigits text list (i + 1) → Enters (pieces_of text list) i an_element_suffix
   enters_element h g = enters_by_two (pieces_of text list) i an_element_suffix (piece_of text h.part) (piece_of text g.part) (piece_at text list i h.part h.here) (piece_at text list (i + 1) g.part g.here)
-      (λ rest. takes_on h.takes cut) (element_piece (piece_of text h.part) (piece_of text g.part) h.takes g.is)
+      (λ rest. takes_on h.takes cut) (element_piece (piece_of text h.part) (piece_of text g.part) h.takes g.is) (never_alone (bracket_never_alone (piece_of text h.part) h.takes))
 
   pub enters_index : StartsWith (The_mark 91) text list i → HasNoDigits text list (i + 1) → Enters (pieces_of text list) i an_index_suffix
   enters_index h g = enters_by_two (pieces_of text list) i an_index_suffix (piece_of text h.part) (piece_of text g.part) (piece_at text list i h.part h.here) (piece_at text list (i + 1) g.part g.here)
-      (λ rest. takes_on h.takes cut) (index_piece (piece_of text h.part) (piece_of text g.part) h.takes g.none)
+      (λ rest. takes_on h.takes cut) (index_piece (piece_of text h.part) (piece_of text g.part) h.takes g.none) (chosen_alone (index_alone (piece_of text h.part) h.takes))

@@ -16,9 +16,9 @@ use Rattle.fir_tree.specs.declared.expr.Form.TheVariants as form
 use Rattle.fir_tree.specs.declared.expr.Suffix.{Suffix}
 use Rattle.fir_tree.specs.declared.expr.Suffix.TheVariants as suffix
 use Rattle.fir_tree.specs.declared.fault.ParseFault.{ParseFault}
-use Rattle.fir_tree.specs.Grammar.{The_call, The_mark, A_name, A_field, A_number, Takes, Nothing, Its_place, Its_name, Its_place_and_magnitude, Is, A, Expression, Expressions, Numbers, Reference, Suffixes, close, field, mark, start_of, a_reference, a_mux, an_operation, no_more_expressions, one_more_expression, a_component, no_suffix, a_field_suffix, an_element_suffix, an_index_suffix}
-use Rattle.fir_tree.specs.Faults.{Levels, levels, past, past_text, with_suffix, last_suffixes, without_last, most}
-use Rattle.fir_tree.specs.Reading.{IsRefused}
+use Rattle.fir_grammar.specs.Grammar.{The_call, The_mark, A_name, A_field, A_number, Takes, Nothing, Its_place, Its_name, Its_place_and_magnitude, Is, A, Expression, Expressions, Numbers, Reference, Suffixes, close, field, mark, start_of, a_reference, a_mux, an_operation, no_more_expressions, one_more_expression, a_component, no_suffix, a_field_suffix, an_element_suffix, an_index_suffix}
+use Rattle.fir_grammar.specs.Faults.{Levels, levels, past, past_text, with_suffix, last_suffixes, without_last, most}
+use Rattle.fir_grammar.specs.Reading.{IsRefused}
 use Rattle.fir_expr.specs.Standing.{StandsIn, BeginsType, IsWhole}
 use Rattle.fir_expr.specs.Parts.{IsTaken, IsNotTaken, IsNumberAt, IsNameAt, HasPassed, StartsWith, GoesInto, IsHeadAt}
 use Rattle.fir_expr.specs.declared.literals.Head.{Head}

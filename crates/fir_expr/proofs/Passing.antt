@@ -9,10 +9,10 @@ use Rattle.fir_layout.specs.declared.laid.Laid.{Laid}
 use Rattle.fir_layout.specs.declared.laid.Laid.TheVariants.{Item}
 use Rattle.fir_layout.specs.Layout.{token_in, tokens_in}
 use Rattle.fir_layout.specs.Pieces.{Piece, A_token, piece_of, pieces_of, bytes_of}
-use Rattle.fir_tree.specs.Grammar.{Terminal, The_word, The_mark, A_name, A_field, A_number, Takes, Nothing, Its_place, Its_name, Its_magnitude, Its_place_and_magnitude, Symbol, Is, A, Rule, IsCase, tree, Values, start_of, name_in, no_symbol, a_piece, a_place, a_name, a_magnitude, a_placed_magnitude}
-use Rattle.fir_tree.specs.Faults.{Levels, levels, past, past_text, past_mark, afresh, last_suffixes, without_last}
+use Rattle.fir_grammar.specs.Grammar.{Terminal, The_word, The_mark, A_name, A_field, A_number, Takes, Nothing, Its_place, Its_name, Its_magnitude, Its_place_and_magnitude, Symbol, Is, A, Rule, IsCase, tree, Values, start_of, name_in, no_symbol, a_piece, a_place, a_name, a_magnitude, a_placed_magnitude}
+use Rattle.fir_grammar.specs.Faults.{Levels, levels, past, past_text, past_mark, afresh, last_suffixes, without_last}
 use Rattle.fir_tree.specs.Numbered.{AddsName}
-use Rattle.fir_tree.specs.Reading.{HasRead}
+use Rattle.fir_grammar.specs.Reading.{HasRead}
 use Rattle.fir_expr.specs.Standing.{StandsIn, BeginsType, IsWhole, wanted}
 use Rattle.fir_expr.specs.Parts.{IsTaken, IsNumberAt, IsNameAt, HasPassed}
 use Rattle.fir_expr.proofs.Composition.{joined, read_then, read_case, read_piece, Enters, piece_at, drop_at}

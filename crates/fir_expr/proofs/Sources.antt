@@ -13,8 +13,8 @@ use Rattle.fir_layout.specs.declared.laid.Laid.{Laid}
 use Rattle.fir_layout.specs.declared.laid.Laid.TheVariants.{Item, LineEnd, Open, Close, End}
 use Rattle.fir_layout.specs.Layout.{IsInside, EndsOnce, token_in, tokens_in}
 use Rattle.fir_layout.specs.Pieces.{bytes_of}
-use Rattle.fir_tree.proofs.Cases.{some_injective}
-use Rattle.fir_tree.specs.Grammar.{start_of}
+use Rattle.fir_grammar.proofs.Cases.{some_injective}
+use Rattle.fir_grammar.specs.Grammar.{start_of}
 use Rattle.fir_expr.specs.Parts.{IsSource, IsTokenIn, IsPartOf}
 
 -- the bytes of the token are of its kind, and no number past the range

@@ -19,9 +19,9 @@ use Rattle.fir_layout.specs.declared.laid.Laid.{Laid}
 use Rattle.fir_layout.specs.Pieces.{Piece, A_token, piece_of, pieces_of, bytes_of}
 use Rattle.fir_tree.specs.declared.fault.ParseFault.{ParseFault}
 use Rattle.fir_tree.specs.declared.fault.ParseFault.TheVariants.{NoMemory, TooDeep}
-use Rattle.fir_tree.specs.Grammar.{Terminal, The_mark, A_number, Takes, start_of}
-use Rattle.fir_tree.specs.Faults.{most, last_suffixes, Levels, levels, is_deep, IsNamed}
-use Rattle.fir_tree.specs.Reading.{no_memory}
+use Rattle.fir_grammar.specs.Grammar.{Terminal, The_mark, A_number, Takes, start_of}
+use Rattle.fir_grammar.specs.Faults.{most, last_suffixes, Levels, levels, is_deep, IsNamed}
+use Rattle.fir_grammar.specs.Reading.{no_memory}
 use Rattle.fir_expr.specs.Parts.{IsTaken, IsNotTaken, IsNumberAt, IsTokenIn, is_flat, is_opening}
 use Rattle.fir_expr.proofs.Composition.{refused_piece, refused_deep, one_at}
 

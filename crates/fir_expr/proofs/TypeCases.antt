@@ -5,8 +5,8 @@ use Rattle.place_text.specs.declared.place.Place.{Place}
 use Rattle.fir_layout.specs.declared.laid.Laid.{Laid}
 use Rattle.fir_layout.specs.Pieces.{piece_of, pieces_of}
 use Rattle.fir_tree.specs.declared.fault.ParseFault.{ParseFault}
-use Rattle.fir_tree.specs.Grammar.{The_mark, A_number, Takes, Nothing, Its_magnitude, Is, A, Width, a_width, no_width}
-use Rattle.fir_tree.specs.Reading.{IsRefused}
+use Rattle.fir_grammar.specs.Grammar.{The_mark, A_number, Takes, Nothing, Its_magnitude, Is, A, Width, a_width, no_width}
+use Rattle.fir_grammar.specs.Reading.{IsRefused}
 use Rattle.fir_expr.specs.Standing.{StandsIn, BeginsType}
 use Rattle.fir_expr.specs.Parts.{IsTaken, IsNotTaken, IsNumberAt, HasPassed}
 use Rattle.fir_expr.proofs.Composition.{read_nothing, refused_first, refused_behind, refused_case}

@@ -6,9 +6,9 @@ use Rattle.fir_types.specs.declared.fir_type.Field.{Field as BundleField}
 use Rattle.fir_tree.specs.declared.fault.ParseFault.{ParseFault}
 use Rattle.fir_types.specs.declared.fir_type.Shape.TheVariants as shape
 use Rattle.place_text.specs.Places.{place}
-use Rattle.fir_tree.specs.Grammar.{The_mark, Takes, Nothing, Its_place, A, Base_type, Field, Fields, last_field, next_field, a_bundle, start_of}
-use Rattle.fir_tree.specs.Reading.{HasRead, IsRefused}
-use Rattle.fir_tree.specs.Faults.{most}
+use Rattle.fir_grammar.specs.Grammar.{The_mark, Takes, Nothing, Its_place, A, Base_type, Field, Fields, last_field, next_field, a_bundle, start_of}
+use Rattle.fir_grammar.specs.Reading.{HasRead, IsRefused}
+use Rattle.fir_grammar.specs.Faults.{most}
 use Rattle.fir_expr.specs.Standing.{StandsIn, BeginsType, IsWhole, wanted}
 use Rattle.fir_expr.specs.Parts.{IsTaken, IsNotTaken, GoesInto, HasPassed}
 use Rattle.fir_expr.specs.TypeParts.{HasFields}

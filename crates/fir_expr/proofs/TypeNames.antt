@@ -12,10 +12,10 @@ use Rattle.fir_layout.specs.Pieces.{Piece, A_token, piece_of, pieces_of}
 use Rattle.fir_types.specs.declared.fir_type.Shape.TheVariants as shape
 use Rattle.fir_types.specs.declared.fir_type.FirType.{FirType}
 use Rattle.fir_tree.specs.declared.fault.ParseFault.{ParseFault}
-use Rattle.fir_tree.specs.Grammar.{Terminal, The_word, Takes, A, Base_type, Width, an_unsigned, a_signed, a_clock, a_reset, a_bundle, start_of}
-use Rattle.fir_tree.specs.Faults.{Levels, levels, is_deep}
-use Rattle.fir_tree.specs.Reading.{IsRefused}
-use Rattle.fir_tree.proofs.Cases.{choose, starts_word}
+use Rattle.fir_grammar.specs.Grammar.{Terminal, The_word, Takes, A, Base_type, Width, an_unsigned, a_signed, a_clock, a_reset, a_bundle, start_of}
+use Rattle.fir_grammar.specs.Faults.{Levels, levels, is_deep}
+use Rattle.fir_grammar.specs.Reading.{IsRefused}
+use Rattle.fir_grammar.proofs.Cases.{choose, starts_word}
 use Rattle.fir_expr.specs.Standing.{StandsIn, BeginsType}
 use Rattle.fir_expr.specs.Parts.{IsTaken, StartsWith, GoesInto, HasPassed, kind_name}
 use Rattle.fir_expr.specs.TypeParts.{shape_of}

@@ -4,7 +4,7 @@ use Rattle.bit_words.specs.declared.value.Kind.{Kind}
 use Rattle.prim_ops.specs.declared.operation.PrimOp.{PrimOp}
 use Rattle.prim_ops.specs.Operations.{name_of}
 use Rattle.fir_layout.specs.Pieces.{Piece}
-use Rattle.fir_tree.specs.Grammar.{The_mark, Takes}
+use Rattle.fir_grammar.specs.Grammar.{The_mark, Takes}
 use Rattle.fir_expr.specs.declared.literals.Head.{Head}
 use Rattle.fir_expr.specs.declared.literals.Head.TheVariants as head
 use Rattle.fir_expr.specs.Parts.{kind_name}

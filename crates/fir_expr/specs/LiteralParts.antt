@@ -1,7 +1,7 @@
 -- The parts of literals and operations.
 use Rattle.std.specs.Prelude.{◌≡◌, ℕ, List, [], ◌∷◌, ◌++◌}
 use Rattle.fir_layout.specs.declared.laid.Laid.{Laid}
-use Rattle.fir_tree.specs.Grammar.{A, Numbers}
+use Rattle.fir_grammar.specs.Grammar.{A, Numbers}
 use Rattle.fir_expr.specs.Parts.{HasPassed}
 
 -- So many numbers are read from i to j, and stand behind those that the list had.

@@ -6,9 +6,9 @@ use Rattle.fir_layout.specs.Pieces.{Piece, A_token, piece_of, pieces_of}
 use Rattle.fir_tree.specs.declared.expr.Expr.{Expr}
 use Rattle.fir_tree.specs.declared.expr.Suffix.{Suffix}
 use Rattle.fir_tree.specs.declared.fault.ParseFault.{ParseFault}
-use Rattle.fir_tree.specs.Grammar.{The_mark, Takes, A, Expressions, Suffixes}
-use Rattle.fir_tree.specs.Faults.{levels, last_suffixes}
-use Rattle.fir_tree.specs.Reading.{IsRefused}
+use Rattle.fir_grammar.specs.Grammar.{The_mark, Takes, A, Expressions, Suffixes}
+use Rattle.fir_grammar.specs.Faults.{levels, last_suffixes}
+use Rattle.fir_grammar.specs.Reading.{IsRefused}
 use Rattle.fir_expr.specs.Standing.{StandsIn, wanted}
 use Rattle.fir_expr.specs.Parts.{HasPassed}
 

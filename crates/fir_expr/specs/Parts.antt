@@ -17,10 +17,10 @@ use Rattle.fir_layout.specs.declared.laid.Laid.{Laid}
 use Rattle.fir_layout.specs.declared.laid.Laid.TheVariants.{Item, LineEnd, Open, Close, End}
 use Rattle.fir_layout.specs.Pieces.{piece_of, pieces_of, bytes_of}
 use Rattle.fir_tree.specs.declared.fault.ParseFault.{ParseFault}
-use Rattle.fir_tree.specs.Faults.{levels, is_deep}
-use Rattle.fir_tree.specs.Grammar.{Terminal, The_word, The_call, The_mark, A_number, Takes, IsCase, a_reference, Kept, Is, A, Rule, Tree, Symbol, Values, name_in}
+use Rattle.fir_grammar.specs.Faults.{levels, is_deep}
+use Rattle.fir_grammar.specs.Grammar.{Terminal, The_word, The_call, The_mark, A_number, Takes, IsCase, a_reference, Kept, Is, A, Rule, Tree, Symbol, Values, name_in}
 use Rattle.fir_tree.specs.Numbered.{AddsName}
-use Rattle.fir_tree.specs.Reading.{HasRead, IsRefused, Leads, IsSettled}
+use Rattle.fir_grammar.specs.Reading.{HasRead, IsRefused, Leads, IsSettled}
 use Rattle.fir_expr.specs.Standing.{IsLaidFrom, IsWhole, wanted}
 
 -- the text and its laid list, as each reader takes them

@@ -4,7 +4,7 @@ use Rattle.fir_lexer.specs.Tokens.{AreTokens}
 use Rattle.fir_layout.specs.declared.laid.Laid.{Laid}
 use Rattle.fir_layout.specs.Layout.{tokens_in, EndsOnce}
 use Rattle.fir_layout.specs.Pieces.{Piece}
-use Rattle.fir_tree.specs.Faults.{levels, last_suffixes, without_last, most}
+use Rattle.fir_grammar.specs.Faults.{levels, last_suffixes, without_last, most}
 
 -- the list is laid out from the tokens of the text, and ends with its end
 pub record IsLaidFrom (text : List ℕ) (list : List Laid) : Type 0 where

@@ -8,8 +8,8 @@ use Rattle.fir_types.specs.declared.fir_type.FirType.{FirType}
 use Rattle.fir_types.specs.declared.fir_type.Shape.{Shape}
 use Rattle.fir_types.specs.declared.fir_type.Shape.TheVariants as shape
 use Rattle.fir_types.specs.declared.fir_type.Field.{Field as BundleField}
-use Rattle.fir_tree.specs.Grammar.{The_word, The_mark, A, Lengths, Fields, vectors, plain_field, flipped_field}
-use Rattle.fir_tree.specs.Reading.{HasRead}
+use Rattle.fir_grammar.specs.Grammar.{The_word, The_mark, A, Lengths, Fields, vectors, plain_field, flipped_field}
+use Rattle.fir_grammar.specs.Reading.{HasRead}
 use Rattle.fir_expr.specs.Standing.{IsWhole, wanted}
 use Rattle.fir_expr.specs.Parts.{IsTaken, StartsWith, GoesInto, HasPassed}
 

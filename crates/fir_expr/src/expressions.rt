@@ -3,9 +3,9 @@
 ghost use Rattle.std.specs.Prelude.{◌≡◌, ◌≤◌, ◌<◌, ◌+◌, ◌^◌, ◌-◌, ℕ, List, length, take, codes, IfOk, IfErr, IfSome, IfNone, IsTrue, ◌↔◌, ◌∷◌, []};
 ghost use Rattle.prim_ops.specs.Operations.{name_of};
 ghost use Rattle.fir_layout.specs.Pieces.{piece_of, pieces_of};
-ghost use Rattle.fir_tree.specs.Faults.{most, levels, last_suffixes};
-ghost use Rattle.fir_tree.specs.Grammar.{A, Expression, Expressions, Reference, Suffixes, The_call, The_mark};
-ghost use Rattle.fir_tree.specs.Reading.{IsRefused};
+ghost use Rattle.fir_grammar.specs.Faults.{most, levels, last_suffixes};
+ghost use Rattle.fir_grammar.specs.Grammar.{A, Expression, Expressions, Reference, Suffixes, The_call, The_mark};
+ghost use Rattle.fir_grammar.specs.Reading.{IsRefused};
 ghost use Rattle.fir_expr.specs.Standing.{StandsIn, wanted};
 ghost use Rattle.fir_expr.specs.Parts.{IsSource, Answers, StartsWith};
 ghost use Rattle.fir_expr.specs.Operands.{IsDigits, HasDigits, HasNoDigits, HasNoSuffix, HasOperands, HasSuffixes, HasStepped};

@@ -7,7 +7,7 @@ ghost use Rattle.fir_lexer.specs.Tokens.{IsPastRange, IsQuotedBase};
 ghost use Rattle.fir_lexer.specs.declared.token.Token.{Token as TheToken};
 ghost use Rattle.fir_lexer.specs.declared.pieces.PieceKind.TheVariants.{TokenOf};
 ghost use Rattle.fir_layout.specs.Pieces.{piece_of, pieces_of, bytes_of};
-ghost use Rattle.fir_tree.specs.Grammar.{Integer, IsQuotedNumber, A_quoted_number, Takes};
+ghost use Rattle.fir_grammar.specs.Grammar.{Integer, IsQuotedNumber, A_quoted_number, Takes};
 ghost use Rattle.fir_expr.specs.Standing.{StandsIn};
 ghost use Rattle.fir_expr.specs.LiteralIntegers.{IsString};
 ghost use Rattle.fir_expr.specs.Parts.{IsSource, IsPartOf, Answers};

@@ -2,9 +2,9 @@
 
 ghost use Rattle.std.specs.Prelude.{◌≡◌, ◌≤◌, ◌<◌, ◌+◌, ◌^◌, ◌∷◌, [], ℕ, List, length, take, slice_get, Some, IfOk, IfErr, IfSome, IfNone, IsTrue, ◌↔◌, codes};
 ghost use Rattle.fir_layout.specs.Pieces.{piece_of, pieces_of};
-ghost use Rattle.fir_tree.specs.Faults.{most, levels, last_suffixes};
-ghost use Rattle.fir_tree.specs.Reading.{IsRefused};
-ghost use Rattle.fir_tree.specs.Grammar.{A, Numbers, Expression, The_word, The_call, The_mark, Takes};
+ghost use Rattle.fir_grammar.specs.Faults.{most, levels, last_suffixes};
+ghost use Rattle.fir_grammar.specs.Reading.{IsRefused};
+ghost use Rattle.fir_grammar.specs.Grammar.{A, Numbers, Expression, The_word, The_call, The_mark, Takes};
 ghost use Rattle.fir_expr.specs.Standing.{StandsIn, wanted};
 ghost use Rattle.fir_expr.specs.LiteralParts.{AddsNumbers};
 ghost use Rattle.fir_expr.specs.LiteralHeads.{IsHeadBefore, IsHeadOfCall, IsHeadOfWord};

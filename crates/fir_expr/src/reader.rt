@@ -4,8 +4,8 @@ ghost use Rattle.std.specs.Prelude.{◌≡◌, ◌≤◌, ◌<◌, ◌+◌, ◌-
 ghost use Rattle.fir_layout.specs.Pieces.{piece_of, pieces_of};
 ghost use Rattle.place_text.specs.Places.{place};
 ghost use Rattle.fir_layout.specs.declared.laid.Laid.{Laid as TheLaid};
-ghost use Rattle.fir_tree.specs.Grammar.{Type_of, Expression, Reference, Terminal, Takes, start_of};
-ghost use Rattle.fir_tree.specs.Reading.{Reads as ReadsRule};
+ghost use Rattle.fir_grammar.specs.Grammar.{Type_of, Expression, Reference, Terminal, Takes, start_of};
+ghost use Rattle.fir_grammar.specs.Reading.{Reads as ReadsRule, ReadsLongest};
 ghost use Rattle.fir_expr.specs.LineStarts.{AreLines};
 ghost use Rattle.fir_expr.specs.Parts.{IsSource, IsNotTaken};
 ghost use Rattle.fir_expr.specs.Standing.{IsLaidFrom, StandsIn, BeginsType, IsWhole, wanted};
@@ -96,7 +96,8 @@ impl<'a> Reader<'a> {
 /// element type, the innermost first.
 ///
 /// The reader stands where a type may begin, and moves behind it; names that are new are added. The refusal is the first
-/// token that can't continue the type, or that goes too deep, and then the reader isn't used again. Reads each token of the
+/// token that can't continue the type, or that goes too deep, and then the reader isn't used again. Where a type stands there
+/// and the token behind it can't go on with it, the answer is that type, whatever the token. Reads each token of the
 /// type once; where `index_lines` has been called, takes time in proportion to them and to the logarithm of the number of lines.
 pub fn read_type(alloc: Global, reader: &mut Reader) -> Result<FirType, ParseFault>
     requires short { length reader.old.bytes.now < 2 ^ 32 - 1 }
@@ -105,6 +106,7 @@ pub fn read_type(alloc: Global, reader: &mut Reader) -> Result<FirType, ParseFau
     requires room { wanted reader.old.names reader.old.laid.now reader.old.at < 2 ^ 32 - 1 }
     requires begins { BeginsType (pieces_of reader.old.bytes.now reader.old.laid.now) reader.old.at reader.old.brackets }
     ensures read { ReadsRule Type_of reader.old.bytes.now reader.old.laid.now reader.old.at reader.old.names result reader.new.at reader.new.names }
+    ensures longest { ReadsLongest Type_of reader.old.bytes.now reader.old.laid.now reader.old.at reader.old.names result reader.new.at reader.new.names }
     ensures bytes { reader.new.bytes.now ≡ reader.old.bytes.now }
     ensures laid { reader.new.laid.now ≡ reader.old.laid.now }
     ensures brackets { reader.new.brackets ≡ reader.old.brackets }
@@ -132,6 +134,7 @@ pub fn read_expr(alloc: Global, reader: &mut Reader) -> Result<Expr, ParseFault>
     requires room { wanted reader.old.names reader.old.laid.now reader.old.at < 2 ^ 32 - 1 }
     requires stands { StandsIn (pieces_of reader.old.bytes.now reader.old.laid.now) reader.old.at reader.old.brackets }
     ensures read { ReadsRule Expression reader.old.bytes.now reader.old.laid.now reader.old.at reader.old.names result reader.new.at reader.new.names }
+    ensures longest { ReadsLongest Expression reader.old.bytes.now reader.old.laid.now reader.old.at reader.old.names result reader.new.at reader.new.names }
     ensures bytes { reader.new.bytes.now ≡ reader.old.bytes.now }
     ensures laid { reader.new.laid.now ≡ reader.old.laid.now }
     ensures brackets { reader.new.brackets ≡ reader.old.brackets }
@@ -160,6 +163,7 @@ pub fn read_reference(alloc: Global, reader: &mut Reader) -> Result<Expr, ParseF
     requires room { wanted reader.old.names reader.old.laid.now reader.old.at < 2 ^ 32 - 1 }
     requires stands { StandsIn (pieces_of reader.old.bytes.now reader.old.laid.now) reader.old.at reader.old.brackets }
     ensures read { ReadsRule Reference reader.old.bytes.now reader.old.laid.now reader.old.at reader.old.names result reader.new.at reader.new.names }
+    ensures longest { ReadsLongest Reference reader.old.bytes.now reader.old.laid.now reader.old.at reader.old.names result reader.new.at reader.new.names }
     ensures bytes { reader.new.bytes.now ≡ reader.old.bytes.now }
     ensures laid { reader.new.laid.now ≡ reader.old.laid.now }
     ensures brackets { reader.new.brackets ≡ reader.old.brackets }

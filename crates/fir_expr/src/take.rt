@@ -4,13 +4,13 @@ ghost use Rattle.std.specs.Prelude.{◌≡◌, ◌≤◌, ◌<◌, ◌+◌, ◌-
 ghost use Rattle.place_text.specs.Places.{place};
 ghost use Rattle.fir_layout.specs.Pieces.{piece_of, pieces_of, bytes_of};
 ghost use Rattle.fir_tree.specs.declared.fault.ParseFault.TheVariants.{NoMemory, TooDeep as Too_deep};
-ghost use Rattle.fir_tree.specs.Grammar.{Terminal, The_word, The_mark, A_name, A_field, A_number, Takes, start_of, name_in};
+ghost use Rattle.fir_grammar.specs.Grammar.{Terminal, The_word, The_mark, A_name, A_field, A_number, Takes, start_of, name_in};
 ghost use Rattle.fir_tree.specs.Numbered.{AddsName};
 ghost use Rattle.bit_words.specs.Numbers.{IsMagnitude};
 ghost use Rattle.fir_layout.specs.declared.laid.Laid.{Laid as TheLaid};
 ghost use Rattle.fir_lexer.specs.declared.token.Token.{Token as TheToken};
 ghost use Rattle.fir_expr.specs.Standing.{StandsIn, wanted};
-ghost use Rattle.fir_tree.specs.Faults.{most, IsNamed, IsListed, listed_words};
+ghost use Rattle.fir_grammar.specs.Faults.{most, IsNamed, IsListed, listed_words};
 ghost use Rattle.fir_expr.specs.Parts.{IsSource, IsTokenIn, IsPartOf, AnswersPiece, IsNotTaken, IsNumberAt, IsNameAt, is_flat, is_opening};
 
 use crate::text::Text;

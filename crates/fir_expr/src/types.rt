@@ -2,9 +2,9 @@
 
 ghost use Rattle.std.specs.Prelude.{◌≡◌, ◌≤◌, ◌<◌, ◌+◌, ◌^◌, ◌-◌, ℕ, List, [], ◌∷◌, codes, length, take, IfOk, IfErr, IsTrue, ◌↔◌};
 ghost use Rattle.fir_layout.specs.Pieces.{piece_of, pieces_of};
-ghost use Rattle.fir_tree.specs.Faults.{most, levels, last_suffixes};
-ghost use Rattle.fir_tree.specs.Grammar.{Type_of, Base_type, Width, Lengths, Fields, Field as FieldRule, A, The_word, Takes, mark, number, field, colon, a_bundle};
-ghost use Rattle.fir_tree.specs.Reading.{IsRefused};
+ghost use Rattle.fir_grammar.specs.Faults.{most, levels, last_suffixes};
+ghost use Rattle.fir_grammar.specs.Grammar.{Type_of, Base_type, Width, Lengths, Fields, Field as FieldRule, A, The_word, Takes, mark, number, field, colon, a_bundle};
+ghost use Rattle.fir_grammar.specs.Reading.{IsRefused};
 ghost use Rattle.fir_expr.specs.Standing.{StandsIn, BeginsType, wanted};
 ghost use Rattle.fir_expr.specs.Parts.{IsSource, IsPartOf, Answers, HasPassed, StartsWith, GoesInto, kind_name};
 ghost use Rattle.fir_expr.specs.TypeParts.{HasLengths, HasFields, Flips, shape_of};

@@ -9,8 +9,8 @@ use Rattle.fir_lexer.proofs.Readings.{one_reading, nothing_from_none}
 use Rattle.std.proofs.lemmas.List.{drop_all}
 use Rattle.fir_layout.specs.declared.laid.Laid.{Laid}
 use Rattle.fir_layout.specs.declared.laid.Laid.TheVariants.{Close, End}
-use Rattle.fir_layout.specs.declared.layout.LayoutFault.{LayoutFault}
-use Rattle.fir_layout.specs.declared.layout.LayoutFault.TheVariants.{BadIndent, NoMemory}
+use Rattle.fir_layout.specs.declared.fault.LayoutFault.{LayoutFault}
+use Rattle.fir_layout.specs.declared.fault.LayoutFault.TheVariants.{BadIndent, NoMemory}
 use Rattle.fir_layout.specs.Layout.{Line, OfLine, OfLines, no_line, then_line, IsLaidOut, IsBadIndent, lines_of, content}
 use Rattle.fir_layout.specs.Walk.{Ahead, PassesLine}
 use Rattle.fir_layout.proofs.Turning.{line_unique}

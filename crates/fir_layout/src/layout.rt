@@ -6,34 +6,15 @@ ghost use Rattle.place_text.specs.Places.{place};
 ghost use Rattle.fir_lexer.specs.Tokens.{AreTokens};
 ghost use Rattle.fir_layout.specs.declared.laid.Laid.{Laid as ALaid};
 ghost use Rattle.fir_layout.specs.declared.laid.Laid.TheVariants.{Close as A_close, End as An_end};
-ghost use Rattle.fir_layout.specs.declared.layout.LayoutFault.TheVariants.{BadIndent as Bad_indent, NoMemory};
+ghost use Rattle.fir_layout.specs.declared.fault.LayoutFault.TheVariants.{BadIndent as Bad_indent, NoMemory};
 ghost use Rattle.fir_layout.specs.Layout.{Line, Turns, OfLine, items, level, deeper_count, content, end_of, IsLaidOut, IsBadIndent, tokens_in, EndsOnce};
 
+use crate::fault::LayoutFault;
 use crate::laid::Laid;
 use crate::lines::line_end;
 use fir_lexer::Token;
-use place_text::{Place, place_of};
+use place_text::place_of;
 use std::alloc::{AllocError, Global};
-use thiserror::Error;
-
-/// Why a text has no layout: the first line that fits no open block.
-#[derive(Clone, Copy, Debug, PartialEq, Eq, Drop, Error)]
-pub enum LayoutFault {
-    /// A line with fewer spaces than the block that it stands in, and with none whose number it has, or with a tab behind
-    /// its spaces. The place is the first byte behind the spaces.
-    #[error("bad indent")]
-    BadIndent(Place),
-    #[error("out of memory")]
-    NoMemory,
-}
-
-impl From<AllocError> for LayoutFault {
-    ghost from_gives = { λ _ fault. fault ≡ NoMemory };
-
-    fn from(_: AllocError) -> LayoutFault {
-        LayoutFault::NoMemory
-    }
-}
 
 /// The tokens of a text line by line, with an `Open` or the `Close`s before a line whose indent changes.
 ///

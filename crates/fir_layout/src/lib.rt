@@ -2,9 +2,11 @@
 //! Keeps the contract that the laid list, or the first bad indent, is exactly that of the text's lines.
 #![tactic(auto)]
 
+pub mod fault;
 pub mod laid;
 pub mod layout;
 mod lines;
 
+pub use fault::LayoutFault;
 pub use laid::Laid;
-pub use layout::{LayoutFault, lay_out};
+pub use layout::lay_out;

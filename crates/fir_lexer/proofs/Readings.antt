@@ -1,9 +1,11 @@
 -- A text has at most one list of pieces, and it has none where it has a fault.
 use Rattle.std.proofs.Common.{◌≡◌, ℕ, zero, suc, ◌+◌, ◌<◌, ◌≤◌, true, false, cond, List, [], ◌∷◌, ◌++◌, length, take, drop, get_or, refl, ap, sym, ◌∙◌, arith, ◌⊎◌, inl, inr, ⊎_elim, length-drop, append-nil, append_assoc, add-zero, zero-add, add_assoc}
-use Rattle.std.specs.Prelude.{◌==◌, Result, Ok, Err, IfOk, IfErr, MatchResult}
-use Rattle.place_text.specs.declared.place.Place.{Place}
-use Rattle.fir_lexer.specs.declared.lexing.LexFault.{LexFault}
-use Rattle.fir_lexer.specs.declared.lexing.LexFault.TheVariants.{NoMemory}
+use Rattle.std.specs.Prelude.{◌==◌, Some, Result, Ok, Err, IfOk, IfErr, MatchResult}
+use Rattle.place_text.specs.Places.{place}
+use Rattle.fir_lexer.specs.declared.fault.LexFault.{LexFault}
+use Rattle.fir_lexer.specs.declared.fault.LexFault.TheVariants.{BadByte, BadToken, NumberRange, NoMemory}
+use Rattle.fir_lexer.specs.Faults.{rank_of}
+use Rattle.fir_lexer.specs.Ranks.{one_each}
 use Rattle.std.specs.List.{prefix_len, take_while, AllPass}
 use Rattle.std.proofs.lemmas.List.{drop-drop, drop_all, take-append-drop}
 use Rattle.std.proofs.lemmas.Bool.{and_parts, or_cases, eqb-true, false≢true, both_ways}
@@ -16,7 +18,7 @@ use Rattle.fir_lexer.specs.declared.pieces.PieceKind.TheVariants.{Blank, Return,
 use Rattle.fir_lexer.specs.Bytes.{one_of, begins_word, is_digit, in_word, is_mark}
 use Rattle.fir_lexer.specs.Pieces.{begins, GoesOn, IsOf, IsLongest}
 use Rattle.fir_lexer.specs.Scan.{front_kind}
-use Rattle.fir_lexer.specs.Tokens.{IsPiece, Lexes, no_piece, then_piece, tokens_of, token_of, joined, AreTokens, IsWrong, IsFault, FaultKind, Bad_byte, Bad_token, Number_range, fault_at}
+use Rattle.fir_lexer.specs.Tokens.{IsPiece, Lexes, no_piece, then_piece, tokens_of, token_of, joined, AreTokens, IsWrong, IsFault}
 use Rattle.fir_lexer.proofs.Rests.{alike_cases}
 use Rattle.fir_lexer.proofs.Runs.{run_to_end}
 
@@ -146,46 +148,52 @@ joined_all (then_piece k n pieces bytes rest one more) =
     append_assoc (take n bytes) (joined (drop n bytes) pieces) rest ∙ ap (λ xs. take n bytes ++ xs) (joined_all more) ∙ take-append-drop n bytes
 
 -- where something is wrong no piece goes on
-stuck : (kind : FaultKind) {bytes rest : List ℕ} {pieces : List (PieceKind × ℕ)} → IsWrong kind bytes → Lexes bytes pieces rest → bytes ≡ rest
-stuck kind wrong (no_piece rest) = refl
-stuck Bad_byte wrong (then_piece k n pieces bytes rest one more) = absurd (wrong.0.none k n one.longest.within one.longest.is)
-stuck Bad_token wrong (then_piece k n pieces bytes rest one more) = absurd (wrong.0.none k n one.longest.within one.longest.is)
-stuck Number_range wrong (then_piece k n pieces bytes rest one more) =
+stuck : (fault : LexFault) {bytes rest : List ℕ} {pieces : List (PieceKind × ℕ)} → IsWrong fault bytes → Lexes bytes pieces rest → bytes ≡ rest
+stuck fault wrong (no_piece rest) = refl
+stuck NoMemory wrong (then_piece k n pieces bytes rest one more) = absurd wrong
+stuck (BadByte p) wrong (then_piece k n pieces bytes rest one more) = absurd (wrong.0.none k n one.longest.within one.longest.is)
+stuck (BadToken p) wrong (then_piece k n pieces bytes rest one more) = absurd (wrong.0.none k n one.longest.within one.longest.is)
+stuck (NumberRange p) wrong (then_piece k n pieces bytes rest one more) =
     let same = longest_unique bytes wrong.0 k wrong.1 n wrong.2 one.longest in
     absurd (one.in_range (rw (same.0, same.1) at wrong.3))
 
-same_fault : (kind other : FaultKind) (bytes : List ℕ) → IsWrong kind bytes → IsWrong other bytes → kind ≡ other
-same_fault Bad_byte Bad_byte bytes p q = refl
-same_fault Bad_byte Bad_token bytes p q = absurd (both_ways _ p.1 q.1)
-same_fault Bad_byte Number_range bytes p q = absurd (p.0.none q.0 q.1 q.2.within q.2.is)
-same_fault Bad_token Bad_byte bytes p q = absurd (both_ways _ q.1 p.1)
-same_fault Bad_token Bad_token bytes p q = refl
-same_fault Bad_token Number_range bytes p q = absurd (p.0.none q.0 q.1 q.2.within q.2.is)
-same_fault Number_range Bad_byte bytes p q = absurd (q.0.none p.0 p.1 p.2.within p.2.is)
-same_fault Number_range Bad_token bytes p q = absurd (q.0.none p.0 p.1 p.2.within p.2.is)
-same_fault Number_range Number_range bytes p q = refl
+same_rank : (fault other : LexFault) (bytes : List ℕ) → IsWrong fault bytes → IsWrong other bytes → rank_of fault ≡ rank_of other
+same_rank (BadByte p) (BadByte q) bytes f g = refl
+same_rank (BadByte p) (BadToken q) bytes f g = absurd (both_ways _ f.1 g.1)
+same_rank (BadByte p) (NumberRange q) bytes f g = absurd (f.0.none g.0 g.1 g.2.within g.2.is)
+same_rank (BadToken p) (BadByte q) bytes f g = absurd (both_ways _ g.1 f.1)
+same_rank (BadToken p) (BadToken q) bytes f g = refl
+same_rank (BadToken p) (NumberRange q) bytes f g = absurd (f.0.none g.0 g.1 g.2.within g.2.is)
+same_rank (NumberRange p) (BadByte q) bytes f g = absurd (g.0.none f.0 f.1 f.2.within f.2.is)
+same_rank (NumberRange p) (BadToken q) bytes f g = absurd (g.0.none f.0 f.1 f.2.within f.2.is)
+same_rank (NumberRange p) (NumberRange q) bytes f g = refl
+same_rank NoMemory other bytes f g = absurd f
+same_rank (BadByte p) NoMemory bytes f g = absurd g
+same_rank (BadToken p) NoMemory bytes f g = absurd g
+same_rank (NumberRange p) NoMemory bytes f g = absurd g
 
 -- a text with a fault has no tokens
-pub no_tokens : (bytes : List ℕ) (at : ℕ) (kind : FaultKind) (tokens : List Token) → IsFault bytes at kind → AreTokens bytes tokens → ⊥
-no_tokens bytes at kind tokens f t = from_both (compare f.before.1 t.lexed) refl refl
+pub no_tokens : (bytes : List ℕ) (at : ℕ) (fault : LexFault) (tokens : List Token) → IsFault bytes at fault → AreTokens bytes tokens → ⊥
+no_tokens bytes at fault tokens f t = from_both (compare f.before.1 t.lexed) refl refl
   where
     long : (left : List ℕ) → left ≡ drop at bytes → left ≡ [] → ⊥
     long left e none = let size : length (drop at bytes) ≡ 0 = rw (sym e, none) refl in omega (arith, size, f.within, length-drop at bytes)
 
     from_both : {mid rest : List ℕ} {ps qs : List (PieceKind × ℕ)} → GoOn mid ps rest qs → mid ≡ drop at bytes → rest ≡ [] → ⊥
     from_both (first_goes_on ps more qs mid rest e l) m r = long mid m (nothing_from_none l r).1
-    from_both (second_goes_on ps more qs mid rest e l) m r = long mid m (stuck kind (rw m f.here) l ∙ r)
+    from_both (second_goes_on ps more qs mid rest e l) m r = long mid m (stuck fault (rw m f.here) l ∙ r)
 
 -- a text has at most one fault
-pub one_fault : (bytes : List ℕ) (at to : ℕ) (kind other : FaultKind) → IsFault bytes at kind → IsFault bytes to other → (at ≡ to) × (kind ≡ other)
-one_fault bytes at to kind other f g =
+pub one_fault : (bytes : List ℕ) (at to : ℕ) (fault other : LexFault) → IsFault bytes at fault → IsFault bytes to other → (at ≡ to) × (fault ≡ other)
+one_fault bytes at to fault other f g =
     let same : drop at bytes ≡ drop to bytes = from_both (compare f.before.1 g.before.1) refl refl in
     let long : length (drop at bytes) ≡ length (drop to bytes) = ap length same in
-    (omega (arith, long, f.within, g.within, length-drop at bytes, length-drop to bytes), same_fault kind other (drop at bytes) f.here (rw same g.here))
+    let one : at ≡ to = omega (arith, long, f.within, g.within, length-drop at bytes, length-drop to bytes) in
+    (one, one_each fault other (f.stands ∙ ap (λ k. Some (place bytes k)) one ∙ sym g.stands) (same_rank fault other (drop at bytes) f.here (rw same g.here)))
   where
     from_both : {mid rest : List ℕ} {ps qs : List (PieceKind × ℕ)} → GoOn mid ps rest qs → mid ≡ drop at bytes → rest ≡ drop to bytes → drop at bytes ≡ drop to bytes
     from_both (first_goes_on ps more qs mid rest e l) m r = sym m ∙ sym (stuck other (rw r g.here) l) ∙ r
-    from_both (second_goes_on ps more qs mid rest e l) m r = sym m ∙ stuck kind (rw m f.here) l ∙ r
+    from_both (second_goes_on ps more qs mid rest e l) m r = sym m ∙ stuck fault (rw m f.here) l ∙ r
 
 -- a text has at most one list of tokens
 pub one_tokens : (bytes : List ℕ) (xs ys : List Token) → AreTokens bytes xs → AreTokens bytes ys → xs ≡ ys
@@ -193,18 +201,17 @@ one_tokens bytes xs ys a b = a.made ∙ ap (tokens_of 0) (one_reading a.lexed b.
 
 -- what an answer that is right says of another that is right
 
-pub accepts_from : {V : Type 0} (items : V → List Token) (at_place : ℕ → Place) (bytes : List ℕ) (result : Result V LexFault) → IfOk result (λ v. AreTokens bytes (items v))
-    → IfErr result (λ fault. (fault ≡ NoMemory) ⊎ ((at : ℕ) × (kind : FaultKind) × IsFault bytes at kind × (fault ≡ fault_at kind (at_place at))))
+pub accepts_from : {V : Type 0} (items : V → List Token) (bytes : List ℕ) (result : Result V LexFault) → IfOk result (λ v. AreTokens bytes (items v))
+    → IfErr result (λ fault. (fault ≡ NoMemory) ⊎ ((at : ℕ) × IsFault bytes at fault))
     → (tokens : List Token) → AreTokens bytes tokens → MatchResult result (λ v. items v ≡ tokens) (λ fault. fault ≡ NoMemory)
-accepts_from items at_place bytes (Ok v) ok err tokens are = one_tokens bytes _ _ ok are
-accepts_from items at_place bytes (Err fault) ok err tokens are = ⊎_elim (λ e. e) (λ f. absurd (no_tokens bytes f.0 f.1 tokens f.2 are)) err
+accepts_from items bytes (Ok v) ok err tokens are = one_tokens bytes _ _ ok are
+accepts_from items bytes (Err fault) ok err tokens are = ⊎_elim (λ e. e) (λ f. absurd (no_tokens bytes f.0 fault tokens f.1 are)) err
 
-pub refuses_from : {V : Type 0} (items : V → List Token) (at_place : ℕ → Place) (bytes : List ℕ) (result : Result V LexFault) → IfOk result (λ v. AreTokens bytes (items v))
-    → IfErr result (λ fault. (fault ≡ NoMemory) ⊎ ((at : ℕ) × (kind : FaultKind) × IsFault bytes at kind × (fault ≡ fault_at kind (at_place at))))
-    → (at : ℕ) (kind : FaultKind) → IsFault bytes at kind → MatchResult result (λ v. ⊥) (λ fault. (fault ≡ NoMemory) ⊎ (fault ≡ fault_at kind (at_place at)))
-refuses_from items at_place bytes (Ok v) ok err at kind is = no_tokens bytes at kind _ is ok
-refuses_from items at_place bytes (Err fault) ok err at kind is = ⊎_elim (λ e. inl e)
-    (λ f. (let same = one_fault bytes f.0 at f.1 kind f.2 is in inr (rw (same.0, same.1) at f.3))) err
+pub refuses_from : {V : Type 0} (items : V → List Token) (bytes : List ℕ) (result : Result V LexFault) → IfOk result (λ v. AreTokens bytes (items v))
+    → IfErr result (λ fault. (fault ≡ NoMemory) ⊎ ((at : ℕ) × IsFault bytes at fault))
+    → (at : ℕ) (fault : LexFault) → IsFault bytes at fault → MatchResult result (λ v. ⊥) (λ given. (given ≡ NoMemory) ⊎ (given ≡ fault))
+refuses_from items bytes (Ok v) ok err at fault is = no_tokens bytes at fault _ is ok
+refuses_from items bytes (Err given) ok err at fault is = ⊎_elim (λ e. inl e) (λ f. inr (one_fault bytes f.0 at given fault f.1 is).1) err
 
 -- one more piece at the end
 pub Lexes-push : {bytes mid : List ℕ} {pieces : List (PieceKind × ℕ)} {kind : PieceKind} {n : ℕ} → Lexes bytes pieces mid → IsPiece mid kind n

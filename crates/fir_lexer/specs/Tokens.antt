@@ -1,6 +1,6 @@
 -- A text as the list of its pieces, each the longest that begins where it stands; its tokens, and its first fault.
-use Rattle.std.specs.Prelude.{◌≡◌, ℕ, ◌+◌, ◌<◌, ◌≤◌, ◌^◌, ◌⊎◌, true, false, List, [], ◌∷◌, ◌++◌, take, drop, length, slice_index, codes}
-use Rattle.place_text.specs.declared.place.Place.{Place}
+use Rattle.std.specs.Prelude.{◌≡◌, ℕ, ◌+◌, ◌<◌, ◌≤◌, ◌^◌, ◌⊎◌, true, false, List, [], ◌∷◌, ◌++◌, take, drop, length, slice_index, codes, Some}
+use Rattle.place_text.specs.Places.{place}
 use Rattle.bit_words.specs.Numbers.{IsMagnitude, WritesDigits, letter}
 use Rattle.bit_words.specs.declared.number.Base.{Base}
 use Rattle.bit_words.specs.declared.number.Base.TheVariants.{Binary, Octal, Decimal, Hexadecimal}
@@ -8,8 +8,9 @@ use Rattle.fir_lexer.specs.declared.token.Token.{Token}
 use Rattle.fir_lexer.specs.declared.token.TokenKind.TheVariants.{Word, Call, Quoted, Digits, Text, Arrow, Mark}
 use Rattle.fir_lexer.specs.declared.pieces.PieceKind.{PieceKind}
 use Rattle.fir_lexer.specs.declared.pieces.PieceKind.TheVariants.{Blank, Return, LineFeed, Comment, Info, Annotation, TokenOf}
-use Rattle.fir_lexer.specs.declared.lexing.LexFault.{LexFault}
-use Rattle.fir_lexer.specs.declared.lexing.LexFault.TheVariants.{BadByte, BadToken, NumberRange}
+use Rattle.fir_lexer.specs.declared.fault.LexFault.{LexFault}
+use Rattle.fir_lexer.specs.declared.fault.LexFault.TheVariants.{BadByte, BadToken, NumberRange, NoMemory}
+use Rattle.fir_lexer.specs.Faults.{place_of}
 use Rattle.fir_lexer.specs.Bytes.{one_of}
 use Rattle.fir_lexer.specs.Pieces.{IsLongest, BeginsNone}
 
@@ -83,26 +84,17 @@ pub record AreTokens (bytes : List ℕ) (tokens : List Token) : Type 0 where
   pub lexed : Lexes bytes pieces []
   pub made : tokens ≡ tokens_of 0 pieces
 
-pub data FaultKind : Type 0 where
-  Bad_byte : FaultKind
-  Bad_token : FaultKind
-  Number_range : FaultKind
-
 -- What is wrong where a text can't go on. A string, a backquoted name, an info or an annotation that begins there is a
 -- bad token, and any other byte that begins no piece is a bad byte.
-abbrev pub IsWrong : FaultKind → List ℕ → Type 0
-IsWrong Bad_byte bytes = BeginsNone bytes × (one_of (codes "\"`@%") (slice_index bytes 0) ≡ false)
-IsWrong Bad_token bytes = BeginsNone bytes × (one_of (codes "\"`@%") (slice_index bytes 0) ≡ true)
-IsWrong Number_range bytes = (kind : PieceKind) × (n : ℕ) × IsLongest bytes kind n × IsPastRange kind (take n bytes)
+abbrev pub IsWrong : LexFault → List ℕ → Type 0
+IsWrong (BadByte place) bytes = BeginsNone bytes × (one_of (codes "\"`@%") (slice_index bytes 0) ≡ false)
+IsWrong (BadToken place) bytes = BeginsNone bytes × (one_of (codes "\"`@%") (slice_index bytes 0) ≡ true)
+IsWrong (NumberRange place) bytes = (kind : PieceKind) × (n : ℕ) × IsLongest bytes kind n × IsPastRange kind (take n bytes)
+IsWrong NoMemory bytes = ⊥
 
 -- the first fault of the text: pieces stand up to it, and none goes on
-pub record IsFault (bytes : List ℕ) (at : ℕ) (kind : FaultKind) : Type 0 where
+pub record IsFault (bytes : List ℕ) (at : ℕ) (fault : LexFault) : Type 0 where
   pub within : at < length bytes
   pub before : (pieces : List (PieceKind × ℕ)) × Lexes bytes pieces (drop at bytes)
-  pub here : IsWrong kind (drop at bytes)
-
--- the answer that names a fault
-abbrev pub fault_at : FaultKind → Place → LexFault
-fault_at Bad_byte place = BadByte place
-fault_at Bad_token place = BadToken place
-fault_at Number_range place = NumberRange place
+  pub here : IsWrong fault (drop at bytes)
+  pub stands : place_of fault ≡ Some (place bytes at)

@@ -3,7 +3,8 @@
 ghost use Rattle.std.specs.Prelude.{◌≡◌, ℕ, List, []};
 ghost use Rattle.fir_lexer.specs.declared.token.Token.{Token as TheToken};
 ghost use Rattle.fir_lexer.specs.declared.pieces.PieceKind.{PieceKind as TheKind};
-ghost use Rattle.fir_lexer.specs.Tokens.{Lexes, AreTokens, IsFault, FaultKind, joined};
+ghost use Rattle.fir_lexer.specs.declared.fault.LexFault.{LexFault as AFault};
+ghost use Rattle.fir_lexer.specs.Tokens.{Lexes, AreTokens, IsFault, joined};
 
 /// A text is at most one list of pieces, and that list's bytes joined are the text.
 pub fn texts_have_one_reading()
@@ -13,7 +14,7 @@ pub fn texts_have_one_reading()
 
 /// A text has at most one fault, and then it has no tokens.
 pub fn texts_have_one_fault()
-    ensures place { (text : List ℕ) (at other : ℕ) (kind kind2 : FaultKind) → IsFault text at kind → IsFault text other kind2 → at ≡ other }
-    ensures kind { (text : List ℕ) (at other : ℕ) (kind kind2 : FaultKind) → IsFault text at kind → IsFault text other kind2 → kind ≡ kind2 }
-    ensures no_tokens { (text : List ℕ) (at : ℕ) (kind : FaultKind) (tokens : List TheToken) → IsFault text at kind → AreTokens text tokens → ⊥ }
+    ensures place { (text : List ℕ) (at other : ℕ) (fault second : AFault) → IsFault text at fault → IsFault text other second → at ≡ other }
+    ensures fault { (text : List ℕ) (at other : ℕ) (fault second : AFault) → IsFault text at fault → IsFault text other second → fault ≡ second }
+    ensures no_tokens { (text : List ℕ) (at : ℕ) (fault : AFault) (tokens : List TheToken) → IsFault text at fault → AreTokens text tokens → ⊥ }
 {}

@@ -1,44 +1,22 @@
 //! The tokens of a text.
 
-ghost use Rattle.std.specs.Prelude.{◌≡◌, ◌≢◌, ℕ, ◌+◌, ◌∷◌, slice_index, Err, ◌-◌, ◌<◌, ◌≤◌, ◌^◌, ◌⊎◌, ◌↔◌, ◌++◌, List, [], take, drop, length, IsTrue, IfSome, IfNone, IfOk, IfErr, OnOk, MatchResult};
+ghost use Rattle.std.specs.Prelude.{◌≡◌, ◌≢◌, ℕ, ◌+◌, ◌∷◌, slice_index, Err, ◌-◌, ◌<◌, ◌≤◌, ◌^◌, ◌⊎◌, ◌↔◌, ◌++◌, List, [], take, drop, length, IsTrue, Some, IfSome, IfNone, IfOk, IfErr, OnOk, MatchResult};
 ghost use Rattle.bit_words.specs.Numbers.{WritesDigits, IsMagnitude, letter};
 ghost use Rattle.bit_words.specs.declared.number.Base.{Base as TheBase};
 ghost use Rattle.bit_words.specs.declared.number.NumberFault.TheVariants.{Over};
 ghost use Rattle.place_text.specs.Places.{place};
-ghost use Rattle.fir_lexer.specs.Tokens.{IsPiece, IsPastRange, AreTokens, IsWrong, IsFault, FaultKind, fault_at, token_of, QuotesNumber, IsQuotedBase};
-ghost use Rattle.fir_lexer.specs.declared.lexing.LexFault.TheVariants.{NoMemory};
+ghost use Rattle.fir_lexer.specs.Tokens.{IsPiece, IsPastRange, AreTokens, IsWrong, IsFault, token_of, QuotesNumber, IsQuotedBase};
+ghost use Rattle.fir_lexer.specs.declared.fault.LexFault.{LexFault as AFault};
+ghost use Rattle.fir_lexer.specs.declared.fault.LexFault.TheVariants.{NoMemory};
+ghost use Rattle.fir_lexer.specs.Faults.{place_of as stands_at};
 ghost use Rattle.fir_lexer.specs.declared.token.Token.{Token as TheToken};
 
+use crate::fault::LexFault;
 use crate::pieces::{PieceKind, piece};
 use crate::token::{Token, TokenKind};
 use bit_words::{Base, NumberFault, digits_value, read_magnitude};
-use place_text::{Place, place_of};
+use place_text::place_of;
 use std::alloc::{AllocError, AllocFailed, Global};
-use thiserror::Error;
-
-/// Why a text has no tokens: its first fault from the left, at the place where its piece begins.
-#[derive(Clone, Copy, Debug, PartialEq, Eq, Drop, Error)]
-pub enum LexFault {
-    /// A byte that begins no token and isn't white space.
-    #[error("bad byte")]
-    BadByte(Place),
-    /// A string, a backquoted name, an info or an annotation that does not end, or `@` or `%` without a `[`.
-    #[error("bad token")]
-    BadToken(Place),
-    /// A number, or a string that quotes one, whose magnitude is over 2^128 - 1.
-    #[error("number out of range")]
-    NumberRange(Place),
-    #[error("out of memory")]
-    NoMemory,
-}
-
-impl From<AllocError> for LexFault {
-    ghost from_gives = { λ _ fault. fault ≡ NoMemory };
-
-    fn from(_: AllocError) -> LexFault {
-        LexFault::NoMemory
-    }
-}
 
 /// The tokens of a text, in order, each with its kind and where it begins and ends.
 ///
@@ -46,11 +24,11 @@ impl From<AllocError> for LexFault {
 pub fn lex(alloc: Global, bytes: &[u8]) -> Result<Vec<Token>, LexFault>
     requires { length bytes.now < 2 ^ 32 - 1 }
     ensures ok { IfOk result (λ tokens. AreTokens bytes.now tokens.items) }
-    ensures fault { IfErr result (λ fault. (fault ≡ NoMemory) ⊎ ((at : ℕ) × (kind : FaultKind) × IsFault bytes.now at kind × (fault ≡ fault_at kind (place bytes.now at)))) }
+    ensures fault { IfErr result (λ fault. (fault ≡ NoMemory) ⊎ ((at : ℕ) × IsFault bytes.now at fault)) }
     // a text with tokens is refused for want of memory alone
     ensures accepts { (tokens : List TheToken) → AreTokens bytes.now tokens → MatchResult result (λ given. given.items ≡ tokens) (λ fault. fault ≡ NoMemory) }
     // and a text with a fault is answered by it, or by want of memory
-    ensures refuses { (at : ℕ) (kind : FaultKind) → IsFault bytes.now at kind → MatchResult result (λ given. ⊥) (λ fault. (fault ≡ NoMemory) ⊎ (fault ≡ fault_at kind (place bytes.now at))) }
+    ensures refuses { (at : ℕ) (fault : AFault) → IsFault bytes.now at fault → MatchResult result (λ tokens. ⊥) (λ given. (given ≡ NoMemory) ⊎ (given ≡ fault)) }
 {
     read_tokens(alloc, bytes)
 }
@@ -58,7 +36,7 @@ pub fn lex(alloc: Global, bytes: &[u8]) -> Result<Vec<Token>, LexFault>
 fn read_tokens(alloc: Global, bytes: &[u8]) -> Result<Vec<Token>, LexFault>
     requires { length bytes.now < 2 ^ 32 - 1 }
     ensures ok { IfOk result (λ tokens. AreTokens bytes.now tokens.items) }
-    ensures fault { IfErr result (λ fault. (fault ≡ NoMemory) ⊎ ((at : ℕ) × (kind : FaultKind) × IsFault bytes.now at kind × (fault ≡ fault_at kind (place bytes.now at)))) }
+    ensures fault { IfErr result (λ fault. (fault ≡ NoMemory) ⊎ ((at : ℕ) × IsFault bytes.now at fault)) }
 {
     let mut tokens = Vec::new(alloc);
     let mut at = 0;
@@ -75,7 +53,7 @@ fn good_piece(bytes: &[u8], at: usize) -> Result<(PieceKind, usize), LexFault>
     requires within { at < length bytes.now }
     requires short { length bytes.now < 2 ^ 32 - 1 }
     ensures ok { IfOk result (λ p. IsPiece (drop at bytes.now) p.0 p.1) }
-    ensures fault { IfErr result (λ fault. (kind : FaultKind) × IsWrong kind (drop at bytes.now) × (fault ≡ fault_at kind (place bytes.now at))) }
+    ensures fault { IfErr result (λ fault. IsWrong fault (drop at bytes.now) × (stands_at fault ≡ Some (place bytes.now at))) }
 {
     let rest = &bytes[at..];
     let Some((kind, length)) = piece(rest) else {

@@ -3,12 +3,14 @@
 #![tactic(auto)]
 
 mod closing;
+pub mod fault;
 mod laws;
 pub mod lexing;
 pub mod pieces;
 pub mod token;
 
+pub use fault::LexFault;
 pub use laws::{texts_have_one_fault, texts_have_one_reading};
-pub use lexing::{LexFault, lex};
+pub use lexing::lex;
 pub use pieces::{PieceKind, piece};
 pub use token::{Token, TokenKind};

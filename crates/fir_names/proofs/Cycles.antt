@@ -5,8 +5,8 @@ use Rattle.std.proofs.lemmas.Bool.{ltb-true, ltb-false}
 use Rattle.std.proofs.lemmas.List.{take_more, take_all}
 use Rattle.std.proofs.lemmas.Option.{slice_get_within, slice_get_read}
 use Rattle.fir_names.specs.declared.graph.Edge.{Edge}
-use Rattle.fir_names.specs.Found.{Found}
-use Rattle.fir_names.specs.declared.fault.Kind.TheVariants.{InstanceLoop}
+use Rattle.fir_names.specs.declared.fault.NameFault.{NameFault}
+use Rattle.fir_names.specs.declared.fault.NameFault.TheVariants.{InstanceLoop}
 use Rattle.fir_names.specs.Scopes.{In, here}
 use Rattle.fir_names.specs.Graphs.{Graph, IsGraph, Out, Leads, stays, goes, LoopsOf, LoopsBefore, Adds, Rises, ends}
 use Rattle.fir_names.proofs.Graphs.{In-left, In-right, In-either, In-one, some_same, ends_within}
@@ -18,51 +18,51 @@ at_or_before k n lt = by (nat_lt k n) refl
     by true t = inl (ltb-true k n t)
     by false f = inr (omega (arith, lt, ltb-false k n f))
 
-pub adds_none : {P : Found → Type 0} {fs : List Found} → ((found : Found) → ¬ (P found)) → Adds P fs fs
+pub adds_none : {P : NameFault → Type 0} {fs : List NameFault} → ((found : NameFault) → ¬ (P found)) → Adds P fs fs
 adds_none none = record { kept = λ f i. i; added = λ f p. absurd (none f p); only = λ f i. inl i }
 
-pub adds_one : {P : Found → Type 0} (one : Found) (fs : List Found) → ((found : Found) → P found → found ≡ one) → P one → Adds P fs (fs ++ one ∷ [])
+pub adds_one : {P : NameFault → Type 0} (one : NameFault) (fs : List NameFault) → ((found : NameFault) → P found → found ≡ one) → P one → Adds P fs (fs ++ one ∷ [])
 adds_one {P} one fs same this = record {
   kept = λ f i. In-left i (one ∷ []);
   added = λ f p. In-right fs (subst (λ x. In f (x ∷ [])) (same f p) (here []));
   only = λ f i. ⊎_elim (λ l. inl l) (λ r. inr (subst P (sym (In-one r)) this)) (In-either fs (one ∷ []) i);
 }
 
-pub adds_both : {P Q R : Found → Type 0} {a b c : List Found} → Adds P a b → Adds Q b c → ((f : Found) → R f → P f ⊎ Q f) → ((f : Found) → P f → R f) → ((f : Found) → Q f → R f) → Adds R a c
+pub adds_both : {P Q R : NameFault → Type 0} {a b c : List NameFault} → Adds P a b → Adds Q b c → ((f : NameFault) → R f → P f ⊎ Q f) → ((f : NameFault) → P f → R f) → ((f : NameFault) → Q f → R f) → Adds R a c
 adds_both h k split left right = record {
   kept = λ f i. k.kept f (h.kept f i);
   added = λ f r. ⊎_elim (λ p. k.kept f (h.added f p)) (λ q. k.added f q) (split f r);
   only = λ f i. ⊎_elim (λ l. ⊎_elim (λ x. inl x) (λ p. inr (left f p)) (h.only f l)) (λ q. inr (right f q)) (k.only f i);
 }
 
-pub loop_here : (graph : Graph) (from : ℕ) (edge : Edge) (fs : List Found) → Leads graph edge.to from
-    → Adds (LoopsOf graph from (edge ∷ [])) fs (fs ++ record { kind = InstanceLoop; place = edge.place } ∷ [])
-loop_here graph from edge fs way = adds_one (record { kind = InstanceLoop; place = edge.place }) fs
-    (λ f l. l.is ∙ ap (λ (e : Edge). record { kind = InstanceLoop; place = e.place }) (In-one l.stands))
+pub loop_here : (graph : Graph) (from : ℕ) (edge : Edge) (fs : List NameFault) → Leads graph edge.to from
+    → Adds (LoopsOf graph from (edge ∷ [])) fs (fs ++ InstanceLoop edge.place ∷ [])
+loop_here graph from edge fs way = adds_one (InstanceLoop edge.place) fs
+    (λ f l. l.is ∙ ap (λ (e : Edge). InstanceLoop e.place) (In-one l.stands))
     (record { edge = edge; stands = here []; back = way; is = refl })
 
-pub no_loop_here : (graph : Graph) (from : ℕ) (edge : Edge) (fs : List Found) → ¬ (Leads graph edge.to from) → Adds (LoopsOf graph from (edge ∷ [])) fs fs
+pub no_loop_here : (graph : Graph) (from : ℕ) (edge : Edge) (fs : List NameFault) → ¬ (Leads graph edge.to from) → Adds (LoopsOf graph from (edge ∷ [])) fs fs
 no_loop_here graph from edge fs none = adds_none (λ f l. none (subst (λ (e : Edge). Leads graph e.to from) (In-one l.stands) l.back))
 
-pub loops_none : (graph : Graph) (from : ℕ) (fs : List Found) → Adds (LoopsOf graph from []) fs fs
+pub loops_none : (graph : Graph) (from : ℕ) (fs : List NameFault) → Adds (LoopsOf graph from []) fs fs
 loops_none graph from fs = adds_none (λ f l. elim l.stands [ ])
 
-pub loops_more : (graph : Graph) (from : ℕ) (out : List Edge) (i : ℕ) (d : Edge) {a b c : List Found} → i < length out
+pub loops_more : (graph : Graph) (from : ℕ) (out : List Edge) (i : ℕ) (d : Edge) {a b c : List NameFault} → i < length out
     → Adds (LoopsOf graph from (take i out)) a b → Adds (LoopsOf graph from (get_or out i d ∷ [])) b c → Adds (LoopsOf graph from (take (i + 1) out)) a c
 loops_more graph from out i d {a} {b} {c} lt h k = adds_both h k
     (λ f l. by f l (In-either (take i out) (get_or out i d ∷ []) (subst (In l.edge) (take_more out i d lt) l.stands)))
     (λ f l. record { edge = l.edge; stands = subst (In l.edge) (sym (take_more out i d lt)) (In-left l.stands (get_or out i d ∷ [])); back = l.back; is = l.is })
     (λ f l. record { edge = l.edge; stands = subst (In l.edge) (sym (take_more out i d lt)) (In-right (take i out) l.stands); back = l.back; is = l.is })
   where
-    by : (f : Found) (l : LoopsOf graph from (take (i + 1) out) f) → In l.edge (take i out) ⊎ In l.edge (get_or out i d ∷ [])
+    by : (f : NameFault) (l : LoopsOf graph from (take (i + 1) out) f) → In l.edge (take i out) ⊎ In l.edge (get_or out i d ∷ [])
         → LoopsOf graph from (take i out) f ⊎ LoopsOf graph from (get_or out i d ∷ []) f
     by f l (inl x) = inl (record { edge = l.edge; stands = x; back = l.back; is = l.is })
     by f l (inr y) = inr (record { edge = l.edge; stands = y; back = l.back; is = l.is })
 
-pub loops_before_none : (graph : Graph) (fs : List Found) → Adds (LoopsBefore graph 0) fs fs
+pub loops_before_none : (graph : Graph) (fs : List NameFault) → Adds (LoopsBefore graph 0) fs fs
 loops_before_none graph fs = adds_none (λ f l. absurd (omega (arith, l.before)))
 
-pub loops_before_more : (graph : Graph) (from : ℕ) (out : List Edge) {a b c : List Found} → slice_get graph from ≡ Some out
+pub loops_before_more : (graph : Graph) (from : ℕ) (out : List Edge) {a b c : List NameFault} → slice_get graph from ≡ Some out
     → Adds (LoopsBefore graph from) a b → Adds (LoopsOf graph from out) b c → Adds (LoopsBefore graph (from + 1)) a c
 loops_before_more graph from out e h k = adds_both h k
     (λ f l. by f l (split l.from l.before))
@@ -72,7 +72,7 @@ loops_before_more graph from out e h k = adds_both h k
     split : (k : ℕ) → k < from + 1 → (k < from) ⊎ (k ≡ from)
     split k lt = at_or_before k from lt
 
-    by : (f : Found) (l : LoopsBefore graph (from + 1) f) → (l.from < from) ⊎ (l.from ≡ from) → LoopsBefore graph from f ⊎ LoopsOf graph from out f
+    by : (f : NameFault) (l : LoopsBefore graph (from + 1) f) → (l.from < from) ⊎ (l.from ≡ from) → LoopsBefore graph from f ⊎ LoopsOf graph from out f
     by f l (inl lt) = inl (record { from = l.from; before = lt; out = l.out; here = l.here; loops = l.loops })
     by f l (inr is) = inr (subst (λ k. LoopsOf graph k out f) is (subst (λ o. LoopsOf graph l.from o f) (some_same (sym l.here ∙ ap (slice_get graph) is ∙ e)) l.loops))
 
@@ -80,7 +80,7 @@ pub rises_along : {ranks : List ℕ} {graph : Graph} {from : ℕ} (r : Rises ran
 rises_along r to stays = omega arith
 rises_along {ranks} {graph} {from} r to (goes middle edge way out) = omega (arith, rises_along r middle way, r.rises middle edge out)
 
-pub no_loops : (ranks : List ℕ) (graph : Graph) (fs : List Found) → Rises ranks graph → Adds (LoopsBefore graph (length graph)) fs fs
+pub no_loops : (ranks : List ℕ) (graph : Graph) (fs : List NameFault) → Rises ranks graph → Adds (LoopsBefore graph (length graph)) fs fs
 no_loops ranks graph fs r = adds_none (λ f l. absurd (omega (arith, rises_along r l.from l.loops.back, r.rises l.from l.loops.edge (record { out = l.out; here = l.here; stands = l.loops.stands }))))
 
 -- one numbers rise along the edges of the first modules

@@ -3,11 +3,11 @@ use Rattle.std.proofs.Common.{◌≡◌, ℕ, List, [], ◌∷◌, refl, arith}
 use Rattle.fir_types.specs.declared.name.Name.{Name}
 use Rattle.fir_tree.specs.declared.circuit.Circuit.{Circuit}
 use Rattle.place_text.specs.declared.place.Place.{Place}
-use Rattle.fir_names.specs.declared.fault.Kind.TheVariants as kind
+use Rattle.fir_names.specs.declared.fault.NameFault.TheVariants as kind
 use Rattle.fir_names.specs.Extents.{Seen, Use, refer, declare, followed_by, all_marks, block_marks, uses_behind}
 use Rattle.fir_names.specs.Scopes.{here, Names, Instance, itself, through}
-use Rattle.fault_order.specs.Order.{IsNotLater, by_line, by_kind}
-use Rattle.fir_names.specs.Faults.{IsFault, instance_loop, rank}
+use Rattle.fault_order.specs.Order.{Precedes, by_line, by_rank}
+use Rattle.fir_names.specs.Faults.{IsFault, instance_loop, place_of, rank_of}
 
 abbrev seeing : Name → List Seen → Use
 seeing name seen = record { name = name; seen = seen }
@@ -37,12 +37,12 @@ named : (a : Name) (n : ℕ) → Names (seeing a ((a.id, n) ∷ [])) n
 named a n = here []
 
 -- Two modules that have instances of each other are on a loop.
-two_modules : (circuit : Circuit) (first second : Name) → Instance circuit 0 second 1 → Instance circuit 1 first 0 → IsFault circuit kind.InstanceLoop second.place
+two_modules : (circuit : Circuit) (first second : Name) → Instance circuit 0 second 1 → Instance circuit 1 first 0 → IsFault circuit (kind.InstanceLoop second.place)
 two_modules circuit first second one other = instance_loop 0 1 second one (through 1 0 first itself other)
 
 -- A fault of a lower line is told first, whichever its kind; at one place the kind decides.
-lines_first : IsNotLater (record { line = 1; column = 9 }) (rank kind.NameUnknown) (record { line = 2; column = 1 }) (rank kind.NoMain)
+lines_first : Precedes place_of rank_of (kind.NameUnknown (record { line = 1; column = 9 })) (kind.NoMain (record { line = 2; column = 1 }))
 lines_first = by_line (omega arith)
 
-kinds_last : (p : Place) → IsNotLater p (rank kind.ModuleTwice) p (rank kind.ModuleUnknown)
-kinds_last p = by_kind refl refl (omega arith)
+kinds_last : (p : Place) → Precedes place_of rank_of (kind.ModuleTwice p) (kind.ModuleUnknown p)
+kinds_last p = by_rank refl refl (omega arith)

@@ -7,8 +7,8 @@ use Rattle.std.proofs.lemmas.List.Folds.{list_any-append}
 use Rattle.std.proofs.lemmas.Bool.{eqb-true}
 use Rattle.indexmap.specs.IndexSet.{insert_key}
 use Rattle.fir_types.specs.declared.name.Name.{Name}
-use Rattle.fir_names.specs.Found.{Found}
-use Rattle.fir_names.specs.declared.fault.Kind.{Kind}
+use Rattle.place_text.specs.declared.place.Place.{Place}
+use Rattle.fir_names.specs.declared.fault.NameFault.{NameFault}
 use Rattle.fir_names.specs.Extents.{Seen}
 use Rattle.fir_names.specs.Scopes.{texts}
 use Rattle.fir_names.specs.Walks.{kept_of, kept_with}
@@ -31,12 +31,12 @@ numbers_more names i d entries after lt e number same g =
     f ∙ ap (λ k. kept_with k (x.id, i)) e ∙ kept-push (numbered 0 (take i names)) (x.id, i)
     ∙ ap kept_of (ap (λ k. numbered 0 (take i names) ++ (x.id, k) ∷ []) (sym n) ∙ sym (numbered-append 0 (take i names) (x ∷ [])) ∙ ap (numbered 0) (sym (take_more names i d lt)))
 
-twice-append : (kind : Kind) (before xs ys : List Name) → twice_behind kind before (xs ++ ys) ≡ twice_behind kind before xs ++ twice_behind kind (before ++ xs) ys
-twice-append kind before [] ys = ap (λ b. twice_behind kind b ys) (sym (append-nil before))
-twice-append kind before (x ∷ xs) ys =
-    ap (λ l. fault_where (list_any (nat_eq x.id) (texts before)) kind x.place ++ l)
-    (twice-append kind (before ++ x ∷ []) xs ys ∙ ap (λ b. twice_behind kind (before ++ x ∷ []) xs ++ twice_behind kind b ys) (append_assoc before (x ∷ []) xs))
-    ∙ sym (append_assoc (fault_where (list_any (nat_eq x.id) (texts before)) kind x.place) _ _)
+twice-append : (says : Place → NameFault) (before xs ys : List Name) → twice_behind says before (xs ++ ys) ≡ twice_behind says before xs ++ twice_behind says (before ++ xs) ys
+twice-append says before [] ys = ap (λ b. twice_behind says b ys) (sym (append-nil before))
+twice-append says before (x ∷ xs) ys =
+    ap (λ l. fault_where (list_any (nat_eq x.id) (texts before)) (says x.place) ++ l)
+    (twice-append says (before ++ x ∷ []) xs ys ∙ ap (λ b. twice_behind says (before ++ x ∷ []) xs ++ twice_behind says b ys) (append_assoc before (x ∷ []) xs))
+    ∙ sym (append_assoc (fault_where (list_any (nat_eq x.id) (texts before)) (says x.place)) _ _)
 
 held_key : (ks : List ℕ) (k t : ℕ) → list_any (nat_eq t) (insert_key nat_eq ks k) ≡ (list_any (nat_eq t) ks || (nat_eq t k || false))
 held_key ks k t = by (list_any (nat_eq k) ks) refl
@@ -57,15 +57,15 @@ not_not : (b : Bool) → not (not b) ≡ b
 not_not true = refl
 not_not false = refl
 
-pub twice_more : (kind : Kind) (names : List Name) (i : ℕ) (d : Name) (old faults after : List Found) (keys keys' : List ℕ) (added : Bool) → i < length names
-    → faults ≡ old ++ twice_behind kind [] (take i names) → ((t : ℕ) → list_any (nat_eq t) keys ≡ list_any (nat_eq t) (texts (take i names)))
-    → added ≡ not (list_any (nat_eq (get_or names i d).id) keys) → after ≡ faults ++ fault_where (not added) kind (get_or names i d).place
-    → after ≡ old ++ twice_behind kind [] (take (i + 1) names)
-twice_more kind names i d old faults after keys keys' added lt e held a f =
+pub twice_more : (says : Place → NameFault) (names : List Name) (i : ℕ) (d : Name) (old faults after : List NameFault) (keys keys' : List ℕ) (added : Bool) → i < length names
+    → faults ≡ old ++ twice_behind says [] (take i names) → ((t : ℕ) → list_any (nat_eq t) keys ≡ list_any (nat_eq t) (texts (take i names)))
+    → added ≡ not (list_any (nat_eq (get_or names i d).id) keys) → after ≡ faults ++ fault_where (not added) (says (get_or names i d).place)
+    → after ≡ old ++ twice_behind says [] (take (i + 1) names)
+twice_more says names i d old faults after keys keys' added lt e held a f =
     let x = get_or names i d in
     let again : not added ≡ list_any (nat_eq x.id) (texts (take i names)) = ap not a ∙ not_not _ ∙ held x.id in
-    f ∙ ap₂ (λ l b. l ++ fault_where b kind x.place) e again ∙ append_assoc old _ _
-    ∙ ap (λ l. old ++ l) (ap (λ l. twice_behind kind [] (take i names) ++ l) (sym (append-nil _)) ∙ sym (twice-append kind [] (take i names) (x ∷ [])) ∙ ap (twice_behind kind []) (sym (take_more names i d lt)))
+    f ∙ ap₂ (λ l b. l ++ fault_where b (says x.place)) e again ∙ append_assoc old _ _
+    ∙ ap (λ l. old ++ l) (ap (λ l. twice_behind says [] (take i names) ++ l) (sym (append-nil _)) ∙ sym (twice-append says [] (take i names) (x ∷ [])) ∙ ap (twice_behind says []) (sym (take_more names i d lt)))
 
 pub held_more : (names : List Name) (i : ℕ) (d : Name) (keys keys' : List ℕ) → i < length names → ((t : ℕ) → list_any (nat_eq t) keys ≡ list_any (nat_eq t) (texts (take i names)))
     → keys' ≡ insert_key nat_eq keys (get_or names i d).id → (t : ℕ) → list_any (nat_eq t) keys' ≡ list_any (nat_eq t) (texts (take (i + 1) names))

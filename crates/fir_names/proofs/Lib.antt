@@ -3,7 +3,7 @@ mod Cycles
 mod Examples
 mod Finding
 mod Meaning
-mod Ordering
+mod Telling
 pub mod Reached
 mod Walking
 pub mod Agreement

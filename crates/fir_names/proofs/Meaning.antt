@@ -10,9 +10,8 @@ use Rattle.fir_types.specs.declared.name.Name.{Name}
 use Rattle.fir_tree.specs.declared.circuit.Circuit.{Circuit}
 use Rattle.fir_tree.specs.declared.circuit.Module.{Module}
 use Rattle.fir_tree.specs.declared.scope.Scope.{Scope}
-use Rattle.fir_names.specs.Found.{Found}
-use Rattle.fir_names.specs.declared.fault.Kind.{Kind}
-use Rattle.fir_names.specs.declared.fault.Kind.TheVariants as kind
+use Rattle.fir_names.specs.declared.fault.NameFault.{NameFault}
+use Rattle.fir_names.specs.declared.fault.NameFault.TheVariants as kind
 use Rattle.fir_names.specs.declared.graph.Edge.{Edge}
 use Rattle.fir_names.specs.declared.gather.Gathered.{Gathered}
 use Rattle.fir_names.specs.Extents.{Seen, Use, declared_in, instances_in, uses_in}
@@ -62,37 +61,37 @@ record Twice (before names : List Name) (name : Name) : Type 0 where
   split : names ≡ middle ++ name ∷ after
   again : In name.id (texts (before ++ middle))
 
-where_sound : (b : Bool) (k : Kind) (p : Place) (f : Found) → In f (fault_where b k p) → (b ≡ true) × (f ≡ record { kind = k; place = p })
-where_sound true k p f i = (refl, In-one i)
-where_sound false k p f i = elim i [ ]
+where_sound : (b : Bool) (g f : NameFault) → In f (fault_where b g) → (b ≡ true) × (f ≡ g)
+where_sound true g f i = (refl, In-one i)
+where_sound false g f i = elim i [ ]
 
-twice_sound : (k : Kind) (before names : List Name) (f : Found) → In f (twice_behind k before names) → (name : Name) × Twice before names name × (f ≡ record { kind = k; place = name.place })
-twice_sound k before [] f i = elim i [ ]
-twice_sound k before (x ∷ xs) f i = ⊎_elim
-    (λ l. let w = where_sound (list_any (nat_eq x.id) (texts before)) k x.place f l in
+twice_sound : (says : Place → NameFault) (before names : List Name) (f : NameFault) → In f (twice_behind says before names) → (name : Name) × Twice before names name × (f ≡ says name.place)
+twice_sound says before [] f i = elim i [ ]
+twice_sound says before (x ∷ xs) f i = ⊎_elim
+    (λ l. let w = where_sound (list_any (nat_eq x.id) (texts before)) (says x.place) f l in
     (x, record { middle = []; after = xs; split = refl; again = subst (λ b. In x.id (texts b)) (sym (append-nil before)) (any_in x.id (texts before) w.0) }, w.1))
-    (λ r. let t = twice_sound k (before ++ x ∷ []) xs f r in
+    (λ r. let t = twice_sound says (before ++ x ∷ []) xs f r in
     (t.0, record { middle = x ∷ t.1.middle; after = t.1.after; split = ap (λ l. x ∷ l) t.1.split; again = subst (λ b. In t.0.id (texts b)) (append_assoc before (x ∷ []) t.1.middle) t.1.again }, t.2))
-    (In-either (fault_where (list_any (nat_eq x.id) (texts before)) k x.place) (twice_behind k (before ++ x ∷ []) xs) i)
+    (In-either (fault_where (list_any (nat_eq x.id) (texts before)) (says x.place)) (twice_behind says (before ++ x ∷ []) xs) i)
 
-twice_complete : (k : Kind) (before middle after : List Name) (name : Name) → In name.id (texts (before ++ middle))
-    → In (record { kind = k; place = name.place }) (twice_behind k before (middle ++ name ∷ after))
-twice_complete k before [] after name i =
+twice_complete : (says : Place → NameFault) (before middle after : List Name) (name : Name) → In name.id (texts (before ++ middle))
+    → In (says name.place) (twice_behind says before (middle ++ name ∷ after))
+twice_complete says before [] after name i =
     let e : list_any (nat_eq name.id) (texts before) ≡ true = in_any name.id (texts before) (subst (λ b. In name.id (texts b)) (append-nil before) i) in
-    In-left (subst (λ b. In (record { kind = k; place = name.place }) (fault_where b k name.place)) (sym e) (here [])) (twice_behind k (before ++ name ∷ []) after)
-twice_complete k before (x ∷ middle) after name i =
-    In-right (fault_where (list_any (nat_eq x.id) (texts before)) k x.place)
-    (twice_complete k (before ++ x ∷ []) middle after name (subst (λ b. In name.id (texts b)) (sym (append_assoc before (x ∷ []) middle)) i))
+    In-left (subst (λ b. In (says name.place) (fault_where b (says name.place))) (sym e) (here [])) (twice_behind says (before ++ name ∷ []) after)
+twice_complete says before (x ∷ middle) after name i =
+    In-right (fault_where (list_any (nat_eq x.id) (texts before)) (says x.place))
+    (twice_complete says (before ++ x ∷ []) middle after name (subst (λ b. In name.id (texts b)) (sym (append_assoc before (x ∷ []) middle)) i))
 
 -- Names that have no meaning.
 
-unless_sound : (o : Option ℕ) (k : Kind) (p : Place) (f : Found) → In f (fault_unless o k p) → (o ≡ None) × (f ≡ record { kind = k; place = p })
-unless_sound None k p f i = (refl, In-one i)
-unless_sound (Some n) k p f i = elim i [ ]
+unless_sound : (o : Option ℕ) (g f : NameFault) → In f (fault_unless o g) → (o ≡ None) × (f ≡ g)
+unless_sound None g f i = (refl, In-one i)
+unless_sound (Some n) g f i = elim i [ ]
 
-unless_complete : (o : Option ℕ) (k : Kind) (p : Place) → o ≡ None → In (record { kind = k; place = p }) (fault_unless o k p)
-unless_complete None k p e = here []
-unless_complete (Some n) k p e = cc
+unless_complete : (o : Option ℕ) (g : NameFault) → o ≡ None → In g (fault_unless o g)
+unless_complete None g e = here []
+unless_complete (Some n) g e = cc
 
 seen_some : (seen : List Seen) (t n : ℕ) → first_of seen t ≡ Some n → In (t, n) seen
 seen_some [] t n e = cc
@@ -235,69 +234,69 @@ module _ (circuit : Circuit) where
 
   -- All faults.
 
-  fault_here : {k : Kind} {p : Place} (f : Found) → f ≡ record { kind = k; place = p } → IsFault circuit k p → IsFault circuit f.kind f.place
-  fault_here f e h = subst (λ (x : Found). IsFault circuit x.kind x.place) (sym e) h
+  fault_here : {g : NameFault} (f : NameFault) → f ≡ g → IsFault circuit g → IsFault circuit f
+  fault_here f e h = subst (IsFault circuit) (sym e) h
 
-  module_sound : (holder : Module) (f : Found) → In holder circuit.modules → In f (faults_of (known_of circuit) holder) → IsFault circuit f.kind f.place
+  module_sound : (holder : Module) (f : NameFault) → In holder circuit.modules → In f (faults_of (known_of circuit) holder) → IsFault circuit f
   module_sound holder f m i = ⊎_elim
       (λ l. let t = twice_sound kind.NameTwice [] (declared_in holder) f l in
       fault_here f t.2 (name_twice holder t.0 m (record { before = t.1.middle; after = t.1.after; split = t.1.split; again = t.1.again })))
       (λ r. ⊎_elim
-      (λ u. let w = In-flat_map fault_of (uses_in holder) f u in let s = unless_sound (first_of w.0.seen w.0.name.id) kind.NameUnknown w.0.name.place f w.2 in
+      (λ u. let w = In-flat_map fault_of (uses_in holder) f u in let s = unless_sound (first_of w.0.seen w.0.name.id) (kind.NameUnknown w.0.name.place) f w.2 in
       fault_here f s.1 (name_unknown holder w.0 m w.1 (λ n j. seen_none w.0.seen w.0.name.id n s.0 j)))
       (λ u. let w = In-flat_map (fault_in kind.ModuleUnknown (known_of circuit)) (instances_in holder) f u in
-      let s = unless_sound (first_of (known_of circuit) w.0.id) kind.ModuleUnknown w.0.place f w.2 in
+      let s = unless_sound (first_of (known_of circuit) w.0.id) (kind.ModuleUnknown w.0.place) f w.2 in
       fault_here f s.1 (module_unknown holder w.0 m w.1 (λ j. known_none w.0.id s.0 j)))
       (In-either (flat_map fault_of (uses_in holder)) (flat_map (fault_in kind.ModuleUnknown (known_of circuit)) (instances_in holder)) r))
       (In-either (twice_behind kind.NameTwice [] (declared_in holder)) (flat_map fault_of (uses_in holder) ++ flat_map (fault_in kind.ModuleUnknown (known_of circuit)) (instances_in holder)) i)
 
-  plain_sound : (f : Found) → In f (faults_in circuit) → IsFault circuit f.kind f.place
+  plain_sound : (f : NameFault) → In f (faults_in circuit) → IsFault circuit f
   plain_sound f i = ⊎_elim
       (λ l. let t = twice_sound kind.ModuleTwice [] (module_names circuit) f l in
       fault_here f t.2 (module_twice t.0 (record { before = t.1.middle; after = t.1.after; split = t.1.split; again = t.1.again })))
       (λ r. ⊎_elim
-      (λ u. let s = unless_sound (first_of (known_of circuit) circuit.main.id) kind.NoMain circuit.main.place f u in fault_here f s.1 (no_main (λ j. known_none circuit.main.id s.0 j)))
+      (λ u. let s = unless_sound (first_of (known_of circuit) circuit.main.id) (kind.NoMain circuit.main.place) f u in fault_here f s.1 (no_main (λ j. known_none circuit.main.id s.0 j)))
       (λ u. let w = In-flat_map (faults_of (known_of circuit)) circuit.modules f u in module_sound w.0 f w.1 w.2)
       (In-either (fault_in kind.NoMain (known_of circuit) circuit.main) (flat_map (faults_of (known_of circuit)) circuit.modules) r))
       (In-either (twice_behind kind.ModuleTwice [] (module_names circuit)) (fault_in kind.NoMain (known_of circuit) circuit.main ++ flat_map (faults_of (known_of circuit)) circuit.modules) i)
 
-  loop_sound : (n : ℕ) (f : Found) → LoopsBefore graph_of n f → IsFault circuit f.kind f.place
+  loop_sound : (n : ℕ) (f : NameFault) → LoopsBefore graph_of n f → IsFault circuit f
   loop_sound n f l =
       let e = out_is l.from l.loops.edge (record { out = l.out; here = l.here; stands = l.loops.stands }) in
-      fault_here f (l.loops.is ∙ ap (λ p. record { kind = kind.InstanceLoop; place = p }) e.place)
+      fault_here f (l.loops.is ∙ ap kind.InstanceLoop e.place)
       (instance_loop l.from l.loops.edge.to e.target e.stands (leads_reaches l.loops.edge.to l.from l.loops.back))
 
-  pub found_sound : (main : ℕ) (found : Gathered) → IsFound circuit main found → (f : Found) → In f found.faults.items → IsFault circuit f.kind f.place
+  pub found_sound : (main : ℕ) (found : Gathered) → IsFound circuit main found → (f : NameFault) → In f found.faults.items → IsFault circuit f
   found_sound main found h f i = ⊎_elim (λ l. plain_sound f l) (λ r. loop_sound _ f (subst (λ g. LoopsBefore g (length g) f) h.graph r)) (h.faults.only f i)
 
-  twice_in : (k : Kind) (names : List Name) (name : Name) → IsTwice names name → In (record { kind = k; place = name.place }) (twice_behind k [] names)
-  twice_in k names name t = subst (λ l. In (record { kind = k; place = name.place }) (twice_behind k [] l)) (sym t.split) (twice_complete k [] t.before t.after name t.again)
+  twice_in : (says : Place → NameFault) (names : List Name) (name : Name) → IsTwice names name → In (says name.place) (twice_behind says [] names)
+  twice_in says names name t = subst (λ l. In (says name.place) (twice_behind says [] l)) (sym t.split) (twice_complete says [] t.before t.after name t.again)
 
-  of_module : (holder : Module) (f : Found) → In holder circuit.modules → In f (faults_of (known_of circuit) holder) → In f (faults_in circuit)
+  of_module : (holder : Module) (f : NameFault) → In holder circuit.modules → In f (faults_of (known_of circuit) holder) → In f (faults_in circuit)
   of_module holder f m i = In-right (twice_behind kind.ModuleTwice [] (module_names circuit)) (In-right (fault_in kind.NoMain (known_of circuit) circuit.main)
       (In-flat_mapped (faults_of (known_of circuit)) circuit.modules holder f m i))
 
-  pub found_complete : (main : ℕ) (found : Gathered) → IsFound circuit main found → (k : Kind) (p : Place) → IsFault circuit k p → In (record { kind = k; place = p }) found.faults.items
-  found_complete main found h k p (no_main none) = h.faults.kept _ (In-right (twice_behind kind.ModuleTwice [] (module_names circuit))
-      (In-left (unless_complete (first_of (known_of circuit) circuit.main.id) kind.NoMain circuit.main.place (unknown circuit.main.id none)) _))
-  found_complete main found h k p (module_twice name t) = h.faults.kept _ (In-left (twice_in kind.ModuleTwice (module_names circuit) name t) _)
-  found_complete main found h k p (module_unknown holder target m i none) = h.faults.kept _ (of_module holder _ m
+  pub found_complete : (main : ℕ) (found : Gathered) → IsFound circuit main found → (f : NameFault) → IsFault circuit f → In f found.faults.items
+  found_complete main found h f (no_main none) = h.faults.kept _ (In-right (twice_behind kind.ModuleTwice [] (module_names circuit))
+      (In-left (unless_complete (first_of (known_of circuit) circuit.main.id) (kind.NoMain circuit.main.place) (unknown circuit.main.id none)) _))
+  found_complete main found h f (module_twice name t) = h.faults.kept _ (In-left (twice_in kind.ModuleTwice (module_names circuit) name t) _)
+  found_complete main found h f (module_unknown holder target m i none) = h.faults.kept _ (of_module holder _ m
       (In-right (twice_behind kind.NameTwice [] (declared_in holder)) (In-right (flat_map fault_of (uses_in holder))
       (In-flat_mapped (fault_in kind.ModuleUnknown (known_of circuit)) (instances_in holder) target _ i
-      (unless_complete (first_of (known_of circuit) target.id) kind.ModuleUnknown target.place (unknown target.id none))))))
-  found_complete main found h k p (instance_loop from to target i way) =
+      (unless_complete (first_of (known_of circuit) target.id) (kind.ModuleUnknown target.place) (unknown target.id none))))))
+  found_complete main found h f (instance_loop from to target i way) =
       let o = is_out from target to i in
-      h.faults.added _ (subst (λ g. LoopsBefore g (length g) (record { kind = kind.InstanceLoop; place = target.place })) (sym h.graph) (record {
+      h.faults.added _ (subst (λ g. LoopsBefore g (length g) (kind.InstanceLoop target.place)) (sym h.graph) (record {
         from = from;
         before = slice_get_within graph_of from o.out o.here;
         out = o.out;
         here = o.here;
         loops = record { edge = record { to = to; place = target.place }; stands = o.stands; back = reaches_leads to from way; is = refl };
       }))
-  found_complete main found h k p (name_twice holder name m t) = h.faults.kept _ (of_module holder _ m (In-left (twice_in kind.NameTwice (declared_in holder) name t) _))
-  found_complete main found h k p (name_unknown holder use' m i none) = h.faults.kept _ (of_module holder _ m
+  found_complete main found h f (name_twice holder name m t) = h.faults.kept _ (of_module holder _ m (In-left (twice_in kind.NameTwice (declared_in holder) name t) _))
+  found_complete main found h f (name_unknown holder use' m i none) = h.faults.kept _ (of_module holder _ m
       (In-right (twice_behind kind.NameTwice [] (declared_in holder)) (In-left
-      (In-flat_mapped fault_of (uses_in holder) use' _ i (unless_complete (first_of use'.seen use'.name.id) kind.NameUnknown use'.name.place (unseen use'.seen use'.name.id none))) _)))
+      (In-flat_mapped fault_of (uses_in holder) use' _ i (unless_complete (first_of use'.seen use'.name.id) (kind.NameUnknown use'.name.place) (unseen use'.seen use'.name.id none))) _)))
 
   -- Where there is no fault.
 
@@ -317,17 +316,17 @@ module _ (circuit : Circuit) where
       by None e = absurd (h t (here ts) e)
       by (Some n) e = known_some t.id n e
 
-  pub no_fault : (main : ℕ) (found : Gathered) → IsFound circuit main found → found.faults.items ≡ [] → (k : Kind) (p : Place) → IsFault circuit k p → ⊥
-  no_fault main found h e k p f = nothing_in (subst (In {X = Found} (record { kind = k; place = p })) e (found_complete main found h k p f))
+  pub no_fault : (main : ℕ) (found : Gathered) → IsFound circuit main found → found.faults.items ≡ [] → (f : NameFault) → IsFault circuit f → ⊥
+  no_fault main found h e f is = nothing_in (subst (In f) e (found_complete main found h f is))
     where
-      nothing_in : In {X = Found} (record { kind = k; place = p }) [] → ⊥
+      nothing_in : In f [] → ⊥
       nothing_in i = elim i [ ]
 
   pub main_means : (main : ℕ) (found : Gathered) → IsFound circuit main found → found.faults.items ≡ [] → Means circuit circuit.main.id main
   main_means main found h e = by (first_of (known_of circuit) circuit.main.id) refl
     where
       by : (o : Option ℕ) → first_of (known_of circuit) circuit.main.id ≡ o → Means circuit circuit.main.id main
-      by None f = absurd (no_fault main found h e kind.NoMain circuit.main.place (no_main (λ j. known_none circuit.main.id f j)))
+      by None f = absurd (no_fault main found h e (kind.NoMain circuit.main.place) (no_main (λ j. known_none circuit.main.id f j)))
       by (Some n) f = subst (λ k. Means circuit circuit.main.id k) (sym (h.is_main ∙ ap number_or f)) (known_some circuit.main.id n f)
 
   pub main_within : (main : ℕ) (found : Gathered) → IsFound circuit main found → found.faults.items ≡ [] → main < length found.graph.items
@@ -342,8 +341,8 @@ module _ (circuit : Circuit) where
     reached = λ k lt. (λ t. leads_reaches main k (subst (λ g. Leads g main k) h.graph ((reached k).0 t)), λ r. (reached k).1 (subst (λ g. Leads g main k) (sym h.graph) (reaches_leads main k r)));
     uses = subst (AllZip Names (flat_map uses_in circuit.modules)) (sym (uses ∙ h.uses)) (named_all (flat_map uses_in circuit.modules)
         (λ u i none. let w = In-flat_map uses_in circuit.modules u i in
-        no_fault main found h e kind.NameUnknown u.name.place (name_unknown w.0 u w.1 w.2 (λ n j. seen_none u.seen u.name.id n none j))));
+        no_fault main found h e (kind.NameUnknown u.name.place) (name_unknown w.0 u w.1 w.2 (λ n j. seen_none u.seen u.name.id n none j))));
     targets = subst (AllZip (λ (t : Name) n. Means circuit t.id n) (flat_map instances_in circuit.modules)) (sym (targets ∙ h.targets)) (meant_all (flat_map instances_in circuit.modules)
         (λ t i none. let w = In-flat_map instances_in circuit.modules t i in
-        no_fault main found h e kind.ModuleUnknown t.place (module_unknown w.0 t w.1 w.2 (λ j. known_none t.id none j))));
+        no_fault main found h e (kind.ModuleUnknown t.place) (module_unknown w.0 t w.1 w.2 (λ j. known_none t.id none j))));
   }

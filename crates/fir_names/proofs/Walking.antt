@@ -11,7 +11,7 @@ use Rattle.fir_names.specs.Extents.{Seen}
 use Rattle.fir_names.specs.Parts.{Part, nothing, mentions, declares, joined, in_turn, module_part}
 use Rattle.fir_names.proofs.Agreement.{sees_its_blocks, declares_its_names, has_its_instances}
 use Rattle.fir_tree.specs.declared.circuit.Module.{Module}
-use Rattle.fir_names.specs.declared.fault.Kind.TheVariants.{NameUnknown}
+use Rattle.fir_names.specs.declared.fault.NameFault.TheVariants.{NameUnknown}
 use Rattle.fir_names.specs.Walks.{first_of, kept_with, kept_from, kept_of, number_or, fault_unless, number_in, fault_in, number_of, fault_of, Walks, HasWalked}
 use Rattle.std.proofs.lemmas.Bool.{eqb-true}
 
@@ -179,7 +179,7 @@ numbers_kept seen (x ∷ xs) = ap₂ (λ n ns. n ∷ ns) (ap number_or (first_of
 
 faults_kept : (seen : List Seen) (names : List Name) → flat_map (fault_in NameUnknown (kept_of seen)) names ≡ flat_map fault_of ((mentions names).uses seen 0)
 faults_kept seen [] = refl
-faults_kept seen (x ∷ xs) = ap₂ (λ n ns. n ++ ns) (ap (λ o. fault_unless o NameUnknown x.place) (first_of-kept seen x.id)) (faults_kept seen xs)
+faults_kept seen (x ∷ xs) = ap₂ (λ n ns. n ++ ns) (ap (λ o. fault_unless o (NameUnknown x.place)) (first_of-kept seen x.id)) (faults_kept seen xs)
 
 pub walks_mention : (names : List Name) {a b : Walk} → b.declared.items ≡ a.declared.items → b.instances.items ≡ a.instances.items → b.visible.entries ≡ a.visible.entries
     → b.uses.items ≡ a.uses.items ++ map (number_in a.visible.entries) names → b.faults.items ≡ a.faults.items ++ flat_map (fault_in NameUnknown a.visible.entries) names

@@ -1,15 +1,13 @@
 -- The faults of a circuit's names, and which is the first (FIRRTL specification 3.0, "Circuits and Modules", "Instances", "Namespaces",
 -- "Scoping").
-use Rattle.std.specs.Prelude.{◌≡◌, ℕ, List, ◌∷◌, ◌++◌}
+use Rattle.std.specs.Prelude.{◌≡◌, ℕ, List, ◌∷◌, ◌++◌, Option, Some, None, codes}
 use Rattle.place_text.specs.declared.place.Place.{Place}
-use Rattle.fault_order.specs.Order.{IsNotLater}
+use Rattle.fault_order.specs.First.{IsFirst as IsFirstOf}
 use Rattle.fir_types.specs.declared.name.Name.{Name}
 use Rattle.fir_tree.specs.declared.circuit.Circuit.{Circuit}
 use Rattle.fir_tree.specs.declared.circuit.Module.{Module}
-use Rattle.fir_names.specs.declared.fault.Kind.{Kind}
-use Rattle.fir_names.specs.declared.fault.Kind.TheVariants as kind
 use Rattle.fir_names.specs.declared.fault.NameFault.{NameFault}
-use Rattle.fir_names.specs.declared.fault.NameFault.TheVariants as fault
+use Rattle.fir_names.specs.declared.fault.NameFault.TheVariants.{NoMain, ModuleTwice, ModuleUnknown, InstanceLoop, NameTwice, NameUnknown, NoMemory}
 use Rattle.fir_names.specs.Extents.{Use, uses_in, declared_in, instances_in}
 use Rattle.fir_names.specs.Scopes.{In, texts, module_names, Instance, Reaches, Names}
 
@@ -20,42 +18,47 @@ pub record IsTwice (names : List Name) (name : Name) : Type 0 where
   pub split : names ≡ before ++ name ∷ after
   pub again : In name.id (texts before)
 
-pub data IsFault (circuit : Circuit) : Kind → Place → Type 0 where
-  no_main : ¬ (In circuit.main.id (texts (module_names circuit))) → IsFault circuit kind.NoMain circuit.main.place
-  module_twice : (name : Name) → IsTwice (module_names circuit) name → IsFault circuit kind.ModuleTwice name.place
+-- the faults of a circuit's names
+pub data IsFault (circuit : Circuit) : NameFault → Type 0 where
+  no_main : ¬ (In circuit.main.id (texts (module_names circuit))) → IsFault circuit (NoMain circuit.main.place)
+  module_twice : (name : Name) → IsTwice (module_names circuit) name → IsFault circuit (ModuleTwice name.place)
   module_unknown : (holder : Module) (target : Name) → In holder circuit.modules → In target (instances_in holder)
-      → ¬ (In target.id (texts (module_names circuit))) → IsFault circuit kind.ModuleUnknown target.place
-  instance_loop : (from to : ℕ) (target : Name) → Instance circuit from target to → Reaches circuit to from → IsFault circuit kind.InstanceLoop target.place
-  name_twice : (holder : Module) (name : Name) → In holder circuit.modules → IsTwice (declared_in holder) name → IsFault circuit kind.NameTwice name.place
+      → ¬ (In target.id (texts (module_names circuit))) → IsFault circuit (ModuleUnknown target.place)
+  instance_loop : (from to : ℕ) (target : Name) → Instance circuit from target to → Reaches circuit to from → IsFault circuit (InstanceLoop target.place)
+  name_twice : (holder : Module) (name : Name) → In holder circuit.modules → IsTwice (declared_in holder) name → IsFault circuit (NameTwice name.place)
   name_unknown : (holder : Module) (use' : Use) → In holder circuit.modules → In use' (uses_in holder) → ((number : ℕ) → ¬ (Names use' number))
-      → IsFault circuit kind.NameUnknown use'.name.place
+      → IsFault circuit (NameUnknown use'.name.place)
 
--- the order of kinds at one place
-abbrev pub rank : Kind → ℕ
-rank kind.NoMain = 0
-rank kind.ModuleTwice = 1
-rank kind.ModuleUnknown = 2
-rank kind.InstanceLoop = 3
-rank kind.NameTwice = 4
-rank kind.NameUnknown = 5
+-- where a fault stands; want of memory stands nowhere
+abbrev pub place_of : NameFault → Option Place
+place_of (NoMain place) = Some place
+place_of (ModuleTwice place) = Some place
+place_of (ModuleUnknown place) = Some place
+place_of (InstanceLoop place) = Some place
+place_of (NameTwice place) = Some place
+place_of (NameUnknown place) = Some place
+place_of NoMemory = None
+
+-- the order of faults at one place
+abbrev pub rank_of : NameFault → ℕ
+rank_of (NoMain place) = 0
+rank_of (ModuleTwice place) = 1
+rank_of (ModuleUnknown place) = 2
+rank_of (InstanceLoop place) = 3
+rank_of (NameTwice place) = 4
+rank_of (NameUnknown place) = 5
+rank_of NoMemory = 6
+
+-- the name of a fault's kind
+abbrev pub kind_of : NameFault → List ℕ
+kind_of (NoMain place) = codes "NoMain"
+kind_of (ModuleTwice place) = codes "ModuleTwice"
+kind_of (ModuleUnknown place) = codes "ModuleUnknown"
+kind_of (InstanceLoop place) = codes "InstanceLoop"
+kind_of (NameTwice place) = codes "NameTwice"
+kind_of (NameUnknown place) = codes "NameUnknown"
+kind_of NoMemory = codes "NoMemory"
 
 -- the fault that is told: no other one comes before it
-pub record IsFirst (circuit : Circuit) (kind' : Kind) (place : Place) : Type 0 where
-  pub is : IsFault circuit kind' place
-  pub first : (other : Kind) (there' : Place) → IsFault circuit other there' → IsNotLater place (rank kind') there' (rank other)
-
--- what is answered for a fault
-abbrev pub answer : Kind → Place → NameFault
-answer kind.NoMain place = fault.NoMain place
-answer kind.ModuleTwice place = fault.ModuleTwice place
-answer kind.ModuleUnknown place = fault.ModuleUnknown place
-answer kind.InstanceLoop place = fault.InstanceLoop place
-answer kind.NameTwice place = fault.NameTwice place
-answer kind.NameUnknown place = fault.NameUnknown place
-
--- the answer for the first fault
-pub record IsFirstAnswer (circuit : Circuit) (given : NameFault) : Type 0 where
-  pub kind' : Kind
-  pub place : Place
-  pub first : IsFirst circuit kind' place
-  pub is : given ≡ answer kind' place
+abbrev pub IsFirst : Circuit → NameFault → Type 0
+IsFirst circuit = IsFirstOf place_of rank_of (IsFault circuit)

@@ -5,9 +5,8 @@ use Rattle.place_text.specs.declared.place.Place.{Place}
 use Rattle.fir_types.specs.declared.name.Name.{Name}
 use Rattle.fir_tree.specs.declared.circuit.Circuit.{Circuit}
 use Rattle.fir_tree.specs.declared.circuit.Module.{Module}
-use Rattle.fir_names.specs.Found.{Found}
-use Rattle.fir_names.specs.declared.fault.Kind.{Kind}
-use Rattle.fir_names.specs.declared.fault.Kind.TheVariants.{NoMain, ModuleTwice, ModuleUnknown, NameTwice}
+use Rattle.fir_names.specs.declared.fault.NameFault.{NameFault}
+use Rattle.fir_names.specs.declared.fault.NameFault.TheVariants.{NoMain, ModuleTwice, ModuleUnknown, NameTwice}
 use Rattle.fir_names.specs.declared.graph.Edge.{Edge}
 use Rattle.fir_names.specs.declared.gather.Gathered.{Gathered}
 use Rattle.fir_names.specs.Graphs.{LoopsBefore, Adds}
@@ -20,15 +19,15 @@ abbrev pub numbered : ℕ → List Name → List Seen
 numbered n [] = []
 numbered n (name ∷ names) = (name.id, n) ∷ numbered (n + 1) names
 
--- the fault of a name that some names before it have as well
-abbrev pub fault_where : Bool → Kind → Place → List Found
-fault_where true kind place = record { kind = kind; place = place } ∷ []
-fault_where false kind place = []
+-- the fault, where it is told
+abbrev pub fault_where : Bool → NameFault → List NameFault
+fault_where true fault = fault ∷ []
+fault_where false fault = []
 
 -- the faults of names, where other names stand before them
-abbrev pub twice_behind : Kind → List Name → List Name → List Found
-twice_behind kind before [] = []
-twice_behind kind before (name ∷ names) = fault_where (list_any (nat_eq name.id) (texts before)) kind name.place ++ twice_behind kind (before ++ name ∷ []) names
+abbrev pub twice_behind : (Place → NameFault) → List Name → List Name → List NameFault
+twice_behind says before [] = []
+twice_behind says before (name ∷ names) = fault_where (list_any (nat_eq name.id) (texts before)) (says name.place) ++ twice_behind says (before ++ name ∷ []) names
 
 -- the edge of an instance, where its module is known
 abbrev pub edge_to : Option ℕ → Place → List Edge
@@ -42,7 +41,7 @@ abbrev pub edges_of : List Seen → Module → List Edge
 edges_of known holder = flat_map (edge_in known) (instances_in holder)
 
 -- the faults of a module
-abbrev pub faults_of : List Seen → Module → List Found
+abbrev pub faults_of : List Seen → Module → List NameFault
 faults_of known holder = twice_behind NameTwice [] (declared_in holder) ++ (flat_map fault_of (uses_in holder) ++ flat_map (fault_in ModuleUnknown known) (instances_in holder))
 
 -- what is gathered of modules
@@ -57,7 +56,7 @@ abbrev pub known_of : Circuit → List Seen
 known_of circuit = kept_of (numbered 0 (module_names circuit))
 
 -- the faults other than loops
-abbrev pub faults_in : Circuit → List Found
+abbrev pub faults_in : Circuit → List NameFault
 faults_in circuit = twice_behind ModuleTwice [] (module_names circuit) ++ (fault_in NoMain (known_of circuit) circuit.main ++ flat_map (faults_of (known_of circuit)) circuit.modules)
 
 -- what is found of a whole circuit

@@ -1,8 +1,8 @@
 -- Modules and the instances between them as a graph: for each module the edges that go out from it.
 use Rattle.std.specs.Prelude.{◌≡◌, ℕ, ◌+◌, ◌<◌, Bool, true, false, ◌⊎◌, ◌↔◌, List, [], ◌∷◌, ◌++◌, map, length, slice_get, slice_index, Some}
 use Rattle.fir_names.specs.declared.graph.Edge.{Edge}
-use Rattle.fir_names.specs.Found.{Found}
-use Rattle.fir_names.specs.declared.fault.Kind.TheVariants.{InstanceLoop}
+use Rattle.fir_names.specs.declared.fault.NameFault.{NameFault}
+use Rattle.fir_names.specs.declared.fault.NameFault.TheVariants.{InstanceLoop}
 use Rattle.fir_names.specs.Scopes.{In}
 
 abbrev pub Graph : Type 0
@@ -24,25 +24,25 @@ pub data Leads (graph : Graph) (from : ℕ) : ℕ → Type 0 where
   goes : (middle : ℕ) (edge : Edge) → Leads graph from middle → Out graph middle edge → Leads graph from edge.to
 
 -- one of these edges, which begin at a module and from whose end a way leads back to it, is the fault
-pub record LoopsOf (graph : Graph) (from : ℕ) (out : List Edge) (found : Found) : Type 0 where
+pub record LoopsOf (graph : Graph) (from : ℕ) (out : List Edge) (fault : NameFault) : Type 0 where
   pub edge : Edge
   pub stands : In edge out
   pub back : Leads graph edge.to from
-  pub is : found ≡ record { kind = InstanceLoop; place = edge.place }
+  pub is : fault ≡ InstanceLoop edge.place
 
 -- the same of the edges of the first modules
-pub record LoopsBefore (graph : Graph) (count : ℕ) (found : Found) : Type 0 where
+pub record LoopsBefore (graph : Graph) (count : ℕ) (fault : NameFault) : Type 0 where
   pub from : ℕ
   pub before : from < count
   pub out : List Edge
   pub here : slice_get graph from ≡ Some out
-  pub loops : LoopsOf graph from out found
+  pub loops : LoopsOf graph from out fault
 
 -- the faults that are added
-pub record Adds (P : Found → Type 0) (old new : List Found) : Type 0 where
-  pub kept : (found : Found) → In found old → In found new
-  pub added : (found : Found) → P found → In found new
-  pub only : (found : Found) → In found new → In found old ⊎ P found
+pub record Adds (P : NameFault → Type 0) (old new : List NameFault) : Type 0 where
+  pub kept : (fault : NameFault) → In fault old → In fault new
+  pub added : (fault : NameFault) → P fault → In fault new
+  pub only : (fault : NameFault) → In fault new → In fault old ⊎ P fault
 
 -- numbers of modules rise along the edges
 pub record Rises (ranks : List ℕ) (graph : Graph) : Type 0 where

@@ -5,9 +5,8 @@ use Rattle.std.specs.Map.{lookup}
 use Rattle.place_text.specs.declared.place.Place.{Place}
 use Rattle.fir_types.specs.declared.name.Name.{Name}
 use Rattle.fir_names.specs.declared.walk.Walk.{Walk}
-use Rattle.fir_names.specs.Found.{Found}
-use Rattle.fir_names.specs.declared.fault.Kind.{Kind}
-use Rattle.fir_names.specs.declared.fault.Kind.TheVariants.{NameUnknown}
+use Rattle.fir_names.specs.declared.fault.NameFault.{NameFault}
+use Rattle.fir_names.specs.declared.fault.NameFault.TheVariants.{NameUnknown}
 use Rattle.fir_tree.specs.declared.circuit.Module.{Module}
 use Rattle.fir_names.specs.Extents.{Use, Seen, declared_in, instances_in, uses_in}
 use Rattle.fir_names.specs.Parts.{Part}
@@ -33,20 +32,20 @@ number_or (Some number) = number
 number_or None = 0
 
 -- the fault, where nothing was found
-abbrev pub fault_unless : Option ℕ → Kind → Place → List Found
-fault_unless (Some number) kind place = []
-fault_unless None kind place = record { kind = kind; place = place } ∷ []
+abbrev pub fault_unless : Option ℕ → NameFault → List NameFault
+fault_unless (Some number) fault = []
+fault_unless None fault = fault ∷ []
 
 abbrev pub number_in : List Seen → Name → ℕ
 number_in seen name = number_or (first_of seen name.id)
 
-abbrev pub fault_in : Kind → List Seen → Name → List Found
-fault_in kind seen name = fault_unless (first_of seen name.id) kind name.place
+abbrev pub fault_in : (Place → NameFault) → List Seen → Name → List NameFault
+fault_in says seen name = fault_unless (first_of seen name.id) (says name.place)
 
 abbrev pub number_of : Use → ℕ
 number_of use' = number_in use'.seen use'.name
 
-abbrev pub fault_of : Use → List Found
+abbrev pub fault_of : Use → List NameFault
 fault_of use' = fault_in NameUnknown use'.seen use'.name
 
 -- a part of a module was walked

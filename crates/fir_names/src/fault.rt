@@ -1,5 +1,6 @@
 //! The reasons to refuse a circuit for its names.
 
+use fault_order::Fault;
 use place_text::Place;
 use std::alloc::AllocError;
 use thiserror::Error;
@@ -40,16 +41,53 @@ impl From<AllocError> for NameFault {
     }
 }
 
-/// A kind of fault. At one place an earlier kind is told before a later one.
-#[derive(Clone, Copy, Debug, PartialEq, Eq)]
-pub enum Kind {
-    NoMain,
-    ModuleTwice,
-    ModuleUnknown,
-    InstanceLoop,
-    NameTwice,
-    NameUnknown,
-}
+impl Fault for NameFault {
+    ghost use Rattle.fir_names.specs.Faults.{place_of, rank_of, kind_of};
+    ghost use Rattle.fir_names.specs.Ranks.{one_each, one_nowhere};
 
-/// A fault of a kind, at a place.
-pub type Found = fault_order::Found<Kind>;
+    ghost place = { place_of };
+
+    ghost rank = { rank_of };
+
+    ghost kind = { kind_of };
+
+    fn place(&self) -> Option<Place> {
+        match self {
+            NameFault::NoMain(place)
+            | NameFault::ModuleTwice(place)
+            | NameFault::ModuleUnknown(place)
+            | NameFault::InstanceLoop(place)
+            | NameFault::NameTwice(place)
+            | NameFault::NameUnknown(place) => Some(*place),
+            NameFault::NoMemory => None,
+        }
+    }
+
+    fn rank(&self) -> u8 {
+        match self {
+            NameFault::NoMain(_) => 0,
+            NameFault::ModuleTwice(_) => 1,
+            NameFault::ModuleUnknown(_) => 2,
+            NameFault::InstanceLoop(_) => 3,
+            NameFault::NameTwice(_) => 4,
+            NameFault::NameUnknown(_) => 5,
+            NameFault::NoMemory => 6,
+        }
+    }
+
+    fn kind(&self) -> &'static str {
+        match self {
+            NameFault::NoMain(_) => "NoMain",
+            NameFault::ModuleTwice(_) => "ModuleTwice",
+            NameFault::ModuleUnknown(_) => "ModuleUnknown",
+            NameFault::InstanceLoop(_) => "InstanceLoop",
+            NameFault::NameTwice(_) => "NameTwice",
+            NameFault::NameUnknown(_) => "NameUnknown",
+            NameFault::NoMemory => "NoMemory",
+        }
+    }
+
+    ghost one_each = { one_each };
+
+    ghost one_nowhere = { one_nowhere };
+}

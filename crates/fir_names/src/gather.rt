@@ -2,11 +2,13 @@
 
 ghost use Rattle.std.specs.Prelude.{◌≡◌, ◌++◌, ◌∷◌, [], take, map, not, IfOk, OnOk};
 ghost use Rattle.std.specs.List.{flat_map};
+ghost use Rattle.fir_names.specs.Namespaces.{twice};
 ghost use Rattle.fir_names.specs.Walks.{kept_of};
 ghost use Rattle.fir_names.specs.Finds.{numbered, twice_behind, fault_where, edge_in, Gathers};
 
-use crate::fault::{Found, Kind};
+use crate::fault::NameFault;
 use crate::graph::Edge;
+use crate::namespace::Namespace;
 use crate::walk::{look_up, show, walk_module};
 use bit_words::List;
 use fir_tree::Module;
@@ -23,7 +25,7 @@ pub struct Gathered {
     pub targets: Vec<u32>,
     /// For each module the instances whose modules are known.
     pub graph: Vec<List<Edge>>,
-    pub faults: Vec<Found>,
+    pub faults: Vec<NameFault>,
 }
 
 /// Adds what the names of modules mean, where the numbers of all modules are known.
@@ -54,7 +56,7 @@ fn gather_one(
     push_twice(
         alloc,
         walk.declared.as_slice(),
-        Kind::NameTwice,
+        Namespace::OfModule,
         &mut gathered.faults,
     )?;
     gathered.faults.extend_from_slice(walk.faults.as_slice())?;
@@ -62,7 +64,7 @@ fn gather_one(
     look_up(
         known,
         instances,
-        Kind::ModuleUnknown,
+        Namespace::OfCircuit,
         &mut gathered.targets,
         &mut gathered.faults,
     )?;
@@ -85,35 +87,28 @@ pub fn numbers_of(alloc: Global, names: &[Name]) -> Result<IndexMap<u32, u32>, A
     Ok(known)
 }
 
-/// Adds a fault of this kind for each name that one before it has as well.
+/// Adds a fault for each name that one before it has as well.
 pub fn push_twice(
     alloc: Global,
     names: &[Name],
-    kind: Kind,
-    faults: &mut Vec<Found>,
+    space: Namespace,
+    faults: &mut Vec<NameFault>,
 ) -> Result<(), AllocError>
-    ensures { OnOk result (faults.new.items ≡ faults.old.items ++ twice_behind kind [] names.now) }
+    ensures { OnOk result (faults.new.items ≡ faults.old.items ++ twice_behind (twice space) [] names.now) }
 {
     let mut texts = IndexSet::new(alloc);
     for name in names {
         let (_index, added) = texts.insert_full(name.id)?;
-        push_unless(
-            added,
-            Found {
-                kind,
-                place: name.place,
-            },
-            faults,
-        )?;
+        push_unless(added, space.twice(name.place), faults)?;
     }
     Ok(())
 }
 
-fn push_unless(fine: bool, found: Found, faults: &mut Vec<Found>) -> Result<(), AllocError>
-    ensures { OnOk result (faults.new.items ≡ faults.old.items ++ fault_where (not fine) found.kind found.place) }
+fn push_unless(fine: bool, fault: NameFault, faults: &mut Vec<NameFault>) -> Result<(), AllocError>
+    ensures { OnOk result (faults.new.items ≡ faults.old.items ++ fault_where (not fine) fault) }
 {
     if !fine {
-        faults.push(found)?;
+        faults.push(fault)?;
     }
     Ok(())
 }

@@ -2,12 +2,12 @@
 //! the main one reaches. Keeps the contract that the answer is the scope of the circuit, or its first fault.
 #![tactic(auto)]
 
-mod answers;
 pub mod fault;
 mod gather;
 mod graph;
 pub mod laws;
 mod loops;
+mod namespace;
 mod references;
 mod scoping;
 mod walk;

@@ -5,7 +5,7 @@ ghost use Rattle.fir_names.specs.Graphs.{IsGraph, Leads, LoopsOf, LoopsBefore, A
 ghost use Rattle.fir_names.specs.Scopes.{In};
 ghost use Rattle.fir_names.specs.declared.graph.Edge.{Edge as AnEdge};
 
-use crate::fault::{Found, Kind};
+use crate::fault::NameFault;
 use crate::graph::{Edge, reach};
 use bit_words::List;
 use std::alloc::{AllocError, Global};
@@ -17,7 +17,7 @@ use std::alloc::{AllocError, Global};
 pub fn push_loops(
     alloc: Global,
     graph: &[List<Edge>],
-    faults: &mut Vec<Found>,
+    faults: &mut Vec<NameFault>,
 ) -> Result<(), AllocError>
     requires graph { IsGraph graph.now }
     ensures { OnOk result (Adds (LoopsBefore graph.now (length graph.now)) faults.old.items faults.new.items) }
@@ -33,7 +33,7 @@ pub fn push_loops(
 fn push_all_loops(
     alloc: Global,
     graph: &[List<Edge>],
-    faults: &mut Vec<Found>,
+    faults: &mut Vec<NameFault>,
 ) -> Result<(), AllocError>
     requires graph { IsGraph graph.now }
     ensures { OnOk result (Adds (LoopsBefore graph.now (length graph.now)) faults.old.items faults.new.items) }
@@ -49,7 +49,7 @@ fn push_loops_of(
     graph: &[List<Edge>],
     from: usize,
     out: &[Edge],
-    faults: &mut Vec<Found>,
+    faults: &mut Vec<NameFault>,
 ) -> Result<(), AllocError>
     requires graph { IsGraph graph.now }
     requires from { from < length graph.now }
@@ -67,7 +67,7 @@ fn push_loop(
     graph: &[List<Edge>],
     from: usize,
     edge: Edge,
-    faults: &mut Vec<Found>,
+    faults: &mut Vec<NameFault>,
 ) -> Result<(), AllocError>
     requires graph { IsGraph graph.now }
     requires from { from < length graph.now }
@@ -75,10 +75,7 @@ fn push_loop(
     ensures { OnOk result (Adds (LoopsOf graph.now from (edge ∷ [])) faults.old.items faults.new.items) }
 {
     if reaches(alloc, graph, edge.to, from)? {
-        faults.push(Found {
-            kind: Kind::InstanceLoop,
-            place: edge.place,
-        })?;
+        faults.push(NameFault::InstanceLoop(edge.place))?;
     }
     Ok(())
 }

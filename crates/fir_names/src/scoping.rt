@@ -1,21 +1,19 @@
 //! The scope of a circuit, or its first fault.
 
-ghost use Rattle.std.specs.Prelude.{◌≡◌, ◌⊎◌, ◌<◌, ◌++◌, ◌↔◌, ℕ, ⊤, map, length, slice_get, Some, true, IfOk, IfErr, OnOk, MatchResult};
-ghost use Rattle.place_text.specs.declared.place.Place.{Place as APlace};
-ghost use Rattle.fir_names.specs.declared.fault.Kind.{Kind as AKind};
-ghost use Rattle.fir_names.specs.declared.fault.NameFault.TheVariants.{NoMemory as No_memory};
-ghost use Rattle.fir_names.specs.declared.fault.Kind.TheVariants.{NoMain as No_main};
+ghost use Rattle.std.specs.Prelude.{◌≡◌, ◌<◌, ◌++◌, ◌↔◌, ℕ, map, length, slice_get, Some, true, IfOk, OnOk};
 ghost use Rattle.fir_names.specs.Scopes.{IsScope};
-ghost use Rattle.fir_names.specs.Faults.{IsFault, IsFirst, IsFirstAnswer, answer};
+ghost use Rattle.fir_names.specs.declared.fault.NameFault.TheVariants.{NoMain as No_main};
+ghost use Rattle.fir_names.specs.Faults.{IsFault, place_of, rank_of};
+ghost use Rattle.fault_order.specs.Verdicts.{IsVerdict};
 ghost use Rattle.fir_names.specs.Graphs.{IsGraph, Leads};
 ghost use Rattle.fir_names.specs.Walks.{number_in, fault_in};
 ghost use Rattle.fir_names.specs.Finds.{IsFound};
 
-use crate::answers::answer;
-use crate::fault::{Found, Kind, NameFault};
+use crate::fault::NameFault;
 use crate::gather::{Gathered, gather, numbers_of, push_twice};
 use crate::graph::reach;
 use crate::loops::push_loops;
+use crate::namespace::Namespace;
 use bit_words::List;
 use fault_order::earliest;
 use fir_tree::{Circuit, Module, Scope};
@@ -29,25 +27,11 @@ use std::alloc::{AllocError, Global};
 /// Takes memory and time in proportion to the circuit, and where instances are on a loop up to the square of the instances.
 /// More than fit a `u32` of modules, or of declarations in a module, are a want of memory.
 pub fn resolve(alloc: Global, circuit: &Circuit) -> Result<Scope, NameFault>
-    ensures ok { IfOk result (λ scope. IsScope circuit.now scope) }
-    ensures none { IfOk result (λ scope. (kind : AKind) (place : APlace) → ¬ (IsFault circuit.now kind place)) }
-    ensures fault { IfErr result (λ fault. (fault ≡ No_memory) ⊎ IsFirstAnswer circuit.now fault) }
-    // a circuit without a fault is refused for want of memory alone
-    ensures accepts { ((kind : AKind) (place : APlace) → ¬ (IsFault circuit.now kind place)) → MatchResult result (λ scope. IsScope circuit.now scope) (λ fault. fault ≡ No_memory) }
-    // and a circuit with a fault is answered by the first one, or by want of memory
-    ensures refuses { (kind : AKind) (place : APlace) → IsFirst circuit.now kind place → MatchResult result (λ scope. ⊥) (λ fault. (fault ≡ No_memory) ⊎ (fault ≡ answer kind place)) }
-{
-    settle(alloc, circuit)
-}
-
-fn settle(alloc: Global, circuit: &Circuit) -> Result<Scope, NameFault>
-    ensures ok { IfOk result (λ scope. IsScope circuit.now scope) }
-    ensures none { IfOk result (λ scope. (kind : AKind) (place : APlace) → ¬ (IsFault circuit.now kind place)) }
-    ensures fault { IfErr result (λ fault. (fault ≡ No_memory) ⊎ IsFirstAnswer circuit.now fault) }
+    ensures { IsVerdict place_of rank_of (IsFault circuit.now) (IsScope circuit.now) result }
 {
     let (main, found) = find(alloc, circuit)?;
     match earliest(found.faults.as_slice()) {
-        Some(first) => Err(answer(first)),
+        Some(first) => Err(first),
         None => {
             let scope = scope_of(alloc, main, found)?;
             Ok(scope)
@@ -71,7 +55,7 @@ fn find(alloc: Global, circuit: &Circuit) -> Result<(u32, Gathered), AllocError>
     push_twice(
         alloc,
         names.as_slice(),
-        Kind::ModuleTwice,
+        Namespace::OfCircuit,
         &mut found.faults,
     )?;
     let main = main_of(&known, circuit.main, &mut found.faults)?;
@@ -95,7 +79,7 @@ fn names_of(alloc: Global, modules: &[Module]) -> Result<Vec<Name>, AllocError>
 fn main_of(
     known: &IndexMap<u32, u32>,
     main: Name,
-    faults: &mut Vec<Found>,
+    faults: &mut Vec<NameFault>,
 ) -> Result<u32, AllocError>
     ensures number { IfOk result (λ number. number ≡ number_in known.now.entries main) }
     ensures faults { OnOk result (faults.new.items ≡ faults.old.items ++ fault_in No_main known.now.entries main) }
@@ -103,10 +87,7 @@ fn main_of(
     match known.get(&main.id) {
         Some(number) => Ok(*number),
         None => {
-            faults.push(Found {
-                kind: Kind::NoMain,
-                place: main.place,
-            })?;
+            faults.push(NameFault::NoMain(main.place))?;
             Ok(0)
         }
     }

@@ -4,9 +4,11 @@ ghost use Rattle.std.specs.Prelude.{◌≡◌, ◌++◌, ◌∷◌, [], map, tak
 ghost use Rattle.std.specs.List.{flat_map};
 ghost use Rattle.fir_names.specs.Extents.{references};
 ghost use Rattle.fir_names.specs.Parts.{mentions, declares, instance_of, in_turn, block, stmt_part, arm_part, module_part};
+ghost use Rattle.fir_names.specs.Namespaces.{unknown};
 ghost use Rattle.fir_names.specs.Walks.{kept_with, number_in, fault_in, Walks, HasWalked};
 
-use crate::fault::{Found, Kind};
+use crate::fault::NameFault;
+use crate::namespace::Namespace;
 use crate::references::push_references;
 use fir_tree::{Arm, Expr, Module, Stmt};
 use fir_types::{Name, Port};
@@ -25,7 +27,7 @@ pub struct Walk {
     /// For each reference the number of its declaration, and 0 where it has none.
     pub uses: Vec<u32>,
     /// The references that have none.
-    pub faults: Vec<Found>,
+    pub faults: Vec<NameFault>,
 }
 
 /// What the names of a module mean.
@@ -139,7 +141,7 @@ fn mention(alloc: Global, walk: &mut Walk, expr: &Expr) -> Result<(), AllocError
     look_up(
         &walk.visible,
         names.as_slice(),
-        Kind::NameUnknown,
+        Namespace::OfModule,
         &mut walk.uses,
         &mut walk.faults,
     )?;
@@ -176,26 +178,23 @@ pub fn show(known: &mut IndexMap<u32, u32>, text: u32, number: u32) -> Result<()
     Ok(())
 }
 
-/// Adds the numbers of names, 0 for those that have none, and a fault of this kind for each of these.
+/// Adds the numbers of names, 0 for those that have none, and a fault for each of these.
 pub fn look_up(
     known: &IndexMap<u32, u32>,
     names: &[Name],
-    kind: Kind,
+    space: Namespace,
     numbers: &mut Vec<u32>,
-    faults: &mut Vec<Found>,
+    faults: &mut Vec<NameFault>,
 ) -> Result<(), AllocError>
     ensures numbers { OnOk result (numbers.new.items ≡ numbers.old.items ++ map (number_in known.now.entries) names.now) }
-    ensures faults { OnOk result (faults.new.items ≡ faults.old.items ++ flat_map (fault_in kind known.now.entries) names.now) }
+    ensures faults { OnOk result (faults.new.items ≡ faults.old.items ++ flat_map (fault_in (unknown space) known.now.entries) names.now) }
 {
     for name in names {
         match known.get(&name.id) {
             Some(number) => numbers.push(*number)?,
             None => {
                 numbers.push(0)?;
-                faults.push(Found {
-                    kind,
-                    place: name.place,
-                })?;
+                faults.push(space.unknown(name.place))?;
             }
         }
     }

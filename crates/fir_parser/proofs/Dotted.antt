@@ -11,12 +11,12 @@ use Rattle.fir_layout.specs.Layout.{token_in, tokens_in}
 use Rattle.fir_layout.specs.Pieces.{Piece, bytes_of, A_token, piece_of}
 use Rattle.std.proofs.Math.Path.{Path}
 use Rattle.place_text.specs.declared.place.Place.{Place}
-use Rattle.fir_tree.proofs.Cases.{some_injective}
+use Rattle.fir_grammar.proofs.Cases.{some_injective}
 use Rattle.place_text.specs.Places.{place}
 use Rattle.fir_tree.specs.declared.fault.ParseFault.{ParseFault}
 use Rattle.fir_tree.specs.declared.fault.ParseFault.TheVariants.{BadVersion}
-use Rattle.fir_tree.specs.Grammar.{The_mark, A_number, Three, Takes, Nothing, Is, mark, start_of}
-use Rattle.fir_tree.specs.Faults.{Levels, past, is_deep, last_suffixes, with_suffix, most}
+use Rattle.fir_grammar.specs.Grammar.{The_mark, A_number, Three, Takes, Nothing, Is, mark, start_of}
+use Rattle.fir_grammar.specs.Faults.{Levels, past, is_deep, last_suffixes, with_suffix, most}
 use Rattle.fir_expr.specs.declared.reader.Reader.{Reader}
 use Rattle.fir_parser.specs.Taking.{here, blocks_at, StandsAt, HasTaken, Steps}
 use Rattle.fir_parser.specs.Expected.{Meets, NamesHere, DigitsText, VersionRefused, no_number, other_number}

@@ -1,7 +1,7 @@
 -- What is taken one behind the other is taken as a whole, and makes a rule where it is a case of it.
 use Rattle.std.proofs.Common.{List, [], ◌∷◌, ◌++◌, ◌∙◌, refl, length, ◌≤◌}
 use Rattle.fir_tree.specs.declared.fault.ParseFault.{ParseFault}
-use Rattle.fir_tree.specs.Grammar.{Symbol, A, Rule, IsCase, Values, tree}
+use Rattle.fir_grammar.specs.Grammar.{Symbol, A, Rule, IsCase, Values, tree}
 use Rattle.fir_expr.specs.declared.reader.Reader.{Reader}
 use Rattle.fir_expr.proofs.Composition.{joined, read_nothing, read_then, refused_first, refused_behind, Enters, read_case, refused_case}
 use Rattle.fir_parser.specs.Taking.{pieces, HasTaken, Refuses}

@@ -11,14 +11,14 @@ use Rattle.place_text.specs.Places.{place}
 use Rattle.bit_words.specs.Numbers.{IsMagnitude}
 use Rattle.fir_tree.specs.declared.fault.ParseFault.{ParseFault}
 use Rattle.fir_tree.specs.declared.fault.ParseFault.TheVariants.{NoMemory, TooDeep}
-use Rattle.fir_tree.specs.Grammar.{Terminal, The_word, The_mark, The_arrow, A_name, A_number, Line_ends, Opens, Closes, Ends, Takes, Kept, Nothing, Its_place, Its_name, Its_magnitude, Symbol, Is, no_symbol, a_piece, a_place, a_name, a_magnitude, start_of, name_in}
-use Rattle.fir_tree.specs.Faults.{Levels, levels, past, is_deep, afresh, last_suffixes, without_last, most}
-use Rattle.fir_tree.specs.Reading.{no_memory}
+use Rattle.fir_grammar.specs.Grammar.{Terminal, The_word, The_mark, The_arrow, A_name, A_number, Line_ends, Opens, Closes, Ends, Takes, Kept, Nothing, Its_place, Its_name, Its_magnitude, Symbol, Is, no_symbol, a_piece, a_place, a_name, a_magnitude, start_of, name_in}
+use Rattle.fir_grammar.specs.Faults.{Levels, levels, past, is_deep, afresh, last_suffixes, without_last, most}
+use Rattle.fir_grammar.specs.Reading.{no_memory}
 use Rattle.fir_expr.specs.declared.reader.Reader.{Reader}
 use Rattle.fir_expr.specs.Standing.{IsWhole, wanted}
 use Rattle.fir_expr.proofs.Composition.{piece_at, drop_at, read_piece, refused_deep}
 use Rattle.fir_tree.specs.Numbered.{AddsName}
-use Rattle.fir_tree.proofs.Cases.{some_injective}
+use Rattle.fir_grammar.proofs.Cases.{some_injective}
 use Rattle.fir_expr.proofs.Depth.{levels_next}
 use Rattle.fir_parser.specs.Taking.{pieces, here, blocks_at, StandsAt, IsFresh, HasTaken, Refuses, Steps, StepsName, IsInText}
 use Rattle.fir_parser.specs.declared.take.Expected.{Expected}

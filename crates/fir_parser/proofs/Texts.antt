@@ -15,18 +15,18 @@ use Rattle.fir_expr.proofs.Composition.{Enters, piece_at}
 use Rattle.fir_parser.proofs.Joins.{first, later, breaks}
 use Rattle.fir_parser.proofs.Entering.{enters_part}
 use Rattle.fir_parser.specs.Expected.{Meets, WordsStand, VersionRefused, no_number, other_number, wants_memory}
-use Rattle.fir_tree.proofs.Fronts.{Front-taken, Front-entered}
-use Rattle.fir_tree.proofs.Follows.{settled_case}
-use Rattle.fir_tree.proofs.ReadingLaws.{part-here, Stops-trans, Stops-piece}
+use Rattle.fir_grammar.proofs.Fronts.{Front-taken, Front-entered}
+use Rattle.fir_grammar.proofs.Follows.{settled_case}
+use Rattle.fir_grammar.proofs.ReadingLaws.{part-here, Stops-trans, Stops-piece}
 use Rattle.fir_layout.specs.Pieces.{Piece, piece_of, pieces_of}
 use Rattle.fir_tree.specs.declared.fault.ParseFault.{ParseFault}
 use Rattle.fir_tree.specs.declared.fault.ParseFault.TheVariants.{NoMemory}
 use Rattle.fir_tree.specs.declared.circuit.Circuit.{Circuit}
-use Rattle.fir_tree.specs.Grammar.{A, Text, A_number, Three, Ends, The_word, Terminal, IsCase, a_text, cut, goes_into, word, mark, line_end, name, colon, Circuit_body, Nothing, Is, Symbol, Values, Spells, no_symbol, a_piece, Takes, Front, IsCircuit, field_names}
-use Rattle.fir_tree.specs.Faults.{IsShallow, IsBad, IsTooDeep, FaultOf, a_version, a_bad_piece, a_deep_piece, IsDeepAt}
-use Rattle.fir_tree.specs.Reading.{part, Stops, IsRefused, no_memory, at_bad_piece, at_deep_piece}
-use Rattle.fir_tree.proofs.Unique.{one_circuit}
-use Rattle.fir_tree.proofs.OneFault.{one_fault, accepted}
+use Rattle.fir_grammar.specs.Grammar.{A, Text, A_number, Three, Ends, The_word, Terminal, IsCase, a_text, cut, goes_into, word, mark, line_end, name, colon, Circuit_body, Nothing, Is, Symbol, Values, Spells, no_symbol, a_piece, Takes, Front, IsCircuit, field_names}
+use Rattle.fir_grammar.specs.Faults.{IsShallow, IsBad, IsTooDeep, FaultOf, a_version, a_bad_piece, a_deep_piece, IsDeepAt}
+use Rattle.fir_grammar.specs.Reading.{part, Stops, IsRefused, no_memory, at_bad_piece, at_deep_piece}
+use Rattle.fir_grammar.proofs.Unique.{one_circuit}
+use Rattle.fir_grammar.proofs.OneFault.{one_fault, accepted}
 
 -- the part from the beginning on is the whole
 stops_bad : (ps : List Piece) (k : ℕ) → Stops ps (A Text ∷ []) 0 k → IsShallow ps 0 k → IsBad ps k

@@ -2,7 +2,7 @@
 use Rattle.std.specs.Prelude.{◌≡◌, List, [], ◌∷◌, ◌++◌}
 use Rattle.fir_tree.specs.declared.stmt.Arm.{Arm}
 use Rattle.fir_tree.specs.declared.stmt.Stmt.{Stmt}
-use Rattle.fir_tree.specs.Grammar.{A, Branches}
+use Rattle.fir_grammar.specs.Grammar.{A, Branches}
 use Rattle.fir_expr.specs.declared.reader.Reader.{Reader}
 use Rattle.fir_parser.specs.Taking.{HasTaken}
 

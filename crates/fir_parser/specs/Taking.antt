@@ -4,9 +4,9 @@ use Rattle.fir_layout.specs.declared.laid.Laid.{Laid}
 use Rattle.fir_layout.specs.declared.laid.Laid.TheVariants.{Item, LineEnd, Open, Close, End}
 use Rattle.fir_layout.specs.Pieces.{Piece, pieces_of}
 use Rattle.fir_tree.specs.declared.fault.ParseFault.{ParseFault}
-use Rattle.fir_tree.specs.Grammar.{Symbol, Values}
-use Rattle.fir_tree.specs.Faults.{Levels, levels, last_suffixes}
-use Rattle.fir_tree.specs.Reading.{HasRead, IsRefused}
+use Rattle.fir_grammar.specs.Grammar.{Symbol, Values}
+use Rattle.fir_grammar.specs.Faults.{Levels, levels, last_suffixes}
+use Rattle.fir_grammar.specs.Reading.{HasRead, IsRefused}
 use Rattle.fir_tree.specs.Numbered.{AddsName}
 use Rattle.fir_expr.specs.declared.reader.Reader.{Reader}
 use Rattle.fir_expr.specs.Standing.{IsLaidFrom, wanted}

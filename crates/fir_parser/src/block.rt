@@ -1,8 +1,8 @@
 //! Statements with their blocks.
 
 ghost use Rattle.std.specs.Prelude.{◌≡◌, ◌+◌, ◌-◌, ◌≤◌, ◌<◌, [], ◌∷◌, ◌++◌, List, codes, IfOk, IfErr, OnOk};
-ghost use Rattle.fir_tree.specs.Grammar.{A, The_word, Statement, Statements, Block, Branches, Expression, word, colon, line_end};
-ghost use Rattle.fir_tree.specs.Faults.{most};
+ghost use Rattle.fir_grammar.specs.Grammar.{A, The_word, Statement, Statements, Block, Branches, Expression, word, colon, line_end};
+ghost use Rattle.fir_grammar.specs.Faults.{most};
 ghost use Rattle.fir_tree.specs.declared.fault.ParseFault.TheVariants.{NoMemory};
 ghost use Rattle.fir_parser.specs.Branching.{Branched};
 ghost use Rattle.fir_parser.specs.Taking.{StandsAt, HasTaken, Refuses, blocks_at};

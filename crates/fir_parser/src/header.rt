@@ -1,7 +1,7 @@
 //! The beginnings of lines.
 
 ghost use Rattle.std.specs.Prelude.{◌≡◌, ◌⊎◌, [], ◌∷◌, IfOk, IfErr, OnOk};
-ghost use Rattle.fir_tree.specs.Grammar.{Is, A, Nothing, The_word, The_mark, name, mark, colon, Type_of};
+ghost use Rattle.fir_grammar.specs.Grammar.{Is, A, Nothing, The_word, The_mark, name, mark, colon, Type_of};
 ghost use Rattle.fir_parser.specs.Taking.{StandsAt, IsFresh, HasTaken, Refuses, blocks_at};
 
 use crate::take::{Expected, take, take_name, take_type};

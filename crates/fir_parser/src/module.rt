@@ -1,7 +1,7 @@
 //! Modules with their ports (FIRRTL specification 3.0, "Circuits and Modules").
 
 ghost use Rattle.std.specs.Prelude.{◌≡◌, ◌-◌, [], ◌∷◌, codes, IfOk, IfErr, OnOk, MatchBool};
-ghost use Rattle.fir_tree.specs.Grammar.{A, The_word, Circuit_body, Modules, Module, Module_body, Ports, Port, line_end};
+ghost use Rattle.fir_grammar.specs.Grammar.{A, The_word, Circuit_body, Modules, Module, Module_body, Ports, Port, line_end};
 ghost use Rattle.fir_parser.specs.Taking.{StandsAt, HasTaken, Refuses, blocks_at};
 ghost use Rattle.fir_parser.specs.Expected.{Meets, BeginsPort};
 

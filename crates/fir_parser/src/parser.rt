@@ -2,8 +2,8 @@
 
 ghost use Rattle.std.specs.Prelude.{◌≡◌, ◌<◌, ◌≤◌, ◌+◌, ◌-◌, ◌^◌, ◌⊎◌, ◌++◌, ℕ, [], ◌∷◌, length, drop, codes, IfOk, IfErr, OnOk, IsTrue, MatchResult};
 ghost use Rattle.fir_layout.specs.Pieces.{pieces_of};
-ghost use Rattle.fir_tree.specs.Grammar.{Is, A, Nothing, Ends, Three, A_number, Circuit_body, Text, IsCircuit, word, mark, name, colon, line_end, field_names};
-ghost use Rattle.fir_tree.specs.Faults.{IsDeepAt, FaultOf};
+ghost use Rattle.fir_grammar.specs.Grammar.{Is, A, Nothing, Ends, Three, A_number, Circuit_body, Text, IsCircuit, word, mark, name, colon, line_end, field_names};
+ghost use Rattle.fir_grammar.specs.Faults.{IsDeepAt, FaultOf};
 ghost use Rattle.fir_tree.specs.declared.fault.ParseFault.{ParseFault as TheFault};
 ghost use Rattle.fir_tree.specs.declared.fault.ParseFault.TheVariants.{NoMemory};
 ghost use Rattle.fir_tree.specs.declared.circuit.Circuit.{Circuit as TheCircuit};

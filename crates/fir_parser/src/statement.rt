@@ -1,7 +1,7 @@
 //! Statements other than `when`.
 
 ghost use Rattle.std.specs.Prelude.{◌≡◌, [], ◌∷◌, codes, IfOk, IfErr, OnOk};
-ghost use Rattle.fir_tree.specs.Grammar.{A, The_word, Statement, word_at, line_end};
+ghost use Rattle.fir_grammar.specs.Grammar.{A, The_word, Statement, word_at, line_end};
 ghost use Rattle.fir_parser.specs.Taking.{StandsAt, HasTaken, Refuses, blocks_at};
 ghost use Rattle.fir_parser.specs.Expected.{Meets};
 

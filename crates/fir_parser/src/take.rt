@@ -4,8 +4,8 @@ ghost use Rattle.std.specs.Prelude.{◌≡◌, ◌<◌, ◌≤◌, ◌+◌, ◌-
 ghost use Rattle.place_text.specs.Places.{place};
 ghost use Rattle.fir_tree.specs.declared.fault.ParseFault.TheVariants.{NoMemory};
 ghost use Rattle.fir_layout.specs.Pieces.{bytes_of, piece_of};
-ghost use Rattle.fir_tree.specs.Grammar.{Is, A, Nothing, Its_place, name, number, open_block, close_block, A_name, A_number, Opens, Type_of, Expression, Reference, The_word, Takes, start_of};
-ghost use Rattle.fir_tree.specs.Faults.{most};
+ghost use Rattle.fir_grammar.specs.Grammar.{Is, A, Nothing, Its_place, name, number, open_block, close_block, A_name, A_number, Opens, Type_of, Expression, Reference, The_word, Takes, start_of};
+ghost use Rattle.fir_grammar.specs.Faults.{most};
 ghost use Rattle.fir_tree.specs.Numbered.{AddsName};
 ghost use Rattle.fir_expr.specs.Standing.{IsLaidFrom};
 ghost use Rattle.fir_parser.specs.Taking.{StandsAt, IsFresh, HasTaken, Refuses, Steps, StepsName, IsInText, blocks_at};

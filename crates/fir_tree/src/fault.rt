@@ -1,11 +1,12 @@
 //! The reasons to refuse a laid list.
 
+use fault_order::Fault;
 use place_text::Place;
 use std::alloc::AllocError;
 use thiserror::Error;
 
 /// Why a laid list is no circuit: the kind of its first bad token, with that token's place.
-#[derive(Debug, Drop, Error)]
+#[derive(Clone, Copy, Debug, PartialEq, Eq, Drop, Error)]
 pub enum ParseFault {
     /// The token can't continue the text.
     #[error("a token that can't continue the text")]
@@ -32,4 +33,49 @@ impl From<AllocError> for ParseFault {
     fn from(_: AllocError) -> ParseFault {
         ParseFault::NoMemory
     }
+}
+
+impl Fault for ParseFault {
+    ghost use Rattle.fir_tree.specs.Faults.{place_of, rank_of, kind_of};
+    ghost use Rattle.fir_tree.specs.Ranks.{one_each, one_nowhere};
+
+    ghost place = { place_of };
+
+    ghost rank = { rank_of };
+
+    ghost kind = { kind_of };
+
+    fn place(&self) -> Option<Place> {
+        match self {
+            ParseFault::BadSyntax(place)
+            | ParseFault::BadVersion(place)
+            | ParseFault::Unsupported(place)
+            | ParseFault::TooDeep(place) => Some(*place),
+            ParseFault::NoMemory => None,
+        }
+    }
+
+    fn rank(&self) -> u8 {
+        match self {
+            ParseFault::BadSyntax(_) => 0,
+            ParseFault::BadVersion(_) => 1,
+            ParseFault::Unsupported(_) => 2,
+            ParseFault::TooDeep(_) => 3,
+            ParseFault::NoMemory => 4,
+        }
+    }
+
+    fn kind(&self) -> &'static str {
+        match self {
+            ParseFault::BadSyntax(_) => "BadSyntax",
+            ParseFault::BadVersion(_) => "BadVersion",
+            ParseFault::Unsupported(_) => "Unsupported",
+            ParseFault::TooDeep(_) => "TooDeep",
+            ParseFault::NoMemory => "NoMemory",
+        }
+    }
+
+    ghost one_each = { one_each };
+
+    ghost one_nowhere = { one_nowhere };
 }

@@ -1,11 +1,9 @@
-//! The tree of a circuit and its names, the reasons to refuse a text, and the grammar: which laid list derives which
-//! tree, which lists are fronts of a text, and which token is the fault of one.
+//! The tree of a circuit, its names, what later stages find out about it, and the reasons to refuse a text.
 #![tactic(auto)]
 
 pub mod circuit;
 pub mod expr;
 pub mod fault;
-pub mod laws;
 pub mod names;
 pub mod scope;
 pub mod stmt;

@@ -5,7 +5,7 @@ use Rattle.std.proofs.lemmas.Grind.{common_steps}
 use Rattle.std.proofs.lemmas.Bool.{eqb-true}
 use Rattle.place_text.specs.declared.place.Place.{Place}
 use Rattle.fir_types.specs.declared.fir_type.FirType.{FirType, ind-FirType, the_lemmas}
-use Rattle.fir_types.specs.declared.fir_type.Shape.{Shape, ind-Shape}
+use Rattle.fir_types.specs.declared.fir_type.Shape.{Shape}
 use Rattle.fir_types.specs.declared.fir_type.Shape.TheOpen.{Shape-F}
 use Rattle.fir_types.specs.declared.fir_type.Shape.TheFolds.{map-Shape}
 use Rattle.fir_types.specs.declared.fir_type.Shape.TheViews.{roll-Shape, roll-Field, roll-FirType, out-Shape}
@@ -13,28 +13,9 @@ use Rattle.fir_types.specs.declared.fir_type.Shape.TheVariants as shape
 use Rattle.fir_types.specs.declared.fir_type.Shape.TheVariants.{rolls-Unsigned, rolls-Signed, rolls-Clock, rolls-Reset, rolls-Bundle, rolls-Vector}
 use Rattle.fir_types.specs.declared.fir_type.Field.{Field, fold-Field}
 use Rattle.fir_types.specs.Equivalence.{Equivalent, IsUnsigned, IsSigned, SameFields, unsigned, signed, clocks, vectors, bundles, no_fields, same_field, a_uint, a_reset, a_sint}
-use Rattle.type_check.specs.Texts.{are_equivalent, all_take, shape_takes, field_takes, same_flip, is_unsigned_layer, is_signed_layer, is_clock_layer}
-
--- what a shape is
-pub data ShapeCase (s : Shape) : Type 0 where
-  shape_uint : (width : Option ℕ) → s ≡ shape.Unsigned width → ShapeCase s
-  shape_sint : (width : Option ℕ) → s ≡ shape.Signed width → ShapeCase s
-  shape_clock : s ≡ shape.Clock → ShapeCase s
-  shape_reset : s ≡ shape.Reset → ShapeCase s
-  shape_bundle : (fields : List Field) → s ≡ shape.Bundle fields → ShapeCase s
-  shape_vector : (element : FirType) (length : ℕ) → s ≡ shape.Vector element length → ShapeCase s
-
-case_of_layer : (y : Shape-F ((s : Shape) × ShapeCase s) ((f : Field) × Unit {0}) ((t : FirType) × Unit {0}))
-    → ShapeCase (roll-Shape (map-Shape _ _ _ Shape Field FirType (λ e. e.0) (λ e. e.0) (λ e. e.0) y))
-case_of_layer (Shape-F.Unsigned w) = shape_uint w (rolls-Unsigned w)
-case_of_layer (Shape-F.Signed w) = shape_sint w (rolls-Signed w)
-case_of_layer Shape-F.Clock = shape_clock rolls-Clock
-case_of_layer Shape-F.Reset = shape_reset rolls-Reset
-case_of_layer (Shape-F.Bundle fields) = shape_bundle (map (λ e. e.0) fields) (rolls-Bundle (map (λ e. e.0) fields))
-case_of_layer (Shape-F.Vector element n) = shape_vector element.0 n (rolls-Vector element.0 n)
-
-case_of : (s : Shape) → ShapeCase s
-case_of = ind-Shape ShapeCase (λ f. Unit {0}) (λ t. Unit {0}) (λ x y is. subst (λ z. ShapeCase (roll-Shape z)) is (case_of_layer y)) (λ x y is. tt) (λ x y is. tt)
+use Rattle.circuit_parts.proofs.Shapes.{ShapeCase, shape_uint, shape_sint, shape_clock, shape_reset, shape_bundle, shape_vector, case_of}
+use Rattle.type_check.specs.Texts.{are_equivalent, all_take, shape_takes, field_takes, same_flip, is_unsigned_layer, is_signed_layer}
+use Rattle.circuit_parts.specs.Kinds.{is_clock_layer}
 
 -- the answer, layer by layer
 

@@ -15,7 +15,7 @@ use Rattle.fir_types.specs.declared.memory.MemLine.{MemLine}
 use Rattle.fir_types.specs.declared.memory.MemLine.TheVariants as line
 use Rattle.fir_types.specs.declared.memory.Under.TheVariants as under
 use Rattle.fir_types.specs.declared.memory.PortMode.TheVariants as mode
-use Rattle.type_check.specs.declared.fault.Kind.TheVariants.{FieldTwice, OperandKind, NotPassive, MemoryField}
+use Rattle.type_check.specs.declared.fault.TypeFault.TheVariants.{FieldTwice, OperandKind, NotPassive, MemoryField}
 use Rattle.type_check.specs.Parts.{one_fault}
 use Rattle.type_check.specs.Texts.{are_equivalent, twice_in, stored_faults}
 use Rattle.type_check.specs.Expressions.{fits_literal}
@@ -91,14 +91,14 @@ minus_one_without_width = refl
 
 -- { a : UInt<1>, b : { a : UInt<1> }, a : UInt<1> } has a second a, and the one within is its first.
 second_a : twice_in (typ (shape.Bundle (field false (name 7 1) (uint 1) ∷ field false (name 8 2) (one false 7 (uint 1)) ∷ field false (name 7 3) (uint 1) ∷ [])))
-    ≡ one_fault FieldTwice (at 3)
+    ≡ one_fault (FieldTwice (at 3))
 second_a = grind (arith, common_steps, the_lemmas)
 
 -- A stored type has no clock and no flip, also not where a vector has no elements.
-stored_clock : stored_faults (typ shape.Clock) ≡ one_fault OperandKind (at 1)
+stored_clock : stored_faults (typ shape.Clock) ≡ one_fault (OperandKind (at 1))
 stored_clock = grind (arith, common_steps, the_lemmas)
 
-stored_flip : stored_faults (typ (shape.Vector (one true 7 (uint 1)) 0)) ≡ one_fault NotPassive (at 1)
+stored_flip : stored_faults (typ (shape.Vector (one true 7 (uint 1)) 0)) ≡ one_fault (NotPassive (at 1))
 stored_flip = grind (arith, common_steps, the_lemmas)
 
 -- mem m : data-type => UInt<4>, depth => 5, read-latency => 0, write-latency => 1, read-under-write => old, reader => r
@@ -113,12 +113,12 @@ no_fault : memory_faults (memory lines) ≡ []
 no_fault = grind (arith, common_steps, the_lemmas)
 
 -- A second depth is a fault at its line, and a second port of a name at the name. Where no line stands, all five are missing, at the memory's name.
-second_depth : memory_faults (memory (lines ++ line.Depth (at 9) 6 ∷ [])) ≡ one_fault MemoryField (at 9)
+second_depth : memory_faults (memory (lines ++ line.Depth (at 9) 6 ∷ [])) ≡ one_fault (MemoryField (at 9))
 second_depth = grind (arith, common_steps, the_lemmas)
 
-second_port : memory_faults (memory (lines ++ line.MemPort (at 9) mode.Writer (name 10 11) ∷ [])) ≡ one_fault MemoryField (at 11)
+second_port : memory_faults (memory (lines ++ line.MemPort (at 9) mode.Writer (name 10 11) ∷ [])) ≡ one_fault (MemoryField (at 11))
 second_port = grind (arith, common_steps, the_lemmas)
 
-all_missing : memory_faults (memory []) ≡ one_fault MemoryField (at 1) ++ one_fault MemoryField (at 1) ++ one_fault MemoryField (at 1) ++ one_fault MemoryField (at 1)
-    ++ one_fault MemoryField (at 1)
+all_missing : memory_faults (memory []) ≡ one_fault (MemoryField (at 1)) ++ one_fault (MemoryField (at 1)) ++ one_fault (MemoryField (at 1)) ++ one_fault (MemoryField (at 1))
+    ++ one_fault (MemoryField (at 1))
 all_missing = refl

@@ -16,10 +16,8 @@ use Rattle.fir_tree.specs.declared.stmt.Stmt.{Stmt, the_lemmas as stmt_lemmas}
 use Rattle.fir_tree.specs.declared.stmt.Stmt.TheVariants as stmt
 use Rattle.fir_tree.specs.declared.circuit.Module.{Module}
 use Rattle.prim_ops.specs.declared.operation.PrimOp.TheVariants.{Add, AsUInt}
-use Rattle.type_check.specs.declared.part.Flow.TheVariants.{Source, Sink, Duplex}
-use Rattle.type_check.specs.declared.fault.Kind.TheVariants as kind
+use Rattle.type_check.specs.declared.fault.TypeFault.TheVariants as kind
 use Rattle.type_check.specs.Statements.{module_walk}
-use Rattle.type_check.specs.Flows.{module_flows}
 
 -- Places by their columns, on one line. Names: the inputs a and s are 20 and 21, the output o is 22, the wire w is 23.
 abbrev name : ℕ → ℕ → Name
@@ -66,33 +64,33 @@ module_of ports body = record { name = name 10 1; ports = ports; body = body }
 
 -- `connect a, UInt<1>(0)`: an input can't be driven.
 input_driven : (module_walk [] (module_of (input 20 uint ∷ []) (stmt.Connect (ref 20 5) (number 8 1 0) ∷ [])) []).faults
-    ≡ record { kind = kind.FlowSink; place = record { line = 1; column = 5 } } ∷ []
+    ≡ kind.FlowSink (record { line = 1; column = 5 }) ∷ []
 input_driven = grind (arith, common_steps, stmt_lemmas, expr_lemmas, type_lemmas)
 
 -- `connect o, s` from an SInt to a UInt.
 other_kind : (module_walk [] (module_of (input 21 sint ∷ output 22 uint ∷ []) (stmt.Connect (ref 22 5) (ref 21 8) ∷ [])) []).faults
-    ≡ record { kind = kind.NotEquivalent; place = record { line = 1; column = 8 } } ∷ []
+    ≡ kind.NotEquivalent (record { line = 1; column = 8 }) ∷ []
 other_kind = grind (arith, common_steps, stmt_lemmas, expr_lemmas, type_lemmas)
 
 -- `node n = a` of a bundle with a flip.
 flip_in_node : (module_walk [] (module_of (input 20 pair ∷ []) (stmt.Node (name 24 3) (ref 20 5) ∷ [])) []).faults
-    ≡ record { kind = kind.NotPassive; place = record { line = 1; column = 5 } } ∷ []
+    ≡ kind.NotPassive (record { line = 1; column = 5 }) ∷ []
 flip_in_node = grind (arith, common_steps, stmt_lemmas, expr_lemmas, type_lemmas)
 
 -- `node n = UInt<2>(4)`.
 too_great : (module_walk [] (module_of [] (stmt.Node (name 24 3) (number 5 2 4) ∷ [])) []).faults
-    ≡ record { kind = kind.LiteralFit; place = record { line = 1; column = 5 } } ∷ []
+    ≡ kind.LiteralFit (record { line = 1; column = 5 }) ∷ []
 too_great = grind (arith, common_steps, stmt_lemmas, expr_lemmas, type_lemmas)
 
 -- `connect o, asUInt(c)` of a clock: the operation has no row for it, and the connect isn't judged.
 clock_operand : (module_walk [] (module_of (input 20 (typ 1 shape.Clock) ∷ output 22 uint ∷ [])
     (stmt.Connect (ref 22 5) (record { place = record { line = 1; column = 8 }; form = form.Prim AsUInt (ref 20 9 ∷ []) [] }) ∷ [])) []).faults
-    ≡ record { kind = kind.OperandKind; place = record { line = 1; column = 8 } } ∷ []
+    ≡ kind.OperandKind (record { line = 1; column = 8 }) ∷ []
 clock_operand = grind (arith, common_steps, stmt_lemmas, expr_lemmas, type_lemmas)
 
 -- `connect a, b.q`: the sides are judged each by itself.
 each_side : (module_walk [] (module_of (input 20 uint ∷ input 21 uint ∷ []) (stmt.Connect (ref 20 5) (part 21 8 (dot 34 9 ∷ [])) ∷ [])) []).faults
-    ≡ record { kind = kind.NotBundle; place = record { line = 1; column = 9 } } ∷ record { kind = kind.FlowSink; place = record { line = 1; column = 5 } } ∷ []
+    ≡ kind.NotBundle (record { line = 1; column = 9 }) ∷ kind.FlowSink (record { line = 1; column = 5 }) ∷ []
 each_side = grind (arith, common_steps, stmt_lemmas, expr_lemmas, type_lemmas)
 
 -- A module without a fault: the types of its expressions in text order, a node before its operands.
@@ -100,10 +98,3 @@ all_typed : (module_walk [] (module_of (input 20 uint ∷ output 22 uint ∷ [])
     (stmt.Connect (ref 22 5) (record { place = record { line = 1; column = 8 }; form = form.Prim Add (ref 20 9 ∷ number 10 3 4 ∷ []) [] }) ∷ [])) []).nodes
     ≡ uint ∷ typ 8 (shape.Unsigned None) ∷ uint ∷ typ 10 (shape.Unsigned (Some 3)) ∷ []
 all_typed = grind (arith, common_steps, stmt_lemmas, expr_lemmas, type_lemmas)
-
--- The flows of `io.x`, `io.y` of an output whose y is flipped, and of a wire's flipped field.
-of_an_output : module_flows [] (module_of (output 22 pair ∷ []) (stmt.Connect (part 22 5 (dot 30 6 ∷ [])) (part 22 8 (dot 31 9 ∷ [])) ∷ [])) ≡ Sink ∷ Source ∷ []
-of_an_output = grind (arith, common_steps, stmt_lemmas, expr_lemmas, type_lemmas)
-
-of_a_wire : module_flows [] (module_of [] (stmt.Wire (name 23 3) pair ∷ stmt.Invalidate (part 23 5 (dot 31 6 ∷ [])) ∷ [])) ≡ Duplex ∷ []
-of_a_wire = grind (arith, common_steps, stmt_lemmas, expr_lemmas, type_lemmas)

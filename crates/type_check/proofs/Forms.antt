@@ -11,18 +11,20 @@ use Rattle.prim_ops.specs.declared.operation.PrimOp.{PrimOp}
 use Rattle.fir_types.specs.declared.fir_type.FirType.{FirType}
 use Rattle.fir_tree.specs.declared.expr.Expr.{Expr, the_lemmas}
 use Rattle.fir_tree.specs.declared.expr.Form.TheVariants as form
-use Rattle.type_check.specs.Found.{Found}
-use Rattle.type_check.specs.declared.fault.Kind.TheVariants.{LiteralFit}
+use Rattle.type_check.specs.declared.fault.TypeFault.{TypeFault}
+use Rattle.type_check.specs.declared.fault.TypeFault.TheVariants.{LiteralFit}
 use Rattle.type_check.specs.declared.found.Findings.{Findings}
-use Rattle.type_check.specs.declared.part.Part.{Part}
+use Rattle.circuit_parts.specs.declared.part.Part.{Part}
 use Rattle.type_check.specs.declared.rules.Operand.{Operand as Held}
-use Rattle.type_check.specs.Parts.{Known, source_of, unless, typed_without}
-use Rattle.type_check.specs.Expressions.{Judgement, Operand, found_of, judged, node, unjudged_node, over, operation, choice, ground, no_type, type_or_none, fits_literal, typed_operands, all_among, sign_or_unsigned, row_of, signs_of}
+use Rattle.type_check.specs.Parts.{Known, unless, typed_without}
+use Rattle.circuit_parts.specs.Parts.{source_of}
+use Rattle.type_check.specs.Expressions.{Judgement, Operand, found_of, judged, node, unjudged_node, over, operation, choice, type_or_none, fits_literal, typed_operands, all_among, row_of, signs_of}
+use Rattle.circuit_parts.specs.Kinds.{ground, no_type, sign_or_unsigned}
 use Rattle.type_check.specs.Judging.{operand_of, together, filled, AddsBelow}
 use Rattle.type_check.specs.Walks.{Adds}
 
 literal_is : (known : Known) (e : Expr) (sign : Sign) (width : Option ℕ) (number : Number) → e.form ≡ form.Literal sign width number
-    → found_of known e ≡ node e.place (unless (fits_literal sign width (integer_of_number number)) LiteralFit e.place) (ground e.place sign width) []
+    → found_of known e ≡ node e.place (unless (fits_literal sign width (integer_of_number number)) (LiteralFit e.place)) (ground e.place sign width) []
 literal_is known e sign width number is = grind (arith, common_steps, the_lemmas)
 
 prim_is : (known : Known) (e : Expr) (op : PrimOp) (operands : List Expr) (params : List ℕ) → e.form ≡ form.Prim op operands params
@@ -38,18 +40,18 @@ own_is (Some typ) = refl
 own_is None = refl
 
 -- what is found of the operands, and then the faults of the node itself
-record AddsFaults (js : List Judgement) (own : List Found) (old new : Findings) : Type 0 where
+record AddsFaults (js : List Judgement) (own : List TypeFault) (old new : Findings) : Type 0 where
   pub types : new.types.items ≡ old.types.items ++ flat_map (λ j. j.nodes) js
   pub faults : new.faults.items ≡ old.faults.items ++ (flat_map (λ j. j.faults) js ++ own)
 
-adds_faults : {js : List Judgement} {faults : List Found} {old between new : Findings} → Adds (together js) old between
+adds_faults : {js : List Judgement} {faults : List TypeFault} {old between new : Findings} → Adds (together js) old between
     → new.types.items ≡ between.types.items → new.faults.items ≡ between.faults.items ++ faults → AddsFaults js faults old new
 adds_faults {js} {faults} {old} h types more = record {
   types = types ∙ h.types;
   faults = more ∙ ap (λ l. l ++ faults) h.faults ∙ append_assoc old.faults.items (together js).faults faults;
 }
 
-node_below : (place : Place) (faults : List Found) (typ : FirType) (js : List Judgement) {old new : Findings} → AddsFaults js faults old new
+node_below : (place : Place) (faults : List TypeFault) (typ : FirType) (js : List Judgement) {old new : Findings} → AddsFaults js faults old new
     → AddsBelow place (node place faults typ js) old new
 node_below place faults typ js h = record {
   below = flat_map (λ j. j.nodes) js;
@@ -75,11 +77,11 @@ choice_below place js (a ∷ b ∷ c ∷ []) h = node_below place (choice place 
 choice_below place js (a ∷ b ∷ c ∷ d ∷ more) h = unjudged_below place js h
 
 pub adds_literal : (known : Known) (e : Expr) (sign : Sign) (width : Option ℕ) (number : Number) {old new : Findings} → e.form ≡ form.Literal sign width number
-    → new.types.items ≡ old.types.items → new.faults.items ≡ old.faults.items ++ unless (fits_literal sign width (integer_of_number number)) LiteralFit e.place
+    → new.types.items ≡ old.types.items → new.faults.items ≡ old.faults.items ++ unless (fits_literal sign width (integer_of_number number)) (LiteralFit e.place)
     → AddsBelow e.place (found_of known e) old new
 adds_literal known e sign width number {old} {new} is types faults =
     subst (λ j. AddsBelow e.place j old new) (sym (literal_is known e sign width number is))
-    (node_below e.place (unless (fits_literal sign width (integer_of_number number)) LiteralFit e.place) (ground e.place sign width) []
+    (node_below e.place (unless (fits_literal sign width (integer_of_number number)) (LiteralFit e.place)) (ground e.place sign width) []
     (record { types = types ∙ sym (append-nil old.types.items); faults = faults }))
 
 pub adds_operation : (known : Known) (e : Expr) (op : PrimOp) (operands : List Expr) (params : List ℕ) (held : List Held) (old between new : Findings)

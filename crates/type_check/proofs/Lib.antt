@@ -7,10 +7,5 @@ mod Forms
 mod Judgements
 mod Ways
 mod Indexing
-mod Ordering
 mod Walking
-mod Stepping
-mod Ports
-mod Declaring
-mod Passing
-mod Sentences
+mod Telling

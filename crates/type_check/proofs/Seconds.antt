@@ -7,14 +7,12 @@ use Rattle.std.proofs.lemmas.List.{take_more, map-append}
 use Rattle.std.proofs.lemmas.List.Folds.{list_any-append}
 use Rattle.std.proofs.lemmas.Bool.{eqb-true}
 use Rattle.indexmap.specs.IndexSet.{insert_key}
-use Rattle.place_text.specs.declared.place.Place.{Place}
 use Rattle.fir_types.specs.declared.fir_type.FirType.{FirType, the_lemmas}
 use Rattle.fir_types.specs.declared.fir_type.Shape.TheVariants as shape
 use Rattle.fir_types.specs.declared.fir_type.Field.{Field, fold-Field}
 use Rattle.fir_types.specs.declared.name.Name.{Name}
-use Rattle.type_check.specs.Found.{Found}
-use Rattle.type_check.specs.declared.fault.Kind.{Kind}
-use Rattle.type_check.specs.declared.fault.Kind.TheVariants.{FieldTwice}
+use Rattle.type_check.specs.declared.fault.TypeFault.{TypeFault}
+use Rattle.type_check.specs.declared.fault.TypeFault.TheVariants.{FieldTwice}
 use Rattle.type_check.specs.Parts.{unless, when}
 use Rattle.type_check.specs.Texts.{has_name, seconds_behind, FieldFaults, twice_in_shape, field_faults, twice_in}
 
@@ -25,9 +23,9 @@ names_of fields = map (λ f. f.name) fields
 seconds-append : (before xs ys : List Name) → seconds_behind before (xs ++ ys) ≡ seconds_behind before xs ++ seconds_behind (before ++ xs) ys
 seconds-append before [] ys = ap (λ b. seconds_behind b ys) (sym (append-nil before))
 seconds-append before (x ∷ xs) ys =
-    ap (λ l. when (has_name before x) FieldTwice x.place ++ l)
+    ap (λ l. when (has_name before x) (FieldTwice x.place) ++ l)
     (seconds-append (before ++ x ∷ []) xs ys ∙ ap (λ b. seconds_behind (before ++ x ∷ []) xs ++ seconds_behind b ys) (append_assoc before (x ∷ []) xs))
-    ∙ sym (append_assoc (when (has_name before x) FieldTwice x.place) _ _)
+    ∙ sym (append_assoc (when (has_name before x) (FieldTwice x.place)) _ _)
 
 -- one more key is held
 pub held_key : (ks : List ℕ) (k t : ℕ) → list_any (nat_eq t) (insert_key nat_eq ks k) ≡ (list_any (nat_eq t) ks || (nat_eq t k || false))
@@ -45,26 +43,26 @@ held_key ks k t = by (list_any (nat_eq k) ks) refl
     by true e = known (nat_eq t k) refl e
     by false e = list_any-append (nat_eq t) ks (k ∷ [])
 
-pub unless-not : (b : Bool) (kind : Kind) (place : Place) → unless (not b) kind place ≡ when b kind place
-unless-not true kind place = refl
-unless-not false kind place = refl
+pub unless-not : (b : Bool) (fault : TypeFault) → unless (not b) fault ≡ when b fault
+unless-not true fault = refl
+unless-not false fault = refl
 
 names_more : (fields : List Field) (i : ℕ) (field : Field) → i < length fields → field ≡ get_or fields i field → names_of (take (i + 1) fields) ≡ names_of (take i fields) ++ field.name ∷ []
 names_more fields i field lt is =
     ap names_of (take_more fields i field lt) ∙ map-append (λ (f : Field). f.name) (take i fields) (get_or fields i field ∷ [])
     ∙ ap (λ (f : Field). names_of (take i fields) ++ f.name ∷ []) (sym is)
 
-pub seconds_more : (fields : List Field) (i : ℕ) (field : Field) (old faults after : List Found) (ids : List ℕ) (added : Bool) → i < length fields → field ≡ get_or fields i field
+pub seconds_more : (fields : List Field) (i : ℕ) (field : Field) (old faults after : List TypeFault) (ids : List ℕ) (added : Bool) → i < length fields → field ≡ get_or fields i field
     → faults ≡ old ++ seconds_behind [] (names_of (take i fields))
     → ((id : ℕ) → list_any (nat_eq id) ids ≡ list_any (λ name. nat_eq id name.id) (names_of (take i fields)))
     → added ≡ not (list_any (nat_eq field.name.id) ids)
-    → after ≡ faults ++ unless added FieldTwice field.name.place
+    → after ≡ faults ++ unless added (FieldTwice field.name.place)
     → after ≡ old ++ seconds_behind [] (names_of (take (i + 1) fields))
 seconds_more fields i field old faults after ids added lt is e held a f =
     let name = field.name in
     let before = names_of (take i fields) in
-    let again : unless added FieldTwice name.place ≡ when (has_name before name) FieldTwice name.place
-    = ap (λ b. unless b FieldTwice name.place) a ∙ unless-not _ FieldTwice name.place ∙ ap (λ b. when b FieldTwice name.place) (held name.id) in
+    let again : unless added (FieldTwice name.place) ≡ when (has_name before name) (FieldTwice name.place)
+    = ap (λ b. unless b (FieldTwice name.place)) a ∙ unless-not _ (FieldTwice name.place) ∙ ap (λ b. when b (FieldTwice name.place)) (held name.id) in
     f ∙ ap₂ (λ l m. l ++ m) e again ∙ append_assoc old _ _
     ∙ ap (λ l. old ++ l) (ap (λ l. seconds_behind [] before ++ l) (sym (append-nil _)) ∙ sym (seconds-append [] before (name ∷ [])) ∙ ap (seconds_behind []) (sym (names_more fields i field lt is)))
 
@@ -81,7 +79,7 @@ ids_more fields i field ids after lt is held f id =
 -- the second names of a bundle, and those of its fields' types
 
 abbrev faults_in : Field → FieldFaults
-faults_in = fold-Field (List Found) FieldFaults (List Found) twice_in_shape field_faults (λ t. t.shape)
+faults_in = fold-Field (List TypeFault) FieldFaults (List TypeFault) twice_in_shape field_faults (λ t. t.shape)
 
 faults_in-field : (f : Field) → faults_in f ≡ (f.name, twice_in f.typ)
 faults_in-field f = grind (arith, common_steps, the_lemmas)

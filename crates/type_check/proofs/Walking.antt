@@ -2,7 +2,7 @@
 use Rattle.std.proofs.Common.{◌≡◌, ℕ, ◌+◌, List, [], ◌∷◌, ◌++◌, map, length, take, refl, sym, ap, ap₂, ◌∙◌, append_assoc, append-nil, get_or, ◌<◌, subst}
 use Rattle.std.proofs.lemmas.List.{map-append, take_more}
 use Rattle.type_check.specs.declared.walk.Walk.{Walk}
-use Rattle.type_check.specs.Found.{Found}
+use Rattle.type_check.specs.declared.fault.TypeFault.{TypeFault}
 use Rattle.type_check.specs.Parts.{Known}
 use Rattle.type_check.specs.Statements.{Walk as Steps, and_then, in_turn, notes}
 use Rattle.type_check.specs.Walks.{Walks}
@@ -39,7 +39,7 @@ pub walks_then : {p q : Steps} {a b c : Walk} → Walks p a b → Walks q b c �
 walks_then {p} {q} h k = walks_both (plainly p q) h k
 
 -- faults are noted, and then something is walked
-pub walks_noted : (faults : List Found) {q : Steps} {a b c : Walk} → b.known.entries ≡ a.known.entries → b.found.types.items ≡ a.found.types.items
+pub walks_noted : (faults : List TypeFault) {q : Steps} {a b c : Walk} → b.known.entries ≡ a.known.entries → b.found.types.items ≡ a.found.types.items
     → b.found.faults.items ≡ a.found.faults.items ++ faults → Walks q b c → Walks (and_then (notes faults) q) a c
 walks_noted faults {q} {a} {b} known types more k =
     let h : Walks (notes faults) a b = record { known = known; types = types ∙ sym (append-nil _); faults = more } in

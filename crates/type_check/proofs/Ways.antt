@@ -9,10 +9,10 @@ use Rattle.fir_types.specs.declared.fir_type.Shape.TheViews.{out-Shape}
 use Rattle.fir_types.specs.declared.fir_type.Shape.TheVariants.{outs-Bundle}
 use Rattle.fir_types.specs.declared.fir_type.Field.{Field}
 use Rattle.fir_types.specs.declared.name.Name.{Name}
-use Rattle.type_check.specs.declared.part.Part.{Part}
-use Rattle.type_check.specs.Parts.{part_of, flow_through}
+use Rattle.circuit_parts.specs.declared.part.Part.{Part}
+use Rattle.circuit_parts.specs.Parts.{part_of, flow_through}
 use Rattle.type_check.specs.declared.rules.Operand.{Operand as Held}
-use Rattle.type_check.specs.Texts.{sign_of}
+use Rattle.circuit_parts.specs.Kinds.{sign_of}
 use Rattle.type_check.specs.Expressions.{field_step, field_found, stands, row_of, with_sign, signs_of}
 use Rattle.type_check.specs.Judging.{operand_of}
 

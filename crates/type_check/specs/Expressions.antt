@@ -1,7 +1,7 @@
 -- The types of expressions (FIRRTL specification 3.0, "Expressions", "References", "Primitive Operations", "Multiplexers"), by cases
 -- on the node. A node has a type where its operands have types and it meets the conditions on them; where they have types and
 -- it doesn't, it is at fault; where one has none, it isn't judged.
-use Rattle.std.specs.Prelude.{◌≡◌, ℕ, zero, suc, ◌^◌, nat_lt, Bool, true, false, ◌||◌, ◌&&◌, List, [], ◌∷◌, ◌++◌, map, flat_map, find, ◌==◌, Option, Some, None, option_map, is_some, ℤ, pos, neg_ℤ, int_le, int_lt}
+use Rattle.std.specs.Prelude.{◌≡◌, ℕ, nat_lt, Bool, true, false, ◌||◌, List, [], ◌∷◌, ◌++◌, map, flat_map, find, ◌==◌, Option, Some, None, option_map, is_some, ℤ, pos, int_le}
 use Rattle.bit_words.specs.declared.value.Kind.{Kind as Sign}
 use Rattle.bit_words.specs.declared.value.Kind.TheVariants.{Unsigned, Signed}
 use Rattle.bit_words.specs.Numbers.{integer_of_number}
@@ -10,7 +10,6 @@ use Rattle.fir_types.specs.declared.fir_type.FirType.{FirType}
 use Rattle.fir_types.specs.declared.fir_type.Shape.{Shape}
 use Rattle.fir_types.specs.declared.fir_type.Shape.TheOpen.{Shape-F}
 use Rattle.fir_types.specs.declared.fir_type.Shape.TheViews.{out-Shape}
-use Rattle.fir_types.specs.declared.fir_type.Shape.TheVariants as shape
 use Rattle.fir_types.specs.declared.fir_type.Field.{Field}
 use Rattle.fir_types.specs.declared.name.Name.{Name}
 use Rattle.prim_ops.specs.declared.operation.PrimOp.{PrimOp}
@@ -18,29 +17,27 @@ use Rattle.prim_ops.specs.Kinds.{row_kind}
 use Rattle.fir_tree.specs.declared.expr.Expr.{Expr, fold-Expr}
 use Rattle.fir_tree.specs.declared.expr.Suffix.{Suffix, fold-Suffix}
 use Rattle.fir_tree.specs.declared.expr.Form.TheOpen.{Form-F, Suffix-F, Expr-F}
-use Rattle.type_check.specs.declared.part.Part.{Part}
-use Rattle.type_check.specs.declared.fault.Kind.TheVariants.{FieldUnknown, NotBundle, NotVector, IndexRange, IndexKind, OperandKind, NotEquivalent, ConditionKind, NotPassive, LiteralFit}
-use Rattle.type_check.specs.Found.{Found}
-use Rattle.type_check.specs.Parts.{Known, component, part_of, source_of, flow_through, unless, when, one_fault, typed_without}
-use Rattle.type_check.specs.Texts.{sign_of, is_unsigned, has_clock, is_passive, are_equivalent}
+use Rattle.circuit_parts.specs.declared.part.Part.{Part}
+use Rattle.type_check.specs.declared.fault.TypeFault.TheVariants.{FieldUnknown, NotBundle, NotVector, IndexRange, IndexKind, OperandKind, NotEquivalent, ConditionKind, NotPassive, LiteralFit}
+use Rattle.type_check.specs.declared.fault.TypeFault.{TypeFault}
+use Rattle.type_check.specs.Parts.{Known, component, unless, when, one_fault, typed_without}
+use Rattle.circuit_parts.specs.Parts.{part_of, source_of, flow_through}
+use Rattle.circuit_parts.specs.Kinds.{holds, ground, sign_or_unsigned, no_type, sign_of, is_unsigned}
+use Rattle.type_check.specs.Texts.{has_clock, is_passive, are_equivalent}
 
 -- What is found of an expression, or of a reference up to some step: the part with its type, the types of its nodes in
 -- text order, and the faults.
 pub record Judgement : Type 0 where
   pub part : Option Part
   pub nodes : List FirType
-  pub faults : List Found
+  pub faults : List TypeFault
 
 -- what is found of a part that stands or of a fault, without nodes
 abbrev pub stands : Part → Judgement
 stands part = record { part = Some part; nodes = []; faults = [] }
 
-abbrev pub fails : List Found → Judgement
+abbrev pub fails : List TypeFault → Judgement
 fails faults = record { part = None; nodes = []; faults = faults }
-
--- what stands in the list of types for a node without one
-abbrev pub no_type : Place → FirType
-no_type place = record { place = place; shape = shape.Bundle [] }
 
 abbrev pub type_or_none : Place → Option FirType → FirType
 type_or_none place (Some typ) = typ
@@ -51,29 +48,29 @@ type_or_none place None = no_type place
 -- a field of a bundle: the first of the name
 abbrev pub field_found : Name → Part → Option Field → Judgement
 field_found name base (Some field) = stands (part_of field.typ (flow_through field.flip base.flow))
-field_found name base None = fails (one_fault FieldUnknown name.place)
+field_found name base None = fails (one_fault (FieldUnknown name.place))
 
 abbrev pub field_step : Name → Part → Shape-F Shape Field FirType → Judgement
 field_step name base (Shape-F.Bundle fields) = field_found name base (find (λ f. f.name.id == name.id) fields)
-field_step name base _ = fails (one_fault NotBundle name.place)
+field_step name base _ = fails (one_fault (NotBundle name.place))
 
 -- an element of a vector by its number
 abbrev pub element_found : Part → FirType → Bool → Place → Judgement
 element_found base element true at = stands (part_of element base.flow)
-element_found base element false at = fails (one_fault IndexRange at)
+element_found base element false at = fails (one_fault (IndexRange at))
 
 abbrev pub element_step : Place → Place → ℕ → Part → Shape-F Shape Field FirType → Judgement
 element_step bracket at n base (Shape-F.Vector element length) = element_found base element (nat_lt n length) at
-element_step bracket at n base _ = fails (one_fault NotVector bracket)
+element_step bracket at n base _ = fails (one_fault (NotVector bracket))
 
 -- an element of a vector by an index, which is a UInt
 abbrev pub indexed : Place → Part → FirType → Bool → Judgement
 indexed at base element true = stands (part_of element base.flow)
-indexed at base element false = fails (one_fault IndexKind at)
+indexed at base element false = fails (one_fault (IndexKind at))
 
 abbrev pub index_step : Place → Place → Part → Part → Shape-F Shape Field FirType → Judgement
 index_step bracket at index base (Shape-F.Vector element length) = indexed at base element (is_unsigned index.typ)
-index_step bracket at index base _ = fails (one_fault NotVector bracket)
+index_step bracket at index base _ = fails (one_fault (NotVector bracket))
 
 -- what isn't judged
 abbrev pub unjudged : Judgement
@@ -112,25 +109,14 @@ as_node place way = record {
 
 -- Literals
 
--- whether a literal of this kind and width holds a number: at width 0 only 0
-abbrev pub holds : Sign → ℕ → ℤ → Bool
-holds sign zero n = int_le n (pos 0) && int_le (pos 0) n
-holds Unsigned (suc w) n = int_le (pos 0) n && int_lt n (pos (2 ^ suc w))
-holds Signed (suc w) n = int_le (neg_ℤ (pos (2 ^ w))) n && int_lt n (pos (2 ^ w))
-
 -- whether a literal may be written: without a width a UInt is not negative
 abbrev pub fits_literal : Sign → Option ℕ → ℤ → Bool
 fits_literal sign (Some width) n = holds sign width n
 fits_literal Unsigned None n = int_le (pos 0) n
 fits_literal Signed None n = true
 
--- a type of this kind
-abbrev pub ground : Place → Sign → Option ℕ → FirType
-ground place Unsigned width = record { place = place; shape = shape.Unsigned width }
-ground place Signed width = record { place = place; shape = shape.Signed width }
-
 -- a node that can only be read: its own faults, its type where it has none, and what is found of its operands
-abbrev pub node : Place → List Found → FirType → List Judgement → Judgement
+abbrev pub node : Place → List TypeFault → FirType → List Judgement → Judgement
 node place faults typ operands =
     let own = typed_without faults typ in
     record {
@@ -179,25 +165,21 @@ abbrev pub row_of : PrimOp → Option (List Sign) → Option Sign
 row_of op (Some signs) = row_kind op signs
 row_of op None = None
 
-abbrev pub sign_or_unsigned : Option Sign → Sign
-sign_or_unsigned (Some sign) = sign
-sign_or_unsigned None = Unsigned
-
 -- The type of a result has a width of its own, which is not told here.
 abbrev pub operation : PrimOp → Place → List Judgement → List Operand → Judgement
 operation op place operands typed =
     let row = row_of op (signs_of typed) in
-    node place (unless (is_some row) OperandKind place) (ground place (sign_or_unsigned row) None) operands
+    node place (unless (is_some row) (OperandKind place)) (ground place (sign_or_unsigned row) None) operands
 
 -- A choice takes a UInt and two passive and equivalent types without clocks. It has the type of the second operand; its widths
 -- are not told here.
-abbrev pub choice_faults : Place → Operand → Operand → Operand → List Found
+abbrev pub choice_faults : Place → Operand → Operand → Operand → List TypeFault
 choice_faults place condition first second =
-    unless (is_unsigned condition.typ) ConditionKind condition.place
-    ++ (when (has_clock first.typ || has_clock second.typ) OperandKind place
-    ++ (unless (is_passive first.typ) NotPassive first.place
-    ++ (unless (is_passive second.typ) NotPassive second.place
-    ++ unless (are_equivalent first.typ second.typ) NotEquivalent second.place)))
+    unless (is_unsigned condition.typ) (ConditionKind condition.place)
+    ++ (when (has_clock first.typ || has_clock second.typ) (OperandKind place)
+    ++ (unless (is_passive first.typ) (NotPassive first.place)
+    ++ (unless (is_passive second.typ) (NotPassive second.place)
+    ++ unless (are_equivalent first.typ second.typ) (NotEquivalent second.place))))
 
 abbrev pub choice : Place → List Judgement → List Operand → Judgement
 choice place operands (condition ∷ first ∷ second ∷ []) = node place (choice_faults place condition first second) first.typ operands
@@ -216,7 +198,7 @@ all_among known es = map (λ e. e.among known) es
 abbrev pub of_form : Form-F (Place → Known → Judgement) Step Judged → Place → Known → Judgement
 of_form (Form-F.Ref name suffixes) place known = as_node place (along suffixes known (component known name.id))
 of_form (Form-F.Literal sign width number) place known =
-    node place (unless (fits_literal sign width (integer_of_number number)) LiteralFit place) (ground place sign width) []
+    node place (unless (fits_literal sign width (integer_of_number number)) (LiteralFit place)) (ground place sign width) []
 of_form (Form-F.Prim op operands params) place known = over place (operation op place) (all_among known operands) (typed_operands known operands)
 of_form (Form-F.Mux operands) place known = over place (choice place) (all_among known operands) (typed_operands known operands)
 

@@ -3,10 +3,10 @@ use Rattle.std.specs.Prelude.{◌≡◌, ℕ, List, ◌∷◌, ◌++◌, flat_ma
 use Rattle.place_text.specs.declared.place.Place.{Place}
 use Rattle.fir_types.specs.declared.fir_type.FirType.{FirType}
 use Rattle.type_check.specs.declared.found.Findings.{Findings}
-use Rattle.type_check.specs.declared.part.Part.{Part}
+use Rattle.circuit_parts.specs.declared.part.Part.{Part}
 use Rattle.type_check.specs.declared.rules.Operand.{Operand as Held}
 use Rattle.type_check.specs.declared.steps.Reached.{Reached}
-use Rattle.type_check.specs.Parts.{part_of}
+use Rattle.circuit_parts.specs.Parts.{part_of}
 use Rattle.type_check.specs.Expressions.{Judgement, Operand, type_or_none}
 
 -- what a reference has come to, as a part

@@ -1,15 +1,13 @@
+-- what a reader must believe
 pub mod Parts
 pub mod Texts
 pub mod Expressions
 pub mod Memories
-pub mod Noted
 pub mod Statements
 pub mod Faults
-pub mod Flows
+-- what the bodies keep, and what proofs need
+pub mod Noted
 pub mod Walks
 pub mod Judging
 pub mod Indexes
-pub mod Reached
-pub mod Declarations
-pub mod Counting
-pub mod Found
+pub mod Ranks

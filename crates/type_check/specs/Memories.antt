@@ -6,17 +6,17 @@ use Rattle.place_text.specs.declared.place.Place.{Place}
 use Rattle.fir_types.specs.declared.memory.Memory.{Memory}
 use Rattle.fir_types.specs.declared.memory.MemLine.{MemLine}
 use Rattle.fir_types.specs.declared.memory.MemLine.TheVariants as line
-use Rattle.type_check.specs.declared.fault.Kind.TheVariants.{MemoryField}
-use Rattle.type_check.specs.Found.{Found}
+use Rattle.type_check.specs.declared.fault.TypeFault.TheVariants.{MemoryField}
+use Rattle.type_check.specs.declared.fault.TypeFault.{TypeFault}
 use Rattle.type_check.specs.Parts.{unless, when}
 use Rattle.type_check.specs.Texts.{stored_faults}
 
 -- what a line says by itself
-abbrev pub line_faults : MemLine → List Found
+abbrev pub line_faults : MemLine → List TypeFault
 line_faults (line.Element at typ) = stored_faults typ
-line_faults (line.Depth at n) = unless (nat_le 1 n) MemoryField at
-line_faults (line.ReadLatency at n) = unless (nat_le n 1) MemoryField at
-line_faults (line.WriteLatency at n) = unless (nat_eq n 1) MemoryField at
+line_faults (line.Depth at n) = unless (nat_le 1 n) (MemoryField at)
+line_faults (line.ReadLatency at n) = unless (nat_le n 1) (MemoryField at)
+line_faults (line.WriteLatency at n) = unless (nat_eq n 1) (MemoryField at)
 line_faults (line.ReadUnder at under) = []
 line_faults (line.MemPort at mode name) = []
 
@@ -64,18 +64,18 @@ place_of (line.ReadUnder at under) = at
 place_of (line.MemPort at mode name) = name.place
 
 -- the lines that say again what one before them says
-abbrev pub again_behind : List MemLine → List MemLine → List Found
+abbrev pub again_behind : List MemLine → List MemLine → List TypeFault
 again_behind before [] = []
-again_behind before (one ∷ lines) = when (is_said before one) MemoryField (place_of one) ++ again_behind (before ++ one ∷ []) lines
+again_behind before (one ∷ lines) = when (is_said before one) (MemoryField (place_of one)) ++ again_behind (before ++ one ∷ []) lines
 
 -- the lines that are missing, each at the memory's name
-abbrev pub missing : Place → List MemLine → List Found
+abbrev pub missing : Place → List MemLine → List TypeFault
 missing at lines =
-    unless (list_any is_element lines) MemoryField at
-    ++ (unless (list_any is_depth lines) MemoryField at
-    ++ (unless (list_any is_read_latency lines) MemoryField at
-    ++ (unless (list_any is_write_latency lines) MemoryField at
-    ++ unless (list_any is_under lines) MemoryField at)))
+    unless (list_any is_element lines) (MemoryField at)
+    ++ (unless (list_any is_depth lines) (MemoryField at)
+    ++ (unless (list_any is_read_latency lines) (MemoryField at)
+    ++ (unless (list_any is_write_latency lines) (MemoryField at)
+    ++ unless (list_any is_under lines) (MemoryField at))))
 
-abbrev pub memory_faults : Memory → List Found
+abbrev pub memory_faults : Memory → List TypeFault
 memory_faults memory = flat_map line_faults memory.lines ++ (again_behind [] memory.lines ++ missing memory.name.place memory.lines)

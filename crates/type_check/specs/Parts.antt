@@ -1,31 +1,9 @@
--- Components and their parts, with types and flows (FIRRTL specification 3.0, "Flows" and "References"), and the faults of a node.
+-- The components that are known, and the faults of a node.
 use Rattle.std.specs.Prelude.{ℕ, Bool, true, false, List, [], ◌∷◌, ◌++◌, Option, Some, None, is_some, if◌then◌else◌, nat_eq}
 use Rattle.std.specs.Map.{lookup}
-use Rattle.place_text.specs.declared.place.Place.{Place}
 use Rattle.fir_types.specs.declared.fir_type.FirType.{FirType}
-use Rattle.type_check.specs.declared.part.Flow.{Flow}
-use Rattle.type_check.specs.declared.part.Flow.TheVariants.{Source, Sink, Duplex}
-use Rattle.type_check.specs.declared.part.Part.{Part}
-use Rattle.type_check.specs.declared.fault.Kind.{Kind}
-use Rattle.type_check.specs.Found.{Found}
-
--- A flip turns a source and a sink round; duplex stays.
-abbrev pub turned : Flow → Flow
-turned Source = Sink
-turned Sink = Source
-turned Duplex = Duplex
-
--- the flow of a field, whether it is flipped, of what has this flow
-abbrev pub flow_through : Bool → Flow → Flow
-flow_through true flow = turned flow
-flow_through false flow = flow
-
-abbrev pub part_of : FirType → Flow → Part
-part_of typ flow = record { typ = typ; flow = flow }
-
--- what can only be read
-abbrev pub source_of : FirType → Part
-source_of typ = part_of typ Source
+use Rattle.circuit_parts.specs.declared.part.Part.{Part}
+use Rattle.type_check.specs.declared.fault.TypeFault.{TypeFault}
 
 -- The components that are declared so far in a module, by the numbers of their names. All declarations of a module have
 -- different names, so a name means the first that has it.
@@ -41,25 +19,25 @@ abbrev pub known_with : Known → ℕ → Option Part → Known
 known_with known name None = known
 known_with known name (Some part) = if is_some (component known name) then known else known ++ (name, part) ∷ []
 
-abbrev pub one_fault : Kind → Place → List Found
-one_fault kind place = record { kind = kind; place = place } ∷ []
+abbrev pub one_fault : TypeFault → List TypeFault
+one_fault fault = fault ∷ []
 
 -- the fault, where the condition isn't met
-abbrev pub unless : Bool → Kind → Place → List Found
-unless true kind place = []
-unless false kind place = one_fault kind place
+abbrev pub unless : Bool → TypeFault → List TypeFault
+unless true fault = []
+unless false fault = one_fault fault
 
 -- the fault, where the condition is met
-abbrev pub when : Bool → Kind → Place → List Found
-when true kind place = one_fault kind place
-when false kind place = []
+abbrev pub when : Bool → TypeFault → List TypeFault
+when true fault = one_fault fault
+when false fault = []
 
 -- the faults that something with a type has; what has none isn't judged
-abbrev pub where_typed : (Part → List Found) → Option Part → List Found
+abbrev pub where_typed : (Part → List TypeFault) → Option Part → List TypeFault
 where_typed faults (Some part) = faults part
 where_typed faults None = []
 
 -- the type of a node without faults
-abbrev pub typed_without : List Found → FirType → Option FirType
+abbrev pub typed_without : List TypeFault → FirType → Option FirType
 typed_without [] typ = Some typ
 typed_without (fault ∷ faults) typ = None

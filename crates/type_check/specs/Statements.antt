@@ -1,10 +1,10 @@
 -- The conditions on statements (FIRRTL specification 3.0, "Statements", "Connects", "Registers", "Conditionals"). Each is judged where
 -- the expressions that it speaks of have types.
-use Rattle.std.specs.Prelude.{ℕ, Bool, true, false, ◌&&◌, ◌==◌, find, List, [], ◌∷◌, ◌++◌, map, flat_map, Option, Some, option_map, if◌then◌else◌}
+use Rattle.std.specs.Prelude.{ℕ, Bool, true, false, ◌&&◌, List, [], ◌∷◌, ◌++◌, map, flat_map, Option, Some, option_map}
 use Rattle.place_text.specs.declared.place.Place.{Place}
 use Rattle.fir_types.specs.declared.fir_type.FirType.{FirType}
 use Rattle.fir_types.specs.declared.port.Port.{Port}
-use Rattle.fir_types.specs.Bundles.{instance_of, memory_of}
+use Rattle.fir_types.specs.Bundles.{memory_of}
 use Rattle.fir_types.specs.Passivity.{has_flip}
 use Rattle.fir_tree.specs.declared.circuit.Circuit.{Circuit}
 use Rattle.fir_tree.specs.declared.circuit.Module.{Module}
@@ -12,13 +12,15 @@ use Rattle.fir_tree.specs.declared.expr.Expr.{Expr}
 use Rattle.fir_tree.specs.declared.stmt.Stmt.{Stmt, fold-Stmt}
 use Rattle.fir_tree.specs.declared.stmt.Arm.{Arm, fold-Arm}
 use Rattle.fir_tree.specs.declared.stmt.Stmt.TheOpen.{Stmt-F, Arm-F}
-use Rattle.type_check.specs.declared.part.Flow.{Flow}
-use Rattle.type_check.specs.declared.part.Flow.TheVariants.{Source, Sink, Duplex}
-use Rattle.type_check.specs.declared.part.Part.{Part}
-use Rattle.type_check.specs.declared.fault.Kind.TheVariants.{OperandKind, NotEquivalent, FlowSink, FlowSource, ConditionKind, NotPassive}
-use Rattle.type_check.specs.Found.{Found}
-use Rattle.type_check.specs.Parts.{Known, known_with, part_of, source_of, unless, when, where_typed}
-use Rattle.type_check.specs.Texts.{twice_in, stored_faults, is_unsigned, is_a_clock, is_passive, are_equivalent}
+use Rattle.circuit_parts.specs.declared.part.Flow.{Flow}
+use Rattle.circuit_parts.specs.declared.part.Flow.TheVariants.{Source, Sink, Duplex}
+use Rattle.circuit_parts.specs.declared.part.Part.{Part}
+use Rattle.type_check.specs.declared.fault.TypeFault.TheVariants.{OperandKind, NotEquivalent, FlowSink, FlowSource, ConditionKind, NotPassive}
+use Rattle.type_check.specs.declared.fault.TypeFault.{TypeFault}
+use Rattle.type_check.specs.Parts.{Known, known_with, unless, when, where_typed}
+use Rattle.circuit_parts.specs.Parts.{port_flow, instance_in, part_of, source_of}
+use Rattle.type_check.specs.Texts.{twice_in, stored_faults, is_passive, are_equivalent}
+use Rattle.circuit_parts.specs.Kinds.{is_unsigned, is_a_clock}
 use Rattle.type_check.specs.Expressions.{found_of}
 use Rattle.type_check.specs.Memories.{memory_faults}
 
@@ -27,7 +29,7 @@ use Rattle.type_check.specs.Memories.{memory_faults}
 pub record Findings : Type 0 where
   pub known : Known
   pub nodes : List FirType
-  pub faults : List Found
+  pub faults : List TypeFault
 
 abbrev pub Walk : Type 0
 Walk = Known → Findings
@@ -47,7 +49,7 @@ in_turn [] = nothing
 in_turn (walk ∷ walks) = and_then walk (in_turn walks)
 
 -- faults that are there whatever is known
-abbrev pub notes : List Found → Walk
+abbrev pub notes : List TypeFault → Walk
 notes faults known = record { known = known; nodes = []; faults = faults }
 
 -- a declaration
@@ -55,22 +57,22 @@ abbrev pub declares : ℕ → Option Part → Walk
 declares name part known = record { known = known_with known name part; nodes = []; faults = [] }
 
 -- an expression, with a condition on it
-abbrev pub expects : (Part → List Found) → Expr → Walk
+abbrev pub expects : (Part → List TypeFault) → Expr → Walk
 expects condition e known = let j = found_of known e in record { known = known; nodes = j.nodes; faults = j.faults ++ where_typed condition j.part }
 
 -- The conditions
 
-abbrev pub clock_faults : Place → Part → List Found
-clock_faults at clock = unless (is_a_clock clock.typ) OperandKind at
+abbrev pub clock_faults : Place → Part → List TypeFault
+clock_faults at clock = unless (is_a_clock clock.typ) (OperandKind at)
 
-abbrev pub condition_faults : Place → Part → List Found
-condition_faults at condition = unless (is_unsigned condition.typ) ConditionKind at
+abbrev pub condition_faults : Place → Part → List TypeFault
+condition_faults at condition = unless (is_unsigned condition.typ) (ConditionKind at)
 
-abbrev pub init_faults : FirType → Place → Part → List Found
-init_faults typ at init = unless (are_equivalent typ init.typ) NotEquivalent at
+abbrev pub init_faults : FirType → Place → Part → List TypeFault
+init_faults typ at init = unless (are_equivalent typ init.typ) (NotEquivalent at)
 
-abbrev pub node_faults : Place → Part → List Found
-node_faults at value = unless (is_passive value.typ) NotPassive at
+abbrev pub node_faults : Place → Part → List TypeFault
+node_faults at value = unless (is_passive value.typ) (NotPassive at)
 
 abbrev pub is_source : Flow → Bool
 is_source Source = true
@@ -81,15 +83,15 @@ is_sink Sink = true
 is_sink _ = false
 
 -- what is driven is no source
-abbrev pub sink_faults : Place → Part → List Found
-sink_faults at left = when (is_source left.flow) FlowSink at
+abbrev pub sink_faults : Place → Part → List TypeFault
+sink_faults at left = when (is_source left.flow) (FlowSink at)
 
 -- a source is no sink, or has no flip
-abbrev pub source_faults : Place → Part → List Found
-source_faults at right = when (is_sink right.flow && has_flip right.typ) FlowSource at
+abbrev pub source_faults : Place → Part → List TypeFault
+source_faults at right = when (is_sink right.flow && has_flip right.typ) (FlowSource at)
 
-abbrev pub equal_faults : Place → Part → Part → List Found
-equal_faults at left right = unless (are_equivalent left.typ right.typ) NotEquivalent at
+abbrev pub equal_faults : Place → Part → Part → List TypeFault
+equal_faults at left right = unless (are_equivalent left.typ right.typ) (NotEquivalent at)
 
 -- A connect: each condition is judged where the sides that it speaks of have types.
 abbrev pub connects : Expr → Expr → Walk
@@ -112,13 +114,6 @@ names_node name e known =
       nodes = j.nodes;
       faults = j.faults ++ where_typed (node_faults e.place) j.part;
     }
-
--- an instance of the first module of a name
-abbrev pub instance_part : Module → Part
-instance_part target = source_of (instance_of target.ports)
-
-abbrev pub instance_in : List Module → ℕ → Option Part
-instance_in modules name = option_map instance_part (find (λ m. m.name.id == name) modules)
 
 abbrev pub of_stmt : List Module → Stmt-F Walk Walk → Walk
 of_stmt modules (Stmt-F.Wire name typ) = and_then (notes (twice_in typ)) (declares name.id (Some (part_of typ Duplex)))
@@ -144,10 +139,6 @@ stmt_walk modules = fold-Stmt Walk Walk (of_stmt modules) of_arm
 abbrev pub arm_walk : List Module → Arm → Walk
 arm_walk modules = fold-Arm Walk Walk (of_stmt modules) of_arm
 
--- An input can be read inside its module, and an output driven.
-abbrev pub port_flow : Port → Flow
-port_flow port = if port.output then Sink else Source
-
 abbrev pub port_walk : Port → Walk
 port_walk port = and_then (notes (twice_in port.typ)) (declares port.name.id (Some (part_of port.typ (port_flow port))))
 
@@ -160,5 +151,5 @@ abbrev pub types_of : Circuit → List FirType
 types_of circuit = flat_map (λ m. (module_walk circuit.modules m []).nodes) circuit.modules
 
 -- All faults of a circuit's types.
-abbrev pub faults_of : Circuit → List Found
+abbrev pub faults_of : Circuit → List TypeFault
 faults_of circuit = flat_map (λ m. (module_walk circuit.modules m []).faults) circuit.modules

@@ -1,9 +1,7 @@
 -- Conditions on the text of a type (FIRRTL specification 3.0, "Types", "Type Equivalence", "Passive Types"), as questions that are
 -- answered with yes or no.
-use Rattle.std.specs.Prelude.{ℕ, nat_eq, Bool, true, false, not, ◌&&◌, List, [], ◌∷◌, ◌++◌, map, flat_map, Option, Some, None}
+use Rattle.std.specs.Prelude.{ℕ, nat_eq, Bool, true, false, not, ◌&&◌, List, [], ◌∷◌, ◌++◌, map, flat_map}
 use Rattle.std.specs.List.{list_any}
-use Rattle.bit_words.specs.declared.value.Kind.{Kind as Sign}
-use Rattle.bit_words.specs.declared.value.Kind.TheVariants.{Unsigned, Signed}
 use Rattle.fir_types.specs.declared.fir_type.FirType.{FirType, fold-FirType}
 use Rattle.fir_types.specs.declared.fir_type.Shape.{Shape}
 use Rattle.fir_types.specs.declared.fir_type.Shape.TheOpen.{Shape-F, Field-F}
@@ -12,35 +10,10 @@ use Rattle.fir_types.specs.declared.fir_type.Field.{Field}
 use Rattle.fir_types.specs.declared.name.Name.{Name}
 use Rattle.fir_types.specs.Leaves.{leaves, is_clock}
 use Rattle.fir_types.specs.Passivity.{has_flip}
-use Rattle.type_check.specs.declared.fault.Kind.TheVariants.{FieldTwice, OperandKind, NotPassive}
-use Rattle.type_check.specs.Found.{Found}
+use Rattle.type_check.specs.declared.fault.TypeFault.TheVariants.{FieldTwice, OperandKind, NotPassive}
+use Rattle.type_check.specs.declared.fault.TypeFault.{TypeFault}
+use Rattle.circuit_parts.specs.Kinds.{is_clock_layer}
 use Rattle.type_check.specs.Parts.{unless, when}
-
--- The kind of an operand: a `UInt`, a `SInt`, and none for what is no number. `Reset` is `UInt<1>`.
-abbrev pub sign_of_shape : Shape-F Shape Field FirType → Option Sign
-sign_of_shape (Shape-F.Unsigned width) = Some Unsigned
-sign_of_shape (Shape-F.Signed width) = Some Signed
-sign_of_shape Shape-F.Reset = Some Unsigned
-sign_of_shape _ = None
-
-abbrev pub sign_of : FirType → Option Sign
-sign_of typ = sign_of_shape (out-Shape typ.shape)
-
-abbrev pub is_unsigned_sign : Option Sign → Bool
-is_unsigned_sign (Some Unsigned) = true
-is_unsigned_sign _ = false
-
--- whether a type is a `UInt`
-abbrev pub is_unsigned : FirType → Bool
-is_unsigned typ = is_unsigned_sign (sign_of typ)
-
-abbrev pub is_clock_layer : Shape-F Shape Field FirType → Bool
-is_clock_layer Shape-F.Clock = true
-is_clock_layer _ = false
-
--- whether a type is a `Clock`
-abbrev pub is_a_clock : FirType → Bool
-is_a_clock typ = is_clock_layer (out-Shape typ.shape)
 
 -- whether a leaf of a type is a `Clock`
 abbrev pub has_clock : FirType → Bool
@@ -99,26 +72,26 @@ are_equivalent = fold-FirType (Shape → Bool) (Field → Bool) (FirType → Boo
 abbrev pub has_name : List Name → Name → Bool
 has_name before name = list_any (λ other. nat_eq name.id other.id) before
 
-abbrev pub seconds_behind : List Name → List Name → List Found
+abbrev pub seconds_behind : List Name → List Name → List TypeFault
 seconds_behind before [] = []
-seconds_behind before (name ∷ names) = when (has_name before name) FieldTwice name.place ++ seconds_behind (before ++ name ∷ []) names
+seconds_behind before (name ∷ names) = when (has_name before name) (FieldTwice name.place) ++ seconds_behind (before ++ name ∷ []) names
 
 -- a field: its name, and the faults of its type
 abbrev pub FieldFaults : Type 0
-FieldFaults = Name × List Found
+FieldFaults = Name × List TypeFault
 
 -- the second fields of a name in each bundle of a type
-abbrev pub twice_in_shape : Shape-F (List Found) FieldFaults (List Found) → List Found
+abbrev pub twice_in_shape : Shape-F (List TypeFault) FieldFaults (List TypeFault) → List TypeFault
 twice_in_shape (Shape-F.Bundle fields) = seconds_behind [] (map (λ f. f.0) fields) ++ flat_map (λ f. f.1) fields
 twice_in_shape (Shape-F.Vector element length) = element
 twice_in_shape _ = []
 
-abbrev pub field_faults : Field-F (List Found) FieldFaults (List Found) → FieldFaults
+abbrev pub field_faults : Field-F (List TypeFault) FieldFaults (List TypeFault) → FieldFaults
 field_faults f = (f.name, f.typ)
 
-abbrev pub twice_in : FirType → List Found
-twice_in = fold-FirType (List Found) FieldFaults (List Found) twice_in_shape field_faults (λ t. t.shape)
+abbrev pub twice_in : FirType → List TypeFault
+twice_in = fold-FirType (List TypeFault) FieldFaults (List TypeFault) twice_in_shape field_faults (λ t. t.shape)
 
 -- The type of what is stored, in a register or a memory: no clock, and passive.
-abbrev pub stored_faults : FirType → List Found
-stored_faults typ = twice_in typ ++ (when (has_clock typ) OperandKind typ.place ++ unless (is_passive typ) NotPassive typ.place)
+abbrev pub stored_faults : FirType → List TypeFault
+stored_faults typ = twice_in typ ++ (when (has_clock typ) (OperandKind typ.place) ++ unless (is_passive typ) (NotPassive typ.place))

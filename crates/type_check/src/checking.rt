@@ -1,14 +1,11 @@
 //! The types of all expressions of a circuit, or its first fault.
 
-ghost use Rattle.std.specs.Prelude.{◌≡◌, ◌⊎◌, ◌++◌, [], IfOk, IfErr, OnOk, MatchResult};
+ghost use Rattle.std.specs.Prelude.{◌≡◌, ◌++◌, [], IfOk, OnOk};
 ghost use Rattle.std.specs.List.{flat_map};
-ghost use Rattle.place_text.specs.declared.place.Place.{Place as APlace};
-ghost use Rattle.type_check.specs.declared.fault.Kind.{Kind as AKind};
-ghost use Rattle.type_check.specs.declared.fault.TypeFault.TheVariants.{NoMemory as No_memory};
 ghost use Rattle.type_check.specs.Statements.{types_of, faults_of, module_walk};
-ghost use Rattle.type_check.specs.Faults.{IsFault, IsFirst, IsFirstAnswer, answer};
+ghost use Rattle.type_check.specs.Faults.{IsFault, place_of, rank_of};
+ghost use Rattle.fault_order.specs.Verdicts.{IsVerdict};
 
-use crate::answers::answer;
 use crate::fault::TypeFault;
 use crate::found::Findings;
 use crate::modules::Modules;
@@ -25,25 +22,11 @@ use std::alloc::{AllocError, Global};
 /// names, so nothing of the scope is asked. Takes time and memory in proportion to the circuit, to the types that it answers,
 /// and to those of all instances and memories.
 pub fn check(alloc: Global, circuit: &Circuit, scope: &Scope) -> Result<Types, TypeFault>
-    ensures ok { IfOk result (λ types. types ≡ types_of circuit.now) }
-    ensures none { IfOk result (λ types. (kind : AKind) (place : APlace) → ¬ (IsFault circuit.now kind place)) }
-    ensures fault { IfErr result (λ fault. (fault ≡ No_memory) ⊎ IsFirstAnswer circuit.now fault) }
-    // a circuit without a fault is refused for want of memory alone
-    ensures accepts { ((kind : AKind) (place : APlace) → ¬ (IsFault circuit.now kind place)) → MatchResult result (λ types. types ≡ types_of circuit.now) (λ fault. fault ≡ No_memory) }
-    // and a circuit with a fault is answered by the first one, or by want of memory
-    ensures refuses { (kind : AKind) (place : APlace) → IsFirst circuit.now kind place → MatchResult result (λ types. ⊥) (λ fault. (fault ≡ No_memory) ⊎ (fault ≡ answer kind place)) }
-{
-    settle(alloc, circuit)
-}
-
-fn settle(alloc: Global, circuit: &Circuit) -> Result<Types, TypeFault>
-    ensures ok { IfOk result (λ types. types ≡ types_of circuit.now) }
-    ensures none { IfOk result (λ types. (kind : AKind) (place : APlace) → ¬ (IsFault circuit.now kind place)) }
-    ensures fault { IfErr result (λ fault. (fault ≡ No_memory) ⊎ IsFirstAnswer circuit.now fault) }
+    ensures { IsVerdict place_of rank_of (IsFault circuit.now) (λ types. types ≡ types_of circuit.now) result }
 {
     let Findings { types, faults } = find(alloc, circuit)?;
     match earliest(faults.as_slice()) {
-        Some(first) => Err(answer(first)),
+        Some(first) => Err(first),
         None => Ok(List::from_vec(types)),
     }
 }

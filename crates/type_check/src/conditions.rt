@@ -5,11 +5,12 @@ ghost use Rattle.type_check.specs.Parts.{unless, where_typed};
 ghost use Rattle.type_check.specs.Statements.{expects, connects, clock_faults, condition_faults, init_faults, sink_faults, source_faults, equal_faults};
 ghost use Rattle.type_check.specs.Walks.{Walks};
 
-use crate::fault::{Found, Kind};
+use crate::fault::TypeFault;
 use crate::judge::judge;
-use crate::part::{Flow, Part};
-use crate::texts::{are_equivalent, is_clock, is_passive, is_unsigned, push_unless};
+use crate::texts::{are_equivalent, is_passive, push_unless};
 use crate::walk::Walk;
+use circuit_parts::kinds::{is_clock, is_unsigned};
+use circuit_parts::{Flow, Part};
 use fir_tree::Expr;
 use fir_types::FirType;
 use place_text::Place;
@@ -21,7 +22,11 @@ pub fn expect_clock(alloc: Global, walk: &mut Walk, clock: &Expr) -> Result<(), 
 {
     if let Some(part) = judge(alloc, &walk.known, &mut walk.found, clock)? {
         let fits = is_clock(&part.typ);
-        push_unless(&mut walk.found.faults, fits, Kind::OperandKind, clock.place)?;
+        push_unless(
+            &mut walk.found.faults,
+            fits,
+            TypeFault::OperandKind(clock.place),
+        )?;
     }
     Ok(())
 }
@@ -35,8 +40,7 @@ pub fn expect_condition(alloc: Global, walk: &mut Walk, condition: &Expr) -> Res
         push_unless(
             &mut walk.found.faults,
             fits,
-            Kind::ConditionKind,
-            condition.place,
+            TypeFault::ConditionKind(condition.place),
         )?;
     }
     Ok(())
@@ -56,8 +60,7 @@ pub fn expect_init(
         push_unless(
             &mut walk.found.faults,
             fits,
-            Kind::NotEquivalent,
-            init.place,
+            TypeFault::NotEquivalent(init.place),
         )?;
     }
     Ok(())
@@ -84,30 +87,34 @@ pub fn connect(alloc: Global, walk: &mut Walk, left: &Expr, right: &Expr) -> Res
 }
 
 /// Adds a fault where what is driven can only be read.
-fn push_sink(faults: &mut Vec<Found>, at: Place, left: &Option<Part>) -> Result<(), AllocError>
+fn push_sink(faults: &mut Vec<TypeFault>, at: Place, left: &Option<Part>) -> Result<(), AllocError>
     ensures { OnOk result (faults.new.items ≡ faults.old.items ++ where_typed (sink_faults at) left.now) }
 {
     if let Some(left) = left {
         let fits = !matches!(left.flow, Flow::Source);
-        push_unless(faults, fits, Kind::FlowSink, at)?;
+        push_unless(faults, fits, TypeFault::FlowSink(at))?;
     }
     Ok(())
 }
 
 /// Adds a fault where what is read can only be driven. A sink without a `flip` can be read.
-fn push_source(faults: &mut Vec<Found>, at: Place, right: &Option<Part>) -> Result<(), AllocError>
+fn push_source(
+    faults: &mut Vec<TypeFault>,
+    at: Place,
+    right: &Option<Part>,
+) -> Result<(), AllocError>
     ensures { OnOk result (faults.new.items ≡ faults.old.items ++ where_typed (source_faults at) right.now) }
 {
     if let Some(right) = right {
         let fits = !matches!(right.flow, Flow::Sink) || is_passive(&right.typ);
-        push_unless(faults, fits, Kind::FlowSource, at)?;
+        push_unless(faults, fits, TypeFault::FlowSource(at))?;
     }
     Ok(())
 }
 
 /// Adds a fault where the types of both sides are not equivalent.
 fn push_unequal(
-    faults: &mut Vec<Found>,
+    faults: &mut Vec<TypeFault>,
     at: Place,
     left: &Option<Part>,
     right: &Option<Part>,
@@ -116,7 +123,7 @@ fn push_unequal(
 {
     if let (Some(left), Some(right)) = (left, right) {
         let fits = are_equivalent(&left.typ, &right.typ);
-        push_unless(faults, fits, Kind::NotEquivalent, at)?;
+        push_unless(faults, fits, TypeFault::NotEquivalent(at))?;
     }
     Ok(())
 }

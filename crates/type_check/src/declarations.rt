@@ -2,21 +2,22 @@
 
 ghost use Rattle.std.specs.Prelude.{◌≡◌, Some, OnOk};
 ghost use Rattle.fir_types.specs.Bundles.{memory_of};
-ghost use Rattle.type_check.specs.declared.part.Flow.TheVariants.{Duplex as A_duplex};
-ghost use Rattle.type_check.specs.Parts.{part_of, source_of};
+ghost use Rattle.circuit_parts.specs.declared.part.Flow.TheVariants.{Duplex as A_duplex};
+ghost use Rattle.circuit_parts.specs.Parts.{part_of, source_of, instance_in, port_flow};
 ghost use Rattle.type_check.specs.Texts.{twice_in, stored_faults};
 ghost use Rattle.type_check.specs.Memories.{memory_faults};
-ghost use Rattle.type_check.specs.Statements.{and_then, notes, declares, expects, names_node, instance_in, port_walk, port_flow, clock_faults, condition_faults, init_faults};
+ghost use Rattle.type_check.specs.Statements.{and_then, notes, declares, expects, names_node, port_walk, clock_faults, condition_faults, init_faults};
 ghost use Rattle.type_check.specs.Walks.{Walks};
 
 use crate::conditions::{expect_clock, expect_condition, expect_init};
-use crate::fault::Kind;
+use crate::fault::TypeFault;
 use crate::judge::judge;
 use crate::memory::push_memory;
 use crate::modules::{Modules, insert_new};
-use crate::part::{Flow, Part};
 use crate::texts::{is_passive, push_stored, push_twice, push_unless};
 use crate::walk::Walk;
+use circuit_parts::steps::{port_flow, source};
+use circuit_parts::{Flow, Part};
 use fir_tree::Expr;
 use fir_types::{FirType, Memory, Name, Port, copy, instance_type, memory_type};
 use std::alloc::{AllocError, Global};
@@ -26,18 +27,7 @@ pub fn declare_port(alloc: Global, walk: &mut Walk, port: &Port) -> Result<(), A
     ensures { OnOk result (Walks (port_walk port.now) walk.old walk.new) }
 {
     push_twice(alloc, &mut walk.found.faults, &port.typ)?;
-    declare(alloc, walk, port.name, &port.typ, flow_of(port))
-}
-
-/// An input can be read inside its module, and an output driven.
-fn flow_of(port: &Port) -> Flow
-    ensures { result ≡ port_flow port.now }
-{
-    if port.output {
-        Flow::Sink
-    } else {
-        Flow::Source
-    }
+    declare(alloc, walk, port.name, &port.typ, port_flow(port))
 }
 
 /// A wire, which can be read and driven.
@@ -126,7 +116,11 @@ pub fn declare_node(
         return Ok(());
     };
     let fits = is_passive(&part.typ);
-    push_unless(&mut walk.found.faults, fits, Kind::NotPassive, expr.place)?;
+    push_unless(
+        &mut walk.found.faults,
+        fits,
+        TypeFault::NotPassive(expr.place),
+    )?;
     declare_source(walk, name, part.typ)
 }
 
@@ -148,6 +142,5 @@ fn declare(
 fn declare_source(walk: &mut Walk, name: Name, typ: FirType) -> Result<(), AllocError>
     ensures { OnOk result (Walks (declares name.id (Some (source_of typ))) walk.old walk.new) }
 {
-    let flow = Flow::Source;
-    insert_new(&mut walk.known, name.id, Part { typ, flow })
+    insert_new(&mut walk.known, name.id, source(typ))
 }

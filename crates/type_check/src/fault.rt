@@ -1,5 +1,6 @@
 //! The reasons to refuse a circuit for its types.
 
+use fault_order::Fault;
 use place_text::Place;
 use std::alloc::AllocError;
 use thiserror::Error;
@@ -65,24 +66,77 @@ impl From<AllocError> for TypeFault {
     }
 }
 
-/// A kind of fault. At one place an earlier kind is told before a later one.
-#[derive(Clone, Copy, Debug, PartialEq, Eq)]
-pub enum Kind {
-    FieldTwice,
-    FieldUnknown,
-    NotBundle,
-    NotVector,
-    IndexRange,
-    IndexKind,
-    OperandKind,
-    NotEquivalent,
-    FlowSink,
-    FlowSource,
-    ConditionKind,
-    NotPassive,
-    LiteralFit,
-    MemoryField,
-}
+impl Fault for TypeFault {
+    ghost use Rattle.type_check.specs.Faults.{place_of, rank_of, kind_of};
+    ghost use Rattle.type_check.specs.Ranks.{one_each, one_nowhere};
 
-/// A fault of a kind, at a place.
-pub type Found = fault_order::Found<Kind>;
+    ghost place = { place_of };
+
+    ghost rank = { rank_of };
+
+    ghost kind = { kind_of };
+
+    fn place(&self) -> Option<Place> {
+        match self {
+            TypeFault::FieldTwice(place)
+            | TypeFault::FieldUnknown(place)
+            | TypeFault::NotBundle(place)
+            | TypeFault::NotVector(place)
+            | TypeFault::IndexRange(place)
+            | TypeFault::IndexKind(place)
+            | TypeFault::OperandKind(place)
+            | TypeFault::NotEquivalent(place)
+            | TypeFault::FlowSink(place)
+            | TypeFault::FlowSource(place)
+            | TypeFault::ConditionKind(place)
+            | TypeFault::NotPassive(place)
+            | TypeFault::LiteralFit(place)
+            | TypeFault::MemoryField(place) => Some(*place),
+            TypeFault::NoMemory => None,
+        }
+    }
+
+    fn rank(&self) -> u8 {
+        match self {
+            TypeFault::FieldTwice(_) => 0,
+            TypeFault::FieldUnknown(_) => 1,
+            TypeFault::NotBundle(_) => 2,
+            TypeFault::NotVector(_) => 3,
+            TypeFault::IndexRange(_) => 4,
+            TypeFault::IndexKind(_) => 5,
+            TypeFault::OperandKind(_) => 6,
+            TypeFault::NotEquivalent(_) => 7,
+            TypeFault::FlowSink(_) => 8,
+            TypeFault::FlowSource(_) => 9,
+            TypeFault::ConditionKind(_) => 10,
+            TypeFault::NotPassive(_) => 11,
+            TypeFault::LiteralFit(_) => 12,
+            TypeFault::MemoryField(_) => 13,
+            TypeFault::NoMemory => 14,
+        }
+    }
+
+    fn kind(&self) -> &'static str {
+        match self {
+            TypeFault::FieldTwice(_) => "FieldTwice",
+            TypeFault::FieldUnknown(_) => "FieldUnknown",
+            TypeFault::NotBundle(_) => "NotBundle",
+            TypeFault::NotVector(_) => "NotVector",
+            TypeFault::IndexRange(_) => "IndexRange",
+            TypeFault::IndexKind(_) => "IndexKind",
+            TypeFault::OperandKind(_) => "OperandKind",
+            TypeFault::NotEquivalent(_) => "NotEquivalent",
+            TypeFault::FlowSink(_) => "FlowSink",
+            TypeFault::FlowSource(_) => "FlowSource",
+            TypeFault::ConditionKind(_) => "ConditionKind",
+            TypeFault::NotPassive(_) => "NotPassive",
+            TypeFault::LiteralFit(_) => "LiteralFit",
+            TypeFault::MemoryField(_) => "MemoryField",
+            TypeFault::NoMemory => "NoMemory",
+        }
+    }
+
+    ghost one_each = { one_each };
+
+    ghost one_nowhere = { one_nowhere };
+}

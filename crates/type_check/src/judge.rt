@@ -1,20 +1,20 @@
 //! The walk through an expression.
 
 ghost use Rattle.std.specs.Prelude.{◌≡◌, ◌<◌, length, map, option_map, IfOk, OnOk};
-ghost use Rattle.type_check.specs.Expressions.{found_of, judged, suffix_step, typed_operands, all_among, along, no_type};
+ghost use Rattle.type_check.specs.Expressions.{found_of, judged, suffix_step, typed_operands, all_among, along};
+ghost use Rattle.circuit_parts.specs.Kinds.{no_type};
 ghost use Rattle.type_check.specs.Parts.{component};
 ghost use Rattle.type_check.specs.Judging.{part_reached, operand_of, together, filled, AddsBelow};
 ghost use Rattle.type_check.specs.Walks.{Adds};
 
 use crate::found::Findings;
-use crate::part::Part;
 use crate::rules::{Operand, judge_choice, judge_literal, judge_operation};
 use crate::steps::{Reached, to_element, to_field, to_indexed};
-use bit_words::{List, Shared};
+use circuit_parts::Part;
+use circuit_parts::kinds::no_type;
 use fir_tree::{Expr, Form, Suffix};
-use fir_types::{FirType, Shape, copy};
+use fir_types::{FirType, copy};
 use indexmap::IndexMap;
-use place_text::Place;
 use std::alloc::{AllocError, Global};
 
 /// The type and the flow of an expression, where it has a type. Adds the types of its nodes in text order, and its faults.
@@ -29,7 +29,7 @@ pub fn judge(
     ensures found { OnOk result (Adds (found_of known.now.entries expr.now) found.old found.new) }
 {
     let at = found.types.len();
-    found.types.push(untyped(alloc, expr.place)?)?;
+    found.types.push(no_type(alloc, expr.place)?)?;
     let part = judge_form(alloc, known, found, expr)?;
     fill(alloc, &mut found.types, at, &part)?;
     Ok(part)
@@ -188,14 +188,4 @@ fn copied(alloc: Global, reached: Option<Reached<'_>>) -> Result<Option<Part>, A
         typ: copy(reached.typ)?,
         flow: reached.flow,
     }))
-}
-
-/// What stands for the type of a node that has none.
-fn untyped(alloc: Global, place: Place) -> Result<FirType, AllocError>
-    ensures { IfOk result (λ typ. typ ≡ no_type place) }
-{
-    Ok(FirType {
-        place,
-        shape: Shape::Bundle(Shared::new(alloc, List::new(alloc))?),
-    })
 }

@@ -2,12 +2,12 @@
 
 ghost use Rattle.std.specs.Prelude.{◌≡◌, ◌++◌, ◌∷◌, [], List as Listed, flat_map, IfOk, OnOk};
 ghost use Rattle.fir_types.specs.declared.memory.MemLine.{MemLine as Line};
-ghost use Rattle.type_check.specs.declared.fault.Kind.TheVariants.{MemoryField};
+ghost use Rattle.type_check.specs.declared.fault.TypeFault.TheVariants.{MemoryField};
 ghost use Rattle.type_check.specs.Memories.{line_faults, is_said, place_of, again_behind, missing, memory_faults};
 ghost use Rattle.type_check.specs.Noted.{Notes};
 ghost use Rattle.type_check.specs.Parts.{unless};
 
-use crate::fault::{Found, Kind};
+use crate::fault::TypeFault;
 use crate::texts::{push_stored, push_unless};
 use fir_types::{MemLine, Memory};
 use indexmap::IndexSet;
@@ -30,7 +30,7 @@ struct Said {
 /// Adds the faults of a memory's lines. Takes time in proportion to them, also with many ports.
 pub fn push_memory(
     alloc: Global,
-    faults: &mut Vec<Found>,
+    faults: &mut Vec<TypeFault>,
     memory: &Memory,
 ) -> Result<(), AllocError>
     ensures { OnOk result (faults.new.items ≡ faults.old.items ++ memory_faults memory.now) }
@@ -42,7 +42,11 @@ pub fn push_memory(
 }
 
 /// Adds what each line says by itself.
-fn push_lines(alloc: Global, faults: &mut Vec<Found>, lines: &[MemLine]) -> Result<(), AllocError>
+fn push_lines(
+    alloc: Global,
+    faults: &mut Vec<TypeFault>,
+    lines: &[MemLine],
+) -> Result<(), AllocError>
     ensures { OnOk result (faults.new.items ≡ faults.old.items ++ flat_map line_faults lines.now) }
 {
     for line in lines {
@@ -51,7 +55,7 @@ fn push_lines(alloc: Global, faults: &mut Vec<Found>, lines: &[MemLine]) -> Resu
     Ok(())
 }
 
-fn push_line(alloc: Global, faults: &mut Vec<Found>, line: &MemLine) -> Result<(), AllocError>
+fn push_line(alloc: Global, faults: &mut Vec<TypeFault>, line: &MemLine) -> Result<(), AllocError>
     ensures { OnOk result (faults.new.items ≡ faults.old.items ++ line_faults line.now) }
 {
     match line {
@@ -64,7 +68,11 @@ fn push_line(alloc: Global, faults: &mut Vec<Found>, line: &MemLine) -> Result<(
 }
 
 /// Adds the lines that say again what one before them says. Answers which lines stand.
-fn push_again(alloc: Global, faults: &mut Vec<Found>, lines: &[MemLine]) -> Result<Said, AllocError>
+fn push_again(
+    alloc: Global,
+    faults: &mut Vec<TypeFault>,
+    lines: &[MemLine],
+) -> Result<Said, AllocError>
     ensures faults { OnOk result (faults.new.items ≡ faults.old.items ++ again_behind [] lines.now) }
     ensures said { IfOk result (Notes lines.now) }
 {
@@ -122,7 +130,7 @@ fn place_of(line: &MemLine) -> Place
 }
 
 /// Adds the lines that are missing, each at this place.
-fn push_missing(faults: &mut Vec<Found>, said: &Said, at: Place) -> Result<(), AllocError>
+fn push_missing(faults: &mut Vec<TypeFault>, said: &Said, at: Place) -> Result<(), AllocError>
     ensures { (lines : Listed Line) → Notes lines said.now → OnOk result (faults.new.items ≡ faults.old.items ++ missing at lines) }
 {
     push_wrong(faults, said.element, at)?;
@@ -133,8 +141,8 @@ fn push_missing(faults: &mut Vec<Found>, said: &Said, at: Place) -> Result<(), A
 }
 
 /// Adds a wrong line at a place, where the condition isn't met.
-fn push_wrong(faults: &mut Vec<Found>, fine: bool, at: Place) -> Result<(), AllocError>
-    ensures { OnOk result (faults.new.items ≡ faults.old.items ++ unless fine MemoryField at) }
+fn push_wrong(faults: &mut Vec<TypeFault>, fine: bool, at: Place) -> Result<(), AllocError>
+    ensures { OnOk result (faults.new.items ≡ faults.old.items ++ unless fine (MemoryField at)) }
 {
-    push_unless(faults, fine, Kind::MemoryField, at)
+    push_unless(faults, fine, TypeFault::MemoryField(at))
 }

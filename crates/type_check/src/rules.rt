@@ -3,16 +3,20 @@
 ghost use Rattle.std.specs.Prelude.{◌≡◌, ◌++◌, [], None, map, IfOk, OnOk};
 ghost use Rattle.bit_words.specs.Numbers.{integer_of_number};
 ghost use Rattle.prim_ops.specs.Kinds.{row_kind};
-ghost use Rattle.type_check.specs.declared.fault.Kind.TheVariants.{LiteralFit};
-ghost use Rattle.type_check.specs.Parts.{unless, source_of};
-ghost use Rattle.type_check.specs.Expressions.{fits_literal, ground, node, row_of, signs_of, operation, choice, choice_faults};
+ghost use Rattle.type_check.specs.declared.fault.TypeFault.TheVariants.{LiteralFit};
+ghost use Rattle.type_check.specs.Parts.{unless};
+ghost use Rattle.circuit_parts.specs.Parts.{source_of};
+ghost use Rattle.type_check.specs.Expressions.{fits_literal, node, row_of, signs_of, operation, choice, choice_faults};
+ghost use Rattle.circuit_parts.specs.Kinds.{ground};
 ghost use Rattle.type_check.specs.Judging.{operand_of};
 
-use crate::fault::{Found, Kind};
-use crate::part::{Flow, Part};
-use crate::texts::{are_equivalent, fits_literal, is_passive, is_unsigned, push_unless, sign_of};
+use crate::fault::TypeFault;
+use crate::texts::{are_equivalent, fits_literal, is_passive, push_unless};
 use bit_words::{Kind as Sign, Number};
-use fir_types::{FirType, Shape, copy, has_clock};
+use circuit_parts::Part;
+use circuit_parts::kinds::{ground, is_unsigned, sign_of};
+use circuit_parts::steps::source;
+use fir_types::{FirType, copy, has_clock};
 use place_text::Place;
 use prim_ops::{Prim, arity, kind_of};
 use std::alloc::{AllocError, Global};
@@ -26,28 +30,25 @@ pub struct Operand {
 
 /// A literal, which its width has to hold.
 pub fn judge_literal(
-    faults: &mut Vec<Found>,
+    faults: &mut Vec<TypeFault>,
     place: Place,
     sign: Sign,
     width: Option<u128>,
     number: Number,
 ) -> Result<Option<Part>, AllocError>
-    ensures part { IfOk result (λ part. part ≡ (node place (unless (fits_literal sign width (integer_of_number number)) LiteralFit place) (ground place sign width) []).part) }
-    ensures faults { OnOk result (faults.new.items ≡ faults.old.items ++ unless (fits_literal sign width (integer_of_number number)) LiteralFit place) }
+    ensures part { IfOk result (λ part. part ≡ (node place (unless (fits_literal sign width (integer_of_number number)) (LiteralFit place)) (ground place sign width) []).part) }
+    ensures faults { OnOk result (faults.new.items ≡ faults.old.items ++ unless (fits_literal sign width (integer_of_number number)) (LiteralFit place)) }
 {
     if !fits_literal(sign, width, number) {
-        faults.push(Found {
-            kind: Kind::LiteralFit,
-            place,
-        })?;
+        faults.push(TypeFault::LiteralFit(place))?;
         return Ok(None);
     }
-    Ok(Some(read_only(typ_of(place, sign, width))))
+    Ok(Some(source(ground(place, sign, width))))
 }
 
 /// An operation, which has to take operands of these kinds.
 pub fn judge_operation(
-    faults: &mut Vec<Found>,
+    faults: &mut Vec<TypeFault>,
     op: Prim,
     place: Place,
     operands: &[Operand],
@@ -56,12 +57,9 @@ pub fn judge_operation(
     ensures faults { OnOk result (faults.new.items ≡ faults.old.items ++ (operation op place [] (map operand_of operands.now)).faults) }
 {
     match row(op, operands) {
-        Some(sign) => Ok(Some(read_only(typ_of(place, sign, None)))),
+        Some(sign) => Ok(Some(source(ground(place, sign, None)))),
         None => {
-            faults.push(Found {
-                kind: Kind::OperandKind,
-                place,
-            })?;
+            faults.push(TypeFault::OperandKind(place))?;
             Ok(None)
         }
     }
@@ -91,7 +89,7 @@ fn row_of_kinds(op: Prim, kinds: &[Sign]) -> Option<Sign>
 /// A choice between the second operand and the third.
 pub fn judge_choice(
     alloc: Global,
-    faults: &mut Vec<Found>,
+    faults: &mut Vec<TypeFault>,
     place: Place,
     operands: &[Operand],
 ) -> Result<Option<Part>, AllocError>
@@ -106,13 +104,13 @@ pub fn judge_choice(
     if faults.len() > before {
         return Ok(None);
     }
-    Ok(Some(read_only(copy(&first.typ)?)))
+    Ok(Some(source(copy(&first.typ)?)))
 }
 
 /// Adds the faults of a choice: over what is no condition, over clocks, over types with a `flip`, and over two types that
 /// aren't equivalent.
 fn push_choice(
-    faults: &mut Vec<Found>,
+    faults: &mut Vec<TypeFault>,
     place: Place,
     condition: &Operand,
     first: &Operand,
@@ -121,34 +119,13 @@ fn push_choice(
     ensures { OnOk result (faults.new.items ≡ faults.old.items ++ choice_faults place (operand_of condition.now) (operand_of first.now) (operand_of second.now)) }
 {
     let unsigned = is_unsigned(&condition.typ);
-    push_unless(faults, unsigned, Kind::ConditionKind, condition.place)?;
+    push_unless(faults, unsigned, TypeFault::ConditionKind(condition.place))?;
     let clocks = has_clock(&first.typ) || has_clock(&second.typ);
-    push_unless(faults, !clocks, Kind::OperandKind, place)?;
+    push_unless(faults, !clocks, TypeFault::OperandKind(place))?;
     let passive = is_passive(&first.typ);
-    push_unless(faults, passive, Kind::NotPassive, first.place)?;
+    push_unless(faults, passive, TypeFault::NotPassive(first.place))?;
     let passive = is_passive(&second.typ);
-    push_unless(faults, passive, Kind::NotPassive, second.place)?;
+    push_unless(faults, passive, TypeFault::NotPassive(second.place))?;
     let equivalent = are_equivalent(&first.typ, &second.typ);
-    push_unless(faults, equivalent, Kind::NotEquivalent, second.place)
-}
-
-/// A type of this kind.
-fn typ_of(place: Place, sign: Sign, width: Option<u128>) -> FirType
-    ensures { result ≡ ground place sign width }
-{
-    let shape = match sign {
-        Sign::Unsigned => Shape::Unsigned(width),
-        Sign::Signed => Shape::Signed(width),
-    };
-    FirType { place, shape }
-}
-
-/// What can only be read.
-fn read_only(typ: FirType) -> Part
-    ensures { result ≡ source_of typ }
-{
-    Part {
-        typ,
-        flow: Flow::Source,
-    }
+    push_unless(faults, equivalent, TypeFault::NotEquivalent(second.place))
 }

@@ -2,13 +2,14 @@
 
 ghost use Rattle.std.specs.Prelude.{◌≡◌, ◌++◌, ◌∷◌, [], None, IfOk, OnOk};
 ghost use Rattle.fir_types.specs.declared.fir_type.Shape.TheViews.{out-Shape};
-ghost use Rattle.type_check.specs.Parts.{flow_through};
+ghost use Rattle.circuit_parts.specs.Parts.{flow_through};
 ghost use Rattle.type_check.specs.Expressions.{field_step, element_step, index_step};
 ghost use Rattle.type_check.specs.Judging.{part_at, part_reached};
 
-use crate::fault::{Found, Kind};
-use crate::part::{Flow, Part};
-use crate::texts::is_unsigned;
+use crate::fault::TypeFault;
+use circuit_parts::kinds::is_unsigned;
+use circuit_parts::steps::through;
+use circuit_parts::{Flow, Part};
 use fir_types::{FirType, Name, Shape, field_of};
 use place_text::Place;
 use std::alloc::AllocError;
@@ -22,7 +23,7 @@ pub struct Reached<'a> {
 
 /// The field of this name, the first one. Adds a fault where there is none.
 pub fn to_field<'a>(
-    faults: &mut Vec<Found>,
+    faults: &mut Vec<TypeFault>,
     base: Reached<'a>,
     name: Name,
 ) -> Result<Option<Reached<'a>>, AllocError>
@@ -30,20 +31,20 @@ pub fn to_field<'a>(
     ensures faults { OnOk result (faults.new.items ≡ faults.old.items ++ (field_step name (part_at base.entry) (out-Shape base.entry.typ.now.shape)).faults) }
 {
     let Shape::Bundle(fields) = &base.typ.shape else {
-        return fail(faults, Kind::NotBundle, name.place);
+        return fail(faults, TypeFault::NotBundle(name.place));
     };
     match field_of(fields.as_slice(), name.id) {
         Some(field) => Ok(Some(Reached {
             typ: &field.typ,
             flow: through(field.flip, base.flow),
         })),
-        None => fail(faults, Kind::FieldUnknown, name.place),
+        None => fail(faults, TypeFault::FieldUnknown(name.place)),
     }
 }
 
 /// The element of this number, which stands at a place behind the bracket. Adds a fault where there is none.
 pub fn to_element<'a>(
-    faults: &mut Vec<Found>,
+    faults: &mut Vec<TypeFault>,
     base: Reached<'a>,
     bracket: Place,
     at: Place,
@@ -53,7 +54,7 @@ pub fn to_element<'a>(
     ensures faults { OnOk result (faults.new.items ≡ faults.old.items ++ (element_step bracket at number (part_at base.entry) (out-Shape base.entry.typ.now.shape)).faults) }
 {
     let Shape::Vector(element, length) = &base.typ.shape else {
-        return fail(faults, Kind::NotVector, bracket);
+        return fail(faults, TypeFault::NotVector(bracket));
     };
     if number < *length {
         Ok(Some(Reached {
@@ -61,13 +62,13 @@ pub fn to_element<'a>(
             flow: base.flow,
         }))
     } else {
-        fail(faults, Kind::IndexRange, at)
+        fail(faults, TypeFault::IndexRange(at))
     }
 }
 
 /// The element that an index gives, which stands at a place behind the bracket. Adds a fault where there is none.
 pub fn to_indexed<'a>(
-    faults: &mut Vec<Found>,
+    faults: &mut Vec<TypeFault>,
     base: Reached<'a>,
     bracket: Place,
     at: Place,
@@ -77,7 +78,7 @@ pub fn to_indexed<'a>(
     ensures faults { OnOk result (faults.new.items ≡ faults.old.items ++ (index_step bracket at index.now (part_at base.entry) (out-Shape base.entry.typ.now.shape)).faults) }
 {
     let Shape::Vector(element, _) = &base.typ.shape else {
-        return fail(faults, Kind::NotVector, bracket);
+        return fail(faults, TypeFault::NotVector(bracket));
     };
     if is_unsigned(&index.typ) {
         Ok(Some(Reached {
@@ -85,30 +86,18 @@ pub fn to_indexed<'a>(
             flow: base.flow,
         }))
     } else {
-        fail(faults, Kind::IndexKind, at)
-    }
-}
-
-/// The flow of a field of what has this flow.
-fn through(flip: bool, flow: Flow) -> Flow
-    ensures { result ≡ flow_through flip flow }
-{
-    match (flip, flow) {
-        (false, _) | (true, Flow::Duplex) => flow,
-        (true, Flow::Source) => Flow::Sink,
-        (true, Flow::Sink) => Flow::Source,
+        fail(faults, TypeFault::IndexKind(at))
     }
 }
 
 /// Adds a fault, behind which nothing is reached.
 fn fail<'a>(
-    faults: &mut Vec<Found>,
-    kind: Kind,
-    place: Place,
+    faults: &mut Vec<TypeFault>,
+    fault: TypeFault,
 ) -> Result<Option<Reached<'a>>, AllocError>
     ensures none { IfOk result (λ reached. part_reached reached ≡ None) }
-    ensures fault { OnOk result (faults.new.items ≡ faults.old.items ++ record { kind = kind; place = place } ∷ []) }
+    ensures fault { OnOk result (faults.new.items ≡ faults.old.items ++ fault ∷ []) }
 {
-    faults.push(Found { kind, place })?;
+    faults.push(fault)?;
     Ok(None)
 }

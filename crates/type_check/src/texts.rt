@@ -4,40 +4,15 @@ ghost use Rattle.std.specs.Prelude.{◌≡◌, ◌++◌, [], map, OnOk};
 ghost use Rattle.std.specs.List.{flat_map};
 ghost use Rattle.bit_words.specs.Numbers.{integer_of_number};
 ghost use Rattle.type_check.specs.Parts.{unless};
-ghost use Rattle.type_check.specs.Texts.{sign_of, is_unsigned, is_a_clock, is_passive, are_equivalent, seconds_behind, twice_in, stored_faults};
+ghost use Rattle.circuit_parts.specs.Kinds.{sign_of, is_unsigned, is_a_clock};
+ghost use Rattle.type_check.specs.Texts.{is_passive, are_equivalent, seconds_behind, twice_in, stored_faults};
 ghost use Rattle.type_check.specs.Expressions.{fits_literal};
 
-use crate::fault::{Found, Kind as FaultKind};
+use crate::fault::TypeFault;
 use bit_words::{Kind, Number, fits};
 use fir_types::{Field, FirType, Shape, equivalent, has_clock, passive};
 use indexmap::IndexSet;
-use place_text::Place;
 use std::alloc::{AllocError, Global};
-
-/// The kind of a type as an operand; None for what is no number. `Reset` is `UInt<1>`.
-pub fn sign_of(typ: &FirType) -> Option<Kind>
-    ensures { result ≡ sign_of typ.now }
-{
-    match &typ.shape {
-        Shape::Unsigned(_) | Shape::Reset => Some(Kind::Unsigned),
-        Shape::Signed(_) => Some(Kind::Signed),
-        Shape::Clock | Shape::Bundle(_) | Shape::Vector(_, _) => None,
-    }
-}
-
-/// Whether a type is a `UInt`.
-pub fn is_unsigned(typ: &FirType) -> bool
-    ensures { result ≡ is_unsigned typ.now }
-{
-    matches!(&typ.shape, Shape::Unsigned(_) | Shape::Reset)
-}
-
-/// Whether a type is a `Clock`.
-pub fn is_clock(typ: &FirType) -> bool
-    ensures { result ≡ is_a_clock typ.now }
-{
-    matches!(&typ.shape, Shape::Clock)
-}
 
 /// Whether no `flip` stands in a type.
 pub fn is_passive(typ: &FirType) -> bool
@@ -66,22 +41,25 @@ pub fn fits_literal(kind: Kind, width: Option<u128>, number: Number) -> bool
 
 /// Adds the fault, where the condition isn't met.
 pub fn push_unless(
-    faults: &mut Vec<Found>,
+    faults: &mut Vec<TypeFault>,
     fine: bool,
-    kind: FaultKind,
-    place: Place,
+    fault: TypeFault,
 ) -> Result<(), AllocError>
-    ensures { OnOk result (faults.new.items ≡ faults.old.items ++ unless fine kind place) }
+    ensures { OnOk result (faults.new.items ≡ faults.old.items ++ unless fine fault) }
 {
     if !fine {
-        faults.push(Found { kind, place })?;
+        faults.push(fault)?;
     }
     Ok(())
 }
 
 /// Adds the second fields of a name in each bundle of a type.
 #[cycle(twice)]
-pub fn push_twice(alloc: Global, faults: &mut Vec<Found>, typ: &FirType) -> Result<(), AllocError>
+pub fn push_twice(
+    alloc: Global,
+    faults: &mut Vec<TypeFault>,
+    typ: &FirType,
+) -> Result<(), AllocError>
     ensures { OnOk result (faults.new.items ≡ faults.old.items ++ twice_in typ.now) }
 {
     match &typ.shape {
@@ -95,7 +73,11 @@ pub fn push_twice(alloc: Global, faults: &mut Vec<Found>, typ: &FirType) -> Resu
 }
 
 #[cycle(twice)]
-fn push_twice_in(alloc: Global, faults: &mut Vec<Found>, fields: &[Field]) -> Result<(), AllocError>
+fn push_twice_in(
+    alloc: Global,
+    faults: &mut Vec<TypeFault>,
+    fields: &[Field],
+) -> Result<(), AllocError>
     ensures { OnOk result (faults.new.items ≡ faults.old.items ++ flat_map (λ field. twice_in field.typ) fields.now) }
 {
     for field in fields {
@@ -105,23 +87,31 @@ fn push_twice_in(alloc: Global, faults: &mut Vec<Found>, fields: &[Field]) -> Re
 }
 
 /// Adds the fields whose names other fields before them have.
-fn push_seconds(alloc: Global, faults: &mut Vec<Found>, fields: &[Field]) -> Result<(), AllocError>
+fn push_seconds(
+    alloc: Global,
+    faults: &mut Vec<TypeFault>,
+    fields: &[Field],
+) -> Result<(), AllocError>
     ensures { OnOk result (faults.new.items ≡ faults.old.items ++ seconds_behind [] (map (λ field. field.name) fields.now)) }
 {
     let mut ids = IndexSet::new(alloc);
     for field in fields {
         let (_index, added) = ids.insert_full(field.name.id)?;
-        push_unless(faults, added, FaultKind::FieldTwice, field.name.place)?;
+        push_unless(faults, added, TypeFault::FieldTwice(field.name.place))?;
     }
     Ok(())
 }
 
 /// Adds the faults of the type of a register or of a memory's elements.
-pub fn push_stored(alloc: Global, faults: &mut Vec<Found>, typ: &FirType) -> Result<(), AllocError>
+pub fn push_stored(
+    alloc: Global,
+    faults: &mut Vec<TypeFault>,
+    typ: &FirType,
+) -> Result<(), AllocError>
     ensures { OnOk result (faults.new.items ≡ faults.old.items ++ stored_faults typ.now) }
 {
     push_twice(alloc, faults, typ)?;
     let clocked = has_clock(typ);
-    push_unless(faults, !clocked, FaultKind::OperandKind, typ.place)?;
-    push_unless(faults, is_passive(typ), FaultKind::NotPassive, typ.place)
+    push_unless(faults, !clocked, TypeFault::OperandKind(typ.place))?;
+    push_unless(faults, is_passive(typ), TypeFault::NotPassive(typ.place))
 }

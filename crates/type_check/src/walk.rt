@@ -11,7 +11,7 @@ use crate::declarations::{
 };
 use crate::found::Findings;
 use crate::modules::Modules;
-use crate::part::Part;
+use circuit_parts::Part;
 use fir_tree::{Arm, Module, Stmt};
 use fir_types::Port;
 use indexmap::IndexMap;

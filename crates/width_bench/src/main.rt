@@ -10,8 +10,9 @@ use fir_types::Shape;
 use std::alloc::Global;
 use std::env;
 use std::process::ExitCode;
+use width_fit::{WidthFault, judge};
 use width_rules::rules_of;
-use width_solver::{WidthFault, judge, solve};
+use width_solver::solve;
 
 fn main(rt: HostRuntime) -> ExitCode {
     match run(&rt) {

@@ -12,8 +12,8 @@ use Rattle.fir_types.specs.declared.fir_type.Field.{Field}
 use Rattle.fir_tree.specs.declared.expr.Expr.{Expr, the_lemmas}
 use Rattle.fir_tree.specs.declared.expr.Suffix.{Suffix}
 use Rattle.fir_tree.specs.declared.expr.Form.TheVariants as form
-use Rattle.type_check.specs.declared.part.Flow.{Flow}
-use Rattle.type_check.specs.Parts.{source_of, flow_through}
+use Rattle.circuit_parts.specs.declared.part.Flow.{Flow}
+use Rattle.circuit_parts.specs.Parts.{source_of, flow_through}
 use Rattle.width_rules.specs.declared.slot.Slot.{Slot}
 use Rattle.width_rules.specs.declared.rule.Formula.{Formula}
 use Rattle.width_rules.specs.Places.{field_slots}

@@ -1,23 +1,18 @@
 -- The widths of expressions by the variables (FIRRTL specification 3.0, "Width Inference", "Primitive Operations", "References").
-use Rattle.std.specs.Prelude.{ℕ, zero, suc, ◌+◌, nat_eq, ◌==◌, ◌&&◌, Bool, true, false, is_some, if◌then◌else◌, List, [], ◌∷◌, ◌++◌, map, length, zip, fold, find, Option, Some, None, ℤ}
+use Rattle.std.specs.Prelude.{ℕ, zero, suc, nat_eq, ◌&&◌, is_some, if◌then◌else◌, List, [], ◌∷◌, ◌++◌, map, length, zip, fold, Option, Some, None, ℤ}
 use Rattle.std.specs.Map.{lookup}
 use Rattle.bit_words.specs.declared.value.Kind.{Kind}
-use Rattle.bit_words.specs.declared.value.Kind.TheVariants.{Unsigned}
 use Rattle.bit_words.specs.Numbers.{integer_of_number}
 use Rattle.place_text.specs.declared.place.Place.{Place}
-use Rattle.fir_types.specs.declared.fir_type.FirType.{FirType}
-use Rattle.fir_types.specs.declared.fir_type.Shape.TheViews.{out-Shape}
 use Rattle.prim_ops.specs.declared.operation.PrimOp.{PrimOp}
 use Rattle.prim_ops.specs.Operations.{arity_of}
 use Rattle.prim_ops.specs.Kinds.{row_kind}
 use Rattle.fir_tree.specs.declared.expr.Expr.{Expr, fold-Expr}
 use Rattle.fir_tree.specs.declared.expr.Suffix.{Suffix, fold-Suffix}
 use Rattle.fir_tree.specs.declared.expr.Form.TheOpen.{Form-F, Suffix-F, Expr-F}
-use Rattle.type_check.specs.declared.part.Part.{Part}
-use Rattle.type_check.specs.Parts.{source_of}
-use Rattle.type_check.specs.Texts.{sign_of}
-use Rattle.type_check.specs.Expressions.{holds, ground, sign_or_unsigned}
-use Rattle.type_check.specs.Flows.{no_part, field_part, element_part}
+use Rattle.circuit_parts.specs.declared.part.Part.{Part}
+use Rattle.circuit_parts.specs.Parts.{source_of, no_part, field_part, element_part}
+use Rattle.circuit_parts.specs.Kinds.{sign_of, holds, ground, sign_or_unsigned}
 use Rattle.width_rules.specs.declared.component.Component.{Component}
 use Rattle.width_rules.specs.declared.slot.Slot.{Slot}
 use Rattle.width_rules.specs.declared.slot.Slot.TheVariants as slot

@@ -2,7 +2,7 @@
 
 use crate::slot::Slot;
 use bit_words::List;
-use type_check::part::Part;
+use circuit_parts::Part;
 
 /// A component or a part of one, with the widths of its type's places.
 #[derive(Debug, Drop)]

@@ -1,7 +1,7 @@
 //! The rules of connects, of what is invalid, and of nodes.
 
 ghost use Rattle.std.specs.Prelude.{◌≡◌, ◌++◌, map, OnOk, IfOk};
-ghost use Rattle.type_check.specs.Parts.{flow_through};
+ghost use Rattle.circuit_parts.specs.Parts.{flow_through};
 ghost use Rattle.width_rules.specs.Places.{spots};
 ghost use Rattle.width_rules.specs.Circuits.{at_least, driven, connected, zeroed, invalidated, node_rules};
 ghost use Rattle.width_rules.specs.Layers.{connected_by, invalidated_by};
@@ -10,11 +10,11 @@ use crate::measuring::formula_of;
 use crate::rule::{Formula, Rule};
 use crate::sizes::flips_of;
 use crate::slot::Slot;
-use crate::steps::through;
 use bit_words::List;
+use circuit_parts::Flow;
+use circuit_parts::steps::through;
 use fir_types::FirType;
 use std::alloc::{AllocError, Global};
-use type_check::part::Flow;
 
 /// Adds the rules of a connect, whose left side has this type.
 pub fn push_connected(

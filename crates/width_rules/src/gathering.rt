@@ -6,18 +6,18 @@ ghost use Rattle.width_rules.specs.Walks.{AreInstances, ported, body_among, bodi
 ghost use Rattle.width_rules.specs.Solutions.{AreRules};
 
 use crate::component::Component;
-use crate::measuring::source;
 use crate::memories::push_all;
 use crate::rule::Rules;
 use crate::slot::Slot;
 use crate::walk::{Found, note, slots_of_type, walk_statements};
 use bit_words::List;
+use circuit_parts::Part;
+use circuit_parts::steps::{port_flow, source};
 use fir_tree::{Checked, Module};
 use fir_types::{Port, copy, instance_type};
 use indexmap::IndexMap;
 use place_text::Place;
 use std::alloc::{AllocError, Global};
-use type_check::part::{Flow, Part};
 
 /// A module with the widths of its ports.
 #[derive(Drop)]
@@ -163,13 +163,10 @@ pub fn note_ports(
         let Some(slots) = widths.next() else {
             return Ok(());
         };
-        let flow = if port.output {
-            Flow::Sink
-        } else {
-            Flow::Source
+        let part = Part {
+            typ: copy(&port.typ)?,
+            flow: port_flow(port),
         };
-        let typ = copy(&port.typ)?;
-        let part = Part { typ, flow };
         note(known, port.name.id, Component { part, slots })?;
     }
     Ok(())

@@ -15,6 +15,8 @@ pub mod sizes;
 pub mod slot;
 pub mod steps;
 pub mod walk;
+pub mod widths;
 
 pub use gathering::rules_of;
 pub use rule::{Formula, Rule, Rules};
+pub use widths::Widths;

@@ -3,9 +3,8 @@
 ghost use Rattle.std.specs.Prelude.{◌≡◌, ◌++◌, ◌∷◌, [], map, zip, None, OnOk, IfOk};
 ghost use Rattle.bit_words.specs.Numbers.{integer_of_number};
 ghost use Rattle.prim_ops.specs.Kinds.{row_kind};
-ghost use Rattle.type_check.specs.Parts.{source_of};
-ghost use Rattle.type_check.specs.Texts.{sign_of};
-ghost use Rattle.type_check.specs.Expressions.{ground, sign_or_unsigned};
+ghost use Rattle.circuit_parts.specs.Parts.{source_of};
+ghost use Rattle.circuit_parts.specs.Kinds.{sign_of, ground, sign_or_unsigned};
 ghost use Rattle.width_rules.specs.Sources.{component, component_or_none, named, measured, measured_reference, suffix_step, formula_of, literal_width, lone, kind_of, greater_of, choice};
 ghost use Rattle.width_rules.specs.Parts.{measured_by, operation_over};
 
@@ -14,14 +13,16 @@ use crate::rule::Formula;
 use crate::slot::Slot;
 use crate::steps::walk_steps;
 use bit_words::literal::least_width;
-use bit_words::{Kind, List, Number, Shared};
+use bit_words::{Kind, List, Number};
+use circuit_parts::kinds::ground;
+use circuit_parts::steps::{no_part, source};
+use circuit_parts::{Flow, Part};
 use fir_tree::{Expr, Form, Suffix};
 use fir_types::{FirType, Shape, copy};
 use indexmap::IndexMap;
 use place_text::Place;
 use prim_ops::{Prim, arity};
 use std::alloc::{AllocError, Global};
-use type_check::part::{Flow, Part};
 
 /// An expression: its type with its flow, and a formula for the width of each of its type's places.
 #[derive(Drop)]
@@ -172,18 +173,6 @@ pub fn no_component(alloc: Global) -> Result<Component, AllocError>
     })
 }
 
-pub fn no_part(alloc: Global) -> Result<Part, AllocError>
-    ensures { IfOk result (λ part. part ≡ (component_or_none None).part) }
-{
-    Ok(Part {
-        typ: FirType {
-            place: Place { line: 1, column: 1 },
-            shape: Shape::Bundle(Shared::new(alloc, List::new(alloc))?),
-        },
-        flow: Flow::Source,
-    })
-}
-
 /// Widths as formulas.
 pub fn formulas_of(alloc: Global, slots: &[Slot]) -> Result<List<Formula>, AllocError>
     ensures { IfOk result (λ formulas. formulas ≡ map formula_of slots.now) }
@@ -283,25 +272,5 @@ fn first_of(formulas: List<Formula>) -> Formula
     match formulas.into_vec().into_iter().next() {
         Some(formula) => formula,
         None => Formula::Fixed(0),
-    }
-}
-
-pub fn ground(place: Place, kind: Kind, width: Option<u128>) -> FirType
-    ensures { result ≡ ground place kind width }
-{
-    let shape = match kind {
-        Kind::Unsigned => Shape::Unsigned(width),
-        Kind::Signed => Shape::Signed(width),
-    };
-    FirType { place, shape }
-}
-
-/// What can only be read.
-pub fn source(typ: FirType) -> Part
-    ensures { result ≡ source_of typ }
-{
-    Part {
-        typ,
-        flow: Flow::Source,
     }
 }

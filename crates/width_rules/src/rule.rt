@@ -27,7 +27,8 @@ pub struct Rule {
 /// The rules of a circuit.
 #[derive(Debug, Drop)]
 pub struct Rules {
-    /// For each variable the place of the component that it belongs to. Variables are numbered from 0 in text order.
+    /// For each variable the place of the component that it belongs to. Variables are numbered from 0: first those of the
+    /// ports of all modules, then those of the bodies, each in text order.
     pub places: List<Place>,
     pub rules: List<Rule>,
 }

@@ -1,8 +1,7 @@
 //! The steps of references.
 
 ghost use Rattle.std.specs.Prelude.{◌≡◌, map};
-ghost use Rattle.type_check.specs.Parts.{flow_through};
-ghost use Rattle.type_check.specs.Flows.{field_part, element_part};
+ghost use Rattle.circuit_parts.specs.Parts.{flow_through, field_part, element_part};
 ghost use Rattle.width_rules.specs.Places.{field_slots, slots_of_field};
 ghost use Rattle.width_rules.specs.Sources.{field_step, element_step, named, suffix_step};
 ghost use Rattle.width_rules.specs.Parts.{viewed};
@@ -10,9 +9,10 @@ ghost use Rattle.width_rules.specs.Parts.{viewed};
 use crate::component::Component;
 use crate::sizes::size;
 use crate::slot::Slot;
+use circuit_parts::Flow;
+use circuit_parts::steps::through;
 use fir_tree::Suffix;
 use fir_types::{Field, FirType, Shape, field_of};
-use type_check::part::Flow;
 
 /// A part of a component, where it stands.
 #[derive(Clone, Copy)]
@@ -88,16 +88,5 @@ fn step_to_element<'a>(view: View<'a>) -> View<'a>
             ..view
         },
         _ => view,
-    }
-}
-
-/// The flow of a field. A flip turns a source and a sink round.
-pub fn through(flip: bool, flow: Flow) -> Flow
-    ensures { result ≡ flow_through flip flow }
-{
-    match flow {
-        Flow::Source if flip => Flow::Sink,
-        Flow::Sink if flip => Flow::Source,
-        _ => flow,
     }
 }

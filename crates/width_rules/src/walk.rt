@@ -2,8 +2,8 @@
 
 ghost use Rattle.std.specs.Prelude.{◌≡◌, ◌++◌, map, length, None, OnOk, IfOk};
 ghost use Rattle.fir_types.specs.Memories.{element_of};
-ghost use Rattle.type_check.specs.declared.part.Flow.TheVariants.{Duplex};
-ghost use Rattle.type_check.specs.Parts.{part_of};
+ghost use Rattle.circuit_parts.specs.declared.part.Flow.TheVariants.{Duplex};
+ghost use Rattle.circuit_parts.specs.Parts.{part_of};
 ghost use Rattle.width_rules.specs.Places.{spots, slots_from, open_spots};
 ghost use Rattle.width_rules.specs.Sources.{component, known_with};
 ghost use Rattle.width_rules.specs.Circuits.{in_turn, declares, declares_with, declares_memory, names_node, connects, invalidates, places_for};
@@ -11,18 +11,19 @@ ghost use Rattle.width_rules.specs.Walks.{Walks, memory_component, declares_comp
 
 use crate::component::Component;
 use crate::driving::{push_connected, push_invalidated, push_node};
-use crate::measuring::{Measure, formulas_of, look_up, measure_expr, no_component, source};
+use crate::measuring::{Measure, formulas_of, look_up, measure_expr, no_component};
 use crate::memories::port_slots;
 use crate::rule::Rule;
 use crate::sizes::{push_slots, variables};
 use crate::slot::Slot;
-use bit_words::{List, Shared};
+use bit_words::List;
+use circuit_parts::steps::{no_part, source};
+use circuit_parts::{Flow, Part};
 use fir_tree::{Arm, Expr, Stmt};
-use fir_types::{FirType, Memory, Name, Shape, copy, element_of, memory_type};
+use fir_types::{FirType, Memory, Name, copy, element_of, memory_type};
 use indexmap::IndexMap;
 use place_text::Place;
 use std::alloc::{AllocError, Global};
-use type_check::part::{Flow, Part};
 
 /// What a walk has come to.
 #[derive(Drop)]
@@ -155,10 +156,7 @@ pub fn memory_component(
     ensures component { IfOk result (λ component. component ≡ memory_component memory.now (length places.old.items)) }
     ensures places { OnOk result (places.new.items ≡ places.old.items ++ places_for memory.now.name.place (open_spots (spots (element_of memory.now)))) }
 {
-    let empty = FirType {
-        place: Place { line: 1, column: 1 },
-        shape: Shape::Bundle(Shared::new(alloc, List::new(alloc))?),
-    };
+    let empty = no_part(alloc)?.typ;
     let lines = memory.lines.as_slice();
     let element = element_of(lines, &empty);
     let widths = slots_of_type(alloc, places, memory.name.place, element)?;

@@ -1,11 +1,2 @@
 pub mod Readers
 pub mod Rounds
-pub mod Filling
-pub mod Judging
-pub mod Faults
-pub mod Fitting
-pub mod Layers
-pub mod Surveys
-pub mod Marks
-pub mod Walks
-pub mod Found

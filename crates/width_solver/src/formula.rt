@@ -3,12 +3,13 @@
 ghost use Rattle.std.specs.Prelude.{◌≡◌, length, map, All, IsSome};
 ghost use Rattle.prim_ops.specs.Kinds.{row_kind};
 ghost use Rattle.prim_ops.specs.Operations.{arity_of};
-ghost use Rattle.prim_ops.specs.Widths.{bounded, row_width};
-ghost use Rattle.width_rules.specs.Formulas.{level as level_of, wider as wider_of, greatest, width_under, IsFormula};
+ghost use Rattle.prim_ops.specs.Widths.{row_width};
+ghost use Rattle.width_rules.specs.Formulas.{greatest, width_under, IsFormula};
 
 use bit_words::Kind;
 use prim_ops::{Prim, Width, width_of};
 use width_rules::Formula;
+use width_rules::widths::{bounded, wider};
 
 /// The width of a formula under widths of its variables. Takes no memory.
 #[cycle(width)]
@@ -17,7 +18,7 @@ pub fn width_of_formula(formula: &Formula, widths: &[Width]) -> Width
     ensures { result ≡ width_under formula.now widths.now }
 {
     match formula {
-        Formula::Fixed(bits) => at_most_128(*bits),
+        Formula::Fixed(bits) => bounded(*bits),
         Formula::Var(variable) => widths[*variable as usize],
         Formula::Op(prim, kinds, parts, params) => {
             width_of_operation(
@@ -71,36 +72,4 @@ fn greatest_of(parts: &[Formula], widths: &[Width]) -> Width
         most = wider(most, width_of_formula(part, widths));
     }
     most
-}
-
-/// The width of this number of bits.
-fn at_most_128(bits: u128) -> Width
-    ensures { result ≡ bounded bits }
-{
-    if bits <= 128 {
-        Width::Bits(bits as u8)
-    } else {
-        Width::Over
-    }
-}
-
-/// The wider of two widths, the second where neither is.
-fn wider(first: Width, second: Width) -> Width
-    ensures { result ≡ wider_of first second }
-{
-    if level(first) <= level(second) {
-        second
-    } else {
-        first
-    }
-}
-
-/// The place of a width among all, by size.
-pub fn level(width: Width) -> u8
-    ensures { result ≡ level_of width }
-{
-    match width {
-        Width::Bits(bits) => bits,
-        Width::Over => 129,
-    }
 }

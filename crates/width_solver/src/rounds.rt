@@ -5,11 +5,12 @@ ghost use Rattle.width_rules.specs.Solutions.{AreRules, IsRule};
 ghost use Rattle.width_solver.specs.Readers.{AreReaders};
 ghost use Rattle.width_solver.specs.Rounds.{total, Raises, Wakes, Stands, Rises};
 
-use crate::formula::{level, width_of_formula};
+use crate::formula::width_of_formula;
 use bit_words::List;
 use prim_ops::Width;
 use std::alloc::{AllocError, Global};
 use width_rules::Rule;
+use width_rules::widths::level;
 
 /// Looks at the rules that wait, and gives those that wait then.
 pub fn go_round(

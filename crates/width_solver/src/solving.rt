@@ -8,10 +8,7 @@ use crate::rounds::go_round;
 use bit_words::List;
 use prim_ops::Width;
 use std::alloc::{AllocError, Global};
-use width_rules::{Rule, Rules};
-
-/// A width for each variable.
-pub type Widths = List<Width>;
+use width_rules::{Rule, Rules, Widths};
 
 /// The least assignment of 0 to 128 bits or `Over` to the variables that meets all rules (FIRRTL specification 3.0, "Width
 /// Inference").

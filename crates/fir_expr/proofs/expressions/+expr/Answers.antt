@@ -1,6 +1,6 @@
 use Rattle.std.proofs.Common.{ℕ, ◌+◌, ◌-◌, refl, ap, arith}
 use Rattle.std.proofs.lemmas.Result.{err_from_is_err_and}
-use Rattle.fir_tree.specs.Reading.{no_memory}
+use Rattle.fir_grammar.specs.Reading.{no_memory}
 use Rattle.fir_expr.proofs.Bracketed.{opener_call, stands_opened, stands_indexed}
 use Rattle.fir_expr.proofs.Depth.{whole_stands}
 use Rattle.fir_expr.proofs.Passing.{room_step, room_name}

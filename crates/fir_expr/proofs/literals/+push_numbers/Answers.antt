@@ -1,6 +1,6 @@
 use Rattle.std.proofs.Common.{◌-◌, arith}
 use Rattle.std.proofs.lemmas.Result.{err_from_is_err_and}
-use Rattle.fir_tree.specs.Reading.{no_memory}
+use Rattle.fir_grammar.specs.Reading.{no_memory}
 use Rattle.fir_expr.proofs.LiteralCases.{numbers_none, numbers_no_number, numbers_refused_later, numbers_more, number_stands}
 use Rattle.fir_expr.proofs.literals.+push_numbers.Goals as goal
 

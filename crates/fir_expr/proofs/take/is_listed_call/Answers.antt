@@ -1,4 +1,4 @@
-use Rattle.fir_tree.specs.Faults.{listed_words}
+use Rattle.fir_grammar.specs.Faults.{listed_words}
 use Rattle.fir_expr.proofs.Called.{call_listed, word_listed, call_ends}
 use Rattle.fir_expr.proofs.take.is_listed_call.Goals as goal
 

@@ -1,4 +1,4 @@
-use Rattle.fir_tree.specs.Faults.{listed, unlisted}
+use Rattle.fir_grammar.specs.Faults.{listed, unlisted}
 use Rattle.fir_expr.proofs.take.refusal.Goals as goal
 
 pub returns-then-is_listed : goal.returns-then-is_listed

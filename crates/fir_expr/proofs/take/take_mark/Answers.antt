@@ -1,4 +1,4 @@
-use Rattle.fir_tree.specs.Grammar.{The_mark}
+use Rattle.fir_grammar.specs.Grammar.{The_mark}
 use Rattle.fir_expr.proofs.Takes.{none_here}
 use Rattle.fir_expr.proofs.take.take_mark.Goals as goal
 

@@ -1,7 +1,7 @@
 use Rattle.std.proofs.Common.{[], ◌∷◌, arith}
 use Rattle.std.proofs.lemmas.Result.{err_from_is_err_and}
-use Rattle.fir_tree.specs.Grammar.{A, Type_of, colon, Its_name}
-use Rattle.fir_tree.specs.Reading.{no_memory}
+use Rattle.fir_grammar.specs.Grammar.{A, Type_of, colon, Its_name}
+use Rattle.fir_grammar.specs.Reading.{no_memory}
 use Rattle.fir_expr.proofs.Sources.{source_part}
 use Rattle.fir_expr.proofs.Composition.{refused_first}
 use Rattle.fir_expr.proofs.Depth.{whole_stands}

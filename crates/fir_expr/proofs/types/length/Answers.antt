@@ -1,6 +1,6 @@
 use Rattle.std.proofs.Common.{refl}
 use Rattle.std.proofs.lemmas.Result.{err_from_is_err_and}
-use Rattle.fir_tree.specs.Grammar.{number, mark, Nothing}
+use Rattle.fir_grammar.specs.Grammar.{number, mark, Nothing}
 use Rattle.std.specs.Prelude.{[], ◌∷◌}
 use Rattle.fir_expr.proofs.Composition.{refused_first}
 use Rattle.fir_expr.proofs.TypeLengths.{length_no_number, length_not_closed, length_read, length_counted}

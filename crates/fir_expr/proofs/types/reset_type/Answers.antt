@@ -1,6 +1,6 @@
 use Rattle.std.proofs.Common.{codes}
 use Rattle.std.proofs.lemmas.Result.{err_from_is_err_and}
-use Rattle.fir_tree.specs.Reading.{no_memory}
+use Rattle.fir_grammar.specs.Reading.{no_memory}
 use Rattle.fir_expr.proofs.Sources.{source_part}
 use Rattle.fir_expr.proofs.TypeNames.{word_taken, word_begins, reset_read}
 use Rattle.fir_expr.proofs.types.reset_type.Goals as goal

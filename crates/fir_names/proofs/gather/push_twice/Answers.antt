@@ -1,4 +1,5 @@
 use Rattle.fir_types.specs.declared.name.Name.{Name}
+use Rattle.fir_names.specs.Namespaces.{twice}
 use Rattle.fir_names.proofs.Finding.{twice_more, held_more}
 use Rattle.fir_names.proofs.gather.push_twice.Goals as goal
 
@@ -7,8 +8,8 @@ any_name = record { id = 0; place = record { line = 0; column = 0 } }
 
 pub loop-name-preserved : goal.loop-name-preserved
 loop-name-preserved c = record {
-  faults = twice_more c.args.kind c.args.names.now c.loop-name.name-index any_name c.args.faults.now.items c.loop-name.faults.items c.push_unless.new.faults.items
+  faults = twice_more (twice c.args.space) c.args.names.now c.loop-name.name-index any_name c.args.faults.now.items c.loop-name.faults.items c.push_unless.new.faults.items
       c.loop-name.texts.keys c.insert_full.new.self.keys c.in_ok-_index.added c.loop-name-test.true c.loop-name.invariant.faults c.loop-name.invariant.held
-      c.in_ok-_index.ensures.added c.in_ok-push_unless.ensures;
+      c.in_ok-_index.ensures.added (rw c.twice.ensures at c.in_ok-push_unless.ensures);
   held = held_more c.args.names.now c.loop-name.name-index any_name c.loop-name.texts.keys c.insert_full.new.self.keys c.loop-name-test.true c.loop-name.invariant.held c.in_ok-_index.ensures.keys;
 }

@@ -1,6 +1,6 @@
 use Rattle.std.proofs.lemmas.Result.{err_from_is_err_and}
 use Rattle.std.proofs.Common.{refl, ◌∙◌, [], ◌∷◌}
-use Rattle.fir_tree.specs.Grammar.{a_when, a_block, no_block, A, Expression, Block, word, colon, line_end}
+use Rattle.fir_grammar.specs.Grammar.{a_when, a_block, no_block, A, Expression, Block, word, colon, line_end}
 use Rattle.fir_parser.proofs.Steps.{refuses_memory}
 use Rattle.fir_parser.proofs.Joins.{joins, first, later, makes, breaks, nothing_taken}
 use Rattle.fir_parser.proofs.Entering.{enters_word, enters_open, enters_else, enters_else_when, into_no_block}

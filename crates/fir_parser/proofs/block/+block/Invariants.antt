@@ -1,5 +1,5 @@
 use Rattle.std.proofs.Common.{◌≡◌, ◌-◌, ◌*◌, ◌+◌, length, ◌++◌}
-use Rattle.fir_tree.specs.Grammar.{Statements}
+use Rattle.fir_grammar.specs.Grammar.{Statements}
 use Rattle.fir_parser.specs.Taking.{StandsAt, blocks_at}
 use Rattle.fir_parser.proofs.Loops.{Continues, Branches_so_far}
 use Rattle.fir_parser.proofs.block.+block.Given as goal

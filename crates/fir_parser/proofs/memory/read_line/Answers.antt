@@ -1,6 +1,6 @@
 use Rattle.std.proofs.lemmas.Result.{err_from_is_err_and}
 use Rattle.fir_parser.proofs.Joins.{makes, breaks}
-use Rattle.fir_tree.specs.Grammar.{a_readwriter}
+use Rattle.fir_grammar.specs.Grammar.{a_readwriter}
 use Rattle.fir_parser.proofs.Entering.{into_readwriter}
 use Rattle.fir_parser.proofs.memory.read_line.Goals as goal
 

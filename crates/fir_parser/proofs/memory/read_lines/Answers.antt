@@ -2,7 +2,7 @@ use Rattle.std.proofs.lemmas.Result.{err_from_is_err_and}
 use Rattle.std.proofs.Common.{refl, ◌∙◌, [], ◌∷◌}
 use Rattle.fir_parser.proofs.Steps.{refuses_memory}
 use Rattle.fir_parser.proofs.Loops.{line_refused, lines_close_refused, lines_closed, more_lines, moves, smaller}
-use Rattle.fir_tree.specs.Grammar.{A, Memory_line, line_end}
+use Rattle.fir_grammar.specs.Grammar.{A, Memory_line, line_end}
 use Rattle.fir_parser.proofs.memory.read_lines.Goals as goal
 
 pub returns-in_err-line-clause-refused : goal.returns-in_err-line-clause-refused

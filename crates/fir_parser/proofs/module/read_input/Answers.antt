@@ -1,7 +1,7 @@
 use Rattle.std.proofs.lemmas.Result.{err_from_is_err_and}
 use Rattle.std.proofs.Common.{refl}
 use Rattle.fir_parser.proofs.Joins.{makes, breaks}
-use Rattle.fir_tree.specs.Grammar.{an_input}
+use Rattle.fir_grammar.specs.Grammar.{an_input}
 use Rattle.fir_parser.proofs.Entering.{enters_word}
 use Rattle.fir_parser.proofs.module.read_input.Goals as goal
 

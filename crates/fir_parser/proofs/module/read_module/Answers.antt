@@ -1,6 +1,6 @@
 use Rattle.std.proofs.lemmas.Result.{err_from_is_err_and}
 use Rattle.fir_parser.proofs.Joins.{joins, first, later, makes, breaks}
-use Rattle.fir_tree.specs.Grammar.{a_module}
+use Rattle.fir_grammar.specs.Grammar.{a_module}
 use Rattle.fir_parser.proofs.Entering.{into_module_always}
 use Rattle.fir_parser.proofs.module.read_module.Goals as goal
 

@@ -1,7 +1,7 @@
 use Rattle.std.proofs.lemmas.Result.{err_from_is_err_and}
 use Rattle.std.proofs.Common.{refl}
 use Rattle.fir_parser.proofs.Joins.{joins, first, later, makes, breaks}
-use Rattle.fir_tree.specs.Grammar.{a_module_body, no_module_body}
+use Rattle.fir_grammar.specs.Grammar.{a_module_body, no_module_body}
 use Rattle.fir_parser.proofs.Entering.{enters_open, into_no_module_body}
 use Rattle.fir_parser.proofs.Joins.{nothing_taken}
 use Rattle.fir_parser.proofs.module.read_module_body.Goals as goal

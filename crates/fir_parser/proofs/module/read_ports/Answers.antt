@@ -1,6 +1,6 @@
 use Rattle.std.proofs.lemmas.Result.{err_from_is_err_and}
 use Rattle.std.proofs.Common.{refl, ◌∙◌, [], ◌∷◌}
-use Rattle.fir_tree.specs.Grammar.{A, Port, line_end}
+use Rattle.fir_grammar.specs.Grammar.{A, Port, line_end}
 use Rattle.fir_parser.proofs.Steps.{refuses_memory}
 use Rattle.fir_parser.proofs.Loops.{more_ports, port_refused, ports_end, body_refused, smaller, moves}
 use Rattle.fir_parser.proofs.module.read_ports.Goals as goal

@@ -1,5 +1,5 @@
 use Rattle.std.proofs.Common.{◌≡◌, ◌-◌, length, ◌++◌}
-use Rattle.fir_tree.specs.Grammar.{Ports}
+use Rattle.fir_grammar.specs.Grammar.{Ports}
 use Rattle.fir_parser.specs.Taking.{StandsAt, blocks_at}
 use Rattle.fir_parser.proofs.Loops.{Continues}
 use Rattle.fir_parser.proofs.module.read_ports.Given as goal

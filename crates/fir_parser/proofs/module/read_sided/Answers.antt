@@ -1,6 +1,6 @@
 use Rattle.std.proofs.lemmas.Result.{err_from_is_err_and}
 use Rattle.fir_parser.proofs.Joins.{makes, breaks}
-use Rattle.fir_tree.specs.Grammar.{an_output}
+use Rattle.fir_grammar.specs.Grammar.{an_output}
 use Rattle.fir_parser.proofs.Entering.{into_output}
 use Rattle.fir_parser.proofs.module.read_sided.Goals as goal
 

@@ -1,5 +1,5 @@
 use Rattle.std.proofs.lemmas.Result.{err_from_is_err_and}
-use Rattle.fir_tree.specs.Grammar.{a_text}
+use Rattle.fir_grammar.specs.Grammar.{a_text}
 use Rattle.fir_parser.proofs.Joins.{joins, first, later, makes, breaks}
 use Rattle.fir_parser.proofs.Texts.{enters_text, refused_text, without_words, with_version, at_three, text_shallow, version_fault}
 use Rattle.fir_parser.proofs.parser.read_text.Goals as goal

@@ -1,4 +1,4 @@
-use Rattle.fir_tree.specs.Grammar.{Nothing}
+use Rattle.fir_grammar.specs.Grammar.{Nothing}
 use Rattle.fir_parser.specs.Expected.{terminal}
 use Rattle.fir_parser.proofs.Steps.{refuses, taken, stands_behind, blocks_behind, fresh_behind, calm_expected}
 use Rattle.fir_parser.proofs.take.take.Goals as goal

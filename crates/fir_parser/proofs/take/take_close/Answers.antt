@@ -1,4 +1,4 @@
-use Rattle.fir_tree.specs.Grammar.{Nothing, Closes}
+use Rattle.fir_grammar.specs.Grammar.{Nothing, Closes}
 use Rattle.fir_parser.proofs.Steps.{refuses, taken_close, stands_closed, blocks_closed}
 use Rattle.fir_parser.proofs.take.take_close.Goals as goal
 

@@ -1,4 +1,4 @@
-use Rattle.fir_tree.specs.Grammar.{Its_name, A_name}
+use Rattle.fir_grammar.specs.Grammar.{Its_name, A_name}
 use Rattle.fir_parser.proofs.Steps.{refuses, at_part, refuses_memory, taken_name, stands_named, blocks_named, fresh_named}
 use Rattle.std.proofs.lemmas.Result.{err_from_is_err_and}
 use Rattle.std.proofs.Common.{refl, sym}

@@ -1,4 +1,4 @@
-use Rattle.fir_tree.specs.Grammar.{Its_magnitude, A_number}
+use Rattle.fir_grammar.specs.Grammar.{Its_magnitude, A_number}
 use Rattle.fir_parser.proofs.Steps.{refuses, at_part, refuses_memory, taken_number, stands_behind, blocks_behind, number_taken, no_number}
 use Rattle.std.proofs.Common.{refl, sym}
 use Rattle.fir_parser.proofs.take.take_number.Goals as goal

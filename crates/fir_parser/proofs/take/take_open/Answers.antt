@@ -1,4 +1,4 @@
-use Rattle.fir_tree.specs.Grammar.{Nothing, Opens}
+use Rattle.fir_grammar.specs.Grammar.{Nothing, Opens}
 use Rattle.fir_parser.proofs.Steps.{refuses, at_part, refuses_memory, refuses_deep, taken_open, stands_opened, blocks_opened}
 use Rattle.std.proofs.Common.{refl, sym}
 use Rattle.fir_parser.proofs.take.take_open.Goals as goal

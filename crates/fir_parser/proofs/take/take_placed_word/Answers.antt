@@ -1,4 +1,4 @@
-use Rattle.fir_tree.specs.Grammar.{Its_place, The_word}
+use Rattle.fir_grammar.specs.Grammar.{Its_place, The_word}
 use Rattle.fir_parser.proofs.Steps.{refuses, taken_placed, stands_behind, blocks_behind, fresh_word, at_part, refuses_memory}
 use Rattle.std.proofs.Common.{refl, sym}
 use Rattle.fir_parser.proofs.take.take_placed_word.Goals as goal

@@ -1,6 +1,6 @@
 use Rattle.std.proofs.Common.{refl, sym}
 use Rattle.std.proofs.lemmas.Option.{slice_get_within}
-use Rattle.fir_tree.specs.Grammar.{Nothing, A_number}
+use Rattle.fir_grammar.specs.Grammar.{Nothing, A_number}
 use Rattle.fir_parser.proofs.Steps.{refuses, at_part, refuses_memory, number_taken, no_number}
 use Rattle.fir_parser.proofs.Dotted.{number_met}
 use Rattle.fir_parser.proofs.version.step_number.Goals as goal

@@ -1,6 +1,6 @@
 use Rattle.std.proofs.Common.{sym}
 use Rattle.std.proofs.lemmas.Option.{slice_get_within}
-use Rattle.fir_tree.specs.Grammar.{A_number}
+use Rattle.fir_grammar.specs.Grammar.{A_number}
 use Rattle.fir_parser.specs.Expected.{wants_memory}
 use Rattle.fir_parser.proofs.Steps.{at_part, no_number}
 use Rattle.fir_parser.proofs.Dotted.{version_absent, other_version, takes_three, three_taken, three_stands, three_blocks, three_suffixes}

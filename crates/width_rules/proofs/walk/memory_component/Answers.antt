@@ -1,7 +1,7 @@
 use Rattle.std.proofs.Common.{◌≡◌, ap, ap₂, ◌∙◌, length, rules, filter_map}
 use Rattle.std.specs.List.{flat_map}
 use Rattle.fir_types.specs.Memories.{first_or, depth_in}
-use Rattle.type_check.specs.Parts.{source_of}
+use Rattle.circuit_parts.specs.Parts.{source_of}
 use Rattle.width_rules.specs.Layers.{line_widths}
 use Rattle.width_rules.proofs.Walking.{memory_told}
 use Rattle.width_rules.proofs.walk.memory_component.Goals as goal

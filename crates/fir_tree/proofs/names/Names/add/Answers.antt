@@ -1,4 +1,4 @@
-use Rattle.fir_tree.proofs.Agreement.{AddsName-length}
+use Rattle.fir_tree.proofs.Distinct.{AddsName-length}
 use Rattle.fir_tree.proofs.Numbering.{adds_name}
 use Rattle.fir_tree.proofs.names.Names.add.Goals as goal
 

@@ -1,0 +1,7 @@
+use Rattle.std.proofs.Common.{◌≡◌, ◌++◌, ◌-◌}
+use Rattle.std.specs.List.{flat_map, range_with_len}
+use Rattle.circuit_make.specs.Rings.{sum_line}
+use Rattle.circuit_make.proofs.ring.push_sums.Given as goal
+
+abbrev pub invariant-loop-i : goal.invariant-loop-i
+invariant-loop-i l = l.text.items ≡ l.fn.text.items ++ flat_map sum_line (range_with_len 1 (l.i - 1))

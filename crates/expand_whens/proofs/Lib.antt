@@ -1,0 +1,11 @@
+pub mod Members
+pub mod Layers
+pub mod Covers
+pub mod Guards
+pub mod Making
+pub mod Blocks
+pub mod Arms
+pub mod Connects
+pub mod Sources
+pub mod Choices
+pub mod Modules

@@ -1,0 +1,11 @@
+pub mod Fronts
+pub mod Follows
+pub mod Agreement
+pub mod Cases
+pub mod Unique
+pub mod OneFault
+pub mod Completion
+pub mod Empty
+pub mod ReadingLaws
+pub mod Longest
+pub mod Examples

@@ -1,7 +1,0 @@
--- Faults of the kinds of this crate.
-use Rattle.fault_order.specs.declared.found.Found.{Found as FoundOf}
-use Rattle.fir_names.specs.declared.fault.Kind.{Kind}
-
--- a fault of a kind, at a place
-abbrev pub Found : Type 0
-Found = FoundOf Kind

@@ -1,5 +1,0 @@
-use Rattle.fir_tree.proofs.OneFault.{accepted}
-use Rattle.fir_tree.proofs.laws.circuits_have_no_fault.Goals as goal
-
-pub returns : goal.returns
-returns c = λ text list circuit fault h shallow f. accepted text list circuit fault h shallow f

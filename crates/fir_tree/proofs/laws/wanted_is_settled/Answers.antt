@@ -1,5 +1,0 @@
-use Rattle.fir_tree.proofs.Follows.{Stands-settled}
-use Rattle.fir_tree.proofs.laws.wanted_is_settled.Goals as goal
-
-pub returns : goal.returns
-returns c = λ symbols h. Stands-settled h

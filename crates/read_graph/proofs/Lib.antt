@@ -1,0 +1,5 @@
+pub mod Steps
+pub mod Begins
+pub mod Reaches
+pub mod Orders
+pub mod Examples

@@ -1,0 +1,4 @@
+pub mod Graph
+pub mod Search
+pub mod Reach
+pub mod Parts

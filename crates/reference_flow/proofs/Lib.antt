@@ -1,0 +1,6 @@
+mod Stepping
+mod Ports
+mod Declaring
+mod Passing
+mod Sentences
+mod Examples

@@ -1,0 +1,4 @@
+pub mod Flows
+pub mod Counting
+pub mod Declarations
+pub mod Reached

@@ -1,0 +1,9 @@
+mod Declaring
+mod Filled
+mod Formulas
+mod Marking
+mod Measured
+mod Telling
+mod Surveys
+mod Walking
+mod Whole

@@ -1,0 +1,87 @@
+-- The walk through all modules.
+use Rattle.std.proofs.Common.{◌≡◌, ℕ, zero, suc, ◌+◌, ◌≤◌, min, Bool, false, List, [], ◌∷◌, ◌++◌, map, length, drop, get_or, refl, sym, ap, ap₂, ◌∙◌, arith, append-nil}
+use Rattle.std.specs.List.{flat_map}
+use Rattle.place_text.specs.declared.place.Place.{Place}
+use Rattle.prim_ops.specs.declared.widths.Width.{Width}
+use Rattle.fir_types.specs.declared.port.Port.{Port}
+use Rattle.fir_tree.specs.declared.scope.Checked.{Checked}
+use Rattle.width_rules.specs.declared.slot.Slot.{Slot}
+use Rattle.width_rules.specs.Sources.{Known}
+use Rattle.width_rules.specs.Circuits.{WithPorts, modules_from, all_open, known_ports, rules_in}
+use Rattle.width_rules.specs.Walks.{AreInstances}
+use Rattle.width_rules.proofs.Ports.{module_places, modules_open}
+use Rattle.width_fit.specs.Judging.{Solved, Findings, Told, in_turn, ports_declared, ports_faults, module_survey, told_from, told_of, where_reached}
+use Rattle.width_fit.specs.Walks.{module_among, told_among}
+use Rattle.width_fit.proofs.Walking.{same_walk}
+
+-- the ports that have widths are all declared
+
+none_declared : (all : Solved) (ports : List Port) (widths : List (List Slot)) (n : ℕ) → min (length ports) (length widths) ≤ n → ports_declared all (drop n ports) (drop n widths) ≡ []
+none_declared all [] widths zero le = refl
+none_declared all [] widths (suc n) le = refl
+none_declared all (p ∷ ports) [] zero le = refl
+none_declared all (p ∷ ports) [] (suc n) le = without (drop n ports)
+  where
+    without : (ps : List Port) → ports_declared all ps [] ≡ []
+    without [] = refl
+    without (q ∷ ps) = refl
+none_declared all (p ∷ ports) (w ∷ widths) zero le = absurd (omega (arith, le))
+none_declared all (p ∷ ports) (w ∷ widths) (suc n) le = none_declared all ports widths n (omega (arith, le))
+
+none_faulty : (all : Solved) (ports : List Port) (widths : List (List Slot)) (n : ℕ) → min (length ports) (length widths) ≤ n → ports_faults all (drop n ports) (drop n widths) ≡ []
+none_faulty all [] widths zero le = refl
+none_faulty all [] widths (suc n) le = refl
+none_faulty all (p ∷ ports) [] zero le = refl
+none_faulty all (p ∷ ports) [] (suc n) le = without (drop n ports)
+  where
+    without : (ps : List Port) → ports_faults all ps [] ≡ []
+    without [] = refl
+    without (q ∷ ps) = refl
+none_faulty all (p ∷ ports) (w ∷ widths) zero le = absurd (omega (arith, le))
+none_faulty all (p ∷ ports) (w ∷ widths) (suc n) le = none_faulty all ports widths n (omega (arith, le))
+
+pub all_added : {X : Type 0} (old whole new left : List X) → old ++ whole ≡ new ++ left → left ≡ [] → new ≡ old ++ whole
+all_added old whole new left is none = sym (is ∙ ap (λ l. new ++ l) none ∙ append-nil new)
+
+pub all_declared : (all : Solved) (ports : List Port) (widths : List (List Slot)) (n : ℕ) → min (length ports) (length widths) ≤ n → ports_declared all (drop n ports) (drop n widths) ≡ []
+all_declared = none_declared
+
+pub all_told : (all : Solved) (ports : List Port) (widths : List (List Slot)) (n : ℕ) → min (length ports) (length widths) ≤ n → ports_faults all (drop n ports) (drop n widths) ≡ []
+all_told = none_faulty
+
+-- modules by the list of instances
+
+same_module : (all : Solved) (modules : List WithPorts) (instances : Known) → AreInstances modules instances → (m : WithPorts) (n : ℕ) → module_among all instances m n ≡ module_survey all modules m n
+same_module all modules instances h m n =
+    ap (λ walk. let body = in_turn (map walk m.holder.body) (known_ports m.holder.ports m.ports []) n in
+    record {
+      known = body.known;
+      count = body.count;
+      declared = ports_declared all m.holder.ports m.ports ++ body.declared;
+      nodes = body.nodes;
+      faults = ports_faults all m.holder.ports m.ports ++ body.faults;
+    }) (same_walk all modules instances h)
+
+same_told : (all : Solved) (modules : List WithPorts) (instances : Known) → AreInstances modules instances → (n : ℕ) (ms : List WithPorts) (reached : List Bool)
+    → told_among all instances n ms reached ≡ told_from all modules n ms reached
+same_told all modules instances h n [] reached = refl
+same_told all modules instances h n (m ∷ ms) reached =
+    let one = module_survey all modules m n in
+    ap (λ (one : Findings). let others = told_among all instances (n + one.count) ms (drop 1 reached) in
+    record { declared = one.declared ++ others.declared; nodes = one.nodes ++ others.nodes; faults = where_reached (get_or reached 0 false) one.faults ++ others.faults })
+    (same_module all modules instances h m n)
+    ∙ ap (λ (others : Told). record { declared = one.declared ++ others.declared; nodes = one.nodes ++ others.nodes; faults = where_reached (get_or reached 0 false) one.faults ++ others.faults })
+    (same_told all modules instances h (n + one.count) ms (drop 1 reached))
+
+pub told_is : (checked : Checked) (widths : List Width) (all : Solved) (with_ports : List WithPorts) (instances : Known) (places : List Place) (reached : List Bool)
+    → with_ports ≡ modules_from 0 checked.circuit.modules → AreInstances with_ports instances → places ≡ flat_map module_places checked.circuit.modules
+    → all ≡ record { widths = widths; rules = (rules_in checked.circuit).rules } → reached ≡ checked.scope.reached
+    → told_among all instances (length places) with_ports reached ≡ told_of checked widths
+told_is checked widths all with_ports instances places reached ms h ps is r =
+    let count : length places ≡ all_open checked.circuit.modules = ap length ps ∙ modules_open checked.circuit.modules in
+    same_told all with_ports instances h (length places) with_ports reached
+    ∙ ap₂ (λ all ms. told_from all ms (length places) ms reached) is ms
+    ∙ ap₂ (λ n reached. told_from (record { widths = widths; rules = (rules_in checked.circuit).rules }) (modules_from 0 checked.circuit.modules) n (modules_from 0 checked.circuit.modules) reached) count r
+
+pub from_nothing : {X : Type 0} (old new told : List X) → old ≡ [] → new ≡ old ++ told → new ≡ told
+from_nothing old new told none is = is ∙ ap (λ l. l ++ told) none

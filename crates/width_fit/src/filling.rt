@@ -1,0 +1,100 @@
+//! Types with the widths that were found.
+
+ghost use Rattle.std.specs.Prelude.{◌≡◌, IfOk};
+ghost use Rattle.width_fit.specs.Filling.{filled, taking, first_number, behind_first};
+ghost use Rattle.width_fit.specs.Layers.{shape_taking, fields_taking};
+
+use bit_words::{List, Shared};
+use fir_types::{Field, FirType, Shape};
+use prim_ops::Width;
+use std::alloc::{AllocError, Global};
+
+/// A copy of a type with these widths, in the order of its places.
+pub fn filled(alloc: Global, typ: &FirType, widths: &[Width]) -> Result<FirType, AllocError>
+    ensures { IfOk result (λ fitted. fitted ≡ filled typ.now widths.now) }
+{
+    let (fitted, _) = fill(alloc, typ, widths)?;
+    Ok(fitted)
+}
+
+/// A copy of a type with the first widths, and those that are left.
+#[cycle(fill)]
+fn fill<'a>(
+    alloc: Global,
+    typ: &FirType,
+    widths: &'a [Width],
+) -> Result<(FirType, &'a [Width]), AllocError>
+    ensures { IfOk result (λ taken. (taken.0, taken.1.now) ≡ taking typ.now widths.now) }
+{
+    let (shape, rest) = fill_shape(alloc, &typ.shape, widths)?;
+    Ok((
+        FirType {
+            place: typ.place,
+            shape,
+        },
+        rest,
+    ))
+}
+
+#[cycle(fill)]
+fn fill_shape<'a>(
+    alloc: Global,
+    shape: &Shape,
+    widths: &'a [Width],
+) -> Result<(Shape, &'a [Width]), AllocError>
+    ensures { IfOk result (λ taken. (taken.0, taken.1.now) ≡ shape_taking shape.now widths.now) }
+{
+    match shape {
+        Shape::Unsigned(_) | Shape::Reset => {
+            let (width, rest) = take_first(widths);
+            Ok((Shape::Unsigned(width), rest))
+        }
+        Shape::Signed(_) => {
+            let (width, rest) = take_first(widths);
+            Ok((Shape::Signed(width), rest))
+        }
+        Shape::Clock => Ok((Shape::Clock, widths)),
+        Shape::Bundle(fields) => {
+            let (fields, rest) = fill_fields(alloc, fields.as_slice(), widths)?;
+            Ok((Shape::Bundle(Shared::new(alloc, fields)?), rest))
+        }
+        Shape::Vector(element, length) => {
+            let (element, rest) = fill(alloc, element.get(), widths)?;
+            Ok((Shape::Vector(Shared::new(alloc, element)?, *length), rest))
+        }
+    }
+}
+
+#[cycle(fill)]
+fn fill_fields<'a>(
+    alloc: Global,
+    fields: &[Field],
+    widths: &'a [Width],
+) -> Result<(List<Field>, &'a [Width]), AllocError>
+    ensures { IfOk result (λ taken. (taken.0, taken.1.now) ≡ fields_taking fields.now widths.now) }
+{
+    let mut fitted = List::new(alloc);
+    let mut rest = widths;
+    for field in fields {
+        let (typ, others) = fill(alloc, &field.typ, rest)?;
+        fitted.push(Field {
+            flip: field.flip,
+            name: field.name,
+            typ,
+        })?;
+        rest = others;
+    }
+    Ok((fitted, rest))
+}
+
+/// The number of the first width, where there is one, and the widths behind it.
+fn take_first(widths: &[Width]) -> (Option<u128>, &[Width])
+    ensures number { result.0 ≡ first_number widths.now }
+    ensures rest { result.1.now ≡ behind_first widths.now }
+{
+    match widths.split_first() {
+        Some((Width::Bits(bits), rest)) => (Some(u128::from(*bits)), rest),
+        Some((Width::Over, rest)) => (None, rest),
+        None => (None, widths),
+    }
+}

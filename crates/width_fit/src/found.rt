@@ -1,0 +1,23 @@
+//! What a survey has come to.
+
+use crate::fault::WidthFault;
+use bit_words::List;
+use circuit_parts::Part;
+use fir_types::FirType;
+use place_text::Place;
+use prim_ops::Width;
+
+/// The fitted types of expression nodes in text order, and the faults.
+#[derive(Drop)]
+pub struct Findings {
+    pub nodes: Vec<FirType>,
+    pub faults: Vec<WidthFault>,
+}
+
+/// An expression: its place, its type with its flow, and the widths of its type's places.
+#[derive(Drop)]
+pub struct Surveyed {
+    pub place: Place,
+    pub part: Part,
+    pub widths: List<Width>,
+}

@@ -1,0 +1,79 @@
+//! What is known of a whole circuit's widths.
+
+ghost use Rattle.std.specs.Prelude.{◌≡◌, ℕ, nat_eq, ◌||◌, false, get_or, IfOk, OnOk};
+ghost use Rattle.width_fit.specs.Judging.{is_unknown};
+ghost use Rattle.width_fit.specs.Marks.{Marks};
+
+use prim_ops::Width;
+use std::alloc::{AllocError, Global};
+use width_rules::Rule;
+use width_rules::slot::Slot;
+
+/// The widths of the variables and the rules.
+#[derive(Drop)]
+pub struct Given<'a> {
+    pub widths: &'a [Width],
+    pub rules: &'a [Rule],
+    /// For each variable whether it is the target of a rule. It may be shorter than the widths.
+    marks: Vec<bool>,
+    ghost marked: { Marks rules.now marks.items },
+}
+
+impl<'a> Given<'a> {
+    /// Takes time and memory in proportion to the rules and the variables.
+    pub fn new(
+        alloc: Global,
+        widths: &'a [Width],
+        rules: &'a [Rule],
+    ) -> Result<Given<'a>, AllocError>
+        ensures widths { IfOk result (λ given. given.widths.now ≡ widths.now) }
+        ensures rules { IfOk result (λ given. given.rules.now ≡ rules.now) }
+    {
+        let marks = marks_of(alloc, rules)?;
+        Ok(Given {
+            widths,
+            rules,
+            marks,
+        })
+    }
+
+    /// Whether the place has a variable that no rule has as its target.
+    pub fn is_unknown(&self, slot: Slot) -> bool
+        ensures { result ≡ is_unknown self.now.rules.now slot }
+    {
+        match slot {
+            Slot::Fixed(_) => false,
+            Slot::Var(variable) => !is_marked(self.marks.as_slice(), variable),
+        }
+    }
+}
+
+fn is_marked(marks: &[bool], variable: u32) -> bool
+    ensures { result ≡ get_or marks.now variable false }
+{
+    match marks.get(variable as usize) {
+        Some(mark) => *mark,
+        None => false,
+    }
+}
+
+fn marks_of(alloc: Global, rules: &[Rule]) -> Result<Vec<bool>, AllocError>
+    ensures { IfOk result (λ marks. Marks rules.now marks.items) }
+{
+    let mut marks = Vec::new(alloc);
+    for rule in rules {
+        mark(&mut marks, rule.target as usize)?;
+    }
+    Ok(marks)
+}
+
+/// Marks a variable.
+fn mark(marks: &mut Vec<bool>, at: usize) -> Result<(), AllocError>
+    ensures { OnOk result ((x : ℕ) → get_or marks.new.items x false ≡ (nat_eq at x || get_or marks.old.items x false)) }
+{
+    while marks.len() <= at {
+        marks.push(false)?;
+    }
+    marks[at] = true;
+    Ok(())
+}

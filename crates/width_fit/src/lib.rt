@@ -1,0 +1,18 @@
+//! The fitted types of a circuit under the least widths, and the first fault of its widths. Keeps the contract that the answer
+//! is the types with these widths, or the first fault.
+#![tactic(auto)]
+
+pub mod fault;
+mod faults;
+mod filling;
+mod found;
+mod given;
+mod judging;
+pub mod laws;
+mod survey;
+mod telling;
+mod walk;
+mod widths;
+
+pub use fault::WidthFault;
+pub use judging::judge;

@@ -1,0 +1,293 @@
+//! The walk through the statements of a body.
+
+ghost use Rattle.std.specs.Prelude.{◌≡◌, ◌++◌, map, length, IfOk, OnOk};
+ghost use Rattle.std.specs.List.{list_any};
+ghost use Rattle.fir_types.specs.Memories.{element_of};
+ghost use Rattle.width_rules.specs.Places.{spots, slots_from, open_spots};
+ghost use Rattle.width_rules.specs.Circuits.{places_for, memory_slots};
+ghost use Rattle.width_fit.specs.Judging.{in_turn, is_unknown, component_faults, slot_width, looks_at, asks, of_storage, of_memory, of_node};
+ghost use Rattle.width_fit.specs.Walks.{Walks, solved, of_instance_among, stmt_among, arm_among};
+
+use crate::fault::WidthFault;
+use crate::faults::{push_condition, push_over, push_where};
+use crate::filling::filled;
+use crate::found::Findings;
+use crate::given::Given;
+use crate::survey::survey_expr;
+use crate::widths::slot_widths;
+use bit_words::List;
+use circuit_parts::steps::{no_part, source};
+use fir_tree::{Arm, Expr, Stmt};
+use fir_types::{FirType, Memory, Name, element_of, memory_type};
+use indexmap::IndexMap;
+use place_text::Place;
+use prim_ops::Width;
+use std::alloc::{AllocError, Global};
+use width_rules::component::Component;
+use width_rules::measuring::{look_up, no_component};
+use width_rules::memories::port_slots;
+use width_rules::sizes::variables;
+use width_rules::slot::Slot;
+use width_rules::walk::{copy_component, duplex, note, slots_of_type};
+
+/// What a walk has come to.
+#[derive(Drop)]
+pub struct Walk {
+    /// The components of the module that are declared so far, by the numbers of their names.
+    pub known: IndexMap<u32, Component>,
+    /// For each variable so far the place of its component.
+    pub places: Vec<Place>,
+    /// The fitted types of declarations in text order.
+    pub declared: Vec<FirType>,
+    pub found: Findings,
+}
+
+/// Statements in order. An instance has the component that is listed by its module's name.
+#[cycle(walk)]
+pub fn walk_statements(
+    alloc: Global,
+    given: &Given<'_>,
+    instances: &IndexMap<u32, Component>,
+    walk: &mut Walk,
+    statements: &[Stmt],
+) -> Result<(), AllocError>
+    ensures { OnOk result (Walks (in_turn (map (stmt_among (solved given.now) instances.now.entries) statements.now)) walk.old walk.new) }
+{
+    for statement in statements {
+        walk_statement(alloc, given, instances, walk, statement)?;
+    }
+    Ok(())
+}
+
+#[cycle(walk)]
+fn walk_statement(
+    alloc: Global,
+    given: &Given<'_>,
+    instances: &IndexMap<u32, Component>,
+    walk: &mut Walk,
+    statement: &Stmt,
+) -> Result<(), AllocError>
+    ensures { OnOk result (Walks (stmt_among (solved given.now) instances.now.entries statement.now) walk.old walk.new) }
+{
+    match statement {
+        Stmt::Wire(name, typ) => declare_storage(alloc, given, walk, *name, typ),
+        Stmt::Reg(name, typ, clock) => {
+            look_at(alloc, given, walk, clock)?;
+            declare_storage(alloc, given, walk, *name, typ)
+        }
+        Stmt::RegReset(name, typ, clock, reset, init) => {
+            look_at(alloc, given, walk, clock)?;
+            ask(alloc, given, walk, reset)?;
+            look_at(alloc, given, walk, init)?;
+            declare_storage(alloc, given, walk, *name, typ)
+        }
+        Stmt::Mem(memory) => declare_memory(alloc, given, walk, memory),
+        Stmt::Inst(name, target) => {
+            declare_instance(alloc, given, instances, walk, *name, *target)
+        }
+        Stmt::Node(name, expr) => declare_node(alloc, given, walk, *name, expr),
+        Stmt::Connect(left, right) => {
+            look_at(alloc, given, walk, left)?;
+            look_at(alloc, given, walk, right)
+        }
+        Stmt::Invalidate(target) => look_at(alloc, given, walk, target),
+        Stmt::When(arms, other) => {
+            walk_arms(alloc, given, instances, walk, arms.as_slice())?;
+            walk_statements(alloc, given, instances, walk, other.as_slice())
+        }
+        Stmt::Skip(_) => Ok(()),
+    }
+}
+
+#[cycle(walk)]
+fn walk_arms(
+    alloc: Global,
+    given: &Given<'_>,
+    instances: &IndexMap<u32, Component>,
+    walk: &mut Walk,
+    arms: &[Arm],
+) -> Result<(), AllocError>
+    ensures { OnOk result (Walks (in_turn (map (arm_among (solved given.now) instances.now.entries) arms.now)) walk.old walk.new) }
+{
+    for arm in arms {
+        walk_arm(alloc, given, instances, walk, arm)?;
+    }
+    Ok(())
+}
+
+#[cycle(walk)]
+fn walk_arm(
+    alloc: Global,
+    given: &Given<'_>,
+    instances: &IndexMap<u32, Component>,
+    walk: &mut Walk,
+    arm: &Arm,
+) -> Result<(), AllocError>
+    ensures { OnOk result (Walks (arm_among (solved given.now) instances.now.entries arm.now) walk.old walk.new) }
+{
+    ask(alloc, given, walk, &arm.condition)?;
+    walk_statements(alloc, given, instances, walk, arm.body.as_slice())
+}
+
+/// An expression.
+fn look_at(alloc: Global, given: &Given<'_>, walk: &mut Walk, expr: &Expr) -> Result<(), AllocError>
+    ensures { OnOk result (Walks (looks_at given.now.widths.now expr.now) walk.old walk.new) }
+{
+    survey_expr(alloc, given.widths, &walk.known, &mut walk.found, expr)?;
+    Ok(())
+}
+
+/// A condition or a reset, which has at most one bit.
+fn ask(alloc: Global, given: &Given<'_>, walk: &mut Walk, expr: &Expr) -> Result<(), AllocError>
+    ensures { OnOk result (Walks (asks given.now.widths.now expr.now) walk.old walk.new) }
+{
+    let surveyed = survey_expr(alloc, given.widths, &walk.known, &mut walk.found, expr)?;
+    push_condition(
+        &mut walk.found.faults,
+        surveyed.place,
+        surveyed.widths.as_slice(),
+    )
+}
+
+/// A wire or a register.
+fn declare_storage(
+    alloc: Global,
+    given: &Given<'_>,
+    walk: &mut Walk,
+    name: Name,
+    typ: &FirType,
+) -> Result<(), AllocError>
+    ensures { OnOk result (Walks (of_storage (solved given.now) name typ.now) walk.old walk.new) }
+{
+    let slots = slots_of_type(alloc, &mut walk.places, name.place, typ)?;
+    let widths = slot_widths(alloc, given.widths, slots.as_slice())?;
+    walk.declared.push(filled(alloc, typ, widths.as_slice())?)?;
+    push_component(
+        &mut walk.found.faults,
+        given,
+        name.place,
+        slots.as_slice(),
+        widths.as_slice(),
+    )?;
+    let part = duplex(alloc, typ)?;
+    note(&mut walk.known, name.id, Component { part, slots })
+}
+
+/// A memory, whose ports share the widths of its elements.
+fn declare_memory(
+    alloc: Global,
+    given: &Given<'_>,
+    walk: &mut Walk,
+    memory: &Memory,
+) -> Result<(), AllocError>
+    ensures { OnOk result (Walks (of_memory (solved given.now) memory.now) walk.old walk.new) }
+{
+    let (element, slots) = memory_slots(alloc, &mut walk.places, memory)?;
+    let widths = slot_widths(alloc, given.widths, element.as_slice())?;
+    let place = memory.name.place;
+    push_component(
+        &mut walk.found.faults,
+        given,
+        place,
+        element.as_slice(),
+        widths.as_slice(),
+    )?;
+    let typ = memory_type(alloc, memory)?;
+    let widths = slot_widths(alloc, given.widths, slots.as_slice())?;
+    walk.declared.push(filled(alloc, &typ, widths.as_slice())?)?;
+    let part = source(typ);
+    note(&mut walk.known, memory.name.id, Component { part, slots })
+}
+
+/// The widths of a memory's elements, and those of all its ports.
+fn memory_slots(
+    alloc: Global,
+    places: &mut Vec<Place>,
+    memory: &Memory,
+) -> Result<(List<Slot>, List<Slot>), AllocError>
+    ensures element { IfOk result (λ slots. slots.0 ≡ slots_from (length places.old.items) (spots (element_of memory.now))) }
+    ensures ports { IfOk result (λ slots. slots.1 ≡ memory_slots memory.now (slots_from (length places.old.items) (spots (element_of memory.now)))) }
+    ensures places { OnOk result (places.new.items ≡ places.old.items ++ places_for memory.now.name.place (open_spots (spots (element_of memory.now)))) }
+{
+    let empty = no_part(alloc)?.typ;
+    let lines = memory.lines.as_slice();
+    let element = element_of(lines, &empty);
+    let own = slots_of_type(alloc, places, memory.name.place, element)?;
+    let ports = port_slots(alloc, lines, element, own.as_slice())?;
+    Ok((own, ports))
+}
+
+/// An instance, whose widths are those of its module's ports.
+fn declare_instance(
+    alloc: Global,
+    given: &Given<'_>,
+    instances: &IndexMap<u32, Component>,
+    walk: &mut Walk,
+    name: Name,
+    target: Name,
+) -> Result<(), AllocError>
+    ensures { OnOk result (Walks (of_instance_among (solved given.now) instances.now.entries name target) walk.old walk.new) }
+{
+    let nothing = no_component(alloc)?;
+    let instance = copy_component(alloc, look_up(instances, target.id, &nothing))?;
+    let widths = slot_widths(alloc, given.widths, instance.slots.as_slice())?;
+    walk.declared
+        .push(filled(alloc, &instance.part.typ, widths.as_slice())?)?;
+    note(&mut walk.known, name.id, instance)
+}
+
+/// A node, whose places all have variables.
+fn declare_node(
+    alloc: Global,
+    given: &Given<'_>,
+    walk: &mut Walk,
+    name: Name,
+    expr: &Expr,
+) -> Result<(), AllocError>
+    ensures { OnOk result (Walks (of_node (solved given.now) name expr.now) walk.old walk.new) }
+{
+    let part = survey_expr(alloc, given.widths, &walk.known, &mut walk.found, expr)?.part;
+    let slots = variables(alloc, &mut walk.places, name.place, &part.typ)?;
+    let widths = slot_widths(alloc, given.widths, slots.as_slice())?;
+    walk.declared
+        .push(filled(alloc, &part.typ, widths.as_slice())?)?;
+    push_component(
+        &mut walk.found.faults,
+        given,
+        name.place,
+        slots.as_slice(),
+        widths.as_slice(),
+    )?;
+    let part = source(part.typ);
+    note(&mut walk.known, name.id, Component { part, slots })
+}
+
+/// Adds the faults of a component at this place, whose widths these are.
+pub fn push_component(
+    faults: &mut Vec<WidthFault>,
+    given: &Given<'_>,
+    place: Place,
+    slots: &[Slot],
+    widths: &[Width],
+) -> Result<(), AllocError>
+    requires { widths.now ≡ map (slot_width given.now.widths.now) slots.now }
+    ensures { OnOk result (faults.new.items ≡ faults.old.items ++ component_faults (solved given.now) place slots.now) }
+{
+    push_where(
+        faults,
+        any_unknown(given, slots),
+        WidthFault::WidthUnknown(place),
+    )?;
+    push_over(faults, place, widths)
+}
+
+fn any_unknown(given: &Given<'_>, slots: &[Slot]) -> bool
+    ensures { result ≡ list_any (is_unknown given.now.rules.now) slots.now }
+{
+    for slot in slots {
+        if given.is_unknown(*slot) {
+            return true;
+        }
+    }
+    false
+}

@@ -1,0 +1,93 @@
+//! The widths of places and of operations.
+
+ghost use Rattle.std.specs.Prelude.{◌≡◌, map, zip, length, IfOk};
+ghost use Rattle.width_fit.specs.Judging.{slot_width};
+ghost use Rattle.width_fit.specs.Surveys.{kept_kind, kept_width, width_in_row, wider_of};
+
+use crate::faults::lone;
+use crate::found::Surveyed;
+use bit_words::{Kind, List};
+use prim_ops::{Prim, Width, arity};
+use std::alloc::{AllocError, Global};
+use width_rules::measuring::{kind, row_of};
+use width_rules::slot::Slot;
+use width_rules::widths::{bounded, wider};
+
+/// The widths of a component's places.
+pub fn slot_widths(
+    alloc: Global,
+    widths: &[Width],
+    slots: &[Slot],
+) -> Result<List<Width>, AllocError>
+    ensures { IfOk result (λ found. found ≡ map (slot_width widths.now) slots.now) }
+{
+    let mut found = List::new(alloc);
+    for slot in slots {
+        found.push(slot_width(widths, *slot))?;
+    }
+    Ok(found)
+}
+
+/// The width of a place. A variable that has no width counts as 0 bits.
+fn slot_width(widths: &[Width], slot: Slot) -> Width
+    ensures { result ≡ slot_width widths.now slot }
+{
+    match slot {
+        Slot::Fixed(bits) => bounded(bits),
+        Slot::Var(variable) => match widths.get(variable as usize) {
+            Some(width) => *width,
+            None => Width::Bits(0),
+        },
+    }
+}
+
+pub fn kinds_of(alloc: Global, operands: &[Surveyed]) -> Result<Vec<Kind>, AllocError>
+    ensures { IfOk result (λ kinds. kinds.items ≡ map kept_kind operands.now) }
+{
+    let mut kinds = Vec::new(alloc);
+    for operand in operands {
+        kinds.push(kind(&operand.part.typ))?;
+    }
+    Ok(kinds)
+}
+
+pub fn lone_widths(alloc: Global, operands: &[Surveyed]) -> Result<Vec<Width>, AllocError>
+    ensures { IfOk result (λ widths. widths.items ≡ map kept_width operands.now) }
+{
+    let mut widths = Vec::new(alloc);
+    for operand in operands {
+        widths.push(lone(operand.widths.as_slice()))?;
+    }
+    Ok(widths)
+}
+
+/// The width of an operation's result, and 0 bits where it doesn't take these operands.
+pub fn width_in_row(prim: Prim, kinds: &[Kind], widths: &[Width], params: &[u128]) -> Width
+    requires { length widths.now ≡ length kinds.now }
+    ensures { result ≡ width_in_row prim kinds.now widths.now params.now }
+{
+    let (operands, parameters) = arity(prim);
+    if kinds.len() == operands as usize
+        && params.len() == parameters as usize
+        && row_of(prim, kinds).is_some()
+    {
+        prim_ops::width_of(prim, kinds, widths, params)
+    } else {
+        Width::Bits(0)
+    }
+}
+
+/// Place by place the greater of two widths.
+pub fn wider_each(
+    alloc: Global,
+    first: &[Width],
+    second: &[Width],
+) -> Result<List<Width>, AllocError>
+    ensures { IfOk result (λ greater. greater ≡ map wider_of (zip first.now second.now)) }
+{
+    let mut greater = List::new(alloc);
+    for at in 0..first.len().min(second.len()) {
+        greater.push(wider(first[at], second[at]))?;
+    }
+    Ok(greater)
+}
