@@ -1,11 +1,9 @@
 -- Small nets: what is settled, and the next state.
-use Rattle.std.proofs.Common.{◌≡◌, ℕ, min, List, [], ◌∷◌, Option, Some, None, arith, ℤ, pos, ◌==◌, if◌then◌else◌, Bool, true, false, refl, ◌+◌, ◌*◌, ◌^◌}
+use Rattle.std.proofs.Common.{◌≡◌, ℕ, min, [], ◌∷◌, Option, Some, None, arith, pos, ◌==◌, if◌then◌else◌, Bool, true, false, refl, ◌+◌, ◌*◌, ◌^◌}
 use Rattle.std.proofs.Math.Nat.{min-le_right}
 use Rattle.std.proofs.lemmas.Grind.{common_steps}
-use Rattle.place_text.specs.declared.place.Place.{Place}
 use Rattle.bit_words.specs.declared.value.Kind.TheVariants.{Unsigned}
 use Rattle.bit_words.specs.declared.value.Value.{Value}
-use Rattle.bit_words.specs.Values.{integer_of}
 use Rattle.prim_ops.specs.declared.operation.PrimOp.TheVariants.{Add, Tail}
 use Rattle.cycle_values.specs.Values.{fitted}
 use Rattle.ground_net.specs.declared.ground.Ground.{Ground, the_lemmas}
@@ -14,10 +12,7 @@ use Rattle.ground_net.specs.declared.net.Leaf.{Leaf}
 use Rattle.ground_net.specs.declared.net.Role.{Role}
 use Rattle.ground_net.specs.declared.net.Role.TheVariants as role
 use Rattle.ground_net.specs.declared.net.Net.{Net}
-use Rattle.ground_net.specs.declared.net.NetRegister.{NetRegister}
-use Rattle.ground_net.specs.declared.net.NetReset.{NetReset}
 use Rattle.ground_net.specs.declared.net.NetMemory.{NetMemory}
-use Rattle.ground_net.specs.declared.net.ElementLeaf.{ElementLeaf}
 use Rattle.ground_net.specs.declared.net.NetPort.{NetPort}
 use Rattle.ground_net.specs.declared.net.NetWrite.{NetWrite}
 use Rattle.ground_net.specs.declared.net.NetRead.{NetRead}

@@ -3,3 +3,5 @@ pub mod Settling
 pub mod Shaping
 mod Mentioning
 mod Examples
+mod Placing
+mod Ranges
