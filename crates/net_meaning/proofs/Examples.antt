@@ -20,13 +20,13 @@ use Rattle.ground_net.specs.Grounds.{Sight, value}
 use Rattle.net_meaning.specs.Cycles.{NetState, Valuation, sight_of, next}
 use Rattle.net_meaning.specs.Words.{words_of_value}
 
-abbrev v : ℕ → ℕ → Value
+abbrev pub v : ℕ → ℕ → Value
 v width n = fitted Unsigned width (pos n)
 
-abbrev leaf : ℕ → Role → Leaf
+abbrev pub leaf : ℕ → Role → Leaf
 leaf width r = record { name = []; kind = Unsigned; width = min width 128; place = record { line = 1; column = 1 }; role = r; narrow = min-le_right width 128 }
 
-abbrev constant : ℕ → ℕ → Ground
+abbrev pub constant : ℕ → ℕ → Ground
 constant width n = ground.Const (v width n)
 
 -- the state in which the first two registers hold these, and the element 2 of each memory holds the third
