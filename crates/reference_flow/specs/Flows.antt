@@ -1,15 +1,9 @@
 -- The flows of references (FIRRTL specification 3.0, "Flows"): by the declaration, and then by each step of the reference. A field
 -- that is flipped turns a source and a sink round, and duplex stays; an index keeps the flow.
-use Rattle.std.specs.Prelude.{ℕ, ◌==◌, nat_eq, List, [], ◌∷◌, ◌++◌, map, flat_map, find, get_or, Option, Some, None, fold}
+use Rattle.std.specs.Prelude.{ℕ, nat_eq, List, [], ◌∷◌, ◌++◌, map, flat_map, get_or, fold}
 use Rattle.std.specs.Map.{lookup}
-use Rattle.fir_types.specs.declared.fir_type.FirType.{FirType}
-use Rattle.fir_types.specs.declared.fir_type.Shape.{Shape}
-use Rattle.fir_types.specs.declared.fir_type.Shape.TheOpen.{Shape-F}
-use Rattle.fir_types.specs.declared.fir_type.Shape.TheViews.{out-Shape}
-use Rattle.fir_types.specs.declared.fir_type.Shape.TheVariants as shape
-use Rattle.fir_types.specs.declared.fir_type.Field.{Field}
 use Rattle.fir_types.specs.declared.port.Port.{Port}
-use Rattle.fir_types.specs.Bundles.{nowhere, memory_of}
+use Rattle.fir_types.specs.Bundles.{memory_of}
 use Rattle.fir_tree.specs.declared.circuit.Circuit.{Circuit}
 use Rattle.fir_tree.specs.declared.circuit.Module.{Module}
 use Rattle.fir_tree.specs.declared.expr.Expr.{Expr, fold-Expr}
@@ -21,7 +15,7 @@ use Rattle.fir_tree.specs.declared.stmt.Stmt.TheOpen.{Stmt-F, Arm-F}
 use Rattle.circuit_parts.specs.declared.part.Flow.{Flow}
 use Rattle.circuit_parts.specs.declared.part.Flow.TheVariants.{Source, Duplex}
 use Rattle.circuit_parts.specs.declared.part.Part.{Part}
-use Rattle.circuit_parts.specs.Parts.{no_part, part_or_none, field_part, element_part, part_of, source_of, flow_through, port_flow, instance_in}
+use Rattle.circuit_parts.specs.Parts.{no_part, part_or_none, field_part, element_part, part_of, source_of, port_flow, instance_in}
 
 -- The components of a module by the numbers of their names.
 abbrev pub Components : Type 0

@@ -1,6 +1,5 @@
 -- One part of a body walked behind another.
 use Rattle.std.proofs.Common.{◌≡◌, ℕ, ◌+◌, ◌<◌, List, [], ◌∷◌, ◌++◌, map, length, take, get_or, filter_map, refl, sym, ap, ap₂, ◌∙◌, arith, append_assoc, append-nil, length-append, subst}
-use Rattle.std.proofs.lemmas.List.{map-append, take_more}
 use Rattle.std.specs.List.{flat_map}
 use Rattle.fir_types.specs.declared.memory.Memory.{Memory}
 use Rattle.fir_types.specs.declared.memory.MemLine.{MemLine}
@@ -12,6 +11,7 @@ use Rattle.fir_types.specs.Bundles.{nowhere}
 use Rattle.fir_types.specs.Memories.{element_of, depth_of, first_or, element_in, depth_in}
 use Rattle.fir_tree.specs.declared.stmt.Stmt.{fold-Stmt}
 use Rattle.fir_tree.specs.declared.stmt.Stmt.TheOpen.{Stmt-F}
+use Rattle.circuit_parts.proofs.Turns.{Turns, walks_push as one_more}
 use Rattle.width_rules.specs.declared.slot.Slot.{Slot}
 use Rattle.width_rules.specs.declared.walk.Found.{Found}
 use Rattle.width_rules.specs.Layers.{line_widths}
@@ -25,26 +25,25 @@ use Rattle.width_rules.specs.Walks.{Walks, AreInstances, declares_component, of_
 gathered : {a b : Gathered} → a.known ≡ b.known → a.places ≡ b.places → a.rules ≡ b.rules → a ≡ b
 gathered p q r = λ i. record { known = p i; places = q i; rules = r i }
 
-pub in_turn-push : (ps : List Walk) (p : Walk) (known : Known) (n : ℕ) → in_turn (ps ++ p ∷ []) known n ≡ and_then (in_turn ps) p known n
-in_turn-push [] p known n =
-    let e : p known n ≡ p known (n + 0) = ap (p known) (omega arith) in
-    gathered (ap (λ g. g.known) e) (append-nil _ ∙ ap (λ g. g.places) e) (append-nil _ ∙ ap (λ g. g.rules) e)
-in_turn-push (q ∷ qs) p known n =
-    let a = q known n in
-    let d = in_turn qs a.known (n + length a.places) in
-    let h : in_turn (qs ++ p ∷ []) a.known (n + length a.places) ≡ and_then (in_turn qs) p a.known (n + length a.places) = in_turn-push qs p a.known (n + length a.places) in
-    let k : p d.known ((n + length a.places) + length d.places) ≡ p d.known (n + length (a.places ++ d.places)) = ap (p d.known) (omega (arith, length-append a.places d.places)) in
-    gathered (ap (λ g. g.known) h ∙ ap (λ g. g.known) k)
-    (ap (λ g. a.places ++ g.places) h ∙ ap (λ g. a.places ++ (d.places ++ g.places)) k ∙ sym (append_assoc a.places d.places _))
-    (ap (λ g. a.rules ++ g.rules) h ∙ ap (λ g. a.rules ++ (d.rules ++ g.rules)) k ∙ sym (append_assoc a.rules d.rules _))
+alone_at : (p : Walk) (known : Known) (n : ℕ) → and_then nothing p known n ≡ and_then p nothing known n
+alone_at p known n =
+    let e : p known (n + 0) ≡ p known n = ap (p known) (omega arith) in
+    gathered (ap (λ g. g.known) e) (ap (λ g. g.places) e ∙ sym (append-nil _)) (ap (λ g. g.rules) e ∙ sym (append-nil _))
+
+either_at : (p q r : Walk) (known : Known) (n : ℕ) → and_then (and_then p q) r known n ≡ and_then p (and_then q r) known n
+either_at p q r known n =
+    let a = p known n in
+    let b = q a.known (n + length a.places) in
+    let e : r b.known (n + length (a.places ++ b.places)) ≡ r b.known ((n + length a.places) + length b.places)
+    = ap (r b.known) (omega (arith, length-append a.places b.places)) in
+    gathered (ap (λ g. g.known) e) (ap (λ g. (a.places ++ b.places) ++ g.places) e ∙ append_assoc a.places b.places _)
+    (ap (λ g. (a.rules ++ b.rules) ++ g.rules) e ∙ append_assoc a.rules b.rules _)
+
+turns : Turns and_then nothing
+turns = record { alone = λ p i known n. alone_at p known n i; either = λ p q r i known n. either_at p q r known n i }
 
 pub walks_nothing : (a : Found) → Walks nothing a a
 walks_nothing a = record { known = refl; places = sym (append-nil _); rules = sym (append-nil _) }
-
-pub walks_same : {p q : Walk} {a b : Found} → ((known : Known) (n : ℕ) → p known n ≡ q known n) → Walks p a b → Walks q a b
-walks_same {p} {q} {a} {b} same h =
-    let e = same a.known.entries (length a.places.items) in
-    record { known = h.known ∙ ap (λ g. g.known) e; places = h.places ∙ ap (λ g. a.places.items ++ g.places) e; rules = h.rules ∙ ap (λ g. a.rules.items ++ g.rules) e }
 
 pub walks_then : {p q : Walk} {a b c : Found} → Walks p a b → Walks q b c → Walks (and_then p q) a c
 walks_then {p} {q} {a} {b} {c} h k =
@@ -60,10 +59,7 @@ walks_then {p} {q} {a} {b} {c} h k =
 -- one more of parts in turn
 pub walks_push : {X : Type 0} (part : X → Walk) (xs : List X) (i : ℕ) (x : X) {a b c : Found} → i < length xs → x ≡ get_or xs i x
     → Walks (in_turn (map part (take i xs))) a b → Walks (part x) b c → Walks (in_turn (map part (take (i + 1) xs))) a c
-walks_push part xs i x {a} {b} {c} lt is h k =
-    let step : map part (take (i + 1) xs) ≡ map part (take i xs) ++ part x ∷ []
-    = ap (map part) (take_more xs i x lt) ∙ map-append part (take i xs) (get_or xs i x ∷ []) ∙ ap (λ y. map part (take i xs) ++ part y ∷ []) (sym is) in
-    subst (λ ps. Walks (in_turn ps) a c) (sym step) (walks_same (λ known n. sym (in_turn-push (map part (take i xs)) (part x) known n)) (walks_then h k))
+walks_push part xs i x lt is h k = one_more Walks turns (λ p q a b c g l. walks_then g l) part xs i x lt is h k
 
 -- Memories
 

@@ -1,7 +1,7 @@
 -- The rules of a circuit (FIRRTL specification 3.0, "Width Inference"): each connect of a place with a variable gives the rule that it is
 -- at least the source's width, through instances as well; so do the value after a reset and the expression of a node; an
 -- `invalidate` gives the rule 0 to what it drives. A place with a declared width has no rule.
-use Rattle.std.specs.Prelude.{ℕ, ◌+◌, ◌==◌, Bool, true, false, not, List, [], ◌∷◌, ◌++◌, map, flat_map, length, replicate, find, Option, Some, None, option_map}
+use Rattle.std.specs.Prelude.{ℕ, ◌+◌, ◌==◌, Bool, true, false, List, [], ◌∷◌, ◌++◌, map, flat_map, length, replicate, find, option_map}
 use Rattle.place_text.specs.declared.place.Place.{Place}
 use Rattle.fir_types.specs.declared.fir_type.FirType.{FirType}
 use Rattle.fir_types.specs.declared.port.Port.{Port}
@@ -21,6 +21,7 @@ use Rattle.fir_tree.specs.declared.stmt.Arm.{Arm, fold-Arm}
 use Rattle.fir_tree.specs.declared.stmt.Stmt.TheOpen.{Stmt-F, Arm-F}
 use Rattle.circuit_parts.specs.declared.part.Flow.{Flow}
 use Rattle.circuit_parts.specs.declared.part.Flow.TheVariants.{Source, Sink, Duplex}
+use Rattle.circuit_parts.specs.Turns.{in_order}
 use Rattle.circuit_parts.specs.Parts.{part_of, source_of, flow_through, port_flow}
 use Rattle.width_rules.specs.declared.component.Component.{Component}
 use Rattle.width_rules.specs.declared.slot.Slot.{Slot}
@@ -30,7 +31,7 @@ use Rattle.width_rules.specs.declared.rule.Formula.TheVariants as formula
 use Rattle.width_rules.specs.declared.rule.Rule.{Rule}
 use Rattle.width_rules.specs.declared.rule.Rules.{Rules}
 use Rattle.width_rules.specs.Places.{Spot, spots, size, slots_from, open_spots, node_slots}
-use Rattle.width_rules.specs.Sources.{Known, known_with, Measured, measured, formula_of, component_or_none}
+use Rattle.width_rules.specs.Sources.{Known, known_with, measured, formula_of, component_or_none}
 
 -- Rules
 
@@ -127,8 +128,7 @@ and_then first second known n =
     record { known = b.known; places = a.places ++ b.places; rules = a.rules ++ b.rules }
 
 abbrev pub in_turn : List Walk → Walk
-in_turn [] = nothing
-in_turn (walk ∷ walks) = and_then walk (in_turn walks)
+in_turn = in_order and_then nothing
 
 -- a wire or a register
 abbrev pub declares : Name → FirType → Walk

@@ -1,6 +1,5 @@
 -- The width that a formula gives under an assignment of widths to the variables (FIRRTL specification 3.0, "Width Inference").
 use Rattle.std.specs.Prelude.{◌≡◌, ℕ, ◌<◌, nat_le, if◌then◌else◌, List, [], ◌∷◌, map, length, get_or, IsSome}
-use Rattle.bit_words.specs.declared.value.Kind.{Kind}
 use Rattle.prim_ops.specs.declared.widths.Width.{Width}
 use Rattle.prim_ops.specs.declared.widths.Width.TheVariants.{Bits, Over}
 use Rattle.prim_ops.specs.Operations.{arity_of}

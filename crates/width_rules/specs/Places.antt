@@ -1,9 +1,9 @@
 -- The places of a type that have widths (FIRRTL specification 3.0, "Width Inference"): each `UInt`, `SInt` and `Reset` in its text, in
 -- order, also in the element of a vector of length 0. All elements of a vector share the places of the element. A Clock has no width.
-use Rattle.std.specs.Prelude.{ℕ, ◌+◌, ◌==◌, Bool, true, false, not, if◌then◌else◌, List, [], ◌∷◌, ◌++◌, map, flat_map, take, drop, length, Option, Some, None}
+use Rattle.std.specs.Prelude.{ℕ, ◌+◌, ◌==◌, Bool, false, not, if◌then◌else◌, List, [], ◌∷◌, map, flat_map, take, drop, length, Option, Some, None}
 use Rattle.fir_types.specs.declared.fir_type.FirType.{FirType, fold-FirType}
 use Rattle.fir_types.specs.declared.fir_type.Shape.{Shape}
-use Rattle.fir_types.specs.declared.fir_type.Shape.TheOpen.{Shape-F, Field-F, FirType-F}
+use Rattle.fir_types.specs.declared.fir_type.Shape.TheOpen.{Shape-F, Field-F}
 use Rattle.fir_types.specs.declared.fir_type.Shape.TheViews.{out-Shape}
 use Rattle.fir_types.specs.declared.fir_type.Field.{Field}
 use Rattle.width_rules.specs.declared.slot.Slot.{Slot}

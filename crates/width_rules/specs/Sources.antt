@@ -1,12 +1,9 @@
 -- The widths of expressions by the variables (FIRRTL specification 3.0, "Width Inference", "Primitive Operations", "References").
-use Rattle.std.specs.Prelude.{ℕ, zero, suc, ◌+◌, nat_eq, ◌==◌, ◌&&◌, Bool, true, false, is_some, if◌then◌else◌, List, [], ◌∷◌, ◌++◌, map, length, zip, fold, find, Option, Some, None, ℤ}
+use Rattle.std.specs.Prelude.{ℕ, zero, suc, nat_eq, ◌&&◌, is_some, if◌then◌else◌, List, [], ◌∷◌, ◌++◌, map, length, zip, fold, Option, Some, None, ℤ}
 use Rattle.std.specs.Map.{lookup}
 use Rattle.bit_words.specs.declared.value.Kind.{Kind}
-use Rattle.bit_words.specs.declared.value.Kind.TheVariants.{Unsigned}
 use Rattle.bit_words.specs.Numbers.{integer_of_number}
 use Rattle.place_text.specs.declared.place.Place.{Place}
-use Rattle.fir_types.specs.declared.fir_type.FirType.{FirType}
-use Rattle.fir_types.specs.declared.fir_type.Shape.TheViews.{out-Shape}
 use Rattle.prim_ops.specs.declared.operation.PrimOp.{PrimOp}
 use Rattle.prim_ops.specs.Operations.{arity_of}
 use Rattle.prim_ops.specs.Kinds.{row_kind}
