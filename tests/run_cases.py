@@ -58,12 +58,19 @@ def main():
     ):
         case = {"words": ["check"], "stdin": tower(32, below), "status": status, "stdout": line}
         faults.append((name, fault_of(program, case)))
+    small = "FIRRTL version 3.0.0\ncircuit {0} :\n  module {0} :\n    input {1} : Clock\n%stimulus\ncycles 0\n"
+    for name, clock, status, line in (
+        ("a small circuit of 32,768 bytes is run", "c", 0, "cycle\n"),
+        ("a small circuit of 32,769 bytes is not run yet", "cc", 2, "circuit Unsupported 2:9\n"),
+    ):
+        case = {"words": ["run"], "stdin": small.format("a" * 16352, clock), "status": status, "stdout": line}
+        faults.append((name, fault_of(program, case)))
     too_long = {"words": ["check"], "stdin": " " * 5_242_881, "status": 2, "stdout": "circuit TooLong 1:1\n"}
     faults.append(("a text over 5,242,880 bytes is too long", fault_of(program, too_long)))
     failed = [(name, fault) for name, fault in faults if fault]
     for name, fault in failed:
         print(f"FAILED {name}: {fault}")
-    print(f"tests: {len(faults) - len(failed)} passed, {len(failed)} failed")
+    print(f"{len(faults) - len(failed)} passed, {len(failed)} failed")
     sys.exit(1 if failed else 0)
 
 

@@ -3,7 +3,7 @@ use Rattle.std.proofs.Common.{◌≡◌, ℕ, ◌<◌, ◌≤◌, ◌^◌, min, 
 use native.Mathlib.Bridge.{le_prop}
 use Rattle.bit_words.specs.declared.value.Kind.{Kind}
 use Rattle.bit_words.specs.declared.value.Value.{Value}
-use Rattle.bit_words.specs.Values.{integer, integer_of, bits_of, fit_of, InRange}
+use Rattle.bit_words.specs.Values.{integer_of, bits_of, fit_of, InRange}
 use Rattle.bit_words.proofs.Congruence.{bits_back, bits_below, integer_in_range, fit_same}
 use Rattle.prim_ops.specs.declared.operation.PrimOp.{PrimOp}
 use Rattle.prim_ops.specs.Widths.{width_number}

@@ -3,7 +3,7 @@
 -- A reader of a rule enters a case by the piece that stands there (`Enters`), reads the symbols of the case one behind the
 -- other (`read_then`), and has read the rule (`read_case`). A refusal in a case is one of the rule. A reader with a loop
 -- keeps what it still awaits (`Awaits`).
-use Rattle.std.proofs.Common.{◌≡◌, ℕ, ◌+◌, ◌<◌, ◌≤◌, true, false, List, [], ◌∷◌, ◌++◌, length, take, drop, sym, ◌∙◌, ap, append_assoc, arith, slice_get, get_or, Option, Some, option_map, ⊎_elim}
+use Rattle.std.proofs.Common.{◌≡◌, ℕ, ◌+◌, ◌<◌, ◌≤◌, true, false, List, [], ◌∷◌, ◌++◌, length, take, drop, sym, ◌∙◌, ap, append_assoc, arith, slice_get, get_or, Option, Some, option_map, ⊎_elim, subst}
 use Rattle.std.proofs.Math.Path.{Path}
 use Rattle.std.proofs.lemmas.Grind.{common_steps}
 use Rattle.std.proofs.lemmas.Option.{slice_get_within, slice_get-map, get_or_from_slice_get}
@@ -13,13 +13,14 @@ use Rattle.fir_layout.specs.declared.laid.Laid.{Laid}
 use Rattle.fir_layout.specs.Pieces.{Piece, piece_of, pieces_of}
 use Rattle.fir_tree.specs.declared.fault.ParseFault.{ParseFault}
 use Rattle.fir_tree.specs.declared.fault.ParseFault.TheVariants.{TooDeep}
-use Rattle.fir_grammar.specs.Grammar.{Terminal, Takes, Kept, Nothing, Its_place, Its_name, Its_magnitude, Its_place_and_magnitude, Its_number, Symbol, Is, A, Rule, IsCase, Front, cut, takes_on, goes_into, Values, tree, start_of, Spells, no_symbol, a_rule, a_piece, a_place, a_name, a_magnitude, a_placed_magnitude, a_quoted}
+use Rattle.fir_grammar.specs.Grammar.{Terminal, Takes, Kept, Nothing, Its_place, Its_name, Its_magnitude, Its_place_and_magnitude, Its_number, Symbol, Is, A, Rule, IsCase, Derives, expands, Front, cut, takes_on, goes_into, Values, tree, start_of, Spells, no_symbol, a_rule, a_piece, a_place, a_name, a_magnitude, a_placed_magnitude, a_quoted}
 use Rattle.fir_grammar.specs.Faults.{IsShallow, IsDeepAt, IsNamed, is_deep, levels}
 use Rattle.fir_grammar.specs.Reading.{part, Leads, IsSettled, HasRead, IsRefused, no_memory, at_bad_piece, at_deep_piece}
 use Rattle.fir_grammar.proofs.Cases.{choose, some_injective}
 use Rattle.fir_grammar.proofs.Follows.{settled_case}
-use Rattle.fir_grammar.proofs.Fronts.{Front-entered}
-use Rattle.fir_grammar.proofs.ReadingLaws.{part-here, part-cons, Leads-refl, Leads-trans, Stops-trans, Leads-piece, Stops-piece, Leads-case, Leads-case-of-two, Stops-rule}
+use Rattle.fir_grammar.proofs.Fronts.{Front-entered, Derives-entered, Derives-whole}
+use Rattle.fir_grammar.proofs.ReadingLaws.{part-here, part-cons, Leads-refl, Leads-trans, Stops-trans, Leads-piece, Stops-piece, Leads-case, Leads-case-of-two, Alone}
+use Rattle.fir_grammar.proofs.Empty.{empty_rule}
 
 -- the values of symbols, and then those of the symbols behind them
 abbrev pub joined : (ss more : List Symbol) → Values ss → Values more → Values (ss ++ more)
@@ -116,8 +117,9 @@ enters_by_piece {r} {body} pieces i case p h chosen = record { into = λ rest se
 
 -- the first two pieces say it, and the case can begin with the first
 pub enters_by_two : {r : Rule} {body : List Symbol} (pieces : List Piece) (i : ℕ) (case : IsCase r body) (p q : Piece) → slice_get pieces i ≡ Some p → slice_get pieces (i + 1) ≡ Some q
-    → ((rest : List Symbol) → Front (body ++ rest) (p ∷ [])) → ((ps : List Piece) → choose r (p ∷ q ∷ ps) ≡ Some (body, case)) → Enters pieces i case
-enters_by_two {r} {body} pieces i case p q h g takes chosen = record { into = λ rest settled. Leads-case-of-two pieces r body case rest i p q h g (takes rest) settled chosen }
+    → ((rest : List Symbol) → Front (body ++ rest) (p ∷ [])) → ((ps : List Piece) → choose r (p ∷ q ∷ ps) ≡ Some (body, case))
+    → Alone case p q → Enters pieces i case
+enters_by_two {r} {body} pieces i case p q h g takes chosen alone = record { into = λ rest settled. Leads-case-of-two pieces r body case rest i p q h g (takes rest) settled chosen alone }
 
 only-forth : (pieces : List Piece) (r : Rule) (body rest : List Symbol) (i k : ℕ) (p : Piece) → slice_get pieces i ≡ Some p
     → ((other : List Symbol) (ps : List Piece) → IsCase r other → Front (other ++ rest) (p ∷ ps) → Path (List Symbol) other body)
@@ -128,17 +130,46 @@ only-forth pieces r body rest i k p h only inside f =
     let same : entered.0 ≡ body = only entered.0 _ entered.1 entered.2 in
     rw (split, ← same) entered.2
 
+only-whole : (pieces : List Piece) (r : Rule) (body rest : List Symbol) (i k : ℕ) (p : Piece) → slice_get pieces i ≡ Some p
+    → ((other : List Symbol) (ps : List Piece) → IsCase r other → Front (other ++ rest) (p ∷ ps) → Path (List Symbol) other body)
+    → i < k → Derives (A r ∷ rest) (part pieces i k) → Derives (body ++ rest) (part pieces i k)
+only-whole pieces r body rest i k p h only inside d =
+    let split = part-cons pieces i k p h (omega arith) in
+    let entered = Derives-entered (rw split at d) in
+    let same : entered.0 ≡ body = only entered.0 _ entered.1 (Derives-whole entered.2) in
+    rw (split, ← same) entered.2
+
 -- no other case begins with the first piece
 pub enters_only : {r : Rule} {body : List Symbol} (pieces : List Piece) (i : ℕ) (case : IsCase r body) (p : Piece) → slice_get pieces i ≡ Some p
-    → ((other rest : List Symbol) (ps : List Piece) → IsCase r other → Front (other ++ rest) (p ∷ ps) → Path (List Symbol) other body) → Enters pieces i case
-enters_only {r} {body} pieces i case p h only = record {
+    → ((other rest : List Symbol) (ps : List Piece) → IsCase r other → Front (other ++ rest) (p ∷ ps) → Path (List Symbol) other body) → ¬ (IsCase r []) → Enters pieces i case
+enters_only {r} {body} pieces i case p h only some = record {
   into = λ rest settled. record {
     onward = omega arith;
     back = λ k l f. goes_into body case f;
     forth = λ k l f. ⊎_elim (λ inside. only-forth pieces r body rest i k p h (λ other ps also g. only other rest ps also g) inside f)
         (λ outside. let nothing : part pieces i k ≡ [] = part-here pieces i k outside in rw nothing cut) (cases_lt i k);
+    whole = λ k l d. ⊎_elim (λ inside. only-whole pieces r body rest i k p h (λ other ps also g. only other rest ps also g) inside d.derived)
+        (λ outside. let nothing : part pieces i k ≡ [] = part-here pieces i k outside in absurd (some (empty_rule (rw nothing at d.derived)).0)) (cases_lt i k);
   };
 }
+
+-- the rule has one case
+pub enters_always : {r : Rule} {body : List Symbol} (pieces : List Piece) (i : ℕ) (case : IsCase r body) → ((other : List Symbol) → IsCase r other → Path (List Symbol) other body) → Enters pieces i case
+enters_always {r} {body} pieces i case only = record {
+  into = λ rest settled. record {
+    onward = omega arith;
+    back = λ k l f. goes_into body case f;
+    forth = λ k l f. sole_front f;
+    whole = λ k l d. sole_derived d.derived;
+  };
+}
+  where
+    sole_front : {rest : List Symbol} {ps : List Piece} → Front (A r ∷ rest) ps → Front (body ++ rest) ps
+    sole_front cut = cut
+    sole_front {rest} {ps} (goes_into other also f) = let P : List Symbol → Type 0 = λ b. Front (b ++ rest) ps in subst P (only other also) f
+
+    sole_derived : {rest : List Symbol} {ps : List Piece} → Derives (A r ∷ rest) ps → Derives (body ++ rest) ps
+    sole_derived {rest} {ps} (expands other also d) = let P : List Symbol → Type 0 = λ b. Derives (b ++ rest) ps in subst P (only other also) d
 
 -- a rule is read where its case is
 pub read_case : {r : Rule} {body : List Symbol} {text : List ℕ} {list : List Laid} {i j : ℕ} {names after : List (List ℕ)} {ws : Values body} (case : IsCase r body)
@@ -196,13 +227,6 @@ refused_deep keeps s {text} {list} {i} {l} h takes deep = at_deep_piece i l h (o
     let nothing : part (pieces_of text list) (i + 1) (i + 1) ≡ [] = part-here (pieces_of text list) (i + 1) (i + 1) (omega arith) in
     rw (split, nothing) (takes_on takes cut)) (shallow_none (pieces_of text list) i)
     (record { piece = piece_of text l; stands = piece_at text list i l h; deep = deep })
-
--- a rule none of whose cases begins with the piece is refused
-pub refused_rule : (r : Rule) {text : List ℕ} {list : List Laid} {i : ℕ} {l : Laid} {fault : ParseFault} → slice_get list i ≡ Some l
-    → ((body rest : List Symbol) (ps : List Piece) → IsCase r body → ¬ (Front (body ++ rest) (piece_of text l ∷ ps)))
-    → IsNamed (piece_of text l) (place text (start_of l)) fault → IsRefused (A r ∷ []) text list i fault
-refused_rule r {text} {list} {i} {l} {fault} h none named = at_bad_piece i l fault h
-    (λ rest settled. Stops-rule (pieces_of text list) r rest i (piece_of text l) (piece_at text list i l h) (λ body ps case. none body rest ps case)) (shallow_none (pieces_of text list) i) named
 
 -- One symbol that takes a piece is read where the piece is spelled as it and doesn't go too deep.
 pub read_piece : {keeps : Kept} {s : Terminal} {text : List ℕ} {list : List Laid} {i : ℕ} {names after : List (List ℕ)} {vs : Values (Is keeps s ∷ [])} {l : Laid} → slice_get list i ≡ Some l

@@ -15,6 +15,7 @@ use Rattle.fir_grammar.specs.Grammar.{Terminal, The_word, The_call, The_mark, A_
 use Rattle.fir_grammar.specs.Faults.{most, Levels, levels, is_deep}
 use Rattle.fir_grammar.specs.Reading.{HasRead, IsRefused}
 use Rattle.fir_grammar.proofs.Cases.{choose, Chosen, starts_mark}
+use Rattle.fir_grammar.proofs.ReadingLaws.{takes_both}
 use Rattle.fir_expr.specs.Standing.{StandsIn}
 use Rattle.fir_expr.specs.Parts.{IsTaken, IsNotTaken, IsNumberAt, HasPassed, StartsWith, kind_name}
 use Rattle.fir_expr.proofs.Composition.{joined, read_then, Enters, enters_by_piece, enters_by_two, piece_at, refused_first, refused_behind, refused_case}
@@ -101,6 +102,7 @@ module _ (text : List ℕ) (list : List Laid) (i brackets : ℕ) (k : Kind) (s :
   enters_wide : Enters (pieces_of text list) i (wide_case k)
   enters_wide = enters_by_two (pieces_of text list) i (wide_case k) (piece_of text head.part) (piece_of text next.part) (piece_at text list i head.part head.here) (piece_at text list (i + 1) next.part next.here)
       (λ rest. wide_front k (piece_of text head.part) rest head.takes) (λ ps. wide_chosen k (piece_of text head.part) (piece_of text next.part) ps head.takes next.takes)
+      (takes_both (λ rest. takes_on head.takes (takes_on next.takes cut)))
 
   word : IsTaken (The_word (kind_name k)) text list i head.part
   word = record { here = head.here; takes = head.takes; flat = word_flat (levels (take i (pieces_of text list))) (kind_name k) (piece_of text head.part) head.takes }

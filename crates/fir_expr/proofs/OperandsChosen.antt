@@ -1,42 +1,29 @@
 -- Which case of a rule is chosen by the first pieces of operations and references.
-use Rattle.std.proofs.Common.{◌≡◌, ℕ, suc, ◌+◌, Bool, true, false, List, ◌∷◌, ◌++◌, codes, slice_get, Some, refl, arith, eqb, eqb→eq}
+use Rattle.std.proofs.Common.{◌≡◌, ℕ, suc, ◌+◌, true, false, List, [], ◌∷◌, codes, slice_get, Some, refl}
+use Rattle.std.proofs.Math.Path.{Path}
 use Rattle.fir_lexer.specs.declared.token.TokenKind.TheVariants as kind
 use Rattle.fir_layout.specs.declared.laid.Laid.{Laid}
 use Rattle.fir_layout.specs.Pieces.{Piece, A_token, piece_of, pieces_of}
 use Rattle.prim_ops.specs.declared.operation.PrimOp.{PrimOp}
-use Rattle.prim_ops.specs.declared.operation.PrimOp.TheVariants.{Add, Sub, Mul, Div, Rem, Lt, Leq, Gt, Geq, Eq, Neq, Pad, AsUInt, AsSInt, Shl, Shr, Dshl, Dshr, Cvt, Neg, Not, And, Or, Xor, Andr, Orr, Xorr, Cat, Bits, Head, Tail}
 use Rattle.prim_ops.specs.Operations.{name_of}
-use Rattle.fir_grammar.specs.Grammar.{The_call, The_mark, Takes, Symbol, A, Rule, IsCase, Expression, Expressions, Reference, Suffixes, Front, cut, takes_on, goes_into, a_mux, an_operation, no_more_expressions, one_more_expression, a_component, no_suffix, a_field_suffix, an_element_suffix, an_index_suffix, name}
-use Rattle.fir_grammar.specs.Reading.{part}
-use Rattle.fir_grammar.proofs.Cases.{choose, starts_mark, starts_digits}
+use Rattle.fir_grammar.specs.Grammar.{The_call, The_mark, Takes, Its_place, Symbol, Is, A, IsCase, Derives, mark, Expression, Expressions, Reference, Suffixes, cut, takes_on, a_mux, an_operation, no_more_expressions, one_more_expression, a_component, no_suffix, a_field_suffix, an_element_suffix, an_index_suffix, name}
+use Rattle.fir_grammar.specs.Reading.{part, IsSettled}
+use Rattle.fir_grammar.proofs.Cases.{choose, starts_digits, operation_chosen}
+use Rattle.fir_grammar.proofs.Empty.{empty_rule}
+use Rattle.fir_grammar.proofs.ReadingLaws.{Derives-taken, derived_chosen, chosen_alone, never_alone}
 use Rattle.fir_expr.specs.Parts.{StartsWith}
 use Rattle.fir_expr.specs.Operands.{IsDigits, HasDigits, HasNoDigits}
-use Rattle.fir_expr.proofs.Composition.{Enters, enters_by_piece, enters_by_two, piece_at}
+use Rattle.fir_expr.proofs.Choices.{no_mark_first}
+use Rattle.fir_expr.proofs.Composition.{Enters, enters_by_piece, enters_by_two, enters_always, piece_at}
 
--- a rule of which one case is left, whatever stands there
+none_case : (other : List Symbol) → IsCase (Expressions 0) other → Path (List Symbol) other []
+none_case _ no_more_expressions = refl
 
-entered : {r : Rule} {ss : List Symbol} {ps : List Piece} (body : List Symbol) → ((other : List Symbol) → IsCase r other → Front (other ++ ss) ps → Front (body ++ ss) ps) → Front (A r ∷ ss) ps → Front (body ++ ss) ps
-entered body only cut = cut
-entered body only (goes_into other case f) = only other case f
+more_case : (n : ℕ) (other : List Symbol) → IsCase (Expressions (suc n)) other → Path (List Symbol) other (A Expression ∷ A (Expressions n) ∷ [])
+more_case n _ (one_more_expression _) = refl
 
-pub enters_always : {r : Rule} {body : List Symbol} (pieces : List Piece) (i : ℕ) (case : IsCase r body) → ((other ss : List Symbol) (ps : List Piece) → IsCase r other → Front (other ++ ss) ps → Front (body ++ ss) ps)
-    → Enters pieces i case
-enters_always {r} {body} pieces i case only = record {
-  into = λ rest settled. record {
-    onward = omega arith;
-    back = λ k l f. goes_into body case f;
-    forth = λ k l f. entered body (λ other also g. only other rest (part pieces i k) also g) f;
-  };
-}
-
-none_case : (other ss : List Symbol) (ps : List Piece) → IsCase (Expressions 0) other → Front (other ++ ss) ps → Front ss ps
-none_case _ ss ps no_more_expressions f = f
-
-more_case : (n : ℕ) (other ss : List Symbol) (ps : List Piece) → IsCase (Expressions (suc n)) other → Front (other ++ ss) ps → Front (A Expression ∷ A (Expressions n) ∷ ss) ps
-more_case n _ ss ps (one_more_expression _) f = f
-
-component_case : (other ss : List Symbol) (ps : List Piece) → IsCase Reference other → Front (other ++ ss) ps → Front (name ∷ A Suffixes ∷ ss) ps
-component_case _ ss ps a_component f = f
+component_case : (other : List Symbol) → IsCase Reference other → Path (List Symbol) other (name ∷ A Suffixes ∷ [])
+component_case _ a_component = refl
 
 pub enters_none : (pieces : List Piece) (i : ℕ) → Enters pieces i no_more_expressions
 enters_none pieces i = enters_always pieces i no_more_expressions none_case
@@ -47,42 +34,10 @@ enters_more pieces i n = enters_always pieces i (one_more_expression n) (more_ca
 pub enters_component : (pieces : List Piece) (i : ℕ) → Enters pieces i a_component
 enters_component pieces i = enters_always pieces i a_component component_case
 
--- an operation is found by its name
-prim_chosen : (prim : PrimOp) (ps : List Piece) → choose Expression (A_token kind.Call (name_of prim ++ codes "(") ∷ ps) ≡ Some (_, an_operation prim)
-prim_chosen Add ps = refl
-prim_chosen Sub ps = refl
-prim_chosen Mul ps = refl
-prim_chosen Div ps = refl
-prim_chosen Rem ps = refl
-prim_chosen Lt ps = refl
-prim_chosen Leq ps = refl
-prim_chosen Gt ps = refl
-prim_chosen Geq ps = refl
-prim_chosen Eq ps = refl
-prim_chosen Neq ps = refl
-prim_chosen Pad ps = refl
-prim_chosen AsUInt ps = refl
-prim_chosen AsSInt ps = refl
-prim_chosen Shl ps = refl
-prim_chosen Shr ps = refl
-prim_chosen Dshl ps = refl
-prim_chosen Dshr ps = refl
-prim_chosen Cvt ps = refl
-prim_chosen Neg ps = refl
-prim_chosen Not ps = refl
-prim_chosen And ps = refl
-prim_chosen Or ps = refl
-prim_chosen Xor ps = refl
-prim_chosen Andr ps = refl
-prim_chosen Orr ps = refl
-prim_chosen Xorr ps = refl
-prim_chosen Cat ps = refl
-prim_chosen Bits ps = refl
-prim_chosen Head ps = refl
-prim_chosen Tail ps = refl
+-- operations and `mux(`
 
 operation_piece : (prim : PrimOp) (p : Piece) → Takes (The_call (name_of prim)) p → (ps : List Piece) → choose Expression (p ∷ ps) ≡ Some (_, an_operation prim)
-operation_piece prim (A_token kind.Call bytes) same ps = rw same (prim_chosen prim ps)
+operation_piece prim (A_token kind.Call bytes) same ps = rw same (operation_chosen prim ps)
 operation_piece prim _ none ps = absurd none
 
 mux_piece : (p : Piece) → Takes (The_call (codes "mux")) p → (ps : List Piece) → choose Expression (p ∷ ps) ≡ Some (_, a_mux)
@@ -91,16 +46,8 @@ mux_piece _ none ps = absurd none
 
 -- suffixes
 
-unlike : (n m : ℕ) (b : Bool) → ¬ (n ≡ m) → eqb n m ≡ b → eqb n m ≡ false
-unlike n m true none e = absurd (none (eqb→eq n m (rw e tt)))
-unlike n m false none e = e
-
-no_such_mark : (m : ℕ) (p : Piece) (ps : List Piece) → ¬ (Takes (The_mark m) p) → starts_mark m (p ∷ ps) ≡ false
-no_such_mark m (A_token (kind.Mark n) bytes) ps none = unlike n m (eqb n m) none refl
-no_such_mark m _ ps none = refl
-
 no_suffix_piece : (p : Piece) → ¬ (Takes (The_mark 46) p) → ¬ (Takes (The_mark 91) p) → (ps : List Piece) → choose Suffixes (p ∷ ps) ≡ Some (_, no_suffix)
-no_suffix_piece p no_dot no_bracket ps = rw (no_such_mark 46 p ps no_dot, no_such_mark 91 p ps no_bracket) refl
+no_suffix_piece p no_dot no_bracket ps = rw (no_mark_first 46 p ps no_dot, no_mark_first 91 p ps no_bracket) refl
 
 field_piece : (p : Piece) → Takes (The_mark 46) p → (ps : List Piece) → choose Suffixes (p ∷ ps) ≡ Some (_, a_field_suffix)
 field_piece (A_token (kind.Mark n) bytes) same ps = rw same refl
@@ -122,6 +69,17 @@ index_piece : (p q : Piece) → Takes (The_mark 91) p → ¬ (IsDigits q) → (p
 index_piece (A_token (kind.Mark n) bytes) q same is ps = rw (same, no_number_first q ps is) refl
 index_piece _ q none is ps = absurd none
 
+index_alone : (p : Piece) → Takes (The_mark 91) p → choose Suffixes (p ∷ []) ≡ Some (_, an_index_suffix)
+index_alone (A_token (kind.Mark n) bytes) same = rw same refl
+index_alone _ none = absurd none
+
+-- no suffix is a `[` alone
+bracket_never_alone : (p : Piece) → Takes (The_mark 91) p → (rest : List Symbol) → IsSettled (A Suffixes ∷ rest) → ¬ (Derives (A Suffixes ∷ rest) (p ∷ []))
+bracket_never_alone p takes rest settled d = no_expression (derived_chosen Suffixes _ an_index_suffix rest (p ∷ []) settled (index_alone p takes) d)
+  where
+    no_expression : Derives (Is Its_place (The_mark 91) ∷ A Expression ∷ mark 93 ∷ A Suffixes ∷ rest) (p ∷ []) → ⊥
+    no_expression d = elim (empty_rule (Derives-taken d)).0 [ ]
+
 pub enters_no_suffix : (text : List ℕ) (list : List Laid) (i : ℕ) (l : Laid) → slice_get list i ≡ Some l → ¬ (Takes (The_mark 46) (piece_of text l)) → ¬ (Takes (The_mark 91) (piece_of text l)) → Enters (pieces_of text list) i no_suffix
 enters_no_suffix text list i l h a b = enters_by_piece (pieces_of text list) i no_suffix (piece_of text l) (piece_at text list i l h) (no_suffix_piece (piece_of text l) a b)
 
@@ -138,8 +96,8 @@ module _ {text : List ℕ} {list : List Laid} {i : ℕ} where
 
   pub enters_element : StartsWith (The_mark 91) text list i → HasDigits text list (i + 1) → Enters (pieces_of text list) i an_element_suffix
   enters_element h g = enters_by_two (pieces_of text list) i an_element_suffix (piece_of text h.part) (piece_of text g.part) (piece_at text list i h.part h.here) (piece_at text list (i + 1) g.part g.here)
-      (λ rest. takes_on h.takes cut) (element_piece (piece_of text h.part) (piece_of text g.part) h.takes g.is)
+      (λ rest. takes_on h.takes cut) (element_piece (piece_of text h.part) (piece_of text g.part) h.takes g.is) (never_alone (bracket_never_alone (piece_of text h.part) h.takes))
 
   pub enters_index : StartsWith (The_mark 91) text list i → HasNoDigits text list (i + 1) → Enters (pieces_of text list) i an_index_suffix
   enters_index h g = enters_by_two (pieces_of text list) i an_index_suffix (piece_of text h.part) (piece_of text g.part) (piece_at text list i h.part h.here) (piece_at text list (i + 1) g.part g.here)
-      (λ rest. takes_on h.takes cut) (index_piece (piece_of text h.part) (piece_of text g.part) h.takes g.none)
+      (λ rest. takes_on h.takes cut) (index_piece (piece_of text h.part) (piece_of text g.part) h.takes g.none) (chosen_alone (index_alone (piece_of text h.part) h.takes))

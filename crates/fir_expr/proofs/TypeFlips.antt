@@ -9,6 +9,7 @@ use Rattle.fir_types.specs.declared.name.Name.{Name}
 use Rattle.fir_tree.specs.declared.fault.ParseFault.{ParseFault}
 use Rattle.fir_grammar.specs.Grammar.{The_word, The_mark, A_field, Takes, Nothing, Symbol, A, Field, IsCase, field, plain_field, flipped_field, Front, cut, takes_on, Type_of, colon, word}
 use Rattle.fir_grammar.specs.Reading.{IsRefused}
+use Rattle.fir_grammar.proofs.ReadingLaws.{chosen_alone, takes_both}
 use Rattle.fir_expr.specs.Standing.{StandsIn, BeginsType, wanted}
 use Rattle.fir_expr.specs.Parts.{IsTaken, IsNotTaken, IsNameAt, GoesInto, StartsWith, HasPassed}
 use Rattle.fir_expr.specs.TypeParts.{Flips}
@@ -22,6 +23,10 @@ only_plain : (p : Piece) → ¬ (Takes (The_word (codes "flip")) p) → (other r
 only_plain p none other rest ps plain_field f = refl
 only_plain p none other rest ps flipped_field (takes_on t f) = absurd (none t)
 
+-- each field has pieces
+some_field : ¬ (IsCase Field [])
+some_field case = elim case [ ]
+
 -- a field may begin with a word
 word_field : (w : List ℕ) (p : Piece) → Takes (The_word w) p → Takes A_field p
 word_field w (A_token kind.Word bytes) t = tt
@@ -30,19 +35,20 @@ word_field w _ t = absurd t
 module _ (text : List ℕ) (list : List Laid) (i : ℕ) (l : Laid) (h : slice_get list i ≡ Some l) where
   -- no `flip` stands there
   pub into_plain : ¬ (Takes (The_word (codes "flip")) (piece_of text l)) → GoesInto plain_field text list i
-  into_plain none = record { into = (enters_only (pieces_of text list) i plain_field (piece_of text l) (piece_at text list i l h) (only_plain (piece_of text l) none)).into }
+  into_plain none = record { into = (enters_only (pieces_of text list) i plain_field (piece_of text l) (piece_at text list i l h) (only_plain (piece_of text l) none) some_field).into }
 
   module _ (flip : Takes (The_word (codes "flip")) (piece_of text l)) (m : Laid) (g : slice_get list (i + 1) ≡ Some m) where
     pub into_named_flip : Takes (The_mark 58) (piece_of text m) → GoesInto plain_field text list i
     into_named_flip t = record {
       into = (enters_by_two (pieces_of text list) i plain_field (piece_of text l) (piece_of text m) (piece_at text list i l h) (piece_at text list (i + 1) m g)
-          (λ rest. takes_on (word_field (codes "flip") (piece_of text l) flip) cut) (λ ps. rw (is_mark_first 58 (piece_of text m) ps t) refl)).into;
+          (λ rest. takes_on (word_field (codes "flip") (piece_of text l) flip) cut) (λ ps. rw (is_mark_first 58 (piece_of text m) ps t) refl)
+          (takes_both (λ rest. takes_on (word_field (codes "flip") (piece_of text l) flip) (takes_on t cut)))).into;
     }
 
     pub into_flipped : ¬ (Takes (The_mark 58) (piece_of text m)) → GoesInto flipped_field text list i
     into_flipped t = record {
       into = (enters_by_two (pieces_of text list) i flipped_field (piece_of text l) (piece_of text m) (piece_at text list i l h) (piece_at text list (i + 1) m g)
-          (λ rest. takes_on flip cut) (λ ps. rw (no_mark_first 58 (piece_of text m) ps t) refl)).into;
+          (λ rest. takes_on flip cut) (λ ps. rw (no_mark_first 58 (piece_of text m) ps t) refl) (chosen_alone refl)).into;
     }
 
 -- a field of what stands before its name and of the rest

@@ -1,19 +1,20 @@
 -- The lengths of vectors.
 use Rattle.std.proofs.Common.{◌≡◌, ℕ, ◌+◌, ◌<◌, List, [], ◌∷◌, take, slice_get, Some, refl, sym, subst, ◌∙◌, ap, arith}
+use Rattle.std.proofs.Math.Path.{Path}
 use Rattle.place_text.specs.declared.place.Place.{Place}
 use Rattle.fir_layout.specs.declared.laid.Laid.{Laid}
 use Rattle.fir_layout.specs.Pieces.{Piece, piece_of, pieces_of}
 use Rattle.fir_types.specs.declared.fir_type.FirType.{FirType}
 use Rattle.fir_types.specs.declared.fir_type.Shape.TheVariants as shape
 use Rattle.fir_tree.specs.declared.fault.ParseFault.{ParseFault}
-use Rattle.fir_grammar.specs.Grammar.{The_mark, A_number, Takes, Nothing, Its_magnitude, Symbol, A, Front, cut, goes_into, Type_of, Base_type, Lengths, mark, number, vectors, a_type, last_length, next_length}
+use Rattle.fir_grammar.specs.Grammar.{The_mark, A_number, Takes, Nothing, Its_magnitude, Symbol, A, IsCase, Type_of, Base_type, Lengths, mark, number, vectors, a_type, last_length, next_length}
 use Rattle.fir_grammar.specs.Faults.{levels, last_suffixes, most}
 use Rattle.fir_grammar.specs.Reading.{IsRefused}
 use Rattle.fir_expr.specs.Standing.{StandsIn}
 use Rattle.fir_expr.specs.Parts.{IsTaken, IsNotTaken, IsNumberAt, HasPassed}
 use Rattle.fir_expr.specs.TypeParts.{HasLengths}
 use Rattle.fir_expr.proofs.Bracketed.{stands_indexed, whole_index, suffixes_index}
-use Rattle.fir_expr.proofs.Composition.{Enters, read_then, refused_first, refused_behind, refused_case}
+use Rattle.fir_expr.proofs.Composition.{Enters, enters_always, read_then, refused_first, refused_behind, refused_case}
 use Rattle.fir_expr.proofs.Passing.{passed_then, passed_case, passed_number, read_mark, room_step}
 use Rattle.fir_expr.proofs.Choices.{enters_length, enters_last_length}
 use Rattle.fir_expr.proofs.TypeCases.{passed_nothing}
@@ -68,12 +69,11 @@ module _ {text : List ℕ} {list : List Laid} {i : ℕ} {l : Laid} (h : slice_ge
 
 -- a type of its base and its lengths
 
-type_forth : {rest : List Symbol} {ps : List Piece} → Front (A Type_of ∷ rest) ps → Front (A Base_type ∷ A Lengths ∷ rest) ps
-type_forth cut = cut
-type_forth (goes_into _ a_type f) = f
+type_case : (other : List Symbol) → IsCase Type_of other → Path (List Symbol) other (A Base_type ∷ A Lengths ∷ [])
+type_case _ a_type = refl
 
 enters_type : (pieces : List Piece) (i : ℕ) → Enters pieces i a_type
-enters_type pieces i = record { into = λ rest settled. record { onward = omega arith; back = λ k l f. goes_into (A Base_type ∷ A Lengths ∷ []) a_type f; forth = λ k l f. type_forth f } }
+enters_type pieces i = enters_always pieces i a_type type_case
 
 pub type_no_base : {text : List ℕ} {list : List Laid} {i : ℕ} {fault : ParseFault} → IsRefused (A Base_type ∷ []) text list i fault → IsRefused (A Type_of ∷ []) text list i fault
 type_no_base {text} {list} {i} r = refused_case a_type (enters_type (pieces_of text list) i) (refused_first (A Lengths ∷ []) r)

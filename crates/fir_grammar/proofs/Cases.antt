@@ -9,8 +9,9 @@ use Rattle.fir_layout.specs.Pieces.{Piece, A_token, A_line_end, A_block_opens, A
 use Rattle.prim_ops.specs.declared.operation.PrimOp.{PrimOp}
 use Rattle.prim_ops.specs.declared.operation.PrimOp.TheVariants.{Add, Sub, Mul, Div, Rem, Lt, Leq, Gt, Geq, Eq, Neq, Pad, AsUInt, AsSInt, Shl, Shr, Dshl, Dshr, Cvt, Neg, Not, And, Or, Xor, Andr, Orr, Xorr, Cat, Bits, Head, Tail}
 use Rattle.prim_ops.specs.Operations.{name_of}
-use Rattle.fir_grammar.specs.Grammar.{Terminal, The_word, The_call, The_mark, A_name, A_field, A_number, A_quoted_number, Opens, Closes, Takes, Kept, Symbol, Is, A, Rule, Text, Circuit_body, Modules, Module, Module_body, Ports, Port, Type_of, Lengths, Base_type, Width, Fields, Field, Statements, Statement, Block, Branches, Memory_lines, Memory_line, Under_write, Expression, Expressions, Numbers, Reference, Suffixes, Integer, IsCase, a_text, no_modules, some_modules, last_module, next_module, a_module, no_module_body, a_module_body, next_port, last_port, an_input, an_output, a_type, last_length, next_length, an_unsigned, a_signed, a_clock, a_reset, a_bundle, no_width, a_width, last_field, next_field, plain_field, flipped_field, last_statement, next_statement, a_wire, a_register, a_reset_register, a_memory, an_instance, a_node, a_connect, an_invalidate, a_when, a_skip, no_branch, else_when, else_, no_block, a_block, last_memory_line, next_memory_line, a_data_type, a_depth, a_read_latency, a_write_latency, a_read_under_write, under_old, under_new, under_undefined, a_reader, a_writer, a_readwriter, a_reference, a_mux, an_operation, no_more_expressions, one_more_expression, no_more_numbers, one_more_number, a_component, no_suffix, a_field_suffix, an_element_suffix, an_index_suffix, an_unsigned_literal, a_signed_literal, a_wide_unsigned_literal, a_wide_signed_literal, a_plain_integer, a_negative_integer, a_quoted_integer, Derives, done, meets, expands, Front, cut, takes_on, goes_into}
+use Rattle.fir_grammar.specs.Grammar.{Terminal, The_word, The_call, The_mark, A_name, A_field, A_number, A_quoted_number, Opens, Closes, Takes, Kept, Symbol, Is, A, Rule, Text, Circuit_body, Modules, Module, Module_body, Ports, Port, Type_of, Lengths, Base_type, Width, Fields, Field, Statements, Statement, Block, Branches, Memory_lines, Memory_line, Under_write, Expression, Expressions, Numbers, Reference, Suffixes, Integer, IsCase, a_text, no_modules, some_modules, last_module, next_module, a_module, no_module_body, a_module_body, next_port, last_port, an_input, an_output, a_type, last_length, next_length, an_unsigned, a_signed, a_clock, a_reset, a_bundle, no_width, a_width, last_field, next_field, plain_field, flipped_field, last_statement, next_statement, a_wire, a_register, a_reset_register, a_memory, an_instance, a_node, a_connect, an_invalidate, a_when, a_skip, no_branch, else_when, else_, no_block, a_block, last_memory_line, next_memory_line, a_data_type, a_depth, a_read_latency, a_write_latency, a_read_under_write, under_old, under_new, under_undefined, a_reader, a_writer, a_readwriter, a_reference, a_mux, an_operation, no_more_expressions, one_more_expression, no_more_numbers, one_more_number, a_component, no_suffix, a_field_suffix, an_element_suffix, an_index_suffix, an_unsigned_literal, a_signed_literal, a_wide_unsigned_literal, a_wide_signed_literal, a_plain_integer, a_negative_integer, a_quoted_integer, Derives, meets, expands, Front}
 use Rattle.fir_grammar.specs.Reading.{CannotBegin, IsSettled}
+use Rattle.fir_grammar.proofs.Fronts.{Derives-whole}
 
 -- tests of the first piece
 
@@ -196,11 +197,6 @@ enter (expands body case d) = record { body = body; case = case; more = d }
 
 -- what doesn't begin with a piece fails its test
 
-derives_front : {ss : List Symbol} {ps : List Piece} → Derives ss ps → Front ss ps
-derives_front done = cut
-derives_front (meets h d) = takes_on h (derives_front d)
-derives_front (expands body case d) = goes_into body case (derives_front d)
-
 open_test : (ss : List Symbol) (ps : List Piece) → CannotBegin ss Opens → Front ss ps → opens ps ≡ false
 open_test ss [] c f = refl
 open_test ss (A_block_opens ∷ ps) c f = absurd (c.none A_block_opens ps tt f)
@@ -345,7 +341,7 @@ expression_digits ss ps _ a_wide_unsigned_literal d = ap starts_digits (word_fir
 expression_digits ss ps _ a_wide_signed_literal d = ap starts_digits (word_first d).is
 
 -- an operation is found by its name
-operation_chosen : (prim : PrimOp) (ps : List Piece) → choose Expression (A_token kind.Call (name_of prim ++ codes "(") ∷ ps) ≡ Some (_, an_operation prim)
+pub operation_chosen : (prim : PrimOp) (ps : List Piece) → choose Expression (A_token kind.Call (name_of prim ++ codes "(") ∷ ps) ≡ Some (_, an_operation prim)
 operation_chosen Add ps = refl
 operation_chosen Sub ps = refl
 operation_chosen Mul ps = refl
@@ -393,7 +389,7 @@ reference_piece A_block_closes h ps e = absurd h
 reference_piece The_end h ps e = absurd h
 
 suffixes_less : (ss : List Symbol) (ps : List Piece) → CannotBegin ss (The_mark 60) → (body : List Symbol) → IsCase Suffixes body → Derives (body ++ ss) ps → starts_mark 60 ps ≡ false
-suffixes_less ss ps c _ no_suffix d = mark_test ss 60 ps c (derives_front d)
+suffixes_less ss ps c _ no_suffix d = mark_test ss 60 ps c (Derives-whole d)
 suffixes_less ss ps c _ a_field_suffix d = ap (starts_mark 60) (mark_first d).is
 suffixes_less ss ps c _ an_element_suffix d = ap (starts_mark 60) (mark_first d).is
 suffixes_less ss ps c _ an_index_suffix d = ap (starts_mark 60) (mark_first d).is
@@ -406,26 +402,26 @@ reference_chosen ss ps c _ a_component d =
 -- a list that a case derives is one that the case is chosen for
 pub chooses : {r : Rule} {body : List Symbol} (ss : List Symbol) (ps : List Piece) → IsSettled (A r ∷ ss) → (case : IsCase r body) → Derives (body ++ ss) ps → choose r ps ≡ Some (body, case)
 chooses ss ps h a_text d = refl
-chooses ss ps h no_modules d = rw (open_test ss ps h.0.0 (derives_front d)) refl
+chooses ss ps h no_modules d = rw (open_test ss ps h.0.0 (Derives-whole d)) refl
 chooses ss ps h some_modules d = ap (choose Circuit_body) (open_first d).is
 chooses ss ps h last_module d = ap (choose Modules) (close_first d).is
 chooses ss ps h next_module d = let e = enter d in rw (module_open (A Modules ∷ ss) ps e.body e.case e.more) refl
 chooses ss ps h a_module d = refl
-chooses ss ps h no_module_body d = rw (open_test ss ps h.0.0 (derives_front d)) refl
+chooses ss ps h no_module_body d = rw (open_test ss ps h.0.0 (Derives-whole d)) refl
 chooses ss ps h a_module_body d = ap (choose Module_body) (open_first d).is
 chooses ss ps h next_port d = let e = enter d in port_chosen _ ps e.body e.case e.more
 chooses ss ps h last_port d = let e = enter d in let w = statements_word ss ps e.body e.case e.more in rw (w.0, w.1) refl
 chooses ss ps h an_input d = ap (choose Port) (word_first d).is
 chooses ss ps h an_output d = ap (choose Port) (word_first d).is
 chooses ss ps h a_type d = refl
-chooses ss ps h last_length d = rw (mark_test ss 91 ps h.0.0 (derives_front d)) refl
+chooses ss ps h last_length d = rw (mark_test ss 91 ps h.0.0 (Derives-whole d)) refl
 chooses ss ps h next_length d = ap (choose Lengths) (mark_first d).is
 chooses ss ps h an_unsigned d = ap (choose Base_type) (word_first d).is
 chooses ss ps h a_signed d = ap (choose Base_type) (word_first d).is
 chooses ss ps h a_clock d = ap (choose Base_type) (word_first d).is
 chooses ss ps h a_reset d = ap (choose Base_type) (word_first d).is
 chooses ss ps h a_bundle d = ap (choose Base_type) (mark_first d).is
-chooses ss ps h no_width d = rw (mark_test ss 60 ps h.0.0 (derives_front d)) refl
+chooses ss ps h no_width d = rw (mark_test ss 60 ps h.0.0 (Derives-whole d)) refl
 chooses ss ps h a_width d = ap (choose Width) (mark_first d).is
 chooses ss ps h last_field d = ap (choose Fields) (mark_first d).is
 chooses ss ps h next_field d = let e = enter d in rw (field_mark (A Fields ∷ ss) ps 125 e.body e.case e.more) refl
@@ -445,10 +441,10 @@ chooses ss ps h a_connect d = ap (choose Statement) (word_first d).is
 chooses ss ps h an_invalidate d = ap (choose Statement) (word_first d).is
 chooses ss ps h a_when d = ap (choose Statement) (word_first d).is
 chooses ss ps h a_skip d = ap (choose Statement) (word_first d).is
-chooses ss ps h no_branch d = rw (else_test ss ps h.0.0 (derives_front d)) refl
+chooses ss ps h no_branch d = rw (else_test ss ps h.0.0 (Derives-whole d)) refl
 chooses ss ps h else_when d = let w = word_first d in let v = word_first w.more in ap (choose Branches) (w.is ∙ ap (λ (qs : List Piece). A_token kind.Word (codes "else") ∷ qs) v.is)
 chooses ss ps h else_ d = let w = word_first d in let v = mark_first w.more in ap (choose Branches) (w.is ∙ ap (λ (qs : List Piece). A_token kind.Word (codes "else") ∷ qs) v.is)
-chooses ss ps h no_block d = rw (open_test ss ps h.0.0 (derives_front d)) refl
+chooses ss ps h no_block d = rw (open_test ss ps h.0.0 (Derives-whole d)) refl
 chooses ss ps h a_block d = ap (choose Block) (open_first d).is
 chooses ss ps h last_memory_line d = ap (choose Memory_lines) (close_first d).is
 chooses ss ps h next_memory_line d = let e = enter d in rw (memory_line_open _ ps e.body e.case e.more) refl
@@ -471,7 +467,7 @@ chooses ss ps h (one_more_expression n) d = refl
 chooses ss ps h no_more_numbers d = refl
 chooses ss ps h (one_more_number n) d = refl
 chooses ss ps h a_component d = refl
-chooses ss ps h no_suffix d = let f = derives_front d in rw (mark_test ss 46 ps h.0.0 f, mark_test ss 91 ps h.0.1.0 f) refl
+chooses ss ps h no_suffix d = let f = Derives-whole d in rw (mark_test ss 46 ps h.0.0 f, mark_test ss 91 ps h.0.1.0 f) refl
 chooses ss ps h a_field_suffix d = ap (choose Suffixes) (mark_first d).is
 chooses ss ps h an_element_suffix d =
     let m = mark_first d in let n = digits_first m.more in ap (choose Suffixes) (m.is ∙ ap (λ (qs : List Piece). A_token (kind.Mark 91) m.bytes ∷ qs) n.is)

@@ -28,3 +28,12 @@ Front-taken (takes_on h f) = (h, f)
 
 pub Front-entered : {r : Rule} {ss : List Symbol} {p : Piece} {ps : List Piece} → Front (A r ∷ ss) (p ∷ ps) → (body : List Symbol) × IsCase r body × Front (body ++ ss) (p ∷ ps)
 Front-entered (goes_into body case f) = (body, case, f)
+
+pub Derives-entered : {r : Rule} {ss : List Symbol} {ps : List Piece} → Derives (A r ∷ ss) ps → (body : List Symbol) × IsCase r body × Derives (body ++ ss) ps
+Derives-entered (expands body case d) = (body, case, d)
+
+-- what is derived is a front
+pub Derives-whole : {ss : List Symbol} {ps : List Piece} → Derives ss ps → Front ss ps
+Derives-whole done = cut
+Derives-whole (meets h d) = takes_on h (Derives-whole d)
+Derives-whole (expands body case d) = goes_into body case (Derives-whole d)

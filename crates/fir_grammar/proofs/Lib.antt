@@ -5,5 +5,7 @@ pub mod Cases
 pub mod Unique
 pub mod OneFault
 pub mod Completion
+pub mod Empty
 pub mod ReadingLaws
+pub mod Longest
 pub mod Examples

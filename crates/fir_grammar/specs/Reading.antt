@@ -4,13 +4,14 @@
 -- the place j behind them and the names used then (`HasRead`), or a fault with its piece (`IsRefused`). Both speak of every
 -- list of symbols that may stand behind: the reader takes the longest type, expression or statement, since none of what
 -- may stand behind begins with a piece that could go on with it (`IsSettled`).
-use Rattle.std.specs.Prelude.{◌≡◌, ℕ, ◌+◌, ◌<◌, ◌≤◌, List, [], ◌∷◌, ◌++◌, length, take, drop, slice_get, Some, Result, Ok, Err, codes}
+use Rattle.std.specs.Prelude.{◌≡◌, ℕ, ◌+◌, ◌<◌, ◌≤◌, List, [], ◌∷◌, ◌++◌, length, take, drop, slice_get, Some, Result, Ok, Err, MatchResult, codes}
 use Rattle.place_text.specs.Places.{place}
 use Rattle.fir_layout.specs.declared.laid.Laid.{Laid}
 use Rattle.fir_layout.specs.Pieces.{Piece, piece_of, pieces_of}
 use Rattle.fir_tree.specs.declared.fault.ParseFault.{ParseFault}
 use Rattle.fir_tree.specs.declared.fault.ParseFault.TheVariants.{NoMemory, TooDeep}
-use Rattle.fir_grammar.specs.Grammar.{Terminal, The_word, The_mark, Opens, Takes, Symbol, Kept, Is, A, Rule, IsCase, Text, Tree, Circuit_body, Module, Module_body, Port, Type_of, Lengths, Base_type, Width, Field, Statement, Block, Branches, Memory_line, Expression, Expressions, Reference, Suffixes, Front, Values, Spells, start_of}
+use Rattle.fir_grammar.specs.Grammar.{Terminal, The_word, The_mark, Opens, Takes, Symbol, Kept, Is, A, Rule, IsCase, Text, Tree, Circuit_body, Module, Module_body, Port, Type_of, Lengths, Base_type, Width, Field, Statement, Block, Branches, Memory_line, Expression, Expressions, Reference, Suffixes, Derives, Front, Values, Spells, start_of}
+use Rattle.fir_tree.specs.Numbered.{IsDistinct}
 use Rattle.fir_grammar.specs.Faults.{IsShallow, IsDeepAt, IsNamed}
 
 -- the pieces that a rule could go on with behind some of its lists
@@ -59,19 +60,27 @@ pub data Stands : List Symbol → Type 0 where
 unfoldable pub part : List Piece → ℕ → ℕ → List Piece
 part pieces i k = drop i (take k pieces)
 
+-- The symbols derive the pieces from i to j, and no list that they derive begins with these and the piece behind them.
+pub record IsLongest (pieces : List Piece) (symbols : List Symbol) (i j : ℕ) : Type 0 where
+  pub derived : Derives symbols (part pieces i j)
+  pub ends : ¬ (Front symbols (part pieces i (j + 1)))
+
 -- The pieces from i to j are what stands before `rest` in `symbols`: wherever the text is cut from j on, it is a front by
--- the symbols from i exactly where it is a front by the rest from j.
+-- the symbols from i exactly where it is a front by the rest from j; and where it is derived by the symbols, as far as they
+-- go, it is derived by the rest.
 pub record Leads (pieces : List Piece) (symbols : List Symbol) (i : ℕ) (rest : List Symbol) (j : ℕ) : Type 0 where
   pub onward : i ≤ j
   pub back : (k : ℕ) → j ≤ k → Front rest (part pieces j k) → Front symbols (part pieces i k)
   pub forth : (k : ℕ) → j ≤ k → Front symbols (part pieces i k) → Front rest (part pieces j k)
+  pub whole : (k : ℕ) → j ≤ k → IsLongest pieces symbols i k → Derives rest (part pieces j k)
 
--- the piece at k is the first, from i on, that cannot continue the symbols
+-- the piece at k is the first, from i on, that cannot continue the symbols, and the pieces before it aren't all of them
 pub record Stops (pieces : List Piece) (symbols : List Symbol) (i k : ℕ) : Type 0 where
   pub onward : i ≤ k
   pub within : k < length pieces
   pub before : Front symbols (part pieces i k)
   pub here : ¬ (Front symbols (part pieces i (k + 1)))
+  pub wanting : ¬ (Derives symbols (part pieces i k))
 
 -- the symbols were read from i to j, and give these values
 pub record HasRead (symbols : List Symbol) (text : List ℕ) (list : List Laid) (i : ℕ) (names : List (List ℕ)) (vs : Values symbols) (j : ℕ) (after : List (List ℕ)) : Type 0 where
@@ -95,3 +104,17 @@ pub data IsRefused (symbols : List Symbol) (text : List ℕ) (list : List Laid) 
 abbrev pub Reads : (r : Rule) → List ℕ → List Laid → ℕ → List (List ℕ) → Result (Tree r) ParseFault → ℕ → List (List ℕ) → Type 0
 Reads r text list i names (Ok x) j after = HasRead (A r ∷ []) text list i names (x, tt) j after
 Reads r text list i names (Err fault) j after = IsRefused (A r ∷ []) text list i fault
+
+-- The list spells these values from i to j and no more: no piece goes too deep, and the one at j can't go on with them.
+pub record SpellsLongest (symbols : List Symbol) (text : List ℕ) (list : List Laid) (i : ℕ) (names : List (List ℕ)) (vs : Values symbols) (j : ℕ) (after : List (List ℕ)) : Type 0 where
+  pub onward : i ≤ j
+  pub within : j ≤ length list
+  pub spelled : Spells text symbols (drop i list) names vs (drop j list) after
+  pub ends : ¬ (Front symbols (part (pieces_of text list) i (j + 1)))
+  pub shallow : IsShallow (pieces_of text list) i j
+
+-- What a reader of one rule answers where the list spells a tree of it and no more: that tree, and it stands behind it. Only
+-- memory can be wanted.
+abbrev pub ReadsLongest : (r : Rule) → List ℕ → List Laid → ℕ → List (List ℕ) → Result (Tree r) ParseFault → ℕ → List (List ℕ) → Type 0
+ReadsLongest r text list i names result j after = (x : Tree r) (k : ℕ) (more : List (List ℕ)) → IsDistinct names → SpellsLongest (A r ∷ []) text list i names (x, tt) k more
+    → MatchResult result (λ given. (given ≡ x) × (j ≡ k) × (after ≡ more)) (λ fault. fault ≡ NoMemory)

@@ -1,7 +1,7 @@
 -- The ports of a memory (FIRRTL specification 3.0, "Memories"): what they write and read in a cycle.
 --
 -- The leaves of a memory are seen as integers by their way: the port, its field, and the way within the field.
-use Rattle.std.specs.Prelude.{ℕ, ◌==◌, ◌&&◌, not, nat_lt, Bool, false, List, [], ◌∷◌, fold, find, filter_map, ℤ, pos, Option, Some, None, if◌then◌else◌, unsigned_abs}
+use Rattle.std.specs.Prelude.{ℕ, ◌==◌, nat_lt, Bool, false, List, [], ◌∷◌, find, filter_map, ℤ, pos, Option, Some, None, unsigned_abs}
 use Rattle.std.specs.Ordering.{int_eq}
 use Rattle.fir_types.specs.declared.leaf.PathStep.{PathStep}
 use Rattle.fir_types.specs.declared.leaf.PathStep.TheVariants as step
@@ -11,6 +11,8 @@ use Rattle.fir_types.specs.declared.memory.MemLine.TheVariants as line
 use Rattle.fir_types.specs.declared.memory.PortMode.{PortMode}
 use Rattle.fir_types.specs.declared.memory.PortMode.TheVariants as mode
 use Rattle.fir_types.specs.Memories.{depth_of}
+use Rattle.cycle_values.specs.Ports as port_rules
+use Rattle.cycle_values.specs.Ports.{Held, Shown, set_to_write, set_to_read, after_ports, read_by_port}
 use Rattle.fir_types.specs.Bundles.{addr_name, en_name, data_name, mask_name, wmode_name, wdata_name, wmask_name}
 
 -- A port: the number of its name, and what it does.
@@ -33,7 +35,7 @@ port_named memory name = find (λ port. port.name == name) (memory_ports memory)
 
 -- What the elements hold: an integer for each element and each leaf of it.
 abbrev pub Contents : Type 0
-Contents = ℕ → List PathStep → ℤ
+Contents = Held (List PathStep)
 
 -- The integers of a memory's leaves.
 abbrev pub Leaves : Type 0
@@ -58,14 +60,14 @@ is_within memory leaves port = nat_lt (address leaves port) (depth_of memory)
 -- A port is set to write: a writer with `en` 1, or a readwriter with `en` and `wmode` 1.
 abbrev pub asks_to_write : Leaves → MemoryPort → PortMode → Bool
 asks_to_write leaves port mode.Reader = false
-asks_to_write leaves port mode.Writer = is_set leaves port en_name
-asks_to_write leaves port mode.ReadWriter = is_set leaves port en_name && is_set leaves port wmode_name
+asks_to_write leaves port mode.Writer = set_to_write (is_set leaves port en_name) None
+asks_to_write leaves port mode.ReadWriter = set_to_write (is_set leaves port en_name) (Some (is_set leaves port wmode_name))
 
 -- A port is set to read: a reader with `en` 1, or a readwriter with `en` 1 and `wmode` 0.
 abbrev pub asks_to_read : Leaves → MemoryPort → PortMode → Bool
-asks_to_read leaves port mode.Reader = is_set leaves port en_name
+asks_to_read leaves port mode.Reader = set_to_read (is_set leaves port en_name) None
 asks_to_read leaves port mode.Writer = false
-asks_to_read leaves port mode.ReadWriter = is_set leaves port en_name && not (is_set leaves port wmode_name)
+asks_to_read leaves port mode.ReadWriter = set_to_read (is_set leaves port en_name) (Some (is_set leaves port wmode_name))
 
 -- the field with the data that a port writes, and that with their mask
 abbrev pub written_field : PortMode → ℕ
@@ -76,23 +78,27 @@ abbrev pub mask_field : PortMode → ℕ
 mask_field mode.ReadWriter = wmask_name
 mask_field _ = mask_name
 
--- The contents after a port: a port that writes puts its data into each leaf of the element at its address whose mask is 1.
--- Past the depth nothing is written.
+-- What a port shows of its leaves.
+abbrev pub shown : Leaves → MemoryPort → Shown (List PathStep)
+shown leaves port = record {
+  writes = asks_to_write leaves port port.mode;
+  reads = asks_to_read leaves port port.mode;
+  address = address leaves port;
+  written = field leaves port (written_field port.mode);
+  masked = λ way. int_eq (field leaves port (mask_field port.mode) way) (pos 1);
+}
+
+-- The contents after a port.
 abbrev pub after_port : Memory → Leaves → Contents → MemoryPort → Contents
-after_port memory leaves before port element way =
-    if (asks_to_write leaves port port.mode && is_within memory leaves port)
-    && ((address leaves port == element) && int_eq (field leaves port (mask_field port.mode) way) (pos 1))
-    then field leaves port (written_field port.mode) way
-    else before element way
+after_port memory leaves before port = port_rules.after_port (depth_of memory) before (shown leaves port)
 
--- The contents after all writes of a cycle, port by port in declared order: of two writes to one leaf the later port's stays.
+-- The contents after all writes of a cycle.
 abbrev pub after_writes : Memory → Leaves → Contents → Contents
-after_writes memory leaves before = fold (after_port memory leaves) before (memory_ports memory)
+after_writes memory leaves before = after_ports (depth_of memory) (shown leaves) (memory_ports memory) before
 
--- What a port reads from given contents: 0 where it doesn't read, and past the depth.
+-- What a port reads from given contents.
 abbrev pub port_read : Memory → Leaves → Contents → MemoryPort → List PathStep → ℤ
-port_read memory leaves contents port way =
-    if asks_to_read leaves port port.mode && is_within memory leaves port then contents (address leaves port) way else pos 0
+port_read memory leaves contents port way = read_by_port (depth_of memory) contents (shown leaves port) way
 
 -- The same of a port by its name; 0 where the memory has none.
 abbrev pub read_of : Memory → Leaves → Contents → Option MemoryPort → List PathStep → ℤ

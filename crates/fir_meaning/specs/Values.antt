@@ -2,15 +2,12 @@
 --
 -- The value of an expression is a list of values, one for each leaf of its type. It is told in a scene: the types of a
 -- module's components, and an integer for each of their leaves.
-use Rattle.std.specs.Prelude.{ℕ, suc, min, max, nat_lt, Bool, List, [], ◌∷◌, ◌++◌, map, fold, zip, ℤ, pos, negsuc, Option, Some, None, option_map, if◌then◌else◌, find, ◌==◌}
-use Rattle.std.specs.Ordering.{int_eq}
-use Rattle.std.proofs.Math.Nat.{min-le_right}
+use Rattle.std.specs.Prelude.{ℕ, suc, max, nat_lt, Bool, List, [], ◌∷◌, ◌++◌, map, fold, zip, ℤ, pos, negsuc, Option, Some, None, option_map, if◌then◌else◌, find, ◌==◌}
 use Rattle.bit_words.specs.declared.value.Kind.{Kind}
 use Rattle.bit_words.specs.declared.value.Kind.TheVariants.{Unsigned, Signed}
 use Rattle.bit_words.specs.declared.value.Value.{Value}
-use Rattle.bit_words.specs.Values.{bits_of, integer_of}
+use Rattle.bit_words.specs.Values.{integer_of}
 use Rattle.bit_words.specs.Numbers.{integer_of_number}
-use Rattle.bit_words.proofs.Congruence.{bits_below}
 use Rattle.fir_types.specs.declared.fir_type.FirType.{FirType}
 use Rattle.fir_types.specs.declared.fir_type.Shape.{Shape}
 use Rattle.fir_types.specs.declared.fir_type.Shape.TheOpen.{Shape-F}
@@ -21,10 +18,8 @@ use Rattle.fir_types.specs.declared.leaf.PathStep.{PathStep}
 use Rattle.fir_types.specs.declared.leaf.PathStep.TheVariants as step
 use Rattle.fir_types.specs.Leaves.{leaves}
 use Rattle.fir_types.specs.Bundles.{least_reaching}
-use Rattle.prim_ops.specs.declared.operation.PrimOp.{PrimOp}
-use Rattle.prim_ops.specs.Kinds.{row_kind}
-use Rattle.prim_ops.specs.Widths.{width_number}
-use Rattle.prim_ops.specs.Results.{integer_result, kinds_of, widths_of}
+pub use Rattle.cycle_values.specs.Values.{fitted, lone, operation, kind_or_unsigned}
+use Rattle.cycle_values.specs.Values.{is_one as is_one_value}
 use Rattle.fir_tree.specs.declared.expr.Expr.{Expr, fold-Expr}
 use Rattle.fir_tree.specs.declared.expr.Form.{Form}
 use Rattle.fir_tree.specs.declared.expr.Suffix.{Suffix, fold-Suffix}
@@ -58,24 +53,9 @@ seen_through rho path i _ way = rho path i way
 abbrev pub scene_of : TypedModule → List ℕ → Valuation → Scene
 scene_of m path rho = scene_with (type_in m) (λ c way. seen_through rho path c (target_of m c) way)
 
--- The value of a kind and a width that an integer is fitted to. No width of an accepted circuit is over 128.
-abbrev pub fitted : Kind → ℕ → ℤ → Value
-fitted kind width n = record {
-  kind = kind;
-  width = min width 128;
-  bits = bits_of (min width 128) n;
-  narrow = min-le_right width 128;
-  within = bits_below (min width 128) n;
-}
-
 -- The integer fitted to a leaf.
 abbrev pub fitted_to : TypeLeaf → ℤ → Value
 fitted_to leaf n = fitted (kind_of_leaf leaf) (width_of_leaf leaf) n
-
--- The one value of a ground expression, and 0 of no bits where there is none.
-abbrev pub lone : List Value → Value
-lone [] = fitted Unsigned 0 (pos 0)
-lone (v ∷ vs) = v
 
 -- Each item of a list with the one at its place in another, and with this one where there is none. Between the leaves of a type
 -- and the values of an expression of that type each has one.
@@ -84,9 +64,9 @@ beside other [] bs = []
 beside other (a ∷ rest) [] = (a, other) ∷ beside other rest []
 beside other (a ∷ rest) (b ∷ bs) = (a, b) ∷ beside other rest bs
 
--- A condition holds where its value is 1.
+-- A condition holds where its one value is 1.
 abbrev pub is_one : List Value → Bool
-is_one vs = int_eq (integer_of (lone vs)) (pos 1)
+is_one vs = is_one_value (lone vs)
 
 -- The parts of types
 
@@ -170,18 +150,7 @@ abbrev pub literal_width : Kind → ℤ → Option ℕ → ℕ
 literal_width kind n (Some width) = width
 literal_width kind n None = least_width kind n
 
--- Operations and choices
-
--- the kind of a row of the table; operands of an accepted circuit have a row
-abbrev pub kind_or_unsigned : Option Kind → Kind
-kind_or_unsigned (Some kind) = kind
-kind_or_unsigned None = Unsigned
-
--- The table's integer, fitted to the table's kind and width.
-abbrev pub operation : PrimOp → List Value → List ℕ → Value
-operation prim operands params =
-    fitted (kind_or_unsigned (row_kind prim (kinds_of operands))) (width_number prim (kinds_of operands) (widths_of operands) params)
-    (integer_result prim operands params)
+-- Choices
 
 -- Leaf by leaf the first or the second value, at the greater of their widths.
 abbrev pub one_of_two : Bool → Value → Value → Value

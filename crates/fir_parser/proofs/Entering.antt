@@ -12,7 +12,7 @@ use Rattle.fir_layout.specs.Pieces.{Piece, A_token, A_line_end, A_block_opens, A
 use Rattle.fir_grammar.specs.Grammar.{The_word, The_mark, Opens, Closes, Takes, Symbol, Rule, IsCase, next_memory_line, next_statement, next_module, next_port, last_port, no_block, no_module_body, no_modules, no_branch, else_, else_when, an_output, under_undefined, a_readwriter, a_skip, a_module, cut, takes_on, goes_into}
 use Rattle.fir_grammar.specs.Reading.{part}
 use Rattle.fir_grammar.proofs.Cases.{choose, starts_word, starts_mark, opens, closes}
-use Rattle.fir_grammar.proofs.ReadingLaws.{part-here, part-cons}
+use Rattle.fir_grammar.proofs.ReadingLaws.{part-here, part-cons, chosen_alone, takes_both}
 use Rattle.fir_expr.specs.declared.reader.Reader.{Reader}
 use Rattle.fir_expr.proofs.Composition.{Enters, enters_by_piece, enters_by_two, piece_at}
 use Rattle.fir_parser.specs.Taking.{pieces}
@@ -39,6 +39,7 @@ enters_nowhere {body} case ps i past = record {
     onward = omega arith;
     back = λ k l f. goes_into body case f;
     forth = λ k l f. let nothing : part ps i k ≡ [] = nothing_left ps i k past in rw nothing cut;
+    whole = λ k l d. let nothing : part ps i (k + 1) ≡ [] = nothing_left ps i (k + 1) past in absurd (d.ends (rw nothing cut));
   };
 }
 
@@ -202,6 +203,7 @@ else_here reader m = piece_at reader.bytes.now reader.laid.now reader.at m.laid 
 pub enters_else : (reader : Reader) → Meets (The_word (codes "else")) reader → MeetsNext (The_mark 58) reader → Enters (pieces reader) reader.at else_
 enters_else reader m n = enters_by_two (pieces reader) reader.at else_ (A_token kind.Word (codes "else")) (piece_of reader.bytes.now n.laid) (else_here reader m)
     (piece_at reader.bytes.now reader.laid.now (reader.at + 1) n.laid n.stands) (λ rest. takes_on refl cut) (λ ps. rw (colon_starts (piece_of reader.bytes.now n.laid) ps n.takes) refl)
+    (takes_both (λ rest. takes_on refl (takes_on n.takes cut)))
 
 last_else : (ps : List Piece) (i : ℕ) (p : Piece) → slice_get ps i ≡ Some p → length ps ≤ i + 1 → (k : ℕ) → i < k → part ps i k ≡ p ∷ []
 last_else ps i p h past k l = part-cons ps i k p h (omega (arith, l)) ∙ ap (λ (qs : List Piece). p ∷ qs) (nothing_left ps (i + 1) k past)
@@ -213,6 +215,8 @@ enters_at_last ps i h past = record {
     back = λ k l f. goes_into _ else_when f;
     forth = λ k l f. ⊎_elim (λ inside. let one : part ps i k ≡ A_token kind.Word (codes "else") ∷ [] = last_else ps i _ h past k inside in rw one (takes_on refl cut))
         (λ outside. let nothing : part ps i k ≡ [] = part-here ps i k outside in rw nothing cut) (cases_lt i k);
+    whole = λ k l d. let one : part ps i (k + 1) ≡ A_token kind.Word (codes "else") ∷ [] = last_else ps i _ h past (k + 1) (omega (arith, l)) in
+        absurd (d.ends (rw one (goes_into _ else_when (takes_on refl cut))));
   };
 }
 
@@ -221,7 +225,7 @@ else_when_at : (reader : Reader) → Meets (The_word (codes "else")) reader → 
     ⊎ ((length reader.laid.now ≤ reader.at + 1) × (slice_get reader.laid.now (reader.at + 1) ≡ None)) → Enters (pieces reader) reader.at else_when
 else_when_at reader m none (inl found) = enters_by_two (pieces reader) reader.at else_when (A_token kind.Word (codes "else")) (piece_of reader.bytes.now found.0) (else_here reader m)
     (piece_at reader.bytes.now reader.laid.now (reader.at + 1) found.0 found.2) (λ rest. takes_on refl cut)
-    (λ ps. rw (starts_colon (piece_of reader.bytes.now found.0) ps (λ takes. none (record { laid = found.0; stands = found.2; takes = takes }))) refl)
+    (λ ps. rw (starts_colon (piece_of reader.bytes.now found.0) ps (λ takes. none (record { laid = found.0; stands = found.2; takes = takes }))) refl) (chosen_alone refl)
 else_when_at reader m none (inr past) = enters_at_last (pieces reader) reader.at (else_here reader m) (rw length-map past.0)
 
 pub enters_else_when : (reader : Reader) → Meets (The_word (codes "else")) reader → ¬ (MeetsNext (The_mark 58) reader) → Enters (pieces reader) reader.at else_when

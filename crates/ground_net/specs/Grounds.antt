@@ -1,5 +1,5 @@
 -- The values of ground expressions, and the leaves that they mention (FIRRTL specification 3.0, "Expressions").
-use Rattle.std.specs.Prelude.{ℕ, Bool, List, [], ◌∷◌, ◌++◌, map, flat_map, ℤ, pos, negsuc, Option, Some, None, if◌then◌else◌, slice_get}
+use Rattle.std.specs.Prelude.{ℕ, List, [], ◌∷◌, ◌++◌, map, flat_map, ℤ, pos, negsuc, Option, Some, None, if◌then◌else◌, slice_get}
 use Rattle.bit_words.specs.declared.value.Value.{Value}
 use Rattle.bit_words.specs.Values.{integer_of}
 use Rattle.ground_net.specs.declared.ground.Ground.{Ground, fold-Ground}

@@ -6,6 +6,7 @@
 pub mod circuit;
 pub mod copying;
 pub mod ground;
+pub mod laws;
 pub mod net;
 pub mod ports;
 pub mod renumbering;
@@ -24,4 +25,4 @@ pub use net::{
     NetWrite, Ordered, PortLeaf, Ports, Role,
 };
 pub use ports::ports_of;
-pub use renumbering::{renumbered, renumbered_all};
+pub use renumbering::renumbered;

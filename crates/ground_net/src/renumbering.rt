@@ -9,39 +9,49 @@ use bit_words::List;
 use std::alloc::{AllocError, Global};
 
 /// The expression with the number that stands for each leaf in this list. A leaf without one gets the number 0.
-#[cycle(renumbered)]
 pub fn renumbered(alloc: Global, ground: &Ground, numbers: &[u32]) -> Result<Ground, AllocError>
     ensures itself { IfOk result (λ it. it ≡ with_numbers (slice_index numbers.now) ground.now) }
+    ensures value { IfOk result (λ it. (sight : Sight) → value it sight ≡ value ground.now (seen_by (slice_index numbers.now) sight)) }
+    ensures mentions { IfOk result (λ it. mentions it ≡ map (slice_index numbers.now) (mentions ground.now)) }
+{
+    let it = renumber(alloc, ground, numbers)?;
+    Ok(it)
+}
+
+/// The expression with other numbers for its leaves.
+#[cycle(renumber)]
+fn renumber(alloc: Global, ground: &Ground, numbers: &[u32]) -> Result<Ground, AllocError>
+    ensures { IfOk result (λ it. it ≡ with_numbers (slice_index numbers.now) ground.now) }
 {
     Ok(match ground {
         Ground::Const(value) => Ground::Const(*value),
         Ground::Leaf(leaf) => Ground::Leaf(number_of(numbers, *leaf)),
         Ground::Op(prim, operands, params) => Ground::Op(
             *prim,
-            renumbered_all(alloc, operands.as_slice(), numbers)?,
+            renumber_all(alloc, operands.as_slice(), numbers)?,
             List::from_slice(alloc, params.as_slice())?,
         ),
-        Ground::Mux(items) => Ground::Mux(renumbered_all(alloc, items.as_slice(), numbers)?),
+        Ground::Mux(items) => Ground::Mux(renumber_all(alloc, items.as_slice(), numbers)?),
         Ground::Select(index, items) => Ground::Select(
-            renumbered_all(alloc, index.as_slice(), numbers)?,
-            renumbered_all(alloc, items.as_slice(), numbers)?,
+            renumber_all(alloc, index.as_slice(), numbers)?,
+            renumber_all(alloc, items.as_slice(), numbers)?,
         ),
         Ground::Load(memory, leaf, items) => Ground::Load(
             *memory,
             *leaf,
-            renumbered_all(alloc, items.as_slice(), numbers)?,
+            renumber_all(alloc, items.as_slice(), numbers)?,
         ),
         Ground::Fit(kind, width, items) => Ground::Fit(
             *kind,
             *width,
-            renumbered_all(alloc, items.as_slice(), numbers)?,
+            renumber_all(alloc, items.as_slice(), numbers)?,
         ),
     })
 }
 
 /// The expressions with these numbers for their leaves, in order.
-#[cycle(renumbered)]
-pub fn renumbered_all(
+#[cycle(renumber)]
+fn renumber_all(
     alloc: Global,
     grounds: &[Ground],
     numbers: &[u32],
@@ -50,7 +60,7 @@ pub fn renumbered_all(
 {
     let mut them = List::new(alloc);
     for ground in grounds {
-        them.push(renumbered(alloc, ground, numbers)?)?;
+        them.push(renumber(alloc, ground, numbers)?)?;
     }
     Ok(them)
 }

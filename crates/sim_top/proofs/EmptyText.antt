@@ -1,10 +1,10 @@
 -- The empty text has its end alone as laid list, and the grammar refuses that piece: a text begins with `FIRRTL`.
-use Rattle.std.proofs.Common.{◌≡◌, ℕ, List, [], ◌∷◌, ◌++◌, drop, refl, sym, ◌∙◌, ⊎_elim, arith}
-use Rattle.std.specs.Prelude.{codes}
+use Rattle.std.proofs.Common.{◌≡◌, ℕ, List, [], ◌∷◌, ◌++◌, drop, refl, sym, ap, ◌∙◌, ⊎_elim, arith}
+use Rattle.std.specs.Prelude.{codes, Some}
 use Rattle.std.specs.Fmt.{digits}
 use Rattle.std.proofs.lemmas.Grind.{common_steps}
 use Rattle.place_text.specs.Places.{place, fault_line_bytes, first_place}
-use Rattle.fir_lexer.specs.Tokens.{no_piece}
+use Rattle.fir_lexer.specs.Tokens.{no_piece, AreTokens}
 use Rattle.fir_layout.specs.Layout.{IsLaidOut, no_line}
 use Rattle.fir_layout.specs.Pieces.{The_end}
 use Rattle.fir_layout.specs.declared.laid.Laid.TheVariants.{End}
@@ -12,10 +12,11 @@ use Rattle.fir_grammar.specs.Grammar.{Symbol, A, Text, IsCase, a_text, Front, cu
 use Rattle.fir_grammar.specs.Faults.{IsBad, FaultOf, a_bad_piece, unlisted}
 use Rattle.fir_tree.specs.declared.fault.ParseFault.TheVariants as grammar
 use Rattle.fir_grammar.proofs.Fronts.{Front-taken, Front-entered}
-use Rattle.sim_top.specs.declared.fault.FaultKind.TheVariants.{BadSyntax}
+use Rattle.sim_engine.specs.Faults.{fault_place}
+use Rattle.sim_engine.specs.Stages.{IsLaid, IsFirstFault, of_grammar}
+use Rattle.sim_engine.specs.declared.fault.CircuitFault.TheVariants.{Parse}
 use Rattle.sim_top.specs.declared.command.Command.TheVariants.{Check}
 use Rattle.sim_top.specs.StimulusLine.{HasNone}
-use Rattle.sim_top.specs.CircuitText.{IsFirstFault, of_grammar}
 use Rattle.sim_top.specs.Answers.{Judges, taken, refused, all_of_it, fault_bytes}
 
 laid_out : IsLaidOut [] (End 0 ∷ [])
@@ -37,8 +38,14 @@ begins : place [] 0 ≡ first_place
 unfolding place
 begins = refl
 
-first_fault : IsFirstFault [] (record { kind = BadSyntax; place = first_place })
-first_fault = rw begins at (of_grammar (End 0 ∷ []) (grammar.BadSyntax (place [] 0)) (record { kind = BadSyntax; place = place [] 0 }) laid_out fault refl)
+tokens : AreTokens [] []
+tokens = record { pieces = []; lexed = no_piece []; made = refl }
+
+laid : IsLaid [] (End 0 ∷ [])
+laid = record { lexed = record { tokens_are = tokens }; laid_out = laid_out }
+
+first_fault : IsFirstFault [] (Parse (grammar.BadSyntax (place [] 0)))
+first_fault = of_grammar (End 0 ∷ []) (grammar.BadSyntax (place [] 0)) laid fault
 
 -- the stimulus line stands nowhere in it
 dropped : (at : ℕ) → ◌≡◌ {A = List ℕ} (drop at []) []
@@ -51,10 +58,14 @@ has_none : HasNone []
 has_none at after stands = ⊎_elim (λ e. no_more _ _ (sym (dropped at) ∙ e))
     (λ more. ⊎_elim (λ e. no_more _ _ (sym (dropped at) ∙ e)) (λ e. no_more _ _ (sym (dropped at) ∙ e.0)) more) stands.line
 
-line : fault_bytes (record { kind = BadSyntax; place = first_place }) ≡ codes "circuit BadSyntax 1:1\n"
+line : fault_bytes (Parse (grammar.BadSyntax (place [] 0))) first_place ≡ codes "circuit BadSyntax 1:1\n"
 unfolding fault_line_bytes digits
 line = refl
 
+at_front : fault_place (Parse (grammar.BadSyntax (place [] 0))) ≡ Some first_place
+at_front = ap Some begins
+
 pub empty_refused : Judges Check [] 2 (codes "circuit BadSyntax 1:1\n")
-empty_refused = rw line at (taken Check [] [] 2 (fault_bytes (record { kind = BadSyntax; place = first_place }))
-    (record { within = omega arith; part = all_of_it Check [] refl has_none; short = omega arith }) (refused Check [] [] (record { kind = BadSyntax; place = first_place }) first_fault))
+empty_refused = rw line at (taken Check [] [] 2 (fault_bytes (Parse (grammar.BadSyntax (place [] 0))) first_place)
+    (record { within = omega arith; part = all_of_it Check [] refl has_none; short = omega arith })
+    (refused Check [] [] (Parse (grammar.BadSyntax (place [] 0))) first_place first_fault at_front))

@@ -1,7 +1,5 @@
 pub mod Searching
 pub mod Splitting
-pub mod Judging
-pub mod Replying
 pub mod Listed
 pub mod Lookups
 pub mod Placed
@@ -19,8 +17,11 @@ pub mod FrontLemmas
 pub mod CircuitLemmas
 pub mod WritableLemmas
 pub mod RoomLemmas
-pub mod Fronts
 pub mod CounterFormed
-pub mod Solving
-pub mod Accepting
+pub mod SmallOnce
+pub mod StimulusOnce
+pub mod Inside
+pub mod AnswersOnce
+pub mod Judging
+pub mod Replying
 pub mod EmptyText

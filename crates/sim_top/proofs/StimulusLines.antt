@@ -84,10 +84,10 @@ plain_settings c s formed stimulus k d lt = plain (to_place (IsSetting c s.cycle
       input = rw set.of_input.3 at (no_space p.name (All-contains (λ p. IsName p.name) c.ports p named set.of_input.1));
     }
 
-no_line : (s : Setting) (tail : List ℕ) → setting_line s ++ tail ≡ [] → ⊥
+pub no_line : (s : Setting) (tail : List ℕ) → setting_line s ++ tail ≡ [] → ⊥
 no_line s tail is = omega (arith, ap length (sym (setting_pieces s tail) ∙ is), length-append (decimal s.cycle) (32 ∷ (s.input ++ 32 ∷ (decimal s.value ++ 10 ∷ tail))))
 
-same_setting : (t s : Setting) → t.cycle ≡ s.cycle → t.input ≡ s.input → t.value ≡ s.value → t ≡ s
+pub same_setting : (t s : Setting) → t.cycle ≡ s.cycle → t.input ≡ s.input → t.value ≡ s.value → t ≡ s
 same_setting t s cycle input value =
     ap (λ (n : ℕ). record t { cycle = n }) cycle ∙ ap (λ (name : List ℕ). record s { input = name; value = t.value }) input ∙ ap (λ (n : ℕ). record s { value = n }) value
 

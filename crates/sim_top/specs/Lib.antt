@@ -3,7 +3,6 @@ pub mod SmallCircuits
 pub mod SmallStimuli
 pub mod Cycles
 pub mod Pieces
-pub mod CircuitText
 pub mod Answers
 pub mod Endings
 pub mod Evaluation

@@ -1,30 +1,35 @@
 //! What a command answers to the text of standard input.
 
-ghost use Rattle.std.specs.Prelude.{◌≡◌, ℕ, List, ◌≤◌, length, IfOk, Err, codes};
-ghost use Rattle.sim_top.specs.StimulusLine.{IsSplit};
-ghost use Rattle.sim_top.specs.CircuitText.{IsAcceptedOnly};
-ghost use Rattle.sim_top.specs.Answers.{fault_bytes, stimulus_fault_bytes, at_front, at_name, joined_limit, IsPart, Settles, SettlesTaken, SettlesSmall, SettlesListing, IsFittedCircuit};
+ghost use Rattle.std.specs.Prelude.{◌≡◌, ℕ, List, ◌≤◌, length, IfOk, Some, codes};
+ghost use Rattle.place_text.specs.Places.{first_place};
+ghost use Rattle.place_text.specs.declared.place.Place.{Place as APlace};
+ghost use Rattle.fir_layout.specs.Pieces.{pieces_of};
+ghost use Rattle.width_fit.specs.Fitting.{IsFittedCircuit};
+ghost use Rattle.sim_engine.specs.Stages.{IsLaid, IsAccepted};
+ghost use Rattle.sim_engine.specs.Faults.{fault_place};
+ghost use Rattle.sim_top.specs.Answers.{fault_bytes, whole_bytes, stimulus_bytes, joined_limit, IsCut, Judges, JudgesTaken, RunsSmall, ListsCircuit};
 ghost use Rattle.sim_top.specs.SmallCircuits.{IsWellFormed};
 ghost use Rattle.sim_top.specs.SmallStimuli.{IsStimulusOf};
 ghost use Rattle.sim_top.specs.Cycles.{trace};
-ghost use Rattle.sim_top.specs.declared.command.Command.TheVariants.{Run, Check, Widths};
 
-use crate::accepted::{Accepted, accept_text};
 use crate::circuit::SmallCircuit;
 use crate::command::Command;
-use crate::fault::{Fault, FaultKind, StimulusFault};
-use crate::front::TextFault;
+use crate::fault::{StimulusFault, WholeFault};
 use crate::small::{read_small, small_stimulus};
 use crate::split::split;
 use crate::stimulus::SmallStimulus;
 use crate::trace::trace_of;
 use fir_tree::{Circuit, Fitted};
 use place_text::{Place, TextPart, fault_line};
+use sim_engine::{Accepted, CIRCUIT_LIMIT, CircuitFault, accept_text};
 use std::alloc::{AllocError, Global};
 use trace_print::{listed_leaves, widths_text};
 
 /// The greatest number of leaves that a listing may have.
 const LEAF_LIMIT: u128 = 65_536;
+
+/// The place of a fault of a text as a whole.
+pub const FRONT: Place = Place { line: 1, column: 1 };
 
 /// A status and the bytes that are written.
 #[derive(Debug, Drop)]
@@ -36,26 +41,59 @@ pub struct Reply {
 /// What the command answers to a text within the limit.
 pub fn judge(alloc: Global, command: Command, text: &[u8]) -> Result<Reply, AllocError>
     requires { length text.now ≤ joined_limit }
-    ensures { IfOk result (λ r. Settles command text.now r.status r.bytes.items) }
+    ensures { IfOk result (λ r. Judges command text.now r.status r.bytes.items) }
 {
     match (command, split(text)) {
-        (Command::Run, Some((circuit, stimulus))) => Ok(run(alloc, circuit, stimulus)?),
-        (Command::Run, None) => Ok(refuse_whole(alloc, FaultKind::NoStimulus)?),
-        (Command::Check, Some((circuit, _))) => Ok(check(alloc, circuit)?),
-        (Command::Check, None) => Ok(check(alloc, text)?),
-        (Command::Widths, Some((circuit, _))) => Ok(list(alloc, circuit)?),
-        (Command::Widths, None) => Ok(list(alloc, text)?),
+        (Command::Run, None) => Ok(refuse_whole(alloc, WholeFault::NoStimulus, FRONT)?),
+        (Command::Run, Some((circuit, stimulus))) => {
+            Ok(judge_part(alloc, Command::Run, circuit, stimulus)?)
+        }
+        (Command::Check, None) => Ok(judge_part(alloc, Command::Check, text, &[])?),
+        (Command::Check, Some((circuit, stimulus))) => {
+            Ok(judge_part(alloc, Command::Check, circuit, stimulus)?)
+        }
+        (Command::Widths, None) => Ok(judge_part(alloc, Command::Widths, text, &[])?),
+        (Command::Widths, Some((circuit, stimulus))) => {
+            Ok(judge_part(alloc, Command::Widths, circuit, stimulus)?)
+        }
     }
 }
 
-/// Whether the circuit's text has a fault.
-fn check(alloc: Global, text: &[u8]) -> Result<Reply, AllocError>
-    ensures { IfOk result (λ r. (joined : List ℕ) → length joined ≤ joined_limit → IsPart Check joined text.now → Settles Check joined r.status r.bytes.items) }
+/// What the command answers to the circuit's part of a joined text, and to the stimulus behind it.
+fn judge_part(
+    alloc: Global,
+    command: Command,
+    circuit: &[u8],
+    stimulus: &[u8],
+) -> Result<Reply, AllocError>
+    ensures { IfOk result (λ r. (joined : List ℕ) → IsCut command joined circuit.now stimulus.now → Judges command joined r.status r.bytes.items) }
 {
-    match accept_text(alloc, text) {
-        Ok(_accepted) => Ok(accept(alloc)?),
-        Err(TextFault::Fault(fault)) => Ok(refuse(alloc, fault)?),
-        Err(TextFault::NoMemory) => Err(AllocError),
+    if circuit.len() > CIRCUIT_LIMIT {
+        return Ok(refuse_whole(alloc, WholeFault::TooLong, FRONT)?);
+    }
+    match accept_text(alloc, circuit) {
+        Ok(accepted) => Ok(judge_accepted(alloc, command, circuit, &accepted, stimulus)?),
+        Err(fault) => Ok(refuse(alloc, &fault)?),
+    }
+}
+
+/// What the command answers to a circuit without a fault.
+fn judge_accepted(
+    alloc: Global,
+    command: Command,
+    text: &[u8],
+    accepted: &Accepted,
+    stimulus: &[u8],
+) -> Result<Reply, AllocError>
+    requires accepted { IsAccepted text.now accepted.now.fitted.checked.circuit }
+    requires fitted { IsFittedCircuit accepted.now.fitted.checked.circuit accepted.now.fitted }
+    requires laid { IsLaid text.now accepted.now.laid.items }
+    ensures { IfOk result (λ r. (joined : List ℕ) → IsCut command joined text.now stimulus.now → JudgesTaken command joined text.now r.status r.bytes.items) }
+{
+    match command {
+        Command::Run => Ok(run(alloc, text, accepted, stimulus)?),
+        Command::Check => Ok(accept(alloc)?),
+        Command::Widths => Ok(list(alloc, &accepted.fitted)?),
     }
 }
 
@@ -69,56 +107,35 @@ fn accept(alloc: Global) -> Result<Reply, AllocError>
     })
 }
 
-/// Lists the widths of the circuit of a text.
-fn list(alloc: Global, text: &[u8]) -> Result<Reply, AllocError>
-    ensures { IfOk result (λ r. (joined : List ℕ) → length joined ≤ joined_limit → IsPart Widths joined text.now → Settles Widths joined r.status r.bytes.items) }
-{
-    match accept_text(alloc, text) {
-        Ok(accepted) => Ok(list_fitted(alloc, &accepted.fitted)?),
-        Err(TextFault::Fault(fault)) => Ok(refuse(alloc, fault)?),
-        Err(TextFault::NoMemory) => Err(AllocError),
-    }
-}
-
 /// Lists the widths of a circuit without a fault, where it isn't too large.
-fn list_fitted(alloc: Global, fitted: &Fitted) -> Result<Reply, AllocError>
+fn list(alloc: Global, fitted: &Fitted) -> Result<Reply, AllocError>
     requires { IsFittedCircuit fitted.now.checked.circuit fitted.now }
-    ensures { IfOk result (λ r. SettlesListing fitted.now.checked.circuit r.status r.bytes.items) }
+    ensures { IfOk result (λ r. ListsCircuit fitted.now.checked.circuit r.status r.bytes.items) }
 {
     let leaves = listed_leaves(alloc, fitted)?;
     if leaves > LEAF_LIMIT {
-        return Ok(refuse_at_name(alloc, FaultKind::TooLarge, &fitted.checked.circuit)?);
+        return Ok(refuse_at_name(alloc, WholeFault::TooLarge, &fitted.checked.circuit)?);
     }
     let bytes = widths_text(alloc, fitted)?;
     Ok(Reply { status: 0, bytes })
 }
 
-/// Runs the circuit of a text.
-fn run(alloc: Global, text: &[u8], stimulus: &[u8]) -> Result<Reply, AllocError>
-    ensures { IfOk result (λ r. (joined : List ℕ) → length joined ≤ joined_limit → IsSplit joined text.now stimulus.now → Settles Run joined r.status r.bytes.items) }
-{
-    match accept_text(alloc, text) {
-        Ok(accepted) => Ok(run_accepted(alloc, text, &accepted, stimulus)?),
-        Err(TextFault::Fault(fault)) => Ok(refuse(alloc, fault)?),
-        Err(TextFault::NoMemory) => Err(AllocError),
-    }
-}
-
 /// Runs a circuit without a fault, where it is a small one.
-fn run_accepted(
+fn run(
     alloc: Global,
     text: &[u8],
     accepted: &Accepted,
     stimulus: &[u8],
 ) -> Result<Reply, AllocError>
-    requires { IsAcceptedOnly text.now accepted.now.fitted.checked.circuit accepted.now.laid.items }
-    ensures { IfOk result (λ r. (joined : List ℕ) → IsSplit joined text.now stimulus.now → SettlesTaken Run joined text.now r.status r.bytes.items) }
+    requires accepted { IsAccepted text.now accepted.now.fitted.checked.circuit }
+    requires laid { IsLaid text.now accepted.now.laid.items }
+    ensures { IfOk result (λ r. (joined : List ℕ) → IsCut Command.Run joined text.now stimulus.now → JudgesTaken Command.Run joined text.now r.status r.bytes.items) }
 {
     match read_small(alloc, text, &accepted.laid)? {
         Some(small) => Ok(run_small(alloc, &small, stimulus)?),
         None => Ok(refuse_at_name(
             alloc,
-            FaultKind::Unsupported,
+            WholeFault::Unsupported,
             &accepted.fitted.checked.circuit,
         )?),
     }
@@ -127,7 +144,7 @@ fn run_accepted(
 /// Runs a small circuit, where the stimulus is a small one of it.
 fn run_small(alloc: Global, circuit: &SmallCircuit, stimulus: &[u8]) -> Result<Reply, AllocError>
     requires { IsWellFormed circuit.now }
-    ensures { IfOk result (λ r. SettlesSmall circuit.now stimulus.now r.status r.bytes.items) }
+    ensures { IfOk result (λ r. RunsSmall circuit.now stimulus.now r.status r.bytes.items) }
 {
     match small_stimulus(alloc, circuit, stimulus)? {
         Some(settings) => Ok(traced(alloc, circuit, &settings)?),
@@ -151,48 +168,42 @@ fn traced(
     })
 }
 
-/// The line of a fault of the text as a whole.
-pub fn refuse_whole(alloc: Global, kind: FaultKind) -> Result<Reply, AllocError>
-    ensures { IfOk result (λ r. (r.status ≡ 2) × (r.bytes.items ≡ fault_bytes (at_front kind))) }
+/// The line of a fault of the circuit. Where memory was wanted there is none.
+fn refuse(alloc: Global, fault: &CircuitFault) -> Result<Reply, AllocError>
+    ensures { IfOk result (λ r. (r.status ≡ 2) × ((there' : APlace) × (fault_place fault.now ≡ Some there') × (r.bytes.items ≡ fault_bytes fault.now there'))) }
 {
-    refuse(
-        alloc,
-        Fault {
-            kind,
-            place: Place { line: 1, column: 1 },
-        },
-    )
+    let Some(place) = fault.place() else {
+        return Err(AllocError);
+    };
+    Ok(Reply {
+        status: 2,
+        bytes: fault_line(alloc, TextPart::Circuit, fault.kind(), place)?,
+    })
 }
 
-/// The line of a fault of the circuit.
-fn refuse(alloc: Global, fault: Fault) -> Result<Reply, AllocError>
-    ensures { IfOk result (λ r. (r.status ≡ 2) × (r.bytes.items ≡ fault_bytes fault)) }
+/// The line of a fault of the text as a whole.
+pub fn refuse_whole(alloc: Global, fault: WholeFault, place: Place) -> Result<Reply, AllocError>
+    ensures { IfOk result (λ r. (r.status ≡ 2) × (r.bytes.items ≡ whole_bytes fault place)) }
 {
     Ok(Reply {
         status: 2,
-        bytes: fault_line(alloc, TextPart::Circuit, fault.kind.name(), fault.place)?,
+        bytes: fault_line(alloc, TextPart::Circuit, fault.name(), place)?,
     })
 }
 
 /// The line of a fault of the circuit as a whole, at its name.
-fn refuse_at_name(alloc: Global, kind: FaultKind, circuit: &Circuit) -> Result<Reply, AllocError>
-    ensures { IfOk result (λ r. (r.status ≡ 2) × (r.bytes.items ≡ fault_bytes (at_name kind circuit.now))) }
+fn refuse_at_name(alloc: Global, fault: WholeFault, circuit: &Circuit) -> Result<Reply, AllocError>
+    ensures { IfOk result (λ r. (r.status ≡ 2) × (r.bytes.items ≡ whole_bytes fault circuit.now.main.place)) }
 {
-    let place = circuit.main.place;
-    refuse(alloc, Fault { kind, place })
+    Ok(refuse_whole(alloc, fault, circuit.main.place)?)
 }
 
 /// The line of a stimulus that is refused as a whole.
 fn refuse_stimulus(alloc: Global, fault: StimulusFault) -> Result<Reply, AllocError>
-    ensures { IfOk result (λ r. (r.status ≡ 3) × (r.bytes.items ≡ stimulus_fault_bytes fault)) }
+    ensures { IfOk result (λ r. (r.status ≡ 3) × (r.bytes.items ≡ stimulus_bytes fault)) }
 {
     Ok(Reply {
         status: 3,
-        bytes: fault_line(
-            alloc,
-            TextPart::Stimulus,
-            fault.name(),
-            Place { line: 1, column: 1 },
-        )?,
+        bytes: fault_line(alloc, TextPart::Stimulus, fault.name(), FRONT)?,
     })
 }

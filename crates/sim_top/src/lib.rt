@@ -4,7 +4,6 @@
 //! circuits and small stimuli, and evaluate them.
 #![tactic(auto)]
 
-mod accepted;
 mod check_circuit;
 mod check_names;
 mod check_statements;
@@ -15,8 +14,8 @@ mod decimal;
 mod evaluate;
 pub mod example;
 mod fault;
-mod front;
 mod judge;
+pub mod laws;
 mod line;
 mod piece;
 mod read_circuit;

@@ -2,8 +2,7 @@
 
 ghost use Rattle.std.specs.Prelude.{◌≡◌, IfOk, map, All};
 ghost use Rattle.fir_layout.specs.Pieces.{piece_of, pieces_of};
-ghost use Rattle.sim_top.specs.Pieces.{shown};
-ghost use Rattle.sim_top.specs.CircuitText.{IsInside};
+ghost use Rattle.sim_top.specs.Pieces.{shown, IsInside};
 
 use fir_layout::Laid;
 use fir_lexer::TokenKind;

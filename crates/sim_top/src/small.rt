@@ -2,8 +2,7 @@
 
 ghost use Rattle.std.specs.Prelude.{◌≡◌, ℕ, ◌≤◌, Some, None, Ok, IfOk, All, map};
 ghost use Rattle.fir_layout.specs.Pieces.{pieces_of};
-ghost use Rattle.sim_top.specs.Pieces.{shown};
-ghost use Rattle.sim_top.specs.CircuitText.{IsInside};
+ghost use Rattle.sim_top.specs.Pieces.{shown, IsInside};
 ghost use Rattle.sim_top.specs.SmallCircuits.{IsWellFormed, IsSmallCircuit};
 ghost use Rattle.sim_top.specs.SmallStimuli.{IsSmallStimulus};
 ghost use Rattle.sim_top.specs.declared.circuit.SmallCircuit.{SmallCircuit as ACircuit};

@@ -1,13 +1,13 @@
 //! The top call.
 
-ghost use Rattle.std.specs.Prelude.{◌≡◌, ◌≢◌, ℕ, ◌≤◌, ◌⊎◌, List, Option, Some, None, map, string_bytes, take, IfOk, IfErr, Err};
-ghost use Rattle.shelf_io.specs.Outside.{Rose, Appends};
-ghost use Rattle.sim_top.specs.Answers.{command_of, Needs, Replies};
-ghost use Rattle.sim_top.specs.Endings.{Ends, IsSaid};
+ghost use Rattle.std.specs.Prelude.{◌≡◌, ◌≢◌, ℕ, ◌≤◌, ◌⊎◌, ◌++◌, List, Option, Some, None, map, string_bytes, IfOk, IfErr, Err, codes};
+ghost use Rattle.shelf_io.specs.Outside.{Rose};
+ghost use Rattle.sim_top.specs.Answers.{command_of, Needs, Answers};
+ghost use Rattle.sim_top.specs.Endings.{Ends, IsSaid, IsReply, IsFaultLine};
 
 use crate::command::read_words;
-use crate::fault::FaultKind;
-use crate::judge::{Reply, judge, refuse_whole};
+use crate::fault::WholeFault;
+use crate::judge::{FRONT, Reply, judge, refuse_whole};
 use shelf_io::{Shelf, Sink, TakeFault, put_all, take_text};
 use std::alloc::{AllocError, Global};
 
@@ -32,6 +32,16 @@ pub fn run_program<H: Shelf, K: Sink>(
     ensures no_command { command_of (map string_bytes words.now) ≡ None → (result ≡ 1) ⊎ (result ≡ 5) ⊎ (result ≡ 6) }
     ensures shelf_fault { result ≡ 4 → (name : List ℕ) × Needs (map string_bytes words.now) name × Rose (H.faults shelf.old name) (H.faults shelf.new name) }
     ensures sink_fault { result ≡ 5 → Rose (K.faults sink.old) (K.faults sink.new) }
+    ensures few { result ≤ 6 }
+    // Where the shelf failed, the sink was left alone.
+    ensures untouched { result ≡ 4 → sink.new ≡ sink.old }
+
+    // Where the sink tells its bytes, over every shelf: what was written is the usage line at 1, and one line that names a fault at 2 and 3.
+    ensures usage_line { (before : List ℕ) → K.written sink.old ≡ Some before → result ≡ 1 → K.written sink.new ≡ Some (before ++ codes "usage\n") }
+    ensures one_line { (before : List ℕ) → K.written sink.old ≡ Some before → (result ≡ 2) ⊎ (result ≡ 3)
+        → (line : List ℕ) × IsFaultLine result line × (K.written sink.new ≡ Some (before ++ line)) }
+    // Where the shelf tells its texts, over every sink: a status up to 3 is the definition's.
+    ensures answered { (texts : List ℕ → Option (List ℕ)) → H.held shelf.old ≡ Some texts → result ≤ 3 → (bytes : List ℕ) × Answers (map string_bytes words.now) texts result bytes }
 
     // Where no count of a needed name and not the sink's rose, the answer is the definition's, or memory was wanted.
     ensures complete { ((name : List ℕ) → Needs (map string_bytes words.now) name → Rose (H.faults shelf.old name) (H.faults shelf.new name) → ⊥)
@@ -49,7 +59,8 @@ pub fn run_program<H: Shelf, K: Sink>(
 
 /// The answer to a command line.
 fn decide<H: Shelf>(alloc: Global, words: &[String], shelf: &mut H) -> Result<Reply, TakeFault>
-    ensures reply { IfOk result (λ r. (texts : List ℕ → Option (List ℕ)) → H.held shelf.old ≡ Some texts → Replies (map string_bytes words.now) texts r.status r.bytes.items) }
+    ensures reply { IfOk result (λ r. (texts : List ℕ → Option (List ℕ)) → H.held shelf.old ≡ Some texts → Answers (map string_bytes words.now) texts r.status r.bytes.items) }
+    ensures line { IfOk result (λ r. IsReply r.status r.bytes.items) }
     ensures few { IfOk result (λ r. r.status ≤ 3) }
     ensures usage { IfOk result (λ r. r.status ≡ 1 → command_of (map string_bytes words.now) ≡ None) }
     ensures no_command { command_of (map string_bytes words.now) ≡ None → IfOk result (λ r. r.status ≡ 1) }
@@ -65,7 +76,7 @@ fn decide<H: Shelf>(alloc: Global, words: &[String], shelf: &mut H) -> Result<Re
     };
     match take_text(alloc, shelf, "-", JOINED_LIMIT) {
         Ok(text) => Ok(judge(alloc, command, &text)?),
-        Err(TakeFault::TooLong) => Ok(refuse_whole(alloc, FaultKind::TooLong)?),
+        Err(TakeFault::TooLong) => Ok(refuse_whole(alloc, WholeFault::TooLong, FRONT)?),
         Err(fault) => Err(fault),
     }
 }

@@ -1,11 +1,10 @@
 -- For as many widths as places, the places of the filled type have exactly these widths.
-use Rattle.std.proofs.Common.{◌≡◌, ℕ, ◌+◌, ◌≤◌, List, [], ◌∷◌, ◌++◌, map, length, take, drop, Option, Some, None, refl, sym, ap, ap₂, ◌∙◌, subst, arith, length-append}
+use Rattle.std.proofs.Common.{◌≡◌, ℕ, ◌+◌, ◌≤◌, List, [], ◌∷◌, ◌++◌, map, length, take, drop, Option, refl, sym, ap, ap₂, ◌∙◌, subst, arith, length-append}
 use Rattle.std.specs.List.{flat_map}
 use Rattle.std.proofs.lemmas.Grind.{common_steps}
 use Rattle.std.proofs.lemmas.List.{drop-drop, length-drop, length-map, map-append, take_all}
 use Rattle.std.proofs.Math.Seq.{take-add}
 use Rattle.std.proofs.lemmas.List.Folds.{flat_map-map}
-use Rattle.std.proofs.lemmas.Simd.{map-map}
 use Rattle.fir_types.specs.declared.fir_type.FirType.{FirType, ind-FirType, the_lemmas}
 use Rattle.fir_types.specs.declared.fir_type.Shape.{Shape, fold-Shape}
 use Rattle.fir_types.specs.declared.fir_type.Shape.TheOpen.{Shape-F, Field-F, FirType-F}
@@ -15,7 +14,7 @@ use Rattle.fir_types.specs.declared.fir_type.Field.{Field}
 use Rattle.prim_ops.specs.declared.widths.Width.{Width}
 use Rattle.width_rules.specs.Places.{Spot, spots, size, turned, of_shape, of_field}
 use Rattle.width_rules.specs.Layers.{field_spots}
-use Rattle.width_fit.specs.Filling.{Taking, taking, filled, number, first_number, behind_first, place_widths}
+use Rattle.width_fit.specs.Filling.{taking, filled, number, first_number, behind_first, place_widths}
 use Rattle.width_fit.specs.Layers.{shape_taking, field_taking, fields_taking}
 
 abbrev shape_spots : Shape → List Spot

@@ -3,7 +3,6 @@ pub mod Filling
 pub mod Judging
 pub mod Faults
 pub mod Fitting
-
 -- what the bodies keep, and what proofs need
 pub mod Layers
 pub mod Surveys

@@ -1,4 +1,4 @@
-use Rattle.std.proofs.Common.{◌≡◌, ℕ, List, Option, [], ◌++◌, sym, ap, ◌∙◌, slice_get}
+use Rattle.std.proofs.Common.{ℕ, List, Option, [], ◌++◌, sym, ap, ◌∙◌, slice_get}
 use Rattle.std.specs.List.{cons_option}
 use Rattle.std.specs.Prelude.{option_map}
 use Rattle.ground_net.proofs.Numbering.{filter_map_more}

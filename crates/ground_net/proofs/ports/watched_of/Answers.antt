@@ -1,4 +1,4 @@
-use Rattle.std.proofs.Common.{◌≡◌, ℕ, List, Option, [], ◌++◌, sym, ap, ◌∙◌, slice_get}
+use Rattle.std.proofs.Common.{ℕ, Option, [], ◌++◌, sym, ap, ◌∙◌, slice_get}
 use Rattle.std.specs.List.{cons_option}
 use Rattle.ground_net.specs.Watching.{is_shown, told_where}
 use Rattle.ground_net.specs.declared.net.PortLeaf.{PortLeaf}

@@ -1,0 +1,4 @@
+pub mod Keeping
+pub mod Graphs
+pub mod Leaves
+pub mod Verdicts

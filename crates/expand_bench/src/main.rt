@@ -1,0 +1,86 @@
+//! Gives the leaves of a made module their drivers, to be timed from outside. The words are a shape, `plain`, `one`, `deep`,
+//! `arms` or `last`, and how many connects there are; it writes how many expressions stand in all drivers.
+#![tactic(auto)]
+
+mod circuit;
+
+use bit_words::List;
+use circuit::{Form, circuit_of};
+use expand_whens::expand;
+use ground_net::{DrivenCircuit, Ground};
+use std::alloc::{AllocError, Global};
+use std::env;
+use std::process::ExitCode;
+
+fn main(rt: HostRuntime) -> ExitCode {
+    match run(&rt) {
+        Some(total) => match println!(rt; "{total}") {
+            Ok(()) => ExitCode::from(0),
+            Err(_) => ExitCode::from(5),
+        },
+        None => ExitCode::from(1),
+    }
+}
+
+/// The number of expressions, where the words of the command line name a circuit.
+fn run(rt: &HostRuntime) -> Option<u64> {
+    let mut words = env::args(rt).ok()?.skip(1);
+    let form = match words.next()?.as_bytes() {
+        b"plain" => Form::Plain,
+        b"one" => Form::One,
+        b"deep" => Form::Deep,
+        b"arms" => Form::Arms,
+        b"last" => Form::Last,
+        _ => return None,
+    };
+    let count: u32 = words.next()?.as_str().parse().ok()?;
+    total_expressions(rt.alloc(), form, count).ok()
+}
+
+/// The number of expressions in the drivers of all leaves.
+fn total_expressions(alloc: Global, form: Form, count: u32) -> Result<u64, AllocError> {
+    let ground = circuit_of(alloc, form, count)?;
+    let driven = expand(alloc, &ground)?;
+    Ok(expressions(&driven))
+}
+
+fn expressions(driven: &DrivenCircuit) -> u64 {
+    let mut total: u64 = 0;
+    for module in driven.modules.as_slice() {
+        total = total.saturating_add(expressions_of(&module.drivers));
+    }
+    total
+}
+
+fn expressions_of(drivers: &List<Option<Ground>>) -> u64 {
+    let mut total: u64 = 0;
+    for driver in drivers.as_slice() {
+        if let Some(ground) = driver {
+            total = total.saturating_add(nodes(ground));
+        }
+    }
+    total
+}
+
+#[cycle(nodes)]
+fn nodes(ground: &Ground) -> u64 {
+    match ground {
+        Ground::Const(_) | Ground::Leaf(_) => 1,
+        Ground::Op(_, items, _)
+        | Ground::Mux(items)
+        | Ground::Load(_, _, items)
+        | Ground::Fit(_, _, items) => nodes_in(items.as_slice()),
+        Ground::Select(index, items) => {
+            nodes_in(index.as_slice()).saturating_add(nodes_in(items.as_slice()))
+        }
+    }
+}
+
+#[cycle(nodes)]
+fn nodes_in(items: &[Ground]) -> u64 {
+    let mut total: u64 = 1;
+    for item in items {
+        total = total.saturating_add(nodes(item));
+    }
+    total
+}

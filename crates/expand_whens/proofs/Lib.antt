@@ -1,0 +1,12 @@
+pub mod Tests
+pub mod Members
+pub mod Layers
+pub mod Covers
+pub mod Guards
+pub mod Making
+pub mod Blocks
+pub mod Arms
+pub mod Connects
+pub mod ShapedWays
+pub mod Choices
+pub mod Modules

@@ -1,0 +1,4 @@
+pub mod Shapes
+pub mod Ways
+pub mod Walking
+pub mod Expanding

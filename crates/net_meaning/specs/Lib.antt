@@ -1,0 +1,4 @@
+pub mod Shapes
+pub mod Cycles
+pub mod Nets
+pub mod Words

@@ -1,0 +1,120 @@
+-- Kinds and widths of ground expressions (FIRRTL specification 3.0, "Expressions" and "Primitive Operations").
+use Rattle.std.specs.Prelude.{◌≡◌, ℕ, ◌==◌, ◌&&◌, nat_le, nat_lt, Bool, true, false, List, [], ◌∷◌, map, length, slice_index, Option, Some, None, option_and_then, if◌then◌else◌}
+use Rattle.std.specs.List.{list_all}
+use Rattle.bit_words.specs.declared.value.Kind.{Kind}
+use Rattle.bit_words.specs.declared.value.Kind.TheVariants.{Unsigned, Signed}
+use Rattle.bit_words.specs.declared.value.Value.{Value}
+use Rattle.prim_ops.specs.declared.operation.PrimOp.{PrimOp}
+use Rattle.prim_ops.specs.declared.operation.PrimOp.TheVariants as op
+use Rattle.prim_ops.specs.Operations.{arity_of}
+use Rattle.prim_ops.specs.Kinds.{row_kind}
+use Rattle.prim_ops.specs.Widths.{width_number}
+use Rattle.ground_net.specs.declared.ground.Ground.{Ground, fold-Ground}
+use Rattle.ground_net.specs.declared.ground.Ground.TheOpen.{Ground-F}
+use Rattle.ground_net.specs.Grounds.{Sight}
+
+-- A kind and a width.
+pub record Shape : Type 0 where
+  pub kind : Kind
+  pub width : ℕ
+
+abbrev pub shaped : Kind → ℕ → Shape
+shaped kind width = record { kind = kind; width = width }
+
+-- The kind and the width of a value.
+abbrev pub shape_of_value : Value → Shape
+shape_of_value v = shaped v.kind v.width
+
+-- The kinds and widths of the leaves, and of the leaves of the memories' elements; none where there is no such leaf.
+pub record Table : Type 0 where
+  pub leaf : ℕ → Option Shape
+  pub element : ℕ → ℕ → Option Shape
+
+-- A sight shows of each leaf a value of its kind and width, and so do the memories at each address.
+pub record HasShapes (table : Table) (sight : Sight) : Type 0 where
+  pub leaf : (x : ℕ) (s : Shape) → table.leaf x ≡ Some s → shape_of_value (sight.leaf x) ≡ s
+  pub load : (m k : ℕ) (s : Shape) (address : Value) → table.element m k ≡ Some s → shape_of_value (sight.load m k address) ≡ s
+
+abbrev pub same_kind : Kind → Kind → Bool
+same_kind Unsigned Unsigned = true
+same_kind Signed Signed = true
+same_kind _ _ = false
+
+abbrev pub same_shape : Shape → Shape → Bool
+same_shape s t = same_kind s.kind t.kind && (s.width == t.width)
+
+abbrev pub is_unsigned : Shape → Bool
+is_unsigned s = same_kind s.kind Unsigned
+
+-- all of them, where each is there
+abbrev pub all_of : List (Option Shape) → Option (List Shape)
+all_of [] = Some []
+all_of (first ∷ rest) = option_and_then (λ s. option_and_then (λ more. Some (s ∷ more)) (all_of rest)) first
+
+-- the parameters fit one operand of this width
+abbrev pub fit_on : PrimOp → ℕ → ℕ → ℕ → Bool
+fit_on op.Bits w high low = nat_le low high && nat_lt high w
+fit_on op.Head w n low = nat_le n w
+fit_on op.Tail w n low = nat_le n w
+fit_on _ w n low = true
+
+-- the parameters fit operands of these widths
+abbrev pub params_fit : PrimOp → List Shape → List ℕ → Bool
+params_fit prim (s ∷ []) params = fit_on prim s.width (slice_index params 0) (slice_index params 1)
+params_fit prim _ params = true
+
+-- An operation takes as many operands and parameters as its row says, the parameters fit, and the width is at most 128.
+abbrev pub is_row : PrimOp → List Shape → List ℕ → ℕ → Bool
+is_row prim operands params width =
+    ((length operands == (arity_of prim).0) && (length params == (arity_of prim).1)) && (params_fit prim operands params && nat_le width 128)
+
+abbrev pub width_of_row : PrimOp → List Shape → List ℕ → ℕ
+width_of_row prim operands params = width_number prim (map (λ s. s.kind) operands) (map (λ s. s.width) operands) params
+
+abbrev pub shape_of_row : PrimOp → List ℕ → List Shape → Option Shape
+shape_of_row prim params operands =
+    if is_row prim operands params (width_of_row prim operands params)
+    then option_and_then (λ kind. Some (shaped kind (width_of_row prim operands params))) (row_kind prim (map (λ s. s.kind) operands)) else None
+
+-- Of conditions and values in turn and one item at the end each condition is a UInt, and all values have the last item's shape.
+abbrev pub shape_of_choice : List Shape → Option Shape
+shape_of_choice [] = None
+shape_of_choice (last ∷ []) = Some last
+shape_of_choice (condition ∷ value ∷ rest) = option_and_then (λ s. if is_unsigned condition && same_shape value s then Some s else None) (shape_of_choice rest)
+
+-- All items have one shape; of no items it is that of 0 of no bits.
+abbrev pub shape_of_items : List Shape → Option Shape
+shape_of_items [] = Some (shaped Unsigned 0)
+shape_of_items (s ∷ more) = if list_all (λ t. same_shape t s) more then Some s else None
+
+-- one UInt
+abbrev pub is_index : List Shape → Bool
+is_index (s ∷ []) = is_unsigned s
+is_index _ = false
+
+abbrev pub shape_of_selection : List Shape → List Shape → Option Shape
+shape_of_selection index items = if is_index index then shape_of_items items else None
+
+-- an address and a condition, which are UInts
+abbrev pub shape_of_load : Option Shape → List Shape → Option Shape
+shape_of_load element (address ∷ condition ∷ []) = if is_unsigned address && is_unsigned condition then element else None
+shape_of_load element _ = None
+
+abbrev pub shape_of_fit : Kind → ℕ → List Shape → Option Shape
+shape_of_fit kind width (s ∷ []) = if nat_le width 128 then Some (shaped kind width) else None
+shape_of_fit kind width _ = None
+
+abbrev pub shape_of_layer : Ground-F (Table → Option Shape) → Table → Option Shape
+shape_of_layer (Ground-F.Const v) table = Some (shape_of_value v)
+shape_of_layer (Ground-F.Leaf x) table = table.leaf x
+shape_of_layer (Ground-F.Op prim operands params) table = option_and_then (shape_of_row prim params) (all_of (map (λ g. g table) operands))
+shape_of_layer (Ground-F.Mux items) table = option_and_then shape_of_choice (all_of (map (λ g. g table) items))
+shape_of_layer (Ground-F.Select index items) table =
+    option_and_then (λ i. option_and_then (shape_of_selection i) (all_of (map (λ g. g table) items))) (all_of (map (λ g. g table) index))
+shape_of_layer (Ground-F.Load memory leaf items) table = option_and_then (shape_of_load (table.element memory leaf)) (all_of (map (λ g. g table) items))
+shape_of_layer (Ground-F.Fit kind width items) table = option_and_then (shape_of_fit kind width) (all_of (map (λ g. g table) items))
+
+-- The kind and the width of an expression, where it is well formed: its numbers are those of leaves, and each part has the parts
+-- that it takes.
+abbrev pub shape : Ground → Table → Option Shape
+shape = fold-Ground (Table → Option Shape) shape_of_layer

@@ -1,0 +1,87 @@
+//! Nets of many leaves, each of which reads one other.
+
+ghost use Rattle.std.specs.Prelude.{◌≡◌, ◌<◌, length, IfOk, IfSome};
+ghost use Rattle.ground_net.specs.Reads.{MentionsLeaves};
+ghost use Rattle.order_bench.specs.Drivers.{ReadsBelow};
+
+use bit_words::{Kind, List};
+use ground_net::{Ground, Leaf, Net, Role};
+use place_text::Place;
+use std::alloc::{AllocError, Global};
+
+/// Which leaf each one reads.
+#[derive(Clone, Copy, Debug, PartialEq, Eq)]
+pub enum Shape {
+    /// The one before it.
+    Forward,
+    /// The one after it.
+    Backward,
+    /// The one before it, and the first one the last.
+    Ring,
+    /// The one after it, and the last one itself: all lead to a loop of one.
+    Tail,
+}
+
+/// A net of so many leaves, at a line each.
+pub fn net_of(alloc: Global, shape: Shape, count: u32) -> Result<Net, AllocError>
+    ensures mentions { IfOk result MentionsLeaves }
+    ensures count { IfOk result (λ net. length net.leaves ≡ count) }
+{
+    let mut leaves = List::new(alloc);
+    let mut drivers = List::new(alloc);
+    for index in 0..count {
+        leaves.push(leaf_at(alloc, index))?;
+        drivers.push(driver_of(shape, index, count))?;
+    }
+    Ok(Net {
+        ports: 0,
+        leaves,
+        drivers,
+        registers: List::new(alloc),
+        memories: List::new(alloc),
+    })
+}
+
+/// A leaf of one bit.
+fn leaf_at(alloc: Global, index: u32) -> Leaf {
+    Leaf {
+        name: List::new(alloc),
+        kind: Kind::Unsigned,
+        width: 1,
+        place: Place {
+            line: index.saturating_add(1),
+            column: 1,
+        },
+        role: Role::Assigned,
+    }
+}
+
+/// The driver of a leaf.
+fn driver_of(shape: Shape, index: u32, count: u32) -> Option<Ground>
+    requires { index < count }
+    ensures { ReadsBelow count result }
+{
+    match source(shape, index, count) {
+        Some(read) => Some(Ground::Leaf(read)),
+        None => None,
+    }
+}
+
+/// The leaf that one reads.
+fn source(shape: Shape, index: u32, count: u32) -> Option<u32>
+    requires { index < count }
+    ensures { IfSome result (λ read. read < count) }
+{
+    let before = index.checked_sub(1);
+    let after = if index + 1 < count {
+        Some(index + 1)
+    } else {
+        None
+    };
+    match shape {
+        Shape::Forward => before,
+        Shape::Backward => after,
+        Shape::Ring => Some(before.unwrap_or(count - 1)),
+        Shape::Tail => Some(after.unwrap_or(index)),
+    }
+}

@@ -1,0 +1,125 @@
+-- What the stages answer, as the circuit's answer.
+use Rattle.std.proofs.Common.{◌≡◌, ℕ, List, ◌⊎◌, ⊎_elim, inl, inr, refl, sym, ap, ◌∙◌, subst}
+use Rattle.std.specs.Prelude.{Option, Some, None, Result, Ok, Err, IfOk, IfErr, MatchResult}
+use Rattle.place_text.specs.declared.place.Place.{Place}
+use Rattle.place_text.specs.Places.{place}
+use Rattle.fault_order.specs.First.{HasNone}
+use Rattle.fir_lexer.specs.declared.token.Token.{Token}
+use Rattle.fir_lexer.specs.declared.fault.LexFault.{LexFault}
+use Rattle.fir_lexer.specs.declared.fault.LexFault.TheVariants as lex
+use Rattle.fir_lexer.specs.Faults.{place_of as place_of_tokens}
+use Rattle.fir_lexer.specs.Tokens.{AreTokens, IsFault as IsTokenFault}
+use Rattle.fir_layout.specs.Faults.{place_of as place_of_layout}
+use Rattle.fir_layout.specs.Layout.{IsLaidOut, IsBadIndent, tokens_in}
+use Rattle.fir_layout.specs.Pieces.{pieces_of}
+use Rattle.fir_layout.specs.declared.laid.Laid.{Laid}
+use Rattle.fir_layout.specs.declared.fault.LayoutFault.{LayoutFault}
+use Rattle.fir_layout.specs.declared.fault.LayoutFault.TheVariants as layout
+use Rattle.fir_grammar.specs.Grammar.{IsCircuit}
+use Rattle.fir_grammar.specs.Faults.{FaultOf, IsDeepAt}
+use Rattle.fir_tree.specs.Faults.{place_of as place_of_grammar}
+use Rattle.fir_tree.specs.declared.circuit.Circuit.{Circuit}
+use Rattle.fir_tree.specs.declared.scope.Checked.{Checked}
+use Rattle.fir_tree.specs.declared.scope.Fitted.{Fitted}
+use Rattle.fir_tree.specs.declared.fault.ParseFault.{ParseFault}
+use Rattle.fir_tree.specs.declared.fault.ParseFault.TheVariants as parse
+use Rattle.fir_names.specs.Faults.{IsFault as IsNameFault, IsFirst as IsFirstOfNames, place_of as place_of_names}
+use Rattle.fir_names.specs.Scopes.{IsScope}
+use Rattle.fir_names.specs.declared.fault.NameFault.{NameFault}
+use Rattle.type_check.specs.Faults.{IsFault as IsTypeFault, IsFirst as IsFirstOfTypes, place_of as place_of_types}
+use Rattle.type_check.specs.Statements.{types_of}
+use Rattle.type_check.specs.declared.fault.TypeFault.{TypeFault}
+use Rattle.width_fit.specs.Faults.{place_of as place_of_widths}
+use Rattle.width_fit.specs.Fitting.{IsFit}
+use Rattle.width_fit.specs.declared.fault.WidthFault.{WidthFault}
+use Rattle.sim_engine.specs.Unfit.{IsUnfit}
+use Rattle.sim_engine.specs.Stages.{IsLaid, IsParsed, IsNamed, IsTyped, IsAccepted, IsFirstFault, of_tokens, of_layout, of_grammar, of_names, of_types, of_widths, IsGiven}
+use Rattle.sim_engine.specs.Faults.{fault_place, unless_wanting}
+use Rattle.sim_engine.specs.declared.accept.Accepted.{Accepted}
+use Rattle.sim_engine.specs.declared.fault.CircuitFault.{CircuitFault}
+use Rattle.sim_engine.specs.declared.fault.CircuitFault.TheVariants as fault
+use Rattle.sim_engine.proofs.Once.{one_fault, no_fault, accepted_once}
+use Rattle.sim_engine.proofs.Solving.{solved_by}
+
+-- want of memory has no place, and a first fault has one
+by_place : (text : List ℕ) (given : CircuitFault) (there' : Option Place) → fault_place given ≡ there' → (there' ≡ None) ⊎ IsFirstFault text given
+    → IsGiven text (unless_wanting there' given)
+by_place text given None e found = inl refl
+by_place text given (Some p) e found = ⊎_elim (λ m. absurd (cc)) (λ f. inr (f, (p, e))) found
+
+pub given_tokens : (text : List ℕ) (given : LexFault) → (given ≡ lex.NoMemory) ⊎ ((at : ℕ) × IsTokenFault text at given)
+    → IsGiven text (unless_wanting (place_of_tokens given) (fault.Lex given))
+given_tokens text given found = by_place text (fault.Lex given) (place_of_tokens given) refl
+    (⊎_elim (λ m. inl (ap place_of_tokens m)) (λ (f : (at : ℕ) × IsTokenFault text at given). inr (of_tokens f.0 given f.1)) found)
+
+pub given_layout : (text : List ℕ) (tokens : List Token) (given : LayoutFault) → AreTokens text tokens
+    → (given ≡ layout.NoMemory) ⊎ ((at : ℕ) × IsBadIndent text at × (given ≡ layout.BadIndent (place text at)))
+    → IsGiven text (unless_wanting (place_of_layout given) (fault.Layout given))
+given_layout text tokens given a found = by_place text (fault.Layout given) (place_of_layout given) refl (⊎_elim (λ m. inl (ap place_of_layout m))
+    (λ (f : (at : ℕ) × IsBadIndent text at × (given ≡ layout.BadIndent (place text at))).
+    inr (subst (λ x. IsFirstFault text (fault.Layout x)) (sym f.2) (of_layout tokens f.0 (record { tokens_are = a }) f.1))) found)
+
+pub laid_by : (text : List ℕ) (given tokens : List Token) (laid : List Laid) → AreTokens text tokens → IsLaidOut text laid → tokens_in laid ≡ given → given ≡ tokens → IsLaid text laid
+laid_by text given tokens laid a l items same = record { lexed = record { tokens_are = subst (AreTokens text) (sym (items ∙ same)) a }; laid_out = l }
+
+pub given_grammar : (text : List ℕ) (laid read : List Laid) (given : ParseFault) → IsLaid text laid → read ≡ laid → (given ≡ parse.NoMemory) ⊎ FaultOf text read given
+    → IsGiven text (unless_wanting (place_of_grammar given) (fault.Parse given))
+given_grammar text laid read given l same found = by_place text (fault.Parse given) (place_of_grammar given) refl
+    (⊎_elim (λ m. inl (ap place_of_grammar m)) (λ f. inr (of_grammar laid given l (subst (λ x. FaultOf text x given) same f))) found)
+
+pub parsed_by : (text : List ℕ) (laid read : List Laid) (circuit : Circuit) → IsLaid text laid → read ≡ laid → IsCircuit text read circuit
+    → ((k : ℕ) → ¬ (IsDeepAt (pieces_of text read) k)) → IsParsed text circuit
+parsed_by text laid read circuit l same spelled shallow = record {
+  list = laid;
+  laid = l;
+  spelled = subst (λ x. IsCircuit text x circuit) same spelled;
+  shallow = subst (λ x. (k : ℕ) → ¬ (IsDeepAt (pieces_of text x) k)) same shallow;
+}
+
+pub given_names : (text : List ℕ) (circuit : Circuit) (given : NameFault) → IsParsed text circuit → (place_of_names given ≡ None) ⊎ IsFirstOfNames circuit given
+    → IsGiven text (unless_wanting (place_of_names given) (fault.Name given))
+given_names text circuit given p found = by_place text (fault.Name given) (place_of_names given) refl (⊎_elim (λ m. inl m) (λ f. inr (of_names circuit given p f)) found)
+
+pub named_by : (text : List ℕ) (circuit : Circuit) → IsParsed text circuit → HasNone (IsNameFault circuit) → IsNamed text circuit
+named_by text circuit parsed none = record { parsed = parsed; none = none }
+
+pub given_types : (text : List ℕ) (circuit : Circuit) (given : TypeFault) → IsNamed text circuit → (place_of_types given ≡ None) ⊎ IsFirstOfTypes circuit given
+    → IsGiven text (unless_wanting (place_of_types given) (fault.Typing given))
+given_types text circuit given n found = by_place text (fault.Typing given) (place_of_types given) refl (⊎_elim (λ m. inl m) (λ f. inr (of_types circuit given n f)) found)
+
+pub typed_by : (text : List ℕ) (circuit : Circuit) → IsNamed text circuit → HasNone (IsTypeFault circuit) → IsTyped text circuit
+typed_by text circuit named none = record { named = named; none = none }
+
+pub given_widths : (text : List ℕ) (checked : Checked) (given : WidthFault) → IsTyped text checked.circuit → IsScope checked.circuit checked.scope → checked.types ≡ types_of checked.circuit
+    → (place_of_widths given ≡ None) ⊎ IsUnfit checked given → IsGiven text (unless_wanting (place_of_widths given) (fault.Width given))
+given_widths text checked given t scope types found = by_place text (fault.Width given) (place_of_widths given) refl (⊎_elim (λ m. inl m)
+    (λ (u : IsUnfit checked given). inr (of_widths checked.circuit checked u.widths given t (solved_by checked u.widths scope types u.least) u.first)) found)
+
+pub accepted_by : (text : List ℕ) (checked : Checked) (fitted : Fitted) → IsTyped text checked.circuit → IsScope checked.circuit checked.scope → checked.types ≡ types_of checked.circuit
+    → IsFit checked fitted → IsAccepted text fitted.checked.circuit
+accepted_by text checked fitted t scope types fit = subst (λ (x : Checked). IsAccepted text x.circuit) (sym fit.fitted_is.checked_is)
+    (record { typed = t; checked = checked; widths = fit.widths; solved = solved_by checked fit.widths scope types fit.least; none = fit.none })
+
+-- the clauses that follow from the definitions
+pub fault_from : (text : List ℕ) (result : Result Accepted CircuitFault) → IfErr result (IsGiven text) → IfErr result (λ given. (given ≡ fault.NoMemory) ⊎ IsFirstFault text given)
+fault_from text (Ok accepted) found = tt
+fault_from text (Err given) found =
+    ⊎_elim (λ m. inl m) (λ (f : IsFirstFault text given × ((p : Place) × (fault_place given ≡ Some p))). inr f.0) found
+
+pub placed_from : (text : List ℕ) (result : Result Accepted CircuitFault) → IfErr result (IsGiven text)
+    → IfErr result (λ given. (given ≡ fault.NoMemory) ⊎ ((p : Place) × (fault_place given ≡ Some p)))
+placed_from text (Ok accepted) found = tt
+placed_from text (Err given) found =
+    ⊎_elim (λ m. inl m) (λ (f : IsFirstFault text given × ((p : Place) × (fault_place given ≡ Some p))). inr f.1) found
+
+pub accepts_from : (text : List ℕ) (result : Result Accepted CircuitFault) → IfOk result (λ a. IsAccepted text a.fitted.checked.circuit) → IfErr result (IsGiven text)
+    → (circuit : Circuit) → IsAccepted text circuit → MatchResult result (λ a. a.fitted.checked.circuit ≡ circuit) (λ given. given ≡ fault.NoMemory)
+accepts_from text (Ok a) is found circuit b = accepted_once text a.fitted.checked.circuit circuit is b
+accepts_from text (Err given) is found circuit b =
+    ⊎_elim (λ m. m) (λ (f : IsFirstFault text given × ((p : Place) × (fault_place given ≡ Some p))). absurd (no_fault text given circuit f.0 b)) found
+
+pub refuses_from : (text : List ℕ) (result : Result Accepted CircuitFault) → IfOk result (λ a. IsAccepted text a.fitted.checked.circuit) → IfErr result (IsGiven text)
+    → (first : CircuitFault) → IsFirstFault text first → MatchResult result (λ a. ⊥) (λ given. (given ≡ fault.NoMemory) ⊎ (given ≡ first))
+refuses_from text (Ok a) is found first f = no_fault text first a.fitted.checked.circuit f is
+refuses_from text (Err given) is found first f =
+    ⊎_elim (λ m. inl m) (λ (g : IsFirstFault text given × ((p : Place) × (fault_place given ≡ Some p))). inr (one_fault text given first g.0 f)) found

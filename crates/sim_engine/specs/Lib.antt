@@ -1,0 +1,4 @@
+pub mod Stages
+pub mod Faults
+pub mod Only
+pub mod Unfit

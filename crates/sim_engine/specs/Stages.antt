@@ -1,0 +1,87 @@
+-- The circuit's text, stage by stage: its tokens, its layout, its grammar (FIRRTL specification 3.0, "FIRRTL Language
+-- Definition"), its names ("Namespaces"), its types ("Types", "Expressions", "Connects") and its widths ("Width Inference").
+-- Each stage has a record that says what the text is where it passes the stage, and that holds the record of the stage
+-- before it. So a stage judges only what all stages before it let pass.
+use Rattle.std.specs.Prelude.{◌≡◌, ◌⊎◌, ℕ, List, Some}
+use Rattle.place_text.specs.declared.place.Place.{Place}
+use Rattle.place_text.specs.Places.{place}
+use Rattle.fault_order.specs.First.{HasNone}
+use Rattle.fir_lexer.specs.declared.token.Token.{Token}
+use Rattle.fir_lexer.specs.declared.fault.LexFault.{LexFault}
+use Rattle.fir_lexer.specs.Tokens.{AreTokens, IsFault as IsTokenFault}
+use Rattle.fir_layout.specs.Layout.{IsLaidOut, IsBadIndent, tokens_in}
+use Rattle.fir_layout.specs.Pieces.{pieces_of}
+use Rattle.fir_layout.specs.declared.laid.Laid.{Laid}
+use Rattle.fir_layout.specs.declared.fault.LayoutFault.TheVariants.{BadIndent}
+use Rattle.fir_grammar.specs.Grammar.{IsCircuit}
+use Rattle.fir_grammar.specs.Faults.{FaultOf, IsDeepAt}
+use Rattle.fir_tree.specs.declared.circuit.Circuit.{Circuit}
+use Rattle.fir_tree.specs.declared.scope.Checked.{Checked}
+use Rattle.fir_tree.specs.declared.fault.ParseFault.{ParseFault}
+use Rattle.fir_names.specs.Faults.{IsFault as IsNameFault, IsFirst as IsFirstOfNames}
+use Rattle.fir_names.specs.declared.fault.NameFault.{NameFault}
+use Rattle.type_check.specs.Faults.{IsFault as IsTypeFault, IsFirst as IsFirstOfTypes}
+use Rattle.type_check.specs.declared.fault.TypeFault.{TypeFault}
+use Rattle.width_fit.specs.Faults.{IsFault as IsWidthFault, IsFirst as IsFirstOfWidths}
+use Rattle.width_fit.specs.Fitting.{IsSolved}
+use Rattle.width_fit.specs.declared.fault.WidthFault.{WidthFault}
+use Rattle.prim_ops.specs.declared.widths.Width.{Width}
+use Rattle.sim_engine.specs.Faults.{fault_place}
+use Rattle.sim_engine.specs.declared.fault.CircuitFault.{CircuitFault}
+use Rattle.sim_engine.specs.declared.fault.CircuitFault.TheVariants as fault
+
+-- the greatest length of a circuit's text, in bytes
+abbrev pub circuit_limit : ℕ
+circuit_limit = 1048576
+
+-- the text is made of these tokens
+pub record IsLexed (text : List ℕ) (tokens : List Token) : Type 0 where
+  pub tokens_are : AreTokens text tokens
+
+-- its lines are laid out to this list
+pub record IsLaid (text : List ℕ) (laid : List Laid) : Type 0 where
+  pub lexed : IsLexed text (tokens_in laid)
+  pub laid_out : IsLaidOut text laid
+
+-- the laid list spells this circuit, and goes nowhere too deep
+pub record IsParsed (text : List ℕ) (circuit : Circuit) : Type 0 where
+  pub list : List Laid
+  pub laid : IsLaid text list
+  pub spelled : IsCircuit text list circuit
+  pub shallow : (k : ℕ) → ¬ (IsDeepAt (pieces_of text list) k)
+
+-- the names of the circuit have no fault
+pub record IsNamed (text : List ℕ) (circuit : Circuit) : Type 0 where
+  pub parsed : IsParsed text circuit
+  pub none : HasNone (IsNameFault circuit)
+
+-- its types have none
+pub record IsTyped (text : List ℕ) (circuit : Circuit) : Type 0 where
+  pub named : IsNamed text circuit
+  pub none : HasNone (IsTypeFault circuit)
+
+-- it has least widths, and they have none
+pub record IsWidthed (text : List ℕ) (circuit : Circuit) : Type 0 where
+  pub typed : IsTyped text circuit
+  pub checked : Checked
+  pub widths : List Width
+  pub solved : IsSolved circuit checked widths
+  pub none : HasNone (IsWidthFault checked widths)
+
+-- the text passes all stages, with this circuit
+abbrev pub IsAccepted : List ℕ → Circuit → Type 0
+IsAccepted text circuit = IsWidthed text circuit
+
+-- The first fault of the text: the text passes the stages before, and the fault is the first one of its stage.
+pub data IsFirstFault (text : List ℕ) : CircuitFault → Type 0 where
+  of_tokens : (at : ℕ) (given : LexFault) → IsTokenFault text at given → IsFirstFault text (fault.Lex given)
+  of_layout : (tokens : List Token) (at : ℕ) → IsLexed text tokens → IsBadIndent text at → IsFirstFault text (fault.Layout (BadIndent (place text at)))
+  of_grammar : (laid : List Laid) (given : ParseFault) → IsLaid text laid → FaultOf text laid given → IsFirstFault text (fault.Parse given)
+  of_names : (circuit : Circuit) (given : NameFault) → IsParsed text circuit → IsFirstOfNames circuit given → IsFirstFault text (fault.Name given)
+  of_types : (circuit : Circuit) (given : TypeFault) → IsNamed text circuit → IsFirstOfTypes circuit given → IsFirstFault text (fault.Typing given)
+  of_widths : (circuit : Circuit) (checked : Checked) (widths : List Width) (given : WidthFault) → IsTyped text circuit → IsSolved circuit checked widths
+      → IsFirstOfWidths checked widths given → IsFirstFault text (fault.Width given)
+
+-- the answer to a text that isn't accepted: want of memory, or the first fault, which has its place
+abbrev pub IsGiven : List ℕ → CircuitFault → Type 0
+IsGiven text given = (given ≡ fault.NoMemory) ⊎ (IsFirstFault text given × ((there' : Place) × (fault_place given ≡ Some there')))

@@ -1,0 +1,147 @@
+//! The reasons to refuse a circuit's text.
+
+ghost use Rattle.std.specs.Prelude.{◌≡◌};
+ghost use Rattle.fir_lexer.specs.Faults.{place_of as place_of_tokens};
+ghost use Rattle.fir_layout.specs.Faults.{place_of as place_of_layout};
+ghost use Rattle.fir_tree.specs.Faults.{place_of as place_of_grammar};
+ghost use Rattle.fir_names.specs.Faults.{place_of as place_of_names};
+ghost use Rattle.type_check.specs.Faults.{place_of as place_of_types};
+ghost use Rattle.width_fit.specs.Faults.{place_of as place_of_widths};
+ghost use Rattle.sim_engine.specs.Faults.{kind_name, fault_place, unless_wanting};
+ghost use Rattle.sim_engine.specs.declared.fault.CircuitFault.TheVariants.{Lex as Of_tokens, Layout as Of_layout, Parse as Of_grammar, Name as Of_names, Typing as Of_types, Width as Of_widths, NoMemory as No_memory};
+
+use fault_order::Fault;
+use fir_layout::LayoutFault;
+use fir_lexer::LexFault;
+use fir_names::NameFault;
+use fir_tree::ParseFault;
+use place_text::Place;
+use std::alloc::AllocError;
+use thiserror::Error;
+use type_check::TypeFault;
+use width_fit::WidthFault;
+
+/// Why a text isn't accepted: its first fault, by the stage that finds it. Want of memory is said by `NoMemory` alone.
+#[derive(Debug, Drop, Error)]
+pub enum CircuitFault {
+    #[error("a fault of the tokens")]
+    Lex(LexFault),
+    #[error("a fault of the layout")]
+    Layout(LayoutFault),
+    #[error("a fault of the syntax")]
+    Parse(ParseFault),
+    #[error("a fault of the names")]
+    Name(NameFault),
+    #[error("a fault of the types")]
+    Typing(TypeFault),
+    #[error("a fault of the widths")]
+    Width(WidthFault),
+    #[error("no memory")]
+    NoMemory,
+}
+
+impl CircuitFault {
+    /// The name of the fault's kind, and `NoMemory` for want of memory.
+    pub fn kind(&self) -> &str
+        ensures { result.now ≡ kind_name self.now }
+    {
+        match self {
+            CircuitFault::Lex(fault) => fault.kind(),
+            CircuitFault::Layout(fault) => fault.kind(),
+            CircuitFault::Parse(fault) => fault.kind(),
+            CircuitFault::Name(fault) => fault.kind(),
+            CircuitFault::Typing(fault) => fault.kind(),
+            CircuitFault::Width(fault) => fault.kind(),
+            CircuitFault::NoMemory => "NoMemory",
+        }
+    }
+
+    /// The fault's place: none for want of memory, and only for that.
+    pub fn place(&self) -> Option<Place>
+        ensures { result ≡ fault_place self.now }
+    {
+        match self {
+            CircuitFault::Lex(fault) => fault.place(),
+            CircuitFault::Layout(fault) => fault.place(),
+            CircuitFault::Parse(fault) => fault.place(),
+            CircuitFault::Name(fault) => fault.place(),
+            CircuitFault::Typing(fault) => fault.place(),
+            CircuitFault::Width(fault) => fault.place(),
+            CircuitFault::NoMemory => None,
+        }
+    }
+}
+
+impl From<LexFault> for CircuitFault {
+    ghost from_gives = { λ fault given. given ≡ unless_wanting (place_of_tokens fault) (Of_tokens fault) };
+
+    fn from(fault: LexFault) -> CircuitFault {
+        match fault.place() {
+            Some(_) => CircuitFault::Lex(fault),
+            None => CircuitFault::NoMemory,
+        }
+    }
+}
+
+impl From<LayoutFault> for CircuitFault {
+    ghost from_gives = { λ fault given. given ≡ unless_wanting (place_of_layout fault) (Of_layout fault) };
+
+    fn from(fault: LayoutFault) -> CircuitFault {
+        match fault.place() {
+            Some(_) => CircuitFault::Layout(fault),
+            None => CircuitFault::NoMemory,
+        }
+    }
+}
+
+impl From<ParseFault> for CircuitFault {
+    ghost from_gives = { λ fault given. given ≡ unless_wanting (place_of_grammar fault) (Of_grammar fault) };
+
+    fn from(fault: ParseFault) -> CircuitFault {
+        match fault.place() {
+            Some(_) => CircuitFault::Parse(fault),
+            None => CircuitFault::NoMemory,
+        }
+    }
+}
+
+impl From<NameFault> for CircuitFault {
+    ghost from_gives = { λ fault given. given ≡ unless_wanting (place_of_names fault) (Of_names fault) };
+
+    fn from(fault: NameFault) -> CircuitFault {
+        match fault.place() {
+            Some(_) => CircuitFault::Name(fault),
+            None => CircuitFault::NoMemory,
+        }
+    }
+}
+
+impl From<TypeFault> for CircuitFault {
+    ghost from_gives = { λ fault given. given ≡ unless_wanting (place_of_types fault) (Of_types fault) };
+
+    fn from(fault: TypeFault) -> CircuitFault {
+        match fault.place() {
+            Some(_) => CircuitFault::Typing(fault),
+            None => CircuitFault::NoMemory,
+        }
+    }
+}
+
+impl From<WidthFault> for CircuitFault {
+    ghost from_gives = { λ fault given. given ≡ unless_wanting (place_of_widths fault) (Of_widths fault) };
+
+    fn from(fault: WidthFault) -> CircuitFault {
+        match fault.place() {
+            Some(_) => CircuitFault::Width(fault),
+            None => CircuitFault::NoMemory,
+        }
+    }
+}
+
+impl From<AllocError> for CircuitFault {
+    ghost from_gives = { λ _ given. given ≡ No_memory };
+
+    fn from(_: AllocError) -> CircuitFault {
+        CircuitFault::NoMemory
+    }
+}
