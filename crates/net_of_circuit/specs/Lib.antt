@@ -1,0 +1,2 @@
+pub mod FlatOrder
+pub mod NetOf

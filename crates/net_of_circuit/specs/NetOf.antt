@@ -1,0 +1,216 @@
+-- What it is to be the net of a circuit.
+use Rattle.std.specs.Prelude.{◌≡◌, ℕ, ◌==◌, ◌&&◌, not, Bool, true, false, List, [], ◌∷◌, map, filter, length, take, sum_by, slice_get, Contains, ℤ, Option, Some, None, if◌then◌else◌}
+use Rattle.bit_words.specs.Values.{integer_of}
+use Rattle.fir_types.specs.declared.fir_type.FirType.{FirType}
+use Rattle.fir_types.specs.declared.leaf.TypeLeaf.{TypeLeaf}
+use Rattle.fir_types.specs.declared.leaf.PathStep.{PathStep}
+use Rattle.fir_types.specs.declared.leaf.PathStep.TheVariants as step
+use Rattle.fir_types.specs.declared.memory.Memory.{Memory}
+use Rattle.fir_types.specs.declared.memory.PortMode.{PortMode}
+use Rattle.fir_types.specs.declared.memory.PortMode.TheVariants as mode
+use Rattle.fir_types.specs.declared.memory.Under.{Under}
+use Rattle.fir_types.specs.declared.memory.Under.TheVariants as under
+use Rattle.fir_types.specs.Leaves.{leaves}
+use Rattle.fir_types.specs.Memories.{depth_of, read_latency_of, under_of}
+use Rattle.fir_types.specs.Bundles.{addr_name, en_name, data_name, rdata_name, wmode_name}
+use Rattle.fir_tree.specs.declared.expr.Expr.{Expr}
+use Rattle.fir_meaning.specs.Components.{Design, TypedModule, Component, FlatLeaf, Sort, A_memory, A_node, is_clock, kind_of_leaf, width_of_leaf, flow_of, module_named, ports_bundle}
+use Rattle.fir_meaning.specs.Values.{scene_of, value}
+use Rattle.fir_meaning.specs.Values as tree
+use Rattle.fir_meaning.specs.Drives.{drives}
+use Rattle.fir_meaning.specs.MemoryPorts.{MemoryPort, memory_ports, read_by, written_field, mask_field}
+use Rattle.fir_meaning.specs.States.{State, is_register, is_port, is_source, is_driven, leaf_of}
+use Rattle.fir_meaning.specs.States as tree_states
+use Rattle.fir_meaning.specs.Loops.{ReadsLeaf, TakesFrom}
+use Rattle.ground_net.specs.declared.ground.Ground.{Ground}
+use Rattle.ground_net.specs.declared.net.Leaf.{Leaf}
+use Rattle.ground_net.specs.declared.net.Role.{Role}
+use Rattle.ground_net.specs.declared.net.Role.TheVariants as role
+use Rattle.ground_net.specs.declared.net.Net.{Net}
+use Rattle.ground_net.specs.declared.net.NetRegister.{NetRegister}
+use Rattle.ground_net.specs.declared.net.NetMemory.{NetMemory}
+use Rattle.ground_net.specs.declared.net.ElementLeaf.{ElementLeaf}
+use Rattle.ground_net.specs.declared.net.NetPort.{NetPort}
+use Rattle.ground_net.specs.declared.net.NetWrite.{NetWrite}
+use Rattle.ground_net.specs.declared.net.NetRead.{NetRead}
+use Rattle.ground_net.specs.Grounds.{Sight}
+use Rattle.ground_net.specs.Grounds as net_values
+use Rattle.ground_net.specs.Reads.{Reads, driver_of}
+use Rattle.ground_net.specs.Cones.{register_needs}
+use Rattle.net_meaning.specs.Shapes.{HasShapes}
+use Rattle.net_meaning.specs.Cycles.{NetState, sight_of, integer_at}
+use Rattle.net_meaning.specs.Cycles as cycle
+use Rattle.net_meaning.specs.Nets.{IsNet, IsWithin, HasRole, table_of}
+use Rattle.net_of_circuit.specs.FlatOrder.{Placed, InFlatOrder, Standing, all_leaves, all_memories, flat_of, number_in}
+
+-- Roles
+
+-- what a leaf is in a cycle
+pub data Part : Type 0 where
+  Given : Part
+  Without_value : Part
+  Held : Part
+  Kept : Part
+  Driven : Part
+
+-- the part of each role
+abbrev pub part_of_role : Role → Part
+part_of_role (role.Input n) = Given
+part_of_role role.Clock = Without_value
+part_of_role role.Assigned = Driven
+part_of_role (role.Register n) = Held
+part_of_role (role.Captured n) = Kept
+
+-- a leaf of a port of main that is only read
+abbrev pub is_input_of_main : List ℕ → Component → TypeLeaf → Bool
+is_input_of_main [] c leaf = is_port c.declaration.sort && is_source (flow_of c.declaration.sort leaf.flip)
+is_input_of_main (i ∷ path) c leaf = false
+
+-- data that a memory's port reads a cycle late
+abbrev pub is_late_read : Sort → TypeLeaf → Bool
+is_late_read (A_memory memory) leaf = not (read_latency_of memory == 0) && not leaf.flip
+is_late_read _ leaf = false
+
+-- What a leaf of the circuit is in a cycle.
+abbrev pub part_of : Standing → Part
+part_of x =
+    if is_clock x.1 then Without_value
+    else if is_register x.0.c.declaration.sort then Held
+    else if is_input_of_main x.0.path x.0.c x.1 then Given
+    else if is_late_read x.0.c.declaration.sort x.1 then Kept else Driven
+
+-- a leaf of a port of main
+abbrev pub is_of_port : List ℕ → Component → Bool
+is_of_port [] c = is_port c.declaration.sort
+is_of_port (i ∷ path) c = false
+
+abbrev pub is_of_main : Standing → Bool
+is_of_main x = is_of_port x.0.path x.0.c
+
+-- Values
+
+-- The integers that a sight shows of the circuit's leaves, and 0 where there is no such leaf.
+abbrev pub valuation_of : List Standing → Sight → tree.Valuation
+valuation_of all sight path c way = integer_at sight (number_in all (record { path = path; component = c; way = way }))
+
+-- A state of the circuit and one of the net are the same, leaf by leaf and element by element.
+pub record SameState (all : List Standing) (memories : List (Placed × Memory)) (net : Net) (s : State) (t : NetState) : Type 0 where
+  pub registers : (x n : ℕ) (y : Standing) → slice_get all x ≡ Some y → HasRole net x (role.Register n) → s.registers y.0.path y.0.c.declaration.name y.1.path ≡ t.registers n
+  pub contents : (m element k : ℕ) (p : Placed) (memory : Memory) (typ : FirType) (leaf : TypeLeaf) → slice_get memories m ≡ Some (p, memory)
+      → leaves p.c.typ ≡ leaves (ports_bundle memory typ) → slice_get (leaves typ) k ≡ Some leaf
+      → s.contents p.path p.c.declaration.name element leaf.path ≡ t.contents m element k
+  pub captured : (x n : ℕ) (y : Standing) (port field : ℕ) (way : List PathStep) → slice_get all x ≡ Some y → HasRole net x (role.Captured n)
+      → y.1.path ≡ step.Field port ∷ step.Field field ∷ way → s.captured y.0.path y.0.c.declaration.name port way ≡ t.captured n
+
+-- What a leaf has in a cycle of the circuit, where it is neither given nor held.
+pub data Asks (s : State) (rho : tree.Valuation) (x : Standing) (n : ℤ) : Type 0 where
+  by_statements : is_driven x.0.c x.1 ≡ true → drives (scene_of x.0.m x.0.path rho) (leaf_of x.0.c x.1) x.0.c.declaration.block ≡ Some n → Asks s rho x n
+  by_node : (e : Expr) (k : ℕ) → x.0.c.declaration.sort ≡ A_node e → slice_get (leaves x.0.c.typ) k ≡ Some x.1
+      → slice_get (map integer_of (value e (scene_of x.0.m x.0.path rho))) k ≡ Some n → Asks s rho x n
+  by_port : (memory : Memory) (port field : ℕ) (way : List PathStep) → x.0.c.declaration.sort ≡ A_memory memory → read_latency_of memory ≡ 0 → x.1.flip ≡ false
+      → x.1.path ≡ step.Field port ∷ step.Field field ∷ way
+      → read_by memory ((scene_of x.0.m x.0.path rho).integers x.0.c.declaration.name) (s.contents x.0.path x.0.c.declaration.name) port way ≡ n → Asks s rho x n
+
+-- Memories
+
+-- The number is that of the memory's leaf at this way.
+pub record Names (all : List Standing) (p : Placed) (way : List PathStep) (x : ℕ) : Type 0 where
+  pub leaf : TypeLeaf
+  pub there : slice_get all x ≡ Some (p, leaf)
+  pub is : leaf.path ≡ way
+
+-- The numbers are those of the leaves of a port's field, leaf by leaf of an element.
+pub record NameAll (all : List Standing) (p : Placed) (port field : ℕ) (element : FirType) (numbers : List ℕ) : Type 0 where
+  pub counted : length numbers ≡ length (leaves element)
+  pub each : (k x : ℕ) (leaf : TypeLeaf) → slice_get numbers k ≡ Some x → slice_get (leaves element) k ≡ Some leaf → Names all p (step.Field port ∷ step.Field field ∷ leaf.path) x
+
+-- whether a port writes, reads, and has a mode
+abbrev pub may_write : PortMode → Bool
+may_write mode.Reader = false
+may_write _ = true
+
+abbrev pub may_read : PortMode → Bool
+may_read mode.Writer = false
+may_read _ = true
+
+abbrev pub has_mode : PortMode → Bool
+has_mode mode.ReadWriter = true
+has_mode _ = false
+
+-- the field of what a port reads
+abbrev pub read_field : PortMode → ℕ
+read_field mode.ReadWriter = rdata_name
+read_field _ = data_name
+
+abbrev pub is_new : Under → Bool
+is_new under.New = true
+is_new _ = false
+
+-- A port of the net's memory is one of the circuit's.
+pub record IsPortOf (all : List Standing) (p : Placed) (memory : Memory) (element : FirType) (port : MemoryPort) (np : NetPort) : Type 0 where
+  pub addr : Names all p (step.Field port.name ∷ step.Field addr_name ∷ []) np.addr
+  pub en : Names all p (step.Field port.name ∷ step.Field en_name ∷ []) np.en
+  pub no_mode : has_mode port.mode ≡ false → np.mode ≡ None
+  pub mode : has_mode port.mode ≡ true → (x : ℕ) × (np.mode ≡ Some x) × Names all p (step.Field port.name ∷ step.Field wmode_name ∷ []) x
+  pub no_write : may_write port.mode ≡ false → np.write ≡ None
+  pub write : may_write port.mode ≡ true → (w : NetWrite) × (np.write ≡ Some w) × NameAll all p port.name (written_field port.mode) element w.leaves
+      × NameAll all p port.name (mask_field port.mode) element w.masks
+  pub no_read : may_read port.mode ≡ false → np.read ≡ None
+  pub read : may_read port.mode ≡ true → (r : NetRead) × (np.read ≡ Some r) × NameAll all p port.name (read_field port.mode) element r.leaves
+      × (r.captured ≡ not (read_latency_of memory == 0)) × (r.after ≡ is_new (under_of memory))
+
+-- A memory of the net is one of the circuit's: its depth, the leaves of its elements and its ports, and how many leaves stand before it.
+pub record IsMemoryOf (placed : List Placed) (p : Placed) (memory : Memory) (nm : NetMemory) : Type 0 where
+  pub at : ℕ
+  pub stands : slice_get placed at ≡ Some p
+  pub before : nm.before ≡ sum_by (λ q. length (leaves q.c.typ)) (take at placed)
+  pub depth : nm.depth ≡ depth_of memory
+  pub element : FirType
+  pub bundle : leaves p.c.typ ≡ leaves (ports_bundle memory element)
+  pub counted : length nm.elements ≡ length (leaves element)
+  pub elements : (k : ℕ) (leaf : TypeLeaf) (kept : ElementLeaf) → slice_get (leaves element) k ≡ Some leaf → slice_get nm.elements k ≡ Some kept
+      → (kept.kind ≡ kind_of_leaf leaf) × (kept.width ≡ width_of_leaf leaf)
+  pub all_ports : length nm.ports ≡ length (memory_ports memory)
+  pub ports : (q : ℕ) (port : MemoryPort) (np : NetPort) → slice_get (memory_ports memory) q ≡ Some port → slice_get nm.ports q ≡ Some np
+      → IsPortOf (all_leaves placed) p memory element port np
+
+-- The net of a circuit
+
+-- The net is that of the circuit whose components are these, in flat order. Of each leaf, register and memory it says the same at
+-- every sight that is in range.
+pub record IsNetWith (design : Design) (placed : List Placed) (net : Net) : Type 0 where
+  pub counted : length net.leaves ≡ length (all_leaves placed)
+  pub ports : net.ports ≡ length (filter is_of_main (all_leaves placed))
+  -- kinds, widths and roles
+  pub leaves_are : (x : ℕ) (y : Standing) (leaf : Leaf) → slice_get (all_leaves placed) x ≡ Some y → slice_get net.leaves x ≡ Some leaf
+      → (leaf.kind ≡ kind_of_leaf y.1) × (leaf.width ≡ width_of_leaf y.1) × (part_of_role leaf.role ≡ part_of y)
+  -- what is left in a leaf
+  pub values : (x : ℕ) (y : Standing) (driver : Ground) (s : State) (t : NetState) (rho : cycle.Valuation) → slice_get (all_leaves placed) x ≡ Some y → part_of y ≡ Driven
+      → driver_of net x ≡ Some driver → SameState (all_leaves placed) (all_memories placed) net s t → IsWithin net t → HasShapes (table_of net) (sight_of net t rho)
+      → Asks s (valuation_of (all_leaves placed) (sight_of net t rho)) y (integer_of (net_values.value driver (sight_of net t rho)))
+  -- what a leaf reads, both ways
+  pub reads : (x z : ℕ) (y w : Standing) → slice_get (all_leaves placed) x ≡ Some y → slice_get (all_leaves placed) z ≡ Some w → Reads net x z → ReadsLeaf design (flat_of y) (flat_of w)
+  pub all_reads : (x : ℕ) (y : Standing) (f : FlatLeaf) → slice_get (all_leaves placed) x ≡ Some y → ReadsLeaf design (flat_of y) f
+      → (z : ℕ) × (w : Standing) × (slice_get (all_leaves placed) z ≡ Some w) × (flat_of w ≡ f) × Reads net x z
+  -- what a register holds next, and what it takes, both ways
+  pub registers : (n : ℕ) (register : NetRegister) (y : Standing) (s : State) (t : NetState) (rho : cycle.Valuation) → slice_get net.registers n ≡ Some register
+      → slice_get (all_leaves placed) register.leaf ≡ Some y → SameState (all_leaves placed) (all_memories placed) net s t → IsWithin net t → HasShapes (table_of net) (sight_of net t rho)
+      → tree_states.next_of_register (scene_of y.0.m y.0.path (valuation_of (all_leaves placed) (sight_of net t rho))) y.0.c y.0.c.declaration.sort y.1.path (t.registers n)
+      ≡ cycle.next_of_register net (sight_of net t rho) (Some register) (t.registers n)
+  pub takes : (n z : ℕ) (register : NetRegister) (y w : Standing) → slice_get net.registers n ≡ Some register → slice_get (all_leaves placed) register.leaf ≡ Some y
+      → slice_get (all_leaves placed) z ≡ Some w → Contains (register_needs net register) z → TakesFrom design (flat_of y) (flat_of w)
+  pub all_takes : (n : ℕ) (register : NetRegister) (y : Standing) (f : FlatLeaf) → slice_get net.registers n ≡ Some register → slice_get (all_leaves placed) register.leaf ≡ Some y
+      → TakesFrom design (flat_of y) f → (z : ℕ) × (w : Standing) × (slice_get (all_leaves placed) z ≡ Some w) × (flat_of w ≡ f) × Contains (register_needs net register) z
+  -- the memories
+  pub all_memories_there : length net.memories ≡ length (all_memories placed)
+  pub memories : (m : ℕ) (p : Placed) (memory : Memory) (nm : NetMemory) → slice_get (all_memories placed) m ≡ Some (p, memory) → slice_get net.memories m ≡ Some nm
+      → IsMemoryOf placed p memory nm
+
+-- The net is that of a circuit.
+pub record IsNetOf (design : Design) (net : Net) : Type 0 where
+  pub well_formed : IsNet net
+  pub main : TypedModule
+  pub found : module_named design design.main ≡ Some main
+  pub placed : List Placed
+  pub order : InFlatOrder design [] main main.components placed
+  pub is : IsNetWith design placed net
