@@ -31,7 +31,7 @@ pub record IsDriver (leaf : GroundLeaf) (x : ℕ) (body : List GroundStmt) (driv
   pub all : (y : ℕ) → Contains (joined (live x body)) y → Contains (mentions driver) y
   pub shape : (table : Table) → is_shaped table body ≡ true → table.leaf x ≡ Some (leaf_shape leaf) → shape_in driver table ≡ Some (leaf_shape leaf)
 
--- A leaf without a driver is never left anything, and has no live connect.
+-- A leaf without a driver is never left anything, and its live connects mention nothing.
 pub record IsUndriven (x : ℕ) (body : List GroundStmt) : Type 0 where
   pub never : (sight : Sight) → drives sight x body ≡ None
   pub all : (y : ℕ) → Contains (joined (live x body)) y → ⊥
