@@ -15,7 +15,7 @@ import time
 SHAPES = {
     "plain": ("leaves with a connect each", 50_000, lambda n: n),
     "one": ("connects of one leaf, a condition each", 20_000, lambda n: 2 * n + 2),
-    "deep": ("connects in 100 nested conditions", 1_000, lambda n: 301 * n),
+    "deep": ("connects in 100 nested conditions", 1_000, lambda n: 304 * n),
     "arms": ("arms of one chain, a connect each", 1_500, lambda n: n * n + 5 * n - 2),
     "last": ("arms of one chain, a connect behind them", 50_000, lambda n: 2 * n + 5),
 }

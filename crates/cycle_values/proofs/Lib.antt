@@ -1,1 +1,1 @@
-mod Fittings
+pub mod Fittings

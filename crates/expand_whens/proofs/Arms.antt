@@ -15,6 +15,7 @@ use Rattle.expand_whens.specs.declared.guard.Asked.{Asked}
 use Rattle.expand_whens.specs.declared.guard.Way.{Way}
 use Rattle.expand_whens.specs.Ways.{Same, crossed, crossed_mentions, outcome, ways_mentions, accepted, refusal, refusals}
 use Rattle.expand_whens.specs.Walking.{Walks, BlockWalks, ArmsWalk, block_effect, arm_effect, arms_effect, driving_arm, arms_live, arms_certain, has, is_covered, ways_at}
+use Rattle.expand_whens.proofs.Tests.{left_true, right_true}
 use Rattle.expand_whens.proofs.Members.{added_before}
 use Rattle.expand_whens.proofs.Layers.{effect-When, arm_effect-is, certain-When, live-When, driving_arm-condition, driving_arm-certain, driving_arm-live}
 use Rattle.expand_whens.proofs.Guards.{crossed_push, crossed_mentions_push}
@@ -111,15 +112,6 @@ all_certain false true false o = refl
 all_certain false false true true = refl
 all_certain false false true false = refl
 all_certain false false false o = refl
-
-pub left_true : (a b : Bool) → (a && b) ≡ true → a ≡ true
-left_true true b h = refl
-left_true false b h = h
-
-pub right_true : (a b : Bool) → (a && b) ≡ true → b ≡ true
-right_true true b h = h
-right_true false true h = refl
-right_true false false h = h
 
 -- an arm before those that were walked through
 module _ (asked : List Asked) (first : ℕ) (arm : GroundArm) (rest : List GroundArm) (other : List GroundStmt) (covered : List Bool) (old mid new : List (Vec Way)) (late_ones early_ones all : List ℕ)

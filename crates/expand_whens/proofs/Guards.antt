@@ -1,43 +1,29 @@
 -- Guards.
-use Rattle.std.proofs.Common.{◌≡◌, ℕ, ◌+◌, ◌<◌, ◌≤◌, Bool, true, false, List, [], ◌∷◌, ◌++◌, map, take, length, get_or, refl, sym, ap, ◌∙◌, subst, arith, nat_lt, ◌&&◌, not, if◌then◌else◌, Some, Option, append-nil, append_assoc}
-use Rattle.std.specs.Prelude.{reverse}
+use Rattle.std.proofs.Common.{◌≡◌, ℕ, ◌+◌, ◌<◌, ◌≤◌, Bool, true, false, List, [], ◌∷◌, ◌++◌, map, take, length, get_or, refl, sym, ap, ap₂, ◌∙◌, subst, arith, nat_lt, ◌&&◌, not, if◌then◌else◌, Some, None, Option, option_and_then, append-nil, append_assoc, length-append, true≢false}
+use Rattle.std.specs.Prelude.{reverse, IsSome}
+use Rattle.std.specs.List.{list_all}
+use Rattle.std.specs.Option.{option_to_list}
 use Rattle.std.proofs.Math.ListN.{drop_of_length-le, take-append-drop}
 use Rattle.std.proofs.lemmas.Bool.Decides.{nat_tests}
-use Rattle.std.proofs.lemmas.Grind.{common_steps, flat_map-append}
+use Rattle.std.proofs.lemmas.Grind.{flat_map-append}
 use Rattle.std.proofs.lemmas.List.{take_more, map-append}
 use Rattle.std.proofs.lemmas.List.Folds.{list_all-append}
+use Rattle.bit_words.specs.declared.value.Kind.TheVariants.{Unsigned}
+use Rattle.bit_words.specs.declared.value.Value.{Value}
+use Rattle.cycle_values.specs.Values.{is_one}
 use Rattle.ground_net.specs.declared.ground.Ground.{Ground}
 use Rattle.ground_net.specs.declared.ground.Ground.TheVariants.{Mux}
 use Rattle.ground_net.specs.Grounds.{Sight, value, mentions, joined}
-use Rattle.cycle_values.specs.Values.{is_one}
 use Rattle.ground_net.specs.Statements.{all_hold}
+use Rattle.ground_net.proofs.Layers.{value-Mux, mentions-Mux}
+use Rattle.net_meaning.specs.Shapes.{Shape, Table, shaped, shape as shape_in, same_shape, is_unsigned, shape_of_choice, all_of}
+use Rattle.expand_whens.proofs.Layers.{shape-Mux, shapes_of}
 use Rattle.expand_whens.specs.declared.guard.Asked.{Asked}
 use Rattle.expand_whens.specs.declared.guard.Part.{Part}
-use Rattle.expand_whens.specs.Ways.{guard_holds, guard_mentions, meets, is_met, asked_mentions, crossed, crossed_mentions, none_hold, part_holds, part_mentions, IsGuard, IsPart}
+use Rattle.expand_whens.specs.Shapes.{is_condition, some_unsigned}
+use Rattle.expand_whens.specs.Ways.{guard_holds, guard_mentions, guard_fits, meets, is_met, asked_mentions, crossed, crossed_mentions, none_hold, part_holds, part_mentions, part_fits, IsGuard, IsPart, IsBit}
 use Rattle.expand_whens.proofs.Members.{same, same_of, same_through, same_append, swapped}
-use Rattle.expand_whens.proofs.Layers.{value-Mux, mentions-Mux}
-
--- a choice of a guard and 0
-pub accepted_too : (condition first second choice : Ground)
-    → ((sight : Sight) → value choice sight ≡ if is_one (value condition sight) then value first sight else value second sight)
-    → mentions choice ≡ mentions condition ++ (mentions first ++ mentions second)
-    → ((sight : Sight) → is_one (value second sight) ≡ false) → mentions second ≡ []
-    → IsGuard (λ sight. guard_holds sight (Some first) && meets sight true condition) (guard_mentions (Some first) ++ mentions condition) (Some choice)
-accepted_too condition first second choice is leaves s n = record {
-  holds = λ sight. ap is_one (is sight) ∙ (inside sight (is_one (value condition sight))
-      ∙ (ap (λ b. if is_one (value condition sight) then is_one (value first sight) else b) (s sight) ∙ turned (is_one (value condition sight)) (is_one (value first sight))));
-  mentions = same_through (same_of (leaves ∙ ap (λ xs. mentions condition ++ (mentions first ++ xs)) n ∙ ap (λ xs. mentions condition ++ xs) (append-nil (mentions first)))) (swapped (mentions condition) (mentions first));
-}
-  where
-    inside : (sight : Sight) (b : Bool) → is_one (if b then value first sight else value second sight) ≡ if b then is_one (value first sight) else is_one (value second sight)
-    inside sight true = refl
-    inside sight false = refl
-
-    turned : (b g : Bool) → (if b then g else false) ≡ (g && b)
-    turned true true = refl
-    turned true false = refl
-    turned false true = refl
-    turned false false = refl
+use Rattle.expand_whens.proofs.Tests.{left_true, right_true}
 
 and_true : (b : Bool) → b ≡ (b && true)
 and_true true = refl
@@ -54,65 +40,233 @@ and_swap true false true = refl
 and_swap true false false = refl
 and_swap false b c = refl
 
+and_last : (a b c : Bool) → (a && (c && (b && true))) ≡ ((a && c) && b)
+and_last true true true = refl
+and_last true true false = refl
+and_last true false true = refl
+and_last true false false = refl
+and_last false b c = refl
+
+and_first : (b a c : Bool) → (b && (a && c)) ≡ (a && (b && c))
+and_first true true c = refl
+and_first true false c = refl
+and_first false true c = refl
+and_first false false c = refl
+
+pub all_true : (a b : Bool) → a ≡ true → b ≡ true → (a && b) ≡ true
+all_true true b p q = q
+all_true false b p q = p
+
 lt_test : (a b : ℕ) → a < b → nat_lt a b ≡ true
 lt_test a b h = grind (arith, nat_tests)
 
 ge_test : (a b : ℕ) → b ≤ a → nat_lt a b ≡ false
 ge_test a b h = grind (arith, nat_tests)
 
--- the guard alone, before any condition that is not to hold
-pub closing_none : (rest : Option Ground) (item : Ground) → ((sight : Sight) → is_one (value item sight) ≡ guard_holds sight rest) → mentions item ≡ guard_mentions rest
-    → IsGuard (λ sight. none_hold sight [] && guard_holds sight rest) (joined (map mentions []) ++ guard_mentions rest) (Some (Mux (reverse (item ∷ []))))
-closing_none rest item h m = record {
+joined-push : (gs : List Ground) (g : Ground) → joined (map mentions (gs ++ g ∷ [])) ≡ joined (map mentions gs) ++ mentions g
+joined-push gs g = ap joined (map-append mentions gs (g ∷ [])) ∙ (flat_map-append (λ l. l) (map mentions gs) (mentions g ∷ []) ∙ ap (λ xs. joined (map mentions gs) ++ xs) (append-nil (mentions g)))
+
+none_some : {A : Type 0} {x : A} → None ≡ Some x → ⊥
+none_some e = cc
+
+-- shapes of choices
+
+-- a condition and a value before the items of a choice
+pub mux_more : (table : Table) (item source : Ground) (rest : List Ground) (s : Shape) → is_condition table item ≡ true → shape_in source table ≡ Some s → same_shape s s ≡ true
+    → shape_in (Mux rest) table ≡ Some s → shape_in (Mux (item ∷ source ∷ rest)) table ≡ Some s
+mux_more table item source rest s c v r e = conditioned (shape_in item table) refl c
+  where
+    chosen_of : (x : Option (List Shape)) → option_and_then shape_of_choice x ≡ Some s → (i : Shape) → is_unsigned i ≡ true
+        → option_and_then shape_of_choice (option_and_then (λ t. option_and_then (λ more. Some (t ∷ more)) (option_and_then (λ u. option_and_then (λ more. Some (u ∷ more)) x) (Some s))) (Some i)) ≡ Some s
+    chosen_of None h i u = absurd (none_some h)
+    chosen_of (Some ss) h i u = ap (option_and_then (λ t. if is_unsigned i && same_shape s t then Some t else None)) h
+        ∙ ap (λ b. if b then Some s else None) (all_true _ _ u r)
+
+    conditioned : (o : Option Shape) → shape_in item table ≡ o → some_unsigned o ≡ true → shape_in (Mux (item ∷ source ∷ rest)) table ≡ Some s
+    conditioned None q u = absurd (true≢false (sym u))
+    conditioned (Some i) q u = shape-Mux (item ∷ source ∷ rest) table
+        ∙ (ap (λ o. option_and_then shape_of_choice (option_and_then (λ t. option_and_then (λ more. Some (t ∷ more)) (option_and_then (λ w. option_and_then (λ more. Some (w ∷ more)) (all_of (shapes_of rest table))) (shape_in source table))) o)) q
+        ∙ (ap (λ o. option_and_then shape_of_choice (option_and_then (λ t. option_and_then (λ more. Some (t ∷ more)) (option_and_then (λ w. option_and_then (λ more. Some (w ∷ more)) (all_of (shapes_of rest table))) o)) (Some i))) v
+        ∙ chosen_of (all_of (shapes_of rest table)) (sym (shape-Mux rest table) ∙ e) i u))
+
+-- one item alone
+pub mux_one : (table : Table) (item : Ground) (s : Shape) → shape_in item table ≡ Some s → shape_in (Mux (item ∷ [])) table ≡ Some s
+mux_one table item s e = shape-Mux (item ∷ []) table ∙ ap (λ o. option_and_then shape_of_choice (option_and_then (λ t. option_and_then (λ more. Some (t ∷ more)) (Some [])) o)) e
+
+-- that no condition holds, of none
+pub refusing_none : (item : Ground) → ((sight : Sight) → is_one (value item sight) ≡ true) → mentions item ≡ [] → ((table : Table) → shape_in item table ≡ Some (shaped Unsigned 1))
+    → IsBit (λ sight. none_hold sight []) (joined (map mentions [])) (λ table. list_all (is_condition table) []) (Mux (reverse (item ∷ [])))
+refusing_none item h m s = record {
   holds = λ sight. ap is_one (value-Mux (item ∷ []) sight) ∙ h sight;
   mentions = same_of (mentions-Mux (item ∷ []) ∙ (append-nil (mentions item) ∙ m));
+  shape = λ table a. mux_one table item (shaped Unsigned 1) (s table);
+}
+
+pub refusing_nothing : (item : Ground) (refused : List Ground) → refused ≡ [] → ((sight : Sight) → is_one (value item sight) ≡ true) → mentions item ≡ [] → ((table : Table) → shape_in item table ≡ Some (shaped Unsigned 1))
+    → IsBit (λ sight. none_hold sight refused) (joined (map mentions refused)) (λ table. list_all (is_condition table) refused) item
+refusing_nothing item refused e h m s = record {
+  holds = λ sight. h sight ∙ ap (none_hold sight) (sym e);
+  mentions = same_of (m ∙ ap (λ xs. joined (map mentions xs)) (sym e));
+  shape = λ table a. s table;
 }
 
 -- a condition that is not to hold, before the others
-pub closing_more : (rest : Option Ground) (done items : List Ground) (condition zero_bit : Ground) (after : List Ground)
-    → ((sight : Sight) → is_one (value zero_bit sight) ≡ false) → mentions zero_bit ≡ [] → reverse after ≡ condition ∷ zero_bit ∷ reverse items
-    → IsGuard (λ sight. none_hold sight done && guard_holds sight rest) (joined (map mentions done) ++ guard_mentions rest) (Some (Mux (reverse items)))
-    → IsGuard (λ sight. none_hold sight (condition ∷ done) && guard_holds sight rest) (joined (map mentions (condition ∷ done)) ++ guard_mentions rest) (Some (Mux (reverse after)))
-closing_more rest done items condition zero_bit after z m e g =
-    subst (λ xs. IsGuard (λ sight. none_hold sight (condition ∷ done) && guard_holds sight rest) (joined (map mentions (condition ∷ done)) ++ guard_mentions rest) (Some (Mux xs))) (sym e) (record {
+pub refusing_more : (done items : List Ground) (condition zero_bit : Ground) (after : List Ground)
+    → ((sight : Sight) → is_one (value zero_bit sight) ≡ false) → mentions zero_bit ≡ [] → ((table : Table) → shape_in zero_bit table ≡ Some (shaped Unsigned 1))
+    → reverse after ≡ condition ∷ zero_bit ∷ reverse items
+    → IsBit (λ sight. none_hold sight done) (joined (map mentions done)) (λ table. list_all (is_condition table) done) (Mux (reverse items))
+    → IsBit (λ sight. none_hold sight (condition ∷ done)) (joined (map mentions (condition ∷ done))) (λ table. list_all (is_condition table) (condition ∷ done)) (Mux (reverse after))
+refusing_more done items condition zero_bit after z m s e g =
+    subst (λ xs. IsBit (λ sight. none_hold sight (condition ∷ done)) (joined (map mentions (condition ∷ done))) (λ table. list_all (is_condition table) (condition ∷ done)) (Mux xs)) (sym e) (record {
       holds = λ sight. ap is_one (value-Mux (condition ∷ zero_bit ∷ reverse items) sight)
           ∙ (ap (λ v. is_one (if is_one (value condition sight) then value zero_bit sight else v)) (sym (value-Mux (reverse items) sight))
-          ∙ chosen_one (is_one (value condition sight)) (value zero_bit sight) (value (Mux (reverse items)) sight) _ _ (z sight) (g.holds sight));
+          ∙ chosen_one (is_one (value condition sight)) (value zero_bit sight) (value (Mux (reverse items)) sight) _ (z sight) (g.holds sight));
       mentions = same_through (same_of (mentions-Mux (condition ∷ zero_bit ∷ reverse items)
           ∙ (ap (λ xs. mentions condition ++ (xs ++ joined (map mentions (reverse items)))) m ∙ ap (λ xs. mentions condition ++ xs) (sym (mentions-Mux (reverse items))))))
-          (same_through (same_append (same (mentions condition)) g.mentions) (same_of (sym (append_assoc (mentions condition) (joined (map mentions done)) (guard_mentions rest)))));
+          (same_append (same (mentions condition)) g.mentions);
+      shape = λ table a. mux_more table condition zero_bit (reverse items) (shaped Unsigned 1) (left_true (is_condition table condition) _ a) (s table) refl (g.shape table (right_true (is_condition table condition) _ a));
     })
   where
-    chosen_one : (b : Bool) (u v : _) (n r : Bool) → is_one u ≡ false → is_one v ≡ (n && r) → is_one (if b then u else v) ≡ ((not b && n) && r)
-    chosen_one true u v n r hu hv = hu
-    chosen_one false u v n r hu hv = hv
+    chosen_one : (b : Bool) (u v : Value) (n : Bool) → is_one u ≡ false → is_one v ≡ n → is_one (if b then u else v) ≡ (not b && n)
+    chosen_one true u v n hu hv = hu
+    chosen_one false u v n hu hv = hv
+
+-- a choice of a bit and 0
+module _ (condition bit zero_bit : Ground) (z : (sight : Sight) → is_one (value zero_bit sight) ≡ false) (m : mentions zero_bit ≡ []) (s : (table : Table) → shape_in zero_bit table ≡ Some (shaped Unsigned 1)) where
+  pub choice_value : (sight : Sight) → is_one (value (Mux (condition ∷ bit ∷ zero_bit ∷ [])) sight) ≡ (is_one (value condition sight) && is_one (value bit sight))
+  choice_value sight = ap is_one (value-Mux (condition ∷ bit ∷ zero_bit ∷ []) sight) ∙ inside (is_one (value condition sight))
+    where
+      inside : (b : Bool) → is_one (if b then value bit sight else value zero_bit sight) ≡ (b && is_one (value bit sight))
+      inside true = refl
+      inside false = z sight
+
+  pub choice_mentions : mentions (Mux (condition ∷ bit ∷ zero_bit ∷ [])) ≡ mentions condition ++ mentions bit
+  choice_mentions = mentions-Mux (condition ∷ bit ∷ zero_bit ∷ []) ∙ (ap (λ xs. mentions condition ++ (mentions bit ++ (xs ++ []))) m ∙ ap (λ xs. mentions condition ++ xs) (append-nil (mentions bit)))
+
+  pub choice_shape : (table : Table) → is_condition table condition ≡ true → shape_in bit table ≡ Some (shaped Unsigned 1) → shape_in (Mux (condition ∷ bit ∷ zero_bit ∷ [])) table ≡ Some (shaped Unsigned 1)
+  choice_shape table c b = mux_more table condition bit (zero_bit ∷ []) (shaped Unsigned 1) c b refl (mux_one table zero_bit (shaped Unsigned 1) (s table))
+
+-- that no condition holds, and conditions that are to hold, of none
+pub closing_none : (refused : List Ground) (bit : Ground) → IsBit (λ sight. none_hold sight refused) (joined (map mentions refused)) (λ table. list_all (is_condition table) refused) bit
+    → IsBit (λ sight. none_hold sight refused && all_hold sight []) (joined (map mentions refused) ++ joined (map mentions [])) (λ table. list_all (is_condition table) refused && list_all (is_condition table) []) bit
+closing_none refused bit g = record {
+  holds = λ sight. g.holds sight ∙ and_true (none_hold sight refused);
+  mentions = same_through g.mentions (same_of (sym (append-nil (joined (map mentions refused)))));
+  shape = λ table a. g.shape table (left_true _ _ a);
+}
+
+-- one more of them
+pub closing_more : (refused done : List Ground) (condition bit choice : Ground)
+    → ((sight : Sight) → is_one (value choice sight) ≡ (is_one (value condition sight) && is_one (value bit sight))) → mentions choice ≡ mentions condition ++ mentions bit
+    → ((table : Table) → is_condition table condition ≡ true → shape_in bit table ≡ Some (shaped Unsigned 1) → shape_in choice table ≡ Some (shaped Unsigned 1))
+    → IsBit (λ sight. none_hold sight refused && all_hold sight done) (joined (map mentions refused) ++ joined (map mentions done)) (λ table. list_all (is_condition table) refused && list_all (is_condition table) done) bit
+    → IsBit (λ sight. none_hold sight refused && all_hold sight (condition ∷ done)) (joined (map mentions refused) ++ joined (map mentions (condition ∷ done)))
+    (λ table. list_all (is_condition table) refused && list_all (is_condition table) (condition ∷ done)) choice
+closing_more refused done condition bit choice v m s g = record {
+  holds = λ sight. v sight ∙ (ap (λ b. is_one (value condition sight) && b) (g.holds sight) ∙ and_first (is_one (value condition sight)) (none_hold sight refused) (all_hold sight done));
+  mentions = same_through (same_of m) (same_through (same_append (same (mentions condition)) g.mentions)
+      (same_through (same_of (sym (append_assoc (mentions condition) (joined (map mentions refused)) (joined (map mentions done)))))
+      (same_through (same_append (swapped (mentions condition) (joined (map mentions refused))) (same (joined (map mentions done))))
+      (same_of (append_assoc (joined (map mentions refused)) (mentions condition) (joined (map mentions done)))))));
+  shape = λ table a.
+      let here : (is_condition table condition && (list_all (is_condition table) refused && list_all (is_condition table) done)) ≡ true =
+      and_first (is_condition table condition) (list_all (is_condition table) refused) (list_all (is_condition table) done) ∙ a in
+      s table (left_true (is_condition table condition) _ here) (g.shape table (right_true (is_condition table condition) _ here));
+}
+
+-- all of them
+pub closing_all : (part : Part) (left done : List Ground) (bit : Ground) → part.accepted.items ≡ left ++ done → length left ≡ 0
+    → IsBit (λ sight. none_hold sight part.refused.items && all_hold sight done) (joined (map mentions part.refused.items) ++ joined (map mentions done))
+    (λ table. list_all (is_condition table) part.refused.items && list_all (is_condition table) done) bit
+    → IsBit (λ sight. part_holds sight part) (part_mentions part) (λ table. part_fits table part) bit
+closing_all part left done bit e n g = subst (λ xs. IsBit (λ sight. none_hold sight part.refused.items && all_hold sight xs) (joined (map mentions part.refused.items) ++ joined (map mentions xs))
+    (λ table. list_all (is_condition table) part.refused.items && list_all (is_condition table) xs) bit) (sym (none_left left e n)) g
+  where
+    none_left : (left : List Ground) → part.accepted.items ≡ left ++ done → length left ≡ 0 → part.accepted.items ≡ done
+    none_left [] e n = e
+    none_left (x ∷ xs) e n = absurd (omega (arith, n))
+
+-- a bit is a guard
+pub bit_guards : (part : Part) (bit : Ground) → IsBit (λ sight. part_holds sight part) (part_mentions part) (λ table. part_fits table part) bit → IsGuard (λ sight. part_holds sight part) (part_mentions part) (Some bit)
+bit_guards part bit g = record { holds = g.holds; mentions = g.mentions }
+
+pub bit_fits : (part : Part) (bit : Ground) → IsBit (λ sight. part_holds sight part) (part_mentions part) (λ table. part_fits table part) bit → (table : Table) → part_fits table part ≡ true → is_condition table bit ≡ true
+bit_fits part bit g table a = ap some_unsigned (g.shape table a)
+
+-- no condition
+pub closed_none : (part : Part) → part.refused.items ≡ [] → part.accepted.items ≡ [] → IsGuard (λ sight. part_holds sight part) (part_mentions part) None
+closed_none part r a = record {
+  holds = λ sight. ap₂ (λ xs ys. true) r a ∙ sym (ap₂ (λ xs ys. none_hold sight xs && all_hold sight ys) r a);
+  mentions = same_of (sym (ap₂ (λ xs ys. joined (map mentions xs) ++ joined (map mentions ys)) r a));
+}
+
+pub empty_list : {A : Type 0} (xs : List A) → length xs ≡ 0 → xs ≡ []
+empty_list [] n = refl
+empty_list (x ∷ xs) n = absurd (omega (arith, n))
+
+-- one condition
+only_one : (all left : List Ground) (o : Option Ground) → all ≡ left ++ option_to_list o → length all ≡ 1 → IsSome o
+    → (g : Ground) × (o ≡ Some g) × (all ≡ g ∷ [])
+only_one all [] (Some g) e n v = (g, refl, e)
+only_one all (x ∷ xs) (Some g) e n v = absurd (omega (arith, n, ap length e, length-append xs (g ∷ [])))
+only_one all left None e n v = absurd (true≢false (sym v))
+
+pub closed_one : (part : Part) (left : List Ground) (o : Option Ground) → part.refused.items ≡ [] → part.accepted.items ≡ left ++ option_to_list o → length part.accepted.items ≡ 1
+    → IsSome o
+    → IsGuard (λ sight. part_holds sight part) (part_mentions part) o × ((table : Table) → part_fits table part ≡ true → guard_fits table o ≡ true)
+closed_one part left o r e n v = told (only_one part.accepted.items left o e n v)
+  where
+    told : (g : Ground) × (o ≡ Some g) × (part.accepted.items ≡ g ∷ [])
+        → IsGuard (λ sight. part_holds sight part) (part_mentions part) o × ((table : Table) → part_fits table part ≡ true → guard_fits table o ≡ true)
+    told (g, is, one) = (
+      record {
+        holds = λ sight. ap (guard_holds sight) is ∙ (and_true (is_one (value g sight)) ∙ sym (ap₂ (λ xs ys. none_hold sight xs && all_hold sight ys) r one));
+        mentions = same_of (ap guard_mentions is ∙ (sym (append-nil (mentions g)) ∙ sym (ap₂ (λ xs ys. joined (map mentions xs) ++ joined (map mentions ys)) r one)));
+      },
+      λ table a. ap (guard_fits table) is ∙ left_true (is_condition table g) _ (sym (ap₂ (λ xs ys. list_all (is_condition table) xs && list_all (is_condition table) ys) r one) ∙ a),
+    )
 
 -- conditions that are taken from the end
 pub taken_from_end : {A : Type 0} (all left now done : List A) (one : A) → left ≡ now ++ one ∷ [] → all ≡ left ++ done → all ≡ now ++ (one ∷ done)
 taken_from_end all left now done one e a = a ∙ (ap (λ xs. xs ++ done) e ∙ append_assoc now (one ∷ []) done)
 
--- nothing but a guard
-pub part_closed : (when : Sight → Bool) (leaves : List ℕ) (guard : Ground) (part : Part) → part.refused.items ≡ [] → part.rest ≡ Some guard → IsGuard when leaves (Some guard) → IsPart when leaves part
-part_closed when leaves guard part e r g = record {
-  holds = λ sight. ap (λ xs. none_hold sight xs && guard_holds sight part.rest) e ∙ (ap (guard_holds sight) r ∙ g.holds sight);
-  mentions = same_through (same_of (ap (λ xs. joined (map mentions xs) ++ guard_mentions part.rest) e ∙ ap guard_mentions r)) g.mentions;
-}
-
 -- a condition more that is not to hold
-pub part_refused : (old new : Part) (condition : Ground) → new.refused.items ≡ old.refused.items ++ condition ∷ [] → new.rest ≡ old.rest
+pub part_refused : (old new : Part) (condition : Ground) → new.refused.items ≡ old.refused.items ++ condition ∷ [] → new.accepted.items ≡ old.accepted.items
     → IsPart (λ sight. part_holds sight old && meets sight false condition) (part_mentions old ++ mentions condition) new
 part_refused old new condition e r = record {
-  holds = λ sight. ap (λ xs. none_hold sight xs && guard_holds sight new.rest) e
-      ∙ (ap (λ b. b && guard_holds sight new.rest) (list_all-append (λ g. not (is_one (value g sight))) old.refused.items (condition ∷ []))
-      ∙ (and_swap (none_hold sight old.refused.items) (not (is_one (value condition sight))) (guard_holds sight new.rest)
-      ∙ ap (λ o. (none_hold sight old.refused.items && guard_holds sight o) && not (is_one (value condition sight))) r));
-  mentions = same_through (same_of (ap (λ xs. joined (map mentions xs) ++ guard_mentions new.rest) e
-      ∙ (ap (λ xs. xs ++ guard_mentions new.rest) (ap joined (map-append mentions old.refused.items (condition ∷ [])) ∙ flat_map-append (λ l. l) (map mentions old.refused.items) (mentions condition ∷ []))
-      ∙ (append_assoc (joined (map mentions old.refused.items)) (mentions condition ++ []) (guard_mentions new.rest)
-      ∙ ap (λ xs. joined (map mentions old.refused.items) ++ xs) (ap (λ xs. xs ++ guard_mentions new.rest) (append-nil (mentions condition)) ∙ ap (λ o. mentions condition ++ guard_mentions o) r)))))
-      (same_through (same_append (same (joined (map mentions old.refused.items))) (swapped (mentions condition) (guard_mentions old.rest)))
-      (same_of (sym (append_assoc (joined (map mentions old.refused.items)) (guard_mentions old.rest) (mentions condition)))));
+  holds = λ sight. ap₂ (λ xs ys. none_hold sight xs && all_hold sight ys) e r
+      ∙ (ap (λ b. b && all_hold sight old.accepted.items) (list_all-append (λ g. not (is_one (value g sight))) old.refused.items (condition ∷ []))
+      ∙ and_swap (none_hold sight old.refused.items) (not (is_one (value condition sight))) (all_hold sight old.accepted.items));
+  mentions = same_through (same_of (ap₂ (λ xs ys. joined (map mentions xs) ++ joined (map mentions ys)) e r
+      ∙ (ap (λ xs. xs ++ joined (map mentions old.accepted.items)) (joined-push old.refused.items condition)
+      ∙ append_assoc (joined (map mentions old.refused.items)) (mentions condition) (joined (map mentions old.accepted.items)))))
+      (same_through (same_append (same (joined (map mentions old.refused.items))) (swapped (mentions condition) (joined (map mentions old.accepted.items))))
+      (same_of (sym (append_assoc (joined (map mentions old.refused.items)) (joined (map mentions old.accepted.items)) (mentions condition)))));
 }
+
+-- a condition more that is to hold
+pub part_accepted : (old new : Part) (condition : Ground) → new.refused.items ≡ old.refused.items → new.accepted.items ≡ old.accepted.items ++ condition ∷ []
+    → IsPart (λ sight. part_holds sight old && meets sight true condition) (part_mentions old ++ mentions condition) new
+part_accepted old new condition r e = record {
+  holds = λ sight. ap₂ (λ xs ys. none_hold sight xs && all_hold sight ys) r e
+      ∙ (ap (λ b. none_hold sight old.refused.items && b) (list_all-append (λ g. is_one (value g sight)) old.accepted.items (condition ∷ []))
+      ∙ and_last (none_hold sight old.refused.items) (is_one (value condition sight)) (all_hold sight old.accepted.items));
+  mentions = same_of (ap₂ (λ xs ys. joined (map mentions xs) ++ joined (map mentions ys)) r e
+      ∙ (ap (λ xs. joined (map mentions old.refused.items) ++ xs) (joined-push old.accepted.items condition)
+      ∙ sym (append_assoc (joined (map mentions old.refused.items)) (joined (map mentions old.accepted.items)) (mentions condition))));
+}
+
+pub refused_fits : (table : Table) (old new : Part) (condition : Ground) → new.refused.items ≡ old.refused.items ++ condition ∷ [] → new.accepted.items ≡ old.accepted.items
+    → part_fits table old ≡ true → is_condition table condition ≡ true → part_fits table new ≡ true
+refused_fits table old new condition e r a c = ap₂ (λ xs ys. list_all (is_condition table) xs && list_all (is_condition table) ys) e r
+    ∙ (ap (λ b. b && list_all (is_condition table) old.accepted.items) (list_all-append (is_condition table) old.refused.items (condition ∷ []))
+    ∙ (and_swap (list_all (is_condition table) old.refused.items) (is_condition table condition) (list_all (is_condition table) old.accepted.items) ∙ all_true _ _ a c))
+
+pub accepted_fits : (table : Table) (old new : Part) (condition : Ground) → new.refused.items ≡ old.refused.items → new.accepted.items ≡ old.accepted.items ++ condition ∷ []
+    → part_fits table old ≡ true → is_condition table condition ≡ true → part_fits table new ≡ true
+accepted_fits table old new condition r e a c = ap₂ (λ xs ys. list_all (is_condition table) xs && list_all (is_condition table) ys) r e
+    ∙ (ap (λ b. list_all (is_condition table) old.refused.items && b) (list_all-append (is_condition table) old.accepted.items (condition ∷ []))
+    ∙ (and_last (list_all (is_condition table) old.refused.items) (is_condition table condition) (list_all (is_condition table) old.accepted.items) ∙ all_true _ _ a c))
 
 -- what is asked of the leaf, and what isn't
 pub asked_yes : (leaf : ℕ) (part next : Part) (one : Asked) → leaf < one.first
@@ -129,13 +283,6 @@ asked_no leaf part one above =
     (sym (ge_test leaf one.first above)) (record { holds = λ sight. and_true (part_holds sight part); mentions = same_of (sym (append-nil (part_mentions part))) })
 
 -- a guard with one thing more
-pub guard_more : (when more : Sight → Bool) (leaves others : List ℕ) (guard next : Option Ground) → IsGuard when leaves guard
-    → IsGuard (λ sight. guard_holds sight guard && more sight) (guard_mentions guard ++ others) next → IsGuard (λ sight. when sight && more sight) (leaves ++ others) next
-guard_more when more leaves others guard next g n = record {
-  holds = λ sight. n.holds sight ∙ ap (λ b. b && more sight) (g.holds sight);
-  mentions = same_through n.mentions (same_append g.mentions (same others));
-}
-
 pub part_more : (when more : Sight → Bool) (leaves others : List ℕ) (part next : Part) → IsPart when leaves part
     → IsPart (λ sight. part_holds sight part && more sight) (part_mentions part ++ others) next → IsPart (λ sight. when sight && more sight) (leaves ++ others) next
 part_more when more leaves others part next g n = record {
@@ -170,40 +317,52 @@ asked_more leaf part next asked k one below is g n =
     } in
     subst (λ xs. IsPart (λ sight. crossed sight leaf xs) (crossed_mentions leaf xs) next) (sym grown) pushed
 
-all_taken : (asked : List Asked) (k : ℕ) → length asked ≤ k → take k asked ≡ asked
-all_taken asked k h = sym (append-nil (take k asked)) ∙ (ap (λ d. take k asked ++ d) (sym (drop_of_length-le asked h)) ∙ take-append-drop k asked)
+-- a list's test, one item longer
+pub tests_more : {A : Type 0} (test : A → Bool) (xs : List A) (k : ℕ) (x : A) → k < length xs → x ≡ get_or xs k x → list_all test (take (k + 1) xs) ≡ true
+    → (list_all test (take k xs) ≡ true) × (test x ≡ true)
+tests_more test xs k x below is a =
+    let grown : take (k + 1) xs ≡ take k xs ++ x ∷ [] = take_more xs k x below ∙ ap (λ y. take k xs ++ y ∷ []) (sym is) in
+    let both : (list_all test (take k xs) && (test x && true)) ≡ true = sym (list_all-append test (take k xs) (x ∷ [])) ∙ (ap (list_all test) (sym grown) ∙ a) in
+    (left_true _ _ both, left_true (test x) true (right_true (list_all test (take k xs)) _ both))
+
+pub all_taken : {A : Type 0} (xs : List A) (k : ℕ) → length xs ≤ k → take k xs ≡ xs
+all_taken xs k h = sym (append-nil (take k xs)) ∙ (ap (λ d. take k xs ++ d) (sym (drop_of_length-le xs h)) ∙ take-append-drop k xs)
 
 -- the guard before any condition of the connect's own
-pub conditions_none : (leaf : ℕ) (asked : List Asked) (k : ℕ) (part : Part) (guard : Option Ground) → length asked ≤ k
+pub conditions_none : (leaf : ℕ) (asked : List Asked) (k : ℕ) (part : Part) → length asked ≤ k
     → IsPart (λ sight. crossed sight leaf (take k asked)) (crossed_mentions leaf (take k asked)) part
-    → IsGuard (λ sight. part_holds sight part) (part_mentions part) guard
-    → IsGuard (λ sight. crossed sight leaf asked && all_hold sight []) (crossed_mentions leaf asked ++ joined (map mentions [])) guard
-conditions_none leaf asked k part guard h p g =
-    let told = guard_told _ _ part guard (subst (λ xs. IsPart (λ sight. crossed sight leaf xs) (crossed_mentions leaf xs) part) (all_taken asked k h) p) g in record {
+    → IsPart (λ sight. crossed sight leaf asked && all_hold sight []) (crossed_mentions leaf asked ++ joined (map mentions [])) part
+conditions_none leaf asked k part h p =
+    let told = subst (λ xs. IsPart (λ sight. crossed sight leaf xs) (crossed_mentions leaf xs) part) (all_taken asked k h) p in record {
       holds = λ sight. told.holds sight ∙ and_true (crossed sight leaf asked);
       mentions = same_through told.mentions (same_of (sym (append-nil (crossed_mentions leaf asked))));
     }
 
-pub condition_more : (when : Sight → Bool) (leaves : List ℕ) (guard : Option Ground) (next : Ground) (conditions : List Ground) (k : ℕ) (one : Ground) → k < length conditions → one ≡ get_or conditions k one
-    → IsGuard (λ sight. when sight && all_hold sight (take k conditions)) (leaves ++ joined (map mentions (take k conditions))) guard
-    → IsGuard (λ sight. guard_holds sight guard && meets sight true one) (guard_mentions guard ++ mentions one) (Some next)
-    → IsGuard (λ sight. when sight && all_hold sight (take (k + 1) conditions)) (leaves ++ joined (map mentions (take (k + 1) conditions))) (Some next)
-condition_more when leaves guard next conditions k one below is g n =
+-- and behind them all
+pub conditions_all : (leaf : ℕ) (asked : List Asked) (conditions : List Ground) (k : ℕ) (part : Part) (guard : Option Ground) → length conditions ≤ k
+    → IsPart (λ sight. crossed sight leaf asked && all_hold sight (take k conditions)) (crossed_mentions leaf asked ++ joined (map mentions (take k conditions))) part
+    → IsGuard (λ sight. part_holds sight part) (part_mentions part) guard
+    → IsGuard (λ sight. crossed sight leaf asked && all_hold sight conditions) (crossed_mentions leaf asked ++ joined (map mentions conditions)) guard
+conditions_all leaf asked conditions k part guard h p g =
+    guard_told _ _ part guard (subst (λ xs. IsPart (λ sight. crossed sight leaf asked && all_hold sight xs) (crossed_mentions leaf asked ++ joined (map mentions xs)) part) (all_taken conditions k h) p) g
+
+pub condition_more : (when : Sight → Bool) (leaves : List ℕ) (part next : Part) (conditions : List Ground) (k : ℕ) (one : Ground) → k < length conditions → one ≡ get_or conditions k one
+    → IsPart (λ sight. when sight && all_hold sight (take k conditions)) (leaves ++ joined (map mentions (take k conditions))) part
+    → IsPart (λ sight. part_holds sight part && meets sight true one) (part_mentions part ++ mentions one) next
+    → IsPart (λ sight. when sight && all_hold sight (take (k + 1) conditions)) (leaves ++ joined (map mentions (take (k + 1) conditions))) next
+condition_more when leaves part next conditions k one below is g n =
     let grown : take (k + 1) conditions ≡ take k conditions ++ one ∷ [] = take_more conditions k one below ∙ ap (λ x. take k conditions ++ x ∷ []) (sym is) in
-    let both = guard_more (λ sight. when sight && all_hold sight (take k conditions)) (λ sight. meets sight true one) (leaves ++ joined (map mentions (take k conditions))) (mentions one) guard (Some next) g n in
-    let pushed : IsGuard (λ sight. when sight && all_hold sight (take k conditions ++ one ∷ [])) (leaves ++ joined (map mentions (take k conditions ++ one ∷ []))) (Some next) = record {
+    let both = part_more (λ sight. when sight && all_hold sight (take k conditions)) (λ sight. meets sight true one) (leaves ++ joined (map mentions (take k conditions))) (mentions one) part next g n in
+    let pushed : IsPart (λ sight. when sight && all_hold sight (take k conditions ++ one ∷ [])) (leaves ++ joined (map mentions (take k conditions ++ one ∷ []))) next = record {
       holds = λ sight. both.holds sight ∙ (regroup (when sight) (all_hold sight (take k conditions)) (is_one (value one sight))
           ∙ ap (λ b. when sight && b) (sym (list_all-append (λ g. is_one (value g sight)) (take k conditions) (one ∷ []))));
-      mentions = same_through both.mentions (same_of (regroup_leaves (joined (map mentions (take k conditions))) (mentions one)
-          ∙ ap (λ xs. leaves ++ xs) (sym (ap joined (map-append mentions (take k conditions) (one ∷ [])) ∙ flat_map-append (λ l. l) (map mentions (take k conditions)) (mentions one ∷ [])))));
+      mentions = same_through both.mentions (same_of (append_assoc leaves (joined (map mentions (take k conditions))) (mentions one)
+          ∙ ap (λ xs. leaves ++ xs) (sym (joined-push (take k conditions) one))));
     } in
-    subst (λ xs. IsGuard (λ sight. when sight && all_hold sight xs) (leaves ++ joined (map mentions xs)) (Some next)) (sym grown) pushed
+    subst (λ xs. IsPart (λ sight. when sight && all_hold sight xs) (leaves ++ joined (map mentions xs)) next) (sym grown) pushed
   where
     regroup : (a b c : Bool) → ((a && b) && c) ≡ (a && (b && (c && true)))
     regroup true true true = refl
     regroup true true false = refl
     regroup true false c = refl
     regroup false b c = refl
-
-    regroup_leaves : (xs ys : List ℕ) → (leaves ++ xs) ++ ys ≡ leaves ++ (xs ++ (ys ++ []))
-    regroup_leaves xs ys = grind (arith, common_steps, append-nil)

@@ -1,3 +1,4 @@
+pub mod Tests
 pub mod Members
 pub mod Layers
 pub mod Covers
@@ -6,6 +7,6 @@ pub mod Making
 pub mod Blocks
 pub mod Arms
 pub mod Connects
-pub mod Sources
+pub mod ShapedWays
 pub mod Choices
 pub mod Modules

@@ -13,32 +13,37 @@ use Rattle.ground_net.specs.declared.circuit.DrivenCircuit.{DrivenCircuit}
 use Rattle.ground_net.specs.Grounds.{Sight, value, mentions, joined}
 use Rattle.ground_net.specs.Statements.{drives, live}
 use Rattle.expand_whens.specs.declared.guard.Way.{Way}
-use Rattle.expand_whens.specs.Shapes.{has_shape, sources}
-use Rattle.expand_whens.specs.Ways.{outcome, ways_mentions}
+use Rattle.net_meaning.specs.Shapes.{Table, Shape, shaped, shape as shape_in}
+use Rattle.expand_whens.specs.Shapes.{is_shaped}
+use Rattle.expand_whens.specs.Ways.{outcome, ways_mentions, way_fits}
+
+-- The kind and the width of a leaf.
+abbrev pub leaf_shape : GroundLeaf → Shape
+leaf_shape leaf = shaped leaf.kind leaf.width
 
 -- The driver of leaf x of a module has, whatever is seen, what the statements leave in the leaf; where they leave nothing a register
--- has its own value. It mentions what the leaf's live connects do, and a register may mention itself besides. What its choices
--- pick from has the leaf's kind and width, where the sources of the leaf's connects have.
-pub record IsDriver (leaves : List GroundLeaf) (leaf : GroundLeaf) (x : ℕ) (body : List GroundStmt) (driver : Ground) : Type 0 where
+-- has its own value. It mentions what the leaf's live connects do, and a register may mention itself besides. It has the
+-- leaf's kind and width, where the sources of the statements have those of the leaves that they set and conditions are UInts.
+pub record IsDriver (leaf : GroundLeaf) (x : ℕ) (body : List GroundStmt) (driver : Ground) : Type 0 where
   pub has : (sight : Sight) (v : Value) → drives sight x body ≡ Some v → value driver sight ≡ v
   pub keeps : leaf.role ≡ Register → (sight : Sight) → drives sight x body ≡ None → value driver sight ≡ sight.leaf x
   pub reads : (y : ℕ) → Contains (mentions driver) y → Contains (joined (live x body)) y ⊎ ((leaf.role ≡ Register) × (y ≡ x))
   pub all : (y : ℕ) → Contains (joined (live x body)) y → Contains (mentions driver) y
-  pub shaped : list_all (has_shape leaves leaf.kind leaf.width) (sources x body) ≡ true → has_shape leaves leaf.kind leaf.width driver ≡ true
+  pub shape : (table : Table) → is_shaped table body ≡ true → table.leaf x ≡ Some (leaf_shape leaf) → shape_in driver table ≡ Some (leaf_shape leaf)
 
 -- A leaf without a driver is never left anything, and has no live connect.
 pub record IsUndriven (x : ℕ) (body : List GroundStmt) : Type 0 where
   pub never : (sight : Sight) → drives sight x body ≡ None
   pub all : (y : ℕ) → Contains (joined (live x body)) y → ⊥
 
-abbrev pub Drives : List GroundLeaf → GroundLeaf → ℕ → List GroundStmt → Option Ground → Type 0
-Drives leaves leaf x body (Some driver) = IsDriver leaves leaf x body driver
-Drives leaves leaf x body None = IsUndriven x body
+abbrev pub Drives : GroundLeaf → ℕ → List GroundStmt → Option Ground → Type 0
+Drives leaf x body (Some driver) = IsDriver leaf x body driver
+Drives leaf x body None = IsUndriven x body
 
 -- There is one driver, or none, for each leaf of a module.
 pub record HasDrivers (leaves : List GroundLeaf) (body : List GroundStmt) (drivers : List (Option Ground)) : Type 0 where
   pub counted : length drivers ≡ length leaves
-  pub each : (x : ℕ) (leaf : GroundLeaf) (driver : Option Ground) → slice_get leaves x ≡ Some leaf → slice_get drivers x ≡ Some driver → Drives leaves leaf x body driver
+  pub each : (x : ℕ) (leaf : GroundLeaf) (driver : Option Ground) → slice_get leaves x ≡ Some leaf → slice_get drivers x ≡ Some driver → Drives leaf x body driver
 
 -- A module with drivers in place of its statements, and all else as it was.
 pub record IsExpandedModule (ground : GroundModule) (driven : DrivenModule) : Type 0 where
@@ -59,7 +64,7 @@ pub record IsExpanded (ground : GroundCircuit) (driven : DrivenCircuit) : Type 0
 pub record IsRest (leaf : GroundLeaf) (x : ℕ) (rest : Ground) : Type 0 where
   pub keeps : leaf.role ≡ Register → (sight : Sight) → value rest sight ≡ sight.leaf x
   pub reads : (y : ℕ) → Contains (mentions rest) y → (leaf.role ≡ Register) × (y ≡ x)
-  pub shaped : (leaves : List GroundLeaf) → slice_get leaves x ≡ Some leaf → has_shape leaves leaf.kind leaf.width rest ≡ true
+  pub shape : (table : Table) → table.leaf x ≡ Some (leaf_shape leaf) → shape_in rest table ≡ Some (leaf_shape leaf)
 
 -- The driver has what the first way has whose guard holds, or else what the leaf has where nothing is driven, and mentions what
 -- the ways do.
@@ -69,8 +74,7 @@ pub record IsChoice (leaf : GroundLeaf) (x : ℕ) (ways : List Way) (driver : Gr
   pub keeps : leaf.role ≡ Register → (sight : Sight) → outcome sight ways None ≡ None → rest sight ≡ sight.leaf x
   pub reads : (y : ℕ) → Contains (mentions driver) y → Contains (ways_mentions ways) y ⊎ ((leaf.role ≡ Register) × (y ≡ x))
   pub all : (y : ℕ) → Contains (ways_mentions ways) y → Contains (mentions driver) y
-  pub shaped : (leaves : List GroundLeaf) → slice_get leaves x ≡ Some leaf → list_all (λ way. has_shape leaves leaf.kind leaf.width way.source) ways ≡ true
-      → has_shape leaves leaf.kind leaf.width driver ≡ true
+  pub shape : (table : Table) → list_all (way_fits table x) ways ≡ true → table.leaf x ≡ Some (leaf_shape leaf) → shape_in driver table ≡ Some (leaf_shape leaf)
 
 abbrev pub Chooses : GroundLeaf → ℕ → List Way → Option Ground → Type 0
 Chooses leaf x ways (Some driver) = IsChoice leaf x ways driver

@@ -10,8 +10,9 @@ use Rattle.ground_net.specs.Grounds.{Sight, joined}
 use Rattle.ground_net.specs.Statements.{Effect, in_turn, first_holding, all_arms, effect, of_stmt, of_arm, Driving, DrivingArm, driving_of, driving_arm_of, crossing, through_arms, live, is_certain}
 use Rattle.expand_whens.specs.declared.guard.Asked.{Asked}
 use Rattle.expand_whens.specs.declared.guard.Way.{Way}
-use Rattle.expand_whens.specs.Shapes.{sources_in, arm_sources_in, together, sources}
-use Rattle.expand_whens.specs.Ways.{Same, crossed, crossed_mentions, outcome, ways_mentions}
+use Rattle.net_meaning.specs.Shapes.{Table}
+use Rattle.expand_whens.specs.Shapes.{is_shaped, are_shaped}
+use Rattle.expand_whens.specs.Ways.{asked_fits, way_fits, Same, crossed, crossed_mentions, outcome, ways_mentions}
 
 -- what statements make of the value that was set before them
 abbrev pub block_effect : Sight → ℕ → List GroundStmt → Effect
@@ -86,19 +87,16 @@ abbrev pub ArmsWalk : List Asked → ℕ → List GroundArm → List GroundStmt 
 ArmsWalk asked first arms other covered old new newly =
     Walks asked (λ sight leaf. arms_effect sight leaf first arms other) (λ leaf. arms_live leaf first arms other) (λ leaf. arms_certain leaf arms other) covered old new newly
 
-abbrev pub arm_sources : ℕ → GroundArm → List Ground
-arm_sources leaf = fold-GroundArm (List Ground) (List Ground) (sources_in leaf) (arm_sources_in leaf)
+-- The ways after a walk through statements that are shaped are shaped, where those before it are and what is asked are UInts.
+pub record Shapes (asked : List Asked) (passes : Table → Bool) (old new : List (Vec Way)) : Type 0 where
+  pub each : (table : Table) → list_all (asked_fits table) asked ≡ true → passes table ≡ true → (leaf : ℕ) → list_all (way_fits table leaf) (ways_at old leaf) ≡ true
+      → list_all (way_fits table leaf) (ways_at new leaf) ≡ true
 
--- The ways after a walk have the sources of those before it and these ones.
-pub record Sourced (added : ℕ → List Ground) (old new : List (Vec Way)) : Type 0 where
-  pub each : (leaf : ℕ) (test : Ground → Bool) → list_all test (added leaf) ≡ true → list_all (λ way. test way.source) (ways_at old leaf) ≡ true
-      → list_all (λ way. test way.source) (ways_at new leaf) ≡ true
+abbrev pub BlockShapes : List Asked → List GroundStmt → List (Vec Way) → List (Vec Way) → Type 0
+BlockShapes asked block = Shapes asked (λ table. is_shaped table block)
 
-abbrev pub BlockSourced : List GroundStmt → List (Vec Way) → List (Vec Way) → Type 0
-BlockSourced block = Sourced (λ leaf. sources leaf block)
-
-abbrev pub ArmsSourced : List GroundArm → List (Vec Way) → List (Vec Way) → Type 0
-ArmsSourced arms = Sourced (λ leaf. together (map (arm_sources leaf) arms))
+abbrev pub ArmsShapes : List Asked → List GroundArm → List (Vec Way) → List (Vec Way) → Type 0
+ArmsShapes asked arms = Shapes asked (λ table. are_shaped table arms)
 
 -- The leaves of a list are marked, and the others are as they were.
 pub record Marks (leaves : List ℕ) (to : Bool) (old new : List Bool) : Type 0 where

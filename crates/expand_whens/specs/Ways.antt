@@ -6,6 +6,10 @@ use Rattle.ground_net.specs.declared.ground.Ground.{Ground}
 use Rattle.ground_net.specs.declared.circuit.GroundArm.{GroundArm}
 use Rattle.ground_net.specs.Grounds.{Sight, value, mentions, joined}
 use Rattle.cycle_values.specs.Values.{is_one}
+use Rattle.ground_net.specs.Statements.{all_hold}
+use Rattle.bit_words.specs.declared.value.Kind.TheVariants.{Unsigned}
+use Rattle.net_meaning.specs.Shapes.{Table, shaped, shape as shape_in}
+use Rattle.expand_whens.specs.Shapes.{is_condition, is_source}
 use Rattle.expand_whens.specs.declared.guard.Asked.{Asked}
 use Rattle.expand_whens.specs.declared.guard.Part.{Part}
 use Rattle.expand_whens.specs.declared.guard.Way.{Way}
@@ -63,10 +67,32 @@ abbrev pub none_hold : Sight → List Ground → Bool
 none_hold sight = list_all (λ g. not (is_one (value g sight)))
 
 abbrev pub part_holds : Sight → Part → Bool
-part_holds sight p = none_hold sight p.refused.items && guard_holds sight p.rest
+part_holds sight p = none_hold sight p.refused.items && all_hold sight p.accepted.items
 
 abbrev pub part_mentions : Part → List ℕ
-part_mentions p = joined (map mentions p.refused.items) ++ guard_mentions p.rest
+part_mentions p = joined (map mentions p.refused.items) ++ joined (map mentions p.accepted.items)
+
+-- conditions that are UInts
+
+abbrev pub part_fits : Table → Part → Bool
+part_fits table p = list_all (is_condition table) p.refused.items && list_all (is_condition table) p.accepted.items
+
+abbrev pub asked_fits : Table → Asked → Bool
+asked_fits table a = is_condition table a.condition
+
+abbrev pub guard_fits : Table → Option Ground → Bool
+guard_fits table None = true
+guard_fits table (Some g) = is_condition table g
+
+-- the guard is a UInt, and the source has the kind and the width of the leaf
+abbrev pub way_fits : Table → ℕ → Way → Bool
+way_fits table leaf w = guard_fits table w.guard && is_source table leaf w.source
+
+-- A bit that is 1 where this holds.
+pub record IsBit (when : Sight → Bool) (mentioned : List ℕ) (passes : Table → Bool) (bit : Ground) : Type 0 where
+  pub holds : (sight : Sight) → is_one (value bit sight) ≡ when sight
+  pub mentions : Same (mentions bit) mentioned
+  pub shape : (table : Table) → passes table ≡ true → shape_in bit table ≡ Some (shaped Unsigned 1)
 
 -- A guard that is being put together.
 pub record IsPart (when : Sight → Bool) (mentioned : List ℕ) (part : Part) : Type 0 where

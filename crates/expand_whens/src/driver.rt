@@ -6,8 +6,7 @@ ghost use Rattle.ground_net.specs.declared.ground.Ground.TheVariants.{Mux};
 ghost use Rattle.ground_net.specs.declared.circuit.GroundLeaf.{GroundLeaf as TheLeaf};
 ghost use Rattle.ground_net.specs.declared.circuit.GroundRole.TheVariants.{Register};
 ghost use Rattle.ground_net.specs.Grounds.{Sight, value, mentions};
-ghost use Rattle.bit_words.specs.declared.value.Kind.{Kind as TheKind};
-ghost use Rattle.expand_whens.specs.Shapes.{has_shape};
+ghost use Rattle.net_meaning.specs.Shapes.{Table, shape as shape_in};
 ghost use Rattle.expand_whens.specs.Walking.{ways_at};
 ghost use Rattle.expand_whens.specs.Expanding.{HasDrivers, Chooses, IsChoice, IsRest};
 
@@ -117,7 +116,7 @@ fn first_items(
 fn chosen_of(mut items: Vec<Ground>) -> Ground
     ensures value { (sight : Sight) → value result sight ≡ value (Mux (reverse items.items)) sight }
     ensures mentions { mentions result ≡ mentions (Mux (reverse items.items)) }
-    ensures shape { (leaves : List TheLeaf) (kind : TheKind) (width : ℕ) → has_shape leaves kind width result ≡ has_shape leaves kind width (Mux (reverse items.items)) }
+    ensures shape { (table : Table) → shape_in result table ≡ shape_in (Mux (reverse items.items)) table }
 {
     if items.len() == 1 {
         if let Some(only) = items.pop() {

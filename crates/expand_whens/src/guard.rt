@@ -1,11 +1,14 @@
 //! The condition under which a connect is made.
 
-ghost use Rattle.std.specs.Prelude.{◌≡◌, ◌<◌, ◌==◌, [], Some, None, ◌&&◌, ◌∷◌, ◌++◌, IfOk, OnOk, map, reverse, true, false, if◌then◌else◌};
-ghost use Rattle.ground_net.specs.declared.ground.Ground.{Ground as TheGround};
-ghost use Rattle.ground_net.specs.Grounds.{Sight, value, mentions, joined};
+ghost use Rattle.std.specs.Prelude.{◌≡◌, ◌<◌, ◌==◌, [], Some, ◌&&◌, ◌∷◌, ◌++◌, IfOk, OnOk, map, reverse, true};
+ghost use Rattle.std.specs.List.{list_all};
+ghost use Rattle.bit_words.specs.declared.value.Kind.TheVariants.{Unsigned};
 ghost use Rattle.cycle_values.specs.Values.{is_one};
+ghost use Rattle.ground_net.specs.Grounds.{Sight, value, mentions, joined};
 ghost use Rattle.ground_net.specs.Statements.{all_hold};
-ghost use Rattle.expand_whens.specs.Ways.{guard_holds, guard_mentions, asked_mentions, is_met, meets, crossed, crossed_mentions, none_hold, part_holds, part_mentions, IsGuard, IsPart};
+ghost use Rattle.net_meaning.specs.Shapes.{Table, shaped, shape as shape_in};
+ghost use Rattle.expand_whens.specs.Shapes.{is_condition};
+ghost use Rattle.expand_whens.specs.Ways.{guard_holds, guard_mentions, guard_fits, asked_mentions, asked_fits, is_met, meets, crossed, crossed_mentions, none_hold, part_holds, part_mentions, part_fits, IsGuard, IsPart, IsBit};
 
 use bit_words::{Kind, List, Value};
 use ground_net::{Ground, copied};
@@ -27,11 +30,11 @@ pub struct Way {
     pub source: Ground,
 }
 
-/// A guard that is being put together: conditions none of which is to hold, and a guard that is to hold besides.
+/// A guard that is being put together: conditions that are not to hold, and conditions that are to.
 #[derive(Debug, Drop)]
 pub struct Part {
     pub refused: Vec<Ground>,
-    pub rest: Option<Ground>,
+    pub accepted: Vec<Ground>,
 }
 
 /// The condition of a connect of this leaf, which stands under these conditions, and has conditions of its own.
@@ -41,77 +44,94 @@ pub fn guard_of(
     asked: &[Asked],
     conditions: &[Ground],
 ) -> Result<Option<Ground>, AllocError>
-    ensures { IfOk result (λ guard. IsGuard (λ sight. crossed sight leaf asked.now && all_hold sight conditions.now)
+    ensures guard { IfOk result (λ guard. IsGuard (λ sight. crossed sight leaf asked.now && all_hold sight conditions.now)
         (crossed_mentions leaf asked.now ++ joined (map mentions conditions.now)) guard) }
+    ensures fits { IfOk result (λ guard. (table : Table) → list_all (asked_fits table) asked.now ≡ true → list_all (is_condition table) conditions.now ≡ true → guard_fits table guard ≡ true) }
 {
     let mut part = Part {
         refused: Vec::new(alloc),
-        rest: None,
+        accepted: Vec::new(alloc),
     };
     for one in asked {
         part = with_asked(alloc, part, leaf, one)?;
     }
-    let mut guard = closed(alloc, part)?;
     for condition in conditions {
-        let next = and_too(alloc, guard, copied(alloc, condition)?)?;
-        guard = Some(next);
+        part = with_one(part, copied(alloc, condition)?, true)?;
     }
+    let guard = closed(alloc, part)?;
     Ok(guard)
 }
 
 /// The guard so far, and what is asked of the leaf.
 fn with_asked(alloc: Global, part: Part, leaf: u32, one: &Asked) -> Result<Part, AllocError>
-    ensures { IfOk result (λ next. IsPart (λ sight. part_holds sight part && is_met sight leaf one.now) (part_mentions part ++ asked_mentions leaf one.now) next) }
+    ensures part { IfOk result (λ next. IsPart (λ sight. part_holds sight part && is_met sight leaf one.now) (part_mentions part ++ asked_mentions leaf one.now) next) }
+    ensures fits { IfOk result (λ next. (table : Table) → part_fits table part ≡ true → asked_fits table one.now ≡ true → part_fits table next ≡ true) }
 {
     if leaf < one.first {
         let condition = copied(alloc, &one.condition)?;
-        let next = with_one(alloc, part, condition, one.holds)?;
+        let next = with_one(part, condition, one.holds)?;
         return Ok(next);
     }
     Ok(part)
 }
 
 /// The guard so far, and that the condition holds, or doesn't.
-fn with_one(
-    alloc: Global,
-    mut part: Part,
-    condition: Ground,
-    holds: bool,
-) -> Result<Part, AllocError>
-    ensures { IfOk result (λ next. IsPart (λ sight. part_holds sight part && meets sight holds condition) (part_mentions part ++ mentions condition) next) }
+fn with_one(mut part: Part, condition: Ground, holds: bool) -> Result<Part, AllocError>
+    ensures part { IfOk result (λ next. IsPart (λ sight. part_holds sight part && meets sight holds condition) (part_mentions part ++ mentions condition) next) }
+    ensures fits { IfOk result (λ next. (table : Table) → part_fits table part ≡ true → is_condition table condition ≡ true → part_fits table next ≡ true) }
 {
     if holds {
-        let before = closed(alloc, part)?;
-        let rest = and_too(alloc, before, condition)?;
-        return Ok(Part {
-            refused: Vec::new(alloc),
-            rest: Some(rest),
-        });
+        part.accepted.push(condition)?;
+        return Ok(part);
     }
     part.refused.push(condition)?;
     Ok(part)
 }
 
-/// The guard so far as one: a choice of 0 behind each condition that is not to hold, and of the rest.
+/// The guard so far as one: nothing, the only condition, or a bit.
 fn closed(alloc: Global, part: Part) -> Result<Option<Ground>, AllocError>
-    ensures { IfOk result (λ guard. IsGuard (λ sight. part_holds sight part) (part_mentions part) guard) }
+    ensures guard { IfOk result (λ guard. IsGuard (λ sight. part_holds sight part) (part_mentions part) guard) }
+    ensures fits { IfOk result (λ guard. (table : Table) → part_fits table part ≡ true → guard_fits table guard ≡ true) }
 {
-    let Part { mut refused, rest } = part;
+    let Part {
+        refused,
+        mut accepted,
+    } = part;
     if refused.is_empty() {
-        return Ok(rest);
+        if accepted.is_empty() {
+            return Ok(None);
+        }
+        if accepted.len() == 1 {
+            return Ok(accepted.pop());
+        }
     }
-    let mut items = vec![in alloc; guard_item(rest)]?;
+    let mut guard = none_of(alloc, refused)?;
+    while let Some(condition) = accepted.pop() {
+        guard = choice(alloc, condition, guard)?;
+    }
+    Ok(Some(guard))
+}
+
+/// That none of the conditions holds: a choice of 0 behind each of them, and of 1.
+fn none_of(alloc: Global, mut refused: Vec<Ground>) -> Result<Ground, AllocError>
+    ensures { IfOk result (λ guard. IsBit (λ sight. none_hold sight refused.items) (joined (map mentions refused.items)) (λ table. list_all (is_condition table) refused.items) guard) }
+{
+    if refused.is_empty() {
+        return Ok(bit(1));
+    }
+    let mut items = vec![in alloc; bit(1)]?;
     while let Some(condition) = refused.pop() {
         push_pair(&mut items, condition, bit(0))?;
     }
     items.reverse();
-    Ok(Some(Ground::Mux(List::from_vec(items))))
+    Ok(Ground::Mux(List::from_vec(items)))
 }
 
 /// A condition that holds where the guard does.
 pub fn guard_item(guard: Option<Ground>) -> Ground
     ensures holds { (sight : Sight) → is_one (value result sight) ≡ guard_holds sight guard }
     ensures mentions { mentions result ≡ guard_mentions guard }
+    ensures fits { (table : Table) → guard_fits table guard ≡ true → is_condition table result ≡ true }
 {
     match guard {
         None => bit(1),
@@ -133,29 +153,13 @@ pub fn push_pair(
 }
 
 /// That the condition holds, and the guard.
-fn and_too(alloc: Global, guard: Option<Ground>, condition: Ground) -> Result<Ground, AllocError>
-    ensures { IfOk result (λ both. IsGuard (λ sight. guard_holds sight guard && meets sight true condition) (guard_mentions guard ++ mentions condition) (Some both)) }
+fn choice(alloc: Global, condition: Ground, guard: Ground) -> Result<Ground, AllocError>
+    ensures value { IfOk result (λ choice. (sight : Sight) → is_one (value choice sight) ≡ (is_one (value condition sight) && is_one (value guard sight))) }
+    ensures mentions { IfOk result (λ choice. mentions choice ≡ mentions condition ++ mentions guard) }
+    ensures shape { IfOk result (λ choice. (table : Table) → is_condition table condition ≡ true → shape_in guard table ≡ Some (shaped Unsigned 1) → shape_in choice table ≡ Some (shaped Unsigned 1)) }
 {
-    match guard {
-        None => Ok(condition),
-        Some(guard) => {
-            let both = choice(alloc, condition, guard, bit(0))?;
-            Ok(both)
-        }
-    }
-}
-
-/// The first where the condition is 1, and else the second.
-fn choice(
-    alloc: Global,
-    condition: Ground,
-    first: Ground,
-    second: Ground,
-) -> Result<Ground, AllocError>
-    ensures value { IfOk result (λ choice. (sight : Sight) → value choice sight ≡ if is_one (value condition sight) then value first sight else value second sight) }
-    ensures mentions { IfOk result (λ choice. mentions choice ≡ mentions condition ++ (mentions first ++ mentions second)) }
-{
-    Ok(Ground::Mux(List::from_vec(vec![in alloc; condition, first, second]?)))
+    let items = vec![in alloc; condition, guard, bit(0)]?;
+    Ok(Ground::Mux(List::from_vec(items)))
 }
 
 /// A bit.
@@ -163,6 +167,7 @@ pub fn bit(bits: u128) -> Ground
     requires { bits < 2 }
     ensures value { (sight : Sight) → is_one (value result sight) ≡ (bits == 1) }
     ensures mentions { mentions result ≡ [] }
+    ensures shape { (table : Table) → shape_in result table ≡ Some (shaped Unsigned 1) }
 {
     Ground::Const(Value {
         kind: Kind::Unsigned,

@@ -9,7 +9,7 @@ ghost use Rattle.ground_net.specs.declared.circuit.GroundStmt.{GroundStmt as The
 ghost use Rattle.expand_whens.specs.declared.guard.Asked.{Asked as TheAsked};
 ghost use Rattle.expand_whens.specs.declared.guard.Way.{Way as TheWay};
 ghost use Rattle.expand_whens.specs.Ways.{refusals, accepted};
-ghost use Rattle.expand_whens.specs.Walking.{BlockWalks, ArmsWalk, BlockSourced, ArmsSourced, has, is_alone, is_covered, is_marked, ways_at};
+ghost use Rattle.expand_whens.specs.Walking.{BlockWalks, ArmsWalk, BlockShapes, ArmsShapes, has, is_alone, is_covered, is_marked, ways_at};
 
 use crate::guard::{Asked, Way, guard_of};
 use crate::marks::mark;
@@ -29,7 +29,7 @@ pub fn walk_block(
     ensures asked { OnOk result (asked.new.items ≡ asked.old.items) }
     ensures covered { OnOk result (covered.new.items ≡ covered.old.items) }
     ensures walks { IfOk result (λ newly. BlockWalks asked.old.items block.now covered.old.items ways.old.items ways.new.items newly.items) }
-    ensures sourced { OnOk result (BlockSourced block.now ways.old.items ways.new.items) }
+    ensures shapes { OnOk result (BlockShapes asked.old.items block.now ways.old.items ways.new.items) }
 {
     let mut certain = Vec::new(alloc);
     let mut left = block.len();
@@ -55,7 +55,7 @@ fn walk_statement(
     ensures asked { OnOk result (asked.new.items ≡ asked.old.items) }
     ensures covered { OnOk result (covered.new.items ≡ covered.old.items) }
     ensures walks { IfOk result (λ newly. BlockWalks asked.old.items (statement.now ∷ []) covered.old.items ways.old.items ways.new.items newly.items) }
-    ensures sourced { OnOk result (BlockSourced (statement.now ∷ []) ways.old.items ways.new.items) }
+    ensures shapes { OnOk result (BlockShapes asked.old.items (statement.now ∷ []) ways.old.items ways.new.items) }
 {
     match statement {
         GroundStmt::Connect(leaf, conditions, source) => connect(
@@ -93,7 +93,7 @@ fn walk_arms(
     ensures covered { OnOk result (covered.new.items ≡ covered.old.items) }
     ensures walks { IfOk result (λ newly. (before : List TheAsked) (first : ℕ) (other : List TheStmt) (old : List (Vec TheWay)) → asked.old.items ≡ before ++ refusals first arms.now
         → BlockWalks asked.old.items other covered.old.items old ways.old.items certain.items → ArmsWalk before first arms.now other covered.old.items old ways.new.items newly.items) }
-    ensures sourced { OnOk result (ArmsSourced arms.now ways.old.items ways.new.items) }
+    ensures shapes { OnOk result ((before : List TheAsked) (first : ℕ) → asked.old.items ≡ before ++ refusals first arms.now → ArmsShapes before arms.now ways.old.items ways.new.items) }
 {
     let mut all = certain;
     let mut left = arms.len();
@@ -159,7 +159,7 @@ fn connect(
 ) -> Result<Vec<u32>, AllocError>
     requires { length covered.now ≡ length ways.old.items }
     ensures walks { IfOk result (λ newly. BlockWalks asked.now (GroundStmt.Connect leaf conditions.now source.now ∷ []) covered.now ways.old.items ways.new.items newly.items) }
-    ensures sourced { OnOk result (BlockSourced (GroundStmt.Connect leaf conditions.now source.now ∷ []) ways.old.items ways.new.items) }
+    ensures shapes { OnOk result (BlockShapes asked.now (GroundStmt.Connect leaf conditions.now source.now ∷ []) ways.old.items ways.new.items) }
 {
     if !is_uncovered(covered, leaf) {
         return Ok(Vec::new(alloc));

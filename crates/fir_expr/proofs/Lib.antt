@@ -20,3 +20,4 @@ pub mod LiteralIntegers
 pub mod LiteralBrackets
 pub mod LineTables
 mod Underway
+pub mod Ascii

@@ -3,7 +3,6 @@ use Rattle.std.proofs.Common.{◌≡◌, ℕ, ◌+◌, Bool, true, false, ◌&&�
 use Rattle.std.proofs.lemmas.Slice.Eq.{bytes_eq-Decides}
 use Rattle.bit_words.specs.declared.value.Kind.{Kind}
 use Rattle.prim_ops.specs.declared.operation.PrimOp.{PrimOp}
-use Rattle.prim_ops.specs.declared.operation.PrimOp.TheVariants.{Add, Sub, Mul, Div, Rem, Lt, Leq, Gt, Geq, Eq, Neq, Pad, AsUInt, AsSInt, Shl, Shr, Dshl, Dshr, Cvt, Neg, Not, And, Or, Xor, Andr, Orr, Xorr, Cat, Bits, Head, Tail}
 use Rattle.prim_ops.specs.Operations.{name_of}
 use Rattle.fir_lexer.specs.declared.token.Token.{Token}
 use Rattle.fir_lexer.specs.declared.token.TokenKind.{TokenKind}
@@ -11,7 +10,7 @@ use Rattle.fir_lexer.specs.declared.token.TokenKind.TheVariants as kind
 use Rattle.fir_layout.specs.declared.laid.Laid.{Laid}
 use Rattle.fir_layout.specs.declared.laid.Laid.TheVariants.{Item, LineEnd, Open, Close, End}
 use Rattle.fir_layout.specs.Pieces.{Piece, A_token, A_line_end, A_block_opens, A_block_closes, The_end, piece_of, pieces_of, bytes_of}
-use Rattle.fir_grammar.specs.Grammar.{The_word, The_call, The_mark, Takes, Expression, a_reference, a_component, an_operation, cut, takes_on, goes_into}
+use Rattle.fir_grammar.specs.Grammar.{The_word, The_call, The_mark, Takes, Expression, a_reference, a_component, cut, takes_on, goes_into}
 use Rattle.fir_grammar.proofs.Cases.{choose, Chosen, operation_in, operations}
 use Rattle.fir_grammar.proofs.ReadingLaws.{chosen_alone}
 use Rattle.fir_expr.specs.declared.literals.Head.{Head as TheHead}
@@ -20,40 +19,6 @@ use Rattle.fir_expr.specs.Parts.{StartsWith, GoesInto, kind_name, IsHeadAt}
 use Rattle.fir_expr.specs.LiteralHeads.{NamesNothing, IsHeadBefore, IsHeadOfCall}
 use Rattle.fir_expr.proofs.Composition.{enters_by_piece, enters_by_two, piece_at}
 use Rattle.fir_expr.proofs.Choices.{no_mark_first}
-
--- an operation is found by its name
-pub operation_chosen : (prim : PrimOp) (ps : List Piece) → choose Expression (A_token kind.Call (name_of prim ++ codes "(") ∷ ps) ≡ Some (_, an_operation prim)
-operation_chosen Add ps = refl
-operation_chosen Sub ps = refl
-operation_chosen Mul ps = refl
-operation_chosen Div ps = refl
-operation_chosen Rem ps = refl
-operation_chosen Lt ps = refl
-operation_chosen Leq ps = refl
-operation_chosen Gt ps = refl
-operation_chosen Geq ps = refl
-operation_chosen Eq ps = refl
-operation_chosen Neq ps = refl
-operation_chosen Pad ps = refl
-operation_chosen AsUInt ps = refl
-operation_chosen AsSInt ps = refl
-operation_chosen Shl ps = refl
-operation_chosen Shr ps = refl
-operation_chosen Dshl ps = refl
-operation_chosen Dshr ps = refl
-operation_chosen Cvt ps = refl
-operation_chosen Neg ps = refl
-operation_chosen Not ps = refl
-operation_chosen And ps = refl
-operation_chosen Or ps = refl
-operation_chosen Xor ps = refl
-operation_chosen Andr ps = refl
-operation_chosen Orr ps = refl
-operation_chosen Xorr ps = refl
-operation_chosen Cat ps = refl
-operation_chosen Bits ps = refl
-operation_chosen Head ps = refl
-operation_chosen Tail ps = refl
 
 -- a piece that goes on by no other case begins a reference
 

@@ -1,19 +1,19 @@
 -- Which case of a rule is chosen by the first pieces of operations and references.
-use Rattle.std.proofs.Common.{◌≡◌, ℕ, suc, ◌+◌, Bool, true, false, List, [], ◌∷◌, ◌++◌, codes, slice_get, Some, refl, arith, eqb, eqb→eq}
+use Rattle.std.proofs.Common.{◌≡◌, ℕ, suc, ◌+◌, true, false, List, [], ◌∷◌, codes, slice_get, Some, refl}
 use Rattle.std.proofs.Math.Path.{Path}
 use Rattle.fir_lexer.specs.declared.token.TokenKind.TheVariants as kind
 use Rattle.fir_layout.specs.declared.laid.Laid.{Laid}
 use Rattle.fir_layout.specs.Pieces.{Piece, A_token, piece_of, pieces_of}
 use Rattle.prim_ops.specs.declared.operation.PrimOp.{PrimOp}
-use Rattle.prim_ops.specs.declared.operation.PrimOp.TheVariants.{Add, Sub, Mul, Div, Rem, Lt, Leq, Gt, Geq, Eq, Neq, Pad, AsUInt, AsSInt, Shl, Shr, Dshl, Dshr, Cvt, Neg, Not, And, Or, Xor, Andr, Orr, Xorr, Cat, Bits, Head, Tail}
 use Rattle.prim_ops.specs.Operations.{name_of}
-use Rattle.fir_grammar.specs.Grammar.{The_call, The_mark, Takes, Its_place, Symbol, Is, A, Rule, IsCase, Derives, mark, Expression, Expressions, Reference, Suffixes, Front, cut, takes_on, goes_into, a_mux, an_operation, no_more_expressions, one_more_expression, a_component, no_suffix, a_field_suffix, an_element_suffix, an_index_suffix, name}
+use Rattle.fir_grammar.specs.Grammar.{The_call, The_mark, Takes, Its_place, Symbol, Is, A, IsCase, Derives, mark, Expression, Expressions, Reference, Suffixes, cut, takes_on, a_mux, an_operation, no_more_expressions, one_more_expression, a_component, no_suffix, a_field_suffix, an_element_suffix, an_index_suffix, name}
 use Rattle.fir_grammar.specs.Reading.{part, IsSettled}
-use Rattle.fir_grammar.proofs.Cases.{choose, starts_mark, starts_digits}
+use Rattle.fir_grammar.proofs.Cases.{choose, starts_digits, operation_chosen}
 use Rattle.fir_grammar.proofs.Empty.{empty_rule}
 use Rattle.fir_grammar.proofs.ReadingLaws.{Derives-taken, derived_chosen, chosen_alone, never_alone}
 use Rattle.fir_expr.specs.Parts.{StartsWith}
 use Rattle.fir_expr.specs.Operands.{IsDigits, HasDigits, HasNoDigits}
+use Rattle.fir_expr.proofs.Choices.{no_mark_first}
 use Rattle.fir_expr.proofs.Composition.{Enters, enters_by_piece, enters_by_two, enters_always, piece_at}
 
 none_case : (other : List Symbol) → IsCase (Expressions 0) other → Path (List Symbol) other []
@@ -34,42 +34,10 @@ enters_more pieces i n = enters_always pieces i (one_more_expression n) (more_ca
 pub enters_component : (pieces : List Piece) (i : ℕ) → Enters pieces i a_component
 enters_component pieces i = enters_always pieces i a_component component_case
 
--- an operation is found by its name
-prim_chosen : (prim : PrimOp) (ps : List Piece) → choose Expression (A_token kind.Call (name_of prim ++ codes "(") ∷ ps) ≡ Some (_, an_operation prim)
-prim_chosen Add ps = refl
-prim_chosen Sub ps = refl
-prim_chosen Mul ps = refl
-prim_chosen Div ps = refl
-prim_chosen Rem ps = refl
-prim_chosen Lt ps = refl
-prim_chosen Leq ps = refl
-prim_chosen Gt ps = refl
-prim_chosen Geq ps = refl
-prim_chosen Eq ps = refl
-prim_chosen Neq ps = refl
-prim_chosen Pad ps = refl
-prim_chosen AsUInt ps = refl
-prim_chosen AsSInt ps = refl
-prim_chosen Shl ps = refl
-prim_chosen Shr ps = refl
-prim_chosen Dshl ps = refl
-prim_chosen Dshr ps = refl
-prim_chosen Cvt ps = refl
-prim_chosen Neg ps = refl
-prim_chosen Not ps = refl
-prim_chosen And ps = refl
-prim_chosen Or ps = refl
-prim_chosen Xor ps = refl
-prim_chosen Andr ps = refl
-prim_chosen Orr ps = refl
-prim_chosen Xorr ps = refl
-prim_chosen Cat ps = refl
-prim_chosen Bits ps = refl
-prim_chosen Head ps = refl
-prim_chosen Tail ps = refl
+-- operations and `mux(`
 
 operation_piece : (prim : PrimOp) (p : Piece) → Takes (The_call (name_of prim)) p → (ps : List Piece) → choose Expression (p ∷ ps) ≡ Some (_, an_operation prim)
-operation_piece prim (A_token kind.Call bytes) same ps = rw same (prim_chosen prim ps)
+operation_piece prim (A_token kind.Call bytes) same ps = rw same (operation_chosen prim ps)
 operation_piece prim _ none ps = absurd none
 
 mux_piece : (p : Piece) → Takes (The_call (codes "mux")) p → (ps : List Piece) → choose Expression (p ∷ ps) ≡ Some (_, a_mux)
@@ -78,16 +46,8 @@ mux_piece _ none ps = absurd none
 
 -- suffixes
 
-unlike : (n m : ℕ) (b : Bool) → ¬ (n ≡ m) → eqb n m ≡ b → eqb n m ≡ false
-unlike n m true none e = absurd (none (eqb→eq n m (rw e tt)))
-unlike n m false none e = e
-
-no_such_mark : (m : ℕ) (p : Piece) (ps : List Piece) → ¬ (Takes (The_mark m) p) → starts_mark m (p ∷ ps) ≡ false
-no_such_mark m (A_token (kind.Mark n) bytes) ps none = unlike n m (eqb n m) none refl
-no_such_mark m _ ps none = refl
-
 no_suffix_piece : (p : Piece) → ¬ (Takes (The_mark 46) p) → ¬ (Takes (The_mark 91) p) → (ps : List Piece) → choose Suffixes (p ∷ ps) ≡ Some (_, no_suffix)
-no_suffix_piece p no_dot no_bracket ps = rw (no_such_mark 46 p ps no_dot, no_such_mark 91 p ps no_bracket) refl
+no_suffix_piece p no_dot no_bracket ps = rw (no_mark_first 46 p ps no_dot, no_mark_first 91 p ps no_bracket) refl
 
 field_piece : (p : Piece) → Takes (The_mark 46) p → (ps : List Piece) → choose Suffixes (p ∷ ps) ≡ Some (_, a_field_suffix)
 field_piece (A_token (kind.Mark n) bytes) same ps = rw same refl

@@ -1,23 +1,23 @@
 //! The reader and its calls.
 
-ghost use Rattle.std.specs.Prelude.{◌≡◌, ◌≤◌, ◌<◌, ◌+◌, ◌-◌, ◌^◌, [], length, IfOk, slice_get, Some};
+ghost use Rattle.std.specs.Prelude.{◌≡◌, ◌≤◌, ◌<◌, ◌+◌, ◌-◌, ◌^◌, [], length, IfOk, IfErr, IfSome, IfNone, OnOk, slice_get, Some};
 ghost use Rattle.fir_layout.specs.Pieces.{piece_of, pieces_of};
 ghost use Rattle.place_text.specs.Places.{place};
 ghost use Rattle.fir_layout.specs.declared.laid.Laid.{Laid as TheLaid};
-ghost use Rattle.fir_grammar.specs.Grammar.{Type_of, Expression, Reference, Terminal, Takes, start_of};
+ghost use Rattle.fir_grammar.specs.Grammar.{Type_of, Expression, Reference, Terminal, A_name, A_number, Takes, start_of};
 ghost use Rattle.fir_grammar.specs.Reading.{Reads as ReadsRule, ReadsLongest};
 ghost use Rattle.fir_expr.specs.LineStarts.{AreLines};
-ghost use Rattle.fir_expr.specs.Parts.{IsSource, IsNotTaken};
+ghost use Rattle.fir_expr.specs.Parts.{IsSource, IsNotTaken, IsNumberAt, IsNameAt};
 ghost use Rattle.fir_expr.specs.Standing.{IsLaidFrom, StandsIn, BeginsType, IsWhole, wanted};
 
 use crate::expressions::{expr, reference};
-use crate::take::{refusal_at, start};
+use crate::take::{number_at, refusal_at, start, take_name};
 use crate::text::{Text, lines_of};
 use crate::types::typ;
 use bit_words::List;
 use fir_layout::Laid;
 use fir_tree::{Expr, Names, ParseFault};
-use fir_types::FirType;
+use fir_types::{FirType, Name};
 use place_text::Place;
 use std::alloc::{AllocError, Global};
 
@@ -89,6 +89,35 @@ impl<'a> Reader<'a> {
     {
         let text = Text::new(self.bytes, self.lines.as_slice());
         refusal_at(&text, self.laid, self.at)
+    }
+
+    /// The number that stands at the reader's place, with its own place.
+    pub fn number_here(&self) -> Option<(Place, u128)>
+        requires { IsSource self.now.bytes.now self.now.laid.now }
+        ensures some { IfSome result (λ n. IsNumberAt self.now.bytes.now self.now.laid.now self.now.at n.0 n.1) }
+        ensures within { IfSome result (λ _. self.now.at < length self.now.laid.now) }
+        ensures none { IfNone result ((l : TheLaid) → slice_get self.now.laid.now self.now.at ≡ Some l → ¬ (Takes A_number (piece_of self.now.bytes.now l))) }
+    {
+        let text = Text::new(self.bytes, self.lines.as_slice());
+        number_at(&text, self.laid, self.at)
+    }
+
+    /// Takes the name at the reader's place, and moves behind it; its text is added to the names where it is new. After a
+    /// refusal the reader isn't used again.
+    pub fn take_name(&mut self) -> Result<Name, ParseFault>
+        requires source { IsSource self.old.bytes.now self.old.laid.now }
+        requires room { wanted self.old.names self.old.laid.now self.old.at < 2 ^ 32 - 1 }
+        ensures ok { IfOk result (λ name. IsNameAt A_name self.old.bytes.now self.old.laid.now self.old.at self.old.names name self.new.names) }
+        ensures err { IfErr result (λ fault. IsNotTaken A_name self.old.bytes.now self.old.laid.now self.old.at fault) }
+        ensures at { OnOk result (self.new.at ≡ self.old.at + 1) }
+        ensures bytes { self.new.bytes.now ≡ self.old.bytes.now }
+        ensures laid { self.new.laid.now ≡ self.old.laid.now }
+        ensures brackets { self.new.brackets ≡ self.old.brackets }
+    {
+        let text = Text::new(self.bytes, self.lines.as_slice());
+        let name = take_name(&text, self.laid, &mut self.names, self.at)?;
+        self.at += 1;
+        Ok(name)
     }
 }
 

@@ -24,13 +24,20 @@ use place_text::Place;
 /// How many brackets may be open, and how many `.` and `[` a reference or type may have.
 pub const MOST: u32 = 128;
 
+/// The part that stands at a place, where one does.
+fn standing(laid: &[Laid], at: usize) -> Option<Laid>
+    ensures { result ≡ slice_get laid.now at }
+{
+    laid.get(at).copied()
+}
+
 /// The part at a place. Behind the last one there is no token to name.
 pub fn part_at(laid: &[Laid], at: usize) -> Result<Laid, ParseFault>
     ensures ok { IfOk result (λ part. slice_get laid.now at ≡ Some part) }
     ensures within { IfOk result (λ _. at < length laid.now) }
     ensures err { IfErr result (λ fault. fault ≡ NoMemory) }
 {
-    laid.get(at).copied().ok_or(ParseFault::NoMemory)
+    standing(laid, at).ok_or(ParseFault::NoMemory)
 }
 
 /// The offset where a part begins.
@@ -268,18 +275,32 @@ pub fn open_bracket(
 }
 
 /// Takes a number. The answer has its place and its magnitude.
-#[tactic(auto, using(crate::proofs::Takes::not_taken_memory, crate::proofs::Sources::source_part, crate::proofs::Takes::number_here))]
 pub fn take_number(text: &Text, laid: &[Laid], at: usize) -> Result<(Place, u128), ParseFault>
     requires { IsSource text.now laid.now }
     ensures ok { IfOk result (λ n. IsNumberAt text.now laid.now at n.0 n.1) }
     ensures within { IfOk result (λ _. at < length laid.now) }
     ensures err { IfErr result (λ fault. IsNotTaken A_number text.now laid.now at fault) }
 {
-    let part = part_at(laid, at)?;
-    match magnitude(text, part) {
-        Some(magnitude) => Ok((place_of_part(text, part), magnitude)),
+    match number_at(text, laid, at) {
+        Some(number) => Ok(number),
         None => Err(refusal_at(text, laid, at)),
     }
+}
+
+/// The number that stands at a place, with its own place.
+pub fn number_at(text: &Text, laid: &[Laid], at: usize) -> Option<(Place, u128)>
+    requires { IsSource text.now laid.now }
+    ensures some { IfSome result (λ n. IsNumberAt text.now laid.now at n.0 n.1) }
+    ensures within { IfSome result (λ _. at < length laid.now) }
+    ensures none { IfNone result ((l : TheLaid) → slice_get laid.now at ≡ Some l → ¬ (Takes A_number (piece_of text.now l))) }
+{
+    let Some(part) = standing(laid, at) else {
+        return None;
+    };
+    let Some(magnitude) = magnitude(text, part) else {
+        return None;
+    };
+    Some((place_of_part(text, part), magnitude))
 }
 
 /// The magnitude of a part that is a number.
@@ -346,10 +367,11 @@ pub fn take_field(
     }
 }
 
-/// The name of a token, which is added to the names.
+/// The name of a token, which is added to the names. The bytes of names and digits are ASCII.
 fn add_name(text: &Text, names: &mut Names, token: Token) -> Result<Name, ParseFault>
     requires short { length text.now < 2 ^ 32 - 1 }
     requires inside { IsTokenIn text.now token }
+    requires named { Takes A_field (piece_of text.now (Laid.Item token)) }
     requires room { length names.old < 2 ^ 32 - 1 }
     ensures adds { IfOk result (λ name. AddsName names.old names.new (name_in token.kind (bytes_of text.now token)) name.id) }
     ensures place { IfOk result (λ name. name.place ≡ place text.now token.start) }
@@ -357,7 +379,7 @@ fn add_name(text: &Text, names: &mut Names, token: Token) -> Result<Name, ParseF
     ensures err { IfErr result (λ fault. fault ≡ NoMemory) }
 {
     let Ok(name) = std::str::from_utf8(name_text(text, token)) else {
-        return Err(ParseFault::NoMemory);
+        unreachable!()
     };
     let id = names.add(name)?;
     Ok(Name {

@@ -341,7 +341,7 @@ expression_digits ss ps _ a_wide_unsigned_literal d = ap starts_digits (word_fir
 expression_digits ss ps _ a_wide_signed_literal d = ap starts_digits (word_first d).is
 
 -- an operation is found by its name
-operation_chosen : (prim : PrimOp) (ps : List Piece) → choose Expression (A_token kind.Call (name_of prim ++ codes "(") ∷ ps) ≡ Some (_, an_operation prim)
+pub operation_chosen : (prim : PrimOp) (ps : List Piece) → choose Expression (A_token kind.Call (name_of prim ++ codes "(") ∷ ps) ≡ Some (_, an_operation prim)
 operation_chosen Add ps = refl
 operation_chosen Sub ps = refl
 operation_chosen Mul ps = refl

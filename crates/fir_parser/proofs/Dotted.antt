@@ -1,26 +1,25 @@
 -- The version line.
-use Rattle.std.proofs.Common.{◌≡◌, ℕ, ◌+◌, ◌<◌, true, false, List, [], ◌∷◌, length, drop, refl, sym, ap, ◌∙◌, subst, arith, nat_le, slice_get, Some, Ok, Result}
+use Rattle.std.proofs.Common.{◌≡◌, ℕ, ◌+◌, ◌<◌, true, false, List, [], ◌∷◌, length, drop, refl, sym, ap, ◌∙◌, subst, arith, nat_le, slice_get, Some}
 use Rattle.std.proofs.lemmas.Option.{slice_get_within}
-use Rattle.bit_words.specs.Numbers.{IsMagnitude, AnswersMagnitude}
-use Rattle.bit_words.specs.declared.number.NumberFault.{NumberFault}
+use Rattle.bit_words.specs.Numbers.{IsMagnitude}
 use Rattle.fir_lexer.specs.declared.token.TokenKind.TheVariants as kind
-use Rattle.fir_lexer.specs.declared.token.Token.{Token}
+use Rattle.fir_lexer.specs.declared.token.TokenKind.{TokenKind}
 use Rattle.fir_layout.specs.declared.laid.Laid.{Laid}
 use Rattle.fir_layout.specs.declared.laid.Laid.TheVariants.{Item}
 use Rattle.fir_layout.specs.Layout.{token_in, tokens_in}
 use Rattle.fir_layout.specs.Pieces.{Piece, bytes_of, A_token, piece_of}
-use Rattle.std.proofs.Math.Path.{Path}
 use Rattle.place_text.specs.declared.place.Place.{Place}
-use Rattle.fir_grammar.proofs.Cases.{some_injective}
-use Rattle.place_text.specs.Places.{place}
+use Rattle.fir_grammar.proofs.Agreement.{magnitudes_agree}
+use Rattle.fir_expr.specs.Parts.{IsNumberAt}
+use Rattle.fir_expr.proofs.Composition.{one_at}
 use Rattle.fir_tree.specs.declared.fault.ParseFault.{ParseFault}
 use Rattle.fir_tree.specs.declared.fault.ParseFault.TheVariants.{BadVersion}
-use Rattle.fir_grammar.specs.Grammar.{The_mark, A_number, Three, Takes, Nothing, Is, mark, start_of}
+use Rattle.fir_grammar.specs.Grammar.{The_mark, A_number, Three, Takes, Nothing, Is, mark}
 use Rattle.fir_grammar.specs.Faults.{Levels, past, is_deep, last_suffixes, with_suffix, most}
 use Rattle.fir_expr.specs.declared.reader.Reader.{Reader}
 use Rattle.fir_parser.specs.Taking.{here, blocks_at, StandsAt, HasTaken, Steps}
-use Rattle.fir_parser.specs.Expected.{Meets, NamesHere, DigitsText, VersionRefused, no_number, other_number}
-use Rattle.fir_parser.proofs.Steps.{Quiets, quiets, stands_next, here_next, left_tokens, last_afresh, taken_flat, number_taken}
+use Rattle.fir_parser.specs.Expected.{Meets, NamesHere, VersionRefused, no_number, other_number}
+use Rattle.fir_parser.proofs.Steps.{Quiets, quiets, stands_next, here_next, left_tokens, last_afresh, taken_flat}
 use Rattle.fir_parser.proofs.Joins.{joins}
 
 dot_is : (p : Piece) → Takes (The_mark 46) p → (bytes : List ℕ) × (A_token (kind.Mark 46) bytes ≡ p)
@@ -98,17 +97,16 @@ number_met reader l stands takes = record { laid = l; stands = stands; takes = t
 
 -- the number 3 alone is Three
 
-three_digits : (text : List ℕ) (token : Token) → token.kind ≡ kind.Digits → IsMagnitude (bytes_of text token) 3 → Takes Three (piece_of text (Item token))
-three_digits text token e h = rw e h
+three_digits : (k : TokenKind) (bytes : List ℕ) (n : ℕ) → Takes A_number (A_token k bytes) → IsMagnitude bytes n → n ≡ 3 → Takes Three (A_token k bytes)
+three_digits kind.Digits bytes n h is e = rw e at is
+three_digits _ bytes n h is e = absurd h
 
-digits_three : (text : List ℕ) (token : Token) → token.kind ≡ kind.Digits → Takes Three (piece_of text (Item token)) → IsMagnitude (bytes_of text token) 3
-digits_three text token e h = rw e at h
+digits_three : (k : TokenKind) (bytes : List ℕ) → Takes Three (A_token k bytes) → IsMagnitude bytes 3
+digits_three kind.Digits bytes h = h
+digits_three _ bytes h = absurd h
 
-pub takes_three : (text : List ℕ) (l : Laid) (digits : List ℕ) → DigitsText text l digits → IsMagnitude digits 3 → Takes Three (piece_of text l)
-takes_three text l digits w is = rw w.item (three_digits text w.token w.digits (rw w.same at is))
-
-pub writes_three : (text : List ℕ) (l : Laid) (digits : List ℕ) → DigitsText text l digits → Takes Three (piece_of text l) → IsMagnitude digits 3
-writes_three text l digits w takes = rw w.same (digits_three text w.token w.digits (rw w.item at takes))
+pub takes_three : (text : List ℕ) (list : List Laid) (i : ℕ) (at : Place) (n : ℕ) → (h : IsNumberAt text list i at n) → n ≡ 3 → Takes Three (piece_of text (Item h.token))
+takes_three text list i at n h e = three_digits h.token.kind (bytes_of text h.token) n h.taken.takes h.is e
 
 pub three_is_number : (p : Piece) → Takes Three p → Takes A_number p
 three_is_number (A_token kind.Digits bytes) h = (3, h)
@@ -148,14 +146,9 @@ three_met reader m = record { laid = m.laid; stands = m.stands; takes = three_is
 pub version_absent : (reader : Reader) (fault : ParseFault) → ¬ (Meets A_number reader) → NamesHere reader fault → VersionRefused reader fault
 version_absent reader fault none names = no_number fault none (names.refused Three (λ m. none (three_met reader m)) Nothing)
 
-ok_same : (a b : ℕ) → Path (Result ℕ NumberFault) (Ok a) (Ok b) → a ≡ b
-ok_same a b e = cc
-
-same_here : (reader : Reader) (l m : Laid) → slice_get reader.laid.now reader.at ≡ Some l → slice_get reader.laid.now reader.at ≡ Some m → m ≡ l
-same_here reader l m h g = some_injective (sym g ∙ h)
-
-pub other_version : (reader : Reader) (l : Laid) (digits : List ℕ) (number : ℕ) (at : Place) → slice_get reader.laid.now reader.at ≡ Some l → DigitsText reader.bytes.now l digits → IsMagnitude digits number
-    → ((other : Result ℕ NumberFault) → AnswersMagnitude (IsMagnitude digits) other → other ≡ Ok number) → ¬ (number ≡ 3) → at ≡ place reader.bytes.now (start_of l) → VersionRefused reader (BadVersion at)
+pub other_version : (reader : Reader) (at : Place) (n : ℕ) → IsNumberAt reader.bytes.now reader.laid.now reader.at at n → ¬ (n ≡ 3) → VersionRefused reader (BadVersion at)
 unfolding number_met
-other_version reader l digits number at stands w is only differs e = rw e (other_number (number_met reader l stands (number_taken reader.bytes.now l digits number w is))
-    (λ m. differs (sym (ok_same 3 number (only (Ok 3) (writes_three reader.bytes.now l digits w (subst (λ (x : Laid). Takes Three (piece_of reader.bytes.now x)) (same_here reader l m.laid stands m.stands) m.takes), omega arith))))))
+other_version reader at n h differs = rw h.place (other_number (number_met reader (Item h.token) h.taken.here h.taken.takes)
+    (λ m. (let same : m.laid ≡ Item h.token = one_at reader.laid.now reader.at m.laid (Item h.token) m.stands h.taken.here in
+    let three : Takes Three (piece_of reader.bytes.now (Item h.token)) = rw same at m.takes in
+    differs (magnitudes_agree (bytes_of reader.bytes.now h.token) n 3 h.is (digits_three h.token.kind (bytes_of reader.bytes.now h.token) three)))))

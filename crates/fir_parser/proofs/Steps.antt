@@ -2,28 +2,28 @@
 use Rattle.std.proofs.Common.{◌≡◌, ◌⊎◌, nat_le, true, ℕ, ◌+◌, ◌-◌, ◌<◌, ◌≤◌, false, List, [], ◌∷◌, length, take, drop, refl, sym, ap, ◌∙◌, subst, arith, slice_get, Some, ⊎_elim, length-append}
 use Rattle.std.proofs.lemmas.Option.{slice_get_within}
 use Rattle.fir_lexer.specs.declared.token.TokenKind.TheVariants as kind
-use Rattle.fir_lexer.specs.declared.token.Token.{Token}
 use Rattle.fir_layout.specs.declared.laid.Laid.{Laid}
 use Rattle.fir_layout.specs.declared.laid.Laid.TheVariants.{Item, LineEnd, Open, Close, End}
 use Rattle.fir_layout.specs.Layout.{tokens_in, token_in}
-use Rattle.fir_layout.specs.Pieces.{Piece, A_token, A_line_end, A_block_opens, A_block_closes, The_end, piece_of, pieces_of, bytes_of}
+use Rattle.fir_layout.specs.Pieces.{Piece, A_token, A_line_end, A_block_opens, A_block_closes, The_end, piece_of, pieces_of}
 use Rattle.place_text.specs.Places.{place}
-use Rattle.bit_words.specs.Numbers.{IsMagnitude}
 use Rattle.fir_tree.specs.declared.fault.ParseFault.{ParseFault}
 use Rattle.fir_tree.specs.declared.fault.ParseFault.TheVariants.{NoMemory, TooDeep}
-use Rattle.fir_grammar.specs.Grammar.{Terminal, The_word, The_mark, The_arrow, A_name, A_number, Line_ends, Opens, Closes, Ends, Takes, Kept, Nothing, Its_place, Its_name, Its_magnitude, Symbol, Is, no_symbol, a_piece, a_place, a_name, a_magnitude, start_of, name_in}
+use Rattle.fir_grammar.specs.Grammar.{Terminal, The_word, The_mark, The_arrow, A_name, A_number, Line_ends, Opens, Closes, Ends, Takes, Kept, Nothing, Its_place, Its_name, Its_magnitude, Symbol, Is, no_symbol, a_piece, a_place, a_name, a_magnitude, start_of}
 use Rattle.fir_grammar.specs.Faults.{Levels, levels, past, is_deep, afresh, last_suffixes, without_last, most}
-use Rattle.fir_grammar.specs.Reading.{no_memory}
+use Rattle.fir_grammar.specs.Reading.{HasRead, no_memory}
 use Rattle.fir_expr.specs.declared.reader.Reader.{Reader}
 use Rattle.fir_expr.specs.Standing.{IsWhole, wanted}
 use Rattle.fir_expr.proofs.Composition.{piece_at, drop_at, read_piece, refused_deep}
-use Rattle.fir_tree.specs.Numbered.{AddsName}
+use Rattle.fir_types.specs.declared.name.Name.{Name}
+use Rattle.place_text.specs.declared.place.Place.{Place}
+use Rattle.fir_expr.specs.Parts.{IsNumberAt, IsNameAt}
 use Rattle.fir_grammar.proofs.Cases.{some_injective}
 use Rattle.fir_expr.proofs.Depth.{levels_next}
-use Rattle.fir_parser.specs.Taking.{pieces, here, blocks_at, StandsAt, IsFresh, HasTaken, Refuses, Steps, StepsName, IsInText}
+use Rattle.fir_parser.specs.Taking.{pieces, here, blocks_at, StandsAt, IsFresh, HasTaken, Refuses, Steps, IsInText}
 use Rattle.fir_parser.specs.declared.take.Expected.{Expected}
 use Rattle.fir_parser.specs.declared.take.Expected.TheVariants as expected
-use Rattle.fir_parser.specs.Expected.{terminal, IsQuiet, Meets, NamesHere, NameText, DigitsText}
+use Rattle.fir_parser.specs.Expected.{terminal, IsQuiet, Meets, NamesHere}
 
 -- behind the piece as many brackets are open, and it doesn't go too deep
 pub record Calms (at : Levels) (p : Piece) : Type 0 where
@@ -255,62 +255,55 @@ module _ (old new : Reader) (l : Laid) (blocks : ℕ) where
 
 -- numbers and names
 
-digits_taken : (text : List ℕ) (token : Token) (n : ℕ) → token.kind ≡ kind.Digits → IsMagnitude (bytes_of text token) n → Takes A_number (piece_of text (Item token))
-digits_taken text token n e h = rw e (n, h)
+pub taken_number : (old new : Reader) (at : Place) (n : ℕ) → IsNumberAt old.bytes.now old.laid.now old.at at n → Steps old new → HasTaken (Is Its_magnitude A_number ∷ []) old new (n, tt)
+taken_number old new at n h step = record {
+  bytes = step.bytes;
+  laid = step.laid;
+  read = rw (step.at, step.names) (read_piece h.taken.here h.taken.takes h.taken.flat (a_magnitude h.taken.takes h.is no_symbol));
+}
 
-digits_number : (text : List ℕ) (token : Token) → token.kind ≡ kind.Digits → Takes A_number (piece_of text (Item token)) → (n : ℕ) × IsMagnitude (bytes_of text token) n
-digits_number text token e h = rw e at h
-
-pub no_number : (text : List ℕ) (l : Laid) (digits : List ℕ) → DigitsText text l digits → ((n : ℕ) → ¬ (IsMagnitude digits n)) → ¬ (Takes A_number (piece_of text l))
-no_number text l digits w none takes = let found = digits_number text w.token w.digits (rw w.item at takes) in none found.0 (rw w.same found.1)
-
-pub number_taken : (text : List ℕ) (l : Laid) (digits : List ℕ) (n : ℕ) → DigitsText text l digits → IsMagnitude digits n → Takes A_number (piece_of text l)
-number_taken text l digits n w is = rw w.item (digits_taken text w.token n w.digits (rw w.same at is))
-
-pub taken_number : (old new : Reader) (l : Laid) (digits : List ℕ) (n : ℕ) → StandsAt old → slice_get old.laid.now old.at ≡ Some l → DigitsText old.bytes.now l digits → IsMagnitude digits n → Steps old new
-    → HasTaken (Is Its_magnitude A_number ∷ []) old new (n, tt)
-taken_number old new l digits n at stands w is step =
-    let item : slice_get old.laid.now old.at ≡ Some (Item w.token) = rw w.item at stands in
-    let writes : IsMagnitude (bytes_of old.bytes.now w.token) n = rw w.same at is in
-    let takes : Takes A_number (piece_of old.bytes.now (Item w.token)) = digits_taken old.bytes.now w.token n w.digits writes in
-    record {
-      bytes = step.bytes;
-      laid = step.laid;
-      read = rw (step.at, step.names) (read_piece item takes (flat_here old new (Item w.token) A_number at tt takes) (a_magnitude takes writes no_symbol));
-    }
+-- where no part is what the terminal takes, it isn't met
+pub not_met : (s : Terminal) (reader : Reader) → ((l : Laid) → slice_get reader.laid.now reader.at ≡ Some l → ¬ (Takes s (piece_of reader.bytes.now l))) → ¬ (Meets s reader)
+not_met s reader none m = none m.laid m.stands m.takes
 
 name_quiet : (at : Levels) (p : Piece) → Takes A_name p → at.dotted ≡ false → last_suffixes (past at p).suffixes ≡ 0
 name_quiet at (A_token kind.Word bytes) h no_dot = rw no_dot (last_afresh at.suffixes)
 name_quiet at (A_token kind.Quoted bytes) h no_dot = rw no_dot (last_afresh at.suffixes)
 name_quiet at _ h no_dot = absurd h
 
-module _ (old new : Reader) (l : Laid) (text : List ℕ) (id : ℕ) where
-  pub stands_named : StandsAt old → slice_get old.laid.now old.at ≡ Some l → NameText old.bytes.now l text → StepsName old new text id → StandsAt new
-  stands_named at stands w step =
-      let quiet : Quiets (here old) (piece_of old.bytes.now l) = quiets (here old) A_name (piece_of old.bytes.now l) tt w.takes at.one at.no_dot in
-      stands_next old new l at step.bytes step.laid step.at step.brackets stands (rw w.item step.grows) quiet.calm
+-- the reader moved behind a name
+pub record StepsName (old new : Reader) (name : Name) : Type 0 where
+  pub bytes : new.bytes.now ≡ old.bytes.now
+  pub laid : new.laid.now ≡ old.laid.now
+  pub at : new.at ≡ old.at + 1
+  pub brackets : new.brackets ≡ old.brackets
+  pub named : IsNameAt A_name old.bytes.now old.laid.now old.at old.names name new.names
 
-  pub blocks_named : StandsAt old → slice_get old.laid.now old.at ≡ Some l → NameText old.bytes.now l text → StepsName old new text id → blocks_at new ≡ blocks_at old
-  blocks_named at stands w step =
-      let quiet : Quiets (here old) (piece_of old.bytes.now l) = quiets (here old) A_name (piece_of old.bytes.now l) tt w.takes at.one at.no_dot in
-      ap (λ (x : Levels). x.blocks) (here_next old new l step.bytes step.laid step.at stands) ∙ quiet.blocks
+module _ (old new : Reader) (name : Name) (at : StandsAt old) (step : StepsName old new name) where
+  quiet_name : Quiets (here old) (piece_of old.bytes.now (Item step.named.token))
+  quiet_name = quiets (here old) A_name (piece_of old.bytes.now (Item step.named.token)) tt step.named.taken.takes at.one at.no_dot
 
-  pub fresh_named : StandsAt old → slice_get old.laid.now old.at ≡ Some l → NameText old.bytes.now l text → StepsName old new text id → IsFresh new
-  fresh_named at stands w step = record {
+  pub stands_named : StandsAt new
+  stands_named = stands_next old new (Item step.named.token) at step.bytes step.laid step.at step.brackets step.named.taken.here step.named.grows quiet_name.calm
+
+  pub blocks_named : blocks_at new ≡ blocks_at old
+  blocks_named = ap (λ (x : Levels). x.blocks) (here_next old new (Item step.named.token) step.bytes step.laid step.at step.named.taken.here) ∙ quiet_name.blocks
+
+  pub fresh_named : IsFresh new
+  fresh_named = record {
     none =
-        ap (λ (x : Levels). last_suffixes x.suffixes) (here_next old new l step.bytes step.laid step.at stands) ∙ name_quiet (here old) (piece_of old.bytes.now l) w.takes at.no_dot;
+        ap (λ (x : Levels). last_suffixes x.suffixes) (here_next old new (Item step.named.token) step.bytes step.laid step.at step.named.taken.here)
+        ∙ name_quiet (here old) (piece_of old.bytes.now (Item step.named.token)) step.named.taken.takes at.no_dot;
   }
 
-  pub taken_name : StandsAt old → slice_get old.laid.now old.at ≡ Some l → NameText old.bytes.now l text → StepsName old new text id
-      → HasTaken (Is Its_name A_name ∷ []) old new (record { id = id; place = place old.bytes.now (start_of l) }, tt)
-  taken_name at stands w step =
-      let item : slice_get old.laid.now old.at ≡ Some (Item w.token) = rw w.item at stands in
-      let takes : Takes A_name (piece_of old.bytes.now (Item w.token)) = rw w.item at w.takes in
-      let adds : AddsName old.names new.names (name_in w.token.kind (bytes_of old.bytes.now w.token)) id = rw w.same at step.names in
+  pub taken_name : HasTaken (Is Its_name A_name ∷ []) old new (name, tt)
+  taken_name =
+      let same : record { id = name.id; place = place old.bytes.now step.named.token.start } ≡ name = ap (λ (p : Place). record { id = name.id; place = p }) (sym step.named.place) in
+      let read = read_piece step.named.taken.here step.named.taken.takes step.named.taken.flat (a_name step.named.taken.takes step.named.adds no_symbol) in
       record {
         bytes = step.bytes;
         laid = step.laid;
-        read = rw (step.at, w.item) (read_piece item takes (flat_here old new (Item w.token) A_name at tt takes) (a_name takes adds no_symbol));
+        read = rw step.at (subst (λ (n : Name). HasRead (Is Its_name A_name ∷ []) old.bytes.now old.laid.now old.at old.names (n, tt) (old.at + 1) new.names) same read);
       }
 
 -- a part begins in its text

@@ -14,7 +14,7 @@ use Rattle.fir_parser.specs.Taking.{pieces, StandsAt, HasTaken, Refuses}
 use Rattle.fir_expr.proofs.Composition.{Enters, piece_at}
 use Rattle.fir_parser.proofs.Joins.{first, later, breaks}
 use Rattle.fir_parser.proofs.Entering.{enters_part}
-use Rattle.fir_parser.specs.Expected.{Meets, WordsStand, VersionRefused, no_number, other_number, wants_memory}
+use Rattle.fir_parser.specs.Expected.{Meets, WordsStand, VersionRefused, no_number, other_number}
 use Rattle.fir_grammar.proofs.Fronts.{Front-taken, Front-entered}
 use Rattle.fir_grammar.proofs.Follows.{settled_case}
 use Rattle.fir_grammar.proofs.ReadingLaws.{part-here, Stops-trans, Stops-piece}
@@ -203,7 +203,6 @@ bad_version old mid start two h l stands not_three =
 
 pub version_fault : (old mid : Reader) (fault : ParseFault) → old.at ≡ 0 → mid.at ≡ old.at + 2 → HasTaken (word "FIRRTL" ∷ word "version" ∷ []) old mid tt → VersionRefused mid fault
     → (fault ≡ NoMemory) ⊎ FaultOf old.bytes.now old.laid.now fault
-version_fault old mid _ start two h wants_memory = inl refl
 version_fault old mid _ start two h (no_number fault none refused) =
     let other : NotTheVersion old.bytes.now old.laid.now = rw (h.bytes, h.laid) at (without_number mid (omega (arith, start, two)) none) in
     refused_text old fault start other (breaks a_text (enters_text old) (later h (first _ (record { refused = refused }))))

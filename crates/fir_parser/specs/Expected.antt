@@ -1,14 +1,11 @@
 -- What a reader asks of the piece at its place.
-use Rattle.std.specs.Prelude.{◌≡◌, ◌⊎◌, ◌+◌, ℕ, codes, List, [], ◌∷◌, slice_get, Some}
+use Rattle.std.specs.Prelude.{◌≡◌, ◌⊎◌, ◌+◌, codes, [], ◌∷◌, slice_get, Some}
 use Rattle.fir_layout.specs.declared.laid.Laid.{Laid}
-use Rattle.fir_layout.specs.declared.laid.Laid.TheVariants.{Item}
-use Rattle.fir_layout.specs.Pieces.{piece_of, bytes_of}
-use Rattle.fir_lexer.specs.declared.token.Token.{Token}
-use Rattle.fir_lexer.specs.declared.token.TokenKind.TheVariants.{Digits}
+use Rattle.fir_layout.specs.Pieces.{piece_of}
 use Rattle.fir_tree.specs.declared.fault.ParseFault.{ParseFault}
-use Rattle.fir_grammar.specs.Grammar.{Terminal, The_word, The_mark, The_arrow, Line_ends, Opens, Closes, Ends, A_name, A_number, Three, Takes, Kept, Nothing, Is, start_of, name_in}
+use Rattle.fir_grammar.specs.Grammar.{Terminal, The_word, The_mark, The_arrow, Line_ends, Opens, Closes, Ends, A_number, Three, Takes, Kept, Nothing, Is, start_of}
 use Rattle.place_text.specs.Places.{place}
-use Rattle.fir_tree.specs.declared.fault.ParseFault.TheVariants.{NoMemory, BadVersion}
+use Rattle.fir_tree.specs.declared.fault.ParseFault.TheVariants.{BadVersion}
 use Rattle.fir_grammar.specs.Reading.{IsRefused}
 use Rattle.fir_expr.specs.declared.reader.Reader.{Reader}
 use Rattle.fir_parser.specs.declared.take.Expected.{Expected}
@@ -50,20 +47,6 @@ pub record MeetsNext (s : Terminal) (reader : Reader) : Type 0 where
 pub record NamesHere (reader : Reader) (fault : ParseFault) : Type 0 where
   pub refused : (s : Terminal) → ¬ (Meets s reader) → (keeps : Kept) → IsRefused (Is keeps s ∷ []) reader.bytes.now reader.laid.now reader.at fault
 
--- a part of the list is a name with this text
-pub record NameText (bytes : List ℕ) (part : Laid) (text : List ℕ) : Type 0 where
-  pub token : Token
-  pub item : part ≡ Item token
-  pub takes : Takes A_name (piece_of bytes part)
-  pub same : text ≡ name_in token.kind (bytes_of bytes token)
-
--- a part of the list is digits with these bytes
-pub record DigitsText (bytes : List ℕ) (part : Laid) (text : List ℕ) : Type 0 where
-  pub token : Token
-  pub item : part ≡ Item token
-  pub digits : token.kind ≡ Digits
-  pub same : text ≡ bytes_of bytes token
-
 -- `input` or `output` stands at the reader's place
 abbrev pub BeginsPort : Reader → Type 0
 BeginsPort reader = Meets (The_word (codes "input")) reader ⊎ Meets (The_word (codes "output")) reader
@@ -72,7 +55,6 @@ BeginsPort reader = Meets (The_word (codes "input")) reader ⊎ Meets (The_word 
 pub data VersionRefused (reader : Reader) : ParseFault → Type 0 where
   no_number : (fault : ParseFault) → ¬ (Meets A_number reader) → IsRefused (Is Nothing Three ∷ []) reader.bytes.now reader.laid.now reader.at fault → VersionRefused reader fault
   other_number : (m : Meets A_number reader) → ¬ (Meets Three reader) → VersionRefused reader (BadVersion (place reader.bytes.now (start_of m.laid)))
-  wants_memory : VersionRefused reader NoMemory
 
 -- the words that begin a text stand there
 pub record WordsStand (reader : Reader) : Type 0 where

@@ -7,7 +7,6 @@ use Rattle.fir_tree.specs.declared.fault.ParseFault.{ParseFault}
 use Rattle.fir_grammar.specs.Grammar.{Symbol, Values}
 use Rattle.fir_grammar.specs.Faults.{Levels, levels, last_suffixes}
 use Rattle.fir_grammar.specs.Reading.{HasRead, IsRefused}
-use Rattle.fir_tree.specs.Numbered.{AddsName}
 use Rattle.fir_expr.specs.declared.reader.Reader.{Reader}
 use Rattle.fir_expr.specs.Standing.{IsLaidFrom, wanted}
 
@@ -63,12 +62,3 @@ IsInText text (LineEnd at) = at ≤ length text
 IsInText text (Open at) = at ≤ length text
 IsInText text (Close at) = at ≤ length text
 IsInText text (End at) = at ≤ length text
-
--- the reader moved behind one part that is a name
-pub record StepsName (old new : Reader) (text : List ℕ) (id : ℕ) : Type 0 where
-  pub bytes : new.bytes.now ≡ old.bytes.now
-  pub laid : new.laid.now ≡ old.laid.now
-  pub at : new.at ≡ old.at + 1
-  pub brackets : new.brackets ≡ old.brackets
-  pub names : AddsName old.names new.names text id
-  pub grows : length new.names ≤ length old.names + 1

@@ -1,25 +1,22 @@
 //! Single symbols of the grammar.
 
-ghost use Rattle.std.specs.Prelude.{◌≡◌, ◌<◌, ◌≤◌, ◌+◌, ◌-◌, ◌^◌, ◌⊎◌, ℕ, [], ◌∷◌, length, slice_get, take, drop, IfOk, IfErr, IfSome, IfNone, OnOk, OnErr, MatchBool};
+ghost use Rattle.std.specs.Prelude.{◌≡◌, ◌<◌, ◌≤◌, ◌+◌, ◌-◌, ◌^◌, ◌⊎◌, ℕ, [], ◌∷◌, length, slice_get, Some, IfOk, IfErr, IfSome, OnOk, OnErr, MatchBool};
+ghost use Rattle.fir_layout.specs.declared.laid.Laid.{Laid as TheLaid};
 ghost use Rattle.place_text.specs.Places.{place};
-ghost use Rattle.fir_tree.specs.declared.fault.ParseFault.TheVariants.{NoMemory};
 ghost use Rattle.fir_layout.specs.Pieces.{bytes_of, piece_of};
-ghost use Rattle.fir_grammar.specs.Grammar.{Is, A, Nothing, Its_place, name, number, open_block, close_block, A_name, A_number, Opens, Type_of, Expression, Reference, The_word, Takes, start_of};
+ghost use Rattle.fir_grammar.specs.Grammar.{Is, A, Nothing, Its_place, name, number, open_block, close_block, Opens, Type_of, Expression, Reference, The_word, Takes, start_of};
 ghost use Rattle.fir_grammar.specs.Faults.{most};
-ghost use Rattle.fir_tree.specs.Numbered.{AddsName};
 ghost use Rattle.fir_expr.specs.Standing.{IsLaidFrom};
-ghost use Rattle.fir_parser.specs.Taking.{StandsAt, IsFresh, HasTaken, Refuses, Steps, StepsName, IsInText, blocks_at};
-ghost use Rattle.fir_parser.specs.Expected.{terminal, IsQuiet, Meets, MeetsNext, NamesHere, NameText, DigitsText};
+ghost use Rattle.fir_parser.specs.Taking.{StandsAt, IsFresh, HasTaken, Refuses, Steps, IsInText, blocks_at};
+ghost use Rattle.fir_parser.specs.Expected.{terminal, IsQuiet, Meets, MeetsNext, NamesHere};
 
-use bit_words::{NumberFault, read_magnitude};
 use fir_expr::{Reader, read_expr, read_reference, read_type};
 use fir_layout::Laid;
 use fir_lexer::{Token, TokenKind};
-use fir_tree::{Expr, Names, ParseFault};
+use fir_tree::{Expr, ParseFault};
 use fir_types::{FirType, Name};
 use place_text::Place;
 use std::alloc::Global;
-use std::str::from_utf8;
 
 /// How many blocks may be open.
 const MOST_BLOCKS: u32 = 128;
@@ -37,7 +34,7 @@ pub enum Expected<'a> {
 }
 
 /// The part of the list at the reader's place.
-pub fn part(reader: &Reader) -> Option<Laid>
+fn part(reader: &Reader) -> Option<Laid>
     requires laid { IsLaidFrom reader.now.bytes.now reader.now.laid.now }
     ensures part { result ≡ slice_get reader.now.laid.now reader.now.at }
     ensures inside { IfSome result (λ l. IsInText reader.now.bytes.now l) }
@@ -46,7 +43,7 @@ pub fn part(reader: &Reader) -> Option<Laid>
 }
 
 /// The bytes of a token.
-pub fn token_bytes(bytes: &[u8], token: Token) -> &[u8]
+fn token_bytes(bytes: &[u8], token: Token) -> &[u8]
     requires ordered { token.start ≤ token.end }
     requires within { token.end ≤ length bytes.now }
     ensures { result.now ≡ bytes_of bytes.now token }
@@ -54,14 +51,18 @@ pub fn token_bytes(bytes: &[u8], token: Token) -> &[u8]
     &bytes[token.start as usize..token.end as usize]
 }
 
-/// The place where a part of the list begins.
+/// The place of the part that stands at the reader's place.
 #[tactic(auto, using(crate::proofs::Steps::part_begins))]
-pub fn place_at(reader: &Reader, part: Laid) -> Place
+fn place_here(reader: &Reader) -> Place
     requires short { length reader.now.bytes.now < 2 ^ 32 - 1 }
-    requires inside { IsInText reader.now.bytes.now part }
-    ensures { result ≡ place reader.now.bytes.now (start_of part) }
+    requires laid { IsLaidFrom reader.now.bytes.now reader.now.laid.now }
+    requires within { reader.now.at < length reader.now.laid.now }
+    ensures { (l : TheLaid) → slice_get reader.now.laid.now reader.now.at ≡ Some l → result ≡ place reader.now.bytes.now (start_of l) }
 {
-    reader.place_of(part)
+    match part(reader) {
+        Some(part) => reader.place_of(part),
+        None => unreachable!(),
+    }
 }
 
 /// Whether a part of the list is what is expected.
@@ -161,13 +162,10 @@ pub fn take_placed_word(reader: &mut Reader, text: &str) -> Result<Place, ParseF
     ensures fresh { OnOk result (IsFresh reader.new) }
     ensures refused { IfErr result (λ fault. Refuses (Is Its_place (The_word text.now) ∷ []) reader.old fault) }
 {
-    let Some(part) = part(reader) else {
-        return Err(ParseFault::NoMemory);
-    };
-    if !is(reader.bytes, part, Expected::Word(text)) {
+    if !meets(reader, Expected::Word(text)) {
         return Err(fault_here(reader));
     }
-    let place = place_at(reader, part);
+    let place = place_here(reader);
     advance(reader);
     Ok(place)
 }
@@ -181,68 +179,8 @@ pub fn take_name(reader: &mut Reader) -> Result<Name, ParseFault>
     ensures fresh { OnOk result (IsFresh reader.new) }
     ensures refused { IfErr result (λ fault. Refuses (name ∷ []) reader.old fault) }
 {
-    let Some(part) = part(reader) else {
-        return Err(ParseFault::NoMemory);
-    };
-    let Some(text) = name_text(reader.bytes, part) else {
-        return Err(fault_here(reader));
-    };
-    let place = place_at(reader, part);
-    let id = advance_name(reader, text)?;
-    Ok(Name { id, place })
-}
-
-/// Moves behind a name with this text, and gives its number.
-fn advance_name(reader: &mut Reader, text: &[u8]) -> Result<u32, ParseFault>
-    requires within { reader.old.at < length reader.old.laid.now }
-    requires room { length reader.old.names < 2 ^ 32 - 1 }
-    ensures step { IfOk result (λ id. StepsName reader.old reader.new text.now id) }
-    ensures fault { IfErr result (λ fault. fault ≡ NoMemory) }
-{
-    let id = add_text(&mut reader.names, text)?;
-    reader.at += 1;
-    Ok(id)
-}
-
-/// The number of a name's text. The lexer's names are ASCII.
-fn add_text(names: &mut Names, text: &[u8]) -> Result<u32, ParseFault>
-    requires { length names.old < 2 ^ 32 - 1 }
-    ensures added { IfOk result (λ id. AddsName names.old names.new text.now id) }
-    ensures grows { IfOk result (λ _. length names.new ≤ length names.old + 1) }
-    ensures fault { IfErr result (λ fault. fault ≡ NoMemory) }
-{
-    let Ok(text) = from_utf8(text) else {
-        return Err(ParseFault::NoMemory);
-    };
-    let id = names.add(text)?;
-    Ok(id)
-}
-
-/// The text of a part that is a name: without the backquotes, where it has them.
-fn name_text(bytes: &[u8], part: Laid) -> Option<&[u8]>
-    requires inside { IsInText bytes.now part }
-    ensures some { IfSome result (λ text. NameText bytes.now part text.now) }
-    ensures none { IfNone result (¬ (Takes A_name (piece_of bytes.now part))) }
-{
-    let Laid::Item(token) = part else {
-        return None;
-    };
-    let text = token_bytes(bytes, token);
-    match token.kind {
-        TokenKind::Word => Some(text),
-        TokenKind::Quoted => Some(between(text)),
-        _ => None,
-    }
-}
-
-/// What stands between the first byte and the last.
-fn between(bytes: &[u8]) -> &[u8]
-    ensures { result.now ≡ take (length bytes.now - 2) (drop 1 bytes.now) }
-{
-    match bytes {
-        [_, text @ .., _] => text,
-        _ => &[],
-    }
+    let name = reader.take_name()?;
+    Ok(name)
 }
 
 /// Takes a number.
@@ -253,36 +191,12 @@ pub fn take_number(reader: &mut Reader) -> Result<u128, ParseFault>
     ensures blocks { OnOk result (blocks_at reader.new ≡ blocks_at reader.old) }
     ensures refused { IfErr result (λ fault. Refuses (number ∷ []) reader.old fault) }
 {
-    let Some(part) = part(reader) else {
-        return Err(ParseFault::NoMemory);
-    };
-    let Some(digits) = digits(reader.bytes, part) else {
+    let Some(number) = reader.number_here() else {
         return Err(fault_here(reader));
     };
-    match read_magnitude(digits) {
-        Ok(number) => {
-            advance(reader);
-            Ok(number)
-        }
-        Err(NumberFault::NotNumber) => Err(fault_here(reader)),
-        Err(NumberFault::Over) => Err(ParseFault::NoMemory),
-    }
-}
-
-/// The bytes of a part that is digits.
-pub fn digits(bytes: &[u8], part: Laid) -> Option<&[u8]>
-    requires inside { IsInText bytes.now part }
-    ensures some { IfSome result (λ text. DigitsText bytes.now part text.now) }
-    ensures none { IfNone result (¬ (Takes A_number (piece_of bytes.now part))) }
-{
-    let Laid::Item(token) = part else {
-        return None;
-    };
-    let text = token_bytes(bytes, token);
-    match token.kind {
-        TokenKind::Digits => Some(text),
-        _ => None,
-    }
+    let (_place, magnitude) = number;
+    advance(reader);
+    Ok(magnitude)
 }
 
 /// Takes the beginning of a block, where so many blocks are open.
@@ -295,14 +209,11 @@ pub fn take_open(reader: &mut Reader, blocks: u32) -> Result<(), ParseFault>
     ensures few { OnOk result (blocks < most) }
     ensures refused { IfErr result (λ fault. Refuses (open_block ∷ []) reader.old fault) }
 {
-    let Some(part) = part(reader) else {
-        return Err(ParseFault::NoMemory);
-    };
-    if !is(reader.bytes, part, Expected::Open) {
+    if !meets(reader, Expected::Open) {
         return Err(fault_here(reader));
     }
     if blocks >= MOST_BLOCKS {
-        return Err(ParseFault::TooDeep(place_at(reader, part)));
+        return Err(ParseFault::TooDeep(place_here(reader)));
     }
     advance(reader);
     Ok(())

@@ -7,8 +7,7 @@ ghost use Rattle.fir_expr.specs.Standing.{IsLaidFrom};
 ghost use Rattle.fir_parser.specs.Taking.{StandsAt, HasTaken, Refuses, Steps, blocks_at, here};
 ghost use Rattle.fir_parser.specs.Expected.{Meets, VersionRefused, WordsStand};
 
-use crate::take::{Expected, advance, digits, fault_here, meets, part, place_at, take};
-use bit_words::{NumberFault, read_magnitude};
+use crate::take::{Expected, advance, fault_here, meets, take};
 use fir_expr::Reader;
 use fir_tree::ParseFault;
 
@@ -36,23 +35,15 @@ pub fn take_three(reader: &mut Reader) -> Result<(), ParseFault>
     ensures suffixes { OnOk result (last_suffixes (here reader.new).suffixes ≡ 0) }
     ensures refused { IfErr result (λ fault. VersionRefused reader.old fault) }
 {
-    let Some(part) = part(reader) else {
-        return Err(ParseFault::NoMemory);
-    };
-    let Some(digits) = digits(reader.bytes, part) else {
+    let Some(number) = reader.number_here() else {
         return Err(fault_here(reader));
     };
-    match read_magnitude(digits) {
-        Ok(number) => {
-            if number != 3 {
-                return Err(ParseFault::BadVersion(place_at(reader, part)));
-            }
-            advance(reader);
-            Ok(())
-        }
-        Err(NumberFault::NotNumber) => Err(fault_here(reader)),
-        Err(NumberFault::Over) => Err(ParseFault::NoMemory),
+    let (place, magnitude) = number;
+    if magnitude != 3 {
+        return Err(ParseFault::BadVersion(place));
     }
+    advance(reader);
+    Ok(())
 }
 
 /// The version's other numbers, each behind a `.`, and the end of the line.
@@ -108,18 +99,9 @@ fn step_number(reader: &mut Reader) -> Result<(), ParseFault>
     ensures meets { OnOk result (Meets A_number reader.old) }
     ensures refused { IfErr result (λ fault. Refuses (Is Nothing A_number ∷ []) reader.old fault) }
 {
-    let Some(part) = part(reader) else {
-        return Err(ParseFault::NoMemory);
-    };
-    let Some(digits) = digits(reader.bytes, part) else {
+    let Some(_number) = reader.number_here() else {
         return Err(fault_here(reader));
     };
-    match read_magnitude(digits) {
-        Ok(_number) => {
-            advance(reader);
-            Ok(())
-        }
-        Err(NumberFault::NotNumber) => Err(fault_here(reader)),
-        Err(NumberFault::Over) => Err(ParseFault::NoMemory),
-    }
+    advance(reader);
+    Ok(())
 }

@@ -1,11 +1,9 @@
 -- Small nets: what is settled, and the next state.
-use Rattle.std.proofs.Common.{◌≡◌, ℕ, min, List, [], ◌∷◌, Option, Some, None, arith, ℤ, pos, ◌==◌, if◌then◌else◌, Bool, true, false, refl, ◌+◌, ◌*◌, ◌^◌}
+use Rattle.std.proofs.Common.{◌≡◌, ℕ, min, [], ◌∷◌, Option, Some, None, arith, pos, ◌==◌, if◌then◌else◌, Bool, true, false, refl, ◌+◌, ◌*◌, ◌^◌}
 use Rattle.std.proofs.Math.Nat.{min-le_right}
 use Rattle.std.proofs.lemmas.Grind.{common_steps}
-use Rattle.place_text.specs.declared.place.Place.{Place}
 use Rattle.bit_words.specs.declared.value.Kind.TheVariants.{Unsigned}
 use Rattle.bit_words.specs.declared.value.Value.{Value}
-use Rattle.bit_words.specs.Values.{integer_of}
 use Rattle.prim_ops.specs.declared.operation.PrimOp.TheVariants.{Add, Tail}
 use Rattle.cycle_values.specs.Values.{fitted}
 use Rattle.ground_net.specs.declared.ground.Ground.{Ground, the_lemmas}
@@ -14,10 +12,7 @@ use Rattle.ground_net.specs.declared.net.Leaf.{Leaf}
 use Rattle.ground_net.specs.declared.net.Role.{Role}
 use Rattle.ground_net.specs.declared.net.Role.TheVariants as role
 use Rattle.ground_net.specs.declared.net.Net.{Net}
-use Rattle.ground_net.specs.declared.net.NetRegister.{NetRegister}
-use Rattle.ground_net.specs.declared.net.NetReset.{NetReset}
 use Rattle.ground_net.specs.declared.net.NetMemory.{NetMemory}
-use Rattle.ground_net.specs.declared.net.ElementLeaf.{ElementLeaf}
 use Rattle.ground_net.specs.declared.net.NetPort.{NetPort}
 use Rattle.ground_net.specs.declared.net.NetWrite.{NetWrite}
 use Rattle.ground_net.specs.declared.net.NetRead.{NetRead}
@@ -25,13 +20,13 @@ use Rattle.ground_net.specs.Grounds.{Sight, value}
 use Rattle.net_meaning.specs.Cycles.{NetState, Valuation, sight_of, next}
 use Rattle.net_meaning.specs.Words.{words_of_value}
 
-abbrev v : ℕ → ℕ → Value
+abbrev pub v : ℕ → ℕ → Value
 v width n = fitted Unsigned width (pos n)
 
-abbrev leaf : ℕ → Role → Leaf
+abbrev pub leaf : ℕ → Role → Leaf
 leaf width r = record { name = []; kind = Unsigned; width = min width 128; place = record { line = 1; column = 1 }; role = r; narrow = min-le_right width 128 }
 
-abbrev constant : ℕ → ℕ → Ground
+abbrev pub constant : ℕ → ℕ → Ground
 constant width n = ground.Const (v width n)
 
 -- the state in which the first two registers hold these, and the element 2 of each memory holds the third

@@ -2,4 +2,7 @@ pub mod Loops
 pub mod Settling
 pub mod Shaping
 mod Mentioning
-mod Examples
+pub mod Examples
+mod ExamplesOfCones
+mod Placing
+mod Ranges

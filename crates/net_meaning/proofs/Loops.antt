@@ -1,12 +1,12 @@
 -- An order leaves no loop.
-use Rattle.std.proofs.Common.{◌≡◌, ℕ, ◌<◌, List, [], length, slice_index, slice_get, refl, sym, ap, ◌∙◌, subst, arith, Option, Some, None}
+use Rattle.std.proofs.Common.{◌≡◌, ℕ, ◌<◌, List, [], length, slice_index, slice_get, refl, sym, ◌∙◌, subst, arith, Option, Some, None}
 use Rattle.std.specs.Prelude.{Contains}
 use Rattle.ground_net.specs.declared.net.Net.{Net}
 use Rattle.ground_net.specs.declared.net.Leaf.{Leaf}
 use Rattle.ground_net.specs.declared.net.Role.{Role}
 use Rattle.ground_net.specs.declared.net.Role.TheVariants as role
 use Rattle.ground_net.specs.declared.ground.Ground.{Ground}
-use Rattle.ground_net.specs.Reads.{IsAssigned, Reads, Through, itself, others, IsOnLoop, HasNoLoop, IsOrder, read_by, read_of, direct_reads, lone_driver, driver_of}
+use Rattle.ground_net.specs.Reads.{IsAssigned, Reads, Through, itself, others, HasNoLoop, IsOrder, read_by, read_of, lone_driver}
 
 no_reads : (y : ℕ) → Contains {X = ℕ} [] y → ⊥
 no_reads y (k, below, is) = omega arith

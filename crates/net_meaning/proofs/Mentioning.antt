@@ -1,5 +1,5 @@
 -- Drivers of well formed nets mention leaves of the net.
-use Rattle.std.proofs.Common.{◌≡◌, ℕ, ◌<◌, List, [], ◌∷◌, length, slice_get, sym, ap, ◌∙◌, subst, arith, Option, Some, None, option_and_then, option_map, ⊎_elim}
+use Rattle.std.proofs.Common.{◌≡◌, ℕ, List, [], ◌∷◌, slice_get, sym, ◌∙◌, subst, arith, Option, Some, None, option_and_then, option_map, ⊎_elim}
 use Rattle.std.specs.Prelude.{Contains}
 use Rattle.std.specs.List.{AllByRecursion}
 use Rattle.std.proofs.lemmas.List.Elements.{Contains-append_cases}
@@ -8,7 +8,7 @@ use Rattle.ground_net.specs.declared.ground.Ground.{Ground}
 use Rattle.ground_net.specs.declared.net.Net.{Net}
 use Rattle.ground_net.specs.declared.net.Leaf.{Leaf}
 use Rattle.ground_net.specs.Grounds.{mentions}
-use Rattle.ground_net.specs.Reads.{IsAssigned, IsOrder, MentionsLeaves, driver_of}
+use Rattle.ground_net.specs.Reads.{IsOrder, MentionsLeaves}
 use Rattle.ground_net.proofs.Layers.{ground_induction, all_mentions, mentions-Const, mentions-Leaf, mentions-Op, mentions-Mux, mentions-Select, mentions-Load, mentions-Fit}
 use Rattle.net_meaning.specs.Shapes.{Shape, Table, shape, all_of, shape_of_row, shape_of_choice, shape_of_selection, shape_of_load, shape_of_fit}
 use Rattle.net_meaning.specs.Cycles.{NetState, Inputs, HasOneSettled}

@@ -1,6 +1,6 @@
 -- An order gives one settled valuation.
-use Rattle.std.proofs.Common.{◌≡◌, ◌≢◌, ℕ, zero, suc, ◌+◌, ◌<◌, ◌≤◌, nat_lt, Bool, true, false, List, [], ◌∷◌, ◌++◌, refl, sym, ap, ◌∙◌, arith, subst, slice_get, slice_index, length, if◌then◌else◌, ◌==◌, Option, Some, None, ◌⊎◌, inl, inr, ⊎_elim}
-use Rattle.std.specs.Prelude.{Contains, ℤ, pos}
+use Rattle.std.proofs.Common.{◌≡◌, ◌≢◌, ℕ, zero, suc, ◌+◌, ◌<◌, ◌≤◌, nat_lt, Bool, true, false, List, [], ◌∷◌, refl, sym, ap, ◌∙◌, arith, subst, slice_get, slice_index, length, if◌then◌else◌, ◌==◌, Option, Some, None, ◌⊎◌, inl, inr, ⊎_elim}
+use Rattle.std.specs.Prelude.{Contains, pos}
 use Rattle.std.proofs.lemmas.Bool.Decides.{nat_tests}
 use Rattle.bit_words.specs.declared.value.Kind.TheVariants.{Unsigned}
 use Rattle.bit_words.specs.declared.value.Value.{Value}
@@ -10,8 +10,8 @@ use Rattle.ground_net.specs.declared.net.Leaf.{Leaf}
 use Rattle.ground_net.specs.declared.net.Role.{Role}
 use Rattle.ground_net.specs.declared.net.Role.TheVariants as role
 use Rattle.ground_net.specs.declared.ground.Ground.{Ground}
-use Rattle.ground_net.specs.Grounds.{Sight, value, mentions}
-use Rattle.ground_net.specs.Reads.{IsAssigned, Reads, IsOrder, MentionsLeaves, read_by, read_of, direct_reads, lone_driver, driver_of}
+use Rattle.ground_net.specs.Grounds.{value, mentions}
+use Rattle.ground_net.specs.Reads.{IsAssigned, Reads, IsOrder, MentionsLeaves, read_by, read_of, direct_reads, driver_of}
 use Rattle.ground_net.proofs.Layers.{value_agrees}
 use Rattle.net_meaning.specs.Cycles.{NetState, Inputs, Valuation, Settled, HasOneSettled, sight_of, fitted_to}
 

@@ -1,5 +1,5 @@
 -- Values have the shapes of their expressions.
-use Rattle.std.proofs.Common.{◌≡◌, ℕ, zero, suc, ◌≤◌, min, nat_le, ◌==◌, ◌&&◌, Bool, true, false, List, [], ◌∷◌, map, length, slice_get, refl, sym, ap, ap₂, ◌∙◌, subst, arith, Option, Some, None, option_and_then, ℤ, pos, negsuc, if◌then◌else◌, true≢false}
+use Rattle.std.proofs.Common.{◌≡◌, ℕ, zero, suc, ◌≤◌, min, nat_le, ◌==◌, ◌&&◌, Bool, true, false, List, [], ◌∷◌, map, length, slice_get, refl, sym, ap, ap₂, ◌∙◌, arith, Option, Some, None, option_and_then, ℤ, pos, negsuc, if◌then◌else◌, true≢false}
 use Rattle.std.specs.List.{AllByRecursion, list_all}
 use Rattle.std.proofs.lemmas.Grind.{common_steps}
 use Rattle.std.proofs.lemmas.Bool.Decides.{nat_tests}

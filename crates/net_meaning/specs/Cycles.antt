@@ -1,9 +1,9 @@
 -- A cycle of a net (FIRRTL specification 3.0, "Registers" and "Memories"): the state between cycles, the values that settle in a
 -- cycle, and the next state.
-use Rattle.std.specs.Prelude.{◌≡◌, ℕ, nat_lt, ◌&&◌, Bool, true, false, List, [], ◌∷◌, map, flat_map, slice_get, ℤ, pos, unsigned_abs, Option, Some, None, option_map, option_and_then, if◌then◌else◌}
+use Rattle.std.specs.Prelude.{◌≡◌, ℕ, nat_lt, Bool, false, List, [], map, flat_map, slice_get, ℤ, pos, unsigned_abs, Option, Some, None, option_map, option_and_then, if◌then◌else◌}
 use Rattle.bit_words.specs.declared.value.Kind.TheVariants.{Unsigned}
 use Rattle.bit_words.specs.declared.value.Value.{Value}
-use Rattle.bit_words.specs.Values.{integer_of, InRange}
+use Rattle.bit_words.specs.Values.{integer_of}
 use Rattle.cycle_values.specs.Values.{fitted, is_one}
 use Rattle.cycle_values.specs.Ports.{Held, Shown, set_to_write, set_to_read, after_ports, read_by_port}
 use Rattle.ground_net.specs.declared.ground.Ground.{Ground}
@@ -187,12 +187,3 @@ next net s sight = record {
   contents = λ m. next_of_memory sight (slice_get net.memories m) (s.contents m);
   captured = λ n. next_of_capture s sight (slice_get (captures net) n);
 }
-
--- The integers of a state, and those given, are in the ranges of their leaves.
-pub record IsWithin (net : Net) (s : NetState) : Type 0 where
-  pub registers : (x n : ℕ) (leaf : Leaf) → slice_get net.leaves x ≡ Some leaf → leaf.role ≡ role.Register n → InRange leaf.kind leaf.width (s.registers n)
-  pub contents : (m element k : ℕ) (leaf : ElementLeaf) → element_leaf net m k ≡ Some leaf → InRange leaf.kind leaf.width (s.contents m element k)
-  pub captured : (x n : ℕ) (leaf : Leaf) → slice_get net.leaves x ≡ Some leaf → leaf.role ≡ role.Captured n → InRange leaf.kind leaf.width (s.captured n)
-
-abbrev pub AreInputs : Net → Inputs → Type 0
-AreInputs net given = (x n : ℕ) (leaf : Leaf) → slice_get net.leaves x ≡ Some leaf → leaf.role ≡ role.Input n → InRange leaf.kind leaf.width (given n)

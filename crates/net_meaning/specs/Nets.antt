@@ -1,6 +1,8 @@
 -- Well formed nets.
-use Rattle.std.specs.Prelude.{◌≡◌, ℕ, ◌<◌, ◌≤◌, ◌+◌, ◌*◌, Bool, true, false, List, [], ◌∷◌, map, filter_map, length, take, slice_get, sum_by, Option, Some, None, IsSome, option_map, zip}
+use Rattle.std.specs.Prelude.{◌≡◌, ℕ, ◌<◌, ◌≤◌, Bool, true, false, List, map, filter_map, length, slice_get, ℤ, Option, Some, None, IsSome, option_map}
+use Rattle.std.specs.List.{range_with_len}
 use Rattle.bit_words.specs.declared.value.Kind.TheVariants.{Unsigned}
+use Rattle.bit_words.specs.Values.{InRange}
 use Rattle.ground_net.specs.declared.ground.Ground.{Ground}
 use Rattle.ground_net.specs.declared.net.Leaf.{Leaf}
 use Rattle.ground_net.specs.declared.net.Role.{Role}
@@ -16,7 +18,7 @@ use Rattle.ground_net.specs.declared.net.NetRead.{NetRead}
 use Rattle.ground_net.specs.Reads.{IsAssigned, driver_of}
 use Rattle.ground_net.specs.Cones.{numbered}
 use Rattle.net_meaning.specs.Shapes.{Shape, shaped, Table, shape}
-use Rattle.net_meaning.specs.Cycles.{element_leaf, captures}
+use Rattle.net_meaning.specs.Cycles.{NetState, Inputs, Capture, element_leaf, captures}
 
 -- the kinds and widths of a leaf, and of a leaf of an element
 abbrev pub leaf_shape : Leaf → Shape
@@ -32,26 +34,20 @@ table_of net = record {
   element = λ m k. option_map element_shape (element_leaf net m k);
 }
 
--- the number in a role of one sort
+-- the number in the role of an input
 abbrev pub input_number : Role → Option ℕ
 input_number (role.Input n) = Some n
 input_number _ = None
-
-abbrev pub register_number : Role → Option ℕ
-register_number (role.Register n) = Some n
-register_number _ = None
-
-abbrev pub captured_number : Role → Option ℕ
-captured_number (role.Captured n) = Some n
-captured_number _ = None
 
 -- The leaves of a sort of role in flat order, each with the number in its role.
 abbrev pub numbers_in : (Role → Option ℕ) → Net → List (ℕ × ℕ)
 numbers_in number net = filter_map (λ both. option_map (λ n. (both.0, n)) (number both.1.role)) (numbered net.leaves)
 
--- leaves with their places in a list, from 0
-abbrev pub placed : List ℕ → List (ℕ × ℕ)
-placed leaves = map (λ both. (both.1, both.0)) (numbered leaves)
+-- the leaf of this number has this role
+pub record HasRole (net : Net) (x : ℕ) (r : Role) : Type 0 where
+  pub leaf : Leaf
+  pub there : slice_get net.leaves x ≡ Some leaf
+  pub is : leaf.role ≡ r
 
 -- a role in which a leaf may have a driver
 abbrev pub may_be_driven : Role → Bool
@@ -93,10 +89,17 @@ pub record IsNet (net : Net) : Type 0 where
   pub undriven : (x : ℕ) (leaf : Leaf) → slice_get net.leaves x ≡ Some leaf → may_be_driven leaf.role ≡ false → driver_of net x ≡ None
   -- a driver has the kind and the width of its leaf
   pub shapes : (x : ℕ) (leaf : Leaf) (driver : Ground) → slice_get net.leaves x ≡ Some leaf → driver_of net x ≡ Some driver → shape driver (table_of net) ≡ Some (leaf_shape leaf)
-  -- the roles are counted in flat order: inputs; registers as they stand in the net; captured reads as the ports have them
-  pub inputs : map (λ both. both.1) (numbers_in input_number net) ≡ map (λ both. both.1) (placed (map (λ both. both.0) (numbers_in input_number net)))
-  pub registers : numbers_in register_number net ≡ placed (map (λ register. register.leaf) net.registers)
-  pub captured : numbers_in captured_number net ≡ placed (map (λ c. c.leaf) (captures net))
+  -- the inputs are counted in flat order
+  pub inputs : map (λ both. both.1) (numbers_in input_number net) ≡ range_with_len 0 (length (numbers_in input_number net))
+  -- the registers stand in flat order; the leaf of each has its number, and a leaf with a number is that register's
+  pub register_leaves : (n : ℕ) (register : NetRegister) → slice_get net.registers n ≡ Some register → HasRole net register.leaf (role.Register n)
+  pub registers : (x n : ℕ) → HasRole net x (role.Register n) → (register : NetRegister) × (slice_get net.registers n ≡ Some register) × (register.leaf ≡ x)
+  pub registers_rise : (n k : ℕ) (register later : NetRegister) → n < k → slice_get net.registers n ≡ Some register → slice_get net.registers k ≡ Some later
+      → register.leaf < later.leaf
+  -- so do the captured reads
+  pub captured_leaves : (n : ℕ) (c : Capture) → slice_get (captures net) n ≡ Some c → HasRole net c.leaf (role.Captured n)
+  pub captured : (x n : ℕ) → HasRole net x (role.Captured n) → (c : Capture) × (slice_get (captures net) n ≡ Some c) × (c.leaf ≡ x)
+  pub captured_rise : (n k : ℕ) (c later : Capture) → n < k → slice_get (captures net) n ≡ Some c → slice_get (captures net) k ≡ Some later → c.leaf < later.leaf
   -- inputs are leaves of main's ports
   pub given : (x n : ℕ) (leaf : Leaf) → slice_get net.leaves x ≡ Some leaf → leaf.role ≡ role.Input n → x < net.ports
   -- a reset is a UInt, and its `init` has the kind and the width of the register
@@ -106,3 +109,33 @@ pub record IsNet (net : Net) : Type 0 where
   pub before : (m : ℕ) (memory : NetMemory) → slice_get net.memories m ≡ Some memory → memory.before ≤ length net.leaves
   pub rising : (m n : ℕ) (memory later : NetMemory) → m < n → slice_get net.memories m ≡ Some memory → slice_get net.memories n ≡ Some later → memory.before ≤ later.before
   pub memories : (m p : ℕ) (memory : NetMemory) (port : NetPort) → slice_get net.memories m ≡ Some memory → slice_get memory.ports p ≡ Some port → IsPort net memory port
+
+-- the kind and the width of a leaf, and those of no bits where there is none
+abbrev pub shape_or_none : Option Leaf → Shape
+shape_or_none (Some leaf) = leaf_shape leaf
+shape_or_none None = shaped Unsigned 0
+
+-- the kinds and widths of the registers, of a memory's elements, and of the captured reads
+abbrev pub register_shapes : Net → List Shape
+register_shapes net = map (λ register. shape_or_none (slice_get net.leaves register.leaf)) net.registers
+
+abbrev pub element_shapes : NetMemory → List Shape
+element_shapes memory = map element_shape memory.elements
+
+abbrev pub captured_shapes : Net → List Shape
+captured_shapes net = map (λ c. shape_or_none (slice_get net.leaves c.leaf)) (captures net)
+
+-- The integer is in the range of a kind and a width.
+abbrev pub IsIn : Shape → ℤ → Type 0
+IsIn t n = InRange t.kind t.width n
+
+-- The integers of a state are in the ranges of their leaves.
+pub record IsWithin (net : Net) (s : NetState) : Type 0 where
+  pub registers : (n : ℕ) (t : Shape) → slice_get (register_shapes net) n ≡ Some t → IsIn t (s.registers n)
+  pub contents : (m element k : ℕ) (memory : NetMemory) (t : Shape) → slice_get net.memories m ≡ Some memory → slice_get (element_shapes memory) k ≡ Some t
+      → IsIn t (s.contents m element k)
+  pub captured : (n : ℕ) (t : Shape) → slice_get (captured_shapes net) n ≡ Some t → IsIn t (s.captured n)
+
+-- The integers that are given are in the ranges of the inputs.
+abbrev pub AreInputs : Net → Inputs → Type 0
+AreInputs net given = (x n : ℕ) (leaf : Leaf) → slice_get net.leaves x ≡ Some leaf → leaf.role ≡ role.Input n → IsIn (leaf_shape leaf) (given n)

@@ -2,25 +2,17 @@
 --
 -- A leaf of a state has one word up to 64 bits, and two above, the low one first. The words stand by register in flat order, then by
 -- memory in flat order, element by element and leaf by leaf, and then by captured read in flat order.
-use Rattle.std.specs.Prelude.{◌≡◌, ℕ, ◌+◌, ◌*◌, ◌/◌, ◌%◌, ◌^◌, ◌<◌, nat_lt, Bool, List, [], ◌∷◌, ◌++◌, map, flat_map, length, take, slice_get, slice_index, ℤ, pos, Option, Some, None, option_map, if◌then◌else◌, sum_by}
+use Rattle.std.specs.Prelude.{◌≡◌, ℕ, ◌+◌, ◌*◌, ◌/◌, ◌%◌, ◌^◌, nat_lt, List, [], ◌∷◌, ◌++◌, flat_map, take, slice_get, slice_index, ℤ, pos, Option, Some, None, if◌then◌else◌, sum_by}
 use Rattle.std.specs.List.{range_with_len}
-use Rattle.bit_words.specs.declared.value.Kind.TheVariants.{Unsigned}
 use Rattle.bit_words.specs.declared.value.Value.{Value}
 use Rattle.bit_words.specs.Values.{integer_of}
 use Rattle.cycle_values.specs.Values.{fitted}
-use Rattle.ground_net.specs.declared.net.Leaf.{Leaf}
 use Rattle.ground_net.specs.declared.net.Net.{Net}
 use Rattle.ground_net.specs.declared.net.NetMemory.{NetMemory}
-use Rattle.ground_net.specs.declared.net.ElementLeaf.{ElementLeaf}
 use Rattle.ground_net.specs.Cones.{numbered}
-use Rattle.net_meaning.specs.Shapes.{Shape, shaped}
-use Rattle.net_meaning.specs.Cycles.{NetState, captures, depth_of}
-use Rattle.net_meaning.specs.Nets.{leaf_shape, element_shape}
-
--- the kind and the width of a leaf, and those of no bits where there is none
-abbrev pub shape_or_none : Option Leaf → Shape
-shape_or_none (Some leaf) = leaf_shape leaf
-shape_or_none None = shaped Unsigned 0
+use Rattle.net_meaning.specs.Shapes.{Shape}
+use Rattle.net_meaning.specs.Cycles.{NetState}
+use Rattle.net_meaning.specs.Nets.{register_shapes, element_shapes, captured_shapes}
 
 -- The words of a value.
 abbrev pub words_of_value : Value → List ℕ
@@ -33,16 +25,6 @@ kept s n = words_of_value (fitted s.kind s.width n)
 -- how many words it takes
 abbrev pub word_count : Shape → ℕ
 word_count s = if nat_lt 64 s.width then 2 else 1
-
--- the kinds and widths of the registers, of a memory's elements, and of the captured reads
-abbrev pub register_shapes : Net → List Shape
-register_shapes net = map (λ register. shape_or_none (slice_get net.leaves register.leaf)) net.registers
-
-abbrev pub element_shapes : NetMemory → List Shape
-element_shapes memory = map element_shape memory.elements
-
-abbrev pub captured_shapes : Net → List Shape
-captured_shapes net = map (λ c. shape_or_none (slice_get net.leaves c.leaf)) (captures net)
 
 -- integers that are kept side by side, each by its number
 abbrev pub kept_all : List Shape → (ℕ → ℤ) → List ℕ

@@ -33,7 +33,7 @@ use Rattle.width_fit.specs.Faults.{place_of as place_of_widths}
 use Rattle.width_fit.specs.Fitting.{IsFit}
 use Rattle.width_fit.specs.declared.fault.WidthFault.{WidthFault}
 use Rattle.sim_engine.specs.Unfit.{IsUnfit}
-use Rattle.sim_engine.specs.Stages.{IsLexed, IsLaid, IsParsed, IsNamed, IsTyped, IsAccepted, IsFirstFault, of_tokens, of_layout, of_grammar, of_names, of_types, of_widths, IsGiven}
+use Rattle.sim_engine.specs.Stages.{IsLaid, IsParsed, IsNamed, IsTyped, IsAccepted, IsFirstFault, of_tokens, of_layout, of_grammar, of_names, of_types, of_widths, IsGiven}
 use Rattle.sim_engine.specs.Faults.{fault_place, unless_wanting}
 use Rattle.sim_engine.specs.declared.accept.Accepted.{Accepted}
 use Rattle.sim_engine.specs.declared.fault.CircuitFault.{CircuitFault}

@@ -19,8 +19,8 @@ use fir_parser::parse;
 use fir_tree::{Checked, Fitted};
 use std::alloc::Global;
 use type_check::check;
-use width_rules::rules_of;
 use width_fit::{WidthFault, judge};
+use width_rules::rules_of;
 use width_solver::solve;
 
 /// The greatest length of a circuit's text in bytes.

@@ -1,5 +1,5 @@
 -- Words and texts have at most one answer.
-use Rattle.std.proofs.Common.{◌≡◌, ℕ, ◌<◌, ◌≤◌, Bool, List, [], ◌⊎◌, ⊎_elim, inl, inr, length, refl, sym, ap, ap₂, ◌∙◌, subst, arith}
+use Rattle.std.proofs.Common.{◌≡◌, ℕ, ◌<◌, ◌≤◌, Bool, List, [], length, refl, sym, ap, ap₂, ◌∙◌, subst, arith}
 use Rattle.std.specs.Prelude.{Option, Some, None}
 use Rattle.place_text.specs.declared.place.Place.{Place}
 use Rattle.fir_layout.specs.Pieces.{pieces_of}
@@ -9,7 +9,7 @@ use Rattle.fir_tree.specs.declared.circuit.Circuit.{Circuit}
 use Rattle.fir_tree.specs.declared.scope.Fitted.{Fitted}
 use Rattle.trace_print.specs.Listing.{listing_of, leaves_listed}
 use Rattle.width_fit.specs.Fitting.{IsFittedCircuit}
-use Rattle.sim_engine.specs.Stages.{circuit_limit, IsFirstFault}
+use Rattle.sim_engine.specs.Stages.{circuit_limit}
 use Rattle.sim_engine.specs.Faults.{fault_place}
 use Rattle.sim_engine.specs.declared.fault.CircuitFault.{CircuitFault}
 use Rattle.sim_engine.proofs.Once.{one_fault, no_fault, accepted_once, laid_once}
@@ -18,10 +18,9 @@ use Rattle.sim_top.specs.declared.command.Command.{Command}
 use Rattle.sim_top.specs.declared.command.Command.TheVariants.{Run, Check, Widths}
 use Rattle.sim_top.specs.declared.fault.WholeFault.TheVariants.{Unsupported}
 use Rattle.sim_top.specs.declared.circuit.SmallCircuit.{SmallCircuit}
-use Rattle.sim_top.specs.StimulusLine.{HasNone, IsSplit}
 use Rattle.sim_top.specs.SmallCircuits.{IsSmallCircuit, IsWellFormed}
 use Rattle.sim_top.specs.Cycles.{trace}
-use Rattle.sim_top.specs.Answers.{command_of, input_name, fault_bytes, whole_bytes, joined_limit, IsPart, IsTaken, RunsSmall, traced, bad_stimulus, leaf_limit, Lists, small_enough, over, JudgesTaken, refused, accepted, lists, runs, not_small, Judges, joined_too_long, no_stimulus, circuit_too_long, taken, Answers, no_command, judged}
+use Rattle.sim_top.specs.Answers.{command_of, fault_bytes, whole_bytes, joined_limit, IsPart, IsTaken, RunsSmall, traced, bad_stimulus, Lists, small_enough, over, JudgesTaken, refused, accepted, lists, runs, not_small, Judges, joined_too_long, no_stimulus, circuit_too_long, taken, Answers, no_command, judged}
 use Rattle.sim_top.proofs.LineLemmas.{some_same}
 use Rattle.sim_top.proofs.Splitting.{split_once, part_once, run_has_line}
 use Rattle.sim_top.proofs.SmallOnce.{small_once}

@@ -1,19 +1,16 @@
 -- What a command answers, from what the text is.
 use Rattle.std.proofs.Common.{◌≡◌, ℕ, ◌<◌, ◌≤◌, min, List, ◌⊎◌, ⊎_elim, length, refl, sym, ap, ◌∙◌, arith}
-use Rattle.std.specs.Prelude.{codes, Some, None}
+use Rattle.std.specs.Prelude.{Some, None}
 use Rattle.place_text.specs.declared.place.Place.{Place}
 use Rattle.fir_tree.specs.declared.circuit.Circuit.{Circuit}
-use Rattle.fir_tree.specs.declared.scope.Fitted.{Fitted}
-use Rattle.trace_print.specs.Listing.{leaves_listed}
 use Rattle.sim_engine.specs.Stages.{circuit_limit, IsAccepted, IsFirstFault}
 use Rattle.sim_engine.specs.Faults.{fault_place}
 use Rattle.sim_engine.specs.declared.fault.CircuitFault.{CircuitFault}
 use Rattle.sim_engine.specs.declared.fault.CircuitFault.TheVariants.{NoMemory}
 use Rattle.sim_top.specs.declared.command.Command.{Command}
-use Rattle.sim_top.specs.declared.command.Command.TheVariants.{Run, Check, Widths}
-use Rattle.sim_top.specs.declared.circuit.SmallCircuit.{SmallCircuit}
+use Rattle.sim_top.specs.declared.command.Command.TheVariants.{Check, Widths}
 use Rattle.sim_top.specs.StimulusLine.{IsSplit, HasNone}
-use Rattle.sim_top.specs.Answers.{fault_bytes, joined_limit, reads_all, before_line, all_of_it, IsCut, IsTaken, JudgesTaken, refused, lists, Judges, taken, ListsCircuit}
+use Rattle.sim_top.specs.Answers.{fault_bytes, joined_limit, before_line, all_of_it, IsCut, JudgesTaken, refused, lists, Judges, taken, ListsCircuit}
 
 -- the part before the line, or all of it
 pub cut_before : (command : Command) (joined circuit stimulus : List ℕ) → length joined ≤ joined_limit → IsSplit joined circuit stimulus → IsCut command joined circuit stimulus

@@ -1,5 +1,5 @@
 -- What a reply is, and how a call ends that gives it.
-use Rattle.std.proofs.Common.{◌≡◌, ◌≢◌, ℕ, ◌≤◌, ◌<◌, List, [], ◌++◌, ◌⊎◌, inl, inr, ⊎_elim, Option, refl, sym, ap, ◌∙◌, subst, arith}
+use Rattle.std.proofs.Common.{◌≡◌, ◌≢◌, ℕ, ◌≤◌, List, [], ◌++◌, ◌⊎◌, inl, inr, ⊎_elim, Option, refl, sym, ap, ◌∙◌, subst, arith}
 use Rattle.std.specs.Prelude.{codes, Some, None}
 use Rattle.std.proofs.lemmas.Bool.{cases_eq}
 use Rattle.std.proofs.lemmas.Grind.{common_steps}
@@ -14,7 +14,7 @@ use Rattle.place_text.specs.declared.place.Place.{Place}
 use Rattle.sim_top.specs.declared.fault.WholeFault.{WholeFault}
 use Rattle.sim_top.specs.declared.fault.WholeFault.TheVariants.{TooLong, NoStimulus, Unsupported, TooLarge}
 use Rattle.sim_top.specs.declared.fault.StimulusFault.TheVariants.{BadLine}
-use Rattle.sim_top.specs.Answers.{command_of, whole_bytes, Needs, RunsSmall, traced, bad_stimulus, Lists, small_enough, over, JudgesTaken, refused, accepted, lists, runs, not_small, Judges, joined_too_long, no_stimulus, circuit_too_long, taken, Answers, no_command, judged}
+use Rattle.sim_top.specs.Answers.{whole_bytes, Needs, RunsSmall, traced, bad_stimulus, Lists, small_enough, over, JudgesTaken, refused, accepted, lists, runs, not_small, Judges, joined_too_long, no_stimulus, circuit_too_long, taken, Answers, no_command, judged}
 use Rattle.sim_top.specs.Endings.{Ends, IsSaid, IsFaultLine, of_circuit, of_whole, of_stimulus, IsReply}
 use Rattle.sim_top.proofs.AnswersOnce.{answers_once}
 

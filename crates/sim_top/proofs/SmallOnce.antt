@@ -1,7 +1,6 @@
 -- The pieces of a text are those of at most one small circuit.
-use Rattle.std.proofs.Common.{◌≡◌, ℕ, zero, suc, ◌+◌, ◌<◌, ◌≤◌, ◌^◌, Bool, true, false, List, [], ◌∷◌, ◌++◌, map, codes, decimal, refl, sym, ap, ◌∙◌, arith, append_assoc}
+use Rattle.std.proofs.Common.{◌≡◌, ℕ, zero, suc, ◌<◌, ◌^◌, Bool, true, false, List, [], ◌∷◌, ◌++◌, decimal, refl, sym, ap, ◌∙◌, arith, append_assoc}
 use Rattle.std.specs.Prelude.{All}
-use Rattle.std.specs.List.{flat_map}
 use Rattle.std.proofs.lemmas.Fmt.{decimal_injective}
 use Rattle.std.proofs.lemmas.List.Elements.{All-head, All-tail}
 use Rattle.fir_lexer.specs.declared.token.TokenKind.TheVariants as kind
@@ -17,7 +16,7 @@ use Rattle.sim_top.specs.declared.circuit.Expression.TheVariants as expression
 use Rattle.sim_top.specs.declared.circuit.Operand.{Operand}
 use Rattle.sim_top.specs.declared.circuit.Operand.TheVariants as operand
 use Rattle.sim_top.specs.declared.circuit.Literal.{Literal}
-use Rattle.sim_top.specs.SmallCircuits.{Ink, port_line, statement_line, line_pieces, small_pieces, register_line, connect_line, operand_inks, expression_inks, IsSmallCircuit, direction}
+use Rattle.sim_top.specs.SmallCircuits.{port_line, statement_line, line_pieces, small_pieces, register_line, connect_line, operand_inks, expression_inks, IsSmallCircuit, direction}
 use Rattle.sim_top.specs.Lines.{lines_of, front_pieces, tokens}
 use Rattle.sim_top.specs.Writable.{IsWritable, IsWritableLiteral, IsWritableOperand, IsWritableExpression, IsWritableStatement, IsWritableRegister}
 use Rattle.sim_top.proofs.CircuitLemmas.{small_split, body_pieces, back_pieces}
@@ -153,9 +152,11 @@ register_once : (r q : Register) (more others : List Piece) → IsWritableRegist
 register_once r q more others f g e =
     let width : decimal r.width ≡ decimal q.width = ap (bytes_in 5) e in
     let initial_width : decimal r.initial.width ≡ decimal q.initial.width = ap (bytes_in 11) e in
-    let initial_value : decimal r.initial.value ≡ decimal q.initial.value = ap (bytes_in 14) e in
-    (same_register r q (ap (bytes_in 1) e) (same_width r.width q.width f.width g.width width) (ap (bytes_in 7) e) (ap (bytes_in 8) e)
-    (same_literal r.initial q.initial f.initial g.initial initial_width initial_value), ap (behind 17) e)
+    let initial_value : decimal r.initial.value ≡ decimal q.initial.value = ap (bytes_in 14) e in (
+      same_register r q (ap (bytes_in 1) e) (same_width r.width q.width f.width g.width width) (ap (bytes_in 7) e) (ap (bytes_in 8) e)
+          (same_literal r.initial q.initial f.initial g.initial initial_width initial_value),
+      ap (behind 17) e,
+    )
 
 connect_once : (k j : Connect) (more others : List Piece) → IsWritableExpression k.source → IsWritableExpression j.source
     → line_pieces (connect_line k) ++ more ≡ line_pieces (connect_line j) ++ others → (k ≡ j) × (more ≡ others)

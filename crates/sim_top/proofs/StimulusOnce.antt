@@ -1,15 +1,14 @@
 -- A text is that of at most one small stimulus of a circuit.
-use Rattle.std.proofs.Common.{◌≡◌, ℕ, suc, ◌<◌, ◌≤◌, ◌^◌, List, [], ◌∷◌, ◌++◌, codes, decimal, refl, sym, ap, ◌∙◌, arith}
+use Rattle.std.proofs.Common.{◌≡◌, ℕ, ◌<◌, ◌^◌, List, [], ◌∷◌, ◌++◌, codes, decimal, refl, sym, ap, ◌∙◌, arith}
 use Rattle.std.specs.Prelude.{All, Contains}
 use Rattle.std.specs.List.{flat_map}
 use Rattle.std.proofs.lemmas.Fmt.{decimal_injective}
-use Rattle.std.proofs.lemmas.List.{append_assoc}
 use Rattle.std.proofs.lemmas.List.Elements.{All-head, All-tail}
 use Rattle.sim_top.specs.declared.circuit.SmallCircuit.{SmallCircuit}
 use Rattle.sim_top.specs.declared.stimulus.Setting.{Setting}
 use Rattle.sim_top.specs.declared.stimulus.SmallStimulus.{SmallStimulus}
 use Rattle.sim_top.specs.SmallCircuits.{IsWellFormed}
-use Rattle.sim_top.specs.SmallStimuli.{setting_line, stimulus_text, IsSmallStimulus}
+use Rattle.sim_top.specs.SmallStimuli.{setting_line, IsSmallStimulus}
 use Rattle.sim_top.specs.PlainSettings.{IsPlain}
 use Rattle.sim_top.proofs.Memberships.{Contains-first, Contains-later}
 use Rattle.sim_top.proofs.StimulusLines.{not_in_decimal, cycles_pieces, setting_pieces, plain_settings, no_line, same_setting}

@@ -3,7 +3,7 @@ mod Filled
 mod Formulas
 mod Marking
 mod Measured
-mod Telling
+mod FaultsTold
 mod Surveys
 mod Walking
 mod Whole

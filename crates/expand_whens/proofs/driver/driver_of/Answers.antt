@@ -12,7 +12,7 @@ loop-way-preserved c =
     let i = c.loop-way.invariant in (
       c.in-Some-pop.way ∷ i.0,
       taken_from_end _ _ _ i.0 _ (search rules) i.1,
-      choice_more _ _ _ i.0 _ c.loop-way.items.items c.push_pair.new.items.items c.guard_item.ensures.holds c.guard_item.ensures.mentions c.in_ok-push_pair.ensures i.2,
+      choice_more _ _ _ i.0 _ c.loop-way.items.items c.push_pair.new.items.items c.guard_item.ensures.holds c.guard_item.ensures.mentions c.guard_item.ensures.fits c.in_ok-push_pair.ensures i.2,
     )
 
 pub returns : goal.returns

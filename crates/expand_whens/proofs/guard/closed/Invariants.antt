@@ -1,14 +1,16 @@
-use Rattle.std.proofs.Common.{◌≡◌, ◌++◌, ◌&&◌, List, map, Some, length}
-use Rattle.std.specs.Prelude.{reverse}
+use Rattle.std.proofs.Common.{◌≡◌, ◌++◌, ◌&&◌, List, map, length}
+use Rattle.std.specs.List.{list_all}
 use Rattle.ground_net.specs.declared.ground.Ground.{Ground}
-use Rattle.ground_net.specs.declared.ground.Ground.TheVariants.{Mux}
 use Rattle.ground_net.specs.Grounds.{mentions, joined}
-use Rattle.expand_whens.specs.Ways.{guard_holds, guard_mentions, none_hold, IsGuard}
+use Rattle.ground_net.specs.Statements.{all_hold}
+use Rattle.expand_whens.specs.Shapes.{is_condition}
+use Rattle.expand_whens.specs.Ways.{none_hold, IsBit}
 use Rattle.expand_whens.proofs.guard.closed.Given as goal
 
 abbrev pub invariant-loop-condition : goal.invariant-loop-condition
-invariant-loop-condition l = (done : List Ground) × (l.fn.part.refused.items ≡ l.refused.items ++ done)
-    × IsGuard (λ sight. none_hold sight done && guard_holds sight l.fn.part.rest) (joined (map mentions done) ++ guard_mentions l.fn.part.rest) (Some (Mux (reverse l.items.items)))
+invariant-loop-condition l = (done : List Ground) × (l.fn.part.accepted.items ≡ l.accepted.items ++ done)
+    × IsBit (λ sight. none_hold sight l.fn.part.refused.items && all_hold sight done) (joined (map mentions l.fn.part.refused.items) ++ joined (map mentions done))
+    (λ table. list_all (is_condition table) l.fn.part.refused.items && list_all (is_condition table) done) l.guard
 
 abbrev pub decreases-loop-condition : goal.decreases-loop-condition
-decreases-loop-condition l = length l.refused.items
+decreases-loop-condition l = length l.accepted.items

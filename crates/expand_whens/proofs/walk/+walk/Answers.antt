@@ -6,8 +6,9 @@ use Rattle.ground_net.specs.declared.circuit.GroundArm.{GroundArm}
 use Rattle.expand_whens.specs.declared.guard.Asked.{Asked}
 use Rattle.expand_whens.proofs.Covers.{marks_more, unmarked}
 use Rattle.expand_whens.proofs.Blocks.{walks_next, uncovered_ones}
-use Rattle.expand_whens.proofs.Arms.{walks_when, arms_begin, arms_step, arms_end, refusals_push, left_true}
-use Rattle.expand_whens.proofs.Sources.{block_next, arms_all, arms_next_sourced, when_sourced}
+use Rattle.expand_whens.proofs.Arms.{walks_when, arms_begin, arms_step, arms_end, refusals_push}
+use Rattle.expand_whens.proofs.Tests.{left_true}
+use Rattle.expand_whens.proofs.ShapedWays.{shapes_none, block_next_shapes, arms_next_shapes, arms_end_shapes, when_shapes}
 use Rattle.expand_whens.proofs.walk.+walk.Goals as goal
 
 pub walk_block-walk_statement-requires : goal.walk_block-walk_statement-requires
@@ -26,7 +27,7 @@ walk_block-loop-left-preserved t c =
       marks = rw (c.in_ok-extend_from_slice.ensures.items, c.as_slice-in-loop-left.ensures.value) (marks_more c.loop-left.invariant.marks mark);
       walks = rw (c.in_ok-extend_from_slice.ensures.items, c.as_slice-in-loop-left.ensures.value)
           (walks_next _ c.args.block.now (c.loop-left.left - 1) c.loop-left.left c.index-block-left.result _ _ _ _ _ _ _ step below c.index-block-left.is c.loop-left.invariant.walks c.loop-left.invariant.marks early);
-      sourced = block_next c.args.block.now (c.loop-left.left - 1) c.loop-left.left c.index-block-left.result _ _ _ step below c.index-block-left.is c.loop-left.invariant.sourced c.in_ok-newly.ensures.sourced;
+      shapes = block_next_shapes _ c.args.block.now (c.loop-left.left - 1) c.loop-left.left c.index-block-left.result _ _ _ step below c.index-block-left.is c.loop-left.invariant.shapes (rw c.loop-left.invariant.asked at c.in_ok-newly.ensures.shapes);
     }
 
 pub walk_block-returns-clause-covered : goal.walk_block-returns-clause-covered
@@ -49,7 +50,7 @@ walk_arms-loop-left-init t c = record {
   uncovered = c.requires.uncovered;
   asked = λ before first e. rw (take-length c.args.arms.now) e;
   walks = λ before first other old e w. arms_begin _ before first _ other _ old _ _ e w;
-  sourced = arms_all c.args.arms.now _;
+  shapes = λ before first e. shapes_none _ _ _;
 }
 
 pub walk_arms-loop-left-preserved : goal.walk_arms-loop-left-preserved
@@ -68,13 +69,20 @@ walk_arms-loop-left-preserved t c =
       asked = λ before first e. c.forget_last.ensures _ _ (c.in_ok-newly.ensures.asked ∙ last before first e);
       walks = λ before first other old e w. arms_step before _ first c.args.arms.now (c.loop-left.left - 1) c.loop-left.left c.index-arms-left.result _ other _ _ old _ _ _ _ _ step below c.index-arms-left.is (c.as_slice.ensures ∙ sym (ap (λ (a : GroundArm). a.body) c.index-arms-left.is)) c.loop-left.invariant.same
           (c.loop-left.invariant.walks before first other old e w) (last before first e) c.in_ok-newly.ensures.walks both;
-      sourced = arms_next_sourced c.args.arms.now (c.loop-left.left - 1) c.loop-left.left c.index-arms-left.result _ _ _ _ step below c.index-arms-left.is (c.as_slice.ensures ∙ sym (ap (λ (a : GroundArm). a.body) c.index-arms-left.is)) c.loop-left.invariant.sourced c.in_ok-newly.ensures.sourced;
+      shapes = λ before first e. arms_next_shapes before _ first c.args.arms.now (c.loop-left.left - 1) c.loop-left.left c.index-arms-left.result _ _ _ _ step below c.index-arms-left.is (c.as_slice.ensures ∙ sym (ap (λ (a : GroundArm). a.body) c.index-arms-left.is)) (last before first e) (c.loop-left.invariant.shapes before first e) c.in_ok-newly.ensures.shapes;
     }
 
 pub walk_arms-returns-clause-walks : goal.walk_arms-returns-clause-walks
 walk_arms-returns-clause-walks t c =
     λ before first other old e w. arms_end before first _ _ other _ old _ _ (omega (arith, c.loop-left-test.false)) (c.loop-left.invariant.walks before first other old e w)
 
-pub walk_statement-returns-in_ok-newly-in-When-clause-sourced : goal.walk_statement-returns-in_ok-newly-in-When-clause-sourced
-walk_statement-returns-in_ok-newly-in-When-clause-sourced t c =
-    rw c.in-When.is (when_sourced _ _ _ _ _ _ (rw c.as_slice-in-When-2.ensures at c.in_ok-certain-in-When.ensures.sourced) (rw c.as_slice-in-When-3.ensures at c.in_ok-newly-in-When.ensures.sourced))
+pub walk_statement-returns-in_ok-newly-in-When-clause-shapes : goal.walk_statement-returns-in_ok-newly-in-When-clause-shapes
+walk_statement-returns-in_ok-newly-in-When-clause-shapes t c =
+    let refused = rw c.as_slice-in-When.ensures at c.in_ok-refuse-in-When.ensures in
+    let others = rw (c.as_slice-in-When-2.ensures, refused) at c.in_ok-certain-in-When.ensures.shapes in
+    let arms = c.in_ok-newly-in-When.ensures.shapes c.args.asked.now.items c.in-When.first (rw c.as_slice-in-When-3.ensures (c.in_ok-certain-in-When.ensures.asked ∙ refused)) in
+    rw c.in-When.is (when_shapes _ _ _ _ _ _ _ others (rw c.as_slice-in-When-3.ensures at arms))
+
+pub walk_arms-returns-clause-shapes : goal.walk_arms-returns-clause-shapes
+walk_arms-returns-clause-shapes t c =
+    λ before first e. arms_end_shapes before first _ _ _ _ (omega (arith, c.loop-left-test.false)) (c.loop-left.invariant.shapes before first e)

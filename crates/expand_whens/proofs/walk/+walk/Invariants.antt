@@ -4,7 +4,7 @@ use Rattle.ground_net.specs.declared.circuit.GroundStmt.{GroundStmt}
 use Rattle.expand_whens.specs.declared.guard.Asked.{Asked}
 use Rattle.expand_whens.specs.declared.guard.Way.{Way}
 use Rattle.expand_whens.specs.Ways.{refusals}
-use Rattle.expand_whens.specs.Walking.{BlockWalks, ArmsWalk, BlockSourced, ArmsSourced, Marks, has, is_covered}
+use Rattle.expand_whens.specs.Walking.{BlockWalks, ArmsWalk, BlockShapes, ArmsShapes, Marks, has, is_covered}
 use Rattle.expand_whens.proofs.walk.+walk.Given as goal
 
 abbrev pub invariant-walk_block-loop-left : goal.invariant-walk_block-loop-left
@@ -13,7 +13,7 @@ invariant-walk_block-loop-left l = record {
   asked : l.asked.items ≡ l.fn.asked.items;
   marks : Marks l.certain.items true l.fn.covered.items l.covered.items;
   walks : BlockWalks l.fn.asked.items (drop l.left l.block) l.fn.covered.items l.fn.ways.items l.ways.items l.certain.items;
-  sourced : BlockSourced (drop l.left l.block) l.fn.ways.items l.ways.items;
+  shapes : BlockShapes l.fn.asked.items (drop l.left l.block) l.fn.ways.items l.ways.items;
 }
 
 abbrev pub invariant-walk_arms-loop-left : goal.invariant-walk_arms-loop-left
@@ -26,7 +26,7 @@ invariant-walk_arms-loop-left l = record {
   walks : (before : List Asked) (first : ℕ) (other : List GroundStmt) (old : List (Vec Way)) → l.fn.asked.items ≡ before ++ refusals first l.arms
       → BlockWalks l.fn.asked.items other l.fn.covered.items old l.fn.ways.items l.fn.certain.items
       → ArmsWalk (before ++ refusals first (take l.left l.arms)) first (drop l.left l.arms) other l.fn.covered.items old l.ways.items l.all.items;
-  sourced : ArmsSourced (drop l.left l.arms) l.fn.ways.items l.ways.items;
+  shapes : (before : List Asked) (first : ℕ) → l.fn.asked.items ≡ before ++ refusals first l.arms → ArmsShapes (before ++ refusals first (take l.left l.arms)) (drop l.left l.arms) l.fn.ways.items l.ways.items;
 }
 
 abbrev pub decreases-walk_arms-loop-left : goal.decreases-walk_arms-loop-left
