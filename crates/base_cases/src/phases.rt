@@ -6,7 +6,6 @@ use bit_words::List;
 use phase_core::{PhaseState, Publication, Script, Step, View, apply, begin, is_script, run_steps};
 use std::alloc::{AllocError, Global};
 use std::process::Abort;
-use std::test::Fail;
 
 // A script in which the worker w owns the word w, and publishes `rows[c][w]` in it in cycle c.
 fn script_of(
@@ -64,138 +63,164 @@ fn take_steps(
     Ok(state)
 }
 
-#[test]
-fn closes_at_once(rt: HostRuntime) -> Result<(), Fail> {
-    let script = script_of(rt.alloc(), 1, &[], &[])?;
-    assert!(rt; is_script(&script));
-    let state = take_steps(&rt, rt.alloc(), &script, &[(Step::Close { view: 0 }, true)])?;
-    assert_eq!(rt; state.barrier, 0);
-    assert!(rt; state.closed);
-    Ok(())
+/// Workers, their first words, and what each publishes in each cycle.
+#[derive(Clone, Copy)]
+struct Plan<'a> {
+    workers: u32,
+    first: &'a [u64],
+    rows: &'a [&'a [u64]],
+}
+
+/// The state behind these steps, where the plan makes a script.
+fn state_after(
+    rt: &impl Abort,
+    alloc: Global,
+    plan: Plan<'_>,
+    steps: &[(Step, bool)],
+) -> Option<PhaseState> {
+    let script = script_of(alloc, plan.workers, plan.first, plan.rows).ok()?;
+    if is_script(&script) {
+        take_steps(rt, alloc, &script, steps).ok()
+    } else {
+        None
+    }
+}
+
+/// Compares the barrier, the words and whether the end was reached.
+fn expect(rt: &impl Abort, state: Option<PhaseState>, barrier: u64, words: &[u64], closed: bool) {
+    match state {
+        Some(state) => {
+            assert_eq!(rt; state.barrier, barrier);
+            assert_eq!(rt; state.words.as_slice(), words);
+            assert_eq!(rt; state.closed, closed);
+        }
+        None => assert!(rt; false, "no script"),
+    }
 }
 
 #[test]
-fn runs_one_worker(rt: HostRuntime) -> Result<(), Fail> {
-    let script = script_of(rt.alloc(), 1, &[3], &[&[8]])?;
-    assert!(rt; is_script(&script));
-    let state = take_steps(
-        &rt,
-        rt.alloc(),
-        &script,
-        &[
-            (Step::Arrive { view: 0 }, true),
-            (Step::Pass { view: 0 }, true),
-            (Step::Publish { view: 0 }, true),
-            (Step::Arrive { view: 0 }, true),
-            (Step::Pass { view: 0 }, true),
-            (Step::Load { view: 0, word: 0 }, true),
-            (Step::Close { view: 0 }, true),
-        ],
-    )?;
-    assert_eq!(rt; state.words.as_slice(), [8].as_slice());
-    assert_eq!(rt; state.barrier, 2);
-    assert!(rt; state.closed);
-    Ok(())
+fn closes_at_once(rt: HostRuntime) {
+    let plan = Plan {
+        workers: 1,
+        first: &[],
+        rows: &[],
+    };
+    let steps = [(Step::Close { view: 0 }, true)];
+    let state = state_after(&rt, rt.alloc(), plan, &steps);
+    expect(&rt, state, 0, &[], true);
 }
 
 #[test]
-fn waits_for_a_publication(rt: HostRuntime) -> Result<(), Fail> {
-    let script = script_of(rt.alloc(), 1, &[3], &[&[8]])?;
-    assert!(rt; is_script(&script));
-    let state = take_steps(
-        &rt,
-        rt.alloc(),
-        &script,
-        &[
-            (Step::Arrive { view: 0 }, true),
-            (Step::Pass { view: 0 }, true),
-            (Step::Arrive { view: 0 }, false),
-            (Step::Pass { view: 0 }, false),
-            (Step::Load { view: 0, word: 0 }, false),
-            (Step::Close { view: 0 }, false),
-        ],
-    )?;
-    assert_eq!(rt; state.barrier, 1);
-    assert_eq!(rt; state.words.as_slice(), [3].as_slice());
-    assert!(rt; !state.closed);
-    Ok(())
+fn runs_one_worker(rt: HostRuntime) {
+    let plan = Plan {
+        workers: 1,
+        first: &[3],
+        rows: &[&[8]],
+    };
+    let steps = [
+        (Step::Arrive { view: 0 }, true),
+        (Step::Pass { view: 0 }, true),
+        (Step::Publish { view: 0 }, true),
+        (Step::Arrive { view: 0 }, true),
+        (Step::Pass { view: 0 }, true),
+        (Step::Load { view: 0, word: 0 }, true),
+        (Step::Close { view: 0 }, true),
+    ];
+    let state = state_after(&rt, rt.alloc(), plan, &steps);
+    expect(&rt, state, 2, &[8], true);
 }
 
 #[test]
-fn waits_for_an_arrival(rt: HostRuntime) -> Result<(), Fail> {
-    let script = script_of(rt.alloc(), 2, &[5, 6], &[&[9, 7]])?;
-    assert!(rt; is_script(&script));
-    let state = take_steps(
-        &rt,
-        rt.alloc(),
-        &script,
-        &[
-            (Step::Split { view: 0, at: 1 }, true),
-            (Step::Load { view: 0, word: 0 }, true),
-            (Step::Arrive { view: 0 }, true),
-            (Step::Pass { view: 0 }, false),
-        ],
-    )?;
-    assert_eq!(rt; state.barrier, 1);
-    Ok(())
+fn waits_for_a_publication(rt: HostRuntime) {
+    let plan = Plan {
+        workers: 1,
+        first: &[3],
+        rows: &[&[8]],
+    };
+    let steps = [
+        (Step::Arrive { view: 0 }, true),
+        (Step::Pass { view: 0 }, true),
+        (Step::Arrive { view: 0 }, false),
+        (Step::Pass { view: 0 }, false),
+        (Step::Load { view: 0, word: 0 }, false),
+        (Step::Close { view: 0 }, false),
+    ];
+    let state = state_after(&rt, rt.alloc(), plan, &steps);
+    expect(&rt, state, 1, &[3], false);
+}
+
+#[test]
+fn waits_for_an_arrival(rt: HostRuntime) {
+    let plan = Plan {
+        workers: 2,
+        first: &[5, 6],
+        rows: &[&[9, 7]],
+    };
+    let steps = [
+        (Step::Split { view: 0, at: 1 }, true),
+        (Step::Load { view: 0, word: 0 }, true),
+        (Step::Arrive { view: 0 }, true),
+        (Step::Pass { view: 0 }, false),
+    ];
+    let state = state_after(&rt, rt.alloc(), plan, &steps);
+    expect(&rt, state, 1, &[5, 6], false);
 }
 
 // The worker 2 enters a phase only when the others have ended it.
 #[test]
-fn runs_three_workers(rt: HostRuntime) -> Result<(), Fail> {
-    let script = script_of(rt.alloc(), 3, &[1, 2, 3], &[&[10, 20, 30], &[40, 50, 60]])?;
-    assert!(rt; is_script(&script));
-    let state = take_steps(
-        &rt,
-        rt.alloc(),
-        &script,
-        &[
-            (Step::Split { view: 0, at: 1 }, true),
-            (Step::Split { view: 1, at: 2 }, true),
-            (Step::Arrive { view: 0 }, true),
-            (Step::Arrive { view: 1 }, true),
-            (Step::Stay { view: 1 }, true),
-            (Step::Arrive { view: 2 }, true),
-            (Step::Stay { view: 1 }, false),
-            (Step::Pass { view: 0 }, true),
-            (Step::Pass { view: 1 }, true),
-            (Step::Publish { view: 0 }, true),
-            (Step::Publish { view: 1 }, true),
-            (Step::Arrive { view: 0 }, true),
-            (Step::Arrive { view: 1 }, true),
-            (Step::Pass { view: 0 }, false),
-            (Step::Pass { view: 2 }, true),
-            (Step::Publish { view: 2 }, true),
-            (Step::Publish { view: 2 }, false),
-            (Step::Arrive { view: 2 }, true),
-            (Step::Pass { view: 0 }, true),
-            (Step::Pass { view: 1 }, true),
-            (Step::Load { view: 0, word: 2 }, true),
-            (Step::Load { view: 2, word: 2 }, false),
-            (Step::Arrive { view: 0 }, true),
-            (Step::Arrive { view: 1 }, true),
-            (Step::Pass { view: 2 }, true),
-            (Step::Load { view: 2, word: 0 }, true),
-            (Step::Arrive { view: 2 }, true),
-            (Step::Pass { view: 0 }, true),
-            (Step::Publish { view: 0 }, true),
-            (Step::Arrive { view: 0 }, true),
-            (Step::Pass { view: 1 }, true),
-            (Step::Publish { view: 1 }, true),
-            (Step::Arrive { view: 1 }, true),
-            (Step::Pass { view: 2 }, true),
-            (Step::Publish { view: 2 }, true),
-            (Step::Arrive { view: 2 }, true),
-            (Step::Pass { view: 0 }, true),
-            (Step::Pass { view: 1 }, true),
-            (Step::Join { view: 0, other: 2 }, false),
-            (Step::Pass { view: 2 }, true),
-            (Step::Join { view: 0, other: 1 }, true),
-            (Step::Close { view: 0 }, false),
-            (Step::Join { view: 0, other: 2 }, true),
-            (Step::Close { view: 0 }, true),
-        ],
-    )?;
+fn runs_three_workers(rt: HostRuntime) {
+    let plan = Plan {
+        workers: 3,
+        first: &[1, 2, 3],
+        rows: &[&[10, 20, 30], &[40, 50, 60]],
+    };
+    let steps = [
+        (Step::Split { view: 0, at: 1 }, true),
+        (Step::Split { view: 1, at: 2 }, true),
+        (Step::Arrive { view: 0 }, true),
+        (Step::Arrive { view: 1 }, true),
+        (Step::Stay { view: 1 }, true),
+        (Step::Arrive { view: 2 }, true),
+        (Step::Stay { view: 1 }, false),
+        (Step::Pass { view: 0 }, true),
+        (Step::Pass { view: 1 }, true),
+        (Step::Publish { view: 0 }, true),
+        (Step::Publish { view: 1 }, true),
+        (Step::Arrive { view: 0 }, true),
+        (Step::Arrive { view: 1 }, true),
+        (Step::Pass { view: 0 }, false),
+        (Step::Pass { view: 2 }, true),
+        (Step::Publish { view: 2 }, true),
+        (Step::Publish { view: 2 }, false),
+        (Step::Arrive { view: 2 }, true),
+        (Step::Pass { view: 0 }, true),
+        (Step::Pass { view: 1 }, true),
+        (Step::Load { view: 0, word: 2 }, true),
+        (Step::Load { view: 2, word: 2 }, false),
+        (Step::Arrive { view: 0 }, true),
+        (Step::Arrive { view: 1 }, true),
+        (Step::Pass { view: 2 }, true),
+        (Step::Load { view: 2, word: 0 }, true),
+        (Step::Arrive { view: 2 }, true),
+        (Step::Pass { view: 0 }, true),
+        (Step::Publish { view: 0 }, true),
+        (Step::Arrive { view: 0 }, true),
+        (Step::Pass { view: 1 }, true),
+        (Step::Publish { view: 1 }, true),
+        (Step::Arrive { view: 1 }, true),
+        (Step::Pass { view: 2 }, true),
+        (Step::Publish { view: 2 }, true),
+        (Step::Arrive { view: 2 }, true),
+        (Step::Pass { view: 0 }, true),
+        (Step::Pass { view: 1 }, true),
+        (Step::Join { view: 0, other: 2 }, false),
+        (Step::Pass { view: 2 }, true),
+        (Step::Join { view: 0, other: 1 }, true),
+        (Step::Close { view: 0 }, false),
+        (Step::Join { view: 0, other: 2 }, true),
+        (Step::Close { view: 0 }, true),
+    ];
+    let state = state_after(&rt, rt.alloc(), plan, &steps);
     let last = View {
         low: 0,
         high: 3,
@@ -203,18 +228,25 @@ fn runs_three_workers(rt: HostRuntime) -> Result<(), Fail> {
         passed: 4,
         done: 0,
     };
-    assert_eq!(rt; state.words.as_slice(), [40, 50, 60].as_slice());
-    assert_eq!(rt; state.views.as_slice(), [Some(last), None, None].as_slice());
-    assert_eq!(rt; state.barrier, 12);
-    assert!(rt; state.closed);
-    Ok(())
+    let views = [Some(last), None, None];
+    if let Some(state) = &state {
+        assert_eq!(rt; state.views.as_slice(), views.as_slice());
+    }
+    expect(&rt, state, 12, &[40, 50, 60], true);
 }
 
 #[test]
-fn refuses_what_is_no_script(rt: HostRuntime) -> Result<(), Fail> {
-    let nobody = script_of(rt.alloc(), 0, &[], &[])?;
-    assert!(rt; !is_script(&nobody));
-    let missing = script_of(rt.alloc(), 2, &[5, 6], &[&[9]])?;
-    assert!(rt; !is_script(&missing));
-    Ok(())
+fn refuses_what_is_no_script(rt: HostRuntime) {
+    let nobody = Plan {
+        workers: 0,
+        first: &[],
+        rows: &[],
+    };
+    assert!(rt; state_after(&rt, rt.alloc(), nobody, &[]).is_none());
+    let missing = Plan {
+        workers: 2,
+        first: &[5, 6],
+        rows: &[&[9]],
+    };
+    assert!(rt; state_after(&rt, rt.alloc(), missing, &[]).is_none());
 }
