@@ -1,4 +1,6 @@
+-- what a reader must believe
 pub mod Shapes
+pub mod Expanding
+-- what the bodies keep, and what proofs need
 pub mod Ways
 pub mod Walking
-pub mod Expanding

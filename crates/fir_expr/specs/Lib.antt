@@ -1,5 +1,7 @@
-pub mod Operands
+-- what a reader must believe
 pub mod Standing
+-- what the bodies keep, and what proofs need
+pub mod Operands
 pub mod Parts
 pub mod TypeParts
 pub mod LiteralParts

@@ -1,4 +1,6 @@
+-- what a reader must believe
 pub mod Stages
 pub mod Faults
 pub mod Only
+-- what the bodies keep, and what proofs need
 pub mod Unfit

@@ -1,3 +1,4 @@
+-- what a reader must believe
 pub mod StimulusLine
 pub mod SmallCircuits
 pub mod SmallStimuli
@@ -5,6 +6,7 @@ pub mod Cycles
 pub mod Pieces
 pub mod Answers
 pub mod Endings
+-- what the bodies keep, and what proofs need
 pub mod Evaluation
 pub mod Examples
 pub mod Lines

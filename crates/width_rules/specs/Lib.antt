@@ -1,8 +1,10 @@
-pub mod Circuits
+-- what a reader must believe
+pub mod Places
 pub mod Formulas
+pub mod Sources
+pub mod Circuits
+pub mod Solutions
+-- what the bodies keep, and what proofs need
 pub mod Layers
 pub mod Parts
-pub mod Places
-pub mod Solutions
-pub mod Sources
 pub mod Walks
