@@ -88,7 +88,7 @@ element_integer net words m (Some memory) element k =
     if nat_lt element memory.depth then integer_at_word words (element_word net m memory element k) (slice_get (element_shapes memory) k) else pos 0
 element_integer net words m None element k = pos 0
 
--- The state of words: each list of words is of one.
+-- The state of words: any list of words gives a state.
 abbrev pub state_of : Net → List ℕ → NetState
 state_of net words = record {
   registers = λ k. integer_at_word words (register_word net k) (slice_get (register_shapes net) k);

@@ -11,15 +11,15 @@ use Rattle.fir_types.specs.declared.memory.PortMode.TheVariants as mode
 use Rattle.fir_types.specs.declared.memory.Under.{Under}
 use Rattle.fir_types.specs.declared.memory.Under.TheVariants as under
 use Rattle.fir_types.specs.Leaves.{leaves}
-use Rattle.fir_types.specs.Memories.{depth_of, read_latency_of, under_of}
+use Rattle.fir_types.specs.Memories.{element_of, depth_of, read_latency_of, under_of}
 use Rattle.fir_types.specs.Bundles.{addr_name, en_name, data_name, rdata_name, wmode_name}
 use Rattle.fir_tree.specs.declared.expr.Expr.{Expr}
-use Rattle.fir_meaning.specs.Components.{Design, TypedModule, Component, FlatLeaf, Sort, A_memory, A_node, is_clock, kind_of_leaf, width_of_leaf, flow_of, module_named, ports_bundle}
+use Rattle.fir_meaning.specs.Components.{Design, TypedModule, Component, FlatLeaf, Sort, A_memory, A_node, is_clock, kind_of_leaf, width_of_leaf, flow_of, module_named, ports_bundle, flat}
 use Rattle.fir_meaning.specs.Values.{scene_of, value}
 use Rattle.fir_meaning.specs.Values as tree
 use Rattle.fir_meaning.specs.Drives.{drives}
 use Rattle.fir_meaning.specs.MemoryPorts.{MemoryPort, memory_ports, read_by, written_field, mask_field}
-use Rattle.fir_meaning.specs.States.{State, is_register, is_port, is_source, is_driven, leaf_of}
+use Rattle.fir_meaning.specs.States.{State, Stands, is_register, is_port, is_source, is_driven, leaf_of}
 use Rattle.fir_meaning.specs.States as tree_states
 use Rattle.fir_meaning.specs.Loops.{ReadsLeaf, TakesFrom}
 use Rattle.ground_net.specs.declared.ground.Ground.{Ground}
@@ -93,23 +93,30 @@ is_of_main x = is_of_port x.0.path x.0.c
 abbrev pub valuation_of : List Standing → Sight → tree.Valuation
 valuation_of all sight path c way = integer_at sight (number_in all (record { path = path; component = c; way = way }))
 
+-- The elements of a memory have the leaves of this type: its ports show them, and where it has none, its text gives them.
+pub record HasElement (p : Placed) (memory : Memory) (typ : FirType) : Type 0 where
+  pub bundle : leaves p.c.typ ≡ leaves (ports_bundle memory typ)
+  pub unported : memory_ports memory ≡ [] → leaves typ ≡ leaves (element_of memory)
+
 -- A state of the circuit and one of the net are the same, leaf by leaf and element by element.
-pub record SameState (all : List Standing) (memories : List (Placed × Memory)) (net : Net) (s : State) (t : NetState) : Type 0 where
+pub record MatchingState (all : List Standing) (memories : List (Placed × Memory)) (net : Net) (s : State) (t : NetState) : Type 0 where
   pub registers : (x n : ℕ) (y : Standing) → slice_get all x ≡ Some y → HasRole net x (role.Register n) → s.registers y.0.path y.0.c.declaration.name y.1.path ≡ t.registers n
   pub contents : (m element k : ℕ) (p : Placed) (memory : Memory) (typ : FirType) (leaf : TypeLeaf) → slice_get memories m ≡ Some (p, memory)
-      → leaves p.c.typ ≡ leaves (ports_bundle memory typ) → slice_get (leaves typ) k ≡ Some leaf
+      → HasElement p memory typ → slice_get (leaves typ) k ≡ Some leaf
       → s.contents p.path p.c.declaration.name element leaf.path ≡ t.contents m element k
   pub captured : (x n : ℕ) (y : Standing) (port field : ℕ) (way : List PathStep) → slice_get all x ≡ Some y → HasRole net x (role.Captured n)
       → y.1.path ≡ step.Field port ∷ step.Field field ∷ way → s.captured y.0.path y.0.c.declaration.name port way ≡ t.captured n
 
--- What a leaf has in a cycle of the circuit, where it is neither given nor held.
-pub data Asks (s : State) (rho : tree.Valuation) (x : Standing) (n : ℤ) : Type 0 where
-  by_statements : is_driven x.0.c x.1 ≡ true → drives (scene_of x.0.m x.0.path rho) (leaf_of x.0.c x.1) x.0.c.declaration.block ≡ Some n → Asks s rho x n
+-- What a leaf has in a cycle of the circuit, where it is neither given nor held. The input of an instance is driven where the instance
+-- stands.
+pub data Asks (design : Design) (s : State) (rho : tree.Valuation) (x : Standing) (n : ℤ) : Type 0 where
+  by_statements : (path : List ℕ) (m : TypedModule) (c : Component) (leaf : TypeLeaf) → Stands design path m c leaf → is_driven c leaf ≡ true
+      → flat m path (leaf_of c leaf) ≡ flat_of x → drives (scene_of m path rho) (leaf_of c leaf) c.declaration.block ≡ Some n → Asks design s rho x n
   by_node : (e : Expr) (k : ℕ) → x.0.c.declaration.sort ≡ A_node e → slice_get (leaves x.0.c.typ) k ≡ Some x.1
-      → slice_get (map integer_of (value e (scene_of x.0.m x.0.path rho))) k ≡ Some n → Asks s rho x n
+      → slice_get (map integer_of (value e (scene_of x.0.m x.0.path rho))) k ≡ Some n → Asks design s rho x n
   by_port : (memory : Memory) (port field : ℕ) (way : List PathStep) → x.0.c.declaration.sort ≡ A_memory memory → read_latency_of memory ≡ 0 → x.1.flip ≡ false
       → x.1.path ≡ step.Field port ∷ step.Field field ∷ way
-      → read_by memory ((scene_of x.0.m x.0.path rho).integers x.0.c.declaration.name) (s.contents x.0.path x.0.c.declaration.name) port way ≡ n → Asks s rho x n
+      → read_by memory ((scene_of x.0.m x.0.path rho).integers x.0.c.declaration.name) (s.contents x.0.path x.0.c.declaration.name) port way ≡ n → Asks design s rho x n
 
 -- Memories
 
@@ -166,7 +173,7 @@ pub record IsMemoryOf (placed : List Placed) (p : Placed) (memory : Memory) (nm 
   pub before : nm.before ≡ sum_by (λ q. length (leaves q.c.typ)) (take at placed)
   pub depth : nm.depth ≡ depth_of memory
   pub element : FirType
-  pub bundle : leaves p.c.typ ≡ leaves (ports_bundle memory element)
+  pub is_element : HasElement p memory element
   pub counted : length nm.elements ≡ length (leaves element)
   pub elements : (k : ℕ) (leaf : TypeLeaf) (kept : ElementLeaf) → slice_get (leaves element) k ≡ Some leaf → slice_get nm.elements k ≡ Some kept
       → (kept.kind ≡ kind_of_leaf leaf) × (kept.width ≡ width_of_leaf leaf)
@@ -176,8 +183,8 @@ pub record IsMemoryOf (placed : List Placed) (p : Placed) (memory : Memory) (nm 
 
 -- The net of a circuit
 
--- The net is that of the circuit whose components are these, in flat order. Of each leaf, register and memory it says the same at
--- every sight that is in range.
+-- The net is that of the circuit whose components are these, in flat order. Of each leaf and register it says the same at every sight
+-- that is in range, and its memories are the circuit's.
 pub record IsNetWith (design : Design) (placed : List Placed) (net : Net) : Type 0 where
   pub counted : length net.leaves ≡ length (all_leaves placed)
   pub ports : net.ports ≡ length (filter is_of_main (all_leaves placed))
@@ -186,19 +193,19 @@ pub record IsNetWith (design : Design) (placed : List Placed) (net : Net) : Type
       → (leaf.kind ≡ kind_of_leaf y.1) × (leaf.width ≡ width_of_leaf y.1) × (part_of_role leaf.role ≡ part_of y)
   -- what is left in a leaf
   pub values : (x : ℕ) (y : Standing) (driver : Ground) (s : State) (t : NetState) (rho : cycle.Valuation) → slice_get (all_leaves placed) x ≡ Some y → part_of y ≡ Driven
-      → driver_of net x ≡ Some driver → SameState (all_leaves placed) (all_memories placed) net s t → IsWithin net t → HasShapes (table_of net) (sight_of net t rho)
-      → Asks s (valuation_of (all_leaves placed) (sight_of net t rho)) y (integer_of (net_values.value driver (sight_of net t rho)))
+      → driver_of net x ≡ Some driver → MatchingState (all_leaves placed) (all_memories placed) net s t → IsWithin net t → HasShapes (table_of net) (sight_of net t rho)
+      → Asks design s (valuation_of (all_leaves placed) (sight_of net t rho)) y (integer_of (net_values.value driver (sight_of net t rho)))
   -- what a leaf reads, both ways
   pub reads : (x z : ℕ) (y w : Standing) → slice_get (all_leaves placed) x ≡ Some y → slice_get (all_leaves placed) z ≡ Some w → Reads net x z → ReadsLeaf design (flat_of y) (flat_of w)
   pub all_reads : (x : ℕ) (y : Standing) (f : FlatLeaf) → slice_get (all_leaves placed) x ≡ Some y → ReadsLeaf design (flat_of y) f
       → (z : ℕ) × (w : Standing) × (slice_get (all_leaves placed) z ≡ Some w) × (flat_of w ≡ f) × Reads net x z
-  -- what a register holds next, and what it takes, both ways
+  -- what a register holds next where it shows what it holds, and which assignments it takes, both ways
   pub registers : (n : ℕ) (register : NetRegister) (y : Standing) (s : State) (t : NetState) (rho : cycle.Valuation) → slice_get net.registers n ≡ Some register
-      → slice_get (all_leaves placed) register.leaf ≡ Some y → SameState (all_leaves placed) (all_memories placed) net s t → IsWithin net t → HasShapes (table_of net) (sight_of net t rho)
-      → tree_states.next_of_register (scene_of y.0.m y.0.path (valuation_of (all_leaves placed) (sight_of net t rho))) y.0.c y.0.c.declaration.sort y.1.path (t.registers n)
-      ≡ cycle.next_of_register net (sight_of net t rho) (Some register) (t.registers n)
+      → slice_get (all_leaves placed) register.leaf ≡ Some y → MatchingState (all_leaves placed) (all_memories placed) net s t → IsWithin net t → HasShapes (table_of net) (sight_of net t rho)
+      → tree_states.next_of_register (scene_of y.0.m y.0.path (valuation_of (all_leaves placed) (sight_of net t rho))) y.0.c y.0.c.declaration.sort y.1.path (integer_of (rho register.leaf))
+      ≡ cycle.next_of_register net (sight_of net t rho) (Some register) (integer_of (rho register.leaf))
   pub takes : (n z : ℕ) (register : NetRegister) (y w : Standing) → slice_get net.registers n ≡ Some register → slice_get (all_leaves placed) register.leaf ≡ Some y
-      → slice_get (all_leaves placed) z ≡ Some w → Contains (register_needs net register) z → TakesFrom design (flat_of y) (flat_of w)
+      → slice_get (all_leaves placed) z ≡ Some w → part_of w ≡ Driven → Contains (register_needs net register) z → TakesFrom design (flat_of y) (flat_of w)
   pub all_takes : (n : ℕ) (register : NetRegister) (y : Standing) (f : FlatLeaf) → slice_get net.registers n ≡ Some register → slice_get (all_leaves placed) register.leaf ≡ Some y
       → TakesFrom design (flat_of y) f → (z : ℕ) × (w : Standing) × (slice_get (all_leaves placed) z ≡ Some w) × (flat_of w ≡ f) × Contains (register_needs net register) z
   -- the memories
