@@ -1,0 +1,5 @@
+mod KeyTests
+mod Placing
+mod Following
+mod Driving
+mod Blocks
