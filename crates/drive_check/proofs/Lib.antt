@@ -3,3 +3,6 @@ mod Placing
 mod Following
 mod Driving
 mod Blocks
+mod Naming
+mod Linking
+mod Telling
