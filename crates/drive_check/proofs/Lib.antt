@@ -6,3 +6,6 @@ mod Blocks
 mod Naming
 mod Linking
 mod Telling
+mod Instances
+mod Paths
+mod Deciding

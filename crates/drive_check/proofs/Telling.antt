@@ -55,7 +55,7 @@ contains_get [] x (k, below, is) = absurd (omega arith)
 contains_get (y ∷ xs) x (zero, below, is) = (0, ap Some is)
 contains_get (y ∷ xs) x (suc k, below, is) = let rest = contains_get xs x (k, omega arith, is) in (suc rest.0, rest.1)
 
-none_in : {X : Type 0} (x : X) → Contains [] x → ⊥
+pub none_in : {X : Type 0} (x : X) → Contains [] x → ⊥
 none_in x (k, below, is) = omega arith
 
 one_in : {X : Type 0} (y x : X) → Contains (y ∷ []) x → x ≡ y
@@ -258,7 +258,7 @@ leaf_told certain name sort leaf f = by (must_be_driven sort (flow_of sort leaf.
     by true p true q c = absurd (none_in f c)
     by false p b q c = absurd (none_in f c)
 
-zipped : (ds : List Declaration) (ts : List FirType) (k : ℕ) (c : Component) → slice_get (map component_of (zip ds ts)) k ≡ Some c → slice_get ds k ≡ Some c.declaration
+pub zipped : (ds : List Declaration) (ts : List FirType) (k : ℕ) (c : Component) → slice_get (map component_of (zip ds ts)) k ≡ Some c → slice_get ds k ≡ Some c.declaration
 zipped [] ts k c e = absurd (none_some e)
 zipped (x ∷ ds) [] k c e = absurd (none_some e)
 zipped (x ∷ ds) (t ∷ ts) zero c e = ap (λ (y : Component). Some y.declaration) (some_same e)
@@ -294,7 +294,7 @@ all_told fitted named place u =
 
 -- All that are told are faults.
 
-find_in : {X : Type 0} (p : X → Bool) (xs : List X) (x : X) → find p xs ≡ Some x → (k : ℕ) × (slice_get xs k ≡ Some x) × (p x ≡ true)
+pub find_in : {X : Type 0} (p : X → Bool) (xs : List X) (x : X) → find p xs ≡ Some x → (k : ℕ) × (slice_get xs k ≡ Some x) × (p x ≡ true)
 find_in p [] x e = absurd (none_some e)
 find_in p (y ∷ xs) x e = by (p y) refl e (λ h. find_in p xs x h)
   where

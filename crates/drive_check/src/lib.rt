@@ -4,6 +4,7 @@
 
 mod covering;
 pub mod fault;
+pub mod laws;
 mod leaf_set;
 mod listing;
 mod module_types;
