@@ -1,5 +1,5 @@
 -- There is no fault exactly where the circuit is initialized.
-use Rattle.std.proofs.Common.{◌≡◌, ℕ, zero, suc, Bool, true, false, List, [], ◌∷◌, map, zip, length, Some, slice_get, refl, sym, ap, ◌∙◌, subst, arith, true≢false, ◌==◌}
+use Rattle.std.proofs.Common.{◌≡◌, ℕ, zero, suc, Bool, true, false, List, [], ◌∷◌, length, Some, slice_get, refl, sym, ap, ◌∙◌, arith, true≢false, ◌==◌}
 use Rattle.std.proofs.lemmas.List.{length-map}
 use Rattle.place_text.specs.declared.place.Place.{Place}
 use Rattle.fault_order.specs.First.{HasNone}

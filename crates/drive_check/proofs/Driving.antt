@@ -1,8 +1,7 @@
 -- Leaves that are driven, and where faults of them stand.
-use Rattle.std.proofs.Common.{◌≡◌, ◌≢◌, ℕ, zero, suc, ◌+◌, ◌<◌, ◌==◌, Bool, true, false, ◌&&◌, ◌||◌, not, List, [], ◌∷◌, ◌++◌, map, find, filter_map, option_to_list, length, take, get_or, Option, Some, None, cond, refl, sym, ap, ap₂, ◌∙◌, subst, arith, if◌then◌else◌, eq-eqb, slice_get}
-use Rattle.std.specs.List.{list_any, flat_map, cons_option}
+use Rattle.std.proofs.Common.{◌≡◌, ◌≢◌, ℕ, zero, suc, ◌+◌, ◌<◌, ◌==◌, Bool, true, false, ◌&&◌, ◌||◌, List, [], ◌∷◌, ◌++◌, map, find, filter_map, option_to_list, length, take, get_or, Option, Some, None, cond, refl, sym, ap, ap₂, ◌∙◌, arith, eq-eqb, slice_get}
+use Rattle.std.specs.List.{list_any, cons_option}
 use Rattle.std.specs.Option.{option_or}
-use Rattle.std.proofs.lemmas.Grind.{common_steps}
 use Rattle.std.proofs.lemmas.Bool.{ne_eqb}
 use Rattle.std.proofs.lemmas.List.Folds.{find-append, list_any_more}
 use Rattle.place_text.specs.declared.place.Place.{Place}
@@ -18,7 +17,7 @@ use Rattle.fir_types.proofs.Lines.{lines_more}
 use Rattle.fir_names.proofs.Graphs.{some_same}
 use Rattle.fir_meaning.proofs.Tracking.{none_some}
 use Rattle.fir_meaning.specs.Components.{Leaf}
-use Rattle.fir_meaning.specs.Mentions.{Region, leaves_at}
+use Rattle.fir_meaning.specs.Mentions.{leaves_at}
 use Rattle.fir_meaning.specs.Drives.{same_leaf, is_turned}
 use Rattle.fir_meaning.specs.Certain.{may_be}
 use Rattle.drive_check.specs.declared.leaf_set.LeafKey.{LeafKey}

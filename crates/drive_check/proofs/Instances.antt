@@ -1,5 +1,5 @@
 -- The instances of a module are its declarations of that sort.
-use Rattle.std.proofs.Common.{◌≡◌, ℕ, zero, suc, List, [], ◌∷◌, ◌++◌, map, refl, sym, ap, ap₂, ◌∙◌, subst, Some, slice_get, ◌⊎◌, inl, inr, ⊎_elim}
+use Rattle.std.proofs.Common.{◌≡◌, ℕ, zero, suc, List, [], ◌∷◌, ◌++◌, map, refl, sym, ap, ap₂, ◌∙◌, subst, Some, slice_get, ⊎_elim}
 use Rattle.std.specs.List.{flat_map}
 use Rattle.std.specs.Prelude.{Bool, true, false, if◌then◌else◌}
 use Rattle.std.proofs.lemmas.List.{map-append}
@@ -18,7 +18,7 @@ use Rattle.fir_names.specs.Parts as parts
 use Rattle.fir_names.specs.Parts.{Part, stmt_part, arm_part, module_part}
 use Rattle.fir_names.specs.Scopes.{In, here, there, texts}
 use Rattle.fir_names.proofs.Agreement.{has_its_instances}
-use Rattle.fir_names.proofs.Graphs.{In-left, In-right, In-either, In-one, some_same, In-get}
+use Rattle.fir_names.proofs.Graphs.{In-left, In-right, In-either, In-one, some_same}
 use Rattle.fir_meaning.proofs.Tracking.{none_some}
 
 -- the module of an instance

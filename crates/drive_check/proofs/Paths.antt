@@ -1,13 +1,11 @@
 -- Main reaches a module exactly where it stands at a path.
-use Rattle.std.proofs.Common.{◌≡◌, ◌≢◌, ℕ, zero, suc, ◌+◌, ◌-◌, ◌<◌, ◌≤◌, ◌==◌, Bool, true, false, List, [], ◌∷◌, ◌++◌, map, zip, drop, length, Option, Some, None, cond, slice_get, refl, sym, ap, ap₂, ◌∙◌, subst, arith, length-append, length-drop, eq-eqb}
+use Rattle.std.proofs.Common.{◌≡◌, ◌≢◌, ℕ, zero, suc, ◌<◌, ◌≤◌, ◌==◌, Bool, true, false, List, [], ◌∷◌, ◌++◌, map, zip, drop, length, Option, Some, None, cond, slice_get, refl, sym, ap, ◌∙◌, subst, arith, length-append, length-drop, eq-eqb}
 use Rattle.std.specs.Prelude.{Contains, find, option_and_then, nat_lt}
 use Rattle.std.specs.List.{flat_map}
 use Rattle.std.proofs.lemmas.Bool.{eqb-true, eqb-false, ne_eqb, ltb-true, ltb-false}
 use Rattle.std.proofs.lemmas.List.Concat.{flat_map-cons}
 use Rattle.std.proofs.lemmas.List.{length-map}
 use Rattle.std.proofs.lemmas.Option.{slice_get_within}
-use Rattle.fault_order.specs.First.{HasNone}
-use Rattle.fir_types.specs.declared.name.Name.{Name}
 use Rattle.fir_types.specs.declared.fir_type.FirType.{FirType}
 use Rattle.fir_tree.specs.declared.circuit.Circuit.{Circuit}
 use Rattle.fir_tree.specs.declared.circuit.Module.{Module}
@@ -15,7 +13,7 @@ use Rattle.fir_tree.specs.declared.scope.Fitted.{Fitted}
 use Rattle.fir_meaning.specs.Components.{Sort, An_instance, An_input, An_output, A_wire, A_register, A_reset_register, A_memory, A_node, Declaration, Component, TypedModule, Design, declarations_of, with_types, modules_of, design_of, module_named, component_named, target_in, target_of, module_within, module_at}
 use Rattle.fir_meaning.proofs.Tracking.{none_some}
 use Rattle.fir_names.specs.Extents.{instances_in}
-use Rattle.fir_names.specs.Scopes.{In, texts, module_names, FirstOf, Means, Instance, Reaches, itself, through, IsScope}
+use Rattle.fir_names.specs.Scopes.{In, texts, FirstOf, Means, Reaches, itself, through}
 use Rattle.fir_names.proofs.Graphs.{some_same}
 use Rattle.circuit_laws.specs.Designs.{component_of}
 use Rattle.drive_check.specs.Sites.{names_of}

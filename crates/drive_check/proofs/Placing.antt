@@ -1,11 +1,10 @@
 -- The numbers of names, one name after another.
-use Rattle.std.proofs.Common.{◌≡◌, ℕ, ◌+◌, ◌<◌, Bool, true, false, List, [], ◌∷◌, ◌++◌, length, take, get_or, refl, sym, ap, ap₂, ◌∙◌, if◌then◌else◌, arith, true≢false}
+use Rattle.std.proofs.Common.{◌≡◌, ℕ, ◌+◌, ◌<◌, Bool, true, false, List, [], ◌∷◌, ◌++◌, length, take, get_or, refl, sym, ap, ◌∙◌, if◌then◌else◌, arith, true≢false}
 use Rattle.std.specs.Prelude.{is_some, cond, nat_eq, Option, Some, None}
 use Rattle.std.specs.Map.{lookup}
 use Rattle.std.proofs.lemmas.List.{take_more, length-take-le}
 use Rattle.std.proofs.lemmas.Bool.{eqb-true}
 use Rattle.fir_types.specs.declared.name.Name.{Name}
-use Rattle.fir_names.specs.Extents.{Seen}
 use Rattle.fir_names.specs.Finds.{numbered}
 use Rattle.drive_check.specs.Typing.{IsPlaced, with_new}
 

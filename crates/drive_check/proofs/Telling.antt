@@ -1,5 +1,5 @@
 -- What the walks through all modules find are the faults of driven leaves.
-use Rattle.std.proofs.Common.{◌≡◌, ℕ, zero, suc, ◌+◌, ◌<◌, ◌==◌, Bool, true, false, ◌&&◌, not, List, [], ◌∷◌, ◌++◌, map, zip, drop, length, get_or, Option, Some, None, cond, slice_get, refl, sym, ap, ap₂, ◌∙◌, subst, arith, if◌then◌else◌, true≢false, is_some, ⊎_elim}
+use Rattle.std.proofs.Common.{◌≡◌, ℕ, zero, suc, ◌+◌, ◌==◌, Bool, true, false, ◌&&◌, not, List, [], ◌∷◌, map, zip, drop, length, get_or, Option, Some, None, cond, slice_get, refl, sym, ap, ap₂, ◌∙◌, subst, arith, if◌then◌else◌, ⊎_elim}
 use Rattle.std.specs.Prelude.{Contains, find, nat_eq, option_map, option_and_then}
 use Rattle.std.specs.List.{flat_map}
 use Rattle.std.specs.Map.{lookup}
@@ -7,7 +7,7 @@ use Rattle.std.proofs.lemmas.Bool.{eqb-true, eqb-false}
 use Rattle.std.proofs.lemmas.List.Elements.{Contains-append_cases, Contains-append_left, Contains-append_right}
 use Rattle.std.proofs.lemmas.List.Concat.{flat_map-cons}
 use Rattle.std.proofs.lemmas.List.{length-map}
-use Rattle.fault_order.specs.First.{HasNone, Tells}
+use Rattle.fault_order.specs.First.{Tells}
 use Rattle.place_text.specs.declared.place.Place.{Place}
 use Rattle.fir_types.specs.declared.name.Name.{Name}
 use Rattle.fir_types.specs.declared.fir_type.FirType.{FirType}
@@ -16,10 +16,9 @@ use Rattle.fir_types.specs.Leaves.{leaves}
 use Rattle.fir_types.proofs.Layers.{leaves-bundle}
 use Rattle.fir_tree.specs.declared.circuit.Module.{Module}
 use Rattle.fir_tree.specs.declared.scope.Fitted.{Fitted}
-use Rattle.fir_meaning.specs.Components.{Leaf, Sort, Declaration, Component, TypedModule, declarations_of, with_types, modules_of, component_named, type_in, type_or_empty, flow_of}
+use Rattle.fir_meaning.specs.Components.{Sort, Declaration, Component, TypedModule, declarations_of, with_types, modules_of, component_named, type_in, type_or_empty, flow_of}
 use Rattle.fir_meaning.specs.Mentions.{Scope}
 use Rattle.fir_meaning.specs.Certain.{is_certain, must_be_driven}
-use Rattle.fir_meaning.specs.States.{leaf_of}
 use Rattle.fir_meaning.proofs.Tracking.{none_some, Contains-flat_map}
 use Rattle.fir_names.specs.Scopes.{In}
 use Rattle.fir_names.specs.Finds.{numbered}
@@ -28,9 +27,9 @@ use Rattle.circuit_laws.specs.Designs.{component_of}
 use Rattle.drive_check.specs.declared.fault.DriveFault.{DriveFault}
 use Rattle.drive_check.specs.declared.fault.DriveFault.TheVariants.{NotInitialized}
 use Rattle.drive_check.specs.Sites.{names_of, place_of_leaf}
-use Rattle.drive_check.specs.Initialized.{IsReached, Declares, IsUndriven, IsFault, not_initialized}
+use Rattle.drive_check.specs.Initialized.{IsUndriven, IsFault, not_initialized}
 use Rattle.drive_check.specs.Typing.{typed, type_or_none}
-use Rattle.drive_check.specs.Walks.{Certain, leaf_faults, undriven}
+use Rattle.drive_check.specs.Walks.{Certain, leaf_faults}
 use Rattle.drive_check.specs.Modules.{faults_in, module_faults, where_reached, modules_faults, faults_of}
 use Rattle.drive_check.proofs.Linking.{sites, site_faults, names_are, module_sites}
 

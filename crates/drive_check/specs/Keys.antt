@@ -1,5 +1,5 @@
 -- Sets of leaves of a module, as the walk keeps them.
-use Rattle.std.specs.Prelude.{ℕ, Bool, List, [], ◌∷◌, map}
+use Rattle.std.specs.Prelude.{Bool, List, map}
 use Rattle.std.specs.List.{list_any}
 use Rattle.fir_types.specs.declared.leaf.PathStep.{PathStep}
 use Rattle.fir_types.specs.declared.leaf.PathStep.TheVariants as step

@@ -1,6 +1,6 @@
 -- Two faults of one place and one rank are the same, and so are two without a place: the laws that the faults of driven leaves keep.
-use Rattle.std.specs.Prelude.{◌≡◌, ℕ, refl, Option, Some, None}
-use mathlib.Core.Path.{sym, ap, ap₂, ◌∙◌}
+use Rattle.std.specs.Prelude.{◌≡◌, refl, Option, Some, None}
+use mathlib.Core.Path.{sym, ap, ◌∙◌}
 use Rattle.place_text.specs.declared.place.Place.{Place}
 use Rattle.drive_check.specs.declared.fault.DriveFault.{DriveFault}
 use Rattle.drive_check.specs.declared.fault.DriveFault.TheVariants.{NotInitialized, NoMemory}

@@ -1,5 +1,5 @@
 -- Where the declarations of a module stand, and where a fault of one of their leaves is told.
-use Rattle.std.specs.Prelude.{ℕ, ◌==◌, ◌++◌, List, [], ◌∷◌, map, find, filter_map, flat_map, Option, Some, None}
+use Rattle.std.specs.Prelude.{◌==◌, ◌++◌, List, [], ◌∷◌, map, find, filter_map, flat_map, Option, Some, None}
 use Rattle.place_text.specs.declared.place.Place.{Place}
 use Rattle.fir_types.specs.declared.name.Name.{Name}
 use Rattle.fir_types.specs.declared.leaf.PathStep.{PathStep}

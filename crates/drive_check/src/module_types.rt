@@ -68,11 +68,7 @@ fn numbers_of(alloc: Global, names: &[Name]) -> Result<IndexMap<u32, usize>, All
 }
 
 /// Notes the number of a name, unless there is one.
-fn insert_new(
-    numbers: &mut IndexMap<u32, usize>,
-    id: u32,
-    number: usize,
-) -> Result<(), AllocError>
+fn insert_new(numbers: &mut IndexMap<u32, usize>, id: u32, number: usize) -> Result<(), AllocError>
     ensures { OnOk result (numbers.new.entries ≡ with_new numbers.old.entries id number) }
 {
     if numbers.get(&id).is_none() {

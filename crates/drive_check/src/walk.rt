@@ -65,10 +65,9 @@ fn walk_statement(
             walk_arms(alloc, types, &mut all, faults, arms.as_slice())?;
             certain.add(all)
         }
-        Stmt::Reg(_, _, _)
-        | Stmt::RegReset(_, _, _, _, _)
-        | Stmt::Node(_, _)
-        | Stmt::Skip(_) => Ok(()),
+        Stmt::Reg(_, _, _) | Stmt::RegReset(_, _, _, _, _) | Stmt::Node(_, _) | Stmt::Skip(_) => Ok(
+            (),
+        ),
     }
 }
 

@@ -1,7 +1,5 @@
-use Rattle.std.proofs.Common.{arith, sym, ap, ◌∙◌, ◌++◌, append_assoc}
-use Rattle.std.specs.List.{flat_map}
+use Rattle.std.proofs.Common.{arith}
 use Rattle.std.proofs.lemmas.Grind.{common_steps}
-use Rattle.drive_check.specs.Sites.{stmt_names}
 use Rattle.drive_check.proofs.Blocks.{on_ok}
 use Rattle.drive_check.proofs.Naming.{arm_names_is, when_names_are}
 use Rattle.drive_check.proofs.names.+names.Goals as goal

@@ -1,4 +1,3 @@
-use Rattle.std.proofs.Common.{rules}
 use Rattle.fir_meaning.specs.Certain.{may_be}
 use Rattle.drive_check.specs.Spots.{region_at}
 use Rattle.drive_check.proofs.Driving.{parts_more}

@@ -10,7 +10,7 @@ returns-then-name-port c = port_found c.args.lines.now c.loop-line.line-index c.
 
 pub loop-line-preserved : goal.loop-line-preserved
 loop-line-preserved c = elim c.match-line.branch [
-    in-MemPort+else-name-port w ↦ other_port c.args.lines.now c.loop-line.line-index c.line-item.result w.in-MemPort.name c.args.port c.loop-line-test.true c.line-item.is c.loop-line.invariant
-        (ap port_name_in w.in-MemPort.is) w.if-name-port.false
+  | in-MemPort+else-name-port w ↦ other_port c.args.lines.now c.loop-line.line-index c.line-item.result w.in-MemPort.name c.args.port c.loop-line-test.true c.line-item.is c.loop-line.invariant
+      (ap port_name_in w.in-MemPort.is) w.if-name-port.false
   | in_default w ↦ no_port c.args.lines.now c.loop-line.line-index c.line-item.result c.args.port c.loop-line-test.true c.line-item.is c.loop-line.invariant w.in_default.not-MemPort
-  ]
+]

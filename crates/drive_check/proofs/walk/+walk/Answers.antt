@@ -1,4 +1,4 @@
-use Rattle.std.proofs.Common.{arith, sym, ap, subst, rules}
+use Rattle.std.proofs.Common.{arith, sym, subst, rules}
 use Rattle.drive_check.specs.HeldTypes.{types_in}
 use Rattle.drive_check.specs.Walks.{Walks}
 use Rattle.drive_check.proofs.Blocks.{on_ok, statements_more, arms_more, when_walks, walked-inst}
