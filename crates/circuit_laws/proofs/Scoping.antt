@@ -464,11 +464,11 @@ arms_alone (p ∷ ps) seen n d k h w a e =
     (get-either (told_arm p.0).declared others k d (subst (λ l. slice_get l k ≡ Some d) (flat_map-cons (λ arm. arm.declared) (told_arm p.0) (map told_arm rest)) e))
 
 -- a declaration itself
-one_alone : (s : Stmt) (name : ℕ) (sort : Sort) → (told s).declares ≡ one name sort → count s ≡ 1 → ((c : ℕ) (seen : List Seen) (n : ℕ) → NotSeen c seen → AllNamed ((stmt_part s).uses seen n) → Avoids c (named_in s))
+one_alone : (s : Stmt) (name : Name) (sort : Sort) → (told s).declares ≡ one name sort → count s ≡ 1 → ((c : ℕ) (seen : List Seen) (n : ℕ) → NotSeen c seen → AllNamed ((stmt_part s).uses seen n) → Avoids c (named_in s))
     → StmtAlone s
 one_alone s name sort is counts own front later seen n d zero u v h w a e =
-    let at : Some (record { name = name; sort = sort; block = front ++ s ∷ later; behind = later }) ≡ Some d = ap (λ f. slice_get (f (front ++ s ∷ later) later) 0) (sym is) ∙ e in
-    let d' : Declaration = record { name = name; sort = sort; block = front ++ s ∷ later; behind = later } in
+    let at : Some (record { name = name.id; place = name.place; sort = sort; block = front ++ s ∷ later; behind = later }) ≡ Some d = ap (λ f. slice_get (f (front ++ s ∷ later) later) 0) (sym is) ∙ e in
+    let d' : Declaration = record { name = name.id; place = name.place; sort = sort; block = front ++ s ∷ later; behind = later } in
     let same : d' ≡ d = some_same at in
     subst (λ m. IsAlone d m (front ++ s ∷ later)) (omega arith)
     (itself front s later counts (ap (λ (x : Declaration). x.block) (sym same)) (ap (λ (x : Declaration). x.behind) (sym same)) u (own d.name seen n h a))
@@ -481,7 +481,7 @@ none_alone s is front later seen n d k u v h w a e = absurd (none_some (sym (ap 
 told_at : (z : Stmt-F Stmt Arm) → told (roll-Stmt z) ≡ of_told (map-Stmt Stmt Arm Told ToldArm told told_arm z)
 told_at z = fold-roll-Stmt Told ToldArm of_told of_told_arm z
 
-declaring : (z : Stmt-F Stmt Arm) (name : ℕ) (sort : Sort) → (of_told (map-Stmt Stmt Arm Told ToldArm told told_arm z)).declares ≡ one name sort
+declaring : (z : Stmt-F Stmt Arm) (name : Name) (sort : Sort) → (of_told (map-Stmt Stmt Arm Told ToldArm told told_arm z)).declares ≡ one name sort
     → standing.of_stmt (map-Stmt Stmt Arm ℕ ℕ count arm_count z) ≡ 1
     → ((c : ℕ) (seen : List Seen) (n : ℕ) → NotSeen c seen → AllNamed ((parts.of_stmt (map-Stmt Stmt Arm Part Part stmt_part arm_part z)).uses seen n)
     → Avoids c (names.of_stmt (map-Stmt Stmt Arm (List Name) (List Name) named_in arm_names z))) → StmtAlone (roll-Stmt z)
@@ -493,13 +493,13 @@ refers_alone : (c : ℕ) (seen : List Seen) (ns : List Name) → NotSeen c seen 
 refers_alone c seen ns h a = mentions_avoid c seen h ns (every-left Use IsNamed (map (λ name. record { name = name; seen = seen }) ns) [] a)
 
 alone_layer : (y : Stmt-F ((s : Stmt) × StmtAlone s) ((a : Arm) × ArmAlone a)) → StmtAlone (roll-Stmt (map-Stmt _ _ Stmt Arm (λ e. e.0) (λ e. e.0) y))
-alone_layer (Stmt-F.Wire name typ) = declaring (Stmt-F.Wire name typ) name.id _ refl refl (λ c seen n h a. tt)
-alone_layer (Stmt-F.Reg name typ clock) = declaring (Stmt-F.Reg name typ clock) name.id _ refl refl (λ c seen n h a. refers_alone c seen (references clock) h a)
-alone_layer (Stmt-F.RegReset name typ clock reset init) = declaring (Stmt-F.RegReset name typ clock reset init) name.id _ refl refl
+alone_layer (Stmt-F.Wire name typ) = declaring (Stmt-F.Wire name typ) name _ refl refl (λ c seen n h a. tt)
+alone_layer (Stmt-F.Reg name typ clock) = declaring (Stmt-F.Reg name typ clock) name _ refl refl (λ c seen n h a. refers_alone c seen (references clock) h a)
+alone_layer (Stmt-F.RegReset name typ clock reset init) = declaring (Stmt-F.RegReset name typ clock reset init) name _ refl refl
     (λ c seen n h a. refers_alone c seen (references clock ++ references reset ++ references init) h a)
-alone_layer (Stmt-F.Mem memory) = declaring (Stmt-F.Mem memory) memory.name.id _ refl refl (λ c seen n h a. tt)
-alone_layer (Stmt-F.Inst name target) = declaring (Stmt-F.Inst name target) name.id _ refl refl (λ c seen n h a. tt)
-alone_layer (Stmt-F.Node name expr) = declaring (Stmt-F.Node name expr) name.id _ refl refl (λ c seen n h a. refers_alone c seen (references expr) h a)
+alone_layer (Stmt-F.Mem memory) = declaring (Stmt-F.Mem memory) memory.name _ refl refl (λ c seen n h a. tt)
+alone_layer (Stmt-F.Inst name target) = declaring (Stmt-F.Inst name target) name _ refl refl (λ c seen n h a. tt)
+alone_layer (Stmt-F.Node name expr) = declaring (Stmt-F.Node name expr) name _ refl refl (λ c seen n h a. refers_alone c seen (references expr) h a)
 alone_layer (Stmt-F.Connect left right) = none_alone _ (λ b r. ap (λ (t : Told). t.declares b r) (told_at (Stmt-F.Connect left right)))
 alone_layer (Stmt-F.Invalidate target) = none_alone _ (λ b r. ap (λ (t : Told). t.declares b r) (told_at (Stmt-F.Invalidate target)))
 alone_layer (Stmt-F.Skip place) = none_alone _ (λ b r. ap (λ (t : Told). t.declares b r) (told_at (Stmt-F.Skip place)))

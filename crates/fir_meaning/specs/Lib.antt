@@ -7,3 +7,4 @@ pub mod Mentions
 pub mod Certain
 pub mod Loops
 pub mod ClockRoot
+pub mod WellTyped
