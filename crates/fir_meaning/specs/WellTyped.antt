@@ -16,7 +16,7 @@ use Rattle.fir_tree.specs.declared.expr.Form.TheOpen.{Form-F, Suffix-F, Expr-F}
 use Rattle.fir_tree.specs.declared.stmt.Stmt.{Stmt, fold-Stmt}
 use Rattle.fir_tree.specs.declared.stmt.Stmt.TheOpen.{Stmt-F, Arm-F}
 use Rattle.cycle_values.specs.Shapes.{Shape, shaped, same_kind, is_unsigned, all_of, shape_of_row}
-use Rattle.fir_meaning.specs.Components.{TypedModule, Component, Sort, A_node, A_memory, component_named, declarations_of, kind_of_leaf, width_of_leaf}
+use Rattle.fir_meaning.specs.Components.{TypedModule, Component, A_node, A_memory, component_named, declarations_of, kind_of_leaf, width_of_leaf}
 use Rattle.fir_meaning.specs.MemoryPorts.{memory_ports}
 use Rattle.fir_meaning.specs.Values.{field_of_shape, element_of_shape, vector_length, literal_width}
 
