@@ -100,11 +100,12 @@ pub record HasElement (p : Placed) (memory : Memory) (typ : FirType) : Type 0 wh
   pub bundle : leaves p.c.typ ≡ leaves (ports_bundle memory typ)
   pub unported : memory_ports memory ≡ [] → leaves typ ≡ leaves (element_of memory)
 
--- A state of the circuit and one of the net are the same, leaf by leaf and element by element.
-pub record MatchingState (all : List Standing) (memories : List (Placed × Memory)) (net : Net) (s : State) (t : NetState) : Type 0 where
+-- A state of the circuit and one of the net are the same, leaf by leaf and element by element, where the elements of the memories have
+-- these types.
+pub record MatchingState (all : List Standing) (memories : List (Placed × Memory)) (elements : List FirType) (net : Net) (s : State) (t : NetState) : Type 0 where
   pub registers : (x n : ℕ) (y : Standing) → slice_get all x ≡ Some y → HasRole net x (role.Register n) → s.registers y.0.path y.0.c.declaration.name y.1.path ≡ t.registers n
   pub contents : (m element k : ℕ) (p : Placed) (memory : Memory) (typ : FirType) (leaf : TypeLeaf) → slice_get memories m ≡ Some (p, memory)
-      → HasElement p memory typ → slice_get (leaves typ) k ≡ Some leaf
+      → slice_get elements m ≡ Some typ → slice_get (leaves typ) k ≡ Some leaf
       → s.contents p.path p.c.declaration.name element leaf.path ≡ t.contents m element k
   pub captured : (x n : ℕ) (y : Standing) (port field : ℕ) (way : List PathStep) → slice_get all x ≡ Some y → HasRole net x (role.Captured n)
       → y.1.path ≡ step.Field port ∷ step.Field field ∷ way → s.captured y.0.path y.0.c.declaration.name port way ≡ t.captured n
@@ -114,8 +115,8 @@ pub record MatchingInputs (all : List Standing) (net : Net) (given : tree_states
   pub inputs : (x n : ℕ) (y : Standing) → slice_get all x ≡ Some y → HasRole net x (role.Input n) → given y.0.c.declaration.name y.1.path ≡ numbered n
 
 -- What is seen of the net in a cycle that begins with a state: the states match, and all is in range.
-pub record IsSeen (placed : List Placed) (net : Net) (s : State) (t : NetState) (rho : cycle.Valuation) : Type 0 where
-  pub states : MatchingState (all_leaves placed) (all_memories placed) net s t
+pub record IsSeen (placed : List Placed) (elements : List FirType) (net : Net) (s : State) (t : NetState) (rho : cycle.Valuation) : Type 0 where
+  pub states : MatchingState (all_leaves placed) (all_memories placed) elements net s t
   pub within : IsWithin net t
   pub shapes : HasShapes (table_of net) (sight_of net t rho)
 
@@ -181,13 +182,12 @@ pub record IsPortOf (all : List Standing) (p : Placed) (memory : Memory) (elemen
       × (r.captured ≡ not (read_latency_of memory == 0)) × (r.after ≡ is_new (under_of memory))
 
 -- A memory of the net is one of the circuit's: its name and depth, the leaves of its elements and its ports, and how many leaves stand before it.
-pub record IsMemoryOf (texts : Texts) (placed : List Placed) (p : Placed) (memory : Memory) (nm : NetMemory) : Type 0 where
+pub record IsMemoryOf (texts : Texts) (placed : List Placed) (p : Placed) (memory : Memory) (element : FirType) (nm : NetMemory) : Type 0 where
   pub name : nm.name ≡ path_text texts p.path ++ text_of texts p.c.declaration.name
   pub at : ℕ
   pub stands : slice_get placed at ≡ Some p
   pub before : nm.before ≡ sum_by (λ q. length (leaves q.c.typ)) (take at placed)
   pub depth : nm.depth ≡ depth_of memory
-  pub element : FirType
   pub is_element : HasElement p memory element
   pub counted : length nm.elements ≡ length (leaves element)
   pub elements : (k : ℕ) (leaf : TypeLeaf) (kept : ElementLeaf) → slice_get (leaves element) k ≡ Some leaf → slice_get nm.elements k ≡ Some kept
@@ -206,26 +206,26 @@ pub record IsLeafOfNet (texts : Texts) (y : Standing) (leaf : Leaf) : Type 0 whe
   pub place : leaf.place ≡ y.0.c.declaration.place
   pub part : part_of_role leaf.role ≡ part_of y
 
--- The net is that of the circuit whose components are these, in flat order. Of each leaf and register it says the same at every sight
+-- The net is that of the circuit whose components are these, in flat order, and the elements of whose memories have these types. Of each leaf and register it says the same at every sight
 -- that is in range, and its memories are the circuit's.
-pub record IsNetWith (texts : Texts) (design : Design) (placed : List Placed) (net : Net) : Type 0 where
+pub record IsNetWith (texts : Texts) (design : Design) (placed : List Placed) (elements : List FirType) (net : Net) : Type 0 where
   pub counted : length net.leaves ≡ length (all_leaves placed)
   pub ports : net.ports ≡ length (filter is_of_main (all_leaves placed))
   pub leaves_are : (x : ℕ) (y : Standing) (leaf : Leaf) → slice_get (all_leaves placed) x ≡ Some y → slice_get net.leaves x ≡ Some leaf → IsLeafOfNet texts y leaf
   -- what statements leave in a leaf; the input of an instance is driven where the instance stands
   pub driven : (path : List ℕ) (m : TypedModule) (c : Component) (leaf : TypeLeaf) (x : ℕ) (y : Standing) (driver : Ground) (s : State) (t : NetState) (rho : cycle.Valuation)
       → Stands design path m c leaf → is_driven c leaf ≡ true → slice_get (all_leaves placed) x ≡ Some y → flat m path (leaf_of c leaf) ≡ flat_of y
-      → driver_of net x ≡ Some driver → IsSeen placed net s t rho
+      → driver_of net x ≡ Some driver → IsSeen placed elements net s t rho
       → drives (scene_of m path (seen_valuation placed net t rho)) (leaf_of c leaf) c.declaration.block ≡ Some (integer_of (net_values.value driver (sight_of net t rho)))
   -- the value of a node's expression
   pub nodes : (x : ℕ) (y : Standing) (e : Expr) (k : ℕ) (driver : Ground) (s : State) (t : NetState) (rho : cycle.Valuation)
       → slice_get (all_leaves placed) x ≡ Some y → y.0.c.declaration.sort ≡ A_node e → is_clock y.1 ≡ false → slice_get (leaves y.0.c.typ) k ≡ Some y.1
-      → driver_of net x ≡ Some driver → IsSeen placed net s t rho
+      → driver_of net x ≡ Some driver → IsSeen placed elements net s t rho
       → slice_get (map integer_of (value e (scene_of y.0.m y.0.path (seen_valuation placed net t rho)))) k ≡ Some (integer_of (net_values.value driver (sight_of net t rho)))
   -- a read of latency 0
   pub port_reads : (x : ℕ) (y : Standing) (memory : Memory) (port field : ℕ) (way : List PathStep) (driver : Ground) (s : State) (t : NetState) (rho : cycle.Valuation)
       → slice_get (all_leaves placed) x ≡ Some y → y.0.c.declaration.sort ≡ A_memory memory → read_latency_of memory ≡ 0 → y.1.flip ≡ false
-      → y.1.path ≡ step.Field port ∷ step.Field field ∷ way → driver_of net x ≡ Some driver → IsSeen placed net s t rho
+      → y.1.path ≡ step.Field port ∷ step.Field field ∷ way → driver_of net x ≡ Some driver → IsSeen placed elements net s t rho
       → read_by memory ((scene_of y.0.m y.0.path (seen_valuation placed net t rho)).integers y.0.c.declaration.name) (s.contents y.0.path y.0.c.declaration.name) port way
       ≡ integer_of (net_values.value driver (sight_of net t rho))
   -- what a leaf reads, both ways
@@ -234,7 +234,7 @@ pub record IsNetWith (texts : Texts) (design : Design) (placed : List Placed) (n
       → (z : ℕ) × (w : Standing) × (slice_get (all_leaves placed) z ≡ Some w) × (flat_of w ≡ f) × Reads net x z
   -- what a register holds next where it shows what it holds, and which assignments it takes, both ways
   pub registers : (n : ℕ) (register : NetRegister) (y : Standing) (s : State) (t : NetState) (rho : cycle.Valuation) → slice_get net.registers n ≡ Some register
-      → slice_get (all_leaves placed) register.leaf ≡ Some y → IsSeen placed net s t rho
+      → slice_get (all_leaves placed) register.leaf ≡ Some y → IsSeen placed elements net s t rho
       → tree_states.next_of_register (scene_of y.0.m y.0.path (seen_valuation placed net t rho)) y.0.c y.0.c.declaration.sort y.1.path (integer_of (rho register.leaf))
       ≡ cycle.next_of_register net (sight_of net t rho) (Some register) (integer_of (rho register.leaf))
   pub takes : (n z : ℕ) (register : NetRegister) (y w : Standing) → slice_get net.registers n ≡ Some register → slice_get (all_leaves placed) register.leaf ≡ Some y
@@ -243,8 +243,9 @@ pub record IsNetWith (texts : Texts) (design : Design) (placed : List Placed) (n
       → TakesFrom design (flat_of y) f → (z : ℕ) × (w : Standing) × (slice_get (all_leaves placed) z ≡ Some w) × (flat_of w ≡ f) × Contains (register_needs net register) z
   -- the memories, and where their words begin
   pub all_memories_there : length net.memories ≡ length (all_memories placed)
-  pub memories : (m : ℕ) (p : Placed) (memory : Memory) (nm : NetMemory) → slice_get (all_memories placed) m ≡ Some (p, memory) → slice_get net.memories m ≡ Some nm
-      → IsMemoryOf texts placed p memory nm
+  pub all_elements_there : length elements ≡ length (all_memories placed)
+  pub memories : (m : ℕ) (p : Placed) (memory : Memory) (element : FirType) (nm : NetMemory) → slice_get (all_memories placed) m ≡ Some (p, memory)
+      → slice_get elements m ≡ Some element → slice_get net.memories m ≡ Some nm → IsMemoryOf texts placed p memory element nm
   pub words : SaysItsWords net
 
 -- The net is that of a circuit whose names have these texts.
@@ -254,4 +255,5 @@ pub record IsNetOf (texts : Texts) (design : Design) (net : Net) : Type 0 where
   pub found : module_named design design.main ≡ Some main
   pub placed : List Placed
   pub order : InFlatOrder design [] main main.components placed
-  pub is : IsNetWith texts design placed net
+  pub elements : List FirType
+  pub is : IsNetWith texts design placed elements net

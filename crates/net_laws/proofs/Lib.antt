@@ -1,0 +1,6 @@
+mod Numbers
+mod Integers
+mod Seen
+mod Nexts
+mod Rows
+mod Traces
