@@ -4,7 +4,8 @@
 use Rattle.std.specs.Prelude.{◌≡◌, ℕ, ◌≤◌, ◌&&◌, max, nat_le, nat_lt, Bool, true, false, List, [], ◌∷◌, map, Contains, slice_get, Option, Some, None, option_map, option_and_then, is_some, if◌then◌else◌}
 use Rattle.std.specs.List.{list_all}
 use Rattle.bit_words.specs.Numbers.{integer_of_number}
-use Rattle.fir_types.specs.declared.fir_type.FirType.{FirType}
+use Rattle.fir_types.specs.declared.fir_type.FirType.{FirType, fold-FirType}
+use Rattle.fir_types.specs.declared.fir_type.Shape.TheOpen.{Shape-F}
 use Rattle.fir_types.specs.declared.fir_type.Shape.TheViews.{out-Shape}
 use Rattle.fir_types.specs.declared.leaf.TypeLeaf.{TypeLeaf}
 use Rattle.fir_types.specs.declared.memory.Memory.{Memory}
@@ -16,7 +17,7 @@ use Rattle.fir_tree.specs.declared.expr.Form.TheOpen.{Form-F, Suffix-F, Expr-F}
 use Rattle.fir_tree.specs.declared.stmt.Stmt.{Stmt, fold-Stmt}
 use Rattle.fir_tree.specs.declared.stmt.Stmt.TheOpen.{Stmt-F, Arm-F}
 use Rattle.cycle_values.specs.Shapes.{Shape, shaped, same_kind, is_unsigned, all_of, shape_of_row}
-use Rattle.fir_meaning.specs.Components.{TypedModule, Component, A_node, A_memory, component_named, declarations_of, kind_of_leaf, width_of_leaf, is_clock}
+use Rattle.fir_meaning.specs.Components.{TypedModule, Component, A_node, A_memory, component_named, declarations_of, kind_of_leaf, width_of_leaf, width_or_none, is_clock}
 use Rattle.fir_meaning.specs.MemoryPorts.{MemoryPort, memory_ports, port_named}
 use Rattle.fir_meaning.specs.States.{is_register}
 use Rattle.fir_meaning.specs.Values.{field_of_shape, element_of_shape, vector_length, literal_width}
@@ -124,6 +125,18 @@ module _ (known : Known) where
   abbrev pub are_typed : List Stmt → Bool
   are_typed body = list_all (λ b. b) (map is_typed_stmt body)
 
+-- No ground type in the text of a type has more than 128 bits, also in that of an element of a vector of length 0.
+abbrev pub narrow_shape : Shape-F Bool Bool Bool → Bool
+narrow_shape (Shape-F.Unsigned width) = nat_le (width_or_none width) 128
+narrow_shape (Shape-F.Signed width) = nat_le (width_or_none width) 128
+narrow_shape Shape-F.Clock = true
+narrow_shape Shape-F.Reset = true
+narrow_shape (Shape-F.Bundle fields) = list_all (λ narrow. narrow) fields
+narrow_shape (Shape-F.Vector element n) = element
+
+abbrev pub is_narrow : FirType → Bool
+is_narrow = fold-FirType Bool Bool Bool narrow_shape (λ f. f.typ) (λ t. t.shape)
+
 -- A module of a text and its components are well typed: there is one for each declaration, in text order; a node has the kinds and
 -- widths of its expression; no leaf has more than 128 bits; the ways of a component's leaves differ pairwise.
 pub record HasTypes (holder : Module) (m : TypedModule) : Type 0 where
@@ -139,3 +152,4 @@ pub record HasTypes (holder : Module) (m : TypedModule) : Type 0 where
   pub held : (c : Component) (leaf : TypeLeaf) → Contains m.components c → is_register c.declaration.sort ≡ true → Contains (leaves c.typ) leaf → is_clock leaf ≡ false
   pub read_data : (c : Component) (memory : Memory) (leaf : TypeLeaf) → Contains m.components c → c.declaration.sort ≡ A_memory memory → Contains (leaves c.typ) leaf → leaf.flip ≡ false → is_clock leaf ≡ false
   pub port_names : (c : Component) (memory : Memory) (port : MemoryPort) → Contains m.components c → c.declaration.sort ≡ A_memory memory → Contains (memory_ports memory) port → port_named memory port.name ≡ Some port
+  pub narrow_types : (c : Component) → Contains m.components c → is_narrow c.typ ≡ true
