@@ -125,17 +125,17 @@ module _ (known : Known) where
   abbrev pub are_typed : List Stmt → Bool
   are_typed body = list_all (λ b. b) (map is_typed_stmt body)
 
--- No ground type in the text of a type has more than 128 bits, also in that of an element of a vector of length 0.
-abbrev pub narrow_shape : Shape-F Bool Bool Bool → Bool
-narrow_shape (Shape-F.Unsigned width) = nat_le (width_or_none width) 128
-narrow_shape (Shape-F.Signed width) = nat_le (width_or_none width) 128
-narrow_shape Shape-F.Clock = true
-narrow_shape Shape-F.Reset = true
-narrow_shape (Shape-F.Bundle fields) = list_all (λ narrow. narrow) fields
-narrow_shape (Shape-F.Vector element n) = element
+-- No ground type in a type has more than 128 bits, also none in an element of a vector of length 0.
+abbrev pub narrow_layer : Shape-F Bool Bool Bool → Bool
+narrow_layer (Shape-F.Unsigned width) = nat_le (width_or_none width) 128
+narrow_layer (Shape-F.Signed width) = nat_le (width_or_none width) 128
+narrow_layer Shape-F.Clock = true
+narrow_layer Shape-F.Reset = true
+narrow_layer (Shape-F.Bundle fields) = list_all (λ f. f) fields
+narrow_layer (Shape-F.Vector element n) = element
 
 abbrev pub is_narrow : FirType → Bool
-is_narrow = fold-FirType Bool Bool Bool narrow_shape (λ f. f.typ) (λ t. t.shape)
+is_narrow = fold-FirType Bool Bool Bool narrow_layer (λ f. f.typ) (λ t. t.shape)
 
 -- A module of a text and its components are well typed: there is one for each declaration, in text order; a node has the kinds and
 -- widths of its expression; no leaf has more than 128 bits; the ways of a component's leaves differ pairwise.
@@ -145,6 +145,8 @@ pub record HasTypes (holder : Module) (m : TypedModule) : Type 0 where
   pub nodes : (c : Component) (e : Expr) → Contains m.components c → c.declaration.sort ≡ A_node e → typed e (known_in m) ≡ Some (map leaf_shape (leaves c.typ))
   pub passive : (c : Component) (e : Expr) (leaf : TypeLeaf) → Contains m.components c → c.declaration.sort ≡ A_node e → Contains (leaves c.typ) leaf → leaf.flip ≡ false
   pub narrow : (c : Component) (leaf : TypeLeaf) → Contains m.components c → Contains (leaves c.typ) leaf → width_of_leaf leaf ≤ 128
+  -- so have the parts of a vector of length 0, which has no leaves
+  pub parts : (c : Component) → Contains m.components c → is_narrow c.typ ≡ true
   pub ways : (c : Component) (j k : ℕ) (a b : TypeLeaf) → Contains m.components c → slice_get (leaves c.typ) j ≡ Some a → slice_get (leaves c.typ) k ≡ Some b → a.path ≡ b.path → j ≡ k
   -- the elements of a memory without ports, which has no leaves
   pub elements : (c : Component) (memory : Memory) (leaf : TypeLeaf) → Contains m.components c → c.declaration.sort ≡ A_memory memory → memory_ports memory ≡ [] → Contains (leaves (element_of memory)) leaf → width_of_leaf leaf ≤ 128
@@ -152,4 +154,3 @@ pub record HasTypes (holder : Module) (m : TypedModule) : Type 0 where
   pub held : (c : Component) (leaf : TypeLeaf) → Contains m.components c → is_register c.declaration.sort ≡ true → Contains (leaves c.typ) leaf → is_clock leaf ≡ false
   pub read_data : (c : Component) (memory : Memory) (leaf : TypeLeaf) → Contains m.components c → c.declaration.sort ≡ A_memory memory → Contains (leaves c.typ) leaf → leaf.flip ≡ false → is_clock leaf ≡ false
   pub port_names : (c : Component) (memory : Memory) (port : MemoryPort) → Contains m.components c → c.declaration.sort ≡ A_memory memory → Contains (memory_ports memory) port → port_named memory port.name ≡ Some port
-  pub narrow_types : (c : Component) → Contains m.components c → is_narrow c.typ ≡ true
