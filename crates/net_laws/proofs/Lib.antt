@@ -1,6 +1,6 @@
-mod Numbers
-mod Integers
-mod Seen
-mod Nexts
-mod Rows
-mod Traces
+pub mod Numbers
+pub mod Integers
+pub mod Seen
+pub mod Nexts
+pub mod Rows
+pub mod Traces

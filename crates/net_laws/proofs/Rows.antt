@@ -42,7 +42,7 @@ in_append (z ∷ xs) ys (suc k) x e = ⊎_elim (λ here. inl (suc here.0, here.1
 abbrev of_main : TypedModule → Component → Placed
 of_main m c = record { path = []; m = m; c = c }
 
-abbrev leaves_of : Placed → List Standing
+abbrev pub leaves_of : Placed → List Standing
 leaves_of p = map (λ leaf. (p, leaf)) (leaves p.c.typ)
 
 later_contains : {A : Type 0} (z : A) (xs : List A) (x : A) → Contains xs x → Contains (z ∷ xs) x
@@ -66,11 +66,11 @@ path_of_own (j ∷ path) i c = refl
 abbrev NotOfMain : Placed → Type 0
 NotOfMain p = is_of_port p.path p.c ≡ false
 
-abbrev Longer : List ℕ → List ℕ → Type 0
+abbrev pub Longer : List ℕ → List ℕ → Type 0
 Longer path other = (more : List ℕ) × (other ≡ path ++ more)
 
 -- paths begin with that of the module
-begins : (design : Design) (path : List ℕ) (m : TypedModule) (cs : List Component) {placed : List Placed} → InFlatOrder design path m cs placed → (k : ℕ) (p : Placed) → slice_get placed k ≡ Some p → Longer path p.path
+pub begins : (design : Design) (path : List ℕ) (m : TypedModule) (cs : List Component) {placed : List Placed} → InFlatOrder design path m cs placed → (k : ℕ) (p : Placed) → slice_get placed k ≡ Some p → Longer path p.path
 begins design path m cs no_more k p e = none_some e
 begins design path m (c ∷ cs) (one_more e f) zero p at = ([], ap (λ (q : Placed). q.path) (sym (some_same at)) ∙ sym (append_nil path))
 begins design path m (c ∷ cs) (one_more e f) (suc k) p at = begins design path m cs f k p at
@@ -96,7 +96,7 @@ not_of_main design m (c ∷ others) none (an_instance {own = own} {rest = rest} 
 
 -- Leaves
 
-all_of_append : (ps qs : List Placed) → all_leaves (ps ++ qs) ≡ all_leaves ps ++ all_leaves qs
+pub all_of_append : (ps qs : List Placed) → all_leaves (ps ++ qs) ≡ all_leaves ps ++ all_leaves qs
 all_of_append ps qs = flat_map-append leaves_of ps qs
 
 filter_none : {A : Type 0} (test : A → Bool) (xs : List A) → ((k : ℕ) (x : A) → slice_get xs k ≡ Some x → test x ≡ false) → filter test xs ≡ []
