@@ -11,15 +11,16 @@ use Rattle.fir_types.specs.declared.memory.PortMode.TheVariants as mode
 use Rattle.fir_types.specs.declared.memory.Under.{Under}
 use Rattle.fir_types.specs.declared.memory.Under.TheVariants as under
 use Rattle.fir_types.specs.Leaves.{leaves}
-use Rattle.fir_types.specs.Memories.{element_of, depth_of, read_latency_of, under_of}
+use Rattle.fir_types.specs.Memories.{depth_of, read_latency_of, under_of}
 use Rattle.fir_types.specs.Bundles.{addr_name, en_name, data_name, rdata_name, wmode_name}
 use Rattle.fir_tree.specs.declared.expr.Expr.{Expr}
 use Rattle.leaf_names.specs.LeafNames.{Texts, text_of, way_text, leaf_text}
-use Rattle.fir_meaning.specs.Components.{Design, TypedModule, Component, FlatLeaf, Sort, A_memory, A_node, is_clock, kind_of_leaf, width_of_leaf, flow_of, module_named, ports_bundle, flat}
+use Rattle.fir_meaning.specs.Components.{Design, TypedModule, Component, FlatLeaf, Sort, A_memory, A_node, is_clock, kind_of_leaf, width_of_leaf, flow_of, module_named, flat}
 use Rattle.fir_meaning.specs.Values.{scene_of, value}
 use Rattle.fir_meaning.specs.Values as tree
 use Rattle.fir_meaning.specs.Drives.{drives}
 use Rattle.fir_meaning.specs.MemoryPorts.{MemoryPort, memory_ports, read_by, written_field, mask_field}
+use Rattle.fir_meaning.specs.Elements.{IsElement}
 use Rattle.fir_meaning.specs.States.{State, Stands, is_register, is_port, is_source, is_driven, leaf_of}
 use Rattle.fir_meaning.specs.States as tree_states
 use Rattle.fir_meaning.specs.Loops.{ReadsLeaf, TakesFrom}
@@ -94,11 +95,6 @@ is_of_main x = is_of_port x.0.path x.0.c
 -- The integers that a sight shows of the circuit's leaves, and 0 where there is no such leaf.
 abbrev pub valuation_of : List Standing → Sight → tree.Valuation
 valuation_of all sight path c way = integer_at sight (number_in all (record { path = path; component = c; way = way }))
-
--- The elements of a memory have the leaves of this type: its ports show them, and where it has none, its text gives them.
-pub record HasElement (p : Placed) (memory : Memory) (typ : FirType) : Type 0 where
-  pub bundle : leaves p.c.typ ≡ leaves (ports_bundle memory typ)
-  pub unported : memory_ports memory ≡ [] → leaves typ ≡ leaves (element_of memory)
 
 -- A state of the circuit and one of the net are the same, leaf by leaf and element by element, where the elements of the memories have
 -- these types.
@@ -188,7 +184,7 @@ pub record IsMemoryOf (texts : Texts) (placed : List Placed) (p : Placed) (memor
   pub stands : slice_get placed at ≡ Some p
   pub before : nm.before ≡ sum_by (λ q. length (leaves q.c.typ)) (take at placed)
   pub depth : nm.depth ≡ depth_of memory
-  pub is_element : HasElement p memory element
+  pub is_element : IsElement p.c memory element
   pub counted : length nm.elements ≡ length (leaves element)
   pub elements : (k : ℕ) (leaf : TypeLeaf) (kept : ElementLeaf) → slice_get (leaves element) k ≡ Some leaf → slice_get nm.elements k ≡ Some kept
       → (kept.kind ≡ kind_of_leaf leaf) × (kept.width ≡ width_of_leaf leaf) × (kept.path ≡ way_text texts leaf.path)
