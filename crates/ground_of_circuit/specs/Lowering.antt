@@ -152,8 +152,8 @@ pub record IsGroundModule (texts : Texts) (circuit : Circuit) (m : TypedModule) 
       → IsGroundInstance texts circuit m part.0 part.1 part.2 gi
 
 -- The ground statements are those of a circuit: module by module that main reaches.
-pub record IsGroundOf (fitted : Fitted) (ground : GroundCircuit) : Type 0 where
-  pub main : Means fitted.checked.circuit fitted.checked.circuit.main.id ground.main
-  pub counted : length ground.modules ≡ length fitted.checked.circuit.modules
-  pub modules : (k : ℕ) (m : TypedModule) (g : GroundModule) → slice_get (modules_of fitted) k ≡ Some m → slice_get fitted.checked.scope.reached k ≡ Some true → slice_get ground.modules k ≡ Some g
+pub record IsGroundOf (fitted : Fitted) (lowered : GroundCircuit) : Type 0 where
+  pub main : Means fitted.checked.circuit fitted.checked.circuit.main.id lowered.main
+  pub counted : length lowered.modules ≡ length fitted.checked.circuit.modules
+  pub modules : (k : ℕ) (m : TypedModule) (g : GroundModule) → slice_get (modules_of fitted) k ≡ Some m → slice_get fitted.checked.scope.reached k ≡ Some true → slice_get lowered.modules k ≡ Some g
       → IsGroundModule fitted.checked.circuit.names fitted.checked.circuit m g
