@@ -42,7 +42,7 @@ IsNamed u = (number : ℕ) × Names u number
 abbrev AllNamed : List Use → Type 0
 AllNamed = Every Use IsNamed
 
-abbrev Distinct : List Name → Type 0
+abbrev pub Distinct : List Name → Type 0
 Distinct [] = ⊤
 Distinct (n ∷ ns) = Avoids n.id ns × Distinct ns
 
@@ -464,11 +464,11 @@ arms_alone (p ∷ ps) seen n d k h w a e =
     (get-either (told_arm p.0).declared others k d (subst (λ l. slice_get l k ≡ Some d) (flat_map-cons (λ arm. arm.declared) (told_arm p.0) (map told_arm rest)) e))
 
 -- a declaration itself
-one_alone : (s : Stmt) (name : ℕ) (sort : Sort) → (told s).declares ≡ one name sort → count s ≡ 1 → ((c : ℕ) (seen : List Seen) (n : ℕ) → NotSeen c seen → AllNamed ((stmt_part s).uses seen n) → Avoids c (named_in s))
+one_alone : (s : Stmt) (name : Name) (sort : Sort) → (told s).declares ≡ one name sort → count s ≡ 1 → ((c : ℕ) (seen : List Seen) (n : ℕ) → NotSeen c seen → AllNamed ((stmt_part s).uses seen n) → Avoids c (named_in s))
     → StmtAlone s
 one_alone s name sort is counts own front later seen n d zero u v h w a e =
-    let at : Some (record { name = name; sort = sort; block = front ++ s ∷ later; behind = later }) ≡ Some d = ap (λ f. slice_get (f (front ++ s ∷ later) later) 0) (sym is) ∙ e in
-    let d' : Declaration = record { name = name; sort = sort; block = front ++ s ∷ later; behind = later } in
+    let at : Some (record { name = name.id; place = name.place; sort = sort; block = front ++ s ∷ later; behind = later }) ≡ Some d = ap (λ f. slice_get (f (front ++ s ∷ later) later) 0) (sym is) ∙ e in
+    let d' : Declaration = record { name = name.id; place = name.place; sort = sort; block = front ++ s ∷ later; behind = later } in
     let same : d' ≡ d = some_same at in
     subst (λ m. IsAlone d m (front ++ s ∷ later)) (omega arith)
     (itself front s later counts (ap (λ (x : Declaration). x.block) (sym same)) (ap (λ (x : Declaration). x.behind) (sym same)) u (own d.name seen n h a))
@@ -481,7 +481,7 @@ none_alone s is front later seen n d k u v h w a e = absurd (none_some (sym (ap 
 told_at : (z : Stmt-F Stmt Arm) → told (roll-Stmt z) ≡ of_told (map-Stmt Stmt Arm Told ToldArm told told_arm z)
 told_at z = fold-roll-Stmt Told ToldArm of_told of_told_arm z
 
-declaring : (z : Stmt-F Stmt Arm) (name : ℕ) (sort : Sort) → (of_told (map-Stmt Stmt Arm Told ToldArm told told_arm z)).declares ≡ one name sort
+declaring : (z : Stmt-F Stmt Arm) (name : Name) (sort : Sort) → (of_told (map-Stmt Stmt Arm Told ToldArm told told_arm z)).declares ≡ one name sort
     → standing.of_stmt (map-Stmt Stmt Arm ℕ ℕ count arm_count z) ≡ 1
     → ((c : ℕ) (seen : List Seen) (n : ℕ) → NotSeen c seen → AllNamed ((parts.of_stmt (map-Stmt Stmt Arm Part Part stmt_part arm_part z)).uses seen n)
     → Avoids c (names.of_stmt (map-Stmt Stmt Arm (List Name) (List Name) named_in arm_names z))) → StmtAlone (roll-Stmt z)
@@ -493,13 +493,13 @@ refers_alone : (c : ℕ) (seen : List Seen) (ns : List Name) → NotSeen c seen 
 refers_alone c seen ns h a = mentions_avoid c seen h ns (every-left Use IsNamed (map (λ name. record { name = name; seen = seen }) ns) [] a)
 
 alone_layer : (y : Stmt-F ((s : Stmt) × StmtAlone s) ((a : Arm) × ArmAlone a)) → StmtAlone (roll-Stmt (map-Stmt _ _ Stmt Arm (λ e. e.0) (λ e. e.0) y))
-alone_layer (Stmt-F.Wire name typ) = declaring (Stmt-F.Wire name typ) name.id _ refl refl (λ c seen n h a. tt)
-alone_layer (Stmt-F.Reg name typ clock) = declaring (Stmt-F.Reg name typ clock) name.id _ refl refl (λ c seen n h a. refers_alone c seen (references clock) h a)
-alone_layer (Stmt-F.RegReset name typ clock reset init) = declaring (Stmt-F.RegReset name typ clock reset init) name.id _ refl refl
+alone_layer (Stmt-F.Wire name typ) = declaring (Stmt-F.Wire name typ) name _ refl refl (λ c seen n h a. tt)
+alone_layer (Stmt-F.Reg name typ clock) = declaring (Stmt-F.Reg name typ clock) name _ refl refl (λ c seen n h a. refers_alone c seen (references clock) h a)
+alone_layer (Stmt-F.RegReset name typ clock reset init) = declaring (Stmt-F.RegReset name typ clock reset init) name _ refl refl
     (λ c seen n h a. refers_alone c seen (references clock ++ references reset ++ references init) h a)
-alone_layer (Stmt-F.Mem memory) = declaring (Stmt-F.Mem memory) memory.name.id _ refl refl (λ c seen n h a. tt)
-alone_layer (Stmt-F.Inst name target) = declaring (Stmt-F.Inst name target) name.id _ refl refl (λ c seen n h a. tt)
-alone_layer (Stmt-F.Node name expr) = declaring (Stmt-F.Node name expr) name.id _ refl refl (λ c seen n h a. refers_alone c seen (references expr) h a)
+alone_layer (Stmt-F.Mem memory) = declaring (Stmt-F.Mem memory) memory.name _ refl refl (λ c seen n h a. tt)
+alone_layer (Stmt-F.Inst name target) = declaring (Stmt-F.Inst name target) name _ refl refl (λ c seen n h a. tt)
+alone_layer (Stmt-F.Node name expr) = declaring (Stmt-F.Node name expr) name _ refl refl (λ c seen n h a. refers_alone c seen (references expr) h a)
 alone_layer (Stmt-F.Connect left right) = none_alone _ (λ b r. ap (λ (t : Told). t.declares b r) (told_at (Stmt-F.Connect left right)))
 alone_layer (Stmt-F.Invalidate target) = none_alone _ (λ b r. ap (λ (t : Told). t.declares b r) (told_at (Stmt-F.Invalidate target)))
 alone_layer (Stmt-F.Skip place) = none_alone _ (λ b r. ap (λ (t : Told). t.declares b r) (told_at (Stmt-F.Skip place)))
@@ -600,7 +600,7 @@ texts-here : (before front : List Name) (n name : Name) → name.id ≡ n.id →
 texts-here [] front n name e = subst (λ t. In t (texts (n ∷ front))) (sym e) (here (texts front))
 texts-here (b ∷ before) front n name e = there b.id (texts (before ++ n ∷ front)) (texts-here before front n name e)
 
-distinct_behind : (before ns : List Name) → ((name : Name) → ¬ (IsTwice (before ++ ns) name)) → Distinct ns
+pub distinct_behind : (before ns : List Name) → ((name : Name) → ¬ (IsTwice (before ++ ns) name)) → Distinct ns
 distinct_behind before [] h = tt
 distinct_behind before (n ∷ ns) h = (
   avoids_unless n.id ns (λ front back name s e. h name (record {
@@ -644,7 +644,7 @@ ids_of holder =
     port_ids [] = refl
     port_ids (port ∷ ports) = ap (λ l. port.name.id ∷ l) (port_ids ports)
 
-abbrev DistinctIds : List ℕ → Type 0
+abbrev pub DistinctIds : List ℕ → Type 0
 DistinctIds [] = ⊤
 DistinctIds (n ∷ ns) = Every ℕ (λ m. m ≢ n) ns × DistinctIds ns
 
@@ -652,7 +652,7 @@ texts_every : (c : ℕ) (ns : List Name) → Avoids c ns → Every ℕ (λ m. m 
 texts_every c [] a = tt
 texts_every c (n ∷ ns) a = (a.0, texts_every c ns a.1)
 
-distinct_texts : (ns : List Name) → Distinct ns → DistinctIds (texts ns)
+pub distinct_texts : (ns : List Name) → Distinct ns → DistinctIds (texts ns)
 distinct_texts [] d = tt
 distinct_texts (n ∷ ns) d = (texts_every n.id ns d.0, distinct_texts ns d.1)
 
@@ -661,7 +661,7 @@ every-get P [] h k x e = cc
 every-get P (y ∷ xs) h zero x e = subst P (some_same e) h.0
 every-get P (y ∷ xs) h (suc k) x e = every-get P xs h.1 k x e
 
-ids_apart : (xs : List ℕ) → DistinctIds xs → (j k c : ℕ) → slice_get xs j ≡ Some c → slice_get xs k ≡ Some c → j ≡ k
+pub ids_apart : (xs : List ℕ) → DistinctIds xs → (j k c : ℕ) → slice_get xs j ≡ Some c → slice_get xs k ≡ Some c → j ≡ k
 ids_apart [] d j k c e f = cc
 ids_apart (x ∷ xs) d zero zero c e f = refl
 ids_apart (x ∷ xs) d zero (suc k) c e f = absurd (every-get (λ m. m ≢ x) xs d.0 k c f (sym (some_same e)))

@@ -6,6 +6,4 @@ mod Blocks
 mod Naming
 mod Linking
 mod Telling
-mod Instances
-mod Paths
 mod Deciding

@@ -1,6 +1,5 @@
 -- Leaves that nothing may drive (FIRRTL specification 3.0, "Initialization" under "Conditionals"), in the modules that main reaches.
-use Rattle.std.specs.Prelude.{◌≡◌, ℕ, true, false, Contains, length, flat_map, slice_get, Some}
-use Rattle.fault_order.specs.First.{HasNone}
+use Rattle.std.specs.Prelude.{◌≡◌, ℕ, true, false, Contains, slice_get, Some}
 use Rattle.place_text.specs.declared.place.Place.{Place}
 use Rattle.fir_types.specs.declared.name.Name.{Name}
 use Rattle.fir_types.specs.declared.leaf.TypeLeaf.{TypeLeaf}
@@ -10,18 +9,9 @@ use Rattle.fir_tree.specs.declared.scope.Fitted.{Fitted}
 use Rattle.fir_meaning.specs.Components.{TypedModule, Component, modules_of, flow_of, type_in}
 use Rattle.fir_meaning.specs.Certain.{is_certain, must_be_driven}
 use Rattle.fir_meaning.specs.States.{leaf_of}
-use Rattle.fir_names.specs.Scopes.{IsScope}
-use Rattle.fir_names.specs.Faults as names
 use Rattle.drive_check.specs.declared.fault.DriveFault.{DriveFault}
 use Rattle.drive_check.specs.declared.fault.DriveFault.TheVariants.{NotInitialized}
 use Rattle.drive_check.specs.Sites.{names_of, place_of_leaf}
-
--- What the stages before promise of a circuit: its names have no fault, its scope is that of the names, and there is a type for each
--- declaration.
-pub record IsNamed (fitted : Fitted) : Type 0 where
-  pub names : HasNone (names.IsFault fitted.checked.circuit)
-  pub scope : IsScope fitted.checked.circuit fitted.checked.scope
-  pub typed : length fitted.declared ≡ length (flat_map names_of fitted.checked.circuit.modules)
 
 -- a module that main reaches, as the text has it and with its components' types
 pub record IsReached (fitted : Fitted) (holder : Module) (m : TypedModule) : Type 0 where

@@ -2,9 +2,10 @@
 
 ghost use Rattle.std.specs.Prelude.{◌≡◌, ◌++◌, ⊤, false, drop, get_or, flat_map, IfOk, OnOk};
 ghost use Rattle.fault_order.specs.Verdicts.{IsVerdict};
+ghost use Rattle.circuit_laws.specs.WellFormed.{IsWellFormed};
 ghost use Rattle.drive_check.specs.Faults.{place_of, rank_of};
 ghost use Rattle.drive_check.specs.HeldTypes.{types_in};
-ghost use Rattle.drive_check.specs.Initialized.{IsNamed, IsFault};
+ghost use Rattle.drive_check.specs.Initialized.{IsFault};
 ghost use Rattle.drive_check.specs.Keys.{is_among};
 ghost use Rattle.drive_check.specs.Sites.{names_of};
 ghost use Rattle.drive_check.specs.Modules.{port_faults, module_faults, faults_of};
@@ -27,7 +28,7 @@ use std::alloc::{AllocError, Global};
 ///
 /// Takes time and memory in proportion to the circuit and to the leaves that its connects drive.
 pub fn covered(alloc: Global, fitted: &Fitted) -> Result<(), DriveFault>
-    requires { IsNamed fitted.now }
+    requires { IsWellFormed fitted.now }
     ensures { IsVerdict place_of rank_of (IsFault fitted.now) (λ passed. ⊤) result }
 {
     components_are_named();

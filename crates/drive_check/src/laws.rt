@@ -1,32 +1,26 @@
 //! Laws of the definitions. The functions do nothing.
 
-ghost use Rattle.std.specs.Prelude.{◌≡◌, ℕ, ◌↔◌, List, [], ◌∷◌, true, Some, slice_get};
+ghost use Rattle.std.specs.Prelude.{◌≡◌, ◌↔◌, [], ◌∷◌};
 ghost use Rattle.place_text.specs.declared.place.Place.{Place as APlace};
 ghost use Rattle.fir_types.specs.declared.leaf.PathStep.TheVariants.{Field};
 ghost use Rattle.fir_types.specs.declared.memory.MemLine.TheVariants.{MemPort};
 ghost use Rattle.fir_types.specs.declared.memory.PortMode.TheVariants.{Reader};
 ghost use Rattle.fault_order.specs.First.{HasNone};
 ghost use Rattle.fir_tree.specs.declared.scope.Fitted.{Fitted as FittedCircuit};
-ghost use Rattle.fir_meaning.specs.Components.{TypedModule, A_wire, A_memory, design_of, modules_of, module_at};
+ghost use Rattle.fir_meaning.specs.Components.{A_wire, A_memory, design_of};
 ghost use Rattle.fir_meaning.specs.Certain.{IsInitialized};
-ghost use Rattle.drive_check.specs.Initialized.{IsNamed, IsFault};
+ghost use Rattle.circuit_laws.specs.WellFormed.{IsWellFormed};
+ghost use Rattle.drive_check.specs.Initialized.{IsFault};
 ghost use Rattle.drive_check.specs.Sites.{place_of_leaf};
 
-use circuit_laws::laws::components_are_named;
-
-/// The main module reaches a module exactly where it stands at an instance path.
-pub fn reached_modules_stand_at_paths()
-    ensures stands { (fitted : FittedCircuit) → IsNamed fitted → (number : ℕ) (m : TypedModule) → slice_get fitted.checked.scope.reached number ≡ Some true → slice_get (modules_of fitted) number ≡ Some m → (path : List ℕ) × (module_at (design_of fitted) path ≡ Some m) }
-    ensures reached { (fitted : FittedCircuit) → IsNamed fitted → (path : List ℕ) (m : TypedModule) → module_at (design_of fitted) path ≡ Some m → (number : ℕ) × (slice_get fitted.checked.scope.reached number ≡ Some true) × (slice_get (modules_of fitted) number ≡ Some m) }
-{
-    components_are_named();
-}
+use circuit_laws::laws::{components_are_named, reached_modules_stand_at_paths};
 
 /// There is no fault exactly where the circuit is initialized.
 pub fn initialized_circuits_have_no_fault()
-    ensures { (fitted : FittedCircuit) → IsNamed fitted → HasNone (IsFault fitted) ↔ IsInitialized (design_of fitted) }
+    ensures { (fitted : FittedCircuit) → IsWellFormed fitted → HasNone (IsFault fitted) ↔ IsInitialized (design_of fitted) }
 {
     components_are_named();
+    reached_modules_stand_at_paths();
 }
 
 /// A leaf of a memory is told at the name of its port, and a leaf of another component at the component's name.

@@ -12,6 +12,7 @@ use Rattle.std.proofs.lemmas.Grind.{common_steps}
 use Rattle.fir_types.specs.declared.fir_type.FirType.{FirType, the_lemmas as type_lemmas}
 use Rattle.fir_types.specs.declared.leaf.TypeLeaf.{TypeLeaf}
 use Rattle.fir_types.specs.Leaves.{leaves}
+use Rattle.fir_types.specs.Bundles.{nowhere}
 use Rattle.fir_tree.specs.declared.expr.Expr.{Expr, the_lemmas as expr_lemmas}
 use Rattle.fir_tree.specs.declared.stmt.Stmt.{Stmt, the_lemmas as stmt_lemmas}
 use Rattle.fir_tree.specs.declared.stmt.Stmt.TheVariants as stmt
@@ -35,16 +36,16 @@ abbrev body : List Stmt
 body = stmt.RegReset (name 13) (uint 4) (ref 10) (ref 11) (literal 4 0) ∷ later
 
 abbrev clock : Component
-clock = record { declaration = record { name = 10; sort = An_input; block = body; behind = body }; typ = clock_type }
+clock = record { declaration = record { name = 10; place = nowhere; sort = An_input; block = body; behind = body }; typ = clock_type }
 
 abbrev reset : Component
-reset = record { declaration = record { name = 11; sort = An_input; block = body; behind = body }; typ = uint 1 }
+reset = record { declaration = record { name = 11; place = nowhere; sort = An_input; block = body; behind = body }; typ = uint 1 }
 
 abbrev out : Component
-out = record { declaration = record { name = 12; sort = An_output; block = body; behind = body }; typ = uint 4 }
+out = record { declaration = record { name = 12; place = nowhere; sort = An_output; block = body; behind = body }; typ = uint 4 }
 
 abbrev register : Component
-register = record { declaration = record { name = 13; sort = A_reset_register (ref 10) (ref 11) (literal 4 0); block = body; behind = later }; typ = uint 4 }
+register = record { declaration = record { name = 13; place = nowhere; sort = A_reset_register (ref 10) (ref 11) (literal 4 0); block = body; behind = later }; typ = uint 4 }
 
 abbrev counter : TypedModule
 counter = record { name = 30; components = clock ∷ reset ∷ out ∷ register ∷ [] }

@@ -2,6 +2,7 @@
 use Rattle.std.proofs.Common.{◌≡◌, ℕ, List, [], ◌∷◌, Some, None, arith, pos, ◌==◌, if◌then◌else◌}
 use Rattle.std.proofs.lemmas.Grind.{common_steps}
 use Rattle.fir_types.specs.declared.fir_type.FirType.{the_lemmas as type_lemmas}
+use Rattle.fir_types.specs.Bundles.{nowhere}
 use Rattle.fir_tree.specs.declared.expr.Expr.{Expr, the_lemmas as expr_lemmas}
 use Rattle.fir_tree.specs.declared.stmt.Stmt.{Stmt, the_lemmas as stmt_lemmas}
 use Rattle.fir_tree.specs.declared.stmt.Stmt.TheVariants as stmt
@@ -95,14 +96,14 @@ abbrev behind_register : List Stmt
 behind_register = stmt.Wire (name 25) (uint 8) ∷ connect (ref 25) (raised (ref 24)) ∷ connect (ref 24) (ref 25) ∷ []
 
 abbrev in_branch : Declaration
-in_branch = record { name = 24; sort = A_register (ref 26); block = inner; behind = behind_register }
+in_branch = record { name = 24; place = nowhere; sort = A_register (ref 26); block = inner; behind = behind_register }
 
 -- The register's block is the branch, so the condition around it isn't asked: it counts where c is 0 too.
 counts_in_branch : next_of_register (where_ 0 0 6 7) (record { declaration = in_branch; typ = uint 8 }) (A_register (ref 26)) [] (pos 6) ≡ pos 7
 counts_in_branch = grind (arith, common_steps, stmt_lemmas, expr_lemmas, type_lemmas)
 
 declared_there : declarations_of (record { name = name 30; ports = []; body = stmt.When (arm (ref 21) inner ∷ []) [] ∷ [] }) ≡
-    in_branch ∷ record { name = 25; sort = A_wire; block = inner; behind = connect (ref 25) (raised (ref 24)) ∷ connect (ref 24) (ref 25) ∷ [] } ∷ []
+    in_branch ∷ record { name = 25; place = nowhere; sort = A_wire; block = inner; behind = connect (ref 25) (raised (ref 24)) ∷ connect (ref 24) (ref 25) ∷ [] } ∷ []
 declared_there = grind (arith, common_steps, stmt_lemmas)
 
 -- A register with a reset, `regreset r : UInt<8>, clock, reset, UInt<8>(5)` and `connect r, tail(add(r, UInt<8>(1)), 1)`: here c is
@@ -114,7 +115,7 @@ abbrev with_reset : ℕ → ℕ → Scene
 with_reset reset r = record { types = λ c. if c == 21 then uint 1 else uint 8; integers = λ c way. if c == 21 then pos reset else if c == 24 then pos r else pos 0 }
 
 abbrev register : Component
-register = record { declaration = record { name = 24; sort = A_reset_register (ref 26) (ref 21) (literal 8 5); block = counter; behind = counter }; typ = uint 8 }
+register = record { declaration = record { name = 24; place = nowhere; sort = A_reset_register (ref 26) (ref 21) (literal 8 5); block = counter; behind = counter }; typ = uint 8 }
 
 reset_first : next_of_register (with_reset 1 9) register register.declaration.sort [] (pos 9) ≡ pos 5
 reset_first = grind (arith, common_steps, stmt_lemmas, expr_lemmas, type_lemmas)
@@ -126,7 +127,7 @@ wraps : next_of_register (with_reset 0 255) register register.declaration.sort [
 wraps = grind (arith, common_steps, stmt_lemmas, expr_lemmas, type_lemmas)
 
 -- A register that nothing drives keeps its value.
-keeps : next_of_register (where_ 0 0 6 7) (record { declaration = record { name = 24; sort = A_register (ref 26); block = []; behind = [] }; typ = uint 8 }) (A_register (ref 26)) [] (pos 6) ≡ pos 6
+keeps : next_of_register (where_ 0 0 6 7) (record { declaration = record { name = 24; place = nowhere; sort = A_register (ref 26); block = []; behind = [] }; typ = uint 8 }) (A_register (ref 26)) [] (pos 6) ≡ pos 6
 keeps = grind (arith, common_steps, stmt_lemmas, expr_lemmas, type_lemmas)
 
 -- Two registers that take each other's value both take the old one: `connect r, w` and `connect w, r`, with w a register too.
@@ -134,7 +135,7 @@ abbrev swap : List Stmt
 swap = connect (ref 24) (ref 25) ∷ connect (ref 25) (ref 24) ∷ []
 
 abbrev swapping : ℕ → Component
-swapping c = record { declaration = record { name = c; sort = A_register (ref 26); block = swap; behind = swap }; typ = uint 8 }
+swapping c = record { declaration = record { name = c; place = nowhere; sort = A_register (ref 26); block = swap; behind = swap }; typ = uint 8 }
 
 takes_old : next_of_register (where_ 0 0 6 7) (swapping 24) (A_register (ref 26)) [] (pos 6) ≡ pos 7
 takes_old = grind (arith, common_steps, stmt_lemmas, expr_lemmas, type_lemmas)

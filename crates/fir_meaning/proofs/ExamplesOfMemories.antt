@@ -7,7 +7,7 @@ use Rattle.fir_types.specs.declared.memory.MemLine.TheVariants as line
 use Rattle.fir_types.specs.declared.memory.PortMode.TheVariants as mode
 use Rattle.fir_types.specs.declared.memory.Under.{Under}
 use Rattle.fir_types.specs.declared.memory.Under.TheVariants as under
-use Rattle.fir_types.specs.Bundles.{addr_name, en_name, mask_name, wmode_name, wdata_name}
+use Rattle.fir_types.specs.Bundles.{nowhere, addr_name, en_name, mask_name, wmode_name, wdata_name}
 use Rattle.fir_meaning.specs.Components.{Component, A_memory}
 use Rattle.fir_meaning.specs.Values.{Scene}
 use Rattle.fir_meaning.specs.MemoryPorts.{Contents, Leaves, after_writes, read_by}
@@ -51,7 +51,7 @@ others_stay : after_writes (memory 1 under.Old) (lines 5 1) (holding 4) 3 [] ≡
 others_stay = grind (arith, common_steps)
 
 abbrev component : ℕ → Under → Component
-component latency under = record { declaration = record { name = 40; sort = A_memory (memory latency under); block = []; behind = [] }; typ = uint 1 }
+component latency under = record { declaration = record { name = 40; place = nowhere; sort = A_memory (memory latency under); block = []; behind = [] }; typ = uint 1 }
 
 abbrev scene : ℕ → ℕ → Scene
 scene d both = record { types = λ c. uint 1; integers = λ c way. lines d both way }

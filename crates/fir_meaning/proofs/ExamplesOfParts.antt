@@ -4,7 +4,7 @@ use Rattle.std.proofs.lemmas.Grind.{common_steps}
 use Rattle.bit_words.specs.Values.{integer_of}
 use Rattle.fir_types.specs.declared.fir_type.FirType.{the_lemmas as type_lemmas}
 use Rattle.fir_types.specs.declared.leaf.PathStep.{PathStep}
-use Rattle.fir_types.specs.Bundles.{least_reaching}
+use Rattle.fir_types.specs.Bundles.{nowhere, least_reaching}
 use Rattle.fir_types.specs.declared.leaf.PathStep.TheVariants as step
 use Rattle.fir_tree.specs.declared.expr.Expr.{Expr, the_lemmas as expr_lemmas}
 use Rattle.fir_tree.specs.declared.expr.Form.{Form}
@@ -101,7 +101,7 @@ abbrev caller : TypedModule
 caller = record {
   name = 44;
   components = record {
-    declaration = record { name = 40; sort = An_instance 41; block = []; behind = [] };
+    declaration = record { name = 40; place = nowhere; sort = An_instance 41; block = []; behind = [] };
     typ = bundle (flipped 42 (uint 4) ∷ plain 43 (uint 4) ∷ []);
   } ∷ [];
 }

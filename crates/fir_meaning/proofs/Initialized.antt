@@ -7,6 +7,7 @@ use Rattle.std.proofs.lemmas.List.Elements.{Contains-append_cases}
 use Rattle.std.proofs.lemmas.List.Concat.{flat_map-cons}
 use Rattle.fir_types.specs.declared.fir_type.FirType.{FirType}
 use Rattle.fir_types.specs.declared.leaf.TypeLeaf.{TypeLeaf}
+use Rattle.fir_types.specs.declared.name.Name.{Name}
 use Rattle.fir_tree.specs.declared.circuit.Module.{Module}
 use Rattle.fir_tree.specs.declared.scope.Fitted.{Fitted}
 use Rattle.fir_tree.specs.declared.stmt.Stmt.{Stmt, ind-Stmt, the_lemmas as stmt_lemmas}
@@ -62,7 +63,7 @@ from_ends (p ∷ ps) block front e d c =
 block_ends : (ps : List ((s : Stmt) × StatementEnds s)) (d : Declaration) → Contains (declared_in_block (map told (map (λ e. e.0) ps))) d → IsEnd d
 block_ends ps d c = from_ends ps (map (λ t. t.itself) (map told (map (λ e. e.0) ps))) [] refl d c
 
-one_ends : (name : ℕ) (sort : _) → Ending (one name sort)
+one_ends : (name : Name) (sort : _) → Ending (one name sort)
 one_ends name sort block behind front e d (zero, below, is) = subst IsEnd is (record { front = front; is = e })
 one_ends name sort block behind front e d (suc k, below, is) = absurd (omega arith)
 
@@ -82,12 +83,12 @@ nothing_ends : Ending (λ block behind. [])
 nothing_ends block behind front e d (k, below, is) = absurd (omega arith)
 
 statement_ends : (y : Stmt-F ((s : Stmt) × StatementEnds s) ((a : Arm) × ArmEnds a)) → StatementEnds (roll-Stmt (map-Stmt _ _ Stmt Arm (λ e. e.0) (λ e. e.0) y))
-statement_ends (Stmt-F.Wire name typ) = ends_at (Stmt-F.Wire name typ) (one_ends name.id _)
-statement_ends (Stmt-F.Reg name typ clock) = ends_at (Stmt-F.Reg name typ clock) (one_ends name.id _)
-statement_ends (Stmt-F.RegReset name typ clock reset init) = ends_at (Stmt-F.RegReset name typ clock reset init) (one_ends name.id _)
-statement_ends (Stmt-F.Mem memory) = ends_at (Stmt-F.Mem memory) (one_ends memory.name.id _)
-statement_ends (Stmt-F.Inst name target) = ends_at (Stmt-F.Inst name target) (one_ends name.id _)
-statement_ends (Stmt-F.Node name expr) = ends_at (Stmt-F.Node name expr) (one_ends name.id _)
+statement_ends (Stmt-F.Wire name typ) = ends_at (Stmt-F.Wire name typ) (one_ends name _)
+statement_ends (Stmt-F.Reg name typ clock) = ends_at (Stmt-F.Reg name typ clock) (one_ends name _)
+statement_ends (Stmt-F.RegReset name typ clock reset init) = ends_at (Stmt-F.RegReset name typ clock reset init) (one_ends name _)
+statement_ends (Stmt-F.Mem memory) = ends_at (Stmt-F.Mem memory) (one_ends memory.name _)
+statement_ends (Stmt-F.Inst name target) = ends_at (Stmt-F.Inst name target) (one_ends name _)
+statement_ends (Stmt-F.Node name expr) = ends_at (Stmt-F.Node name expr) (one_ends name _)
 statement_ends (Stmt-F.Connect left right) = ends_at (Stmt-F.Connect left right) nothing_ends
 statement_ends (Stmt-F.Invalidate target) = ends_at (Stmt-F.Invalidate target) nothing_ends
 statement_ends (Stmt-F.Skip place) = ends_at (Stmt-F.Skip place) nothing_ends

@@ -4,6 +4,7 @@
 -- All declarations of a module have different names, wherever they stand, so a component is known by the number of its name.
 -- A leaf of a module is a component and the way to one of its ground parts. Where two have one name, the first counts.
 use Rattle.std.specs.Prelude.{◌≡◌, ℕ, Contains, ◌==◌, ◌++◌, drop, length, Bool, true, false, List, [], ◌∷◌, map, filter_map, flat_map, find, zip, Option, Some, None, option_and_then, if◌then◌else◌}
+use Rattle.place_text.specs.declared.place.Place.{Place}
 use Rattle.bit_words.specs.declared.value.Kind.{Kind}
 use Rattle.bit_words.specs.declared.value.Kind.TheVariants.{Unsigned, Signed}
 use Rattle.fir_types.specs.declared.fir_type.FirType.{FirType}
@@ -17,6 +18,7 @@ use Rattle.fir_types.specs.declared.leaf.PathStep.{PathStep}
 use Rattle.fir_types.specs.declared.leaf.PathStep.TheVariants as step
 use Rattle.fir_types.specs.declared.memory.Memory.{Memory}
 use Rattle.fir_types.specs.declared.port.Port.{Port}
+use Rattle.fir_types.specs.declared.name.Name.{Name}
 use Rattle.fir_types.specs.Leaves.{leaves}
 use Rattle.fir_types.specs.Memories.{depth_of}
 use Rattle.fir_types.specs.Bundles.{nowhere, instance_of, port_field}
@@ -40,9 +42,10 @@ pub data Sort : Type 0 where
   An_instance : ℕ → Sort  -- of the module of this name
   A_node : Expr → Sort
 
--- A declaration: its name, what it makes, the statements of its block, and those of them that stand behind it.
+-- A declaration: its name and where that stands, what it makes, the statements of its block, and those of them that stand behind it.
 pub record Declaration : Type 0 where
   pub name : ℕ
+  pub place : Place
   pub sort : Sort
   pub block : List Stmt
   pub behind : List Stmt
@@ -61,8 +64,8 @@ pub record ToldArm : Type 0 where
   pub declared : List Declaration
 
 -- the statement itself declares this one
-abbrev pub one : ℕ → Sort → Declares
-one name sort block behind = record { name = name; sort = sort; block = block; behind = behind } ∷ []
+abbrev pub one : Name → Sort → Declares
+one name sort block behind = record { name = name.id; place = name.place; sort = sort; block = block; behind = behind } ∷ []
 
 -- Each of these statements stands in the block, with the later ones behind it.
 abbrev pub declared_from : List Stmt → List Told → List Declaration
@@ -75,12 +78,12 @@ declared_in_block told = declared_from (map (λ t. t.itself) told) told
 
 -- What each kind of statement declares: a `when` what its arms do in order, and then its `else`.
 abbrev pub of_declaring : Stmt-F Told ToldArm → Declares
-of_declaring (Stmt-F.Wire name typ) = one name.id A_wire
-of_declaring (Stmt-F.Reg name typ clock) = one name.id (A_register clock)
-of_declaring (Stmt-F.RegReset name typ clock reset init) = one name.id (A_reset_register clock reset init)
-of_declaring (Stmt-F.Mem memory) = one memory.name.id (A_memory memory)
-of_declaring (Stmt-F.Inst name target) = one name.id (An_instance target.id)
-of_declaring (Stmt-F.Node name expr) = one name.id (A_node expr)
+of_declaring (Stmt-F.Wire name typ) = one name A_wire
+of_declaring (Stmt-F.Reg name typ clock) = one name (A_register clock)
+of_declaring (Stmt-F.RegReset name typ clock reset init) = one name (A_reset_register clock reset init)
+of_declaring (Stmt-F.Mem memory) = one memory.name (A_memory memory)
+of_declaring (Stmt-F.Inst name target) = one name (An_instance target.id)
+of_declaring (Stmt-F.Node name expr) = one name (A_node expr)
 of_declaring (Stmt-F.When arms other) = λ block behind. flat_map (λ arm. arm.declared) arms ++ declared_in_block other
 of_declaring _ = λ block behind. []
 
@@ -98,7 +101,7 @@ told = fold-Stmt Told ToldArm of_told of_told_arm
 
 -- A port stands before the whole body of its module.
 abbrev pub declared_by_port : List Stmt → Port → Declaration
-declared_by_port body port = record { name = port.name.id; sort = if port.output then An_output else An_input; block = body; behind = body }
+declared_by_port body port = record { name = port.name.id; place = port.name.place; sort = if port.output then An_output else An_input; block = body; behind = body }
 
 -- The declarations of a module in text order, ports first.
 abbrev pub declarations_of : Module → List Declaration

@@ -3,6 +3,7 @@
 -- The leaves of a memory are seen as integers by their way: the port, its field, and the way within the field.
 use Rattle.std.specs.Prelude.{ℕ, ◌==◌, nat_lt, Bool, false, List, [], ◌∷◌, find, filter_map, ℤ, pos, Option, Some, None, unsigned_abs}
 use Rattle.std.specs.Ordering.{int_eq}
+use Rattle.place_text.specs.declared.place.Place.{Place}
 use Rattle.fir_types.specs.declared.leaf.PathStep.{PathStep}
 use Rattle.fir_types.specs.declared.leaf.PathStep.TheVariants as step
 use Rattle.fir_types.specs.declared.memory.Memory.{Memory}
@@ -15,14 +16,15 @@ use Rattle.cycle_values.specs.Ports as port_rules
 use Rattle.cycle_values.specs.Ports.{Held, Shown, set_to_write, set_to_read, after_ports, read_by_port}
 use Rattle.fir_types.specs.Bundles.{addr_name, en_name, data_name, mask_name, wmode_name, wdata_name, wmask_name}
 
--- A port: the number of its name, and what it does.
+-- A port: the number of its name and where that stands, and what it does.
 pub record MemoryPort : Type 0 where
   pub name : ℕ
+  pub place : Place
   pub mode : PortMode
 
 -- the port that a line declares, where it declares one
 abbrev pub port_in : MemLine → Option MemoryPort
-port_in (line.MemPort at m name) = Some (record { name = name.id; mode = m })
+port_in (line.MemPort at m name) = Some (record { name = name.id; place = name.place; mode = m })
 port_in _ = None
 
 -- The ports in declared order.

@@ -54,11 +54,13 @@ pub struct GroundArm {
     pub body: List<GroundStmt>,
 }
 
-/// An instance of the module of this number: its leaves are those of the module's ports, from `first` on.
+/// An instance of the module of this number: its leaves are those of the module's ports, from `first` on. So many of its
+/// holder's memories stand before it.
 #[derive(Debug, Drop)]
 pub struct GroundInstance {
     pub name: Text,
     pub first: u32,
+    pub memories: u32,
     pub module: u32,
 }
 

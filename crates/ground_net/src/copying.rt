@@ -209,6 +209,7 @@ pub fn copied_instances(
         copies.push(GroundInstance {
             name: copied_text(alloc, &instance.name)?,
             first: instance.first,
+            memories: instance.memories,
             module: instance.module,
         })?;
     }

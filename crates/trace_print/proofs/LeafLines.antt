@@ -1,6 +1,6 @@
 -- The lines of leaves behind a front that grows by the steps to them.
-use Rattle.std.proofs.Common.{◌≡◌, ℕ, zero, suc, ◌+◌, ◌<◌, Bool, false, List, [], ◌∷◌, ◌++◌, map, length, take, get_or, None, refl, sym, ap, ap₂, ◌∙◌, subst, arith, append_assoc, add-one, decimal}
-use Rattle.std.specs.List.{flat_map, slice_get}
+use Rattle.std.proofs.Common.{◌≡◌, ℕ, zero, suc, ◌+◌, ◌<◌, Bool, false, List, [], ◌∷◌, ◌++◌, map, length, take, get_or, refl, sym, ap, ap₂, ◌∙◌, subst, arith, append_assoc, add-one, decimal}
+use Rattle.std.specs.List.{flat_map}
 use Rattle.std.proofs.lemmas.Grind.{common_steps, flat_map-append}
 use Rattle.std.proofs.Math.Seq.{take-append_seam}
 use Rattle.fir_types.specs.declared.fir_type.Field.{Field}
@@ -9,13 +9,10 @@ use Rattle.fir_types.specs.declared.leaf.PathStep.{PathStep}
 use Rattle.fir_types.specs.declared.leaf.PathStep.TheVariants as step
 use Rattle.fir_types.specs.Leaves.{leaves, field_leaves, elements, under}
 use Rattle.fir_types.proofs.Layers.{leaves-field}
-use Rattle.trace_print.specs.Listing.{Texts, text_of, step_text, shape_line, leaf_line}
+use Rattle.leaf_names.specs.LeafNames.{Texts, step_text}
+use Rattle.trace_print.specs.Listing.{shape_line, leaf_line}
 
 -- a name without a text
-pub no_text : (texts : Texts) (id : ℕ) → slice_get texts id ≡ None → text_of texts id ≡ []
-no_text [] id h = refl
-no_text (t ∷ ts) zero h = absurd cc
-no_text (t ∷ ts) (suc id) h = no_text ts id h
 
 step_line : (texts : Texts) (front : List ℕ) (s : PathStep) (flip : Bool) (leaf : TypeLeaf) → leaf_line texts front (under (s ∷ []) flip leaf) ≡ leaf_line texts (front ++ step_text texts s) leaf
 step_line texts front s flip leaf = ap (λ way. shape_line way leaf.typ.shape) (sym (append_assoc front (step_text texts s) (flat_map (step_text texts) leaf.path)))

@@ -1,27 +1,15 @@
 -- The listing of a circuit's widths: `MODULE LEAF KIND WIDTH` for each leaf with a width of what is listed, in text order. A leaf is
 -- written as in an expression, such as `io.v[2].x`.
-use Rattle.std.specs.Prelude.{ℕ, Bool, true, false, List, [], ◌++◌, map, flat_map, zip, sum, get_or, Option, Some, None, codes, decimal}
+use Rattle.std.specs.Prelude.{ℕ, Bool, true, false, List, [], ◌++◌, map, flat_map, zip, sum, Option, Some, None, codes, decimal}
 use Rattle.fir_types.specs.declared.fir_type.FirType.{FirType}
 use Rattle.fir_types.specs.declared.fir_type.Shape.{Shape}
 use Rattle.fir_types.specs.declared.fir_type.Shape.TheVariants as shape
 use Rattle.fir_types.specs.declared.leaf.TypeLeaf.{TypeLeaf}
-use Rattle.fir_types.specs.declared.leaf.PathStep.{PathStep}
-use Rattle.fir_types.specs.declared.leaf.PathStep.TheVariants as step
 use Rattle.fir_types.specs.Leaves.{leaves, count}
 use Rattle.fir_tree.specs.declared.scope.Fitted.{Fitted}
+use Rattle.leaf_names.specs.LeafNames.{Texts, text_of, way_text}
 use Rattle.trace_print.specs.declared.component.Component.{Component}
 use Rattle.trace_print.specs.Components.{components_of}
-
--- the texts of names, by their numbers
-abbrev pub Texts : Type 0
-Texts = List (List ℕ)
-
-abbrev pub text_of : Texts → ℕ → List ℕ
-text_of texts id = get_or texts id []
-
-abbrev pub step_text : Texts → PathStep → List ℕ
-step_text texts (step.Field id) = codes "." ++ text_of texts id
-step_text texts (step.Element n) = codes "[" ++ decimal n ++ codes "]"
 
 -- the line of a leaf of a kind, where it has a width
 abbrev pub width_line : List ℕ → List ℕ → Option ℕ → List ℕ
@@ -37,7 +25,7 @@ shape_line front _ = []
 
 -- the line of a leaf, behind the module and the name of the component
 abbrev pub leaf_line : Texts → List ℕ → TypeLeaf → List ℕ
-leaf_line texts front leaf = shape_line (front ++ flat_map (step_text texts) leaf.path) leaf.typ.shape
+leaf_line texts front leaf = shape_line (front ++ way_text texts leaf.path) leaf.typ.shape
 
 abbrev pub lines_where : Bool → List ℕ → List ℕ
 lines_where true lines = lines

@@ -2,13 +2,14 @@
 
 ghost use Rattle.std.specs.Prelude.{◌≡◌, ◌++◌, ◌-◌, ◌^◌, min, IfOk, OnOk};
 ghost use Rattle.fir_types.specs.Leaves.{count};
-ghost use Rattle.trace_print.specs.Listing.{text_of, component_lines, listing_of, leaves_where, leaves_listed};
+ghost use Rattle.trace_print.specs.Listing.{component_lines, listing_of, leaves_where, leaves_listed};
 
 use crate::component::Component;
 use crate::declarations::components;
 use crate::leaf_lines::push_lines;
 use fir_tree::{Fitted, Names};
 use fir_types::{FirType, leaf_count};
+use leaf_names::push_name;
 use std::alloc::{AllocError, Global};
 
 /// The listing of the widths: a line `MODULE LEAF KIND WIDTH` for each leaf of the ports, wires, registers, nodes and memory
@@ -42,16 +43,6 @@ fn push_component(
         front.push(b' ')?;
         push_name(&mut front, names, component.name)?;
         push_lines(text, &mut front, names, typ)?;
-    }
-    Ok(())
-}
-
-/// Adds the text of a name.
-pub fn push_name(text: &mut Vec<u8>, names: &Names, id: u32) -> Result<(), AllocError>
-    ensures { OnOk result (text.new.items ≡ text.old.items ++ text_of names.now id) }
-{
-    if let Some(name) = names.get(id) {
-        text.extend_from_slice(name.as_bytes())?;
     }
     Ok(())
 }

@@ -3,7 +3,7 @@ use Rattle.std.proofs.lemmas.Grind.{common_steps}
 use Rattle.fir_types.specs.Leaves.{leaves}
 use Rattle.fir_types.proofs.Layers.{leaves-bundle, leaves-vector}
 use Rattle.fir_types.proofs.Walks.{no_leaves}
-use Rattle.trace_print.specs.Listing.{text_of}
+use Rattle.leaf_names.specs.LeafNames.{text_of}
 use Rattle.trace_print.proofs.LeafLines.{elements_more, fields_more, no_elements, at_element, at_field, cut_back}
 use Rattle.trace_print.proofs.leaf_lines.+push.Goals as goal
 

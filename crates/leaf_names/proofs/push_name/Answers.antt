@@ -1,8 +1,8 @@
 use Rattle.std.proofs.Common.{ap, sym, ◌∙◌, arith}
 use Rattle.std.specs.Option.{option_copied}
 use Rattle.std.proofs.lemmas.Grind.{common_steps}
-use Rattle.trace_print.proofs.LeafLines.{no_text}
-use Rattle.trace_print.proofs.listing.push_name.Goals as goal
+use Rattle.leaf_names.proofs.Texts.{no_text}
+use Rattle.leaf_names.proofs.push_name.Goals as goal
 
 pub returns-in_default : goal.returns-in_default
 returns-in_default c =
