@@ -120,8 +120,8 @@ fn push_port(
     ensures { OnOk result (faults.new.items ≡ faults.old.items ++ port_faults (types_in types.now) (is_among certain.now.keys.keys) port.now) }
 {
     if port.output {
-        push_undriven(alloc, types, certain, faults, port.name, Owner::Output)
+        push_undriven(alloc, types, certain, faults, (port.name, Owner::Output))
     } else {
-        push_undriven(alloc, types, certain, faults, port.name, Owner::Input)
+        push_undriven(alloc, types, certain, faults, (port.name, Owner::Input))
     }
 }

@@ -84,14 +84,13 @@ pub fn push_undriven(
     types: &ModuleTypes<'_>,
     certain: &LeafSet,
     faults: &mut Vec<DriveFault>,
-    name: Name,
-    owner: Owner,
+    component: (Name, Owner),
 ) -> Result<(), AllocError>
-    ensures { OnOk result (faults.new.items ≡ faults.old.items ++ undriven (types_in types.now) (is_among certain.now.keys.keys) name (sort_of owner.entry)) }
+    ensures { OnOk result (faults.new.items ≡ faults.old.items ++ undriven (types_in types.now) (is_among certain.now.keys.keys) component.entry.0 (sort_of component.entry.1)) }
 {
-    let leaves = list_leaves(alloc, types.of(name.id))?;
+    let leaves = list_leaves(alloc, types.of(component.0.id))?;
     for leaf in &leaves {
-        push_leaf(alloc, certain, faults, (name, owner), leaf)?;
+        push_leaf(alloc, certain, faults, component, leaf)?;
     }
     Ok(())
 }

@@ -46,17 +46,13 @@ fn walk_statement(
     ensures { OnOk result (Walks (walked (types_in types.now) statement.now) certain.old.keys.keys faults.old.items certain.new.keys.keys faults.new.items) }
 {
     match statement {
-        Stmt::Wire(name, _) => push_undriven(alloc, types, certain, faults, *name, Owner::Wire),
-        Stmt::Mem(memory) => push_undriven(
-            alloc,
-            types,
-            certain,
-            faults,
-            memory.name,
-            Owner::Memory(memory),
-        ),
+        Stmt::Wire(name, _) => push_undriven(alloc, types, certain, faults, (*name, Owner::Wire)),
+        Stmt::Mem(memory) => {
+            let component = (memory.name, Owner::Memory(memory));
+            push_undriven(alloc, types, certain, faults, component)
+        }
         Stmt::Inst(name, _) => {
-            push_undriven(alloc, types, certain, faults, *name, Owner::Instance)
+            push_undriven(alloc, types, certain, faults, (*name, Owner::Instance))
         }
         Stmt::Connect(left, right) => drive(alloc, types, certain, left, right),
         Stmt::Invalidate(target) => drive(alloc, types, certain, target, target),
