@@ -1,2 +1,5 @@
 pub mod Lists
 pub mod Walks
+pub mod KeyPlaces
+pub mod SinkOrder
+pub mod Ranks

@@ -1,5 +1,5 @@
 -- What the partitions hold. A mask stands for each leaf: its bit p says that the partition p has the leaf.
-use Rattle.std.specs.Prelude.{◌≡◌, ◌≢◌, ◌↔◌, ℕ, ◌+◌, ◌-◌, ◌*◌, ◌^◌, ◌<◌, ◌≤◌, ◌==◌, Bool, true, IsTrue, List, length, map, filter, take, slice_get, slice_index, slice_set, count_by, Contains, Some}
+use Rattle.std.specs.Prelude.{◌≡◌, ◌≢◌, ◌⊎◌, ◌↔◌, ℕ, ◌+◌, ◌-◌, ◌*◌, ◌^◌, ◌<◌, ◌≤◌, ◌==◌, Bool, true, IsTrue, List, length, map, filter, take, slice_get, slice_index, slice_set, count_by, Contains, Some}
 use Rattle.std.specs.List.{range_with_len}
 use Rattle.std.specs.Int.{bit_at}
 use Rattle.cone_cutter.specs.declared.placing.Placing.{Placing}
@@ -34,7 +34,7 @@ pub record Gets (part : ℕ) (cone old new : List ℕ) : Type 0 where
   pub long : length new ≡ length old
   pub got : (x : ℕ) → Contains cone x → holds new part x ≡ true
   pub kept : (x : ℕ) → holds old part x ≡ true → holds new part x ≡ true
-  pub only : (x : ℕ) → holds new part x ≡ true → (Contains cone x → ⊥) → holds old part x ≡ true
+  pub only : (x : ℕ) → holds new part x ≡ true → Contains cone x ⊎ (holds old part x ≡ true)
   pub others : (p x : ℕ) → p ≢ part → holds new p x ≡ holds old p x
 
 -- The cone goes to the partition that would then have the fewest leaves.
