@@ -3,3 +3,4 @@ pub mod Walks
 pub mod KeyPlaces
 pub mod SinkOrder
 pub mod Ranks
+pub mod LoadSteps

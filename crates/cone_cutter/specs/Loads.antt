@@ -4,7 +4,7 @@ use Rattle.std.specs.List.{range_with_len}
 use Rattle.std.specs.Int.{bit_at}
 use Rattle.cone_cutter.specs.declared.placing.Placing.{Placing}
 use Rattle.cone_cutter.specs.declared.loads.Load.{Load}
-use Rattle.cone_cutter.specs.Cuts.{Counts, NeededBy, IsLeast, placed, placed_in}
+use Rattle.cone_cutter.specs.Cuts.{Counts, NeededBy, IsLeast, placed_in}
 use Rattle.ground_net.specs.declared.net.CutPart.{CutPart}
 use Rattle.cone_cutter.specs.Rows.{ConeAt, places_of}
 
