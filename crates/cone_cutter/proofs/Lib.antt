@@ -4,3 +4,4 @@ pub mod KeyPlaces
 pub mod SinkOrder
 pub mod Ranks
 pub mod LoadSteps
+pub mod Assembly

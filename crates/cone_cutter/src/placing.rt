@@ -6,7 +6,7 @@ ghost use Rattle.cone_cutter.specs.Rows.{AreBelow};
 ghost use Rattle.cone_cutter.specs.Loads.{IsLoad};
 
 use crate::loads::Load;
-use crate::walking::walk;
+use crate::walking::{no_stamps, walk};
 use bit_words::List;
 use std::alloc::{AllocError, Global};
 
@@ -43,7 +43,7 @@ pub fn place_all(
     ensures load { IfOk result (λ it. IsLoad reads.now needed.now workers it.placings.items it.load) }
     ensures order { IfOk result (λ it. placed it.placings.items ≡ order.now) }
 {
-    let mut stamp_table = vec![in alloc; 0; reads.len()]?;
+    let mut stamp_table = no_stamps(alloc, reads.len())?;
     let stamps = stamp_table.as_mut_slice();
     let mut found = Vec::new(alloc);
     let mut load = Load::new(alloc, reads.len(), workers as usize)?;

@@ -1,11 +1,19 @@
 //! Walks of cones.
 
-ghost use Rattle.std.specs.Prelude.{◌≡◌, ℕ, ◌<◌, ◌++◌, ◌∷◌, [], length, slice_index, All, OnOk};
+ghost use Rattle.std.specs.Prelude.{◌≡◌, ℕ, ◌<◌, ◌++◌, ◌∷◌, [], length, slice_index, All, IfOk, OnOk};
 ghost use Rattle.cone_cutter.specs.Rows.{AreBelow};
 ghost use Rattle.cone_cutter.specs.Walks.{Meets, Walked};
 
 use bit_words::List;
-use std::alloc::AllocError;
+use std::alloc::{AllocError, Global};
+
+/// A stamp 0 for each leaf: none was met.
+pub fn no_stamps(alloc: Global, count: usize) -> Result<Vec<u32>, AllocError>
+    ensures count { IfOk result (λ stamps. length stamps.items ≡ count) }
+    ensures none { IfOk result (λ stamps. (v : ℕ) → slice_index stamps.items v ≡ 0) }
+{
+    vec![in alloc; 0; count]
+}
 
 /// Finds all that is met from the roots along the rows, each once. The stamp is new, and stands for what was found.
 ///

@@ -15,8 +15,8 @@ loop-turn-init c = record {
   load = load_begins c.args.reads.now c.args.needed.now c.args.workers c.new-placings.result.items c.in_ok-load.load c.new-placings.ensures.items c.in_ok-load.ensures.room c.in_ok-load.ensures.masks c.in_ok-load.ensures.costs;
   order = ap placed c.new-placings.ensures.items;
   count = ap length c.new-placings.ensures.items;
-  long = search rules;
-  early = search rules;
+  long = ap length c.as_mut_slice-stamps.ensures.value ∙ c.in_ok-stamp_table.ensures.count;
+  early = λ v. omega (arith, ap (λ s. slice_index s v) c.as_mut_slice-stamps.ensures.value, c.in_ok-stamp_table.ensures.none v);
 }
 
 pub take-part-requires-clause-within : goal.take-part-requires-clause-within
