@@ -2,9 +2,9 @@
 use Rattle.std.proofs.Common.{◌≡◌, ◌≢◌, ℕ, zero, suc, ◌+◌, ◌<◌, ◌≤◌, ◌==◌, ◌↔◌, Bool, true, false, cond, IsTrue, List, [], ◌∷◌, ◌++◌, length, map, take, slice_get, slice_index, Some, None, Option, refl, sym, subst, ap, ◌∙◌, arith, ◌⊎◌, ⊎_elim, inl, inr, get_or}
 use Rattle.std.specs.List.{filter, Contains, All, range_with_len}
 use Rattle.std.proofs.lemmas.Bool.{cases_lt, eq-eqb, eqb-true}
-use Rattle.std.proofs.lemmas.List.{length-map, get_or-map, get_or_past}
+use Rattle.std.proofs.lemmas.List.{length-map, get_or-map, get_or_past, get_or_default}
 use Rattle.std.proofs.lemmas.List.Elements.{Contains-get_or, All-map}
-use Rattle.std.proofs.lemmas.List.FromFn.{length-map-range_with_len, get_or-map-range_with_len}
+use Rattle.std.proofs.lemmas.List.FromFn.{length-map-range_with_len, get_or-map-range_with_len, map-range_with_len_more}
 use Rattle.std.proofs.lemmas.Option.{slice_get_within, slice_get-get_or, slice_get_cases, get_or_from_slice_get}
 use Rattle.ground_net.specs.declared.net.Net.{Net}
 use Rattle.ground_net.specs.declared.net.Leaf.{Leaf}
@@ -287,3 +287,34 @@ is_cut ordered watch workers it reads rows sizes order placings load owners er e
       all_needed = subst (λ n. Counts (NeededBy (InConeOf ordered.net watch) (range_with_len 0 n)) it.needed) count
           (counts_lift (ConeAt reads rows) (InConeOf net watch) to from (range_with_len 0 (length rows)) it.needed needed);
     }
+
+-- one more partition
+
+pub parts_more : (owners masks sequence : List ℕ) (n : ℕ) (now parts : List CutPart) (s a : List ℕ) → now ≡ parts ++ (record { sinks = s; assignments = a }) ∷ [] → parts ≡ parts_by owners masks sequence n
+    → s ≡ places_of owners n → a ≡ filter (holds masks n) sequence → now ≡ parts_by owners masks sequence (n + 1)
+parts_more owners masks sequence n now parts s a e h here held =
+    let part : List ℕ → List ℕ → CutPart = (λ x y. record { sinks = x; assignments = y }) in
+    let is : part s a ≡ part_by owners masks sequence n = ap (λ x. part x a) here ∙ ap (part (places_of owners n)) held in
+    let z : 0 + n ≡ n = omega arith in
+    e ∙ (ap (λ l. l ++ part s a ∷ []) h ∙ (ap (λ q. parts_by owners masks sequence n ++ q ∷ []) is ∙ sym (map-range_with_len_more (part_by owners masks sequence) 0 n n z)))
+
+pub places_small : (owners : List ℕ) (p most : ℕ) → length owners < most → All (λ place. place < most) (places_of owners p)
+places_small owners p most lt k d inside =
+    let f = place_from owners p _ (Contains-get_or (places_of owners p) k d inside) in
+    omega (arith, f.0, lt)
+
+pub sequence_within : (net : Net) (sequence : List ℕ) (n : ℕ) → IsOrder net sequence → n ≡ length net.leaves → All (λ x. x < n) sequence
+sequence_within net sequence n order e k d lt =
+    let a = order.only k lt in
+    omega (arith, assigned_within net.leaves _ a, e, get_or_default sequence k d 0 lt)
+
+pub placings_within : (placings : List Placing) (order : List ℕ) (n : ℕ) → placed placings ≡ order → ((k : ℕ) → Contains order k → k < n) → All (λ (q : Placing). q.sink < n) placings
+placings_within placings order n e f k d lt =
+    f _ (subst (λ s. Contains s (get_or placings k d).sink) e
+    (stands (placed placings) _ k (omega (arith, lt, length-map placings (λ (q : Placing). q.sink))) (get_or-map (λ (q : Placing). q.sink) placings k d 0 lt)))
+
+pub need_rows_long : (net : Net) (all : List Sink) → length (need_rows net all) ≡ length all
+need_rows_long net all = length-map all (λ s. assignments_of net (needs net s))
+
+pub placed_long : (placings : List Placing) → length (placed placings) ≡ length placings
+placed_long placings = length-map placings (λ (q : Placing). q.sink)

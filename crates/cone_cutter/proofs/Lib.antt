@@ -5,3 +5,4 @@ pub mod SinkOrder
 pub mod Ranks
 pub mod LoadSteps
 pub mod Assembly
+pub mod Splitting

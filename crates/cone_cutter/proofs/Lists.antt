@@ -172,3 +172,38 @@ range_more n =
     let e : suc n ≡ n + 1 = omega arith in
     let z : 0 + n ≡ n = omega arith in
     subst (λ m. range_with_len 0 m ≡ range_with_len 0 n ++ n ∷ []) e (range_suc 0 n ∙ ap (λ x. range_with_len 0 n ++ x ∷ []) z)
+
+-- numbers below n, each once, are at most n
+
+none_counted : (n : ℕ) (s : List ℕ) → (Contains s n → ⊥) → count_by (λ x. x == n) s ≡ 0
+none_counted n [] h = refl
+none_counted n (x ∷ s) h = sum_by-cons (λ y. cond {A = ℕ} (y == n) 1 0) x s ∙ one (x == n) refl (none_counted n s (λ c. h (later_in x s n c)))
+  where
+    one : (b : Bool) → (x == n) ≡ b → count_by (λ y. y == n) s ≡ 0 → cond {A = ℕ} b 1 0 + count_by (λ y. y == n) s ≡ 0
+    one true e r = absurd (h (first_in x s n (eqb-true x n e)))
+    one false e r = omega arith
+
+one_at_most : (n : ℕ) (s : List ℕ) → IsOnce s → count_by (λ x. x == n) s ≤ 1
+one_at_most n [] h = omega arith
+one_at_most n (x ∷ s) h =
+    let first = sum_by-cons (λ y. cond {A = ℕ} (y == n) 1 0) x s in
+    let rest = one (x == n) refl (one_at_most n s (pairs_rest (λ a b. a ≢ b) x s h)) in
+    omega arith
+  where
+    one : (b : Bool) → (x == n) ≡ b → count_by (λ y. y == n) s ≤ 1 → cond {A = ℕ} b 1 0 + count_by (λ y. y == n) s ≤ 1
+    one true e less = let none = none_counted n s (λ c. pairs_first (λ a b. a ≢ b) x s h n c (eqb-true x n e)) in omega arith
+    one false e less = omega arith
+
+pub fits_below : (n : ℕ) (s : List ℕ) → IsOnce s → ((x : ℕ) → Contains s x → x < n) → length s ≤ n
+fits_below zero [] h f = omega arith
+fits_below zero (x ∷ s) h f = absurd (omega (arith, f x (first_in x s x refl)))
+fits_below (suc n) s h f =
+    let rest = fits_below n (filter (λ x. not (x == n)) s) (pairs_filter (λ a b. a ≢ b) (λ x. not (x == n)) s h)
+        (λ x c. let g = filter_from (λ y. not (y == n)) s x c in
+        let differs : x ≢ n = (λ e. both (x == n) (eq-eqb x n e) g.1) in
+        let lt = f x g.0 in omega arith) in
+    omega (arith, rest, split (λ x. x == n) s, one_at_most n s h)
+  where
+    both : (b : Bool) → b ≡ true → not b ≡ true → ⊥
+    both true e g = cc
+    both false e g = cc

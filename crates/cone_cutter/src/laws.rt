@@ -1,1 +1,23 @@
-//! Laws of cuts. The functions do nothing.
+//! Laws of cuts, and what the definitions say of two small nets. The functions do nothing.
+
+ghost use Rattle.std.specs.Prelude.{ℕ, List};
+ghost use Rattle.ground_net.specs.declared.net.Ordered.{Ordered as TheOrdered};
+ghost use Rattle.ground_net.specs.declared.net.Cut.{Cut as TheCut};
+ghost use Rattle.ground_net.specs.declared.net.CutPart.{CutPart as ThePart};
+ghost use Rattle.ground_net.specs.declared.net.Net.{Net as TheNet};
+ghost use Rattle.ground_net.specs.Reads.{IsOrder};
+ghost use Rattle.cone_cutter.specs.Cuts.{IsCut};
+ghost use Rattle.cone_cutter.specs.Splits.{IsSplit, IsUnion, IsClosed, StandBehindReads};
+
+/// Each sink stands in one partition of a cut, and each partition has exactly the union of its sinks' cones, in the order of the
+/// sequence.
+pub fn cuts_are_splits()
+    ensures { (ordered : TheOrdered) (watch : List ℕ) (workers : ℕ) (it : TheCut) → IsCut ordered watch workers it → IsSplit ordered watch it.parts }
+{}
+
+/// What an assignment of a partition reads is also in the partition, where it is an assignment; and it stands before it, where the
+/// sequence is an order.
+pub fn partitions_have_what_they_read()
+    ensures closed { (net : TheNet) (watch sequence : List ℕ) (part : ThePart) → IsUnion net watch sequence part → IsClosed net part.assignments }
+    ensures in_order { (net : TheNet) (watch sequence : List ℕ) (part : ThePart) → IsOrder net sequence → IsUnion net watch sequence part → StandBehindReads net part.assignments }
+{}
