@@ -6,3 +6,4 @@ pub mod Ranks
 pub mod LoadSteps
 pub mod Assembly
 pub mod Splitting
+pub mod SinkCount

@@ -1,10 +1,11 @@
 //! Laws of cuts, and what the definitions say of two small nets. The functions do nothing.
 
-ghost use Rattle.std.specs.Prelude.{ℕ, List};
+ghost use Rattle.std.specs.Prelude.{ℕ, List, ◌+◌, ◌≤◌, length};
 ghost use Rattle.ground_net.specs.declared.net.Ordered.{Ordered as TheOrdered};
 ghost use Rattle.ground_net.specs.declared.net.Cut.{Cut as TheCut};
 ghost use Rattle.ground_net.specs.declared.net.CutPart.{CutPart as ThePart};
 ghost use Rattle.ground_net.specs.declared.net.Net.{Net as TheNet};
+ghost use Rattle.ground_net.specs.Cones.{sinks};
 ghost use Rattle.ground_net.specs.Reads.{IsOrder};
 ghost use Rattle.cone_cutter.specs.Cuts.{IsCut};
 ghost use Rattle.cone_cutter.specs.Splits.{IsSplit, IsUnion, IsClosed, StandBehindReads};
@@ -20,4 +21,9 @@ pub fn cuts_are_splits()
 pub fn partitions_have_what_they_read()
     ensures closed { (net : TheNet) (watch sequence : List ℕ) (part : ThePart) → IsUnion net watch sequence part → IsClosed net part.assignments }
     ensures in_order { (net : TheNet) (watch sequence : List ℕ) (part : ThePart) → IsOrder net sequence → IsUnion net watch sequence part → StandBehindReads net part.assignments }
+{}
+
+/// A net has at most so many sinks as there are watched leaves, registers and memories.
+pub fn sinks_are_few()
+    ensures { (net : TheNet) (watch : List ℕ) → length (sinks net watch) ≤ length watch + (length net.registers + length net.memories) }
 {}
