@@ -7,3 +7,5 @@ pub mod LoadSteps
 pub mod Assembly
 pub mod Splitting
 pub mod SinkCount
+pub mod Checking
+pub mod Examples

@@ -199,9 +199,9 @@ fits_below zero [] h f = omega arith
 fits_below zero (x ∷ s) h f = absurd (omega (arith, f x (first_in x s x refl)))
 fits_below (suc n) s h f =
     let rest = fits_below n (filter (λ x. not (x == n)) s) (pairs_filter (λ a b. a ≢ b) (λ x. not (x == n)) s h)
-        (λ x c. let g = filter_from (λ y. not (y == n)) s x c in
-        let differs : x ≢ n = (λ e. both (x == n) (eq-eqb x n e) g.1) in
-        let lt = f x g.0 in omega arith) in
+    (λ x c. let g = filter_from (λ y. not (y == n)) s x c in
+    let differs : x ≢ n = (λ e. both (x == n) (eq-eqb x n e) g.1) in
+    let lt = f x g.0 in omega arith) in
     omega (arith, rest, split (λ x. x == n) s, one_at_most n s h)
   where
     both : (b : Bool) → b ≡ true → not b ≡ true → ⊥

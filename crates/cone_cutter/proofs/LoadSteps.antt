@@ -52,7 +52,7 @@ pub takes : (cone : List ℕ) (old new : Load) (masks shared : List ℕ) (part :
     → new.costs.items ≡ slice_set old.costs.items part (slice_index old.costs.items part + (length cone - slice_index shared part)) → Takes cone old new part
 takes cone old new masks shared part room are cheapest m got e =
     let cost = λ (p : ℕ) (lt : p < length old.costs.items). let same : slice_index old.costs.items p + (length cone - slice_index shared p) ≡ cost_with old.masks.items old.costs.items cone p =
-        ap (λ n. slice_index old.costs.items p + (length cone - n)) (are p lt) in same in
+    ap (λ n. slice_index old.costs.items p + (length cone - n)) (are p lt) in same in
     record {
       cheapest = record {
         within = cheapest.within;

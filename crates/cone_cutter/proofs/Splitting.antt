@@ -50,7 +50,7 @@ union_ordered net watch sequence part o h k w lt r a =
     let here : Contains part.assignments (slice_index part.assignments k) = stands these _ k lt refl in
     let at = stood these w (union_closed net watch sequence part h (slice_index these k) w here r a) in
     let pairs = subst (Pairs (λ x y. Reads net x y → IsAssigned net.leaves y → ⊥)) (sym h.in_order.same)
-        (pairs_filter (λ x y. Reads net x y → IsAssigned net.leaves y → ⊥) h.in_order.test sequence (not_later net sequence o)) in
+    (pairs_filter (λ x y. Reads net x y → IsAssigned net.leaves y → ⊥) h.in_order.test sequence (not_later net sequence o)) in
     ⊎_elim (λ less. (at.0, less, at.2))
     (λ past. ⊎_elim
     (λ same. absurd (not_itself net sequence o (slice_index these k) w (kept_from _ sequence these h.in_order (slice_index these k) here).0 r a (ap (slice_index these) (sym same) ∙ at.2)))

@@ -1,6 +1,7 @@
 -- what a reader must believe
 pub mod Cuts
 pub mod Splits
+pub mod Examples
 -- what the bodies keep, and what proofs need
 pub mod Rows
 pub mod Walks

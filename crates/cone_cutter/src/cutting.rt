@@ -22,12 +22,7 @@ use std::alloc::{AllocError, Global};
 ///
 /// Each cone is walked twice and none is kept. Takes memory in proportion to the net, and time in proportion to the sum of the
 /// cones, times the partitions.
-pub fn cut(
-    alloc: Global,
-    ordered: &Ordered,
-    watch: &[u32],
-    workers: u32,
-) -> Result<Cut, AllocError>
+pub fn cut(alloc: Global, ordered: &Ordered, watch: &[u32], workers: u32) -> Result<Cut, AllocError>
     requires order { IsOrder ordered.now.net ordered.now.sequence }
     requires few { length ordered.now.net.leaves < 2 ^ 32 }
     requires few_sinks { length (sinks ordered.now.net watch.now) < 2 ^ 32 }

@@ -1,6 +1,6 @@
 //! Laws of cuts, and what the definitions say of two small nets. The functions do nothing.
 
-ghost use Rattle.std.specs.Prelude.{ℕ, List, ◌+◌, ◌≤◌, length};
+ghost use Rattle.std.specs.Prelude.{ℕ, List, [], ◌∷◌, ◌+◌, ◌≤◌, length};
 ghost use Rattle.ground_net.specs.declared.net.Ordered.{Ordered as TheOrdered};
 ghost use Rattle.ground_net.specs.declared.net.Cut.{Cut as TheCut};
 ghost use Rattle.ground_net.specs.declared.net.CutPart.{CutPart as ThePart};
@@ -8,6 +8,7 @@ ghost use Rattle.ground_net.specs.declared.net.Net.{Net as TheNet};
 ghost use Rattle.ground_net.specs.Cones.{sinks};
 ghost use Rattle.ground_net.specs.Reads.{IsOrder};
 ghost use Rattle.cone_cutter.specs.Cuts.{IsCut};
+ghost use Rattle.cone_cutter.specs.Examples.{sharing, sharing_cut, crossing, crossing_cut};
 ghost use Rattle.cone_cutter.specs.Splits.{IsSplit, IsUnion, IsClosed, StandBehindReads};
 
 /// Each sink stands in one partition of a cut, and each partition has exactly the union of its sinks' cones, in the order of the
@@ -26,4 +27,14 @@ pub fn partitions_have_what_they_read()
 /// A net has at most so many sinks as there are watched leaves, registers and memories.
 pub fn sinks_are_few()
     ensures { (net : TheNet) (watch : List ℕ) → length (sinks net watch) ≤ length watch + (length net.registers + length net.memories) }
+{}
+
+/// What several sinks need is in several partitions, and then counts once for each.
+pub fn shared_assignments_are_replicated()
+    ensures { IsCut sharing (2 ∷ []) 2 sharing_cut }
+{}
+
+/// Cones of one size are placed in the order of the sinks.
+pub fn ties_go_by_numbers()
+    ensures { IsCut crossing (2 ∷ []) 2 crossing_cut }
 {}

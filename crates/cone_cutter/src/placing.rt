@@ -61,11 +61,7 @@ pub fn place_all(
 }
 
 /// For each sink the partition in which it was placed.
-pub fn owners_of(
-    alloc: Global,
-    placings: &[Placing],
-    count: usize,
-) -> Result<Vec<u32>, AllocError>
+pub fn owners_of(alloc: Global, placings: &[Placing], count: usize) -> Result<Vec<u32>, AllocError>
     requires within { All (λ placing. placing.sink < count) placings.now }
     requires once { (i j : ℕ) → i < j → j < length placings.now → slice_index (placed placings.now) i ≢ slice_index (placed placings.now) j }
     ensures count { IfOk result (λ owners. length owners.items ≡ count) }

@@ -43,12 +43,7 @@ pub fn walk(
 }
 
 /// Stamps leaves; those that weren't stamped are added to what was found.
-fn meet(
-    row: &[u32],
-    stamps: &mut [u32],
-    stamp: u32,
-    found: &mut Vec<u32>,
-) -> Result<(), AllocError>
+fn meet(row: &[u32], stamps: &mut [u32], stamp: u32, found: &mut Vec<u32>) -> Result<(), AllocError>
     requires { All (λ x. x < length stamps.old) row.now }
     ensures { OnOk result (Meets row.now stamp stamps.old found.old.items stamps.new found.new.items) }
 {

@@ -77,10 +77,10 @@ returns c =
     c.as_slice-3.ensures.value ∙ (c.in_ok-needed.ensures ∙ ap (need_rows net) (ap (map sink_of) c.as_slice.ensures.value ∙ c.in_ok-sinks.ensures)) in
     let ranked = subst (λ s. AreRanked s 0 c.in_ok-order.order.items) c.as_slice-4.ensures.value c.in_ok-order.ensures in
     let loaded = subst (λ s. IsLoad s c.as_slice-3.result.now c.args.workers c.in_ok-placed.placed.placings.items c.in_ok-placed.placed.load) (c.as_slice-5.ensures.value ∙ sym c.as_slice-2.ensures.value)
-        (subst (λ s. IsLoad c.as_slice-5.result.now s c.args.workers c.in_ok-placed.placed.placings.items c.in_ok-placed.placed.load) (c.as_slice-6.ensures.value ∙ sym c.as_slice-3.ensures.value) c.in_ok-placed.ensures.load) in
+    (subst (λ s. IsLoad c.as_slice-5.result.now s c.args.workers c.in_ok-placed.placed.placings.items c.in_ok-placed.placed.load) (c.as_slice-6.ensures.value ∙ sym c.as_slice-3.ensures.value) c.in_ok-placed.ensures.load) in
     let own = subst (λ s. (i : ℕ) (q : Placing) → slice_get s i ≡ Some q → slice_index c.in_ok-owners.owners.items q.sink ≡ q.part) c.as_slice-8.ensures.value c.in_ok-owners.ensures.owners in
     let parts = c.in_ok-parts.ensures ∙ (ap (λ s. parts_by s c.as_slice-10.result.now c.as_slice-11.result.now c.args.workers) c.as_slice-9.ensures.value
-        ∙ (ap (λ s. parts_by owners s c.as_slice-11.result.now c.args.workers) c.as_slice-10.ensures.value ∙ ap (λ s. parts_by owners load.masks.items s c.args.workers) c.as_slice-11.ensures)) in
+    ∙ (ap (λ s. parts_by owners s c.as_slice-11.result.now c.args.workers) c.as_slice-10.ensures.value ∙ ap (λ s. parts_by owners load.masks.items s c.args.workers) c.as_slice-11.ensures)) in
     is_cut c.args.ordered.now c.args.watch.now c.args.workers (record { parts = c.in_ok-parts.parts; needed = c.in_ok-sizes.sizes.needed }) c.as_slice-2.result.now c.as_slice-3.result.now c.in_ok-sizes.sizes.sizes.items c.in_ok-order.order.items placings load owners
     er en c.requires.order c.in_ok-sizes.ensures.count c.in_ok-sizes.ensures.sizes ranked (c.in_ok-placed.ensures.order ∙ c.as_slice-7.ensures.value) loaded
     (omega (arith, c.in_ok-owners.ensures.count, c.len-2.ensures, c.in_ok-needed.needed.ok.0, ap length c.as_slice-3.ensures.value)) own parts c.in_ok-sizes.ensures.needed
