@@ -4,7 +4,10 @@ use Rattle.std.specs.List.{Contains}
 use Rattle.std.proofs.lemmas.List.{get_or_append_left, get_or_push, length_push}
 use Rattle.std.proofs.lemmas.Bool.{cases_lt}
 use Rattle.std.proofs.lemmas.Option.{slice_get_within, slice_get-get_or, get_or_from_slice_get}
-use Rattle.ground_net.specs.declared.ground.Ground.{Ground}
+use Rattle.ground_net.specs.declared.ground.Ground.{Ground, the_lemmas}
+use Rattle.ground_net.specs.declared.ground.Ground.TheVariants as ground
+use Rattle.ground_net.specs.Grounds.{mentions as mentions_of}
+use Rattle.std.proofs.lemmas.Grind.{common_steps}
 use Rattle.ground_net.specs.declared.net.Leaf.{Leaf}
 use Rattle.ground_net.specs.declared.net.Net.{Net}
 use Rattle.ground_net.specs.declared.net.Role.{Role}
@@ -56,3 +59,10 @@ three_at a b c n la lb lc x (suc (suc (suc k))) lt e = absurd (omega arith)
 
 pub three_below : (a b c n : ℕ) → a < n → b < n → c < n → (x : ℕ) → Contains (a ∷ b ∷ c ∷ []) x → x < n
 three_below a b c n la lb lc x has = three_at a b c n la lb lc x has.0 has.1 has.2
+
+three_mentions : (a b c : ℕ) → mentions_of (ground.Mux (ground.Leaf a ∷ ground.Leaf b ∷ ground.Leaf c ∷ [])) ≡ a ∷ b ∷ c ∷ []
+three_mentions a b c = grind (arith, common_steps, the_lemmas)
+
+pub three_read : (items : List Ground) (a b c : ℕ) → items ≡ ground.Leaf a ∷ ground.Leaf b ∷ ground.Leaf c ∷ [] → (n : ℕ) → a < n → b < n → c < n → ReadsBelow n (Some (ground.Mux items))
+three_read items a b c e n la lb lc x has =
+    three_below a b c n la lb lc x (subst (λ l. Contains l x) (ap (λ s. mentions_of (ground.Mux s)) e ∙ three_mentions a b c) has)

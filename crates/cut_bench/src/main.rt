@@ -6,7 +6,7 @@ mod net;
 
 ghost use Rattle.std.specs.Prelude.{◌<◌, ◌≤◌, ◌^◌};
 
-use comb_order::order;
+use comb_order::{OrderFault, order};
 use cone_cutter::cut;
 use cut_print::cut_text;
 use net::{Shape, net_of};
@@ -40,18 +40,23 @@ fn run(rt: &HostRuntime) -> Option<Vec<u8>> {
     if count == 0 || count >= 1 << 31 || workers == 0 || workers > 64 {
         return None;
     }
-    listing(rt.alloc(), shape, count, workers)
+    listing(rt.alloc(), shape, count, workers).ok()
 }
 
-/// The listing of the cut of a net of a shape, unless memory is wanting.
-fn listing(alloc: Global, shape: Shape, count: u32, workers: u32) -> Option<Vec<u8>>
+/// The listing of the cut of a net of a shape.
+fn listing(
+    alloc: Global,
+    shape: Shape,
+    count: u32,
+    workers: u32,
+) -> Result<Vec<u8>, OrderFault>
     requires some { 0 < count }
     requires few { count < 2 ^ 31 }
     requires some_workers { 0 < workers }
     requires few_workers { workers ≤ 64 }
 {
-    let net = net_of(alloc, shape, count).ok()?;
-    let ordered = order(alloc, net).ok()?;
-    let cut = cut(alloc, &ordered, &[], workers).ok()?;
-    cut_text(alloc, &cut).ok()
+    let net = net_of(alloc, shape, count)?;
+    let ordered = order(alloc, net)?;
+    let cut = cut(alloc, &ordered, &[], workers)?;
+    Ok(cut_text(alloc, &cut)?)
 }

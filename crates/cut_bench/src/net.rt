@@ -37,6 +37,7 @@ pub fn net_of(alloc: Global, shape: Shape, count: u32) -> Result<Net, AllocError
     ensures registers { IfOk result (λ net. length net.registers ≡ count) }
     ensures memories { IfOk result (λ net. length net.memories ≡ 0) }
 {
+    let registers = registers_of(alloc, count)?;
     let mut leaves = List::new(alloc);
     let mut drivers = List::new(alloc);
     for index in 0..count + count {
@@ -47,7 +48,7 @@ pub fn net_of(alloc: Global, shape: Shape, count: u32) -> Result<Net, AllocError
         ports: 0,
         leaves,
         drivers,
-        registers: registers(alloc, count)?,
+        registers,
         memories: List::new(alloc),
     })
 }
@@ -71,7 +72,7 @@ fn leaf_at(alloc: Global, index: u32, count: u32) -> Leaf {
 }
 
 /// So many registers.
-fn registers(alloc: Global, count: u32) -> Result<List<NetRegister>, AllocError>
+fn registers_of(alloc: Global, count: u32) -> Result<List<NetRegister>, AllocError>
     ensures { IfOk result (λ all. length all ≡ count) }
 {
     let mut all = List::new(alloc);
