@@ -262,3 +262,35 @@ load_begins reads needed workers placings load e room masks costs =
 
     zero_holds : (p x : ℕ) → IsTrue (holds load.masks.items p x) → ⊥
     zero_holds p x e = let no : holds load.masks.items p x ≡ false = ap (λ m. has_bit m p) (masks x) ∙ ap (λ b. b == 1) (bit_at-zero p) in true_false (sym e ∙ no)
+
+-- bits
+
+pub smaller_without : (a b p : ℕ) → a ≤ b → has_bit a p ≡ false → has_bit b p ≡ true → a < b
+smaller_without a b p le lacks has = ⊎_elim (λ lt. lt) (λ ge. let e : a ≡ b = omega arith in absurd (differ (sym has ∙ (ap (λ m. has_bit m p) (sym e) ∙ lacks)))) (cases_lt a b)
+  where
+    differ : true ≡ false → ⊥
+    differ e = cc
+
+-- What is counted and what is left to count: the bits of the mask.
+abbrev pub CountsBits : List ℕ → ℕ → List ℕ → ℕ → Type 0
+CountsBits old mask now rest = (p : ℕ) → p < length now → slice_index now p + cond {A = ℕ} (has_bit rest p) 1 0 ≡ slice_index old p + cond {A = ℕ} (has_bit mask p) 1 0
+
+pub bit_counted : (old : List ℕ) (mask : ℕ) (now : List ℕ) (rest part left : ℕ) → CountsBits old mask now rest → part < length now → length now ≤ 64 → has_bit rest part ≡ true → has_bit left part ≡ false
+    → ((p : ℕ) → p < 64 → p ≢ part → has_bit left p ≡ has_bit rest p) → CountsBits old mask (slice_set now part (slice_index now part + 1)) left
+bit_counted old mask now rest part left h lt few has lacks others p in_now =
+    let long = length-set now part (slice_index now part + 1) in
+    let was = h p (omega (arith, in_now, long)) in
+    ⊎_elim
+    (λ e. let here = set_here now part (slice_index now part + 1) p lt e in
+    let one : cond {A = ℕ} (has_bit rest p) 1 0 ≡ 1 = ap (λ b. cond {A = ℕ} b 1 0) (ap (has_bit rest) e ∙ has) in
+    let none : cond {A = ℕ} (has_bit left p) 1 0 ≡ 0 = ap (λ b. cond {A = ℕ} b 1 0) (ap (has_bit left) e ∙ lacks) in
+    omega (arith, here, one, none, was, ap (slice_index now) e))
+    (λ n. let there = set_there now part (slice_index now part + 1) p n in
+    let same : cond {A = ℕ} (has_bit left p) 1 0 ≡ cond {A = ℕ} (has_bit rest p) 1 0 = ap (λ b. cond {A = ℕ} b 1 0) (others p (omega (arith, in_now, long)) n) in
+    omega (arith, there, same, was)) (cases_eq p part)
+
+pub bit_past : (old : List ℕ) (mask : ℕ) (now : List ℕ) (rest part left : ℕ) → CountsBits old mask now rest → length now ≤ part → length now ≤ 64
+    → ((p : ℕ) → p < 64 → p ≢ part → has_bit left p ≡ has_bit rest p) → CountsBits old mask now left
+bit_past old mask now rest part left h past few others p in_now =
+    let same : cond {A = ℕ} (has_bit left p) 1 0 ≡ cond {A = ℕ} (has_bit rest p) 1 0 = ap (λ b. cond {A = ℕ} b 1 0) (others p (omega arith) (λ e. omega arith)) in
+    omega (arith, same, h p in_now)

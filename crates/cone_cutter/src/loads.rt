@@ -1,6 +1,6 @@
 //! What the partitions hold.
 
-ghost use Rattle.std.specs.Prelude.{◌≡◌, ◌≢◌, ℕ, ◌+◌, ◌-◌, ◌<◌, ◌≤◌, ◌^◌, length, slice_index, true, All, IfOk, if◌then◌else◌};
+ghost use Rattle.std.specs.Prelude.{◌≡◌, ◌≢◌, ℕ, ◌+◌, ◌-◌, ◌<◌, ◌≤◌, ◌^◌, length, slice_index, true, false, All, IfOk, if◌then◌else◌};
 ghost use Rattle.cone_cutter.specs.Loads.{has_bit, holds, shared_by, cost_with, IsCheapest, Gets, Takes, HasRoom};
 
 use std::alloc::{AllocError, Global};
@@ -67,6 +67,16 @@ fn with_bit(mask: u64, part: u32) -> u64
     mask | 1 << part
 }
 
+/// The mask without the bit of a partition.
+fn without_bit(mask: u64, part: u32) -> u64
+    requires { part < 64 }
+    ensures same { has_bit result part ≡ false }
+    ensures others { (p : ℕ) → p < 64 → p ≢ part → has_bit result p ≡ has_bit mask p }
+    ensures smaller { has_bit mask part ≡ true → result < mask }
+{
+    mask & !(1 << part)
+}
+
 /// Counts the leaves that a cone shares with each partition.
 fn count_shared(masks: &[u64], cone: &[u32], shared: &mut [usize])
     requires within { All (λ x. x < length masks.now) cone.now }
@@ -85,13 +95,13 @@ fn count_bits(mask: u64, shared: &mut [usize])
     requires fits { (p : ℕ) → p < length shared.old → slice_index shared.old p + 1 < 2 ^ 64 }
     ensures { (p : ℕ) → p < length shared.new → slice_index shared.new p ≡ slice_index shared.old p + (if has_bit mask p then 1 else 0) }
 {
-    if mask == 0 {
-        return;
-    }
-    for part in 0..shared.len() {
-        if is_held(mask, part as u32) {
-            shared[part] += 1;
+    let mut rest = mask;
+    'bits: while rest != 0 {
+        let part = rest.trailing_zeros();
+        if (part as usize) < shared.len() {
+            shared[part as usize] += 1;
         }
+        rest = without_bit(rest, part);
     }
 }
 
