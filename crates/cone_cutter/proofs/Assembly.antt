@@ -1,11 +1,11 @@
 -- The cut, put together.
-use Rattle.std.proofs.Common.{◌≡◌, ◌≢◌, ℕ, zero, suc, ◌+◌, ◌<◌, ◌≤◌, ◌==◌, ◌↔◌, Bool, true, false, cond, IsTrue, List, [], ◌∷◌, ◌++◌, length, map, take, slice_get, slice_index, Some, None, Option, refl, sym, subst, ap, ◌∙◌, arith, ◌⊎◌, ⊎_elim, inl, inr, get_or}
+use Rattle.std.proofs.Common.{◌≡◌, ◌≢◌, ℕ, zero, suc, ◌+◌, ◌<◌, ◌≤◌, ◌==◌, Bool, true, false, cond, List, [], ◌∷◌, ◌++◌, length, take, slice_get, slice_index, Some, None, Option, refl, sym, subst, ap, ◌∙◌, arith, ◌⊎◌, ⊎_elim, inl, inr, get_or}
 use Rattle.std.specs.List.{filter, Contains, All, range_with_len}
 use Rattle.std.proofs.lemmas.Bool.{cases_lt, eq-eqb, eqb-true}
 use Rattle.std.proofs.lemmas.List.{length-map, get_or-map, get_or_past, get_or_default}
 use Rattle.std.proofs.lemmas.List.Elements.{Contains-get_or, All-map}
 use Rattle.std.proofs.lemmas.List.FromFn.{length-map-range_with_len, get_or-map-range_with_len, map-range_with_len_more}
-use Rattle.std.proofs.lemmas.Option.{slice_get_within, slice_get-get_or, slice_get_cases, get_or_from_slice_get}
+use Rattle.std.proofs.lemmas.Option.{slice_get_within, slice_get_cases, get_or_from_slice_get}
 use Rattle.ground_net.specs.declared.net.Net.{Net}
 use Rattle.ground_net.specs.declared.net.Leaf.{Leaf}
 use Rattle.ground_net.specs.declared.net.Ordered.{Ordered}
@@ -14,14 +14,14 @@ use Rattle.ground_net.specs.declared.net.CutPart.{CutPart}
 use Rattle.ground_net.specs.declared.net.Role.{Role}
 use Rattle.ground_net.specs.declared.net.Role.TheVariants as role
 use Rattle.ground_net.specs.Cones.{Sink, sinks, needs, InCone, needed as by_need, behind as by_reads}
-use Rattle.ground_net.specs.Reads.{IsAssigned, Reads, direct_reads, IsOrder}
+use Rattle.ground_net.specs.Reads.{IsAssigned, direct_reads, IsOrder}
 use Rattle.cone_cutter.specs.declared.placing.Placing.{Placing}
 use Rattle.cone_cutter.specs.declared.loads.Load.{Load}
-use Rattle.cone_cutter.specs.Cuts.{Lists, Counts, Keeps, NeededBy, placed, placed_in, GoesFirst, IsLeast, ArePlaced, InConeOf, all_sinks, IsPart, IsCut}
+use Rattle.cone_cutter.specs.Cuts.{Counts, NeededBy, placed, placed_in, GoesFirst, IsLeast, ArePlaced, InConeOf, IsPart, IsCut}
 use Rattle.cone_cutter.specs.Rows.{is_assigned_role, is_assigned_leaf, is_assignment, assignments_of, read_rows, need_rows, row_at, places_of, AreBelow, Met, root, next, ConeAt}
 use Rattle.cone_cutter.specs.Walks.{AreRanked}
 use Rattle.cone_cutter.specs.Loads.{holds, IsLoad, part_by, parts_by}
-use Rattle.cone_cutter.proofs.Lists.{none_in, first_in, later_in, cons_cases, stands, stood, filter_from, filter_to, pairs_filter, counts_same, in_range, to_range}
+use Rattle.cone_cutter.proofs.Lists.{none_in, first_in, later_in, cons_cases, stands, stood, filter_from, filter_to, pairs_filter, counts_same, in_range}
 use Rattle.cone_cutter.proofs.KeyPlaces.{place_from, place_to}
 
 -- assignments

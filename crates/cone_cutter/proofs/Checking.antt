@@ -1,5 +1,5 @@
 -- Cuts of small nets, checked by tests.
-use Rattle.std.proofs.Common.{◌≡◌, ◌≢◌, ℕ, zero, suc, ◌+◌, ◌<◌, ◌≤◌, ◌==◌, ◌&&◌, ◌||◌, nat_lt, nat_le, Bool, true, false, not, List, [], ◌∷◌, ◌++◌, length, map, take, slice_get, slice_index, Some, refl, sym, subst, ap, ◌∙◌, arith, ◌⊎◌, ⊎_elim, inl, inr, get_or}
+use Rattle.std.proofs.Common.{◌≡◌, ◌≢◌, ℕ, ◌+◌, ◌<◌, ◌≤◌, ◌==◌, ◌&&◌, ◌||◌, nat_lt, nat_le, Bool, true, false, not, List, [], ◌∷◌, length, map, take, slice_get, slice_index, Some, refl, sym, subst, ap, ◌∙◌, arith, ◌⊎◌, ⊎_elim, inl, inr}
 use Rattle.std.specs.List.{filter, list_all, list_any, Contains, range_with_len}
 use Rattle.std.proofs.lemmas.Bool.{eq-eqb, eqb-true}
 use Rattle.std.proofs.lemmas.Bool.Decides.{nat_tests}
@@ -12,10 +12,10 @@ use Rattle.ground_net.specs.declared.net.Cut.{Cut}
 use Rattle.ground_net.specs.declared.net.CutPart.{CutPart}
 use Rattle.ground_net.specs.Cones.{sinks}
 use Rattle.cone_cutter.specs.declared.placing.Placing.{Placing}
-use Rattle.cone_cutter.specs.Cuts.{Lists, Counts, Keeps, NeededBy, placed, placed_in, GoesFirst, IsLeast, ArePlaced, InConeOf, all_sinks, IsPart, IsCut}
-use Rattle.cone_cutter.specs.Rows.{read_rows, need_rows, row_at, Met, root, next, ConeAt}
-use Rattle.cone_cutter.proofs.Lists.{none_in, first_in, later_in, cons_cases, filter_from, filter_to, pairs_none, pairs_cons, in_range, to_range}
-use Rattle.cone_cutter.proofs.Assembly.{cone_to, cone_from, needed_lift, placed_lift}
+use Rattle.cone_cutter.specs.Cuts.{Lists, NeededBy, placed, placed_in, GoesFirst, IsLeast, InConeOf, all_sinks, IsPart, IsCut}
+use Rattle.cone_cutter.specs.Rows.{read_rows, need_rows, row_at, Met, root, next}
+use Rattle.cone_cutter.proofs.Lists.{none_in, first_in, later_in, cons_cases, filter_from, filter_to, pairs_none, pairs_cons, to_range}
+use Rattle.cone_cutter.proofs.Assembly.{cone_to, cone_from}
 
 -- tests
 
@@ -93,7 +93,7 @@ module _ (reads : List (List ℕ)) (roots : List ℕ) where
   all_reached [] seen f e x c = absurd (none_in x c)
   all_reached (y ∷ ys) seen f e x c =
       let here : Met reads roots y = ⊎_elim (λ r. root (has_from roots y r)) (λ s. let a = any_at (λ z. has (row_at reads z) y) seen s in next (f a.0 a.1) (has_from (row_at reads a.0) y a.2))
-          (or_cases (has roots y) (list_any (λ z. has (row_at reads z) y) seen) (and_first (has roots y || list_any (λ z. has (row_at reads z) y) seen) (reached reads roots ys (y ∷ seen)) e)) in
+      (or_cases (has roots y) (list_any (λ z. has (row_at reads z) y) seen) (and_first (has roots y || list_any (λ z. has (row_at reads z) y) seen) (reached reads roots ys (y ∷ seen)) e)) in
       ⊎_elim (λ q. subst (Met reads roots) q here)
       (λ r. all_reached ys (y ∷ seen) (λ z d. ⊎_elim (λ q. subst (Met reads roots) q here) (λ s. f z s) (cons_cases y seen z d))
       (and_second (has roots y || list_any (λ z. has (row_at reads z) y) seen) (reached reads roots ys (y ∷ seen)) e) x r) (cons_cases y ys x c)

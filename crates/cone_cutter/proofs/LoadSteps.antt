@@ -1,17 +1,16 @@
 -- What the partitions hold, step by step.
-use Rattle.std.proofs.Common.{◌≡◌, ◌≢◌, ℕ, ◌+◌, ◌-◌, ◌*◌, ◌^◌, ◌<◌, ◌≤◌, ◌==◌, Bool, true, false, not, cond, IsTrue, List, [], ◌∷◌, ◌++◌, length, map, take, drop, Vec, Global, slice_get, slice_index, slice_set, Some, None, Option, refl, sym, subst, ap, ◌∙◌, arith, ◌⊎◌, ⊎_elim, inl, inr, count_by, get_or}
+use Rattle.std.proofs.Common.{◌≡◌, ◌≢◌, ℕ, ◌+◌, ◌-◌, ◌^◌, ◌<◌, ◌≤◌, ◌==◌, Bool, true, false, not, cond, IsTrue, List, [], ◌∷◌, ◌++◌, length, take, drop, Vec, Global, slice_get, slice_index, slice_set, Some, refl, sym, subst, ap, ◌∙◌, arith, ◌⊎◌, ⊎_elim, inl, inr}
 use Rattle.std.specs.List.{filter, Contains}
 use Rattle.std.specs.Vec.{with_items}
-use Rattle.std.proofs.lemmas.Bool.{cases_eq, cases_lt, eq-eqb, eqb-true}
-use Rattle.std.proofs.lemmas.List.{length-set, length_push, length-map, get_or-map, map-append, append-nil, get_or_append_left, get_or_push, take-append-le, take_at}
+use Rattle.std.proofs.lemmas.Bool.{cases_eq, cases_lt, eq-eqb}
+use Rattle.std.proofs.lemmas.List.{length-set, length_push, get_or-map, map-append, append-nil, get_or_append_left, get_or_push, take-append-le, take_at}
 use Rattle.std.proofs.lemmas.List.Elements.{Contains-append_left, Contains-append_right, Contains-append_cases, Contains-push, Contains-push_cases, filter-append}
-use Rattle.std.proofs.lemmas.List.Sums.{count_by-le-length}
 use Rattle.std.proofs.lemmas.Option.{slice_get_within, slice_get-get_or, get_or_from_slice_get}
 use Rattle.std.proofs.lemmas.Nat.Bits.{bit_at-zero}
 use Rattle.std.proofs.Math.ListN.{length-append}
 use Rattle.cone_cutter.specs.declared.placing.Placing.{Placing}
 use Rattle.cone_cutter.specs.declared.loads.Load.{Load}
-use Rattle.cone_cutter.specs.Cuts.{Lists, Counts, NeededBy, IsLeast, placed, placed_in}
+use Rattle.cone_cutter.specs.Cuts.{Counts, NeededBy, IsLeast, placed, placed_in}
 use Rattle.cone_cutter.specs.Rows.{row_at, ConeAt}
 use Rattle.cone_cutter.specs.Walks.{Walked}
 use Rattle.cone_cutter.specs.Loads.{has_bit, holds, shared_by, cost_with, IsCheapest, Gets, Takes, HasRoom, IsLoad}

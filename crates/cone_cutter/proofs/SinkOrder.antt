@@ -1,10 +1,10 @@
 -- The sinks of a net by the leaves at which they stand.
-use Rattle.std.proofs.Common.{◌≡◌, ℕ, zero, suc, ◌+◌, ◌<◌, ◌==◌, Bool, true, false, cond, List, [], ◌∷◌, ◌++◌, length, map, slice_index, refl, sym, subst, ap, ◌∙◌, arith, append_assoc, Option, Some, None}
+use Rattle.std.proofs.Common.{◌≡◌, ℕ, suc, ◌+◌, ◌<◌, ◌==◌, Bool, true, false, cond, List, [], ◌∷◌, ◌++◌, length, map, slice_index, refl, sym, ap, ◌∙◌, arith, append_assoc, Option, Some, None}
 use Rattle.std.specs.List.{filter, filter_map, flat_map, cons_option, zip, range_with_len}
 use Rattle.std.proofs.lemmas.List.{length-map, append-nil}
 use Rattle.std.proofs.lemmas.Grind.{flat_map-append}
 use Rattle.ground_net.specs.declared.net.Net.{Net}
-use Rattle.ground_net.specs.Cones.{Sink, A_memory, A_register, numbered, memory_before, register_at, sinks_at}
+use Rattle.ground_net.specs.Cones.{Sink, A_memory, A_register, numbered, register_at, sinks_at}
 use Rattle.cone_cutter.specs.Rows.{places_of}
 use Rattle.cone_cutter.proofs.Lists.{range_more}
 

@@ -1,10 +1,9 @@
 -- What a cut is to the code that is made of it.
-use Rattle.std.proofs.Common.{◌≡◌, ◌≢◌, ℕ, zero, suc, ◌+◌, ◌<◌, ◌≤◌, ◌==◌, Bool, true, false, cond, IsTrue, List, [], ◌∷◌, length, slice_get, slice_index, Some, None, refl, sym, subst, ap, ◌∙◌, arith, ◌⊎◌, ⊎_elim, inl, inr}
-use Rattle.std.specs.List.{filter, Contains, range_with_len}
+use Rattle.std.proofs.Common.{◌≡◌, ◌≢◌, ℕ, ◌<◌, List, length, slice_get, slice_index, Some, refl, sym, subst, ap, ◌∙◌, arith, ⊎_elim}
+use Rattle.std.specs.List.{Contains}
 use Rattle.std.proofs.lemmas.Bool.{cases_eq, cases_lt}
 use Rattle.std.proofs.lemmas.Option.{slice_get_within, slice_get_cases, get_or_from_slice_get}
-use Rattle.std.proofs.lemmas.List.{get_or-map, length-map}
-use Rattle.std.proofs.lemmas.List.Elements.{Contains-get_or}
+use Rattle.std.proofs.lemmas.List.{get_or-map}
 use Rattle.ground_net.specs.declared.net.Net.{Net}
 use Rattle.ground_net.specs.declared.net.Ordered.{Ordered}
 use Rattle.ground_net.specs.declared.net.Cut.{Cut}
@@ -12,10 +11,10 @@ use Rattle.ground_net.specs.declared.net.CutPart.{CutPart}
 use Rattle.ground_net.specs.Cones.{sinks, behind}
 use Rattle.ground_net.specs.Reads.{IsAssigned, Reads, IsOrder}
 use Rattle.cone_cutter.specs.declared.placing.Placing.{Placing}
-use Rattle.cone_cutter.specs.Cuts.{Lists, Keeps, NeededBy, placed, placed_in, GoesFirst, ArePlaced, InConeOf, all_sinks, IsPart, IsCut}
+use Rattle.cone_cutter.specs.Cuts.{Keeps, placed, placed_in, all_sinks, IsCut}
 use Rattle.cone_cutter.specs.Splits.{StandsOnce, Rises, IsUnion, IsSplit, IsClosed, StandBehindReads}
 use Rattle.cone_cutter.proofs.Lists.{stands, stood, filter_from, filter_to, Pairs, pairs_filter, range_rises, in_range, to_range}
-use Rattle.cone_cutter.proofs.Assembly.{StoodIn, placed_from, placed_to, placing_of}
+use Rattle.cone_cutter.proofs.Assembly.{placed_from, placed_to, placing_of}
 
 -- what is kept
 

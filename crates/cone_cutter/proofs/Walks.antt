@@ -1,15 +1,15 @@
 -- Walks of cones.
-use Rattle.std.proofs.Common.{◌≡◌, ◌≢◌, ℕ, zero, suc, ◌+◌, ◌<◌, ◌≤◌, ◌==◌, Bool, true, false, not, cond, List, [], ◌∷◌, ◌++◌, length, slice_index, slice_set, refl, sym, subst, ap, ◌∙◌, arith, ◌⊎◌, ⊎_elim, inl, inr, count_by, append_assoc, get_or}
+use Rattle.std.proofs.Common.{◌≡◌, ◌≢◌, ℕ, suc, ◌+◌, ◌<◌, ◌≤◌, ◌==◌, Bool, true, false, not, cond, List, [], ◌∷◌, ◌++◌, length, slice_index, slice_set, refl, sym, subst, ap, ◌∙◌, arith, ⊎_elim, inl, inr, append_assoc, get_or}
 use Rattle.std.specs.List.{Contains, All, range_with_len}
 use Rattle.std.proofs.lemmas.Bool.{cases_eq, cases_lt, eq-eqb, eqb-true}
 use Rattle.std.proofs.lemmas.List.{length-set, length_push, get_or_append_left, get_or_default, append-nil}
 use Rattle.std.proofs.lemmas.List.Elements.{Contains-append_left, Contains-append_right, Contains-append_cases, Contains-push, Contains-push_cases}
 use Rattle.std.proofs.lemmas.List.Sums.{sum_by-set, sum_by-cons}
 use Rattle.std.proofs.Math.ListN.{length-append}
-use Rattle.cone_cutter.specs.Cuts.{Lists, Counts, NeededBy}
+use Rattle.cone_cutter.specs.Cuts.{Counts, NeededBy}
 use Rattle.cone_cutter.specs.Rows.{AreBelow, row_at, Met, root, next, ConeAt}
 use Rattle.cone_cutter.specs.Walks.{unstamped, Meets, Walking, Walked, AreSized}
-use Rattle.cone_cutter.proofs.Lists.{set_here, set_there, push_old, push_new, push_cases, none_in, first_in, once_push, pairs_append, in_range, to_range, stands, stood}
+use Rattle.cone_cutter.proofs.Lists.{set_here, set_there, push_old, push_new, none_in, once_push, pairs_append, in_range, to_range, stands, stood}
 
 -- stamps
 

@@ -1,11 +1,11 @@
 -- A net as rows of numbers: what each leaf reads and what each sink needs, of both the assignments alone.
-use Rattle.std.specs.Prelude.{◌≡◌, ℕ, ◌<◌, ◌==◌, Bool, true, false, List, [], length, map, filter, slice_get, slice_index, get_or, All, Contains, Option, Some, None}
+use Rattle.std.specs.Prelude.{ℕ, ◌<◌, ◌==◌, Bool, true, false, List, [], length, map, filter, slice_get, slice_index, get_or, All, Contains, Option, Some, None}
 use Rattle.std.specs.List.{range_with_len}
 use Rattle.ground_net.specs.declared.net.Net.{Net}
 use Rattle.ground_net.specs.declared.net.Leaf.{Leaf}
 use Rattle.ground_net.specs.declared.net.Role.{Role}
 use Rattle.ground_net.specs.declared.net.Role.TheVariants as role
-use Rattle.ground_net.specs.Cones.{Sink, A_watched, A_register, A_memory, needs, sinks}
+use Rattle.ground_net.specs.Cones.{Sink, A_watched, A_register, A_memory, needs}
 use Rattle.ground_net.specs.Reads.{direct_reads}
 use Rattle.cone_cutter.specs.declared.sinks.SinkAt.{SinkAt}
 use Rattle.cone_cutter.specs.declared.sinks.SinkAt.TheVariants as at

@@ -1,5 +1,5 @@
 -- Walks of cones. A stamp stands for each leaf: the number of the walk in which it was met last.
-use Rattle.std.specs.Prelude.{◌≡◌, ◌≢◌, ◌⊎◌, ◌↔◌, ℕ, ◌+◌, ◌<◌, ◌≤◌, ◌==◌, not, List, [], ◌++◌, length, slice_index, count_by, Contains}
+use Rattle.std.specs.Prelude.{◌≡◌, ◌≢◌, ◌⊎◌, ℕ, ◌+◌, ◌<◌, ◌≤◌, ◌==◌, not, List, ◌++◌, length, slice_index, count_by, Contains}
 use Rattle.std.specs.List.{range_with_len}
 use Rattle.cone_cutter.specs.Cuts.{Lists, Counts, NeededBy, GoesFirst}
 use Rattle.cone_cutter.specs.Rows.{row_at, Met, ConeAt}

@@ -1,12 +1,11 @@
-use Rattle.std.proofs.Common.{◌≡◌, ◌≢◌, ℕ, ◌<◌, List, length, map, slice_get, slice_index, Some, sym, subst, ap, ◌∙◌, arith}
+use Rattle.std.proofs.Common.{◌≡◌, ◌≢◌, ℕ, ◌<◌, length, map, slice_get, slice_index, Some, sym, subst, ap, ◌∙◌, arith}
 use Rattle.std.specs.List.{All}
 use Rattle.ground_net.specs.Cones.{sinks}
 use Rattle.cone_cutter.specs.declared.placing.Placing.{Placing}
 use Rattle.cone_cutter.specs.Cuts.{placed}
-use Rattle.cone_cutter.specs.Rows.{read_rows, need_rows, sink_of, AreBelow}
-use Rattle.cone_cutter.specs.Walks.{AreRanked, IsOnce}
+use Rattle.cone_cutter.specs.Rows.{need_rows, sink_of}
+use Rattle.cone_cutter.specs.Walks.{AreRanked}
 use Rattle.cone_cutter.specs.Loads.{IsLoad, parts_by}
-use Rattle.cone_cutter.proofs.Lists.{stood}
 use Rattle.std.proofs.lemmas.List.Elements.{Contains-get_or}
 use Rattle.cone_cutter.proofs.Ranks.{ranked_once, ranked_few}
 use Rattle.cone_cutter.proofs.Assembly.{is_cut, reads_below, needs_below, read_rows_long, sequence_within, placings_within, need_rows_long, placed_long}

@@ -1,4 +1,4 @@
-use Rattle.std.proofs.Common.{◌+◌, ◌<◌, length, take, slice_index, slice_set, sym, subst, arith}
+use Rattle.std.proofs.Common.{◌<◌, length, take, slice_index, slice_set, sym, subst, arith}
 use Rattle.std.proofs.lemmas.List.{take_more}
 use Rattle.cone_cutter.specs.Loads.{Gets}
 use Rattle.cone_cutter.proofs.LoadSteps.{gets_more}

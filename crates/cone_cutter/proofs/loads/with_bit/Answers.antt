@@ -1,4 +1,4 @@
-use Rattle.std.proofs.Common.{◌∙◌, ap, ◌==◌, eq-eqb, w64}
+use Rattle.std.proofs.Common.{ap, ◌==◌, eq-eqb, w64}
 use Rattle.std.proofs.lemmas.Nat.Bits.{bit_at_set_same, bit_at_set_other}
 use Rattle.cone_cutter.proofs.loads.with_bit.Goals as goal
 

@@ -1,9 +1,8 @@
-use Rattle.std.proofs.Common.{rules, ◌≡◌, ℕ, ◌+◌, ◌≤◌, ◌<◌, [], ◌∷◌, ◌++◌, length, take, slice_index, sym, subst, ap, ◌∙◌, arith, ⊎_elim}
+use Rattle.std.proofs.Common.{◌+◌, ◌<◌, [], ◌∷◌, ◌++◌, length, slice_index, sym, subst, ap, ◌∙◌, arith, ⊎_elim}
 use Rattle.std.specs.List.{All}
 use Rattle.std.proofs.lemmas.List.{take_more, take_all, length_push}
 use Rattle.std.proofs.lemmas.List.Elements.{Contains-get_or}
 use Rattle.cone_cutter.specs.Cuts.{placed}
-use Rattle.cone_cutter.specs.Rows.{row_at}
 use Rattle.cone_cutter.specs.Walks.{Walked}
 use Rattle.cone_cutter.specs.Loads.{IsLoad, Takes}
 use Rattle.cone_cutter.proofs.Walks.{row_is}

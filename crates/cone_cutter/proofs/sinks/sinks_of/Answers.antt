@@ -1,8 +1,8 @@
-use Rattle.std.proofs.Common.{◌≡◌, ℕ, ◌+◌, ◌<◌, [], ◌++◌, length, map, suc, sym, subst, ap, ◌∙◌, arith}
+use Rattle.std.proofs.Common.{◌≡◌, [], ◌++◌, length, map, suc, ap, ◌∙◌, arith}
 use Rattle.std.specs.List.{flat_map, range_with_len}
 use Rattle.std.proofs.lemmas.List.{get_or_read}
 use Rattle.ground_net.specs.Cones.{A_watched, A_memory, A_register, sinks_at}
-use Rattle.cone_cutter.specs.Rows.{sink_of, places_of}
+use Rattle.cone_cutter.specs.Rows.{places_of}
 use Rattle.cone_cutter.proofs.SinkOrder.{sinks_more}
 use Rattle.cone_cutter.proofs.sinks.sinks_of.Goals as goal
 

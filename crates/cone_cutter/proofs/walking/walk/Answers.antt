@@ -1,7 +1,6 @@
-use Rattle.std.proofs.Common.{◌≡◌, ℕ, ◌+◌, ◌<◌, [], List, length, slice_index, sym, subst, ap, ◌∙◌, arith}
+use Rattle.std.proofs.Common.{◌<◌, length, sym, subst, ◌∙◌, arith}
 use Rattle.std.specs.List.{All}
 use Rattle.std.proofs.lemmas.List.{get_or_read}
-use Rattle.cone_cutter.specs.Rows.{row_at}
 use Rattle.cone_cutter.specs.Walks.{Meets}
 use Rattle.cone_cutter.proofs.Lists.{stands}
 use Rattle.cone_cutter.proofs.Walks.{walk_begins, walk_goes_on, walk_ends, row_below, row_is}
