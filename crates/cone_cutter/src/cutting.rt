@@ -17,11 +17,14 @@ use bit_words::List;
 use ground_net::{Cut, CutPart, Ordered};
 use std::alloc::{AllocError, Global};
 
-/// The cut of a net into so many partitions, by the rule: sinks by falling size of their cones, each to the partition that then
-/// has the fewest assignments.
+/// The cut of a net into 1 to 64 partitions, by the rule: sinks by falling size of their cones and then in their order, each to
+/// the partition that would then have the fewest assignments, the one of the lowest number on a tie.
+///
+/// A sink is named by its number, from 0 in the order of the sinks of this watch list. The sinks of a partition rise, and its
+/// assignments stand in the order of the sequence.
 ///
 /// Each cone is walked twice and none is kept. Takes memory in proportion to the net, and time in proportion to the sum of the
-/// cones, times the partitions.
+/// cones, times the partitions at most.
 pub fn cut(alloc: Global, ordered: &Ordered, watch: &[u32], workers: u32) -> Result<Cut, AllocError>
     requires order { IsOrder ordered.now.net ordered.now.sequence }
     requires few { length ordered.now.net.leaves < 2 ^ 32 }
