@@ -11,10 +11,9 @@ use cone_cutter::cut;
 use cut_print::cut_text;
 use net::{Shape, net_of};
 use std::alloc::Global;
-use std::env;
-use std::io;
 use std::io::Write;
 use std::process::ExitCode;
+use std::{env, io};
 
 fn main(rt: HostRuntime) -> ExitCode {
     match run(&rt) {
@@ -44,12 +43,7 @@ fn run(rt: &HostRuntime) -> Option<Vec<u8>> {
 }
 
 /// The listing of the cut of a net of a shape.
-fn listing(
-    alloc: Global,
-    shape: Shape,
-    count: u32,
-    workers: u32,
-) -> Result<Vec<u8>, OrderFault>
+fn listing(alloc: Global, shape: Shape, count: u32, workers: u32) -> Result<Vec<u8>, OrderFault>
     requires some { 0 < count }
     requires few { count < 2 ^ 31 }
     requires some_workers { 0 < workers }
