@@ -1,0 +1,7 @@
+mod Lists
+mod Marking
+mod Placements
+mod Rising
+mod Positions
+mod Reading
+mod Loads
