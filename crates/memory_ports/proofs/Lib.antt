@@ -5,3 +5,5 @@ mod Rising
 mod Positions
 mod Reading
 mod Loads
+mod Captures
+mod WellFormed
