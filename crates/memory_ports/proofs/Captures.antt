@@ -1,5 +1,5 @@
 -- Captured reads.
-use Rattle.std.proofs.Common.{◌≡◌, ℕ, zero, suc, ◌+◌, ◌<◌, Bool, true, false, List, [], ◌∷◌, ◌++◌, map, length, refl, sym, ap, ap₂, ◌∙◌, subst, arith, Option, Some, None, option_map, slice_get, if◌then◌else◌, true≢false, ⊎_elim}
+use Rattle.std.proofs.Common.{◌≡◌, ℕ, ◌+◌, Bool, true, false, List, [], ◌∷◌, ◌++◌, map, length, refl, sym, ap, ap₂, ◌∙◌, Option, Some, None, option_map, slice_get, if◌then◌else◌}
 use Rattle.std.specs.Prelude.{flat_map, filter_map, zip}
 use Rattle.std.specs.List.{cons_option, range_with_len}
 use Rattle.std.proofs.lemmas.Option.{slice_get-map}
@@ -8,7 +8,6 @@ use Rattle.std.proofs.lemmas.List.Elements.{filter_map-append}
 use Rattle.ground_net.specs.declared.circuit.GroundMemory.{GroundMemory}
 use Rattle.ground_net.specs.declared.net.Net.{Net}
 use Rattle.ground_net.specs.declared.net.Leaf.{Leaf}
-use Rattle.ground_net.specs.declared.net.Role.{Role}
 use Rattle.ground_net.specs.declared.net.Role.TheVariants as role
 use Rattle.ground_net.specs.declared.net.NetMemory.{NetMemory}
 use Rattle.ground_net.specs.declared.net.NetPort.{NetPort}
@@ -16,10 +15,9 @@ use Rattle.ground_net.specs.declared.net.NetRead.{NetRead}
 use Rattle.ground_net.specs.Cones.{numbered}
 use Rattle.net_meaning.specs.Cycles.{Capture, captured_by, captures}
 use Rattle.net_meaning.specs.Nets.{IsNet, HasRole}
-use Rattle.memory_ports.specs.declared.reads.ReadData.{ReadData}
 use Rattle.memory_ports.specs.declared.reads.ReadData.TheVariants as read_data
 use Rattle.memory_ports.specs.Placing.{Shows, data_of, load_of, reads_of_port, reads_of, without_word}
-use Rattle.memory_ports.proofs.Lists.{some_same, none_some, arrives, numbered_is}
+use Rattle.memory_ports.proofs.Lists.{some_same, arrives, numbered_is}
 
 -- the captured read of a leaf that a port reads
 abbrev pub capture_of : ℕ → NetMemory → NetPort → NetRead → ℕ → ℕ → Capture

@@ -1,5 +1,5 @@
 -- Lists, place by place.
-use Rattle.std.proofs.Common.{◌≡◌, ℕ, zero, suc, true, false, List, [], ◌∷◌, ◌++◌, map, take, length, refl, sym, ap, ap₂, ◌∙◌, subst, arith, nat_lt, ◌<◌, ◌≤◌, ◌+◌, Bool, Option, Some, None, option_map, slice_get, ◌⊎◌, inl, inr, ⊎_elim}
+use Rattle.std.proofs.Common.{◌≡◌, ℕ, zero, suc, true, false, List, [], ◌∷◌, ◌++◌, take, length, refl, sym, ap, ap₂, ◌∙◌, subst, arith, nat_lt, ◌<◌, ◌≤◌, ◌+◌, Bool, Option, Some, None, option_map, slice_get, ◌⊎◌, inl, inr, ⊎_elim}
 use Rattle.std.specs.Prelude.{zip, flat_map}
 use Rattle.std.specs.List.{range_with_len}
 use Rattle.std.proofs.lemmas.Bool.Decides.{nat_tests}

@@ -1,6 +1,5 @@
 -- Loads: their shapes, their values, and what they mention.
 use Rattle.std.proofs.Common.{◌≡◌, ℕ, ◌^◌, ◌-◌, ◌*◌, ◌≤◌, min, nat_lt, Bool, true, false, ◌&&◌, not, List, [], ◌∷◌, ◌++◌, refl, sym, ap, ap₂, ◌∙◌, subst, arith, Option, Some, None, option_map, option_and_then, slice_get, ℤ, pos, negsuc, if◌then◌else◌, unsigned_abs}
-use Rattle.std.proofs.lemmas.Grind.{common_steps}
 use Rattle.std.proofs.lemmas.Nat.{pow_pos}
 use Rattle.std.proofs.lemmas.Option.{slice_get-map}
 use Rattle.std.proofs.lemmas.Bool.Decides.{nat_tests}
@@ -10,9 +9,8 @@ use Rattle.bit_words.specs.declared.value.Value.{Value}
 use Rattle.bit_words.specs.Values.{integer, integer_of, InRange}
 use Rattle.bit_words.proofs.Congruence.{integer_in_range}
 use Rattle.cycle_values.specs.Values.{fitted, is_one}
-use Rattle.cycle_values.specs.Ports.{Shown, set_to_read, read_by_port}
+use Rattle.cycle_values.specs.Ports.{set_to_read, read_by_port}
 use Rattle.cycle_values.proofs.Fittings.{fitted_same}
-use Rattle.ground_net.specs.declared.ground.Ground.{Ground}
 use Rattle.ground_net.specs.declared.ground.Ground.TheVariants as ground
 use Rattle.ground_net.specs.declared.net.Net.{Net}
 use Rattle.ground_net.specs.declared.net.NetMemory.{NetMemory}

@@ -1,5 +1,5 @@
 -- Leaves, drivers and memories, one after the other.
-use Rattle.std.proofs.Common.{◌≡◌, ◌≢◌, ℕ, zero, suc, ◌+◌, ◌*◌, ◌<◌, ◌≤◌, List, [], ◌∷◌, ◌++◌, map, take, length, refl, sym, ap, ap₂, ◌∙◌, subst, arith, Option, Some, None, option_map, slice_get, sum_by, ⊎_elim}
+use Rattle.std.proofs.Common.{◌≡◌, ℕ, zero, suc, ◌+◌, ◌*◌, ◌≤◌, List, [], ◌∷◌, ◌++◌, map, take, length, refl, sym, ap, ap₂, ◌∙◌, subst, arith, Option, Some, None, option_map, slice_get, sum_by, ⊎_elim}
 use Rattle.std.specs.Prelude.{zip}
 use Rattle.std.proofs.lemmas.Option.{slice_get-map, slice_get_within}
 use Rattle.std.proofs.lemmas.List.{map-append}
@@ -10,7 +10,6 @@ use Rattle.ground_net.specs.declared.circuit.GroundLeaf.{GroundLeaf}
 use Rattle.ground_net.specs.declared.circuit.GroundMemory.{GroundMemory}
 use Rattle.ground_net.specs.declared.circuit.FlatCircuit.{FlatCircuit}
 use Rattle.ground_net.specs.declared.net.Leaf.{Leaf}
-use Rattle.ground_net.specs.declared.net.Role.{Role}
 use Rattle.ground_net.specs.declared.net.NetMemory.{NetMemory}
 use Rattle.ground_net.specs.declared.net.NetRegister.{NetRegister}
 use Rattle.ground_net.specs.Reads.{lone_driver}
@@ -20,7 +19,7 @@ use Rattle.memory_ports.specs.declared.reads.ReadData.{ReadData}
 use Rattle.memory_ports.specs.declared.leaves.Counts.{Counts}
 use Rattle.memory_ports.specs.Placing.{Part, part_of, parts_of, role_behind, IsLeafOf, driver_for, own_driver, without_word, reads_of, last_data, data_in, IsPlaced}
 use Rattle.memory_ports.specs.Keeping.{CountsOf, AreLeaves}
-use Rattle.memory_ports.proofs.Lists.{place_more, next_taken, zip_get, one_more, get_last, some_same, below_or}
+use Rattle.memory_ports.proofs.Lists.{place_more, next_taken, zip_get, one_more, some_same}
 
 pub part_there : (leaves : List GroundLeaf) (shown : List (Option ReadData)) (x : ℕ) (leaf : GroundLeaf) (held : Option ReadData) → slice_get leaves x ≡ Some leaf → slice_get shown x ≡ Some held
     → slice_get (parts_of leaves shown) x ≡ Some (part_of leaf.role held)
@@ -98,7 +97,7 @@ placed_is flat leaves drivers registers memories word counted are drivers_counte
   ports = refl;
   counted = counted;
   leaves = are.each;
-  roles = are.roles;
+  roles = λ x old shown new at_old at_shown at_new. are.roles x (part_of old.role shown) new (part_there flat.leaves (data_in flat) x old shown at_old at_shown) at_new;
   drivers_counted = drivers_counted;
   drivers = λ x leaf shown at_leaf at_shown. ap lone_driver (each x leaf shown at_leaf at_shown);
   registers = same;

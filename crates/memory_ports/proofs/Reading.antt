@@ -1,5 +1,5 @@
 -- What ports read: where it comes from, and that a leaf has what its read says.
-use Rattle.std.proofs.Common.{◌≡◌, ℕ, zero, suc, ◌==◌, ◌+◌, ◌<◌, ◌≤◌, Bool, true, false, List, [], ◌∷◌, map, length, refl, sym, ap, ap₂, ◌∙◌, subst, arith, Option, Some, None, option_map, slice_get, ◌⊎◌, inl, inr, ⊎_elim, eq-eqb, if◌then◌else◌}
+use Rattle.std.proofs.Common.{◌≡◌, ℕ, zero, suc, ◌==◌, ◌+◌, ◌<◌, Bool, true, false, List, [], ◌∷◌, map, length, refl, sym, ap, ap₂, ◌∙◌, arith, Option, Some, None, option_map, slice_get, ◌⊎◌, inl, inr, ⊎_elim, eq-eqb, if◌then◌else◌}
 use Rattle.std.proofs.lemmas.Bool.Decides.{nat_tests}
 use Rattle.std.proofs.lemmas.Grind.{common_steps}
 use Rattle.std.specs.Prelude.{flat_map}
@@ -11,15 +11,9 @@ use Rattle.ground_net.specs.declared.net.NetPort.{NetPort}
 use Rattle.ground_net.specs.declared.net.NetRead.{NetRead}
 use Rattle.ground_net.specs.Cones.{numbered}
 use Rattle.memory_ports.specs.declared.reads.ReadData.{ReadData}
-use Rattle.memory_ports.specs.Placing.{Shows, data_of, reads_of_port, reads_of, last_data, data_in}
+use Rattle.memory_ports.specs.Placing.{Shows, data_of, reads_of_port, reads_of, IsRead, last_data, data_in}
+use Rattle.memory_ports.specs.Sound.{IsPlain, IsSound}
 use Rattle.memory_ports.proofs.Lists.{some_same, none_some, some_of, origin, arrives, numbered_is, numbered_parts, range_get}
-
--- Leaf x is leaf k of what a port reads.
-pub record IsRead (memories : List GroundMemory) (m p k x : ℕ) (memory : GroundMemory) (port : NetPort) (read : NetRead) : Type 0 where
-  pub there : slice_get memories m ≡ Some memory
-  pub has : slice_get memory.ports p ≡ Some port
-  pub reads : port.read ≡ Some read
-  pub leaf : slice_get read.leaves k ≡ Some x
 
 -- Leaf x shows these data, since a port reads it.
 pub record Origin (memories : List GroundMemory) (x : ℕ) (shown : ReadData) : Type 0 where
@@ -126,3 +120,28 @@ data_there flat x h =
     let z : 0 + x ≡ x = omega arith in
     slice_get-map (λ x. last_data (reads_of flat.memories) x None) (range_with_len 0 (length flat.leaves)) x
     ∙ (ap (option_map (λ x. last_data (reads_of flat.memories) x None)) (range_get 0 (length flat.leaves) x h) ∙ ap (λ n. Some (last_data (reads_of flat.memories) n None)) z)
+
+-- a leaf that no port reads shows nothing
+pub never_named : (memories : List GroundMemory) (x : ℕ) → ((m p k : ℕ) (memory : GroundMemory) (port : NetPort) (read : NetRead) → IsRead memories m p k x memory port read → ⊥) → last_data (reads_of memories) x None ≡ None
+never_named memories x h = by_cases (last_data (reads_of memories) x None) refl
+  where
+    by_cases : (o : Option ReadData) → last_data (reads_of memories) x None ≡ o → last_data (reads_of memories) x None ≡ None
+    by_cases None e = e
+    by_cases (Some shown) e =
+        let i = last_named (reads_of memories) x shown e in
+        let o = origin_of memories i.0 (x, shown) i.1 in
+        absurd (h o.m o.p o.k o.memory o.port o.read o.is)
+
+-- In a sound circuit
+
+module _ (flat : FlatCircuit) (sound : IsSound flat) (m p k x : ℕ) (memory : GroundMemory) (port : NetPort) (read : NetRead) (r : IsRead flat.memories m p k x memory port read) where
+  pub sound_plain : IsPlain flat x
+  sound_plain = (sound.memories m p memory port r.there r.has).plain read r.reads k x r.leaf
+
+  pub sound_last : last_data (reads_of flat.memories) x None ≡ Some (data_of m k port read)
+  sound_last =
+      let i = read_there flat.memories m p k x memory port read r in
+      last_is (reads_of flat.memories) i.0 (x, data_of m k port read) (record { rise = sound.reads_rise }) i.1
+
+  pub sound_data : slice_get (data_in flat) x ≡ Some (Some (data_of m k port read))
+  sound_data = data_there flat x (slice_get_within flat.leaves x sound_plain.leaf sound_plain.there) ∙ ap Some sound_last

@@ -1,5 +1,5 @@
 -- Lists of numbers that rise.
-use Rattle.std.proofs.Common.{◌≡◌, ℕ, zero, suc, ◌<◌, ◌≤◌, List, [], ◌∷◌, refl, sym, ap, ap₂, ◌∙◌, arith, Some, slice_get, ◌⊎◌, inl, inr, ⊎_elim}
+use Rattle.std.proofs.Common.{◌≡◌, ℕ, zero, suc, ◌<◌, ◌≤◌, List, [], ◌∷◌, refl, sym, ap₂, arith, Some, slice_get, ◌⊎◌, inl, inr, ⊎_elim}
 use Rattle.memory_ports.proofs.Lists.{some_same, none_some}
 
 pub record Rises (xs : List ℕ) : Type 0 where

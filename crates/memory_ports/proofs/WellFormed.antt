@@ -1,5 +1,5 @@
 -- The net of a sound circuit is well formed.
-use Rattle.std.proofs.Common.{◌≡◌, ℕ, zero, suc, ◌+◌, ◌<◌, ◌≤◌, Bool, true, false, List, [], ◌∷◌, map, take, length, refl, sym, ap, ap₂, ◌∙◌, subst, arith, Option, Some, None, IsSome, option_map, option_and_then, slice_get, if◌then◌else◌, true≢false, ⊎_elim}
+use Rattle.std.proofs.Common.{◌≡◌, ℕ, zero, suc, ◌+◌, ◌<◌, ◌≤◌, Bool, true, false, List, [], ◌∷◌, map, take, length, refl, sym, ap, ap₂, ◌∙◌, subst, arith, Option, Some, None, option_map, option_and_then, slice_get, if◌then◌else◌, true≢false, ⊎_elim}
 use Rattle.std.specs.Prelude.{filter_map, zip, count_by}
 use Rattle.std.specs.List.{range_with_len, cons_option}
 use Rattle.std.proofs.lemmas.Option.{slice_get-map, slice_get_within, slice_get_past}
@@ -13,32 +13,28 @@ use Rattle.ground_net.specs.declared.circuit.GroundRole.TheVariants.{Input, Cloc
 use Rattle.ground_net.specs.declared.circuit.GroundMemory.{GroundMemory}
 use Rattle.ground_net.specs.declared.circuit.FlatCircuit.{FlatCircuit}
 use Rattle.ground_net.specs.declared.net.Leaf.{Leaf}
-use Rattle.ground_net.specs.declared.net.Role.{Role}
 use Rattle.ground_net.specs.declared.net.Role.TheVariants as role
 use Rattle.ground_net.specs.declared.net.Net.{Net}
 use Rattle.ground_net.specs.declared.net.NetRegister.{NetRegister}
 use Rattle.ground_net.specs.declared.net.NetReset.{NetReset}
 use Rattle.ground_net.specs.declared.net.NetMemory.{NetMemory}
-use Rattle.ground_net.specs.declared.net.ElementLeaf.{ElementLeaf}
 use Rattle.ground_net.specs.declared.net.NetPort.{NetPort}
-use Rattle.ground_net.specs.declared.net.NetWrite.{NetWrite}
 use Rattle.ground_net.specs.declared.net.NetRead.{NetRead}
 use Rattle.ground_net.specs.Reads.{IsAssigned, driver_of}
-use Rattle.ground_net.specs.Cones.{numbered}
-use Rattle.net_meaning.specs.Shapes.{Shape, shaped, Table, shape}
-use Rattle.net_meaning.specs.Cycles.{Capture, captures, element_leaf}
+use Rattle.net_meaning.specs.Shapes.{Shape, shaped, shape}
+use Rattle.net_meaning.specs.Cycles.{Capture, captures}
 use Rattle.net_meaning.specs.Nets.{IsNet, IsPort, IsUnsigned, AreElements, HasRole, table_of, leaf_shape, element_shape, numbers_in, input_number, may_be_driven}
 use Rattle.memory_ports.specs.declared.reads.ReadData.{ReadData}
 use Rattle.memory_ports.specs.declared.reads.ReadData.TheVariants as read_data
-use Rattle.memory_ports.specs.Placing.{Shows, data_of, load_of, reads_of, last_data, data_in, Part, Given, Without_value, Held, Kept, Driven, is_given, is_held, is_kept, part_of, parts_of, role_behind, own_driver, driver_for, IsLeafOf, without_word, IsPlaced}
-use Rattle.memory_ports.specs.Sound.{ground_shape, flat_table, IsUInt, IsPlain, AreData, IsPortIn, held_number, held_leaves, IsSound}
-use Rattle.memory_ports.proofs.Lists.{some_same, none_some, some_of, there_below, numbered_parts, below_or, zip_parts}
+use Rattle.memory_ports.specs.Placing.{Shows, data_of, load_of, reads_of, IsRead, last_data, data_in, Part, Given, Without_value, Held, Kept, Driven, is_given, is_held, is_kept, part_of, parts_of, role_behind, own_driver, driver_for, IsLeafOf, without_word, IsPlaced}
+use Rattle.memory_ports.specs.Sound.{ground_shape, flat_table, IsUInt, IsPlain, AreData, IsSound}
+use Rattle.memory_ports.proofs.Lists.{some_same, none_some, some_of, there_below, below_or, zip_parts}
 use Rattle.memory_ports.proofs.Placements.{part_there, data_counted}
 use Rattle.memory_ports.proofs.Rising.{Rises, Among, same_rising}
 use Rattle.memory_ports.proofs.Positions.{positions, position_is, position_of, positions_rise}
-use Rattle.memory_ports.proofs.Reading.{IsRead, Origin, ReadsRise, tail_reads_rise, origin_of, read_there, last_is, last_named, data_there}
+use Rattle.memory_ports.proofs.Reading.{Origin, ReadsRise, tail_reads_rise, origin_of, last_is, last_named, data_there, sound_last, sound_plain}
 use Rattle.memory_ports.proofs.Loads.{load_shape}
-use Rattle.memory_ports.proofs.Captures.{late, late_leaves, captures_are}
+use Rattle.memory_ports.proofs.Captures.{late_leaves, captures_are}
 
 -- Of each part: the role, and the driver
 
@@ -220,7 +216,7 @@ module _ (flat : FlatCircuit) (net : Net) (is : IsPlaced flat net) (sound : IsSo
         there = there;
         part = part;
         same = is.leaves x old new at_old at_new;
-        role_is = is.roles x (part_of old.role shown) new part at_new;
+        role_is = is.roles x old shown new at_old there at_new;
         driver = is.drivers x old shown at_old there;
       }
 
@@ -263,10 +259,10 @@ module _ (flat : FlatCircuit) (net : Net) (is : IsPlaced flat net) (sound : IsSo
   -- what a port reads
 
   read_shown : (m p k x : ℕ) (memory : GroundMemory) (port : NetPort) (read : NetRead) → IsRead flat.memories m p k x memory port read → last_data reads x None ≡ Some (data_of m k port read)
-  read_shown m p k x memory port read r = let i = read_there flat.memories m p k x memory port read r in last_is reads i.0 (x, data_of m k port read) rising i.1
+  read_shown = sound_last flat sound
 
   read_plain : (m p k x : ℕ) (memory : GroundMemory) (port : NetPort) (read : NetRead) → IsRead flat.memories m p k x memory port read → IsPlain flat x
-  read_plain m p k x memory port read r = (sound.memories m p memory port r.there r.has).plain read r.reads k x r.leaf
+  read_plain = sound_plain flat sound
 
   shown_origin : (x : ℕ) (shown : ReadData) → last_data reads x None ≡ Some shown → Origin flat.memories x shown
   shown_origin x shown e = let i = last_named reads x shown e in origin_of flat.memories i.0 (x, shown) i.1
@@ -349,14 +345,15 @@ module _ (flat : FlatCircuit) (net : Net) (is : IsPlaced flat net) (sound : IsSo
       let zipped = some_of (λ (both : GroundLeaf × Option ReadData). part_of both.0.role both.1) (slice_get (zip flat.leaves (data_in flat)) x) part (sym (slice_get-map (λ (both : GroundLeaf × Option ReadData). part_of both.0.role both.1) (zip flat.leaves (data_in flat)) x) ∙ e) in
       let both = zip_parts flat.leaves (data_in flat) x zipped.0 zipped.1 in
       let new = new_of x zipped.0.0 both.0 in
-      (new.0, new.1, is.roles x part new.0 e new.1)
+      (new.0, new.1, is.roles x zipped.0.0 zipped.0.1 new.0 both.0 both.1 new.1 ∙ ap (role_behind (take x parts)) zipped.2)
 
   inputs : map (λ both. both.1) (numbers_in input_number net) ≡ range_with_len 0 (length (numbers_in input_number net))
   inputs = inputs_counted net.leaves parts 0 0 (record {
     same_length = is.counted ∙ sym parts_length;
     each = λ j part leaf at_part at_leaf.
         let z : 0 + count_by is_given (take j parts) ≡ count_by is_given (take j parts) = omega arith in
-        ap input_number (is.roles j part leaf at_part at_leaf) ∙ (given_role part (take j parts) ∙ ap (λ n. if is_given part then Some n else None) (sym z));
+        let new = part_at j part at_part in
+        ap (λ (l : Leaf). input_number l.role) (some_same (sym at_leaf ∙ new.1)) ∙ (ap input_number new.2 ∙ (given_role part (take j parts) ∙ ap (λ n. if is_given part then Some n else None) (sym z)));
   })
     where
       zip_length : {A B : Type 0} (xs : List A) (ys : List B) → length xs ≡ length ys → length (zip xs ys) ≡ length xs
@@ -419,12 +416,13 @@ module _ (flat : FlatCircuit) (net : Net) (is : IsPlaced flat net) (sound : IsSo
 
   late_part : (x : ℕ) → Among (late_leaves reads) x → slice_get parts x ≡ Some Kept
   late_part x m =
-      let shown = late_shown x m in
+      let shown : last_data reads x None ≡ Some read_data.Captured = late_shown x m in
       let o = shown_origin x read_data.Captured shown in
       let plain = read_plain o.m o.p o.k x o.memory o.port o.read o.is in
       let new = new_of x plain.leaf plain.there in
       let at = place x plain.leaf new.0 plain.there new.1 in
-      at.part ∙ ap Some (ap₂ part_of plain.is (at.last ∙ shown))
+      let kept : part_of plain.leaf.role at.shown ≡ Kept = ap₂ part_of plain.is (at.last ∙ shown) in
+      at.part ∙ ap Some kept
 
   late_positions : late_leaves reads ≡ positions is_kept parts
   late_positions = same_rising (late_leaves reads) (positions is_kept parts) (late_rise reads rising) (positions_rise is_kept 0 parts)

@@ -57,6 +57,13 @@ reads_of_port m port None = []
 abbrev pub reads_of : List GroundMemory → List Shows
 reads_of memories = flat_map (λ both. flat_map (λ port. reads_of_port both.0 port port.read) both.1.ports) (numbered memories)
 
+-- Leaf x is leaf k of what port p of memory m reads.
+pub record IsRead (memories : List GroundMemory) (m p k x : ℕ) (memory : GroundMemory) (port : NetPort) (read : NetRead) : Type 0 where
+  pub there : slice_get memories m ≡ Some memory
+  pub has : slice_get memory.ports p ≡ Some port
+  pub reads : port.read ≡ Some read
+  pub leaf : slice_get read.leaves k ≡ Some x
+
 -- the data of a leaf: those of the last read that names it, else these
 abbrev pub last_data : List Shows → ℕ → Option ReadData → Option ReadData
 last_data reads x before = fold (λ last read. if read.0 == x then Some read.1 else last) before reads
@@ -140,8 +147,8 @@ pub record IsPlaced (flat : FlatCircuit) (net : Net) : Type 0 where
   pub ports : net.ports ≡ flat.ports
   pub counted : length net.leaves ≡ length flat.leaves
   pub leaves : (x : ℕ) (old : GroundLeaf) (new : Leaf) → slice_get flat.leaves x ≡ Some old → slice_get net.leaves x ≡ Some new → IsLeafOf old new
-  pub roles : (x : ℕ) (part : Part) (new : Leaf) → slice_get (parts_of flat.leaves (data_in flat)) x ≡ Some part → slice_get net.leaves x ≡ Some new
-      → new.role ≡ role_behind (take x (parts_of flat.leaves (data_in flat))) part
+  pub roles : (x : ℕ) (old : GroundLeaf) (shown : Option ReadData) (new : Leaf) → slice_get flat.leaves x ≡ Some old → slice_get (data_in flat) x ≡ Some shown → slice_get net.leaves x ≡ Some new
+      → new.role ≡ role_behind (take x (parts_of flat.leaves (data_in flat))) (part_of old.role shown)
   pub drivers_counted : length net.drivers ≡ length flat.leaves
   pub drivers : (x : ℕ) (leaf : GroundLeaf) (shown : Option ReadData) → slice_get flat.leaves x ≡ Some leaf → slice_get (data_in flat) x ≡ Some shown
       → driver_of net x ≡ driver_for leaf.role shown (own_driver flat x)

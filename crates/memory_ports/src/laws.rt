@@ -1,6 +1,6 @@
 //! Laws of the definitions. The functions do nothing.
 
-ghost use Rattle.std.specs.Prelude.{◌≡◌, ℕ, ◌∷◌, [], ◌++◌, Some, true, false, slice_get};
+ghost use Rattle.std.specs.Prelude.{◌≡◌, ◌<◌, ℕ, ◌∷◌, [], ◌++◌, Some, None, true, false, length, slice_get};
 ghost use Rattle.bit_words.specs.Values.{integer_of};
 ghost use Rattle.cycle_values.specs.Values.{fitted};
 ghost use Rattle.cycle_values.specs.Ports.{read_by_port};
@@ -17,7 +17,7 @@ ghost use Rattle.ground_net.specs.Reads.{driver_of};
 ghost use Rattle.ground_net.specs.Cones.{or_no_leaf};
 ghost use Rattle.net_meaning.specs.Cycles.{NetState, Valuation, sight_of, shown, captures};
 ghost use Rattle.net_meaning.specs.Nets.{IsNet, IsWithin, HasRole};
-ghost use Rattle.memory_ports.specs.Placing.{load_of, IsPlaced};
+ghost use Rattle.memory_ports.specs.Placing.{load_of, data_of, IsRead, data_in, IsPlaced};
 ghost use Rattle.memory_ports.specs.Sound.{IsSound};
 
 /// A load has what its port reads, from what the memory holds at the beginning of the cycle, fitted to the leaf of the element; in
@@ -32,9 +32,15 @@ pub fn loads_mention_their_ports()
     ensures { (m k : ℕ) (port : ThePort) → mentions (load_of m k port) ≡ port.addr ∷ (or_no_leaf port.mode ++ port.en ∷ []) }
 {}
 
+/// A leaf of a sound circuit that a port reads shows those data, and a leaf that none reads shows none.
+pub fn leaves_show_what_ports_read()
+    ensures read { (flat : TheCircuit) → IsSound flat → (m p k x : ℕ) (memory : TheGroundMemory) (port : ThePort) (read : TheRead) → IsRead flat.memories m p k x memory port read → slice_get (data_in flat) x ≡ Some (Some (data_of m k port read)) }
+    ensures none { (flat : TheCircuit) (x : ℕ) → x < length flat.leaves → ((m p k : ℕ) (memory : TheGroundMemory) (port : ThePort) (read : TheRead) → IsRead flat.memories m p k x memory port read → ⊥) → slice_get (data_in flat) x ≡ Some None }
+{}
+
 /// In the net of a sound circuit the leaf of data of latency 0 has its load for a driver.
 pub fn data_of_the_cycle_are_loads()
-    ensures { (flat : TheCircuit) (net : TheNet) → IsPlaced flat net → IsSound flat → (m p k x : ℕ) (memory : TheGroundMemory) (port : ThePort) (read : TheRead) → slice_get flat.memories m ≡ Some memory → slice_get memory.ports p ≡ Some port → port.read ≡ Some read → read.captured ≡ false → slice_get read.leaves k ≡ Some x → driver_of net x ≡ Some (load_of m k port) }
+    ensures { (flat : TheCircuit) (net : TheNet) → IsPlaced flat net → IsSound flat → (m p k x : ℕ) (memory : TheGroundMemory) (port : ThePort) (read : TheRead) → IsRead flat.memories m p k x memory port read → read.captured ≡ false → driver_of net x ≡ Some (load_of m k port) }
 {}
 
 /// In a well formed net the captured read of a leaf is that of the port which names the leaf.

@@ -62,11 +62,7 @@ pub fn placed_memories(
 }
 
 /// A memory that begins at this word.
-fn placed_memory(
-    alloc: Global,
-    memory: &GroundMemory,
-    word: u128,
-) -> Result<NetMemory, AllocError>
+fn placed_memory(alloc: Global, memory: &GroundMemory, word: u128) -> Result<NetMemory, AllocError>
     ensures memory { IfOk result (λ placed. without_word placed ≡ memory.now) }
     ensures word { IfOk result (λ placed. placed.word ≡ word) }
 {

@@ -18,10 +18,7 @@ pub enum ReadData {
 }
 
 /// What each leaf shows of a memory, where it shows what a port reads.
-pub fn read_data(
-    alloc: Global,
-    flat: &FlatCircuit,
-) -> Result<Vec<Option<ReadData>>, AllocError>
+pub fn read_data(alloc: Global, flat: &FlatCircuit) -> Result<Vec<Option<ReadData>>, AllocError>
     ensures { IfOk result (λ marks. marks.items ≡ data_in flat.now) }
 {
     let mut marks = no_data(alloc, flat.leaves.len())?;
