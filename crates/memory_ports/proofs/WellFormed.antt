@@ -267,24 +267,38 @@ module _ (flat : FlatCircuit) (net : Net) (is : IsPlaced flat net) (sound : IsSo
   shown_origin : (x : ℕ) (shown : ReadData) → last_data reads x None ≡ Some shown → Origin flat.memories x shown
   shown_origin x shown e = let i = last_named reads x shown e in origin_of flat.memories i.0 (x, shown) i.1
 
+  -- a plain leaf that shows these data
+
+  plain_driver : (x : ℕ) (old : GroundLeaf) (new : Leaf) (d : Option ReadData) (at : Place x old new) → old.role ≡ Plain → last_data reads x None ≡ d → driver_of net x ≡ driver_for Plain d (own_driver flat x)
+  plain_driver x old new d at r e = at.driver ∙ ap₂ (λ r d. driver_for r d (own_driver flat x)) r (at.last ∙ e)
+
+  plain_role : (x : ℕ) (old : GroundLeaf) (new : Leaf) (d : Option ReadData) (at : Place x old new) → old.role ≡ Plain → last_data reads x None ≡ d → new.role ≡ role_behind (take x parts) (part_of Plain d)
+  plain_role x old new d at r e = at.role_is ∙ ap₂ (λ r d. role_behind (take x parts) (part_of r d)) r (at.last ∙ e)
+
+  plain_part : (x : ℕ) (old : GroundLeaf) (new : Leaf) (d : Option ReadData) (at : Place x old new) → old.role ≡ Plain → last_data reads x None ≡ d → slice_get parts x ≡ Some (part_of Plain d)
+  plain_part x old new d at r e = at.part ∙ ap₂ (λ r d. Some (part_of r d)) r (at.last ∙ e)
+
+  is_load : (m k : ℕ) (port : NetPort) (read : NetRead) → read.captured ≡ false → Some (data_of m k port read) ≡ Some (read_data.Load (load_of m k port))
+  is_load m k port read early = ap (λ b. Some (if b then read_data.Captured else read_data.Load (load_of m k port))) early
+
   -- data of latency 0 have their loads
   pub load_driver : (m p k x : ℕ) (memory : GroundMemory) (port : NetPort) (read : NetRead) → IsRead flat.memories m p k x memory port read → read.captured ≡ false → driver_of net x ≡ Some (load_of m k port)
   load_driver m p k x memory port read r early =
       let plain = read_plain m p k x memory port read r in
       let new = new_of x plain.leaf plain.there in
       let at = place x plain.leaf new.0 plain.there new.1 in
-      let shown : at.shown ≡ Some (read_data.Load (load_of m k port)) =
-      at.last ∙ (read_shown m p k x memory port read r ∙ ap (λ b. Some (if b then read_data.Captured else read_data.Load (load_of m k port))) early) in
-      at.driver ∙ ap₂ (λ r d. driver_for r d (own_driver flat x)) plain.is shown
+      plain_driver x plain.leaf new.0 (Some (read_data.Load (load_of m k port))) at plain.is (read_shown m p k x memory port read r ∙ is_load m k port read early)
 
   load_assigned : (m p k x : ℕ) (memory : GroundMemory) (port : NetPort) (read : NetRead) → IsRead flat.memories m p k x memory port read → read.captured ≡ false → IsAssigned net.leaves x
   load_assigned m p k x memory port read r early =
       let plain = read_plain m p k x memory port read r in
       let new = new_of x plain.leaf plain.there in
       let at = place x plain.leaf new.0 plain.there new.1 in
-      let shown : at.shown ≡ Some (read_data.Load (load_of m k port)) =
-      at.last ∙ (read_shown m p k x memory port read r ∙ ap (λ b. Some (if b then read_data.Captured else read_data.Load (load_of m k port))) early) in
-      record { leaf = new.0; there = new.1; is = at.role_is ∙ ap₂ (λ r d. role_behind (take x parts) (part_of r d)) plain.is shown }
+      record {
+        leaf = new.0;
+        there = new.1;
+        is = plain_role x plain.leaf new.0 (Some (read_data.Load (load_of m k port))) at plain.is (read_shown m p k x memory port read r ∙ is_load m k port read early);
+      }
 
   load_fits : (x : ℕ) (old : GroundLeaf) (g : Ground) → slice_get flat.leaves x ≡ Some old → last_data reads x None ≡ Some (read_data.Load g) → shape g (flat_table flat) ≡ Some (ground_shape old)
   load_fits x old g at_old e =
@@ -421,8 +435,14 @@ module _ (flat : FlatCircuit) (net : Net) (is : IsPlaced flat net) (sound : IsSo
       let plain = read_plain o.m o.p o.k x o.memory o.port o.read o.is in
       let new = new_of x plain.leaf plain.there in
       let at = place x plain.leaf new.0 plain.there new.1 in
-      let kept : part_of plain.leaf.role at.shown ≡ Kept = ap₂ part_of plain.is (at.last ∙ shown) in
-      at.part ∙ ap Some kept
+      plain_part x plain.leaf new.0 (Some read_data.Captured) at plain.is shown
+
+  -- a leaf that is kept shows captured data
+  kept_late : (x : ℕ) (old : GroundLeaf) (new : Leaf) (item : Part) (at : Place x old new) → slice_get parts x ≡ Some item → is_kept item ≡ true → Among (late_leaves reads) x
+  kept_late x old new item at there passes =
+      let same : part_of old.role at.shown ≡ item = some_same (sym at.part ∙ there) in
+      let named = last_named reads x read_data.Captured (sym at.last ∙ kept_part old.role at.shown (ap is_kept same ∙ passes)) in
+      late_there reads named.0 x named.1
 
   late_positions : late_leaves reads ≡ positions is_kept parts
   late_positions = same_rising (late_leaves reads) (positions is_kept parts) (late_rise reads rising) (positions_rise is_kept 0 parts)
@@ -433,10 +453,7 @@ module _ (flat : FlatCircuit) (net : Net) (is : IsPlaced flat net) (sound : IsSo
       let z : found.at ≡ x = omega (arith, place_is) in
       let new = part_at found.at found.item found.there in
       let old = old_of found.at new.0 new.1 in
-      let at = place found.at old.0 new.0 old.1 new.1 in
-      let kept : is_kept (part_of old.0.role at.shown) ≡ true = ap is_kept (some_same (sym at.part ∙ found.there)) ∙ found.passes in
-      let named = last_named reads found.at read_data.Captured (sym at.last ∙ kept_part old.0.role at.shown kept) in
-      subst (Among (late_leaves reads)) z (late_there reads named.0 found.at named.1))
+      subst (Among (late_leaves reads)) z (kept_late found.at old.0 new.0 found.item (place found.at old.0 new.0 old.1 new.1) found.there found.passes))
 
   capture_leaf : (n : ℕ) (c : Capture) → slice_get (captures net) n ≡ Some c → slice_get (positions is_kept parts) n ≡ Some c.leaf
   capture_leaf n c e =
