@@ -7,3 +7,4 @@ mod Reading
 mod Loads
 mod Captures
 mod WellFormed
+mod SoundCircuits

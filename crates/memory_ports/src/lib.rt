@@ -3,6 +3,7 @@
 #![tactic(auto)]
 
 pub mod drivers;
+pub mod examples;
 pub mod laws;
 pub mod leaves;
 pub mod memories;
