@@ -74,7 +74,7 @@ data_in flat = map (λ x. last_data (reads_of flat.memories) x None) (range_with
 
 -- Roles
 
--- what a leaf is in a cycle
+-- What a leaf is in a cycle: an input of main, a Clock, a register's leaf, captured data, or an assignment.
 pub data Part : Type 0 where
   Given : Part
   Without_value : Part
