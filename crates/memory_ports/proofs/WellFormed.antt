@@ -289,7 +289,7 @@ module _ (flat : FlatCircuit) (net : Net) (is : IsPlaced flat net) (sound : IsSo
       let at = place x plain.leaf new.0 plain.there new.1 in
       plain_driver x plain.leaf new.0 (Some (read_data.Load (load_of m k port))) at plain.is (read_shown m p k x memory port read r ∙ is_load m k port read early)
 
-  load_assigned : (m p k x : ℕ) (memory : GroundMemory) (port : NetPort) (read : NetRead) → IsRead flat.memories m p k x memory port read → read.captured ≡ false → IsAssigned net.leaves x
+  pub load_assigned : (m p k x : ℕ) (memory : GroundMemory) (port : NetPort) (read : NetRead) → IsRead flat.memories m p k x memory port read → read.captured ≡ false → IsAssigned net.leaves x
   load_assigned m p k x memory port read r early =
       let plain = read_plain m p k x memory port read r in
       let new = new_of x plain.leaf plain.there in
@@ -299,6 +299,30 @@ module _ (flat : FlatCircuit) (net : Net) (is : IsPlaced flat net) (sound : IsSo
         there = new.1;
         is = plain_role x plain.leaf new.0 (Some (read_data.Load (load_of m k port))) at plain.is (read_shown m p k x memory port read r ∙ is_load m k port read early);
       }
+
+  is_late : (m k : ℕ) (port : NetPort) (read : NetRead) → read.captured ≡ true → Some (data_of m k port read) ≡ Some read_data.Captured
+  is_late m k port read late = ap (λ b. Some (if b then read_data.Captured else read_data.Load (load_of m k port))) late
+
+  -- data of latency 1 are captured
+  pub late_role : (m p k x : ℕ) (memory : GroundMemory) (port : NetPort) (read : NetRead) → IsRead flat.memories m p k x memory port read → read.captured ≡ true → (n : ℕ) × HasRole net x (role.Captured n)
+  late_role m p k x memory port read r late =
+      let plain = read_plain m p k x memory port read r in
+      let new = new_of x plain.leaf plain.there in
+      let at = place x plain.leaf new.0 plain.there new.1 in (
+        count_by is_kept (take x parts),
+        record {
+          leaf = new.0;
+          there = new.1;
+          is = plain_role x plain.leaf new.0 (Some read_data.Captured) at plain.is (read_shown m p k x memory port read r ∙ is_late m k port read late);
+        },
+      )
+
+  pub late_undriven : (m p k x : ℕ) (memory : GroundMemory) (port : NetPort) (read : NetRead) → IsRead flat.memories m p k x memory port read → read.captured ≡ true → driver_of net x ≡ None
+  late_undriven m p k x memory port read r late =
+      let plain = read_plain m p k x memory port read r in
+      let new = new_of x plain.leaf plain.there in
+      let at = place x plain.leaf new.0 plain.there new.1 in
+      plain_driver x plain.leaf new.0 (Some read_data.Captured) at plain.is (read_shown m p k x memory port read r ∙ is_late m k port read late)
 
   load_fits : (x : ℕ) (old : GroundLeaf) (g : Ground) → slice_get flat.leaves x ≡ Some old → last_data reads x None ≡ Some (read_data.Load g) → shape g (flat_table flat) ≡ Some (ground_shape old)
   load_fits x old g at_old e =

@@ -13,7 +13,7 @@ ghost use Rattle.ground_net.specs.declared.net.NetRead.{NetRead as TheRead};
 ghost use Rattle.ground_net.specs.declared.net.ElementLeaf.{ElementLeaf as TheElement};
 ghost use Rattle.ground_net.specs.declared.net.Role.TheVariants.{Captured};
 ghost use Rattle.ground_net.specs.Grounds.{value, mentions};
-ghost use Rattle.ground_net.specs.Reads.{driver_of};
+ghost use Rattle.ground_net.specs.Reads.{IsAssigned, driver_of};
 ghost use Rattle.ground_net.specs.Cones.{or_no_leaf};
 ghost use Rattle.net_meaning.specs.Cycles.{NetState, Valuation, sight_of, shown, captures};
 ghost use Rattle.net_meaning.specs.Nets.{IsNet, IsWithin, HasRole};
@@ -38,9 +38,16 @@ pub fn leaves_show_what_ports_read()
     ensures none { (flat : TheCircuit) (x : ℕ) → x < length flat.leaves → ((m p k : ℕ) (memory : TheGroundMemory) (port : ThePort) (read : TheRead) → IsRead flat.memories m p k x memory port read → ⊥) → slice_get (data_in flat) x ≡ Some None }
 {}
 
-/// In the net of a sound circuit the leaf of data of latency 0 has its load for a driver.
+/// In the net of a sound circuit the leaf of data of latency 0 is an assignment, and has its load for a driver.
 pub fn data_of_the_cycle_are_loads()
-    ensures { (flat : TheCircuit) (net : TheNet) → IsPlaced flat net → IsSound flat → (m p k x : ℕ) (memory : TheGroundMemory) (port : ThePort) (read : TheRead) → IsRead flat.memories m p k x memory port read → read.captured ≡ false → driver_of net x ≡ Some (load_of m k port) }
+    ensures assigned { (flat : TheCircuit) (net : TheNet) → IsPlaced flat net → IsSound flat → (m p k x : ℕ) (memory : TheGroundMemory) (port : ThePort) (read : TheRead) → IsRead flat.memories m p k x memory port read → read.captured ≡ false → IsAssigned net.leaves x }
+    ensures driver { (flat : TheCircuit) (net : TheNet) → IsPlaced flat net → IsSound flat → (m p k x : ℕ) (memory : TheGroundMemory) (port : ThePort) (read : TheRead) → IsRead flat.memories m p k x memory port read → read.captured ≡ false → driver_of net x ≡ Some (load_of m k port) }
+{}
+
+/// In the net of a sound circuit the leaf of data of latency 1 is a captured read, and has no driver.
+pub fn late_data_are_captured()
+    ensures captured { (flat : TheCircuit) (net : TheNet) → IsPlaced flat net → IsSound flat → (m p k x : ℕ) (memory : TheGroundMemory) (port : ThePort) (read : TheRead) → IsRead flat.memories m p k x memory port read → read.captured ≡ true → (n : ℕ) × HasRole net x (Captured n) }
+    ensures undriven { (flat : TheCircuit) (net : TheNet) → IsPlaced flat net → IsSound flat → (m p k x : ℕ) (memory : TheGroundMemory) (port : ThePort) (read : TheRead) → IsRead flat.memories m p k x memory port read → read.captured ≡ true → driver_of net x ≡ None }
 {}
 
 /// In a well formed net the captured read of a leaf is that of the port which names the leaf.
