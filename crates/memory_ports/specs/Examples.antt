@@ -2,7 +2,7 @@
 use Rattle.std.specs.Prelude.{ℕ, min, Bool, [], ◌∷◌, Some, None}
 use Rattle.std.proofs.Math.Nat.{min-le_right}
 use Rattle.bit_words.specs.declared.value.Kind.TheVariants.{Unsigned}
-use Rattle.ground_net.specs.declared.ground.Ground.TheVariants as ground
+use Rattle.ground_net.specs.declared.ground.Ground.TheVariants as expression
 use Rattle.ground_net.specs.declared.circuit.GroundLeaf.{GroundLeaf}
 use Rattle.ground_net.specs.declared.circuit.GroundRole.{GroundRole}
 use Rattle.ground_net.specs.declared.circuit.GroundRole.TheVariants.{Input, Plain}
@@ -27,7 +27,7 @@ abbrev pub with_reader : Bool → FlatCircuit
 with_reader captured = record {
   ports = 2;
   leaves = leaf Input 2 ∷ leaf Input 1 ∷ leaf Plain 2 ∷ leaf Plain 1 ∷ leaf Plain 8 ∷ [];
-  drivers = None ∷ None ∷ Some (ground.Leaf 0) ∷ Some (ground.Leaf 1) ∷ None ∷ [];
+  drivers = None ∷ None ∷ Some (expression.Leaf 0) ∷ Some (expression.Leaf 1) ∷ None ∷ [];
   registers = [];
   memories = memory 2 (reader captured) ∷ [];
 }
@@ -47,7 +47,7 @@ abbrev pub with_readwriter : Bool → FlatCircuit
 with_readwriter captured = record {
   ports = 4;
   leaves = leaf Input 2 ∷ leaf Input 1 ∷ leaf Input 1 ∷ leaf Input 8 ∷ leaf Plain 2 ∷ leaf Plain 1 ∷ leaf Plain 8 ∷ leaf Plain 1 ∷ leaf Plain 8 ∷ leaf Plain 1 ∷ [];
-  drivers = None ∷ None ∷ None ∷ None ∷ Some (ground.Leaf 0) ∷ Some (ground.Leaf 1) ∷ None ∷ Some (ground.Leaf 2) ∷ Some (ground.Leaf 3) ∷ Some (ground.Leaf 2) ∷ [];
+  drivers = None ∷ None ∷ None ∷ None ∷ Some (expression.Leaf 0) ∷ Some (expression.Leaf 1) ∷ None ∷ Some (expression.Leaf 2) ∷ Some (expression.Leaf 3) ∷ Some (expression.Leaf 2) ∷ [];
   registers = [];
   memories = memory 4 (readwriter captured) ∷ [];
 }

@@ -6,7 +6,7 @@ use Rattle.bit_words.specs.declared.value.Kind.TheVariants.{Unsigned}
 use Rattle.bit_words.specs.declared.value.Value.{Value}
 use Rattle.cycle_values.specs.Values.{fitted}
 use Rattle.ground_net.specs.declared.ground.Ground.{Ground}
-use Rattle.ground_net.specs.declared.ground.Ground.TheVariants as ground
+use Rattle.ground_net.specs.declared.ground.Ground.TheVariants as expression
 use Rattle.ground_net.specs.declared.circuit.GroundLeaf.{GroundLeaf}
 use Rattle.ground_net.specs.declared.circuit.GroundRole.{GroundRole}
 use Rattle.ground_net.specs.declared.circuit.GroundRole.TheVariants.{Input, Clock, Register, Plain}
@@ -33,12 +33,12 @@ zero_bit = fitted Unsigned 1 (pos 0)
 
 -- A reader reads where its `en` is 1; a readwriter where its `en` is 1 and its `wmode` is 0.
 abbrev pub reading : ℕ → Option ℕ → Ground
-reading en None = ground.Leaf en
-reading en (Some wmode) = ground.Mux (ground.Leaf wmode ∷ ground.Const zero_bit ∷ ground.Leaf en ∷ [])
+reading en None = expression.Leaf en
+reading en (Some wmode) = expression.Mux (expression.Leaf wmode ∷ expression.Const zero_bit ∷ expression.Leaf en ∷ [])
 
 -- Leaf k of the element of memory m at the port's address, where the port reads.
 abbrev pub load_of : ℕ → ℕ → NetPort → Ground
-load_of m k port = ground.Load m k (ground.Leaf port.addr ∷ reading port.en port.mode ∷ [])
+load_of m k port = expression.Load m k (expression.Leaf port.addr ∷ reading port.en port.mode ∷ [])
 
 -- data of latency 1 are captured, and others are loads
 abbrev pub data_of : ℕ → ℕ → NetPort → NetRead → ReadData
