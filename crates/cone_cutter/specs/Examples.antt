@@ -5,7 +5,7 @@ use Rattle.bit_words.specs.declared.value.Kind.TheVariants.{Unsigned}
 use Rattle.cycle_values.specs.Values.{fitted}
 use Rattle.prim_ops.specs.declared.operation.PrimOp.TheVariants.{Not}
 use Rattle.ground_net.specs.declared.ground.Ground.{Ground}
-use Rattle.ground_net.specs.declared.ground.Ground.TheVariants as ground
+use Rattle.ground_net.specs.declared.ground.Ground.TheVariants as expression
 use Rattle.ground_net.specs.declared.net.Leaf.{Leaf}
 use Rattle.ground_net.specs.declared.net.Role.{Role}
 use Rattle.ground_net.specs.declared.net.Role.TheVariants as role
@@ -16,7 +16,7 @@ abbrev pub leaf : ℕ → Role → Leaf
 leaf width r = record { name = []; kind = Unsigned; width = min width 128; place = record { line = 1; column = 1 }; role = r; narrow = min-le_right width 128 }
 
 abbrev pub inverse : ℕ → Ground
-inverse x = ground.Op Not (ground.Leaf x ∷ []) []
+inverse x = expression.Op Not (expression.Leaf x ∷ []) []
 
 -- A clock, an input (1), an output (2), two registers (3 and 4) and a node (5), the inverse of the input. The output and both
 -- registers take the node.
@@ -25,7 +25,7 @@ sharing = record {
   net = record {
     ports = 3;
     leaves = leaf 0 role.Clock ∷ leaf 4 (role.Input 0) ∷ leaf 4 role.Assigned ∷ leaf 4 (role.Register 0) ∷ leaf 4 (role.Register 1) ∷ leaf 4 role.Assigned ∷ [];
-    drivers = None ∷ None ∷ Some (ground.Leaf 5) ∷ Some (ground.Leaf 5) ∷ Some (ground.Leaf 5) ∷ Some (inverse 1) ∷ [];
+    drivers = None ∷ None ∷ Some (expression.Leaf 5) ∷ Some (expression.Leaf 5) ∷ Some (expression.Leaf 5) ∷ Some (inverse 1) ∷ [];
     registers = record { leaf = 3; reset = None } ∷ record { leaf = 4; reset = None } ∷ [];
     memories = [];
   };
@@ -47,9 +47,9 @@ crossing = record {
   net = record {
     ports = 3;
     leaves = leaf 0 role.Clock ∷ leaf 1 (role.Input 0) ∷ leaf 4 role.Assigned ∷ leaf 4 (role.Register 0) ∷ leaf 4 (role.Register 1) ∷ leaf 4 role.Assigned ∷ leaf 4 role.Assigned ∷ [];
-    drivers = None ∷ None ∷ Some (ground.Leaf 3) ∷ Some (ground.Leaf 5) ∷ Some (ground.Leaf 6) ∷ Some (inverse 4) ∷ Some (inverse 3) ∷ [];
-    registers = record { leaf = 3; reset = Some (record { reset = ground.Leaf 1; init = ground.Const (fitted Unsigned 4 (pos 1)) }) }
-        ∷ record { leaf = 4; reset = Some (record { reset = ground.Leaf 1; init = ground.Const (fitted Unsigned 4 (pos 2)) }) } ∷ [];
+    drivers = None ∷ None ∷ Some (expression.Leaf 3) ∷ Some (expression.Leaf 5) ∷ Some (expression.Leaf 6) ∷ Some (inverse 4) ∷ Some (inverse 3) ∷ [];
+    registers = record { leaf = 3; reset = Some (record { reset = expression.Leaf 1; init = expression.Const (fitted Unsigned 4 (pos 1)) }) }
+        ∷ record { leaf = 4; reset = Some (record { reset = expression.Leaf 1; init = expression.Const (fitted Unsigned 4 (pos 2)) }) } ∷ [];
     memories = [];
   };
   sequence = 2 ∷ 5 ∷ 6 ∷ [];

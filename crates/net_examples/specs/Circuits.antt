@@ -4,7 +4,7 @@ use Rattle.std.proofs.Math.Nat.{min-le_right}
 use Rattle.bit_words.specs.declared.value.Kind.TheVariants.{Unsigned}
 use Rattle.bit_words.specs.declared.value.Value.{Value}
 use Rattle.cycle_values.specs.Values.{fitted}
-use Rattle.ground_net.specs.declared.ground.Ground.TheVariants as ground
+use Rattle.ground_net.specs.declared.ground.Ground.TheVariants as expression
 use Rattle.ground_net.specs.declared.net.Leaf.{Leaf}
 use Rattle.ground_net.specs.declared.net.Role.{Role}
 use Rattle.ground_net.specs.declared.net.Role.TheVariants as role
@@ -70,7 +70,7 @@ abbrev pub delayed : Net
 delayed = record {
   ports = 3;
   leaves = leaf 2 (role.Input 0) ∷ leaf 1 (role.Input 1) ∷ leaf 8 role.Assigned ∷ leaf 8 (role.Captured 0) ∷ leaf 8 (role.Register 0) ∷ [];
-  drivers = None ∷ None ∷ Some (ground.Leaf 4) ∷ None ∷ Some (ground.Leaf 3) ∷ [];
+  drivers = None ∷ None ∷ Some (expression.Leaf 4) ∷ None ∷ Some (expression.Leaf 3) ∷ [];
   registers = record { leaf = 4; reset = None } ∷ [];
   memories = delayed_memory ∷ [];
 }
