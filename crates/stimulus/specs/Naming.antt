@@ -1,5 +1,5 @@
 -- What is known of the leaves by their names.
-use Rattle.std.specs.Prelude.{◌≡◌, ℕ, List, if◌then◌else◌, Option, Some, None, position}
+use Rattle.std.specs.Prelude.{◌≡◌, ℕ, Bool, true, false, List, if◌then◌else◌, Option, Some, None, position}
 use Rattle.std.specs.List.{list_any}
 use Rattle.std.specs.Ordering.{nat_cmp}
 use Rattle.std.specs.Cmp.Lexicographic.{slice_cmp}
@@ -14,6 +14,11 @@ use Rattle.stimulus.specs.declared.names.Names.{Names}
 abbrev pub named_as : Option ℕ → NamedLeaf
 named_as None = Other
 named_as (Some number) = Input number
+
+abbrev pub is_other : Option NamedLeaf → Bool
+is_other None = false
+is_other (Some (Input number)) = false
+is_other (Some Other) = true
 
 -- what a name stands for among these names and inputs
 abbrev pub named_in : List (List ℕ) → List PortLeaf → List ℕ → Option NamedLeaf

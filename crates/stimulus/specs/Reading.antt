@@ -8,6 +8,7 @@ use Rattle.bit_words.specs.declared.number.Base.TheVariants.{Decimal}
 use Rattle.bit_words.specs.declared.number.Number.{Number}
 use Rattle.bit_words.specs.Numbers.{WritesDigits, IsNumber, Holds, integer_of_number}
 use Rattle.ground_net.specs.declared.net.Ports.{Ports}
+use Rattle.ground_net.specs.declared.net.PortLeaf.{PortLeaf}
 use Rattle.stimulus.specs.declared.fault.StimFault.{StimFault}
 use Rattle.stimulus.specs.declared.fault.StimFault.TheVariants.{BadLine}
 use Rattle.stimulus.specs.declared.stimulus.Setting.{Setting}
@@ -16,7 +17,7 @@ use Rattle.stimulus.specs.declared.forms.Heading.{Heading}
 use Rattle.stimulus.specs.declared.forms.SettingLine.{SettingLine}
 use Rattle.stimulus.specs.Words.{Word, behind, is_blank, lines_from, is_told}
 use Rattle.stimulus.specs.Forms.{Breaks, heading_forms, setting_forms, Said, Says}
-use Rattle.bit_words.specs.Values.{integer_of}
+use Rattle.bit_words.specs.Values.{InRange, integer_of}
 use Rattle.stimulus.specs.Faults.{IsLineFault, is_leaf, input_of, place_of, rank_of}
 use Rattle.stimulus.specs.Stimuli.{IsOf, Sets, StandsBefore}
 
@@ -62,13 +63,15 @@ pub record EndsAt (text : List ℕ) (from to : ℕ) : Type 0 where
 pub record IsNextWord (text : List ℕ) (from : ℕ) (word : Word) : Type 0 where
   pub words : line_at text from ≡ word ∷ line_at text (behind word)
   pub after : lines_after text from ≡ lines_after text (behind word)
-  pub onward : from < behind word
+  pub begins : from ≤ word.at
+  pub some : word.at < behind word
   pub within : behind word ≤ length text
 
 -- a word is the first one of the next told line from an offset on
 pub record IsNextLine (text : List ℕ) (from : ℕ) (word : Word) : Type 0 where
   pub lines : told_at text from ≡ (word ∷ line_at text (behind word)) ∷ lines_after text (behind word)
-  pub onward : from < behind word
+  pub begins : from ≤ word.at
+  pub some : word.at < behind word
   pub within : behind word ≤ length text
 
 -- what stands for the number of a number word: itself, or nothing where its magnitude is over 2^128 - 1
@@ -98,11 +101,12 @@ pub record IsSaid (line : SettingLine) (said : Said) : Type 0 where
   pub cycle : Holds line.cycle said.cycle
   pub number : Stands line.number said.number
 
--- its words stand in the text
+-- its words stand in the text, one behind the other
 pub record IsInside (text : List ℕ) (line : SettingLine) : Type 0 where
-  pub cycle_word : behind (shown line.cycle_word) ≤ length text
-  pub leaf : behind (shown line.leaf) ≤ length text
-  pub value_word : behind (shown line.value_word) ≤ length text
+  pub cycle_word : line.cycle_word.at < line.leaf.at
+  pub leaf : line.leaf.at < line.value_word.at
+  pub value_word : line.value_word.at < behind (shown line.value_word)
+  pub within : behind (shown line.value_word) ≤ length text
 
 -- what is known of the settings so far: the cycle of the last one, and for each input the cycle that set it last
 pub record Knows (ports : Ports) (cycles last : ℕ) (set_in : List (Option ℕ)) (settings : List Setting) : Type 0 where
@@ -123,6 +127,7 @@ pub record IsSound (ports : Ports) (cycles last : ℕ) (set_in : List (Option �
   pub input : input_of ports said.leaf.bytes ≡ Some setting.input
   pub of_input : IsOf ports setting
   pub fresh : slice_get set_in setting.input ≢ Some (Some setting.cycle)
+  pub held : (leaf : PortLeaf) × (slice_get ports.inputs setting.input ≡ Some leaf) × InRange leaf.kind leaf.width (integer_of_number said.number)
   pub value : integer_of setting.value ≡ integer_of_number said.number
 
 -- the lines have no fault, for so many cycles

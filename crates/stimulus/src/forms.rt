@@ -30,8 +30,8 @@ pub struct SettingLine<'a> {
 /// What the first line says, whose first word this is; or the offset where it breaks its form.
 pub fn read_heading<'a>(bytes: &'a [u8], first: Word<'a>) -> Result<Heading<'a>, usize>
     requires { behind (shown first) ≤ length bytes.now }
-    ensures ok { IfOk result (λ heading. IsHeading bytes.now (shown first) heading) }
-    ensures err { IfErr result (λ at. Breaks heading_forms 0 (shown first ∷ line_at bytes.now (behind (shown first))) at) }
+    ensures ok { IfOk result (λ heading. IsHeading bytes.now (shown first.entry) heading) }
+    ensures err { IfErr result (λ at. Breaks heading_forms 0 (shown first.entry ∷ line_at bytes.now (behind (shown first.entry))) at) }
     ensures within { IfErr result (λ at. at ≤ length bytes.now) }
 {
     if first.bytes != b"cycles".as_slice() {
@@ -45,13 +45,14 @@ pub fn read_heading<'a>(bytes: &'a [u8], first: Word<'a>) -> Result<Heading<'a>,
 
 /// What the line of a setting says, whose first word this is; or the offset where it breaks its form.
 pub fn read_setting<'a>(bytes: &'a [u8], first: Word<'a>) -> Result<SettingLine<'a>, usize>
-    requires { behind (shown first) ≤ length bytes.now }
-    ensures ok { IfOk result (λ line. (said : Said) × IsSaid line said × Says (shown first ∷ line_at bytes.now (behind (shown first))) said) }
+    requires some { first.at < behind (shown first) }
+    requires within { behind (shown first) ≤ length bytes.now }
+    ensures ok { IfOk result (λ line. (said : Said) × IsSaid line said × Says (shown first.entry ∷ line_at bytes.now (behind (shown first.entry))) said) }
     ensures after { IfOk result (λ line. line_at bytes.now (behind (shown line.value_word)) ≡ []) }
-    ensures same { IfOk result (λ line. lines_after bytes.now (behind (shown first)) ≡ lines_after bytes.now (behind (shown line.value_word))) }
-    ensures onward { IfOk result (λ line. behind (shown first) < behind (shown line.value_word)) }
+    ensures same { IfOk result (λ line. lines_after bytes.now (behind (shown first.entry)) ≡ lines_after bytes.now (behind (shown line.value_word))) }
+    ensures onward { IfOk result (λ line. first.entry.at < line.value_word.at) }
     ensures inside { IfOk result (λ line. IsInside bytes.now line) }
-    ensures err { IfErr result (λ at. Breaks setting_forms 0 (shown first ∷ line_at bytes.now (behind (shown first))) at) }
+    ensures err { IfErr result (λ at. Breaks setting_forms 0 (shown first.entry ∷ line_at bytes.now (behind (shown first.entry))) at) }
     ensures within { IfErr result (λ at. at ≤ length bytes.now) }
 {
     let cycle = read_digits(first)?;
@@ -71,9 +72,9 @@ pub fn read_setting<'a>(bytes: &'a [u8], first: Word<'a>) -> Result<SettingLine<
 /// The word behind another one in its line; or the offset directly behind that where there is none.
 fn word_behind<'a>(bytes: &'a [u8], word: Word<'a>) -> Result<Word<'a>, usize>
     requires { behind (shown word) ≤ length bytes.now }
-    ensures ok { IfOk result (λ next. IsNextWord bytes.now (behind (shown word)) (shown next)) }
-    ensures missing { IfErr result (λ at. at ≡ behind (shown word)) }
-    ensures err { IfErr result (λ at. line_at bytes.now (behind (shown word)) ≡ []) }
+    ensures ok { IfOk result (λ next. IsNextWord bytes.now (behind (shown word.entry)) (shown next)) }
+    ensures missing { IfErr result (λ at. at ≡ behind (shown word.entry)) }
+    ensures err { IfErr result (λ at. line_at bytes.now (behind (shown word.entry)) ≡ []) }
 {
     let end = word.at + word.bytes.len();
     next_word(bytes, end).ok_or(end)
@@ -82,8 +83,8 @@ fn word_behind<'a>(bytes: &'a [u8], word: Word<'a>) -> Result<Word<'a>, usize>
 /// Refuses a word behind another one in its line, with its offset.
 fn no_more(bytes: &[u8], word: Word<'_>) -> Result<(), usize>
     requires { behind (shown word) ≤ length bytes.now }
-    ensures ok { OnOk result (line_at bytes.now (behind (shown word)) ≡ []) }
-    ensures err { IfErr result (λ at. (next : TheWord) × (words : List TheWord) × (line_at bytes.now (behind (shown word)) ≡ next ∷ words) × (at ≡ next.at)) }
+    ensures ok { OnOk result (line_at bytes.now (behind (shown word.entry)) ≡ []) }
+    ensures err { IfErr result (λ at. (next : TheWord) × (words : List TheWord) × (line_at bytes.now (behind (shown word.entry)) ≡ next ∷ words) × (at ≡ next.at)) }
     ensures within { IfErr result (λ at. at ≤ length bytes.now) }
 {
     match word_behind(bytes, word) {
@@ -94,8 +95,8 @@ fn no_more(bytes: &[u8], word: Word<'_>) -> Result<(), usize>
 
 /// The number that a word of decimal digits writes, or none where it is over `2^128 - 1`; else the word's offset.
 fn read_digits(word: Word<'_>) -> Result<Option<u128>, usize>
-    ensures ok { IfOk result (λ number. (n : ℕ) × WritesDigits Decimal word.bytes.now n × Holds number n) }
-    ensures err { IfErr result (λ at. (at ≡ word.at) × ¬ (HasForm Digits word.bytes.now)) }
+    ensures ok { IfOk result (λ number. (n : ℕ) × WritesDigits Decimal word.entry.bytes.now n × Holds number n) }
+    ensures err { IfErr result (λ at. (at ≡ word.entry.at) × ¬ (HasForm Digits word.entry.bytes.now)) }
 {
     match digits_value(Base::Decimal, word.bytes) {
         Ok(number) => Ok(Some(number)),
@@ -106,8 +107,8 @@ fn read_digits(word: Word<'_>) -> Result<Option<u128>, usize>
 
 /// The number of a number word, or none where its magnitude is over `2^128 - 1`; else the word's offset.
 fn read_value(word: Word<'_>) -> Result<Option<Number>, usize>
-    ensures ok { IfOk result (λ number. HoldsNumber word.bytes.now number) }
-    ensures err { IfErr result (λ at. (at ≡ word.at) × ¬ (HasForm A_number word.bytes.now)) }
+    ensures ok { IfOk result (λ number. HoldsNumber word.entry.bytes.now number) }
+    ensures err { IfErr result (λ at. (at ≡ word.entry.at) × ¬ (HasForm A_number word.entry.bytes.now)) }
 {
     match read_number(word.bytes) {
         Ok(number) => Ok(Some(number)),

@@ -1,6 +1,6 @@
 //! Judging what a line says.
 
-ghost use Rattle.std.specs.Prelude.{◌≡◌, ◌↔◌, ◌-◌, ◌<◌, ◌^◌, List, length, slice_get, Some, IsTrue, MatchResult};
+ghost use Rattle.std.specs.Prelude.{◌≡◌, ◌↔◌, ◌-◌, ◌<◌, ◌^◌, List, length, slice_get, Some, IsTrue, IfOk, MatchResult};
 ghost use Rattle.std.specs.List.{AllZip};
 ghost use Rattle.fault_order.specs.First.{IsFirst};
 ghost use Rattle.stimulus.specs.Words.{Word as TheWord};
@@ -43,7 +43,7 @@ pub fn judge(
         → MatchResult result (IsSound reading.now.ports.now reading.now.cycles progress.now.last progress.now.set_in said)
         (IsFirst place_of rank_of (IsLineFault reading.now.bytes.now reading.now.ports.now reading.now.cycles before said)) }
 {
-    let cycle = judge_cycle(reading, progress.last, line)?;
+    let cycle = judge_cycle(reading.bytes, reading.cycles, progress.last, line)?;
     let input = judge_leaf(reading, progress, cycle, line)?;
     let leaf = &reading.ports.inputs.as_slice()[input as usize];
     let value = judge_value(reading, leaf, line)?;
@@ -55,18 +55,21 @@ pub fn judge(
 }
 
 /// The cycle of a line, behind that of the line before.
-fn judge_cycle(reading: &Reading<'_>, last: u64, line: &SettingLine<'_>) -> Result<u64, StimFault>
-    requires short { length reading.now.bytes.now < 2 ^ 32 - 1 }
-    requires inside { IsInside reading.now.bytes.now line.now }
-    ensures { (said : Said) → IsSaid line.now said → AnswersCycle reading.now.bytes.now reading.now.cycles last said result }
+fn judge_cycle(
+    bytes: &[u8],
+    cycles: u64,
+    last: u64,
+    line: &SettingLine<'_>,
+) -> Result<u64, StimFault>
+    requires short { length bytes.now < 2 ^ 32 - 1 }
+    requires inside { IsInside bytes.now line.now }
+    ensures { (said : Said) → IsSaid line.now said → AnswersCycle bytes.now cycles last said result }
 {
     let at = line.cycle_word.at;
     match line.cycle {
-        Some(cycle) if cycle < last.into() => {
-            Err(StimFault::CycleOrder(place_of(reading.bytes, at)))
-        }
-        Some(cycle) if cycle < reading.cycles.into() => Ok(cycle as u64),
-        _ => Err(StimFault::CycleRange(place_of(reading.bytes, at))),
+        Some(cycle) if cycle < last.into() => { Err(StimFault::CycleOrder(place_of(bytes, at))) }
+        Some(cycle) if cycle < cycles.into() => Ok(cycle as u64),
+        _ => Err(StimFault::CycleRange(place_of(bytes, at))),
     }
 }
 
@@ -80,7 +83,8 @@ fn judge_leaf(
     requires short { length reading.now.bytes.now < 2 ^ 32 - 1 }
     requires inside { IsInside reading.now.bytes.now line.now }
     requires names { KnowsNames reading.now.ports.now reading.now.names }
-    ensures { (said : Said) → IsSaid line.now said → AnswersLeaf reading.now.bytes.now reading.now.ports.now progress.now.set_in cycle said result }
+    ensures within { IfOk result (λ input. input < length reading.now.ports.now.inputs) }
+    ensures answer { (said : Said) → IsSaid line.now said → AnswersLeaf reading.now.bytes.now reading.now.ports.now progress.now.set_in cycle said result }
 {
     let at = line.leaf.at;
     match find(&reading.names, line.leaf.bytes) {

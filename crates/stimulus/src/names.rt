@@ -3,7 +3,7 @@
 ghost use Rattle.std.specs.Prelude.{◌≡◌, ℕ, ◌<◌, ◌≤◌, ◌^◌, List, [], length, OnOk, IfOk};
 ghost use Rattle.std.specs.Map.{update};
 ghost use Rattle.std.specs.Str.{bytes_eq};
-ghost use Rattle.stimulus.specs.Naming.{found, named_in, KnowsNames};
+ghost use Rattle.stimulus.specs.Naming.{found, is_other, named_in, KnowsNames};
 
 use bit_words::Text;
 use ground_net::{PortLeaf, Ports};
@@ -51,19 +51,24 @@ fn add_names<'a>(known: &mut Names<'a>, names: &'a [Text]) -> Result<(), AllocEr
 
 /// Adds which of the names are those of inputs, the first input of each name.
 fn add_inputs<'a>(known: &mut Names<'a>, inputs: &'a [PortLeaf]) -> Result<(), AllocError>
-    ghost names: { List (List ℕ) }
-    requires few { length inputs.now < 2 ^ 32 }
-    requires names { (name : List ℕ) → found known.old name ≡ named_in names [] name }
-    ensures { OnOk result ((name : List ℕ) → found known.new name ≡ named_in names inputs.now name) }
+    requires { length inputs.now < 2 ^ 32 }
+    ensures { OnOk result ((names : List (List ℕ)) → ((name : List ℕ) → found known.old name ≡ named_in names [] name) → (name : List ℕ) → found known.new name ≡ named_in names inputs.now name) }
 {
     for number in 0..inputs.len() {
         let leaf = &inputs[number];
         let name = leaf.name.as_slice();
-        if let Some(NamedLeaf::Other) = find(known, name) {
+        if is_other(find(known, name)) {
             add(known, name, NamedLeaf::Input(number as u32))?;
         }
     }
     Ok(())
+}
+
+/// Whether it is a leaf that isn't set from outside.
+fn is_other(leaf: Option<NamedLeaf>) -> bool
+    ensures { result ≡ is_other leaf }
+{
+    matches!(leaf, Some(NamedLeaf::Other))
 }
 
 /// Adds what a name stands for.

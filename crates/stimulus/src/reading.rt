@@ -103,8 +103,8 @@ fn read_settings(
     requires names { KnowsNames reading.now.ports.now reading.now.names }
     requires within { behind (shown word) ≤ length reading.now.bytes.now }
     requires last { line_at reading.now.bytes.now (behind (shown word)) ≡ [] }
-    ensures ok { IfOk result (λ settings. AreRead reading.now.bytes.now reading.now.ports.now reading.now.cycles (lines_after reading.now.bytes.now (behind (shown word))) settings) }
-    ensures err { IfErr result (λ fault. (fault ≡ No_memory) ⊎ IsFirstOfLines reading.now.bytes.now reading.now.ports.now reading.now.cycles (lines_after reading.now.bytes.now (behind (shown word))) fault) }
+    ensures ok { IfOk result (λ settings. AreRead reading.now.bytes.now reading.now.ports.now reading.now.cycles (lines_after reading.now.bytes.now (behind (shown word.entry))) settings) }
+    ensures err { IfErr result (λ fault. (fault ≡ No_memory) ⊎ IsFirstOfLines reading.now.bytes.now reading.now.ports.now reading.now.cycles (lines_after reading.now.bytes.now (behind (shown word.entry))) fault) }
 {
     let mut progress = no_progress(alloc, reading.ports.inputs.len())?;
     let mut at = word.at + word.bytes.len();

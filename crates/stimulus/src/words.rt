@@ -1,6 +1,7 @@
 //! From word to word and from line to line over a text.
 
-ghost use Rattle.std.specs.Prelude.{◌≡◌, ℕ, ◌+◌, ◌<◌, ◌≤◌, [], ◌∷◌, true, false, length, drop, slice_index, IfSome, IfNone};
+ghost use Rattle.std.specs.Prelude.{◌≡◌, ℕ, ◌+◌, ◌<◌, ◌≤◌, [], ◌∷◌, true, false, length, drop, slice_index, IfSome, IfNone, ◌==◌};
+ghost use Rattle.place_text.specs.Places.{is_feed};
 ghost use Rattle.stimulus.specs.Words.{is_blank, begins_with};
 ghost use Rattle.stimulus.specs.Reading.{ahead, line_at, lines_after, told_at, is_ink_at, shown, EndsAt, IsNextWord, IsNextLine};
 
@@ -94,7 +95,7 @@ fn is_blank(bytes: &[u8], at: usize) -> bool
 }
 
 fn begins_with_feed(bytes: &[u8]) -> bool
-    ensures { result ≡ begins_with (λ b. b == 10) bytes.now }
+    ensures { result ≡ begins_with is_feed bytes.now }
 {
     matches!(bytes, [b'\n', ..])
 }

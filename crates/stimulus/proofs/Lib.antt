@@ -1,0 +1,10 @@
+pub mod Walking
+pub mod Placing
+pub mod Inking
+pub mod Saying
+pub mod Finding
+pub mod Lists
+pub mod Ordering
+pub mod Judged
+pub mod Holding
+pub mod Verdict
