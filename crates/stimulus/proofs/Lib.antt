@@ -8,3 +8,5 @@ pub mod Ordering
 pub mod Judged
 pub mod Holding
 pub mod Verdict
+pub mod Going
+pub mod Heading
