@@ -10,3 +10,4 @@ pub mod Holding
 pub mod Verdict
 pub mod Going
 pub mod Heading
+pub mod Rowing
