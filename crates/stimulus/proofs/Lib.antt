@@ -11,3 +11,4 @@ pub mod Verdict
 pub mod Going
 pub mod Heading
 pub mod Rowing
+pub mod Once

@@ -6,6 +6,7 @@ pub mod fault;
 mod forms;
 pub mod input_rows;
 mod judging;
+pub mod laws;
 mod names;
 mod progress;
 pub mod reading;
