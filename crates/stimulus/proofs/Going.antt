@@ -1,23 +1,21 @@
 -- From line to line: what is known before and after a setting.
-use Rattle.std.proofs.Common.{◌≡◌, ◌≢◌, ℕ, zero, suc, ◌+◌, ◌-◌, ◌<◌, ◌≤◌, Bool, true, false, List, [], ◌∷◌, ◌++◌, length, take, get_or, replicate, Some, Option, refl, sym, ap, ap₂, ◌∙◌, subst, arith, ⊎_elim, ◌⊎◌, inl, inr}
-use Rattle.std.specs.Prelude.{None, slice_get, slice_set, Contains, All, AllPairs}
+use Rattle.std.proofs.Common.{◌≡◌, ◌≢◌, ℕ, zero, suc, ◌<◌, ◌≤◌, List, [], ◌∷◌, ◌++◌, length, take, get_or, replicate, Some, Option, refl, sym, ap, ◌∙◌, subst, arith, ⊎_elim}
+use Rattle.std.specs.Prelude.{None, slice_get, slice_set, Contains}
 use Rattle.std.specs.List.{AllZip}
 use Rattle.std.proofs.lemmas.Bool.{cases_lt, cases_eq}
-use Rattle.std.proofs.lemmas.List.{take_all, take_at, take-append-le, length-set, length-replicate, length_push, append_assoc, append-nil, get_or_default}
+use Rattle.std.proofs.lemmas.List.{take_at, take-append-le, length-set, length-replicate, length_push, append_assoc, append-nil, get_or_default}
 use Rattle.std.proofs.lemmas.List.Elements.{All-nil, All-push, Contains-push, Contains-push_cases, Contains-append_left}
 use Rattle.std.proofs.lemmas.List.Quantifiers.{all_pairs_push}
 use Rattle.std.proofs.lemmas.Option.{slice_get_within}
-use Rattle.place_text.specs.Places.{place}
-use Rattle.fault_order.specs.First.{IsFirst}
 use Rattle.ground_net.specs.declared.net.Ports.{Ports}
 use Rattle.stimulus.specs.declared.fault.StimFault.{StimFault}
 use Rattle.stimulus.specs.declared.stimulus.Setting.{Setting}
-use Rattle.stimulus.specs.Words.{Word, behind, told_lines, is_told}
+use Rattle.stimulus.specs.Words.{Word, is_told}
 use Rattle.stimulus.specs.Forms.{Said, Says}
-use Rattle.stimulus.specs.Faults.{IsLineFault, place_of, rank_of}
+use Rattle.stimulus.specs.Faults.{IsLineFault}
 use Rattle.stimulus.specs.Stimuli.{IsOf, Sets, StandsBefore}
 use Rattle.stimulus.specs.Reading.{line_at, lines_after, told_at, Knows, IsSound, HaveNoFault, IsFirstOfLine, IsFirstOfLines, IsReadTo, AreRead}
-use Rattle.stimulus.proofs.Lists.{zip_length, zip_push, at_push, at_front, at_behind}
+use Rattle.stimulus.proofs.Lists.{zip_push, at_push, at_front, at_behind}
 use Rattle.stimulus.proofs.Walking.{told_none}
 use Rattle.stimulus.proofs.Judged.{IsOrdered, no_fault}
 
@@ -60,12 +58,9 @@ module _ (ports : Ports) (cycles last : ℕ) (set_in : List (Option ℕ)) (setti
       record {
         in_order = omega (arith, note.2, note.3, sound.in_order);
         once = λ cycle input.
-          let now : note.0 ≡ setting.cycle = omega (arith, cycle, note.2, note.3, sound.in_order) in
-          sound.fresh (ap (slice_get set_in) (sym input) ∙ note.1 ∙ ap (λ n. Some (Some n)) now);
+            let now : note.0 ≡ setting.cycle = omega (arith, cycle, note.2, note.3, sound.in_order) in
+            sound.fresh (ap (slice_get set_in) (sym input) ∙ note.1 ∙ ap (λ n. Some (Some n)) now);
       }
-
-
-
 
   set : (input cycle : ℕ) → slice_get (slice_set set_in setting.input (Some setting.cycle)) input ≡ Some (Some cycle)
       → (s : Setting) × Contains (settings ++ setting ∷ []) s × (s.cycle ≡ cycle) × (s.input ≡ input)
@@ -159,12 +154,11 @@ module _ (text : List ℕ) (ports : Ports) (cycles : ℕ) (lines : List (List Wo
             let within = slice_get_within (read.done ++ line ∷ []) k other h in
             let here : k ≡ length read.done = omega (arith, within, ge, length_push read.done line) in
             let both : Some line ≡ Some other = sym (at_push read.done line) ∙ ap (slice_get (read.done ++ line ∷ [])) (sym here) ∙ h in
-            let same : line ≡ other = cc in
-            (
+            let same : line ≡ other = cc in (
               said,
               subst (λ l. Says l said) same says,
               λ fault f. no_fault text ports cycles last set_in settings read.done said order read.knows read.sets setting sound fault
-                (subst (λ ls. IsLineFault text ports cycles ls said fault) (ap (λ n. take n (read.done ++ line ∷ [])) here ∙ take_at read.done (line ∷ []) (length read.done) refl) f),
+                  (subst (λ ls. IsLineFault text ports cycles ls said fault) (ap (λ n. take n (read.done ++ line ∷ [])) here ∙ take_at read.done (line ∷ []) (length read.done) refl) f),
             )
 
     -- all lines are read

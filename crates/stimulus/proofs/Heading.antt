@@ -1,9 +1,9 @@
 -- The first line.
-use Rattle.std.proofs.Common.{◌≡◌, ℕ, List, [], ◌∷◌, ◌++◌, ap, ap₂, ◌∙◌, sym, refl}
+use Rattle.std.proofs.Common.{◌≡◌, ℕ, List, ◌∷◌, ap₂, ◌∙◌, sym, refl}
 use Rattle.stimulus.specs.declared.forms.Heading.{Heading}
 use Rattle.stimulus.specs.Words.{Word, behind, told_lines}
 use Rattle.stimulus.specs.Forms.{Heads}
-use Rattle.stimulus.specs.Reading.{told_at, line_at, lines_after, shown, IsNextLine, IsHeading}
+use Rattle.stimulus.specs.Reading.{told_at, lines_after, shown, IsNextLine, IsHeading}
 
 pub told_start : (text : List ℕ) → told_at text 0 ≡ told_lines text
 unfolding told_at

@@ -1,6 +1,6 @@
 -- What stands for a number.
 use Rattle.std.proofs.Common.{◌≡◌, ℕ, zero, suc, ◌^◌, ◌≤◌, ◌<◌, Bool, true, false, Some, Option, subst, arith}
-use Rattle.std.specs.Prelude.{IsTrue, None, ℤ, pos, negsuc, neg_ℤ, if◌then◌else◌}
+use Rattle.std.specs.Prelude.{IsTrue, None, pos, neg_ℤ, if◌then◌else◌}
 use Rattle.std.proofs.lemmas.Int.{ints}
 use Rattle.std.proofs.Math.Pow.{pow_mono}
 use Rattle.std.proofs.lemmas.Nat.{pow_below}

@@ -1,8 +1,7 @@
 -- The first fault of what a line says, or that it has none.
-use Rattle.std.proofs.Common.{◌≡◌, ◌≢◌, ℕ, zero, suc, ◌+◌, ◌-◌, ◌<◌, ◌≤◌, Bool, true, false, List, [], ◌∷◌, length, get_or, Some, Ok, Err, Option, Result, refl, sym, ap, ap₂, ◌∙◌, subst, arith, ⊎_elim, ◌⊎◌, inl, inr}
+use Rattle.std.proofs.Common.{◌≡◌, ℕ, ◌-◌, ◌<◌, ◌≤◌, Bool, true, false, List, [], ◌∷◌, length, get_or, Some, Ok, Err, Option, refl, sym, ap, ap₂, ◌∙◌, subst, arith, inl, inr}
 use Rattle.std.specs.Prelude.{None, slice_get, Contains}
 use Rattle.std.specs.List.{AllZip}
-use Rattle.std.proofs.lemmas.Option.{slice_get-get_or, slice_get_within, get_or_from_slice_get}
 use Rattle.place_text.specs.Places.{place}
 use Rattle.fault_order.specs.Order.{Precedes}
 use Rattle.fault_order.specs.First.{IsFirst}
@@ -10,7 +9,7 @@ use Rattle.bit_words.specs.declared.value.Value.{Value}
 use Rattle.bit_words.specs.declared.number.Base.TheVariants.{Decimal}
 use Rattle.bit_words.specs.declared.number.Number.{Number}
 use Rattle.bit_words.specs.Numbers.{WritesDigits, IsNumber, integer_of_number}
-use Rattle.bit_words.specs.Values.{InRange, integer_of}
+use Rattle.bit_words.specs.Values.{InRange}
 use Rattle.bit_words.proofs.Digits.{digits_once}
 use Rattle.bit_words.proofs.Readings.{sign_once, number_once}
 use Rattle.ground_net.specs.declared.net.Ports.{Ports}
@@ -21,13 +20,13 @@ use Rattle.stimulus.specs.declared.stimulus.Setting.{Setting}
 use Rattle.stimulus.specs.Words.{Word}
 use Rattle.stimulus.specs.Forms.{Said, Says}
 use Rattle.stimulus.specs.Faults.{is_leaf, input_of, IsLineFault, cycle_order, cycle_range, leaf_unknown, not_input, leaf_twice, value_range, place_of, rank_of}
-use Rattle.stimulus.specs.Stimuli.{IsOf, Sets}
+use Rattle.stimulus.specs.Stimuli.{Sets}
 use Rattle.stimulus.specs.declared.forms.SettingLine.{SettingLine}
 use Rattle.stimulus.specs.Reading.{Knows, IsSound, IsSaid, IsInside}
 use Rattle.stimulus.specs.Judging.{AnswersCycle, AnswersLeaf, AnswersValue}
 use Rattle.stimulus.proofs.Lists.{zip_length, zip_left, zip_right, contains_at, at_contains}
 use Rattle.stimulus.proofs.Ordering.{not_later}
-use Rattle.stimulus.proofs.Finding.{position_at, position_within}
+use Rattle.stimulus.proofs.Finding.{position_at}
 
 same_words : (a b c d e f : Word) → a ∷ b ∷ c ∷ [] ≡ d ∷ e ∷ f ∷ [] → (a ≡ d) × (b ≡ e) × (c ≡ f)
 same_words a b c d e f h = (cc, cc, cc)

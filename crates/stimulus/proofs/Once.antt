@@ -2,9 +2,8 @@
 use Rattle.std.proofs.Common.{◌≡◌, ℕ, List, [], ◌∷◌, Some, refl, sym, ap, ap₂, ◌∙◌, subst}
 use Rattle.std.specs.Prelude.{slice_get}
 use Rattle.std.specs.List.{AllZip}
-use Rattle.bit_words.specs.declared.value.Kind.{Kind}
 use Rattle.bit_words.specs.declared.value.Value.{Value}
-use Rattle.bit_words.specs.Values.{integer, integer_of, bits_of}
+use Rattle.bit_words.specs.Values.{integer_of, bits_of}
 use Rattle.bit_words.specs.Numbers.{integer_of_number}
 use Rattle.bit_words.proofs.Congruence.{bits_back}
 use Rattle.cycle_values.proofs.Fittings.{same_value}
@@ -13,7 +12,7 @@ use Rattle.ground_net.specs.declared.net.PortLeaf.{PortLeaf}
 use Rattle.stimulus.specs.declared.stimulus.Setting.{Setting}
 use Rattle.stimulus.specs.declared.stimulus.Stimulus.{Stimulus}
 use Rattle.stimulus.specs.Words.{Word}
-use Rattle.stimulus.specs.Forms.{Said, Says}
+use Rattle.stimulus.specs.Forms.{Said}
 use Rattle.stimulus.specs.Faults.{input_of}
 use Rattle.stimulus.specs.Stimuli.{Sets, IsStimulus}
 use Rattle.stimulus.proofs.Judged.{says_once}
@@ -34,7 +33,7 @@ sets_once ports line s t a b =
     let leaves : Some a.of_input.leaf ≡ Some b.of_input.leaf = sym a.of_input.input ∙ ap (slice_get ports.inputs) input ∙ b.of_input.input in
     let leaf : a.of_input.leaf ≡ b.of_input.leaf = cc in
     let value = same_integer s.value t.value (a.of_input.kind ∙ ap (λ (l : PortLeaf). l.kind) leaf ∙ sym b.of_input.kind) (a.of_input.width ∙ ap (λ (l : PortLeaf). l.width) leaf ∙ sym b.of_input.width)
-      (a.value ∙ ap (λ (x : Said). integer_of_number x.number) said ∙ sym b.value) in
+    (a.value ∙ ap (λ (x : Said). integer_of_number x.number) said ∙ sym b.value) in
     ap₂ (λ (n : ℕ × ℕ) (v : Value). record { cycle = n.0; input = n.1; value = v }) (ap₂ (λ (x y : ℕ). (x, y)) cycle input) value
 
 all_once : (ports : Ports) (lines : List (List Word)) (ss ts : List Setting) → AllZip (Sets ports) lines ss → AllZip (Sets ports) lines ts → ss ≡ ts

@@ -1,9 +1,9 @@
 -- Where words stand: lines one behind the other, and words one behind the other in a line.
-use Rattle.std.proofs.Common.{◌≡◌, ℕ, zero, suc, ◌+◌, ◌-◌, ◌<◌, ◌≤◌, Bool, true, false, cond, List, [], ◌∷◌, length, take, drop, get_or, filter, refl, sym, ap, ◌∙◌, subst, arith, ⊎_elim, ◌⊎◌, inl, inr}
+use Rattle.std.proofs.Common.{◌≡◌, ℕ, zero, suc, ◌+◌, ◌<◌, ◌≤◌, Bool, true, false, cond, List, [], ◌∷◌, length, filter, refl, sym, ◌∙◌, subst, arith, ⊎_elim}
 use Rattle.std.specs.Prelude.{◌==◌, ⊤, slice_get, Some}
 use Rattle.place_text.specs.Places.{is_feed}
 use Rattle.stimulus.specs.Words.{Word, behind, is_blank, with_byte, on_first, in_front, lines_from, is_told, told_lines}
-use Rattle.stimulus.specs.Forms.{Form, HasForm, Breaks}
+use Rattle.stimulus.specs.Forms.{Form, Breaks}
 
 -- words of a line between two offsets
 abbrev pub Within : ℕ → ℕ → List Word → Type 0

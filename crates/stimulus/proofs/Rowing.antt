@@ -1,7 +1,7 @@
 -- Rows of values, setting by setting.
-use Rattle.std.proofs.Common.{◌≡◌, ◌≢◌, ℕ, zero, suc, ◌+◌, ◌-◌, ◌<◌, ◌≤◌, Bool, true, false, ◌&&◌, cond, eqb, leb, List, [], ◌∷◌, ◌++◌, length, take, drop, get_or, map, reverse, Some, Option, refl, sym, ap, ap₂, ◌∙◌, subst, arith, ⊎_elim, ◌⊎◌, inl, inr}
-use Rattle.std.specs.Prelude.{⊤, None, find, slice_get, slice_set, All, AllPairs}
-use Rattle.std.specs.List.{enumerate_from, range_with_len}
+use Rattle.std.proofs.Common.{◌≡◌, ◌≢◌, ℕ, zero, suc, ◌+◌, ◌-◌, ◌<◌, ◌≤◌, Bool, true, false, ◌&&◌, cond, eqb, leb, List, [], ◌∷◌, ◌++◌, length, take, drop, get_or, map, reverse, Some, refl, sym, ap, ap₂, ◌∙◌, subst, arith, ⊎_elim}
+use Rattle.std.specs.Prelude.{⊤, None, find, slice_set, All, AllPairs}
+use Rattle.std.specs.List.{enumerate_from}
 use Rattle.std.specs.Option.{option_or}
 use Rattle.std.proofs.lemmas.Bool.{cases_lt}
 use Rattle.std.proofs.lemmas.Bool.Decides.{nat_tests}
@@ -14,8 +14,7 @@ use Rattle.cycle_values.proofs.Fittings.{same_value}
 use Rattle.ground_net.specs.declared.net.Ports.{Ports}
 use Rattle.ground_net.specs.declared.net.PortLeaf.{PortLeaf}
 use Rattle.stimulus.specs.declared.stimulus.Setting.{Setting}
-use Rattle.stimulus.specs.declared.stimulus.Stimulus.{Stimulus}
-use Rattle.stimulus.specs.Stimuli.{IsOf, StandsBefore, IsFormed}
+use Rattle.stimulus.specs.Stimuli.{IsOf, StandsBefore}
 use Rattle.stimulus.specs.Rows.{zero_of, last_set, value_or, value_in, row_in, rows_from}
 use Rattle.stimulus.specs.RowSteps.{row_after}
 
@@ -101,7 +100,7 @@ and_false false = refl
 
 -- where the first settings are those at or before a cycle, they make its row
 module _ (ports : Ports) (settings : List Setting) (cycle next : ℕ) (within : next ≤ length settings) (passed : (k : ℕ) (d : Setting) → k < next → (get_or settings k d).cycle ≤ cycle)
-  (later : (k : ℕ) (d : Setting) → next ≤ k → k < length settings → cycle < (get_or settings k d).cycle) where
+    (later : (k : ℕ) (d : Setting) → next ≤ k → k < length settings → cycle < (get_or settings k d).cycle) where
   front_long : length (take next settings) ≡ next
   front_long = length-take-le next settings within
 

@@ -1,12 +1,8 @@
 -- What the words of a line say.
-use Rattle.std.proofs.Common.{◌≡◌, ℕ, ◌≤◌, ◌^◌, List, [], ◌∷◌, refl, sym, ap, ◌∙◌, subst, inl, inr}
-use Rattle.bit_words.specs.declared.number.Base.TheVariants.{Decimal}
-use Rattle.bit_words.specs.declared.number.Number.{Number}
-use Rattle.bit_words.specs.Numbers.{WritesDigits, IsNumber, Holds}
-use Rattle.stimulus.specs.declared.words.Word.{Word as Lent}
+use Rattle.std.proofs.Common.{◌≡◌, ℕ, List, [], ◌∷◌, sym, ap, ◌∙◌, subst, inr}
 use Rattle.stimulus.specs.Words.{Word, behind}
-use Rattle.stimulus.specs.Forms.{Digits, A_number, HasForm, Breaks, setting_forms, Said, Says}
-use Rattle.stimulus.specs.Reading.{line_at, shown, IsSaid, HoldsNumber}
+use Rattle.stimulus.specs.Forms.{Digits, A_number, HasForm, Breaks, setting_forms}
+use Rattle.stimulus.specs.Reading.{line_at}
 
 module _ (text : List ℕ) (cycle leaf value : Word) (first : line_at text (behind cycle) ≡ leaf ∷ line_at text (behind leaf)) (second : line_at text (behind leaf) ≡ value ∷ line_at text (behind value)) where
   -- a fourth word

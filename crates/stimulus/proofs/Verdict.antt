@@ -1,8 +1,8 @@
 -- The first fault of a stimulus, from those of its lines.
-use Rattle.std.proofs.Common.{◌≡◌, ◌≢◌, ℕ, zero, suc, ◌+◌, ◌-◌, ◌*◌, ◌<◌, ◌≤◌, Bool, true, false, List, [], ◌∷◌, ◌++◌, length, take, get_or, Some, Option, refl, sym, ap, ap₂, ◌∙◌, subst, arith, ⊎_elim, ◌⊎◌, inl, inr}
-use Rattle.std.specs.Prelude.{None, slice_get, codes}
-use Rattle.std.proofs.lemmas.Bool.{cases_lt, cases_eq}
-use Rattle.std.proofs.lemmas.List.{take_all, take-append-le, take-take}
+use Rattle.std.proofs.Common.{◌≡◌, ℕ, zero, suc, ◌+◌, ◌*◌, ◌<◌, ◌≤◌, true, List, [], ◌∷◌, length, take, Some, Option, refl, sym, ap, ◌∙◌, subst, arith, ⊎_elim, ◌⊎◌, inl, inr}
+use Rattle.std.specs.Prelude.{slice_get}
+use Rattle.std.proofs.lemmas.Bool.{cases_lt}
+use Rattle.std.proofs.lemmas.List.{take-take}
 use Rattle.place_text.specs.Places.{place}
 use Rattle.place_text.specs.declared.place.Place.{Place}
 use Rattle.fault_order.specs.Order.{ComesFirst, Precedes}
@@ -13,14 +13,14 @@ use Rattle.bit_words.specs.Numbers.{WritesDigits}
 use Rattle.bit_words.proofs.Digits.{digits_once}
 use Rattle.ground_net.specs.declared.net.Ports.{Ports}
 use Rattle.stimulus.specs.declared.fault.StimFault.{StimFault}
-use Rattle.stimulus.specs.declared.fault.StimFault.TheVariants.{BadLine, CyclesRange, TooLarge, CycleOrder, CycleRange, LeafUnknown, NotInput, LeafTwice, ValueRange}
-use Rattle.stimulus.specs.Words.{Word, behind, told_lines, is_told}
-use Rattle.stimulus.specs.Forms.{Form, The_cycles, Digits, A_leaf, A_number, HasForm, heading_forms, setting_forms, Breaks, Heads, Said, Says}
+use Rattle.stimulus.specs.declared.fault.StimFault.TheVariants.{BadLine, CyclesRange, TooLarge}
+use Rattle.stimulus.specs.Words.{Word, told_lines, is_told}
+use Rattle.stimulus.specs.Forms.{Digits, A_leaf, A_number, heading_forms, setting_forms, Breaks, Heads, Said, Says}
 use Rattle.stimulus.specs.Faults.{most_cycles, most_values, IsLineFault, cycle_order, cycle_range, leaf_unknown, not_input, leaf_twice, value_range, IsFault, no_line, bad_heading, cycles_range, too_large, bad_setting, of_line, place_of, rank_of}
 use Rattle.stimulus.specs.Reading.{HaveNoFault, IsFirstOfLine, IsFirstOfLines}
 use Rattle.stimulus.proofs.Ordering.{not_later}
 use Rattle.stimulus.proofs.Judged.{says_once}
-use Rattle.stimulus.proofs.Placing.{Within, within-le, Apart, Span, Two, span, two, breaks_within, breaks_once, told_lines-apart, told_lines-told}
+use Rattle.stimulus.proofs.Placing.{Within, Span, Two, span, two, breaks_within, breaks_once, told_lines-apart, told_lines-told}
 
 -- lines with an equal first one
 head_same : {A : Type 0} (x y : A) (xs ys : List A) → x ∷ xs ≡ y ∷ ys → (x ≡ y) × (xs ≡ ys)

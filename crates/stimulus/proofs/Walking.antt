@@ -1,9 +1,9 @@
 -- The lines from an offset on, byte by byte.
-use Rattle.std.proofs.Common.{◌≡◌, ℕ, zero, suc, ◌+◌, ◌-◌, ◌<◌, ◌≤◌, Bool, true, false, ◌&&◌, not, cond, List, [], ◌∷◌, length, take, drop, get_or, filter, refl, sym, ap, ◌∙◌, subst, arith, eq-eqb, add-one}
+use Rattle.std.proofs.Common.{◌≡◌, ℕ, ◌+◌, ◌<◌, ◌≤◌, Bool, true, false, ◌&&◌, not, cond, List, [], ◌∷◌, length, drop, get_or, filter, refl, sym, ap, ◌∙◌, subst, arith}
 use Rattle.std.specs.Prelude.{◌==◌}
 use Rattle.std.proofs.lemmas.List.{drop_all, drop_more}
 use Rattle.place_text.specs.Places.{is_feed}
-use Rattle.stimulus.specs.Words.{Word, behind, begins_with, is_blank, with_byte, on_first, in_front, lines_from, is_told}
+use Rattle.stimulus.specs.Words.{Word, is_blank, with_byte, on_first, in_front, lines_from, is_told}
 use Rattle.stimulus.specs.Reading.{ahead, first_line, told_behind, line_at, lines_after, told_at, is_ink_at}
 
 -- a test on a byte holds of that byte alone

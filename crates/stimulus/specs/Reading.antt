@@ -1,7 +1,6 @@
 -- What the functions say that go over a text, and what is known between two lines.
-use Rattle.std.specs.Prelude.{◌≡◌, ◌≢◌, ◌⊎◌, ℕ, ◌+◌, ◌-◌, ◌^◌, ◌<◌, ◌≤◌, Bool, true, false, ◌&&◌, not, if◌then◌else◌, List, [], ◌∷◌, ◌++◌, length, take, drop, filter, slice_get, slice_index, All, AllPairs, Contains, Option, Some, None, codes}
+use Rattle.std.specs.Prelude.{◌≡◌, ◌≢◌, ◌⊎◌, ℕ, ◌+◌, ◌-◌, ◌^◌, ◌<◌, ◌≤◌, Bool, true, false, ◌&&◌, not, List, [], ◌∷◌, ◌++◌, length, take, drop, filter, slice_get, slice_index, All, AllPairs, Contains, Option, Some, None, codes}
 use Rattle.std.specs.List.{AllZip}
-use denote.Ref.{Bor}
 use Rattle.place_text.specs.Places.{is_feed, place}
 use Rattle.fault_order.specs.First.{IsFirst}
 use Rattle.bit_words.specs.declared.number.Base.TheVariants.{Decimal}
@@ -16,7 +15,7 @@ use Rattle.stimulus.specs.declared.words.Word.{Word as Lent}
 use Rattle.stimulus.specs.declared.forms.Heading.{Heading}
 use Rattle.stimulus.specs.declared.forms.SettingLine.{SettingLine}
 use Rattle.stimulus.specs.Words.{Word, behind, is_blank, lines_from, is_told}
-use Rattle.stimulus.specs.Forms.{Breaks, heading_forms, setting_forms, Said, Says}
+use Rattle.stimulus.specs.Forms.{Breaks, setting_forms, Said, Says}
 use Rattle.bit_words.specs.Values.{InRange, integer_of}
 use Rattle.stimulus.specs.Faults.{IsLineFault, is_leaf, input_of, place_of, rank_of}
 use Rattle.stimulus.specs.Stimuli.{IsOf, Sets, StandsBefore}

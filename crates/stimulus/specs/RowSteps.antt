@@ -1,5 +1,5 @@
 -- The values of the inputs behind the first settings.
-use Rattle.std.specs.Prelude.{ℕ, ◌==◌, List, reverse, map, find}
+use Rattle.std.specs.Prelude.{◌==◌, List, reverse, map, find}
 use Rattle.std.specs.List.{enumerate_from}
 use Rattle.bit_words.specs.declared.value.Value.{Value}
 use Rattle.ground_net.specs.declared.net.PortLeaf.{PortLeaf}

@@ -1,6 +1,6 @@
 -- The lines of a text and their words. White space separates words: the space, the tab, and a carriage return directly before a line feed.
 -- A line ends at a line feed, or at the end of the text.
-use Rattle.std.specs.Prelude.{ℕ, ◌+◌, ◌==◌, ◌||◌, ◌&&◌, not, Bool, true, false, if◌then◌else◌, List, [], ◌∷◌, length, filter}
+use Rattle.std.specs.Prelude.{ℕ, ◌+◌, ◌==◌, ◌||◌, ◌&&◌, not, Bool, false, if◌then◌else◌, List, [], ◌∷◌, length, filter}
 use Rattle.place_text.specs.Places.{is_feed}
 
 -- a word: the offset of its first byte in the text, and its bytes

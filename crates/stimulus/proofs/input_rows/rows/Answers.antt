@@ -1,9 +1,8 @@
-use Rattle.std.proofs.Common.{◌≡◌, ℕ, ◌+◌, ◌-◌, ◌<◌, ◌≤◌, List, ◌∷◌, ◌++◌, [], length, take, get_or, map, refl, sym, ap, ◌∙◌, subst, arith, ⊎_elim}
+use Rattle.std.proofs.Common.{◌≡◌, ℕ, ◌-◌, ◌<◌, ◌≤◌, List, ◌∷◌, ◌++◌, [], length, take, get_or, map, sym, ap, ◌∙◌, arith, ⊎_elim}
 use Rattle.std.proofs.lemmas.Bool.{cases_lt}
 use Rattle.bit_words.specs.declared.value.Value.{Value}
 use Rattle.stimulus.specs.declared.stimulus.Setting.{Setting}
 use Rattle.stimulus.specs.Rows.{zero_of, rows_from, row_in}
-use Rattle.stimulus.specs.RowSteps.{row_after}
 use Rattle.stimulus.proofs.Rowing.{row_start, row_long, row_is, all_later, inputs_within, rows_more}
 use Rattle.stimulus.proofs.input_rows.rows.Goals as goal
 
@@ -38,13 +37,13 @@ loop-cycle-preserved c =
     let stops = rw c.as_slice-settings.ensures at c.set_until-next.ensures.stops in
     let row = its ports.inputs c.loop-cycle.invariant.row in
     let passed : (k : ℕ) (d : Setting) → k < next → (get_or settings k d).cycle ≤ cycle =
-      λ k d lt. ⊎_elim (λ less. c.loop-cycle.invariant.passed k d less) (λ ge. fresh k d ge lt) (cases_lt k c.loop-cycle.next) in
+    λ k d lt. ⊎_elim (λ less. c.loop-cycle.invariant.passed k d less) (λ ge. fresh k d ge lt) (cases_lt k c.loop-cycle.next) in
     let later = all_later settings cycle next c.requires.formed.pairs stops in
     let made : c.in_ok-from_slice.field-0 ≡ row_in ports settings cycle =
-      c.in_ok-from_slice.ensures ∙ c.as_slice-in-loop-cycle.ensures ∙ row ∙ sym (row_is ports settings cycle next within passed later) in
+    c.in_ok-from_slice.ensures ∙ c.as_slice-in-loop-cycle.ensures ∙ row ∙ sym (row_is ports settings cycle next within passed later) in
     record {
       rows = c.in_ok-push.ensures.ok ∙ ap (λ (r : List Value). c.loop-cycle.rows ++ r ∷ []) made ∙ ap (λ (rs : List (List Value)). rs ++ row_in ports settings cycle ∷ []) c.loop-cycle.invariant.rows
-        ∙ rows_more ports settings c.args.first cycle c.loop-cycle.auto.cycle;
+          ∙ rows_more ports settings c.args.first cycle c.loop-cycle.auto.cycle;
       row = row;
       within = within;
       passed = λ k d lt. let p = passed k d lt in omega (arith, p);

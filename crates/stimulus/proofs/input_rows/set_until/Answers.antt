@@ -1,4 +1,4 @@
-use Rattle.std.proofs.Common.{◌≡◌, ℕ, ◌≤◌, get_or, sym, ap, ◌∙◌, subst, arith, ⊎_elim}
+use Rattle.std.proofs.Common.{◌≡◌, ◌≤◌, get_or, ap, ◌∙◌, subst, arith, ⊎_elim}
 use Rattle.std.specs.Prelude.{length, slice_set}
 use Rattle.std.proofs.lemmas.Bool.{cases_lt}
 use Rattle.std.proofs.lemmas.Bool.Decides.{nat_tests}
@@ -21,9 +21,9 @@ loop-at-preserved c =
       onward = omega arith;
       within = omega arith;
       passed = λ k d ge below.
-        ⊎_elim (λ less. c.loop-at.invariant.passed k d ge less)
-        (λ le. let here : at ≡ k = omega (arith, below, le) in
+          ⊎_elim (λ less. c.loop-at.invariant.passed k d ge less)
+          (λ le. let here : at ≡ k = omega (arith, below, le) in
           let same = ap (λ (x : Setting). x.cycle) (get_or_read settings at t lt c.index-settings-at.is d) in
           subst (λ n. (get_or settings n d).cycle ≤ c.args.cycle) here (omega (arith, same, early)))
-        (cases_lt k at);
+          (cases_lt k at);
     }

@@ -1,10 +1,7 @@
-use Rattle.std.proofs.Common.{◌≡◌, ℕ, Some, refl, ap, sym, ◌∙◌, subst, arith}
+use Rattle.std.proofs.Common.{◌≡◌, Some, refl}
 use Rattle.std.specs.Prelude.{slice_get}
 use Rattle.std.proofs.lemmas.Result.{err_from_is_err_and}
 use Rattle.std.proofs.lemmas.Option.{slice_get_read}
-use Rattle.ground_net.specs.declared.net.PortLeaf.{PortLeaf}
-use Rattle.stimulus.specs.Words.{Word}
-use Rattle.stimulus.specs.Forms.{Said}
 use Rattle.stimulus.proofs.Judged.{ordered_from, cycle_first, leaf_first, value_first_of, sound_of}
 use Rattle.stimulus.proofs.judging.judge.Goals as goal
 

@@ -1,4 +1,4 @@
-use Rattle.std.proofs.Common.{◌≡◌, ℕ, ◌<◌, ◌≤◌, ap, sym, ◌∙◌, inl, inr, arith}
+use Rattle.std.proofs.Common.{ap, ◌∙◌, inr, arith}
 use Rattle.place_text.specs.Places.{place}
 use Rattle.stimulus.specs.Words.{Word}
 use Rattle.stimulus.specs.declared.fault.StimFault.TheVariants.{CycleRange}

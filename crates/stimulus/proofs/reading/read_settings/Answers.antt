@@ -1,8 +1,7 @@
-use Rattle.std.proofs.Common.{◌≡◌, ℕ, List, [], ◌∷◌, refl, sym, ap, ◌∙◌, subst, arith, inl, inr}
-use Rattle.std.specs.Prelude.{length}
+use Rattle.std.proofs.Common.{refl, inl, inr}
 use Rattle.std.proofs.lemmas.Result.{err_from_is_err_and}
-use Rattle.stimulus.specs.Words.{Word, behind}
-use Rattle.stimulus.specs.Reading.{shown, lines_after, line_at}
+use Rattle.stimulus.specs.Words.{behind}
+use Rattle.stimulus.specs.Reading.{shown, lines_after}
 use Rattle.stimulus.proofs.Judged.{ordered_from}
 use Rattle.stimulus.proofs.Going.{input_within, read_start, read_fault, read_more, read_all}
 use Rattle.stimulus.proofs.reading.read_settings.Goals as goal
@@ -12,7 +11,7 @@ lines-init c =
     let text = c.args.reading.now.bytes.now in
     record {
       read = rw (c.in_ok-progress.ensures.last, c.in_ok-progress.ensures.set_in, c.in_ok-progress.ensures.settings)
-        (read_start text c.args.reading.now.ports.now c.args.reading.now.cycles (lines_after text (behind (shown c.args.word))) (behind (shown c.args.word)) c.len.result refl c.requires.last c.len.ensures);
+          (read_start text c.args.reading.now.ports.now c.args.reading.now.cycles (lines_after text (behind (shown c.args.word))) (behind (shown c.args.word)) c.len.result refl c.requires.last c.len.ensures);
       within = c.requires.within;
     }
 
@@ -51,8 +50,8 @@ lines-preserved c =
     let sound = c.in_ok-setting.ensures read.done said.0 said.1 read.sets in
     record {
       read = rw (c.in_ok-note.ensures.last, c.in_ok-note.ensures.set_in, c.in_ok-note.ensures.settings)
-        (read_more text c.args.reading.now.ports.now c.args.reading.now.cycles _ c.lines.at p.last p.set_in p.settings read _ _ (behind (shown c.in-Ok.line.value_word)) said.0 c.in_ok-setting.setting next.lines c.in-Ok.ensures.same c.in-Ok.ensures.after said.2
-        (ordered_from text c.in-Ok.line said.0 said.1 c.in-Ok.ensures.inside) sound);
+          (read_more text c.args.reading.now.ports.now c.args.reading.now.cycles _ c.lines.at p.last p.set_in p.settings read _ _ (behind (shown c.in-Ok.line.value_word)) said.0 c.in_ok-setting.setting next.lines c.in-Ok.ensures.same c.in-Ok.ensures.after said.2
+          (ordered_from text c.in-Ok.line said.0 said.1 c.in-Ok.ensures.inside) sound);
       within = c.in-Ok.ensures.inside.within;
     }
 

@@ -1,4 +1,4 @@
-use Rattle.std.proofs.Common.{◌≡◌, ◌-◌, ◌≤◌, length}
+use Rattle.std.proofs.Common.{◌-◌, ◌≤◌, length}
 use Rattle.stimulus.specs.Words.{behind}
 use Rattle.stimulus.specs.Reading.{lines_after, shown, IsReadTo}
 use Rattle.stimulus.proofs.reading.read_settings.Given as goal

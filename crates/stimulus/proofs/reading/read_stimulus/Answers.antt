@@ -1,14 +1,9 @@
-use Rattle.std.proofs.Common.{◌≡◌, ℕ, ◌+◌, ◌*◌, ◌<◌, ◌≤◌, List, [], ◌∷◌, length, Err, refl, sym, ap, ◌∙◌, subst, arith, inl, inr, ⊎_elim, ◌⊎◌}
+use Rattle.std.proofs.Common.{sym, ap, ◌∙◌, subst, ⊎_elim}
 use Rattle.std.proofs.lemmas.Result.{err_from_is_err_and}
-use Rattle.place_text.specs.Places.{place}
 use Rattle.fault_order.specs.First.{IsFirst}
-use Rattle.fault_order.specs.Verdicts.{IsVerdict}
 use Rattle.fault_order.proofs.Verdicts.{passes, refuses_by, wants_memory}
-use Rattle.stimulus.specs.declared.fault.StimFault.{StimFault}
-use Rattle.stimulus.specs.declared.fault.StimFault.TheVariants.{CyclesRange, TooLarge, NoMemory}
-use Rattle.stimulus.specs.Words.{Word, behind}
-use Rattle.stimulus.specs.Faults.{IsFault, place_of, rank_of, most_cycles, most_values}
-use Rattle.stimulus.specs.Stimuli.{IsStimulus}
+use Rattle.stimulus.specs.Words.{behind}
+use Rattle.stimulus.specs.Faults.{IsFault, place_of, rank_of}
 use Rattle.stimulus.specs.Ranks.{one_each}
 use Rattle.stimulus.specs.Forms.{Heads}
 use Rattle.stimulus.specs.Reading.{shown, lines_after, HaveNoFault, IsFirstOfLines}
@@ -40,10 +35,10 @@ returns-in_err-cycles-clause-verdict c =
     let at = c.in-Ok.heading.number.at in
     let fault = c.in_err-cycles.field-0.0 in
     let first : IsFirst place_of rank_of (IsFault text ports c.args.watched) fault =
-      ⊎_elim
-      (λ a. subst (IsFirst place_of rank_of (IsFault text ports c.args.watched)) (sym a.0) (cycles_range_first text ports c.args.watched (shown c.in-Ok.heading.number) h.cycles _ heads a.1))
-      (λ a. subst (IsFirst place_of rank_of (IsFault text ports c.args.watched)) (sym a.0) (too_large_first text ports c.args.watched (shown c.in-Ok.heading.number) h.cycles _ heads a.1 (rw (← c.len.ensures, ← c.from.ensures) a.2)))
-      (c.in_err-cycles.ensures h.cycles h.holds) in
+    ⊎_elim
+    (λ a. subst (IsFirst place_of rank_of (IsFault text ports c.args.watched)) (sym a.0) (cycles_range_first text ports c.args.watched (shown c.in-Ok.heading.number) h.cycles _ heads a.1))
+    (λ a. subst (IsFirst place_of rank_of (IsFault text ports c.args.watched)) (sym a.0) (too_large_first text ports c.args.watched (shown c.in-Ok.heading.number) h.cycles _ heads a.1 (rw (← c.len.ensures, ← c.from.ensures) a.2)))
+    (c.in_err-cycles.ensures h.cycles h.holds) in
     rw (q.1, q.2) (refuses_by one_each fault first)
 
 pub returns-in_err-settings-clause-verdict : goal.returns-in_err-settings-clause-verdict
@@ -58,8 +53,8 @@ returns-in_err-settings-clause-verdict c =
     rw (q.1, q.2)
     (⊎_elim (λ e. wants_memory fault (ap place_of e))
     (λ f. refuses_by one_each fault
-      (lines_first text ports c.args.watched (shown c.in-Ok.heading.number) h.cycles _ heads cycles.1 (rw (← c.len.ensures, ← c.from.ensures) cycles.2) fault
-      (subst (λ n. IsFirstOfLines text ports n (lines_after text (behind (shown c.in-Ok.heading.number))) fault) cycles.0 f)))
+    (lines_first text ports c.args.watched (shown c.in-Ok.heading.number) h.cycles _ heads cycles.1 (rw (← c.len.ensures, ← c.from.ensures) cycles.2) fault
+    (subst (λ n. IsFirstOfLines text ports n (lines_after text (behind (shown c.in-Ok.heading.number))) fault) cycles.0 f)))
     c.in_err-settings.ensures.err)
 
 pub returns-clause-verdict : goal.returns-clause-verdict

@@ -1,4 +1,4 @@
-use Rattle.std.proofs.Common.{◌≡◌, ◌≢◌, false, ◌∙◌, sym, arith, get_or}
+use Rattle.std.proofs.Common.{◌≡◌, false, ◌∙◌, sym, arith, get_or}
 use Rattle.place_text.specs.Places.{is_feed}
 use Rattle.stimulus.proofs.Walking.{feed_step, other_step, told_at_end, lines_after_end}
 use Rattle.stimulus.proofs.words.behind_line.Goals as goal

@@ -1,5 +1,5 @@
 use Rattle.std.proofs.Common.{◌≡◌, true, false, not, sym, ap, ap₂, ◌∙◌, ◌∷◌, arith}
-use Rattle.stimulus.specs.Words.{begins_with, is_told}
+use Rattle.stimulus.specs.Words.{is_told}
 use Rattle.stimulus.specs.Reading.{line_at}
 use Rattle.stimulus.proofs.Walking.{told_some, told_none, told_at_end}
 use Rattle.stimulus.proofs.words.next_line.Goals as goal
