@@ -1,4 +1,4 @@
-use Rattle.std.proofs.Common.{◌≡◌, ℕ, List, ◌∷◌, ◌++◌, [], true, refl, sym, ap, ◌∙◌, get_or}
+use Rattle.std.proofs.Common.{◌≡◌, ℕ, List, ◌∷◌, ◌++◌, [], true, refl, ap, ◌∙◌, get_or}
 use Rattle.std.specs.Prelude.{not, cond}
 use Rattle.std.specs.Borrow.{MutBor}
 use Rattle.std.specs.Result.{is_ok}

@@ -1,5 +1,4 @@
-use Rattle.std.proofs.Common.{◌≡◌, ℕ, ◌+◌, ◌≤◌, sym, ap, ◌∙◌, subst, arith}
-use Rattle.std.specs.BinaryHeap.{heap_items, heap_capacity}
+use Rattle.std.proofs.Common.{◌≡◌, ◌+◌, sym, ap, ◌∙◌, subst, arith}
 use Rattle.word_pool.specs.Pools.{Pool, IsFull, Takes}
 use Rattle.word_pool.specs.Holding.{pool_of}
 use Rattle.word_pool.proofs.Freed.{kept_again, takes_again, freed_not_full, full_is, not_full, takes_next, empty_heap}
