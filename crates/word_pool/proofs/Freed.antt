@@ -1,6 +1,6 @@
 -- Slots and the numbers given back.
 use Rattle.std.proofs.Common.{◌≡◌, ◌≢◌, ℕ, zero, suc, ◌+◌, ◌<◌, ◌≤◌, Bool, true, false, ◌&&◌, ◌||◌, not, cond, eqb, ltb, leb, List, [], ◌∷◌, length, filter, refl, sym, ap, ap₂, ◌∙◌, subst, arith, ⊎_elim, ◌⊎◌, inl, inr}
-use Rattle.std.specs.Prelude.{All, map, Result, Ok, Err, OnOk}
+use Rattle.std.specs.Prelude.{All, AllPairs, map, Result, Ok, Err, OnOk}
 use Rattle.std.specs.Result.{is_err}
 use Rattle.std.specs.List.{list_any, range_with_len, AllByRecursion, IsDistinct}
 use Rattle.std.specs.List.Sorted.{IsPermutation}
@@ -12,7 +12,8 @@ use Rattle.std.specs.BinaryHeap.{heap_items, heap_len, heap_capacity, IsHeap, Is
 use Rattle.std.proofs.lemmas.Bool.{cases_eq, cases_lt}
 use Rattle.std.proofs.lemmas.Bool.Decides.{nat_tests}
 use Rattle.std.proofs.lemmas.List.{length-map}
-use Rattle.std.proofs.lemmas.List.FromFn.{length-range_with_len}
+use Rattle.std.proofs.lemmas.List.FromFn.{length-range_with_len, get_or-range_with_len}
+use Rattle.std.proofs.lemmas.List.Kept.{AllPairs-filter}
 use Rattle.std.proofs.lemmas.List.Elements.{All-cons, All-tail}
 use Rattle.std.proofs.lemmas.List.Sorted.{sum_by_pushed, sum_by_popped, All-permutation, IsPermutation-refl}
 use Rattle.std.proofs.lemmas.Map.Steps.{length-le_from_distinct_below}
@@ -338,3 +339,14 @@ empty_heap heap e = by (heap_items heap) (sym heap.data.ok.0 ∙ e)
     by : (xs : List (Reverse ℕ)) → length xs ≡ 0 → xs ≡ []
     by [] h = refl
     by (x ∷ xs) h = absurd (omega (arith, h))
+
+-- the live numbers ascend
+pub live_ascends : (next : ℕ) (freed : List (Reverse ℕ)) → AllPairs (λ x y. x < y) (live_of next freed)
+live_ascends next freed = AllPairs-filter (λ x y. x < y) (λ k. eqb (times_freed freed k) 0) (range_with_len 0 next) rises
+  where
+    rises : AllPairs (λ x y. x < y) (range_with_len 0 next)
+    rises i j d lt within =
+        let n = length-range_with_len 0 next in
+        let a = get_or-range_with_len 0 next i d (omega (arith, lt, within, n)) in
+        let b = get_or-range_with_len 0 next j d (omega (arith, within, n)) in
+        omega (arith, a, b, lt)

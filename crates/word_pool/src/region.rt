@@ -27,11 +27,7 @@ impl Region {
     /// Frames of these lengths, cut from the front of the block in order, so that no word is in two.
     ///
     /// `Full` with the number of the block's words exactly where the lengths add up to more.
-    pub fn frames<'a>(
-        &'a mut self,
-        alloc: Global,
-        lengths: &[usize],
-    ) -> Result<Vec<&'a mut [u64]>, PoolFault>
+    pub fn frames(&mut self, lengths: &[usize]) -> Result<Vec<&mut [u64]>, PoolFault>
         ensures lengths { IfOk result (λ frames. map (λ frame. length frame.now) frames.items ≡ lengths.now) }
         ensures words { IfOk result (λ frames. flat_map (λ frame. frame.now) frames.items ≡ take (sum lengths.now) (words_of self.old)) }
         ensures fits { OnOk result (sum lengths.now ≤ length (words_of self.old)) }
@@ -42,7 +38,7 @@ impl Region {
         if !fit(words, lengths) {
             return Err(PoolFault::Full(words as u64));
         }
-        let mut frames = Vec::new(alloc);
+        let mut frames = Vec::new(*self.words.allocator());
         let mut rest = self.words.as_mut_slice();
         for length in lengths {
             let (frame, behind) = rest.split_at_mut(*length);

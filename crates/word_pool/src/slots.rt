@@ -1,6 +1,6 @@
 //! Slots.
 
-ghost use Rattle.std.specs.Prelude.{◌≡◌, ◌≢◌, ℕ, ◌+◌, ◌<◌, ◌≤◌, ◌&&◌, ◌==◌, not, true, [], IfOk, IfErr, OnOk, OnErr, Err};
+ghost use Rattle.std.specs.Prelude.{◌≡◌, ◌≢◌, ℕ, ◌+◌, ◌<◌, ◌≤◌, ◌&&◌, ◌==◌, not, true, [], length, AllPairs, IfOk, OnOk, OnErr, Err};
 ghost use Rattle.word_pool.specs.declared.fault.PoolFault.TheVariants.{Full, NoMemory as No_memory};
 ghost use Rattle.word_pool.specs.Pools.{is_live, Takes, IsFull, Keeps};
 
@@ -84,7 +84,10 @@ impl Slots {
 
     /// The greatest number of slots that were live at once since `new`. Takes no memory.
     pub fn high(&self) -> u32
-        ensures { result ≡ self.now.high }
+        ensures value { result ≡ self.now.high }
+        ensures most { length self.now.live ≤ result }
+        // the live numbers ascend, and so are counted once each
+        ensures ascending { AllPairs (λ x y. x < y) self.now.live }
     {
         self.next
     }
