@@ -1,0 +1,7 @@
+-- what a reader must believe
+pub mod Instances
+pub mod FlatOrder
+pub mod Numbers
+pub mod Flat
+-- what the bodies keep, and what proofs need
+pub mod Plans
