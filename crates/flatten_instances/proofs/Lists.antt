@@ -1,5 +1,5 @@
 -- Lists, place by place.
-use Rattle.std.proofs.Common.{◌≡◌, ℕ, zero, suc, ◌+◌, ◌<◌, ◌≤◌, ◌⊎◌, List, [], ◌∷◌, ◌++◌, length, refl, sym, ap, ◌∙◌, subst, arith, inl, inr, ⊎_elim, Some, None, slice_get, length-append}
+use Rattle.std.proofs.Common.{◌≡◌, ℕ, zero, suc, ◌+◌, ◌<◌, ◌≤◌, ◌⊎◌, List, [], ◌∷◌, ◌++◌, length, refl, sym, ap, ◌∙◌, subst, arith, inl, inr, ⊎_elim, Option, Some, None, slice_get, length-append, append_assoc}
 use Rattle.std.specs.Prelude.{IsSome}
 use Rattle.std.specs.List.{range_with_len}
 use Rattle.std.proofs.lemmas.Option.{slice_get_within, slice_get_past}
@@ -10,6 +10,10 @@ some_same e = cc
 
 pub is_some_by : {A : Type 0} {o : _} {x : A} → o ≡ Some x → IsSome o
 is_some_by {A} {o} {x} e = subst (λ o. IsSome o) (sym e) refl
+
+pub some_by : {A : Type 0} (o : Option A) → IsSome o → (x : A) × (o ≡ Some x)
+some_by None h = cc
+some_by (Some x) h = (x, refl)
 
 pub get_left : {A : Type 0} (xs ys : List A) (k : ℕ) (x : A) → slice_get xs k ≡ Some x → slice_get (xs ++ ys) k ≡ Some x
 get_left [] ys k x e = cc
@@ -86,3 +90,18 @@ pub partner_of : {A B : Type 0} (R : A → B → Type 0) (xs : List A) (ys : Lis
 partner_of R xs ys k x h e =
     let there = get_there ys k (omega (arith, slice_get_within xs k x e, h.counted)) in
     (there.0, there.1, h.each k x there.0 e there.1)
+
+range_suc : (a n : ℕ) → range_with_len a (suc n) ≡ range_with_len a n ++ (a + n) ∷ []
+range_suc a zero = let e : a ≡ a + 0 = omega arith in ap (λ x. x ∷ []) e
+range_suc a (suc n) =
+    let e : a + 1 + n ≡ a + suc n = omega arith in
+    ap (λ xs. a ∷ xs) (range_suc (a + 1) n ∙ ap (λ x. range_with_len (a + 1) n ++ x ∷ []) e)
+
+pub range_more : (a n : ℕ) → range_with_len a (n + 1) ≡ range_with_len a n ++ (a + n) ∷ []
+range_more a n = let e : n + 1 ≡ suc n = omega arith in ap (range_with_len a) e ∙ range_suc a n
+
+-- one number more of a range
+pub range_pushed : (old now new : List ℕ) (a n number : ℕ) → now ≡ old ++ range_with_len a n → new ≡ now ++ number ∷ [] → number ≡ a + n → new ≡ old ++ range_with_len a (n + 1)
+range_pushed old now new a n number is pushed e =
+    pushed ∙ (ap (λ l. l ++ number ∷ []) is ∙ (append_assoc old (range_with_len a n) (number ∷ [])
+    ∙ (ap (λ x. old ++ (range_with_len a n ++ x ∷ [])) e ∙ ap (λ l. old ++ l) (sym (range_more a n)))))

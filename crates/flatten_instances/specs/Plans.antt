@@ -125,6 +125,11 @@ pub record IsGoing (driven : DrivenCircuit) (m : DrivenModule) (w : Walk) (plan 
   pub counted : length plan.tables ≡ length plan.levels
   pub level : w.level < length plan.levels
 
+-- there are more levels, and a table for each of them
+pub record IsLonger (old new : Plan) : Type 0 where
+  pub counted : length new.tables ≡ length new.levels
+  pub more : length old.levels < length new.levels
+
 -- the instance and the memory that stand next
 abbrev pub instance_next : DrivenModule → Walk → Option GroundInstance
 instance_next m w = instance_here m (length w.numbers) w.memory w.instance

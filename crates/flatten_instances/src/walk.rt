@@ -4,7 +4,7 @@ ghost use Rattle.std.specs.Prelude.{◌≡◌, ℕ, ◌<◌, [], ◌∷◌, ◌+
 ghost use Rattle.std.specs.List.{range_with_len};
 ghost use Rattle.flatten_instances.specs.declared.plan.Level.{Level as ALevel};
 ghost use Rattle.flatten_instances.specs.Instances.{HasInstances};
-ghost use Rattle.flatten_instances.specs.Plans.{IsSound, Begins, IsLevel, Visits, GoesOn, IsGoing, SameWalk, IsPlan, left_of, instance_next, memory_next};
+ghost use Rattle.flatten_instances.specs.Plans.{IsSound, Begins, IsLevel, Visits, GoesOn, IsGoing, IsLonger, SameWalk, IsPlan, left_of, instance_next, memory_next};
 
 use crate::plan::{Holder, Level, MemorySite, Plan, Site, joined_text, module_of, number_of};
 use bit_words::List;
@@ -55,7 +55,8 @@ fn visit(
 ) -> Result<(), AllocError>
     requires sound { IsSound driven.now level.module left }
     requires counted { length plan.old.tables ≡ length plan.old.levels }
-    ensures { OnOk result ((path : Listed ℕ) → Begins driven.now plan.old.levels path level → Visits driven.now path level plan.old plan.new) }
+    ensures on { OnOk result ((path : Listed ℕ) → Begins driven.now plan.old.levels path level → Visits driven.now path level plan.old plan.new) }
+    ensures kept { OnOk result (IsLonger plan.old plan.new) }
 {
     let owner = module_of(driven, level.module);
     let mut walk = Walk {
