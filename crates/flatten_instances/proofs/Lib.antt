@@ -4,3 +4,6 @@ pub mod Going
 pub mod Walking
 pub mod Steps
 pub mod Visiting
+pub mod Sites
+pub mod RegisterTables
+pub mod Flattening

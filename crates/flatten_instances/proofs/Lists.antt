@@ -1,8 +1,9 @@
 -- Lists, place by place.
-use Rattle.std.proofs.Common.{◌≡◌, ℕ, zero, suc, ◌+◌, ◌<◌, ◌≤◌, ◌⊎◌, List, [], ◌∷◌, ◌++◌, length, refl, sym, ap, ◌∙◌, subst, arith, inl, inr, ⊎_elim, Option, Some, None, slice_get, length-append, append_assoc}
+use Rattle.std.proofs.Common.{◌≡◌, ℕ, zero, suc, ◌+◌, ◌<◌, ◌≤◌, ◌⊎◌, List, [], ◌∷◌, ◌++◌, length, refl, sym, ap, ◌∙◌, subst, arith, inl, inr, ⊎_elim, Option, Some, None, slice_get, get_or, take, length-append, append_assoc}
 use Rattle.std.specs.Prelude.{IsSome}
 use Rattle.std.specs.List.{range_with_len}
-use Rattle.std.proofs.lemmas.Option.{slice_get_within, slice_get_past}
+use Rattle.std.proofs.lemmas.Option.{slice_get_within, slice_get_read, slice_get-get_or}
+use Rattle.std.proofs.lemmas.List.{take_more}
 use Rattle.flatten_instances.specs.Flat.{OneByOne}
 
 pub some_same : {A : Type 0} {x y : A} → Some x ≡ Some y → x ≡ y
@@ -105,3 +106,21 @@ pub range_pushed : (old now new : List ℕ) (a n number : ℕ) → now ≡ old +
 range_pushed old now new a n number is pushed e =
     pushed ∙ (ap (λ l. l ++ number ∷ []) is ∙ (append_assoc old (range_with_len a n) (number ∷ [])
     ∙ (ap (λ x. old ++ (range_with_len a n ++ x ∷ [])) e ∙ ap (λ l. old ++ l) (sym (range_more a n)))))
+
+-- Loops over the items of a list
+
+pub item_there : {A : Type 0} (items xs : List A) (i : ℕ) (d : A) → items ≡ xs → i < length items → slice_get xs i ≡ Some (get_or items i d)
+item_there items xs i d same lt = ap (λ l. slice_get l i) (sym same) ∙ slice_get-get_or items i d lt
+
+pub item_read : {A : Type 0} (items xs : List A) (i : ℕ) (x : A) → items ≡ xs → i < length xs → x ≡ get_or items i x → slice_get xs i ≡ Some x
+item_read items xs i x same lt is = slice_get_read xs (length xs) i x refl lt (is ∙ ap (λ l. get_or l i x) same)
+
+pub one_more : {A B : Type 0} (R : A → B → Type 0) (items xs : List A) (i : ℕ) (d : A) (ys new : List B) (y : B) → items ≡ xs → i < length items → OneByOne R (take i xs) ys → new ≡ ys ++ y ∷ []
+    → R (get_or items i d) y → OneByOne R (take (i + 1) xs) new
+one_more R items xs i d ys new y same lt h grown r =
+    subst (λ l. OneByOne R (take (i + 1) l) new) same (subst (OneByOne R (take (i + 1) items)) (sym grown) (subst (λ l. OneByOne R l (ys ++ y ∷ [])) (sym (take_more items i d lt))
+    (both_by_both R (take i items) (get_or items i d ∷ []) ys (y ∷ []) (subst (λ l. OneByOne R (take i l) ys) (sym same) h) (one_by_one R (get_or items i d) y r))))
+
+pub one_more_read : {A B : Type 0} (R : A → B → Type 0) (items xs : List A) (i : ℕ) (x : A) (ys new : List B) (y : B) → items ≡ xs → i < length items → x ≡ get_or items i x → OneByOne R (take i xs) ys
+    → new ≡ ys ++ y ∷ [] → R x y → OneByOne R (take (i + 1) xs) new
+one_more_read R items xs i x ys new y same lt is h grown r = one_more R items xs i x ys new y same lt h grown (subst (λ z. R z y) is r)

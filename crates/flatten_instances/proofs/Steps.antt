@@ -160,12 +160,12 @@ sound_module {driven} (sound {left = left} m found turn below) = record {
 -- A visit ends
 
 -- reading what was set
-get_set_same : {A : Type 0} (xs : List A) (k : ℕ) (x : A) → k < length xs → slice_get (set xs k x) k ≡ Some x
+pub get_set_same : {A : Type 0} (xs : List A) (k : ℕ) (x : A) → k < length xs → slice_get (set xs k x) k ≡ Some x
 get_set_same [] k x lt = absurd (omega arith)
 get_set_same (y ∷ ys) zero x lt = refl
 get_set_same (y ∷ ys) (suc k) x lt = get_set_same ys k x (omega arith)
 
-get_set_other : {A : Type 0} (xs : List A) (k j : ℕ) (x : A) → j ≢ k → slice_get (set xs k x) j ≡ slice_get xs j
+pub get_set_other : {A : Type 0} (xs : List A) (k j : ℕ) (x : A) → j ≢ k → slice_get (set xs k x) j ≡ slice_get xs j
 get_set_other [] k j x ne = refl
 get_set_other (y ∷ ys) zero zero x ne = absurd (ne refl)
 get_set_other (y ∷ ys) zero (suc j) x ne = refl

@@ -1,10 +1,15 @@
 -- The walk along the instances: the levels that it goes through, and where the items stand.
-use Rattle.std.specs.Prelude.{◌≡◌, ℕ, suc, ◌+◌, ◌-◌, ◌<◌, ◌≤◌, List, [], ◌∷◌, ◌++◌, length, slice_get, Option, Some, None}
+use Rattle.std.specs.Prelude.{◌≡◌, ℕ, suc, ◌+◌, ◌-◌, ◌<◌, ◌≤◌, ◌==◌, true, false, List, [], ◌∷◌, ◌++◌, filter, take, length, slice_get, Option, Some, None, IsSome}
+use Rattle.std.specs.List.{list_any}
 use Rattle.ground_net.specs.declared.circuit.DrivenCircuit.{DrivenCircuit}
 use Rattle.ground_net.specs.declared.circuit.DrivenModule.{DrivenModule}
 use Rattle.ground_net.specs.declared.circuit.GroundInstance.{GroundInstance}
 use Rattle.ground_net.specs.declared.circuit.GroundLeaf.{GroundLeaf}
 use Rattle.ground_net.specs.declared.circuit.GroundMemory.{GroundMemory}
+use Rattle.ground_net.specs.declared.circuit.GroundRole.{GroundRole}
+use Rattle.ground_net.specs.declared.circuit.GroundRole.TheVariants.{Input, Plain}
+use Rattle.ground_net.specs.declared.ground.Ground.{Ground}
+use Rattle.ground_net.specs.declared.net.NetRegister.{NetRegister}
 use Rattle.flatten_instances.specs.declared.plan.Level.{Level}
 use Rattle.flatten_instances.specs.declared.plan.Holder.{Holder}
 use Rattle.flatten_instances.specs.declared.plan.Site.{Site}
@@ -13,8 +18,8 @@ use Rattle.flatten_instances.specs.declared.plan.Plan.{Plan}
 use Rattle.flatten_instances.specs.declared.walk.Walk.{Walk}
 use Rattle.flatten_instances.specs.Instances.{IsInTurn}
 use Rattle.flatten_instances.specs.FlatOrder.{Spot, Item, InFlatOrder, leaf_spots, memories_from, instance_here, memory_here}
-use Rattle.flatten_instances.specs.Numbers.{StandsAt}
-use Rattle.flatten_instances.specs.Flat.{OneByOne, IsLeafAt}
+use Rattle.flatten_instances.specs.Numbers.{StandsAt, driver_in, driver_with}
+use Rattle.flatten_instances.specs.Flat.{OneByOne, IsLeafAt, IsFlatLeaf, IsFlatDriver, IsFlatMemory, IsFlatRegister, is_register_at}
 
 -- A module whose instances lead at most so many levels down, all in turn.
 pub data IsSound (driven : DrivenCircuit) : ℕ → ℕ → Type 0 where
@@ -151,3 +156,73 @@ pub record IsPlan (driven : DrivenCircuit) (plan : Plan) : Type 0 where
   pub memory_sites : OneByOne (IsMemorySite driven plan.levels) (memories_from 0 items) plan.memories
   pub counted : length plan.tables ≡ length plan.levels
   pub tables : (q : ℕ) (table : List ℕ) → slice_get plan.tables q ≡ Some table → IsTable driven plan.levels plan.leaves q table
+
+-- What is made of the sites
+
+-- a leaf, a driver and a memory of a site are those of the spot that it stands for
+abbrev pub LeafAtSite : DrivenCircuit → Plan → Site → GroundLeaf → Type 0
+LeafAtSite driven plan site leaf = (s : Spot) → IsLeafSite driven plan.levels s site → IsFlatLeaf driven s leaf
+
+abbrev pub DriverAtSite : DrivenCircuit → Plan → Site → Option Ground → Type 0
+DriverAtSite driven plan site driver =
+    (spots : List Spot) (s : Spot) → OneByOne (IsLeafSite driven plan.levels) spots plan.leaves → IsLeafSite driven plan.levels s site → IsFlatDriver driven spots s driver
+
+abbrev pub MemoryAtSite : DrivenCircuit → Plan → MemorySite → GroundMemory → Type 0
+MemoryAtSite driven plan site memory =
+    (spots : List Spot) (both : ℕ × Spot) → OneByOne (IsLeafSite driven plan.levels) spots plan.leaves → IsMemorySite driven plan.levels both site → IsFlatMemory driven spots both memory
+
+-- some spot is that of the site
+abbrev pub SomeLeaf : DrivenCircuit → Plan → Site → Type 0
+SomeLeaf driven plan site = (s : Spot) × IsLeafSite driven plan.levels s site
+
+abbrev pub SomeMemory : DrivenCircuit → Plan → MemorySite → Type 0
+SomeMemory driven plan site = (both : ℕ × Spot) × IsMemorySite driven plan.levels both site
+
+-- only main's inputs stay inputs
+abbrev pub role_under : Option Holder → GroundRole → GroundRole
+role_under (Some holder) Input = Plain
+role_under _ role = role
+
+-- the driver that a holder gives to an input of an instance
+abbrev pub HeldDriver : DrivenCircuit → Plan → Option Holder → ℕ → Option Ground → Type 0
+HeldDriver driven plan None y driver = driver ≡ None
+HeldDriver driven plan (Some holder) y driver =
+    (outer : Level) (m : DrivenModule) (table : List ℕ) → slice_get plan.levels holder.level ≡ Some outer → slice_get driven.modules outer.module ≡ Some m
+    → slice_get plan.tables holder.level ≡ Some table → driver ≡ driver_with table (driver_in m (holder.first + y))
+
+-- a holder's level and module are there
+abbrev pub HasHolder : DrivenCircuit → Plan → Option Holder → Type 0
+HasHolder driven plan None = Unit {0}
+HasHolder driven plan (Some holder) = (outer : Level) × (slice_get plan.levels holder.level ≡ Some outer) × IsSome (slice_get driven.modules outer.module)
+
+-- For each leaf a table has the place of a register of it, among the first registers of a list.
+pub record IsRegisterTable (registers : List NetRegister) (count : ℕ) (table : List (Option ℕ)) : Type 0 where
+  pub has : (y r : ℕ) → slice_get table y ≡ Some (Some r) → (register : NetRegister) × (slice_get registers r ≡ Some register) × (register.leaf ≡ y)
+  pub any : (y r : ℕ) → slice_get table y ≡ Some (Some r) → list_any (λ register. register.leaf == y) (take count registers) ≡ true
+  pub none : (y : ℕ) → slice_get table y ≡ Some None → list_any (λ register. register.leaf == y) (take count registers) ≡ false
+
+-- all registers of a module
+pub record HasRegisters (m : DrivenModule) (table : List (Option ℕ)) : Type 0 where
+  pub counted : length table ≡ length m.leaves
+  pub is : IsRegisterTable m.registers (length m.registers) table
+
+-- a register of the leaf at a spot, or none
+pub record HasRegister (driven : DrivenCircuit) (s : Spot) (register : NetRegister) : Type 0 where
+  pub any : is_register_at driven s ≡ true
+  pub m : DrivenModule
+  pub found : slice_get driven.modules s.within ≡ Some m
+  pub r : ℕ
+  pub there : slice_get m.registers r ≡ Some register
+  pub leaf : register.leaf ≡ s.number
+
+abbrev pub Registered : DrivenCircuit → Spot → Option NetRegister → Type 0
+Registered driven s (Some register) = HasRegister driven s register
+Registered driven s None = is_register_at driven s ≡ false
+
+abbrev pub RegisteredAtSite : DrivenCircuit → Plan → Site → Option NetRegister → Type 0
+RegisteredAtSite driven plan site register = (s : Spot) → IsLeafSite driven plan.levels s site → Registered driven s register
+
+-- the registers of the first sites
+abbrev pub RegistersOf : DrivenCircuit → Plan → ℕ → List NetRegister → Type 0
+RegistersOf driven plan count registers =
+    (spots : List Spot) → OneByOne (IsLeafSite driven plan.levels) spots plan.leaves → OneByOne (IsFlatRegister driven spots) (filter (is_register_at driven) (take count spots)) registers

@@ -3,5 +3,12 @@
 //! instance's holder, with the flat numbers of the leaves that the module sees.
 #![tactic(auto)]
 
+mod circuit;
+mod drivers;
+mod leaves;
+mod memories;
 mod plan;
+mod registers;
 mod walk;
+
+pub use circuit::flatten;

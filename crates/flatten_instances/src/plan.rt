@@ -1,6 +1,6 @@
 //! Where the leaves and memories of a run stand, in flat order.
 
-ghost use Rattle.std.specs.Prelude.{◌≡◌, [], ◌∷◌, ◌++◌, slice_get, Some, IsSome, IfOk, if◌then◌else◌};
+ghost use Rattle.std.specs.Prelude.{◌≡◌, [], ◌∷◌, ◌++◌, slice_get, slice_index, Some, IsSome, IfOk, if◌then◌else◌};
 
 use bit_words::{List, Text};
 use ground_net::{DrivenCircuit, DrivenModule};
@@ -82,4 +82,30 @@ pub fn joined_text(
         text.push(b'.')?;
     }
     Ok(List::from_vec(text))
+}
+
+/// The level of a number.
+pub fn level_of(plan: &Plan, number: u32) -> &Level
+    requires { IsSome (slice_get plan.now.levels number) }
+    ensures { slice_get plan.now.levels number ≡ Some result.now }
+{
+    &plan.levels.as_slice()[number as usize]
+}
+
+/// The flat numbers of the leaves of a level's module.
+pub fn table_of(plan: &Plan, number: u32) -> &[u32]
+    requires { IsSome (slice_get plan.now.tables number) }
+    ensures { slice_get plan.now.tables number ≡ Some result.now }
+{
+    plan.tables.as_slice()[number as usize].as_slice()
+}
+
+/// The flat number of a leaf; a leaf without one gets the number 0.
+pub fn flat_number(numbers: &[u32], leaf: u32) -> u32
+    ensures { result ≡ slice_index numbers.now leaf }
+{
+    match numbers.get(leaf as usize) {
+        Some(number) => *number,
+        None => 0,
+    }
 }
