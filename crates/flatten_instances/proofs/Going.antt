@@ -42,7 +42,13 @@ module _ (driven : DrivenCircuit) (levels levels' more : List Level) (grown : le
 
   pub memory_site_on : (both : ℕ × Spot) (site : MemorySite) → IsMemorySite driven levels both site → IsMemorySite driven levels' both site
   memory_site_on both site h = record {
-    level = level_on site.level both.1.path both.1.within h.level; number = h.number; before = h.before; m = h.m; found = h.found; memory = h.memory; there = h.there;
+    level = level_on site.level both.1.path both.1.within h.level;
+    number = h.number;
+    before = h.before;
+    m = h.m;
+    found = h.found;
+    memory = h.memory;
+    there = h.there;
   }
 
   module _ (leaves leaves' more_leaves : List Site) (longer : leaves' ≡ leaves ++ more_leaves) where
@@ -58,16 +64,26 @@ module _ (driven : DrivenCircuit) (levels levels' more : List Level) (grown : le
 
     pub table_on : (q : ℕ) (table : List ℕ) → IsTable driven levels leaves q table → IsTable driven levels' leaves' q table
     table_on q table h = record {
-      path = h.path; n = h.n; level = level_on q h.path h.n h.level; m = h.m; found = h.found; counted = h.counted;
+      path = h.path;
+      n = h.n;
+      level = level_on q h.path h.n h.level;
+      m = h.m;
+      found = h.found;
+      counted = h.counted;
       numbers = numbers_on h.path h.n h.m 0 table h.numbers;
     }
 
 -- no items
 pub grows_none : (driven : DrivenCircuit) (p : Plan) → length p.tables ≡ length p.levels → Grows driven [] p p
 grows_none driven p counted = record {
-  more_levels = []; levels = sym (append-nil p.levels);
-  more_leaves = []; leaves = sym (append-nil p.leaves); leaf_sites = none_by_none (IsLeafSite driven p.levels);
-  more_memories = []; memories = sym (append-nil p.memories); memory_sites = none_by_none (IsMemorySite driven p.levels);
+  more_levels = [];
+  levels = sym (append-nil p.levels);
+  more_leaves = [];
+  leaves = sym (append-nil p.leaves);
+  leaf_sites = none_by_none (IsLeafSite driven p.levels);
+  more_memories = [];
+  memories = sym (append-nil p.memories);
+  memory_sites = none_by_none (IsMemorySite driven p.levels);
   counted = counted;
   kept = λ q lt. refl;
   tables = λ q table ge e. absurd (omega (arith, slice_get_within p.tables q table e, counted));
@@ -118,7 +134,12 @@ grows_both driven a b p q r h g = record {
 -- a walk that stays, and one that goes on and then goes on
 pub goes_none : (driven : DrivenCircuit) (path : List ℕ) (m : DrivenModule) (w : Walk) (p : Plan) → length p.tables ≡ length p.levels → GoesOn driven path m w w p p
 goes_none driven path m w p counted = record {
-  items = []; onward = λ rest h. h; grows = grows_none driven p counted; more = []; numbers = sym (append-nil w.numbers); numbered = λ j x e. cc;
+  items = [];
+  onward = λ rest h. h;
+  grows = grows_none driven p counted;
+  more = [];
+  numbers = sym (append-nil w.numbers);
+  numbered = λ j x e. cc;
 }
 
 pub goes_both : (driven : DrivenCircuit) (path : List ℕ) (m : DrivenModule) (w v u : Walk) (p q r : Plan) → v.module ≡ w.module → GoesOn driven path m w v p q → GoesOn driven path m v u q r

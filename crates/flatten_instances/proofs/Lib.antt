@@ -7,3 +7,4 @@ pub mod Visiting
 pub mod Sites
 pub mod RegisterTables
 pub mod Flattening
+pub mod Uniqueness

@@ -130,7 +130,10 @@ registered driven s m table r register found h e there =
     let same : one.0 ≡ register = some_same (sym one.1 ∙ there) in
     record {
       any = ap (λ o. is_of_register o s.number) found ∙ (ap (list_any (of_leaf s.number)) (sym (all m.registers)) ∙ h.is.any s.number r e);
-      m = m; found = found; r = r; there = there;
+      m = m;
+      found = found;
+      r = r;
+      there = there;
       leaf = ap (λ (x : NetRegister). x.leaf) (sym same) ∙ one.2;
     }
   where
@@ -169,6 +172,13 @@ registers_more driven plan planned spots sites i s site there h table e o is old
         (subst (λ l. OneByOne (IsFlatRegister driven spots) l (old ++ register_with table register ∷ [])) (sym (step true r.any))
         (both_by_both (IsFlatRegister driven spots) (filter (is_register_at driven) (take i spots)) (s ∷ []) old (register_with table register ∷ []) before
         (one_by_one (IsFlatRegister driven spots) s (register_with table register) (record {
-          m = r.m; found = r.found; r = r.r; register = register; there = r.there; leaf = r.leaf; numbers = table;
-          numbered = numbers_of_table driven plan planned spots sites site.level s.path s.within table h.level e; is = refl;
+          m = r.m;
+          found = r.found;
+          r = r.r;
+          register = register;
+          there = r.there;
+          leaf = r.leaf;
+          numbers = table;
+          numbered = numbers_of_table driven plan planned spots sites site.level s.path s.within table h.level e;
+          is = refl;
         }))))

@@ -116,7 +116,9 @@ module _ (driven : DrivenCircuit) (plan : Plan) (s : Spot) (site : Site) (h : Is
     leaf = leaf;
     is = is_leaf m leaf found read;
     name = name ∙ ap (λ p. p ++ leaf.name) (sym (prefix_is level_begins));
-    kind = kind; width = width; place = place;
+    kind = kind;
+    width = width;
+    place = place;
     role = role ∙ sym (role_is leaf.role level_begins);
   }
 
@@ -225,11 +227,15 @@ module _ (driven : DrivenCircuit) (plan : Plan) (both : ℕ × Spot) (site : Mem
         → slice_get plan.tables site.level ≡ Some table → slice_get m.memories site.number ≡ Some memory → flat.name ≡ level.prefix ++ memory.name → flat.first ≡ site.before → flat.depth ≡ memory.depth
         → flat.elements ≡ memory.elements → flat.ports ≡ map (port_with table) memory.ports → IsFlatMemory driven spots both flat
     flat_memory planned spots sites table memory flat e read name first depth elements ports = record {
-      m = m; found = memory_module_is; memory = memory;
+      m = m;
+      found = memory_module_is;
+      memory = memory;
       there = ap (slice_get m.memories) h.number ∙ read;
       numbers = table;
       numbered = numbers_of_table driven plan planned spots sites site.level both.1.path both.1.within table h.level e;
       name = name ∙ ap (λ p. p ++ memory.name) (sym (prefix_is (subst (Begins driven plan.levels both.1.path) memory_level_is h.level.begins)));
       first = first ∙ sym h.before;
-      depth = depth; elements = elements; ports = ports;
+      depth = depth;
+      elements = elements;
+      ports = ports;
     }

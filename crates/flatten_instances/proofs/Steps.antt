@@ -34,10 +34,14 @@ module _ (driven : DrivenCircuit) (path : List ℕ) (m : DrivenModule) (w : Walk
     items = A_leaf (spot path w.module (length w.numbers)) ∷ [];
     onward = λ rest h. a_leaf leaf none none' there (subst (λ y. InFlatOrder driven path w.module m y w.memory w.instance rest) len h);
     grows = record {
-      more_levels = []; levels = sym (append-nil p.levels);
-      more_leaves = site ∷ []; leaves = grown;
+      more_levels = [];
+      levels = sym (append-nil p.levels);
+      more_leaves = site ∷ [];
+      leaves = grown;
       leaf_sites = one_by_one (IsLeafSite driven p.levels) (spot path w.module (length w.numbers)) site (mine (length w.numbers) refl);
-      more_memories = []; memories = sym (append-nil p.memories); memory_sites = none_by_none (IsMemorySite driven p.levels);
+      more_memories = [];
+      memories = sym (append-nil p.memories);
+      memory_sites = none_by_none (IsMemorySite driven p.levels);
       counted = counted;
       kept = λ q lt. refl;
       tables = λ q table ge e. absurd (omega (arith, slice_get_within p.tables q table e, counted));
@@ -77,19 +81,29 @@ module _ (driven : DrivenCircuit) (path : List ℕ) (m : DrivenModule) (w : Walk
     items = A_memory (spot path w.module w.memory) ∷ [];
     onward = λ rest h. a_memory memory none here h;
     grows = record {
-      more_levels = []; levels = sym (append-nil p.levels);
-      more_leaves = []; leaves = sym (append-nil p.leaves); leaf_sites = none_by_none (IsLeafSite driven p.levels);
-      more_memories = site ∷ []; memories = grown;
+      more_levels = [];
+      levels = sym (append-nil p.levels);
+      more_leaves = [];
+      leaves = sym (append-nil p.leaves);
+      leaf_sites = none_by_none (IsLeafSite driven p.levels);
+      more_memories = site ∷ [];
+      memories = grown;
       memory_sites = one_by_one (IsMemorySite driven p.levels) (length p.leaves, spot path w.module w.memory) site (record {
         level = subst (λ q. IsLevel driven p.levels q path w.module) (sym at_level) level;
-        number = sym at_number; before = sym at_before; m = m; found = found; memory = memory;
+        number = sym at_number;
+        before = sym at_before;
+        m = m;
+        found = found;
+        memory = memory;
         there = (is_memory_here m (length w.numbers) w.memory memory here).0;
       });
       counted = counted;
       kept = λ q lt. refl;
       tables = λ q table ge e. absurd (omega (arith, slice_get_within p.tables q table e, counted));
     };
-    more = []; numbers = sym (append-nil w.numbers); numbered = λ j x e. cc;
+    more = [];
+    numbers = sym (append-nil w.numbers);
+    numbered = λ j x e. cc;
   }
 
   -- an instance
@@ -124,14 +138,15 @@ module _ (driven : DrivenCircuit) (path : List ℕ) (m : DrivenModule) (w : Walk
           let zero_plus : 0 + j ≡ j = omega arith in
           let first' : slice_get (leaf_spots v.own) j ≡ Some (spot (w.instance ∷ path) gi.module j) = first ∙ ap (λ y. Some (spot (w.instance ∷ path) gi.module y)) zero_plus in
           let site = partner_of (IsLeafSite driven q.levels) (leaf_spots v.own) v.grows.more_leaves j (spot (w.instance ∷ path) gi.module j) v.grows.leaf_sites first' in
-          let place : x ≡ length p.leaves + j = omega (arith, r.1, is_base) in
-          (spot (w.instance ∷ path) gi.module j,
-          subst (λ y. StandsAt driven path w.module m (y + j) (spot (w.instance ∷ path) gi.module j)) mine.first (of_instance j gi child mine.there there r.0),
-          record {
-            site = site.0;
-            there = ap (λ l. slice_get l x) v.grows.leaves ∙ (ap (slice_get (p.leaves ++ v.grows.more_leaves)) place ∙ (get_right p.leaves v.grows.more_leaves j ∙ site.1));
-            is = site.2;
-          })
+          let place : x ≡ length p.leaves + j = omega (arith, r.1, is_base) in (
+            spot (w.instance ∷ path) gi.module j,
+            subst (λ y. StandsAt driven path w.module m (y + j) (spot (w.instance ∷ path) gi.module j)) mine.first (of_instance j gi child mine.there there r.0),
+            record {
+              site = site.0;
+              there = ap (λ l. slice_get l x) v.grows.leaves ∙ (ap (slice_get (p.leaves ++ v.grows.more_leaves)) place ∙ (get_right p.leaves v.grows.more_leaves j ∙ site.1));
+              is = site.2;
+            },
+          )
 
 -- The level of an instance begins at its path.
 pub begins_inside : (driven : DrivenCircuit) (levels : List Level) (path : List ℕ) (m : DrivenModule) (w : Walk) (gi : GroundInstance) (inner : Level)
@@ -153,7 +168,10 @@ pub record SoundModule (driven : DrivenCircuit) (n left : ℕ) : Type 0 where
 
 pub sound_module : {driven : DrivenCircuit} {n left : ℕ} → IsSound driven n left → SoundModule driven n left
 sound_module {driven} (sound {left = left} m found turn below) = record {
-  m = m; found = found; in_turn = turn; more = omega arith;
+  m = m;
+  found = found;
+  in_turn = turn;
+  more = omega arith;
   below = λ i gi e. let one : left ≡ suc left - 1 = omega arith in subst (λ k. IsSound driven gi.module k) one (below i gi e);
 }
 

@@ -32,10 +32,12 @@ module _ (driven : DrivenCircuit) (m : DrivenModule) (w : Walk) (p : Plan) (goin
   pub going_leaf : (number : ℕ) (numbers : List ℕ) (leaves : List Site) → instance_next m w ≡ None → memory_next m w ≡ None → 0 < left_of m w → numbers ≡ w.numbers ++ number ∷ []
       → IsGoing driven m (record w { numbers = numbers }) (record p { leaves = leaves })
   going_leaf number numbers leaves none none' more longer = record {
-    known = going.known; in_turn = going.in_turn;
+    known = going.known;
+    in_turn = going.in_turn;
     fair = subst (λ y. IsFair m y w.memory w.instance) (sym len)
         (fair_leaf driven m going.in_turn (length w.numbers) w.memory w.instance going.fair none none' (next_leaf none none' more));
-    counted = going.counted; level = going.level;
+    counted = going.counted;
+    level = going.level;
   }
     where
       len : length numbers ≡ length w.numbers + 1
@@ -51,9 +53,11 @@ module _ (driven : DrivenCircuit) (m : DrivenModule) (w : Walk) (p : Plan) (goin
   pub going_memory : (memory : GroundMemory) (memories : List MemorySite) → instance_next m w ≡ None → memory_next m w ≡ Some memory
       → IsGoing driven m (record w { memory = w.memory + 1 }) (record p { memories = memories })
   going_memory memory memories none here = record {
-    known = going.known; in_turn = going.in_turn;
+    known = going.known;
+    in_turn = going.in_turn;
     fair = fair_memory driven m going.in_turn (length w.numbers) w.memory w.instance memory going.fair none here;
-    counted = going.counted; level = going.level;
+    counted = going.counted;
+    level = going.level;
   }
 
   pub less_memory : (memory : GroundMemory) → memory_next m w ≡ Some memory → left_of m (record w { memory = w.memory + 1 }) < left_of m w
@@ -67,10 +71,12 @@ module _ (driven : DrivenCircuit) (m : DrivenModule) (w : Walk) (p : Plan) (goin
 
     pub going_instance : (q : Plan) → slice_get driven.modules gi.module ≡ Some child → IsLonger p q → IsGoing driven m (record w { numbers = numbers; instance = w.instance + 1 }) q
     going_instance q found grown = record {
-      known = going.known; in_turn = going.in_turn;
+      known = going.known;
+      in_turn = going.in_turn;
       fair = subst (λ y. IsFair m y w.memory (w.instance + 1)) (sym len)
           (fair_instance driven m going.in_turn (length w.numbers) w.memory w.instance gi child going.fair here found);
-      counted = grown.counted; level = omega (arith, going.level, grown.more);
+      counted = grown.counted;
+      level = omega (arith, going.level, grown.more);
     }
 
     pub less_instance : left_of m (record w { numbers = numbers; instance = w.instance + 1 }) < left_of m w

@@ -92,8 +92,8 @@ module _ (driven : DrivenCircuit) (m : DrivenModule) (turn : IsInTurn driven m) 
           let h = fair.instance gi e in
           let place = turn.instances i gi e in
           let other : k ≢ gi.memories = λ f.
-              let behind : gi.first + place.child.ports ≤ memory.first = turn.memories_behind i k gi place.child memory e place.there there (omega (arith, f)) in
-              not_here m y k i gi none e (omega (arith, behind, first, h.0)) (sym f) in
+          let behind : gi.first + place.child.ports ≤ memory.first = turn.memories_behind i k gi place.child memory e place.there there (omega (arith, f)) in
+          not_here m y k i gi none e (omega (arith, behind, first, h.0)) (sym f) in
           omega (arith, h.1, other)
 
   pub fair_instance : (y k i : ℕ) (gi : GroundInstance) (child : DrivenModule) → IsFair m y k i → instance_here m y k i ≡ Some gi → slice_get driven.modules gi.module ≡ Some child → IsFair m (y + child.ports) k (i + 1)

@@ -5,6 +5,7 @@
 
 mod circuit;
 mod drivers;
+pub mod laws;
 mod leaves;
 mod memories;
 mod plan;

@@ -42,7 +42,12 @@ fn memory_at(
     let owner = module_of(driven, level.module);
     let memory = &owner.memories.as_slice()[site.number as usize];
     let numbers = table_of(plan, site.level);
-    let name = joined_text(alloc, level.prefix.as_slice(), memory.name.as_slice(), false)?;
+    let name = joined_text(
+        alloc,
+        level.prefix.as_slice(),
+        memory.name.as_slice(),
+        false,
+    )?;
     let elements = copied_elements(alloc, memory.elements.as_slice())?;
     let ports = flat_ports(alloc, memory.ports.as_slice(), numbers)?;
     Ok(GroundMemory {

@@ -146,7 +146,12 @@ fn level_in(
         first: instance.first,
     };
     let outer = &levels[walk.level as usize];
-    let prefix = joined_text(alloc, outer.prefix.as_slice(), instance.name.as_slice(), true)?;
+    let prefix = joined_text(
+        alloc,
+        outer.prefix.as_slice(),
+        instance.name.as_slice(),
+        true,
+    )?;
     Ok(Level {
         module: instance.module,
         holder: Some(holder),

@@ -49,7 +49,7 @@ enter-returns-clause-less t c =
 pub visit-on-init : goal.visit-on-init
 visit-on-init t c =
     let going = going_first c.args.driven.now c.module_of-owner.result.now (record { level = c.in_ok-number_of.field-0; «module» = c.args.level.module; left = c.args.left; numbers = c.new.result; memory = 0; instance = 0 })
-        c.args.plan.now c.begin.new.plan c.args.level c.requires.sound c.module_of-owner.ensures c.new.ensures refl refl (c.in_ok-number_of.ensures ∙ c.len.ensures) c.requires.counted c.in_ok-begin.ensures in
+    c.args.plan.now c.begin.new.plan c.args.level c.requires.sound c.module_of-owner.ensures c.new.ensures refl refl (c.in_ok-number_of.ensures ∙ c.len.ensures) c.requires.counted c.in_ok-begin.ensures in
     record {
       going = going;
       same = same_itself _;
