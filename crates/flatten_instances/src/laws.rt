@@ -1,12 +1,14 @@
 //! Laws of the definitions. The functions do nothing.
 
-ghost use Rattle.std.specs.Prelude.{◌≡◌, ◌<◌, ◌+◌, ℕ, List, length, map, slice_get, slice_index, Some};
+ghost use Rattle.std.specs.Prelude.{◌≡◌, ◌<◌, ◌+◌, ℕ, List, [], ◌∷◌, codes, length, map, slice_get, slice_index, Some};
 ghost use Rattle.ground_net.specs.declared.circuit.DrivenCircuit.{DrivenCircuit};
 ghost use Rattle.ground_net.specs.declared.circuit.DrivenModule.{DrivenModule};
+ghost use Rattle.ground_net.specs.declared.circuit.GroundLeaf.{GroundLeaf};
 ghost use Rattle.ground_net.specs.declared.ground.Ground.{Ground};
 ghost use Rattle.ground_net.specs.Grounds.{Sight, value, mentions};
 ghost use Rattle.ground_net.specs.Renumbering.{seen_by};
-ghost use Rattle.flatten_instances.specs.Instances.{IsInTurn};
+ghost use Rattle.flatten_instances.specs.Instances.{IsInTurn, prefix_of};
+ghost use Rattle.flatten_instances.specs.Examples.{two_instances, outer, four_items};
 ghost use Rattle.flatten_instances.specs.FlatOrder.{Spot, spot, Item, InFlatOrder, leaf_spots};
 ghost use Rattle.flatten_instances.specs.Numbers.{AreNumbers, driver_with};
 
@@ -36,4 +38,11 @@ pub fn numbers_differ()
 pub fn drivers_follow_their_modules()
     ensures value { (numbers : List ℕ) (g flat : Ground) (sight : Sight) → driver_with numbers (Some g) ≡ Some flat → value flat sight ≡ value g (seen_by (slice_index numbers) sight) }
     ensures mentions { (numbers : List ℕ) (g flat : Ground) → driver_with numbers (Some g) ≡ Some flat → mentions flat ≡ map (slice_index numbers) (mentions g) }
+{}
+
+/// Two instances of one module have leaves of their own, in text order among those of their holder.
+pub fn two_instances_have_their_own_leaves()
+    ensures order { (port of_i own of_j inside : GroundLeaf) → InFlatOrder (two_instances port of_i own of_j inside) [] 0 (outer port of_i own of_j) 0 0 0 four_items }
+    ensures numbers { (port of_i own of_j inside : GroundLeaf) → AreNumbers (two_instances port of_i own of_j inside) (leaf_spots four_items) [] 0 (0 ∷ 1 ∷ 2 ∷ 3 ∷ []) }
+    ensures prefix { (port of_i own of_j inside : GroundLeaf) → prefix_of (two_instances port of_i own of_j inside) (1 ∷ []) ≡ codes "j." }
 {}
