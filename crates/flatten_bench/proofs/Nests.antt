@@ -77,7 +77,8 @@ module _ (levels target : ℕ) (modules new : List DrivenModule) (last : DrivenM
           let child = get_there new gi.module lt in
           let c = child_ports i gi child.0 f child.1 in
           record {
-            child = child.0; there = child.1;
+            child = child.0;
+            there = child.1;
             behind = omega (arith, it.ports, a.first);
             within = omega (arith, a.within, c);
             memories = omega (arith, a.memories);
@@ -97,3 +98,13 @@ module _ (levels target : ℕ) (modules new : List DrivenModule) (last : DrivenM
     where
       first : (m : DrivenModule) × (slice_get new 0 ≡ Some m)
       first = get_there new 0 (omega (arith, nest.counted))
+
+-- one instance more
+abbrev pub Stands : ℕ → ℕ → GroundInstance → Type 0
+Stands target i gi = (gi.first ≡ 2 + 2 * i) × ((gi.memories ≡ 0) × (gi.module ≡ target))
+
+pub held_more : (target number : ℕ) (held new : List GroundInstance) (x : GroundInstance) → new ≡ held ++ x ∷ [] → length held ≡ number → Stands target number x
+    → ((i : ℕ) (gi : GroundInstance) → slice_get held i ≡ Some gi → Stands target i gi) → (i : ℕ) (gi : GroundInstance) → slice_get new i ≡ Some gi → Stands target i gi
+held_more target number held new x grown counted mine each i gi e =
+    ⊎_elim (λ l. each i gi l) (λ r. let here : number ≡ i = omega (arith, r.0, counted) in subst (λ g. Stands target i g) r.1 (subst (λ k. Stands target k x) here mine))
+    (one_longer held x i gi (ap (λ l. slice_get l i) (sym grown) ∙ e))

@@ -70,11 +70,7 @@ fn made_module(
 }
 
 /// Instances of a module behind the two leaves of the ports.
-fn instances_of(
-    alloc: Global,
-    target: u32,
-    count: u32,
-) -> Result<List<GroundInstance>, AllocError>
+fn instances_of(alloc: Global, target: u32, count: u32) -> Result<List<GroundInstance>, AllocError>
     ensures counted { IfOk result (λ held. length held ≡ count) }
     ensures each { IfOk result (λ held. (i : ℕ) (gi : TheInstance) → slice_get held i ≡ Some gi → (gi.first ≡ 2 + 2 * i) × ((gi.memories ≡ 0) × (gi.module ≡ target))) }
 {
@@ -117,11 +113,7 @@ fn leaves_of(alloc: Global, instances: u32, own: u32) -> Result<List<GroundLeaf>
     Ok(leaves)
 }
 
-fn push_registers(
-    alloc: Global,
-    own: u32,
-    leaves: &mut List<GroundLeaf>,
-) -> Result<(), AllocError>
+fn push_registers(alloc: Global, own: u32, leaves: &mut List<GroundLeaf>) -> Result<(), AllocError>
     ensures { OnOk result (length leaves.old ≤ length leaves.new) }
 {
     for _ in 0..own {
@@ -152,11 +144,7 @@ fn drivers_of(alloc: Global, count: usize) -> Result<List<Option<Ground>>, Alloc
 }
 
 /// The registers, behind the leaves of the ports and of the instances.
-fn registers_of(
-    alloc: Global,
-    instances: u32,
-    own: u32,
-) -> Result<List<NetRegister>, AllocError> {
+fn registers_of(alloc: Global, instances: u32, own: u32) -> Result<List<NetRegister>, AllocError> {
     let mut registers = List::new(alloc);
     for number in 0..own {
         let Ok(leaf) = u32::try_from(2 + 2 * u64::from(instances) + u64::from(number)) else {
