@@ -1,5 +1,5 @@
 -- The flat circuit of a plan.
-use Rattle.std.proofs.Common.{◌≡◌, ℕ, List, [], length, take, refl, sym, ap, ◌∙◌, subst, arith, Some, slice_get}
+use Rattle.std.proofs.Common.{◌≡◌, [], length, take, sym, ◌∙◌, subst, arith, Some, slice_get}
 use Rattle.std.specs.Prelude.{filter}
 use Rattle.std.proofs.lemmas.List.{take_all}
 use Rattle.ground_net.specs.declared.circuit.DrivenCircuit.{DrivenCircuit}

@@ -1,11 +1,10 @@
 -- What was planned stays as the plan grows.
-use Rattle.std.proofs.Common.{◌≡◌, ℕ, zero, suc, ◌+◌, ◌<◌, ◌≤◌, Bool, true, false, List, [], ◌∷◌, ◌++◌, length, refl, sym, ap, ap₂, ◌∙◌, subst, arith, append_assoc, append-nil, length-append, nat_lt, ◌⊎◌, inl, inr, Option, Some, None, slice_get}
+use Rattle.std.proofs.Common.{◌≡◌, ℕ, ◌+◌, ◌<◌, ◌≤◌, Bool, true, false, List, [], ◌++◌, length, refl, sym, ap, ◌∙◌, subst, arith, append_assoc, append-nil, length-append, nat_lt, ◌⊎◌, inl, inr, Some, slice_get}
 use Rattle.std.proofs.lemmas.Bool.Decides.{nat_tests}
 use Rattle.std.proofs.lemmas.Option.{slice_get_within}
 use Rattle.ground_net.specs.declared.circuit.DrivenCircuit.{DrivenCircuit}
 use Rattle.ground_net.specs.declared.circuit.DrivenModule.{DrivenModule}
 use Rattle.flatten_instances.specs.declared.plan.Level.{Level}
-use Rattle.flatten_instances.specs.declared.plan.Holder.{Holder}
 use Rattle.flatten_instances.specs.declared.plan.Site.{Site}
 use Rattle.flatten_instances.specs.declared.plan.MemorySite.{MemorySite}
 use Rattle.flatten_instances.specs.declared.plan.Plan.{Plan}

@@ -1,16 +1,14 @@
 -- Flat orders.
-use Rattle.std.proofs.Common.{◌≡◌, ℕ, zero, suc, ◌+◌, ◌<◌, ◌≤◌, ◌==◌, ◌&&◌, Bool, true, false, List, [], ◌∷◌, ◌++◌, length, refl, sym, ap, ap₂, ◌∙◌, subst, arith, Option, Some, None, slice_get, cond}
+use Rattle.std.proofs.Common.{◌≡◌, ℕ, zero, suc, ◌+◌, ◌<◌, ◌&&◌, Bool, true, false, List, [], ◌∷◌, ◌++◌, length, refl, sym, ap, ◌∙◌, subst, arith, Option, Some, None, slice_get, cond}
 use Rattle.std.specs.Prelude.{nat_eq, option_and_then}
 use Rattle.std.proofs.lemmas.Bool.Decides.{nat_tests}
-use Rattle.std.proofs.lemmas.Option.{option_and_then_some}
 use Rattle.std.proofs.lemmas.List.Elements.{filter_map-append}
 use Rattle.ground_net.specs.declared.circuit.DrivenCircuit.{DrivenCircuit}
 use Rattle.ground_net.specs.declared.circuit.DrivenModule.{DrivenModule}
 use Rattle.ground_net.specs.declared.circuit.GroundInstance.{GroundInstance}
-use Rattle.ground_net.specs.declared.circuit.GroundLeaf.{GroundLeaf}
 use Rattle.ground_net.specs.declared.circuit.GroundMemory.{GroundMemory}
 use Rattle.flatten_instances.specs.Instances.{IsInTurn}
-use Rattle.flatten_instances.specs.FlatOrder.{Spot, spot, Item, A_leaf, A_memory, instance_here, memory_here, InFlatOrder, no_more, an_instance, a_memory, a_leaf, leaf_in, leaf_spots, memories_from}
+use Rattle.flatten_instances.specs.FlatOrder.{spot, Item, A_leaf, A_memory, instance_here, memory_here, InFlatOrder, no_more, an_instance, a_memory, a_leaf, leaf_in, leaf_spots, memories_from}
 use Rattle.flatten_instances.proofs.Lists.{some_same, get_none}
 
 -- tests

@@ -1,5 +1,5 @@
 -- Sites and the spots that they stand for.
-use Rattle.std.proofs.Common.{◌≡◌, true, false, ℕ, zero, suc, ◌+◌, ◌<◌, ◌≤◌, List, [], ◌∷◌, ◌++◌, length, map, refl, sym, ap, ap₂, ◌∙◌, subst, arith, Option, Some, None, slice_get}
+use Rattle.std.proofs.Common.{◌≡◌, true, false, ℕ, ◌+◌, ◌<◌, List, ◌∷◌, ◌++◌, length, map, refl, sym, ap, ap₂, ◌∙◌, subst, arith, Option, Some, None, slice_get}
 use Rattle.std.specs.Prelude.{option_map, option_and_then, IsSome}
 use Rattle.ground_net.specs.declared.circuit.DrivenCircuit.{DrivenCircuit}
 use Rattle.ground_net.specs.declared.circuit.DrivenModule.{DrivenModule}
@@ -15,10 +15,10 @@ use Rattle.flatten_instances.specs.declared.plan.Site.{Site}
 use Rattle.flatten_instances.specs.declared.plan.MemorySite.{MemorySite}
 use Rattle.flatten_instances.specs.declared.plan.Plan.{Plan}
 use Rattle.flatten_instances.specs.Instances.{instance_in, module_at, prefix_of, dotted}
-use Rattle.flatten_instances.specs.FlatOrder.{Spot, spot, Item, leaf_spots, memories_from}
+use Rattle.flatten_instances.specs.FlatOrder.{Spot, spot, leaf_spots, memories_from}
 use Rattle.flatten_instances.specs.Numbers.{StandsAt, AreNumbers, driver_in, driver_with, port_with}
 use Rattle.flatten_instances.specs.Flat.{OneByOne, IsLeafAt, IsFlatLeaf, IsFlatDriver, by_its_module, by_its_holder, given, IsFlatMemory, is_input, role_at}
-use Rattle.flatten_instances.specs.Plans.{Begins, at_main, inside, IsLevel, IsLeafSite, IsMemorySite, HasSite, IsTable, IsPlan, role_under, HeldDriver, HasHolder}
+use Rattle.flatten_instances.specs.Plans.{Begins, at_main, inside, IsLevel, IsLeafSite, IsMemorySite, IsTable, IsPlan, role_under, HeldDriver, HasHolder}
 use Rattle.flatten_instances.proofs.Lists.{some_same, is_some_by, get_there, partner}
 use Rattle.std.proofs.lemmas.Option.{slice_get_within}
 

@@ -1,5 +1,5 @@
 -- What each step of a walk adds.
-use Rattle.std.proofs.Common.{◌≡◌, ℕ, zero, suc, ◌+◌, ◌-◌, ◌<◌, ◌≤◌, ◌≢◌, List, [], ◌∷◌, ◌++◌, length, refl, sym, ap, ap₂, ◌∙◌, subst, arith, append_assoc, append-nil, length-append, Option, Some, None, slice_get, set, nat_lt, nat_eq, Bool, true, false, ◌⊎◌, inl, inr}
+use Rattle.std.proofs.Common.{◌≡◌, ℕ, zero, suc, ◌+◌, ◌-◌, ◌<◌, ◌≤◌, ◌≢◌, List, [], ◌∷◌, ◌++◌, length, refl, sym, ap, ◌∙◌, subst, arith, append_assoc, append-nil, length-append, Some, None, slice_get, set, nat_eq, Bool, true, false}
 use Rattle.std.specs.List.{range_with_len}
 use Rattle.std.proofs.lemmas.Bool.{eqb-true, eqb-false}
 use Rattle.std.proofs.lemmas.List.{length-set}
@@ -10,19 +10,18 @@ use Rattle.ground_net.specs.declared.circuit.GroundInstance.{GroundInstance}
 use Rattle.ground_net.specs.declared.circuit.GroundLeaf.{GroundLeaf}
 use Rattle.ground_net.specs.declared.circuit.GroundMemory.{GroundMemory}
 use Rattle.flatten_instances.specs.declared.plan.Level.{Level}
-use Rattle.flatten_instances.specs.declared.plan.Holder.{Holder}
 use Rattle.flatten_instances.specs.declared.plan.Site.{Site}
 use Rattle.flatten_instances.specs.declared.plan.MemorySite.{MemorySite}
 use Rattle.flatten_instances.specs.declared.plan.Plan.{Plan}
 use Rattle.flatten_instances.specs.declared.walk.Walk.{Walk}
 use Rattle.flatten_instances.specs.Instances.{IsInTurn}
-use Rattle.flatten_instances.specs.FlatOrder.{Spot, spot, Item, A_leaf, A_memory, InFlatOrder, no_more, an_instance, a_memory, a_leaf, leaf_spots, memories_from}
+use Rattle.flatten_instances.specs.FlatOrder.{Spot, spot, A_leaf, A_memory, InFlatOrder, no_more, an_instance, a_memory, a_leaf, leaf_spots, memories_from}
 use Rattle.flatten_instances.specs.Numbers.{StandsAt, its_own, of_instance}
-use Rattle.flatten_instances.specs.Flat.{OneByOne, IsLeafAt}
-use Rattle.flatten_instances.specs.Plans.{IsSound, sound, Begins, inside, IsLevel, IsLeafSite, IsMemorySite, HasSite, IsTable, Grows, Visits, GoesOn, IsFair, IsGoing, instance_next, memory_next}
-use Rattle.flatten_instances.proofs.Lists.{some_same, get_left, get_right, get_split, get_range, length_range, get_there, get_none, none_by_none, one_by_one, partner, partner_of}
+use Rattle.flatten_instances.specs.Flat.{OneByOne}
+use Rattle.flatten_instances.specs.Plans.{IsSound, sound, Begins, inside, IsLevel, IsLeafSite, IsMemorySite, HasSite, IsTable, Visits, GoesOn, instance_next, memory_next}
+use Rattle.flatten_instances.proofs.Lists.{some_same, get_left, get_right, get_range, length_range, get_there, none_by_none, one_by_one, partner_of}
 use Rattle.flatten_instances.proofs.Orders.{Here, is_here, is_memory_here, ports_come_first}
-use Rattle.flatten_instances.proofs.Going.{level_on, begins_on, grows_none, table_on}
+use Rattle.flatten_instances.proofs.Going.{begins_on}
 
 module _ (driven : DrivenCircuit) (path : List ℕ) (m : DrivenModule) (w : Walk) (p : Plan) (level : IsLevel driven p.levels w.level path w.module)
     (found : slice_get driven.modules w.module ≡ Some m) (counted : length p.tables ≡ length p.levels) where

@@ -1,5 +1,5 @@
 -- Laws of flat orders and numbers.
-use Rattle.std.proofs.Common.{◌≡◌, ℕ, zero, suc, ◌+◌, ◌<◌, ◌≤◌, ◌⊎◌, ⊎_elim, List, [], ◌∷◌, ◌++◌, length, map, slice_index, refl, sym, ap, ap₂, ◌∙◌, subst, arith, length-append, append_assoc, Some, None, slice_get}
+use Rattle.std.proofs.Common.{◌≡◌, ℕ, zero, suc, ◌+◌, ◌<◌, ◌≤◌, ◌⊎◌, ⊎_elim, List, [], ◌∷◌, ◌++◌, length, map, slice_index, refl, sym, ap, ap₂, ◌∙◌, subst, arith, length-append, append_assoc, Some, slice_get}
 use Rattle.std.proofs.lemmas.Option.{slice_get_within}
 use Rattle.ground_net.specs.declared.circuit.DrivenCircuit.{DrivenCircuit}
 use Rattle.ground_net.specs.declared.circuit.DrivenModule.{DrivenModule}
@@ -8,7 +8,7 @@ use Rattle.ground_net.specs.declared.ground.Ground.{Ground}
 use Rattle.ground_net.specs.Grounds.{Sight, value, mentions}
 use Rattle.ground_net.specs.Renumbering.{with_numbers, seen_by}
 use Rattle.ground_net.proofs.Layers.{renumbered_value, renumbered_mentions}
-use Rattle.flatten_instances.specs.FlatOrder.{Spot, spot, Item, A_leaf, A_memory, InFlatOrder, no_more, an_instance, a_memory, a_leaf, instance_here, memory_here, leaf_spots}
+use Rattle.flatten_instances.specs.FlatOrder.{Spot, spot, Item, A_leaf, A_memory, InFlatOrder, no_more, an_instance, a_memory, a_leaf, leaf_spots}
 use Rattle.flatten_instances.specs.Numbers.{StandsAt, its_own, of_instance, AreNumbers}
 use Rattle.flatten_instances.proofs.Lists.{some_same, get_split}
 use Rattle.flatten_instances.proofs.Orders.{is_here, is_memory_here, leaf_spots-append}

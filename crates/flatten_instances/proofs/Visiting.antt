@@ -1,5 +1,5 @@
 -- Walks that begin, go on and end.
-use Rattle.std.proofs.Common.{◌≡◌, ℕ, zero, suc, ◌+◌, ◌-◌, ◌<◌, ◌≤◌, List, [], ◌∷◌, ◌++◌, length, refl, sym, ap, ap₂, ◌∙◌, subst, arith, length-append, Some, None, slice_get, get_or, set}
+use Rattle.std.proofs.Common.{◌≡◌, ℕ, zero, suc, ◌+◌, ◌-◌, ◌<◌, List, [], ◌∷◌, ◌++◌, length, refl, sym, ap, ◌∙◌, subst, arith, length-append, Some, None, slice_get, get_or, set}
 use Rattle.std.specs.List.{range_with_len}
 use Rattle.std.proofs.lemmas.List.{length-set}
 use Rattle.std.proofs.lemmas.Option.{slice_get_past}
@@ -15,10 +15,10 @@ use Rattle.flatten_instances.specs.declared.walk.Walk.{Walk}
 use Rattle.flatten_instances.specs.Instances.{HasInstances, IsInTurn, Reaches, itself, along}
 use Rattle.flatten_instances.specs.FlatOrder.{InFlatOrder, leaf_spots, memories_from}
 use Rattle.flatten_instances.specs.Flat.{OneByOne}
-use Rattle.flatten_instances.specs.Plans.{IsSound, sound, Begins, at_main, IsLevel, IsLeafSite, IsMemorySite, IsTable, Grows, Visits, GoesOn, SameWalk, IsFair, IsGoing, IsLonger, IsPlan, instance_next, memory_next, left_of}
-use Rattle.flatten_instances.proofs.Lists.{some_by, some_same, get_there, length_range, get_right}
-use Rattle.flatten_instances.proofs.Orders.{Here, is_here, is_memory_here}
-use Rattle.flatten_instances.proofs.Going.{level_on, begins_on, goes_none, goes_both}
+use Rattle.flatten_instances.specs.Plans.{IsSound, sound, Begins, IsLevel, IsLeafSite, IsMemorySite, Visits, GoesOn, SameWalk, IsFair, IsGoing, IsLonger, IsPlan, instance_next, memory_next, left_of}
+use Rattle.flatten_instances.proofs.Lists.{some_by, some_same, length_range, get_right}
+use Rattle.flatten_instances.proofs.Orders.{is_here, is_memory_here}
+use Rattle.flatten_instances.proofs.Going.{level_on, begins_on, goes_both}
 use Rattle.flatten_instances.proofs.Walking.{fair_first, fair_leaf, fair_memory, fair_instance, leaf_is_there}
 use Rattle.flatten_instances.proofs.Steps.{SoundModule, sound_module, visit_ends}
 use Rattle.std.specs.Prelude.{IsSome}

@@ -1,26 +1,15 @@
 -- The steps of a walk through a module.
-use Rattle.std.proofs.Common.{◌≡◌, ℕ, zero, suc, ◌+◌, ◌-◌, ◌<◌, ◌≤◌, ◌≢◌, Bool, true, false, ◌⊎◌, inl, inr, ⊎_elim, List, [], ◌∷◌, ◌++◌, length, refl, sym, ap, ap₂, ◌∙◌, subst, arith, append_assoc, append-nil, length-append, nat_lt, Option, Some, None, slice_get}
-use Rattle.std.specs.List.{range_with_len}
+use Rattle.std.proofs.Common.{◌≡◌, ℕ, ◌+◌, ◌-◌, ◌<◌, ◌≤◌, ◌≢◌, Bool, true, false, length, refl, sym, ◌∙◌, subst, arith, nat_lt, Some, None, slice_get}
 use Rattle.std.proofs.lemmas.Bool.Decides.{nat_tests}
-use Rattle.std.proofs.lemmas.Option.{slice_get_within}
 use Rattle.ground_net.specs.declared.circuit.DrivenCircuit.{DrivenCircuit}
 use Rattle.ground_net.specs.declared.circuit.DrivenModule.{DrivenModule}
 use Rattle.ground_net.specs.declared.circuit.GroundInstance.{GroundInstance}
-use Rattle.ground_net.specs.declared.circuit.GroundLeaf.{GroundLeaf}
 use Rattle.ground_net.specs.declared.circuit.GroundMemory.{GroundMemory}
-use Rattle.flatten_instances.specs.declared.plan.Level.{Level}
-use Rattle.flatten_instances.specs.declared.plan.Holder.{Holder}
-use Rattle.flatten_instances.specs.declared.plan.Site.{Site}
-use Rattle.flatten_instances.specs.declared.plan.MemorySite.{MemorySite}
-use Rattle.flatten_instances.specs.declared.plan.Plan.{Plan}
-use Rattle.flatten_instances.specs.declared.walk.Walk.{Walk}
 use Rattle.flatten_instances.specs.Instances.{IsInTurn}
-use Rattle.flatten_instances.specs.FlatOrder.{Spot, spot, Item, A_leaf, A_memory, InFlatOrder, no_more, an_instance, a_memory, a_leaf, instance_here, memory_here, leaf_spots, memories_from}
-use Rattle.flatten_instances.specs.Numbers.{StandsAt, its_own, of_instance}
-use Rattle.flatten_instances.specs.Flat.{OneByOne}
-use Rattle.flatten_instances.specs.Plans.{IsSound, sound, Begins, inside, IsLevel, IsLeafSite, IsMemorySite, HasSite, Grows, Visits, GoesOn, IsFair, IsGoing}
-use Rattle.flatten_instances.proofs.Lists.{some_same, get_left, get_right, get_range, length_range, get_there, get_none, none_by_none, one_by_one, partner, partner_of}
-use Rattle.flatten_instances.proofs.Orders.{Here, is_here, not_here, is_memory_here, no_memory_here, ports_come_first}
+use Rattle.flatten_instances.specs.FlatOrder.{instance_here, memory_here}
+use Rattle.flatten_instances.specs.Plans.{IsFair}
+use Rattle.flatten_instances.proofs.Lists.{some_same, get_there}
+use Rattle.flatten_instances.proofs.Orders.{is_here, not_here, is_memory_here, no_memory_here}
 
 -- Nothing is left out
 

@@ -1,4 +1,3 @@
-use Rattle.std.proofs.Common.{◌<◌, length, sym, subst}
 use Rattle.flatten_instances.specs.Plans.{HasRegisters}
 use Rattle.flatten_instances.proofs.Lists.{one_more_read}
 use Rattle.flatten_instances.proofs.registers.register_tables.Goals as goal

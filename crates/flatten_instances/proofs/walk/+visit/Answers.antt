@@ -1,5 +1,5 @@
-use Rattle.std.proofs.Common.{ℕ, ◌<◌, ◌≡◌, ◌∷◌, Some, refl, ap, ◌∙◌, rules, length, slice_get, subst}
-use Rattle.flatten_instances.specs.Plans.{instance_next, left_of}
+use Rattle.std.proofs.Common.{◌<◌, ◌≡◌, ◌∷◌, refl, ap, ◌∙◌, rules, length, slice_get}
+use Rattle.flatten_instances.specs.Plans.{left_of}
 use Rattle.flatten_instances.proofs.Lists.{is_some_by}
 use Rattle.flatten_instances.proofs.Orders.{is_here}
 use Rattle.flatten_instances.proofs.Going.{goes_none}
