@@ -8,3 +8,4 @@ pub mod Sites
 pub mod RegisterTables
 pub mod Flattening
 pub mod Uniqueness
+pub mod Disjointness

@@ -18,7 +18,7 @@ fair_first driven m = record { within = omega arith; memory = λ memory e. omega
 
 module _ (driven : DrivenCircuit) (m : DrivenModule) (turn : IsInTurn driven m) where
   -- an instance that doesn't stand next stands behind
-  passed : (y k i : ℕ) (gi : GroundInstance) → IsFair m y k i → slice_get m.instances i ≡ Some gi → instance_here m y k i ≡ None → memory_here m y k ≡ None → y ≢ gi.first
+  pub passed : (y k i : ℕ) (gi : GroundInstance) → IsFair m y k i → slice_get m.instances i ≡ Some gi → instance_here m y k i ≡ None → memory_here m y k ≡ None → y ≢ gi.first
   passed y k i gi fair there none none' e =
       let h = fair.instance gi there in
       let memories : gi.memories ≤ length m.memories = (turn.instances i gi there).memories in

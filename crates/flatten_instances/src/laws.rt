@@ -1,13 +1,14 @@
 //! Laws of the definitions. The functions do nothing.
 
-ghost use Rattle.std.specs.Prelude.{◌≡◌, ◌<◌, ◌+◌, ℕ, List, [], ◌∷◌, codes, length, map, slice_get, slice_index, Some};
+ghost use Rattle.std.specs.Prelude.{◌≡◌, ◌≢◌, ◌<◌, ◌+◌, ℕ, List, [], ◌∷◌, codes, length, map, slice_get, slice_index, Some};
 ghost use Rattle.ground_net.specs.declared.circuit.DrivenCircuit.{DrivenCircuit};
 ghost use Rattle.ground_net.specs.declared.circuit.DrivenModule.{DrivenModule};
+ghost use Rattle.ground_net.specs.declared.circuit.GroundInstance.{GroundInstance};
 ghost use Rattle.ground_net.specs.declared.circuit.GroundLeaf.{GroundLeaf};
 ghost use Rattle.ground_net.specs.declared.ground.Ground.{Ground};
 ghost use Rattle.ground_net.specs.Grounds.{Sight, value, mentions};
 ghost use Rattle.ground_net.specs.Renumbering.{seen_by};
-ghost use Rattle.flatten_instances.specs.Instances.{IsInTurn, prefix_of};
+ghost use Rattle.flatten_instances.specs.Instances.{HasInstances, IsInTurn, prefix_of};
 ghost use Rattle.flatten_instances.specs.Examples.{two_instances, outer, four_items};
 ghost use Rattle.flatten_instances.specs.FlatOrder.{Spot, spot, Item, InFlatOrder, leaf_spots};
 ghost use Rattle.flatten_instances.specs.Numbers.{AreNumbers, driver_with};
@@ -31,6 +32,11 @@ pub fn ports_come_first()
 pub fn numbers_differ()
     ensures differ { (driven : DrivenCircuit) (spots : List Spot) (path : List ℕ) (n : ℕ) (numbers : List ℕ) (y z x : ℕ) → AreNumbers driven spots path n numbers → slice_get numbers y ≡ Some x → slice_get numbers z ≡ Some x → y ≡ z }
     ensures below { (driven : DrivenCircuit) (spots : List Spot) (path : List ℕ) (n : ℕ) (numbers : List ℕ) (y x : ℕ) → AreNumbers driven spots path n numbers → slice_get numbers y ≡ Some x → x < length spots }
+{}
+
+/// No leaf in the flat order is a leaf of an instance in its module: those stand as the leaves of the instance's module.
+pub fn instances_leaves_stand_inside()
+    ensures { (driven : DrivenCircuit) (main m child : DrivenModule) (items : List Item) (a i j : ℕ) (s : Spot) (gi : GroundInstance) → HasInstances driven → slice_get driven.modules driven.main ≡ Some main → InFlatOrder driven [] driven.main main 0 0 0 items → slice_get (leaf_spots items) a ≡ Some s → slice_get driven.modules s.within ≡ Some m → slice_get m.instances i ≡ Some gi → slice_get driven.modules gi.module ≡ Some child → j < child.ports → s.number ≢ gi.first + j }
 {}
 
 /// A driver with flat numbers has the value that the module's driver has where each leaf is seen under its flat number, and
