@@ -1,13 +1,12 @@
 -- Modules within each other have their instances in turn.
-use Rattle.std.proofs.Common.{◌≡◌, ℕ, zero, suc, ◌+◌, ◌-◌, ◌*◌, ◌<◌, ◌≤◌, ◌⊎◌, inl, inr, ⊎_elim, List, [], ◌∷◌, ◌++◌, length, refl, sym, ap, ◌∙◌, subst, arith, length-append, Some, None, slice_get}
+use Rattle.std.proofs.Common.{◌≡◌, ℕ, zero, suc, ◌+◌, ◌-◌, ◌*◌, ◌<◌, ◌⊎◌, inl, inr, ⊎_elim, List, [], ◌∷◌, ◌++◌, length, sym, ap, ◌∙◌, subst, arith, length-append, Some, slice_get}
 use Rattle.std.proofs.lemmas.Option.{slice_get_within}
-use Rattle.ground_net.specs.declared.circuit.DrivenCircuit.{DrivenCircuit}
 use Rattle.ground_net.specs.declared.circuit.DrivenModule.{DrivenModule}
 use Rattle.ground_net.specs.declared.circuit.GroundInstance.{GroundInstance}
 use Rattle.ground_net.specs.declared.circuit.GroundMemory.{GroundMemory}
 use Rattle.flatten_instances.specs.Instances.{HasInstances, IsInTurn, HasPlace}
 use Rattle.flatten_instances.proofs.Lists.{some_same, get_split, get_there}
-use Rattle.flatten_bench.specs.Made.{IsMadeInstance, IsMade, IsNest}
+use Rattle.flatten_bench.specs.Made.{IsMade, IsNest}
 
 pub nest_none : (modules : List DrivenModule) → modules ≡ [] → IsNest 0 modules
 nest_none modules is = record { counted = ap length is; each = λ n m e. let z = ap (λ l. slice_get l n) (sym is) ∙ e in cc }

@@ -1,4 +1,4 @@
--- What it is to be the flat circuit of modules of drivers.
+-- What it is to be the flat circuit of modules of drivers (FIRRTL specification 3.0, "Instances").
 use Rattle.std.specs.Prelude.{◌≡◌, ℕ, ◌+◌, ◌==◌, Bool, true, false, List, [], ◌∷◌, ◌++◌, map, filter, length, slice_get, Option, Some, None}
 use Rattle.std.specs.List.{list_any}
 use Rattle.ground_net.specs.declared.circuit.DrivenCircuit.{DrivenCircuit}

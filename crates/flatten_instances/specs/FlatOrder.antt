@@ -1,4 +1,5 @@
--- The flat order of a run: for a module, in text order, its own leaves and its memories, and for each instance the instance's own list.
+-- The flat order of a run (FIRRTL specification 3.0, "Instances"; the order is our own): for a module, in text order, its own leaves and its
+-- memories, and for each instance the instance's own list.
 use Rattle.std.specs.Prelude.{◌≡◌, ℕ, ◌+◌, ◌==◌, ◌&&◌, List, [], ◌∷◌, ◌++◌, filter_map, slice_get, Option, Some, None, option_and_then, if◌then◌else◌}
 use Rattle.ground_net.specs.declared.circuit.DrivenCircuit.{DrivenCircuit}
 use Rattle.ground_net.specs.declared.circuit.DrivenModule.{DrivenModule}

@@ -1,4 +1,4 @@
-use Rattle.std.proofs.Common.{[], ◌∷◌, length, ap, ◌∙◌, arith, length-append}
+use Rattle.std.proofs.Common.{[], ◌∷◌, length, ap, arith, length-append}
 use Rattle.flatten_bench.proofs.Nests.{held_more}
 use Rattle.flatten_bench.proofs.circuit.instances_of.Goals as goal
 
