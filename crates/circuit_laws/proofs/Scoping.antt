@@ -42,7 +42,7 @@ IsNamed u = (number : ℕ) × Names u number
 abbrev AllNamed : List Use → Type 0
 AllNamed = Every Use IsNamed
 
-abbrev Distinct : List Name → Type 0
+abbrev pub Distinct : List Name → Type 0
 Distinct [] = ⊤
 Distinct (n ∷ ns) = Avoids n.id ns × Distinct ns
 
@@ -600,7 +600,7 @@ texts-here : (before front : List Name) (n name : Name) → name.id ≡ n.id →
 texts-here [] front n name e = subst (λ t. In t (texts (n ∷ front))) (sym e) (here (texts front))
 texts-here (b ∷ before) front n name e = there b.id (texts (before ++ n ∷ front)) (texts-here before front n name e)
 
-distinct_behind : (before ns : List Name) → ((name : Name) → ¬ (IsTwice (before ++ ns) name)) → Distinct ns
+pub distinct_behind : (before ns : List Name) → ((name : Name) → ¬ (IsTwice (before ++ ns) name)) → Distinct ns
 distinct_behind before [] h = tt
 distinct_behind before (n ∷ ns) h = (
   avoids_unless n.id ns (λ front back name s e. h name (record {
@@ -644,7 +644,7 @@ ids_of holder =
     port_ids [] = refl
     port_ids (port ∷ ports) = ap (λ l. port.name.id ∷ l) (port_ids ports)
 
-abbrev DistinctIds : List ℕ → Type 0
+abbrev pub DistinctIds : List ℕ → Type 0
 DistinctIds [] = ⊤
 DistinctIds (n ∷ ns) = Every ℕ (λ m. m ≢ n) ns × DistinctIds ns
 
@@ -652,7 +652,7 @@ texts_every : (c : ℕ) (ns : List Name) → Avoids c ns → Every ℕ (λ m. m 
 texts_every c [] a = tt
 texts_every c (n ∷ ns) a = (a.0, texts_every c ns a.1)
 
-distinct_texts : (ns : List Name) → Distinct ns → DistinctIds (texts ns)
+pub distinct_texts : (ns : List Name) → Distinct ns → DistinctIds (texts ns)
 distinct_texts [] d = tt
 distinct_texts (n ∷ ns) d = (texts_every n.id ns d.0, distinct_texts ns d.1)
 
@@ -661,7 +661,7 @@ every-get P [] h k x e = cc
 every-get P (y ∷ xs) h zero x e = subst P (some_same e) h.0
 every-get P (y ∷ xs) h (suc k) x e = every-get P xs h.1 k x e
 
-ids_apart : (xs : List ℕ) → DistinctIds xs → (j k c : ℕ) → slice_get xs j ≡ Some c → slice_get xs k ≡ Some c → j ≡ k
+pub ids_apart : (xs : List ℕ) → DistinctIds xs → (j k c : ℕ) → slice_get xs j ≡ Some c → slice_get xs k ≡ Some c → j ≡ k
 ids_apart [] d j k c e f = cc
 ids_apart (x ∷ xs) d zero zero c e f = refl
 ids_apart (x ∷ xs) d zero (suc k) c e f = absurd (every-get (λ m. m ≢ x) xs d.0 k c f (sym (some_same e)))

@@ -17,3 +17,12 @@ pub record IsWellFormed (fitted : Fitted) : Type 0 where
   pub types : (k : ℕ) (holder : Module) (m : TypedModule) → slice_get fitted.checked.circuit.modules k ≡ Some holder → slice_get (modules_of fitted) k ≡ Some m
       → slice_get fitted.checked.scope.reached k ≡ Some true → HasTypes holder m
   pub bundles : HasBundles (design_of fitted)
+
+-- A module that main reaches, by its number, with the module of the text whose declarations its components are.
+pub record IsKnownModule (fitted : Fitted) (m : TypedModule) : Type 0 where
+  pub k : ℕ
+  pub holder : Module
+  pub here : slice_get fitted.checked.circuit.modules k ≡ Some holder
+  pub number : slice_get (modules_of fitted) k ≡ Some m
+  pub reached : slice_get fitted.checked.scope.reached k ≡ Some true
+  pub typed : HasTypes holder m

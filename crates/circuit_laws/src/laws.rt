@@ -1,28 +1,34 @@
 //! Laws of the definitions. The functions do nothing.
 
-ghost use Rattle.std.specs.Prelude.{◌≡◌, ℕ, ◌+◌, ℤ, List, [], map, false, Option, Some, slice_get, length, Contains, ◌<◌, nat_lt};
+ghost use Rattle.std.specs.Prelude.{◌≡◌, ◌↔◌, true, ℕ, ◌+◌, ℤ, List, [], map, false, Option, Some, slice_get, length, Contains, ◌<◌, nat_lt};
 ghost use Rattle.fir_tree.specs.declared.expr.Expr.{Expr as TheExpr};
 ghost use Rattle.fir_tree.specs.declared.stmt.Stmt.{Stmt as TheStmt};
-ghost use Rattle.fir_meaning.specs.Components.{Declaration as TheDeclaration, Leaf, told, declared_in_block, declarations_of, Component, TypedModule, modules_of, component_named};
-ghost use Rattle.fir_meaning.specs.Values.{Scene, value};
+ghost use Rattle.fir_meaning.specs.Components.{Declaration as TheDeclaration, Leaf, told, declared_in_block, declarations_of, Component, TypedModule, modules_of, component_named, type_in, design_of, module_named, module_at};
+ghost use Rattle.fir_meaning.specs.Values.{Scene, Integers, scene_with, value};
+ghost use Rattle.fir_meaning.specs.States.{leaf_of};
+ghost use Rattle.fir_meaning.specs.WellTyped.{known_in, typed, HasTypes};
+ghost use Rattle.fir_types.specs.declared.leaf.TypeLeaf.{TypeLeaf as TheLeaf};
+ghost use Rattle.fir_types.specs.Leaves.{leaves};
 ghost use Rattle.fir_meaning.specs.Mentions.{Scope, joined, mentions};
 ghost use Rattle.fir_meaning.specs.Drives.{effect, in_turn};
 ghost use Rattle.fir_meaning.specs.Certain.{certain};
 ghost use Rattle.fir_meaning.specs.Loops.{driving, live};
 ghost use Rattle.fir_names.specs.Extents.{references};
-ghost use Rattle.fir_names.specs.Scopes.{In, IsScope};
+ghost use Rattle.fir_names.specs.Scopes.{In, IsScope, Means};
 ghost use Rattle.fault_order.specs.First.{HasNone};
 ghost use Rattle.fir_names.specs.Faults.{IsFault};
 ghost use Rattle.fir_tree.specs.declared.circuit.Circuit.{Circuit as ACircuit};
 ghost use Rattle.fir_tree.specs.declared.circuit.Module.{Module as AModule};
 ghost use Rattle.fir_tree.specs.declared.scope.Fitted.{Fitted as FittedCircuit};
 ghost use Rattle.fir_tree.specs.declared.scope.Scope.{Scope as AScope};
+ghost use Rattle.cycle_values.specs.Shapes.{Shape, shape_of_value};
 ghost use Rattle.circuit_laws.specs.Names.{named_in, Avoids, Outside};
 ghost use Rattle.circuit_laws.specs.Standing.{IsAlone};
 ghost use Rattle.circuit_laws.specs.Open.{left_by};
 ghost use Rattle.circuit_laws.specs.Offsets.{offset};
-ghost use Rattle.circuit_laws.specs.Shapes.{shape_of, shapes};
+ghost use Rattle.circuit_laws.specs.Shapes.{shapes};
 ghost use Rattle.circuit_laws.specs.OpenReads.{live_by};
+ghost use Rattle.circuit_laws.specs.WellFormed.{IsWellFormed, IsKnownModule};
 
 /// A statement that doesn't name a component leaves its leaves alone: it leaves in them what was there, is not certain for
 /// them, and has no live connect of them.
@@ -67,7 +73,7 @@ pub fn modules_have_the_live_connects_of_blocks()
 
 /// The kinds and widths of an expression's values don't depend on what the leaves have.
 pub fn values_have_shapes()
-    ensures { (e : TheExpr) (scene : Scene) → map shape_of (value e scene) ≡ shapes e scene.types }
+    ensures { (e : TheExpr) (scene : Scene) → map shape_of_value (value e scene) ≡ shapes e scene.types }
 {}
 
 /// In a circuit whose names have no fault, each component of a module of its design is the one of its name.
@@ -84,4 +90,27 @@ pub fn components_are_declared()
 /// stands before that place.
 pub fn leaves_stand_where_declarations_do()
     ensures { (counts : List ℕ) (k n c j : ℕ) → slice_get counts k ≡ Some c → j < c → nat_lt (offset k counts + j) (offset n counts) ≡ nat_lt k n }
+{}
+
+/// In a well typed module the values of a well typed expression have its kinds and widths, leaf by leaf, whatever the leaves have. For
+/// each of them it mentions leaves of the module's components alone.
+pub fn typed_expressions_have_their_shapes()
+    ensures shapes { (holder : AModule) (m : TypedModule) → HasTypes holder m → (e : TheExpr) (ss : List Shape) → typed e (known_in m) ≡ Some ss → shapes e (type_in m) ≡ ss }
+    ensures values { (holder : AModule) (m : TypedModule) → HasTypes holder m → (e : TheExpr) (ss : List Shape) → typed e (known_in m) ≡ Some ss → (f : Integers) → map shape_of_value (value e (scene_with (type_in m) f)) ≡ ss }
+    ensures counted { (holder : AModule) (m : TypedModule) → HasTypes holder m → (e : TheExpr) (ss : List Shape) → typed e (known_in m) ≡ Some ss → length (mentions e (type_in m)) ≡ length ss }
+    ensures leaves { (holder : AModule) (m : TypedModule) → HasTypes holder m → (e : TheExpr) (ss : List Shape) → typed e (known_in m) ≡ Some ss → (y : Leaf) → Contains (joined (mentions e (type_in m))) y → (c : Component) × (component_named m y.component ≡ Some c) × (leaf : TheLeaf) × Contains (leaves c.typ) leaf × (leaf_of c leaf ≡ y) }
+{}
+
+/// The module of a name is the first one that has it. Where the names have no fault, each module of a design is the one of its name.
+pub fn modules_are_named()
+    ensures meant { (fitted : FittedCircuit) (name k : ℕ) (m : TypedModule) → Means fitted.checked.circuit name k → slice_get (modules_of fitted) k ≡ Some m → module_named (design_of fitted) name ≡ Some m }
+    ensures numbered { (fitted : FittedCircuit) (name : ℕ) (m : TypedModule) → module_named (design_of fitted) name ≡ Some m → (k : ℕ) × Means fitted.checked.circuit name k × (slice_get (modules_of fitted) k ≡ Some m) }
+    ensures itself { (fitted : FittedCircuit) → HasNone (IsFault fitted.checked.circuit) → (k : ℕ) (m : TypedModule) → slice_get (modules_of fitted) k ≡ Some m → module_named (design_of fitted) m.name ≡ Some m }
+    ensures once { (fitted : FittedCircuit) → HasNone (IsFault fitted.checked.circuit) → (j k : ℕ) (m n : TypedModule) → slice_get (modules_of fitted) j ≡ Some m → slice_get (modules_of fitted) k ≡ Some n → m.name ≡ n.name → j ≡ k }
+{}
+
+/// In a well formed circuit main reaches a module exactly where it stands at some path; and what stands at a path is well typed.
+pub fn reached_modules_stand_at_paths()
+    ensures reached { (fitted : FittedCircuit) → IsWellFormed fitted → (k : ℕ) (m : TypedModule) → slice_get (modules_of fitted) k ≡ Some m → (slice_get fitted.checked.scope.reached k ≡ Some true) ↔ ((path : List ℕ) × (module_at (design_of fitted) path ≡ Some m)) }
+    ensures typed { (fitted : FittedCircuit) → IsWellFormed fitted → (path : List ℕ) (m : TypedModule) → module_at (design_of fitted) path ≡ Some m → IsKnownModule fitted m }
 {}

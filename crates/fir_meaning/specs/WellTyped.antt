@@ -4,7 +4,8 @@
 use Rattle.std.specs.Prelude.{◌≡◌, ℕ, ◌≤◌, ◌&&◌, max, nat_le, nat_lt, Bool, true, false, List, [], ◌∷◌, map, Contains, slice_get, Option, Some, None, option_map, option_and_then, is_some, if◌then◌else◌}
 use Rattle.std.specs.List.{list_all}
 use Rattle.bit_words.specs.Numbers.{integer_of_number}
-use Rattle.fir_types.specs.declared.fir_type.FirType.{FirType}
+use Rattle.fir_types.specs.declared.fir_type.FirType.{FirType, fold-FirType}
+use Rattle.fir_types.specs.declared.fir_type.Shape.TheOpen.{Shape-F}
 use Rattle.fir_types.specs.declared.fir_type.Shape.TheViews.{out-Shape}
 use Rattle.fir_types.specs.declared.leaf.TypeLeaf.{TypeLeaf}
 use Rattle.fir_types.specs.declared.memory.Memory.{Memory}
@@ -16,8 +17,9 @@ use Rattle.fir_tree.specs.declared.expr.Form.TheOpen.{Form-F, Suffix-F, Expr-F}
 use Rattle.fir_tree.specs.declared.stmt.Stmt.{Stmt, fold-Stmt}
 use Rattle.fir_tree.specs.declared.stmt.Stmt.TheOpen.{Stmt-F, Arm-F}
 use Rattle.cycle_values.specs.Shapes.{Shape, shaped, same_kind, is_unsigned, all_of, shape_of_row}
-use Rattle.fir_meaning.specs.Components.{TypedModule, Component, Sort, A_node, A_memory, component_named, declarations_of, kind_of_leaf, width_of_leaf}
-use Rattle.fir_meaning.specs.MemoryPorts.{memory_ports}
+use Rattle.fir_meaning.specs.Components.{TypedModule, Component, A_node, A_memory, component_named, declarations_of, kind_of_leaf, width_of_leaf, width_or_none, is_clock}
+use Rattle.fir_meaning.specs.MemoryPorts.{MemoryPort, memory_ports, port_named}
+use Rattle.fir_meaning.specs.States.{is_register}
 use Rattle.fir_meaning.specs.Values.{field_of_shape, element_of_shape, vector_length, literal_width}
 
 -- The types of a module's components; none where there is no component of the name.
@@ -123,6 +125,18 @@ module _ (known : Known) where
   abbrev pub are_typed : List Stmt → Bool
   are_typed body = list_all (λ b. b) (map is_typed_stmt body)
 
+-- No ground type in a type has more than 128 bits, also none in an element of a vector of length 0.
+abbrev pub narrow_layer : Shape-F Bool Bool Bool → Bool
+narrow_layer (Shape-F.Unsigned width) = nat_le (width_or_none width) 128
+narrow_layer (Shape-F.Signed width) = nat_le (width_or_none width) 128
+narrow_layer Shape-F.Clock = true
+narrow_layer Shape-F.Reset = true
+narrow_layer (Shape-F.Bundle fields) = list_all (λ f. f) fields
+narrow_layer (Shape-F.Vector element n) = element
+
+abbrev pub is_narrow : FirType → Bool
+is_narrow = fold-FirType Bool Bool Bool narrow_layer (λ f. f.typ) (λ t. t.shape)
+
 -- A module of a text and its components are well typed: there is one for each declaration, in text order; a node has the kinds and
 -- widths of its expression; no leaf has more than 128 bits; the ways of a component's leaves differ pairwise.
 pub record HasTypes (holder : Module) (m : TypedModule) : Type 0 where
@@ -131,6 +145,13 @@ pub record HasTypes (holder : Module) (m : TypedModule) : Type 0 where
   pub nodes : (c : Component) (e : Expr) → Contains m.components c → c.declaration.sort ≡ A_node e → typed e (known_in m) ≡ Some (map leaf_shape (leaves c.typ))
   pub passive : (c : Component) (e : Expr) (leaf : TypeLeaf) → Contains m.components c → c.declaration.sort ≡ A_node e → Contains (leaves c.typ) leaf → leaf.flip ≡ false
   pub narrow : (c : Component) (leaf : TypeLeaf) → Contains m.components c → Contains (leaves c.typ) leaf → width_of_leaf leaf ≤ 128
+  -- so have the parts of a vector of length 0, which has no leaves
+  pub parts : (c : Component) → Contains m.components c → is_narrow c.typ ≡ true
   pub ways : (c : Component) (j k : ℕ) (a b : TypeLeaf) → Contains m.components c → slice_get (leaves c.typ) j ≡ Some a → slice_get (leaves c.typ) k ≡ Some b → a.path ≡ b.path → j ≡ k
   -- the elements of a memory without ports, which has no leaves
   pub elements : (c : Component) (memory : Memory) (leaf : TypeLeaf) → Contains m.components c → c.declaration.sort ≡ A_memory memory → memory_ports memory ≡ [] → Contains (leaves (element_of memory)) leaf → width_of_leaf leaf ≤ 128
+  -- registers and memories hold no Clock, registers have no flipped leaf, and the ports of a memory have different names
+  pub held : (c : Component) (leaf : TypeLeaf) → Contains m.components c → is_register c.declaration.sort ≡ true → Contains (leaves c.typ) leaf → is_clock leaf ≡ false
+  pub read_data : (c : Component) (memory : Memory) (leaf : TypeLeaf) → Contains m.components c → c.declaration.sort ≡ A_memory memory → Contains (leaves c.typ) leaf → leaf.flip ≡ false → is_clock leaf ≡ false
+  pub port_names : (c : Component) (memory : Memory) (port : MemoryPort) → Contains m.components c → c.declaration.sort ≡ A_memory memory → Contains (memory_ports memory) port → port_named memory port.name ≡ Some port
+  pub held_passive : (c : Component) (leaf : TypeLeaf) → Contains m.components c → is_register c.declaration.sort ≡ true → Contains (leaves c.typ) leaf → leaf.flip ≡ false
