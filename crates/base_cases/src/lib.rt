@@ -16,6 +16,8 @@ mod operation_values;
 #[cfg(test)]
 mod phases;
 #[cfg(test)]
+mod pools;
+#[cfg(test)]
 mod posts;
 #[cfg(test)]
 mod shelves;
