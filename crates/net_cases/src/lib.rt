@@ -2,9 +2,13 @@
 #![tactic(auto)]
 
 #[cfg(test)]
+mod expanding;
+#[cfg(test)]
 mod nets;
 #[cfg(test)]
 mod orders;
+#[cfg(test)]
+mod placing;
 #[cfg(test)]
 mod stimuli;
 #[cfg(test)]

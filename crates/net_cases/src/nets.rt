@@ -46,7 +46,8 @@ pub fn net_of(alloc: Global, plan: Plan) -> Result<Net, AllocError>
     ensures memories { IfOk result (λ net. length net.memories ≤ 1000) }
 {
     let rows = plan.rows;
-    if rows.len() > MOST {
+    let count = rows.len();
+    if count > MOST {
         return Err(AllocError);
     }
     let registers = registers_of(alloc, rows)?;
@@ -56,11 +57,11 @@ pub fn net_of(alloc: Global, plan: Plan) -> Result<Net, AllocError>
     }
     let mut leaves = List::new(alloc);
     let mut drivers = List::new(alloc);
-    for index in 0..rows.len() {
+    for index in 0..count {
         let (name, role, place, reads) = rows[index];
         let leaf = leaf_of(alloc, name, role, place)?;
         leaves.push(leaf)?;
-        let driver = driver_of(alloc, reads, rows.len())?;
+        let driver = driver_of(alloc, reads, count)?;
         drivers.push(driver)?;
     }
     Ok(Net {

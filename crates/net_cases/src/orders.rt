@@ -1,5 +1,7 @@
 //! Nets in an order: their sequence or their loop, their cut, and the leaves by which they are fed and watched.
 
+ghost use Rattle.std.specs.Prelude.{◌<◌, ◌≤◌, length};
+
 use crate::nets::{MemoryRow, Plan, net_of};
 use crate::telling::expect;
 use comb_order::{OrderFault, order};
@@ -69,21 +71,28 @@ const READWRITER: Plan = Plan {
     }),
 };
 
-/// The listing of a cut.
+/// The listing of a cut, where there may be such a one.
 fn told_cut(alloc: Global, plan: Plan, watch: &[u32], workers: u32) -> Option<Vec<u8>> {
     if workers == 0 || workers > 64 || watch.len() > 1000 {
         return None;
     }
-    let Ok(net) = net_of(alloc, plan) else {
-        return None;
-    };
-    let Ok(ordered) = order(alloc, net) else {
-        return None;
-    };
-    let Ok(made) = cut(alloc, &ordered, watch, workers) else {
-        return None;
-    };
-    cut_text(alloc, &made).ok()
+    listing(alloc, plan, watch, workers).ok()
+}
+
+fn listing(
+    alloc: Global,
+    plan: Plan,
+    watch: &[u32],
+    workers: u32,
+) -> Result<Vec<u8>, OrderFault>
+    requires few { length watch.now ≤ 1000 }
+    requires some_workers { 0 < workers }
+    requires few_workers { workers ≤ 64 }
+{
+    let net = net_of(alloc, plan)?;
+    let ordered = order(alloc, net)?;
+    let made = cut(alloc, &ordered, watch, workers)?;
+    Ok(cut_text(alloc, &made)?)
 }
 
 #[test]
