@@ -3,7 +3,7 @@
 ghost use Rattle.std.specs.Prelude.{◌<◌, ◌^◌, length, All, IfOk};
 
 use crate::telling::expect;
-use bit_words::{Kind, List, Value};
+use bit_words::{Kind, List, from_words};
 use expand_whens::expand;
 use ground_net::{
     Ground, GroundArm, GroundCircuit, GroundLeaf, GroundModule, GroundRole, GroundStmt,
@@ -25,12 +25,8 @@ enum Body {
     Later,
 }
 
-fn constant(bits: u128) -> Ground {
-    Ground::Const(Value {
-        kind: Kind::Unsigned,
-        width: 8,
-        bits,
-    })
+fn constant(bits: u64) -> Ground {
+    Ground::Const(from_words(Kind::Unsigned, 8, bits, 0))
 }
 
 fn connect(alloc: Global, leaf: u32, source: Ground) -> GroundStmt {
