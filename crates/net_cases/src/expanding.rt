@@ -121,11 +121,7 @@ fn leaves_of(alloc: Global, roles: &[GroundRole]) -> Result<List<GroundLeaf>, Al
 }
 
 /// A circuit of one module with leaves in these roles.
-fn circuit_of(
-    alloc: Global,
-    roles: &[GroundRole],
-    body: Body,
-) -> Result<GroundCircuit, AllocError>
+fn circuit_of(alloc: Global, roles: &[GroundRole], body: Body) -> Result<GroundCircuit, AllocError>
     ensures { IfOk result (λ ground. All (λ m. length m.leaves < 2 ^ 32) ground.modules) }
 {
     let leaves = leaves_of(alloc, roles)?;
@@ -219,11 +215,31 @@ const PLAIN: [GroundRole; 2] = [GroundRole::Input, GroundRole::Plain];
 #[test]
 fn the_last_connect_wins(rt: HostRuntime) {
     for (roles, body, values, wanted) in [
-        (FOUR.as_slice(), Body::Last, [1, 0, 2].as_slice(), " - - 2 2"),
-        (FOUR.as_slice(), Body::Last, [0, 1, 3].as_slice(), " - - 3 3"),
-        (FOUR.as_slice(), Body::Last, [0, 0, 1].as_slice(), " - - 1 1"),
+        (
+            FOUR.as_slice(),
+            Body::Last,
+            [1, 0, 2].as_slice(),
+            " - - 2 2",
+        ),
+        (
+            FOUR.as_slice(),
+            Body::Last,
+            [0, 1, 3].as_slice(),
+            " - - 3 3",
+        ),
+        (
+            FOUR.as_slice(),
+            Body::Last,
+            [0, 0, 1].as_slice(),
+            " - - 1 1",
+        ),
         // the first arm that holds
-        (FOUR.as_slice(), Body::Last, [1, 1, 2].as_slice(), " - - 2 2"),
+        (
+            FOUR.as_slice(),
+            Body::Last,
+            [1, 1, 2].as_slice(),
+            " - - 2 2",
+        ),
         // the conditions around a declaration aren't asked
         (
             IN_BRANCH.as_slice(),
@@ -238,8 +254,18 @@ fn the_last_connect_wins(rt: HostRuntime) {
             " - 5 6 5",
         ),
         // a register keeps its value
-        (REGISTER.as_slice(), Body::Partial, [0, 5].as_slice(), " - 5"),
-        (REGISTER.as_slice(), Body::Partial, [1, 5].as_slice(), " - 7"),
+        (
+            REGISTER.as_slice(),
+            Body::Partial,
+            [0, 5].as_slice(),
+            " - 5",
+        ),
+        (
+            REGISTER.as_slice(),
+            Body::Partial,
+            [1, 5].as_slice(),
+            " - 7",
+        ),
         // a leaf isn't read under an arm behind its connect's, so that it needs no value
         (PLAIN.as_slice(), Body::Later, [0].as_slice(), " - 0"),
         (PLAIN.as_slice(), Body::Later, [1].as_slice(), " - 1"),

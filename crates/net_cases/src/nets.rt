@@ -13,12 +13,7 @@ use std::alloc::{AllocError, Global};
 
 /// A leaf: its name and role, the line and the column of its component's name, and three leaves that its driver mentions, where it
 /// mentions any.
-pub type Row = (
-    &'static str,
-    Role,
-    (u32, u32),
-    Option<(u32, u32, u32)>,
-);
+pub type Row = (&'static str, Role, (u32, u32), Option<(u32, u32, u32)>);
 
 /// The leaves of a net, of which so many are main's, and its memory, if it has one.
 #[derive(Clone, Copy)]

@@ -79,12 +79,7 @@ fn told_cut(alloc: Global, plan: Plan, watch: &[u32], workers: u32) -> Option<Ve
     listing(alloc, plan, watch, workers).ok()
 }
 
-fn listing(
-    alloc: Global,
-    plan: Plan,
-    watch: &[u32],
-    workers: u32,
-) -> Result<Vec<u8>, OrderFault>
+fn listing(alloc: Global, plan: Plan, watch: &[u32], workers: u32) -> Result<Vec<u8>, OrderFault>
     requires few { length watch.now ≤ 1000 }
     requires some_workers { 0 < workers }
     requires few_workers { workers ≤ 64 }

@@ -212,12 +212,7 @@ fn told_memories(alloc: Global) -> Option<Vec<u8>> {
     let net = placed(alloc)?;
     let mut text = Vec::new(alloc);
     for memory in net.memories.as_slice() {
-        write!(
-            text,
-            "{} {} {};",
-            memory.before, memory.depth, memory.word
-        )
-        .ok()?;
+        write!(text, "{} {} {};", memory.before, memory.depth, memory.word).ok()?;
     }
     Some(text)
 }
