@@ -140,7 +140,7 @@ output_source true = refl
 output_source false = refl
 
 -- what a port of a module is as a component of it: inside it is a source where outside it is none
-port_sort : (p : Component) (sort : Sort) (port : Port) → port_of p sort ≡ Some port
+pub port_sort : (p : Component) (sort : Sort) (port : Port) → port_of p sort ≡ Some port
     → (is_port sort ≡ true) × (port.name.id ≡ p.declaration.name) × (port.typ ≡ p.typ) × ((flip : Bool) → is_source (flow_of sort flip) ≡ (if not port.output then not flip else flip))
 port_sort p An_input port e =
     let same = some_same _ port e in
@@ -168,7 +168,7 @@ port_there p (A_node expr) e = absurd (true≢false (sym e))
 abbrev port_leaf : Port → TypeLeaf → TypeLeaf
 port_leaf port part = under (step.Field port.name.id ∷ []) (not port.output) part
 
-instance_leaves : (ports : List Port) → leaves (instance_of ports) ≡ flat_map (λ f. map (under (step.Field f.name.id ∷ []) f.flip) (leaves f.typ)) (map instance_field ports)
+pub instance_leaves : (ports : List Port) → leaves (instance_of ports) ≡ flat_map (λ f. map (under (step.Field f.name.id ∷ []) f.flip) (leaves f.typ)) (map instance_field ports)
 instance_leaves ports = bundle_leaves nowhere (map instance_field ports)
 
 -- A leaf of an instance is the leaf of a port inside; it is a source there where it is flipped here.

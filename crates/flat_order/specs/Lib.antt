@@ -1,0 +1,4 @@
+pub mod Instances
+pub mod FlatOrder
+pub mod Numbers
+pub mod Flat
