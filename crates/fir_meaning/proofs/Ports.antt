@@ -155,7 +155,7 @@ port_sort p (A_memory memory) port e = absurd (none_some e)
 port_sort p (An_instance target) port e = absurd (none_some e)
 port_sort p (A_node expr) port e = absurd (none_some e)
 
-port_there : (p : Component) (sort : Sort) → is_port sort ≡ true → (port : Port) × (port_of p sort ≡ Some port)
+pub port_there : (p : Component) (sort : Sort) → is_port sort ≡ true → (port : Port) × (port_of p sort ≡ Some port)
 port_there p An_input e = (_, refl)
 port_there p An_output e = (_, refl)
 port_there p A_wire e = absurd (true≢false (sym e))

@@ -66,20 +66,20 @@ two_back (both r s) (suc k) y e = two_back s k y e
 
 -- Ports of a module and the leaves of its instances
 
-abbrev field_leaves_of : Port → List TypeLeaf
+abbrev pub field_leaves_of : Port → List TypeLeaf
 field_leaves_of port = map (under (step.Field (instance_field port).name.id ∷ []) (instance_field port).flip) (leaves (instance_field port).typ)
 
-abbrev port_size : Component → ℕ
+abbrev pub port_size : Component → ℕ
 port_size c = if is_port c.declaration.sort then length (leaves c.typ) else 0
 
-ports_of_list : List Component → List Port
+abbrev pub ports_of_list : List Component → List Port
 ports_of_list cs = filter_map (λ c. port_of c c.declaration.sort) cs
 
-length_append : {A : Type 0} (xs ys : List A) → length (xs ++ ys) ≡ length xs + length ys
+pub length_append : {A : Type 0} (xs ys : List A) → length (xs ++ ys) ≡ length xs + length ys
 length_append [] ys = omega arith
 length_append (x ∷ xs) ys = let r = length_append xs ys in omega arith
 
-map_counted : {A B : Type 0} (f : A → B) (xs : List A) → length (map f xs) ≡ length xs
+pub map_counted : {A B : Type 0} (f : A → B) (xs : List A) → length (map f xs) ≡ length xs
 map_counted f [] = refl
 map_counted f (x ∷ xs) = let r = map_counted f xs in omega arith
 
@@ -102,16 +102,14 @@ own_size c (An_instance target) s rest = omega arith
 own_size c (A_node expr) s rest = omega arith
 
 ports_length : (cs : List Component) → length (flat_map field_leaves_of (ports_of_list cs)) ≡ sum_by port_size cs
-unfolding ports_of_list
 ports_length [] = grind (arith, common_steps)
 ports_length (c ∷ cs) = own_size c c.declaration.sort refl (ports_of_list cs) ∙ (ap (λ n. port_size c + n) (ports_length cs) ∙ sym (sum_by-cons port_size c cs))
 
-flat_map_map : {A B C : Type 0} (f : B → List C) (g : A → B) (xs : List A) → flat_map f (map g xs) ≡ flat_map (λ x. f (g x)) xs
+pub flat_map_map : {A B C : Type 0} (f : B → List C) (g : A → B) (xs : List A) → flat_map f (map g xs) ≡ flat_map (λ x. f (g x)) xs
 flat_map_map f g [] = refl
 flat_map_map f g (x ∷ xs) = flat_map-cons f (g x) (map g xs) ∙ (ap (λ l. f (g x) ++ l) (flat_map_map f g xs) ∙ sym (flat_map-cons (λ x. f (g x)) x xs))
 
 pub instance_size : (m : TypedModule) → length (leaves (instance_of (typed_ports m))) ≡ sum_by port_size m.components
-unfolding ports_of_list
 instance_size m =
     ap length (instance_leaves (typed_ports m) ∙ flat_map_map (λ f. map (under (step.Field f.name.id ∷ []) f.flip) (leaves f.typ)) instance_field (typed_ports m)) ∙ ports_length m.components
 

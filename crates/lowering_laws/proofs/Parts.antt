@@ -3,6 +3,7 @@ use Rattle.std.proofs.Common.{◌≡◌, ℕ, zero, suc, ◌+◌, ◌==◌, ◌<
 use Rattle.std.specs.List.{slice_get, flat_map, range_with_len, cons_option, sum_by}
 use Rattle.std.proofs.lemmas.Grind.{common_steps, flat_map-append}
 use Rattle.std.proofs.lemmas.List.Concat.{flat_map-cons}
+use Rattle.std.proofs.lemmas.List.Sums.{sum_by-cons}
 use Rattle.fir_types.specs.declared.leaf.TypeLeaf.{TypeLeaf}
 use Rattle.fir_types.specs.declared.memory.Memory.{Memory}
 use Rattle.fir_types.specs.Leaves.{leaves}
@@ -104,6 +105,67 @@ counted_before (c ∷ cs) =
     let n : length (flat_map leaves_of (c ∷ cs)) ≡ length (leaves_of c) + length (flat_map leaves_of cs) = ap length (flat_map-cons leaves_of c cs) ∙ length_append (leaves_of c) (flat_map leaves_of cs) in
     let own : length (leaves_of c) ≡ length (leaves c.typ) = leaves_counted_of c in
     grind (arith, common_steps, r, n, own)
+
+-- where a part comes from
+from_part : {B : Type 0} (F : ℕ → Component → Option B) (a : ℕ) (cs : List Component) (i : ℕ) (b : B) → slice_get (parts_from F a cs) i ≡ Some b → (j : ℕ) × (c : Component) × (slice_get cs j ≡ Some c) × (F (a + j) c ≡ Some b)
+from_part F a [] i b e = none_some e
+from_part {B} F a (c ∷ cs) i b e = by (F a c) refl i e (λ k h. from_part F (a + 1) cs k b h) where
+  by : (o : Option B) → F a c ≡ o → (i : ℕ) → slice_get (cons_option o (parts_from F (a + 1) cs)) i ≡ Some b
+      → ((k : ℕ) → slice_get (parts_from F (a + 1) cs) k ≡ Some b → (j : ℕ) × (d : Component) × (slice_get cs j ≡ Some d) × (F (a + 1 + j) d ≡ Some b))
+      → (j : ℕ) × (d : Component) × (slice_get (c ∷ cs) j ≡ Some d) × (F (a + j) d ≡ Some b)
+  by None q i e onward = let r = onward i e in let n : a + 1 + r.0 ≡ a + suc r.0 = omega arith in (suc r.0, r.1, r.2, ap (λ z. F z r.1) (sym n) ∙ r.3)
+  by (Some x) q zero e onward = let n : a + 0 ≡ a = omega arith in (0, c, refl, ap (λ z. F z c) n ∙ (q ∙ e))
+  by (Some x) q (suc i) e onward = let r = onward i e in let n : a + 1 + r.0 ≡ a + suc r.0 = omega arith in (suc r.0, r.1, r.2, ap (λ z. F z r.1) (sym n) ∙ r.3)
+
+pub instance_place : (cs : List Component) (i at : ℕ) (c : Component) (target : ℕ) → slice_get (instance_parts cs) i ≡ Some (at, c, target) → (slice_get cs at ≡ Some c) × (target_in c.declaration.sort ≡ Some target)
+instance_place cs i at c target e =
+    let r = from_part instance_part 0 cs i (at, c, target) (ap (λ l. slice_get l i) (sym (instances_are cs)) ∙ e) in
+    let n : 0 + r.0 ≡ r.0 = omega arith in
+    by r.0 r.1 r.2 (target_in r.1.declaration.sort) refl (ap (λ z. instance_part z r.1) (sym n) ∙ r.3)
+  where
+    by : (j : ℕ) (d : Component) → slice_get cs j ≡ Some d → (o : Option ℕ) → target_in d.declaration.sort ≡ o → instance_part j d ≡ Some (at, c, target) → (slice_get cs at ≡ Some c) × (target_in c.declaration.sort ≡ Some target)
+    by j d there None q h = none_some (sym (ap (option_map (λ t. (j, d, t))) q) ∙ h)
+    by j d there (Some t) q h =
+        let same : (j, d, t) ≡ (at, c, target) = some_same {A = ℕ × Component × ℕ} (sym (ap (option_map (λ t. (j, d, t))) q) ∙ h) in
+        (ap (slice_get cs) (sym (ap (λ x. x.0) same)) ∙ (there ∙ ap Some (ap (λ x. x.1) same)),
+        ap (λ (x : Component). target_in x.declaration.sort) (sym (ap (λ x. x.1) same)) ∙ (q ∙ ap Some (ap (λ x. x.2) same)))
+
+pub memory_place : (cs : List Component) (k at : ℕ) (c : Component) (memory : Memory) → slice_get (memory_parts cs) k ≡ Some (at, c, memory) → (slice_get cs at ≡ Some c) × (c.declaration.sort ≡ A_memory memory)
+memory_place cs k at c memory e =
+    let r = from_part memory_part 0 cs k (at, c, memory) (ap (λ l. slice_get l k) (sym (memories_are cs)) ∙ e) in
+    let n : 0 + r.0 ≡ r.0 = omega arith in
+    by r.0 r.1 r.2 r.1.declaration.sort refl (ap (λ z. memory_part z r.1) (sym n) ∙ r.3)
+  where
+    by : (j : ℕ) (d : Component) → slice_get cs j ≡ Some d → (sort : Sort) → d.declaration.sort ≡ sort → as_memory j d d.declaration.sort ≡ Some (at, c, memory) → (slice_get cs at ≡ Some c) × (c.declaration.sort ≡ A_memory memory)
+    by j d there (A_memory held) q h =
+        let same : (j, d, held) ≡ (at, c, memory) = some_same {A = ℕ × Component × Memory} (sym (ap (as_memory j d) q) ∙ h) in
+        (ap (slice_get cs) (sym (ap (λ x. x.0) same)) ∙ (there ∙ ap Some (ap (λ x. x.1) same)),
+        ap (λ (x : Component). x.declaration.sort) (sym (ap (λ x. x.1) same)) ∙ (q ∙ ap A_memory (ap (λ x. x.2) same)))
+    by j d there An_input q h = none_some (sym (ap (as_memory j d) q) ∙ h)
+    by j d there An_output q h = none_some (sym (ap (as_memory j d) q) ∙ h)
+    by j d there A_wire q h = none_some (sym (ap (as_memory j d) q) ∙ h)
+    by j d there (A_register clock) q h = none_some (sym (ap (as_memory j d) q) ∙ h)
+    by j d there (A_reset_register clock reset init) q h = none_some (sym (ap (as_memory j d) q) ∙ h)
+    by j d there (An_instance target) q h = none_some (sym (ap (as_memory j d) q) ∙ h)
+    by j d there (A_node expr) q h = none_some (sym (ap (as_memory j d) q) ∙ h)
+
+-- The leaves of a component stand behind those of the components before it.
+pub leaf_behind : (cs : List Component) (at : ℕ) (c : Component) (j : ℕ) (leaf : TypeLeaf) → slice_get cs at ≡ Some c → slice_get (leaves c.typ) j ≡ Some leaf
+    → slice_get (flat_map leaves_of cs) (sum_by (λ x. length (leaves x.typ)) (take at cs) + j) ≡ Some (c, leaf)
+leaf_behind [] at c j leaf e f = none_some e
+leaf_behind (d ∷ cs) zero c j leaf e f =
+    let n : sum_by (λ (x : Component). length (leaves x.typ)) [] + j ≡ j = grind (arith, common_steps) in
+    let same = some_same e in
+    ap (slice_get (flat_map leaves_of (d ∷ cs))) n
+    ∙ (ap (λ l. slice_get l j) (flat_map-cons leaves_of d cs) ∙ first_of (leaves_of d) (flat_map leaves_of cs) j (c, leaf)
+    (ap (λ x. slice_get (leaves_of x) j) same ∙ map_at (λ l. (c, l)) (leaves c.typ) j leaf f))
+leaf_behind (d ∷ cs) (suc at) c j leaf e f =
+    let r = leaf_behind cs at c j leaf e f in
+    let S : List Component → ℕ = sum_by (λ (x : Component). length (leaves x.typ)) in
+    let n : S (take (suc at) (d ∷ cs)) ≡ length (leaves d.typ) + S (take at cs) = sum_by-cons (λ (x : Component). length (leaves x.typ)) d (take at cs) in
+    let k : S (take (suc at) (d ∷ cs)) + j ≡ length (leaves_of d) + (S (take at cs) + j) = (let q = leaves_counted_of d in grind (arith, common_steps, n, q)) in
+    ap (slice_get (flat_map leaves_of (d ∷ cs))) k ∙ (ap (λ l. slice_get l (length (leaves_of d) + (S (take at cs) + j))) (flat_map-cons leaves_of d cs)
+    ∙ second_of (leaves_of d) (flat_map leaves_of cs) (S (take at cs) + j) (c, leaf) r)
 
 -- The components from one on stand behind so many leaves, memories and instances.
 pub data StandsFrom (texts : Texts) (circuit : Circuit) (m : TypedModule) (d : DrivenModule) : ℕ → ℕ → ℕ → List Component → Type 0 where
