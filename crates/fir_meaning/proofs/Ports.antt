@@ -140,7 +140,7 @@ output_source true = refl
 output_source false = refl
 
 -- what a port of a module is as a component of it: inside it is a source where outside it is none
-pub port_sort : (p : Component) (sort : Sort) (port : Port) → port_of p sort ≡ Some port
+port_sort : (p : Component) (sort : Sort) (port : Port) → port_of p sort ≡ Some port
     → (is_port sort ≡ true) × (port.name.id ≡ p.declaration.name) × (port.typ ≡ p.typ) × ((flip : Bool) → is_source (flow_of sort flip) ≡ (if not port.output then not flip else flip))
 port_sort p An_input port e =
     let same = some_same _ port e in
@@ -155,7 +155,7 @@ port_sort p (A_memory memory) port e = absurd (none_some e)
 port_sort p (An_instance target) port e = absurd (none_some e)
 port_sort p (A_node expr) port e = absurd (none_some e)
 
-pub port_there : (p : Component) (sort : Sort) → is_port sort ≡ true → (port : Port) × (port_of p sort ≡ Some port)
+port_there : (p : Component) (sort : Sort) → is_port sort ≡ true → (port : Port) × (port_of p sort ≡ Some port)
 port_there p An_input e = (_, refl)
 port_there p An_output e = (_, refl)
 port_there p A_wire e = absurd (true≢false (sym e))
@@ -168,7 +168,7 @@ port_there p (A_node expr) e = absurd (true≢false (sym e))
 abbrev port_leaf : Port → TypeLeaf → TypeLeaf
 port_leaf port part = under (step.Field port.name.id ∷ []) (not port.output) part
 
-pub instance_leaves : (ports : List Port) → leaves (instance_of ports) ≡ flat_map (λ f. map (under (step.Field f.name.id ∷ []) f.flip) (leaves f.typ)) (map instance_field ports)
+instance_leaves : (ports : List Port) → leaves (instance_of ports) ≡ flat_map (λ f. map (under (step.Field f.name.id ∷ []) f.flip) (leaves f.typ)) (map instance_field ports)
 instance_leaves ports = bundle_leaves nowhere (map instance_field ports)
 
 -- A leaf of an instance is the leaf of a port inside; it is a source there where it is flipped here.

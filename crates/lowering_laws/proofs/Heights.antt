@@ -7,7 +7,7 @@ use Rattle.ground_net.specs.declared.circuit.DrivenModule.{DrivenModule}
 use Rattle.ground_net.specs.declared.circuit.GroundInstance.{GroundInstance}
 use Rattle.ground_net.specs.declared.circuit.GroundMemory.{GroundMemory}
 use Rattle.ground_net.specs.declared.circuit.GroundLeaf.{GroundLeaf}
-use Rattle.flat_order.specs.FlatOrder.{Item, A_leaf, A_memory, spot, instance_here, memory_here, InFlatOrder, no_more, an_instance, a_memory, a_leaf}
+use Rattle.flatten_instances.specs.FlatOrder.{Item, A_leaf, A_memory, spot, instance_here, memory_here, InFlatOrder, no_more, an_instance, a_memory, a_leaf}
 
 pub some_same : {A : Type 0} {x y : A} → Some x ≡ Some y → x ≡ y
 some_same e = cc

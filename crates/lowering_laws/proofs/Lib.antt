@@ -1,4 +1,6 @@
 pub mod Heights
+pub mod Inside
 pub mod Parts
 pub mod Matching
 pub mod Seeing
+pub mod Driving

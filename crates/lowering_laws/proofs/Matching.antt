@@ -17,7 +17,7 @@ use Rattle.fir_names.specs.Scopes.{Means, FirstOf}
 use Rattle.leaf_names.specs.LeafNames.{Texts}
 use Rattle.fir_meaning.specs.Components.{Design, TypedModule, Component, Sort, An_input, An_output, A_wire, A_register, A_reset_register, A_memory, An_instance, A_node, design_of, modules_of, module_at, module_named, component_named, target_in, typed_ports, port_of}
 use Rattle.fir_meaning.specs.States.{is_port}
-use Rattle.fir_meaning.proofs.Ports.{at_snoc, inside, target_is, target_sort, bundle_leaves, port_sort, instance_leaves}
+use Rattle.fir_meaning.proofs.Ports.{at_snoc, inside, target_is, target_sort}
 use Rattle.circuit_laws.specs.WellFormed.{IsWellFormed}
 use Rattle.circuit_laws.proofs.Reached.{reached_is_standing, meant_module}
 use Rattle.ground_net.specs.declared.circuit.GroundCircuit.{GroundCircuit}
@@ -32,12 +32,13 @@ use Rattle.net_of_circuit.specs.FlatOrder.{Placed, InFlatOrder, no_more, one_mor
 use Rattle.net_of_circuit.specs.FlatOrder as flat
 use Rattle.ground_of_circuit.specs.Numbers.{ModuleLeaf, module_leaves, leaves_of, as_memory, memory_parts, instance_parts}
 use Rattle.ground_of_circuit.specs.Lowering.{IsGroundOf, IsGroundModule, IsGroundInstance, IsGroundMemory}
-use Rattle.flat_order.specs.FlatOrder.{Spot, spot, Item, A_leaf, instance_here, memory_here, leaf_spots, leaf_in, memories_from}
-use Rattle.flat_order.specs.FlatOrder as items
+use Rattle.flatten_instances.specs.FlatOrder.{Spot, spot, Item, A_leaf, instance_here, memory_here, leaf_spots, leaf_in, memories_from}
+use Rattle.flatten_instances.specs.FlatOrder as items
 use Rattle.net_laws.proofs.Rows.{all_of_append, leaves_of as entries_of}
 use Rattle.design_laws.proofs.Lists.{in_list, below_length, map_at, first_of, second_of, append_nil}
 use Rattle.design_laws.proofs.Standing.{placed_at}
 use Rattle.lowering_laws.proofs.Heights.{some_same, none_some, height, takes_instance, takes_memory, takes_leaf, takes_nothing}
+use Rattle.lowering_laws.proofs.Inside.{instance_leaves}
 use Rattle.lowering_laws.proofs.Parts.{parts_from, memory_part, instance_part, StandsFrom, no_component, instance_next, memory_next, other_next, instance_behind, memory_behind, item, stands_from, leaves_counted_of}
 
 -- Lists, two by two

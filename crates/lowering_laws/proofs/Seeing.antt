@@ -25,7 +25,7 @@ use Rattle.fir_meaning.specs.Mentions.{Agree}
 use Rattle.fir_meaning.specs.States.{is_port, leaf_of}
 use Rattle.fir_meaning.specs.WellTyped.{leaf_shape}
 use Rattle.fir_meaning.proofs.Settling.{at, local, local_at, flat_none}
-use Rattle.fir_meaning.proofs.Ports.{target_is, target_sort, component_found, port_there, port_sort, instance_leaves}
+use Rattle.fir_meaning.proofs.Ports.{target_is, target_sort, component_found}
 use Rattle.circuit_laws.specs.WellFormed.{IsWellFormed}
 use Rattle.cycle_values.specs.Shapes.{shape_of_value}
 use Rattle.ground_net.specs.declared.circuit.GroundCircuit.{GroundCircuit}
@@ -42,13 +42,14 @@ use Rattle.net_of_circuit.specs.FlatOrder.{Placed, Standing, all_leaves, flat_of
 use Rattle.net_of_circuit.specs.NetOf.{valuation_of}
 use Rattle.ground_of_circuit.specs.Numbers.{ModuleLeaf, module_leaves, leaves_of, leaves_before, number_of, scene_at, table_of, ground_shape, instance_parts}
 use Rattle.ground_of_circuit.specs.Lowering.{IsGroundOf}
-use Rattle.flat_order.specs.FlatOrder.{Spot, spot}
-use Rattle.flat_order.specs.Numbers.{StandsAt, its_own, of_instance, AreNumbers}
+use Rattle.flatten_instances.specs.FlatOrder.{Spot, spot}
+use Rattle.flatten_instances.specs.Numbers.{StandsAt, its_own, of_instance, AreNumbers}
 use Rattle.net_laws.specs.Typed.{HasPortsFirst}
 use Rattle.net_laws.proofs.Numbers.{valuation_at, way_is}
 use Rattle.design_laws.proofs.Lists.{in_list, place_of, later, below_length, map_at, from_map_at, in_append, first_of, second_of, append_nil}
 use Rattle.design_laws.proofs.Accepted.{ports_first}
 use Rattle.lowering_laws.proofs.Heights.{some_same, none_some}
+use Rattle.lowering_laws.proofs.Inside.{port_there, port_sort, instance_leaves}
 use Rattle.lowering_laws.proofs.Parts.{leaves_counted_of, item, instance_place, leaf_behind}
 use Rattle.lowering_laws.proofs.Matching.{Two, two_at, two_back, Known, Leads, at_main, behind, leads_at, leads_known, IsAt, instance_size, field_leaves_of, ports_of_list, port_size, flat_map_map, map_counted, length_append}
 
@@ -169,19 +170,23 @@ others_none (c ∷ others) none =
     let n = sum_by-cons port_size c others in
     grind (arith, common_steps, r, own, n)
 
+-- How many leaves the ports of a module have.
+pub ports_sum : (m : TypedModule) (first : HasPortsFirst m) → sum_by port_size m.components ≡ length (flat_map leaves_of first.ports)
+ports_sum m first =
+    ap (sum_by port_size) first.are ∙ (sum_by-append port_size first.ports first.others ∙ (ap₂ (λ a b. a + b) (ports_only first.ports first.all) (others_none first.others first.none) ∙ plus_zero (length (flat_map leaves_of first.ports))))
+  where
+    plus_zero : (n : ℕ) → n + 0 ≡ n
+    plus_zero n = omega arith
+
 -- A leaf of a port of a module is one of the instance's.
 pub inner_leaf : (m : TypedModule) (first : HasPortsFirst m) (j : ℕ) (p : Component) (l : TypeLeaf) → slice_get (module_leaves m) j ≡ Some (p, l) → j < sum_by port_size m.components → PortLeaf (leaves (instance_of (typed_ports m))) j p l
 inner_leaf m first j p l e h =
-    let size : sum_by port_size m.components ≡ length (flat_map leaves_of first.ports) =
-    ap (sum_by port_size) first.are ∙ (sum_by-append port_size first.ports first.others ∙ (ap₂ (λ a b. a + b) (ports_only first.ports first.all) (others_none first.others first.none) ∙ plus_zero (length (flat_map leaves_of first.ports)))) in
+    let size = ports_sum m first in
     let here : slice_get (flat_map leaves_of first.ports) j ≡ Some (p, l) =
     front_part (flat_map leaves_of first.ports) (flat_map leaves_of first.others) j (p, l)
     (subst (λ x. slice_get x j ≡ Some (p, l)) (ap (flat_map leaves_of) first.are ∙ flat_map-append leaves_of first.ports first.others) e) (subst (λ n. j < n) size h) in
     let r = port_leaf_at first.ports first.all first.others j p l here in
     record { leaf = r.leaf; there = ap (λ x. slice_get x j) (instance_fields m ∙ ap (λ cs. flat_map field_leaves_of (ports_of_list cs)) first.are) ∙ r.there; way = r.way; typ = r.typ; port = r.port }
-  where
-    plus_zero : (n : ℕ) → n + 0 ≡ n
-    plus_zero n = omega arith
 
 module _ (fitted : Fitted) (well : IsWellFormed fitted) (lowered : GroundCircuit) (is : IsGroundOf fitted lowered) (driven : DrivenCircuit) (expanded : IsExpanded lowered driven) where
   abbrev design : Design
@@ -324,7 +329,7 @@ module _ (fitted : Fitted) (well : IsWellFormed fitted) (lowered : GroundCircuit
       abbrev pub run_seen : Valuation
       run_seen = valuation_of (all_leaves placed) sight
 
-      pub known : Known fitted well lowered is driven expanded n m d
+      abbrev pub known : Known fitted well lowered is driven expanded n m d
       known = leads_known fitted well lowered is driven expanded leads
 
       numbers_counted : length numbers ≡ length (module_leaves m)

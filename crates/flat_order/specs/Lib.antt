@@ -1,4 +1,0 @@
-pub mod Instances
-pub mod FlatOrder
-pub mod Numbers
-pub mod Flat
