@@ -4,3 +4,4 @@ pub mod Parts
 pub mod Matching
 pub mod Seeing
 pub mod Driving
+pub mod Whole
