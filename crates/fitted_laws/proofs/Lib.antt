@@ -1,0 +1,12 @@
+mod Filling
+mod Equivalence
+mod Literals
+mod Steps
+mod Once
+mod Expressions
+mod Known
+mod Walking
+mod Measured
+mod Ruling
+mod Stored
+mod Declared
