@@ -459,20 +459,20 @@ first_narrow [] h = omega arith
 first_narrow (Bits n ∷ ws) h = h.0
 first_narrow (Over ∷ ws) h = omega arith
 
-is_narrow-unsigned : (t : FirType) (w : Option ℕ) → t.shape ≡ shape.Unsigned w → is_narrow t ≡ nat_le (width_or_none w) 128
+pub is_narrow-unsigned : (t : FirType) (w : Option ℕ) → t.shape ≡ shape.Unsigned w → is_narrow t ≡ nat_le (width_or_none w) 128
 is_narrow-unsigned t w e = grind (arith, common_steps, the_lemmas)
 
-is_narrow-signed : (t : FirType) (w : Option ℕ) → t.shape ≡ shape.Signed w → is_narrow t ≡ nat_le (width_or_none w) 128
+pub is_narrow-signed : (t : FirType) (w : Option ℕ) → t.shape ≡ shape.Signed w → is_narrow t ≡ nat_le (width_or_none w) 128
 is_narrow-signed t w e = grind (arith, common_steps, the_lemmas)
 
-is_narrow-clock : (t : FirType) → t.shape ≡ shape.Clock → is_narrow t ≡ true
+pub is_narrow-clock : (t : FirType) → t.shape ≡ shape.Clock → is_narrow t ≡ true
 is_narrow-clock t e = grind (arith, common_steps, the_lemmas)
 
 list_all-of : {A : Type 0} (f : A → Bool) (xs : List A) → list_all (λ b. b) (map f xs) ≡ list_all f xs
 list_all-of f [] = refl
 list_all-of f (x ∷ xs) = ap (λ b. f x && b) (list_all-of f xs)
 
-is_narrow-bundle : (t : FirType) (fs : List Field) → t.shape ≡ shape.Bundle fs → is_narrow t ≡ list_all (λ f. is_narrow f.typ) fs
+pub is_narrow-bundle : (t : FirType) (fs : List Field) → t.shape ≡ shape.Bundle fs → is_narrow t ≡ list_all (λ f. is_narrow f.typ) fs
 is_narrow-bundle t fs e = narrow-bundle t fs e ∙ same fs where
   same : (fs : List Field) → list_all field_narrow fs ≡ list_all (λ f. is_narrow f.typ) fs
   same [] = refl

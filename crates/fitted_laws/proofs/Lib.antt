@@ -10,3 +10,5 @@ mod Measured
 mod Ruling
 mod Stored
 mod Declared
+mod Flips
+mod Statements

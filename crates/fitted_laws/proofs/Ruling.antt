@@ -142,7 +142,7 @@ connected_marked ms (s ∷ ss) [] rs h = tt
 connected_marked ms (s ∷ ss) (l ∷ ls) [] h = tt
 connected_marked ms (s ∷ ss) (l ∷ ls) (r ∷ rs) h = each_append (RuleMarked ms) (driven s.flip l r) (connected ss ls rs) (driven_marked ms s.flip l r h.0 h.1) (connected_marked ms ss ls rs h.2)
 
-not_source : (ms : Marks) (flow : Flow) (f : Formula) → Marked ms flow f → flow ≢ Source → IsFree ms f
+pub not_source : (ms : Marks) (flow : Flow) (f : Formula) → Marked ms flow f → flow ≢ Source → IsFree ms f
 not_source ms flow f h n x e = ⊎_elim (λ l. l) (λ r. absurd (n r)) (h x e)
 
 zeroed_marked : (ms : Marks) (flow : Flow) (f : Formula) → Marked ms flow f → Each (RuleMarked ms) (zeroed flow f)
