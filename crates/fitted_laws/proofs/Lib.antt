@@ -12,3 +12,4 @@ mod Stored
 mod Declared
 mod Flips
 mod Statements
+mod Modules
