@@ -58,7 +58,7 @@ avoids-right c = every-right Name (λ name. name.id ≢ c)
 seen-append : (c : ℕ) (xs ys : List Seen) → NotSeen c xs → NotSeen c ys → NotSeen c (xs ++ ys)
 seen-append c = every-append Seen (λ s. s.0 ≢ c)
 
-distinct-left : (xs ys : List Name) → Distinct (xs ++ ys) → Distinct xs
+pub distinct-left : (xs ys : List Name) → Distinct (xs ++ ys) → Distinct xs
 distinct-left [] ys d = tt
 distinct-left (x ∷ xs) ys d = (avoids-left x.id xs ys d.0, distinct-left xs ys d.1)
 

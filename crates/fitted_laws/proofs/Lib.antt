@@ -13,3 +13,4 @@ mod Declared
 mod Flips
 mod Statements
 mod Modules
+mod Circuits
