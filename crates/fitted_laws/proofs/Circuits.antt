@@ -211,7 +211,7 @@ module _ (fitted : Fitted) (ok : IsAccepted fitted) where
   -- Modules that main reaches
 
   pub reached_module : (k : ℕ) (holder : Module) (m : TypedModule) → slice_get modules k ≡ Some holder → slice_get (modules_of fitted) k ≡ Some m
-      → slice_get fitted.checked.scope.reached k ≡ Some true → (K : Known) → IsModule all modules with_ports ports bounded instances holder m K
+      → slice_get fitted.checked.scope.reached k ≡ Some true → (K : Known) → IsModule all modules with_ports ports bounded instances holder m K (slice_get with_ports k)
   reached_module k holder m e at flag K =
       come.each solves no_width_fault k holder m e []
       (ap (λ l. slice_get (with_types modules l) k) (append-nil (told_of fitted.checked ws).declared ∙ sym declared_is) ∙ at)
@@ -236,7 +236,7 @@ module _ (fitted : Fitted) (ok : IsAccepted fitted) where
   contained_at : (ms : List TypedModule) (k : ℕ) (m : TypedModule) → slice_get ms k ≡ Some m → Contains ms m
   contained_at ms k m e = contained_In ms m (In-get ms k m e)
 
-  named_in : (k : ℕ) (holder : Module) (m : TypedModule) → slice_get (modules_of fitted) k ≡ Some m → IsModule all modules with_ports ports bounded instances holder m (known_in m) → (t : List FirType)
+  named_in : (k : ℕ) (holder : Module) (m : TypedModule) → slice_get (modules_of fitted) k ≡ Some m → IsModule all modules with_ports ports bounded instances holder m (known_in m) (slice_get with_ports k) → (t : List FirType)
       → m.components ≡ map component_of (zip (declarations_of holder) t) → length (declarations_of holder) ≡ length t → NamedAs (known_in m) (declarations_of holder) t
   named_in k holder m at im t is counted =
       zip_named (known_in m) (declarations_of holder) t counted (λ c i.

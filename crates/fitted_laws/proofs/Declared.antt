@@ -22,6 +22,7 @@ use Rattle.fir_tree.specs.declared.expr.Expr.{Expr}
 use Rattle.type_check.specs.Texts.{twice_in}
 use Rattle.width_rules.specs.declared.component.Component.{Component}
 use Rattle.width_rules.specs.declared.slot.Slot.{Slot}
+use Rattle.width_rules.specs.Places.{size}
 use Rattle.width_rules.specs.Solutions.{IsWidth}
 use Rattle.width_rules.specs.Sources.{formula_of}
 use Rattle.width_rules.specs.Circuits.{memory_slots, instance_in, WithPorts}
@@ -44,7 +45,7 @@ module _ (ws : List Width) (with_ports : List WithPorts) where
     pub narrow : is_narrow typ ≡ true
     pub ways : Differ (leaves typ)
     pub instance : (target : ℕ) → d.sort ≡ An_instance target → typ ≡ filled (instance_in with_ports target).part.typ (map (slot_width ws) (instance_in with_ports target).slots)
-    pub memory : (m : Memory) → d.sort ≡ A_memory m → (element : List Slot) × (typ ≡ filled (memory_of m) (map (slot_width ws) (memory_slots m element)))
+    pub memory : (m : Memory) → d.sort ≡ A_memory m → (element : List Slot) × (length element ≡ size (element_of m)) × (typ ≡ filled (memory_of m) (map (slot_width ws) (memory_slots m element)))
     pub elements : (m : Memory) → d.sort ≡ A_memory m → is_narrow (element_of m) ≡ true
 
   slots_bounded : ((k : ℕ) → IsWidth (get_or ws k (Bits 0))) → (slots : List Slot) → Each IsWidth (map (slot_width ws) slots)

@@ -14,3 +14,4 @@ mod Flips
 mod Statements
 mod Modules
 mod Circuits
+mod Bundles

@@ -203,11 +203,11 @@ module _ (all : Solved) (modules : List Module) (with_ports : List WithPorts) (p
     told_in k n rest reached = told_from all with_ports n (modules_from k rest) reached
 
     -- a module of the design with what is known of it
-    pub record IsModule (holder : Module) (m : TypedModule) (K : Known) : Type 0 where
+    pub record IsModule (holder : Module) (m : TypedModule) (K : Known) (own : Option WithPorts) : Type 0 where
       pub types : List FirType
       pub is : m.components ≡ map component_of (zip (declarations_of holder) types)
       pub counted : length (declarations_of holder) ≡ length types
-      pub ports_from_is : (k : ℕ) × (rest : List FirType) × (types ≡ ports_declared all holder.ports (ports_from k holder.ports) ++ rest)
+      pub ports_from_is : (k : ℕ) × (rest : List FirType) × (types ≡ ports_declared all holder.ports (ports_from k holder.ports) ++ rest) × (own ≡ Some (record { holder = holder; ports = ports_from k holder.ports }))
       pub well : NamedAs K (declarations_of holder) types → (are_typed K holder.body ≡ true) × AllZip (S K) (declarations_of holder) types
 
     pub record ModulesCome (rest : List Module) (k n : ℕ) (ms : Marks) (reached : List Bool) : Type 0 where
@@ -217,7 +217,7 @@ module _ (all : Solved) (modules : List Module) (with_ports : List WithPorts) (p
       pub ruled : (x : ℕ) (f : Formula) → slice_get (ms ++ marks) x ≡ Some (Some f) → (slice_get ms x ≡ Some (Some f)) ⊎ In (rule_of x f) (bodies_from with_ports n (modules_from k rest)).rules
       pub declared : length (told_in k n rest reached).declared ≡ total rest
       pub each : Solves ws (ms ++ marks) → (told_in k n rest reached).faults ≡ [] → (j : ℕ) (holder : Module) (m : TypedModule) → slice_get rest j ≡ Some holder
-          → (more : List FirType) → slice_get (with_types rest ((told_in k n rest reached).declared ++ more)) j ≡ Some m → get_or reached j false ≡ true → (K : Known) → IsModule holder m K
+          → (more : List FirType) → slice_get (with_types rest ((told_in k n rest reached).declared ++ more)) j ≡ Some m → get_or reached j false ≡ true → (K : Known) → IsModule holder m K (slice_get (modules_from k rest) j)
 
     zip_front_only : (ds : List Declaration) (ts more : List FirType) → length ds ≡ length ts → zip ds (ts ++ more) ≡ zip ds ts
     zip_front_only [] ts more e = refl
@@ -266,7 +266,7 @@ module _ (all : Solved) (modules : List Module) (with_ports : List WithPorts) (p
               let s : Solves ws ((ms ++ one.marks) ++ r.marks) = subst (Solves ws) (sym together) solves in
               let none' : (told_in k' n' rest (drop 1 reached)).faults ≡ [] = ap (λ (g : judging.Told). g.faults) (sym same) ∙ right_empty (where_reached (get_or reached 0 false) own.faults) _ none in
               λ j. elim j as (λ j. (holder : Module) (m : TypedModule) → slice_get (h ∷ rest) j ≡ Some holder
-              → (more : List FirType) → slice_get (with_types (h ∷ rest) ((own.declared ++ t) ++ more)) j ≡ Some m → get_or reached j false ≡ true → (K : Known) → IsModule holder m K) [
+              → (more : List FirType) → slice_get (with_types (h ∷ rest) ((own.declared ++ t) ++ more)) j ≡ Some m → get_or reached j false ≡ true → (K : Known) → IsModule holder m K (slice_get (modules_from k (h ∷ rest)) j)) [
               | zero ↦ λ holder m e more at flag K. first holder m (some_same e) more (some_same at) K (solves_front ws (ms ++ one.marks) r.marks s)
                   (ap (λ c. where_reached c own.faults) (sym flag) ∙ left_empty (where_reached (get_or reached 0 false) own.faults) _ none)
               | suc i ↦ λ holder m e more at flag K.
@@ -283,16 +283,16 @@ module _ (all : Solved) (modules : List Module) (with_ports : List WithPorts) (p
 
         first : (holder : Module) (m : TypedModule) → h ≡ holder → (more : List FirType)
             → record { name = h.name.id; components = map (λ both. record { declaration = both.0; typ = both.1 }) (zip (declarations_of h) (((module_survey all with_ports (with_own k h) n).declared ++ (told_in (k + open_ports h.ports) (n + (module_survey all with_ports (with_own k h) n).count) rest (drop 1 reached)).declared) ++ more)) } ≡ m
-            → (K : Known) → Solves ws (ms ++ (module_comes h f.0 k n ms long b (omega (arith, within))).marks) → (module_survey all with_ports (with_own k h) n).faults ≡ [] → IsModule holder m K
+            → (K : Known) → Solves ws (ms ++ (module_comes h f.0 k n ms long b (omega (arith, within))).marks) → (module_survey all with_ports (with_own k h) n).faults ≡ [] → IsModule holder m K (Some (with_own k h))
         first holder m e more at K solves none =
             let one : ModuleComes h k n ms = module_comes h f.0 k n ms long b (omega (arith, within)) in
             let own = module_survey all with_ports (with_own k h) n in
             let t : List FirType = (told_in (k + open_ports h.ports) (n + own.count) rest (drop 1 reached)).declared in
-            subst (λ x. IsModule x m K) e (record {
+            subst (λ x. IsModule x m K (Some (with_own k h))) e (record {
               types = own.declared;
               is = ap (λ (x : TypedModule). x.components) (sym at) ∙ ap (λ l. map component_of (zip (declarations_of h) l)) (append_assoc own.declared t more)
                   ∙ ap (map component_of) (zip_front_only (declarations_of h) own.declared (t ++ more) one.declared);
               counted = one.declared;
-              ports_from_is = (k, (judging.in_turn (map (judging.stmt_survey all with_ports) h.body) (known_ports h.ports (ports_from k h.ports) []) n).declared, refl);
+              ports_from_is = (k, (judging.in_turn (map (judging.stmt_survey all with_ports) h.body) (known_ports h.ports (ports_from k h.ports) []) n).declared, refl, refl);
               well = λ named. one.well K named solves none;
             })

@@ -478,7 +478,7 @@ module _ (all : Solved) (modules : List Module) (with_ports : List WithPorts) (p
             narrow = slots_narrow ws with_ports bounded (memory_of memory) (memory_slots memory slots);
             ways = filled_differ ws with_ports (memory_of memory) (map (slot_width ws) (memory_slots memory slots)) once;
             instance = λ t s. cc;
-            memory = λ m s. let same : memory ≡ m = cc in (slots, ap (λ (x : Memory). filled (memory_of x) (map (slot_width ws) (memory_slots x slots))) same);
+            memory = λ m s. let same : memory ≡ m = cc in (slots, length-slots n (spots element) ∙ ap (λ (x : Memory). size (element_of x)) same, ap (λ (x : Memory). filled (memory_of x) (map (slot_width ws) (memory_slots x slots))) same);
             elements = λ m s. let same : memory ≡ m = cc in subst (λ (x : Memory). is_narrow (element_of x) ≡ true) same
                 (places_narrow ws n element (where_false _ _ (right_empty (where_ (list_any (is_unknown all.rules) slots) (WidthUnknown memory.name.place)) _ none)));
           },
