@@ -42,7 +42,7 @@ use Rattle.fitted_laws.proofs.Ruling.{length-slots}
 
 -- Widths one behind the other
 
-front_filled : (t : FirType) (xs ys : List Width) → length xs ≡ size t → filled t (xs ++ ys) ≡ filled t xs
+pub front_filled : (t : FirType) (xs ys : List Width) → length xs ≡ size t → filled t (xs ++ ys) ≡ filled t xs
 front_filled t xs ys e = sym ((takes t).own (xs ++ ys)) ∙ ap (filled t) (take_at xs ys (size t) e)
 
 -- The declarations of statements are no ports

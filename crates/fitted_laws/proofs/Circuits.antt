@@ -90,23 +90,28 @@ first_module (m ∷ modules) name k f = by (m.name.id == name) refl k f (λ k f.
   by false q zero f more = absurd (eqb-false m.name.id name q (some_same f.has))
   by false q (suc k) f more = ap (λ b. is_some (option_map parts.instance_part (cond b (Some m) (find (λ x. x.name.id == name) modules)))) q ∙ more k (rest k f)
 
+pub named_at : (modules : List Module) (k x : ℕ) → slice_get (texts (map (λ m. m.name) modules)) k ≡ Some x → (holder : Module) × (slice_get modules k ≡ Some holder)
+named_at [] k x e = cc
+named_at (h ∷ modules) zero x e = (h, refl)
+named_at (h ∷ modules) (suc k) x e = named_at modules k x e
+
 module _ (fitted : Fitted) (ok : IsAccepted fitted) where
-  abbrev circuit : Circuit
+  abbrev pub circuit : Circuit
   circuit = fitted.checked.circuit
 
-  abbrev modules : List Module
+  abbrev pub modules : List Module
   modules = circuit.modules
 
-  abbrev with_ports : List WithPorts
+  abbrev pub with_ports : List WithPorts
   with_ports = modules_from 0 modules
 
-  abbrev ports : ℕ
+  abbrev pub ports : ℕ
   ports = all_open modules
 
-  abbrev ws : List Width
+  abbrev pub ws : List Width
   ws = ok.fit.widths
 
-  abbrev all : Solved
+  abbrev pub all : Solved
   all = record { widths = ok.fit.widths; rules = (rules_in circuit).rules }
 
   pub bounded : (k : ℕ) → IsWidth (get_or ws k (Bits 0))
@@ -120,9 +125,13 @@ module _ (fitted : Fitted) (ok : IsAccepted fitted) where
   faults_in : (m : Module) → In m modules → (checking.module_walk modules m []).faults ≡ []
   faults_in m i = all_empty (λ (m : Module). (checking.module_walk modules m []).faults) modules m type_faults i
 
+  -- what the module of an instance means
+  pub target_means : (m : Module) → In m modules → (target : Name) → In target (instances_in m) → (number : ℕ) × Means circuit target.id number
+  target_means m i target j = zip_in (λ target number. Means circuit target.id number) (flat_map instances_in modules) fitted.checked.scope.targets ok.scope.targets target (in_flat instances_in modules m target i j)
+
   targets_in : (m : Module) → In m modules → TargetsIn modules (instances_in m)
   targets_in m i = every_of (λ (target : Name). is_some (parts.instance_in modules target.id) ≡ true) (instances_in m) (λ target j.
-      let means = zip_in (λ target number. Means circuit target.id number) (flat_map instances_in modules) fitted.checked.scope.targets ok.scope.targets target (in_flat instances_in modules m target i j) in
+      let means = target_means m i target j in
       first_module modules target.id means.0 means.1)
 
   faultless : (m : Module) → In m modules → IsFaultless all modules with_ports ports bounded m

@@ -15,3 +15,5 @@ mod Statements
 mod Modules
 mod Circuits
 mod Bundles
+mod Memories
+mod WellFormed

@@ -110,6 +110,15 @@ mode_size memory element place m h =
     by mode.Writer = omega (arith, a, b, c, h, k, length-append element (mask_slots memory))
     by mode.ReadWriter = omega (arith, a, b, c, h, k, length-append element (slot.Fixed 1 ∷ (element ++ mask_slots memory)), length-append element (mask_slots memory))
 
+-- the line of a port has a slot for each place of the port
+pub line_size : (memory : Memory) (element : List Slot) (at : Place) (m : PortMode) (name : Name) → length element ≡ size (element_of memory)
+    → length (line_slots memory element (line.MemPort at m name)) ≡ size (port_type (element_of memory) (depth_of memory) m name.place)
+line_size memory element at m name h = same m ∙ sym (mode_size memory element name.place m h) where
+  same : (m : PortMode) → length (line_slots memory element (line.MemPort at m name)) ≡ length (line_slots memory element (line.MemPort name.place m (record { id = 0; place = name.place })))
+  same mode.Reader = refl
+  same mode.Writer = refl
+  same mode.ReadWriter = refl
+
 abbrev fields_of : Memory → List MemLine → List Field
 fields_of memory lines = filter_map (port_field (element_of memory) (depth_of memory)) lines
 
@@ -118,13 +127,8 @@ lines_counted : (memory : Memory) (element : List Slot) → length element ≡ s
 lines_counted memory element h [] = refl
 lines_counted memory element h (line.MemPort at m name ∷ lines) =
     length-append (line_slots memory element (line.MemPort at m name)) (flat_map (line_slots memory element) lines)
-    ∙ ap₂ (λ x y. x + y) (same m ∙ sym (mode_size memory element name.place m h)) (lines_counted memory element h lines)
+    ∙ ap₂ (λ x y. x + y) (line_size memory element at m name h) (lines_counted memory element h lines)
     ∙ sym (size-fields (record { flip = true; name = name; typ = port_type (element_of memory) (depth_of memory) m name.place }) (fields_of memory lines))
-  where
-    same : (m : PortMode) → length (line_slots memory element (line.MemPort at m name)) ≡ length (line_slots memory element (line.MemPort name.place m (record { id = 0; place = name.place })))
-    same mode.Reader = refl
-    same mode.Writer = refl
-    same mode.ReadWriter = refl
 lines_counted memory element h (line.Element at typ ∷ lines) = lines_counted memory element h lines
 lines_counted memory element h (line.Depth at n ∷ lines) = lines_counted memory element h lines
 lines_counted memory element h (line.ReadLatency at n ∷ lines) = lines_counted memory element h lines
