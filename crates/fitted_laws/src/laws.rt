@@ -9,6 +9,7 @@ ghost use Rattle.fir_tree.specs.declared.scope.Fitted.{Fitted as FittedCircuit};
 ghost use Rattle.fir_meaning.specs.Components.{TypedModule, declarations_of, modules_of};
 ghost use Rattle.fir_meaning.specs.WellTyped.{HasTypes};
 ghost use Rattle.width_fit.specs.Filling.{filled};
+ghost use Rattle.circuit_laws.specs.WellFormed.{IsWellFormed};
 ghost use Rattle.fitted_laws.specs.Accepted.{IsAccepted};
 
 /// A type with widths in its places is equivalent to the type.
@@ -20,4 +21,9 @@ pub fn filled_types_are_equivalent()
 pub fn accepted_modules_are_well_typed()
     ensures declared { (fitted : FittedCircuit) → IsAccepted fitted → length fitted.declared ≡ sum_by (λ holder. length (declarations_of holder)) fitted.checked.circuit.modules }
     ensures typed { (fitted : FittedCircuit) → IsAccepted fitted → (k : ℕ) (holder : AModule) (m : TypedModule) → slice_get fitted.checked.circuit.modules k ≡ Some holder → slice_get (modules_of fitted) k ≡ Some m → slice_get fitted.checked.scope.reached k ≡ Some true → HasTypes holder m }
+{}
+
+/// An accepted circuit is well formed.
+pub fn accepted_circuits_are_well_formed()
+    ensures { (fitted : FittedCircuit) → IsAccepted fitted → IsWellFormed fitted }
 {}
