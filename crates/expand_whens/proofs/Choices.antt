@@ -18,7 +18,7 @@ use Rattle.ground_net.specs.Statements.{drives, live}
 use Rattle.ground_net.proofs.Layers.{value-Mux, mentions-Mux}
 use Rattle.net_meaning.specs.Shapes.{Shape, Table, shaped, shape as shape_in, same_shape, same_kind}
 use Rattle.expand_whens.specs.declared.guard.Way.{Way}
-use Rattle.expand_whens.specs.Shapes.{is_condition, is_shaped, some_same}
+use Rattle.net_meaning.specs.StatementShapes.{is_condition, is_shaped, some_same}
 use Rattle.expand_whens.specs.Ways.{Same, guard_holds, guard_mentions, guard_fits, way_fits, outcome, way_mentions, ways_mentions}
 use Rattle.expand_whens.specs.Walking.{BlockWalks, BlockShapes, ways_at, is_covered}
 use Rattle.expand_whens.specs.Expanding.{Drives, HasDrivers, IsChoice, Chooses, IsRest, leaf_shape}

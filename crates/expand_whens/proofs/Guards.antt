@@ -20,7 +20,7 @@ use Rattle.net_meaning.specs.Shapes.{Shape, Table, shaped, shape as shape_in, sa
 use Rattle.expand_whens.proofs.Layers.{shape-Mux, shapes_of}
 use Rattle.expand_whens.specs.declared.guard.Asked.{Asked}
 use Rattle.expand_whens.specs.declared.guard.Part.{Part}
-use Rattle.expand_whens.specs.Shapes.{is_condition, some_unsigned}
+use Rattle.net_meaning.specs.StatementShapes.{is_condition, some_unsigned}
 use Rattle.expand_whens.specs.Ways.{guard_holds, guard_mentions, guard_fits, meets, is_met, asked_mentions, crossed, crossed_mentions, none_hold, part_holds, part_mentions, part_fits, IsGuard, IsPart, IsBit}
 use Rattle.expand_whens.proofs.Members.{same, same_of, same_through, same_append, swapped}
 use Rattle.expand_whens.proofs.Tests.{left_true, right_true}

@@ -13,7 +13,7 @@ use Rattle.ground_net.specs.Grounds.{Sight, value, mentions, joined}
 use Rattle.ground_net.specs.Statements.{all_hold, effect, driving, live, is_certain}
 use Rattle.ground_net.proofs.Layers.{maps}
 use Rattle.net_meaning.specs.Shapes.{Shape, Table, shape, shape_of_value, shape_of_choice, all_of}
-use Rattle.expand_whens.specs.Shapes.{is_condition, is_source, is_shaped_stmt, is_shaped_arm, is_shaped, are_shaped}
+use Rattle.net_meaning.specs.StatementShapes.{is_condition, is_source, is_shaped_stmt, is_shaped_arm, is_shaped, are_shaped}
 use Rattle.expand_whens.specs.Walking.{block_effect, arm_effect, arms_effect, driving_arm, arms_live, arms_certain}
 
 pub effect-Connect : (sight : Sight) (leaf target : ℕ) (conditions : List Ground) (source : Ground) (last : Option Value)

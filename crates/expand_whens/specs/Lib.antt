@@ -1,5 +1,4 @@
 -- what a reader must believe
-pub mod Shapes
 pub mod Expanding
 -- what the bodies keep, and what proofs need
 pub mod Ways

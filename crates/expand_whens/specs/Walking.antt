@@ -11,7 +11,7 @@ use Rattle.ground_net.specs.Statements.{Effect, in_turn, first_holding, all_arms
 use Rattle.expand_whens.specs.declared.guard.Asked.{Asked}
 use Rattle.expand_whens.specs.declared.guard.Way.{Way}
 use Rattle.net_meaning.specs.Shapes.{Table}
-use Rattle.expand_whens.specs.Shapes.{is_shaped, are_shaped}
+use Rattle.net_meaning.specs.StatementShapes.{is_shaped, are_shaped}
 use Rattle.expand_whens.specs.Ways.{asked_fits, way_fits, Same, crossed, crossed_mentions, outcome, ways_mentions}
 
 -- what statements make of the value that was set before them

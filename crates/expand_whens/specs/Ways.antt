@@ -9,7 +9,7 @@ use Rattle.cycle_values.specs.Values.{is_one}
 use Rattle.ground_net.specs.Statements.{all_hold}
 use Rattle.bit_words.specs.declared.value.Kind.TheVariants.{Unsigned}
 use Rattle.net_meaning.specs.Shapes.{Table, shaped, shape as shape_in}
-use Rattle.expand_whens.specs.Shapes.{is_condition, is_source}
+use Rattle.net_meaning.specs.StatementShapes.{is_condition, is_source}
 use Rattle.expand_whens.specs.declared.guard.Asked.{Asked}
 use Rattle.expand_whens.specs.declared.guard.Part.{Part}
 use Rattle.expand_whens.specs.declared.guard.Way.{Way}

@@ -7,7 +7,7 @@ ghost use Rattle.cycle_values.specs.Values.{is_one};
 ghost use Rattle.ground_net.specs.Grounds.{Sight, value, mentions, joined};
 ghost use Rattle.ground_net.specs.Statements.{all_hold};
 ghost use Rattle.net_meaning.specs.Shapes.{Table, shaped, shape as shape_in};
-ghost use Rattle.expand_whens.specs.Shapes.{is_condition};
+ghost use Rattle.net_meaning.specs.StatementShapes.{is_condition};
 ghost use Rattle.expand_whens.specs.Ways.{guard_holds, guard_mentions, guard_fits, asked_mentions, asked_fits, is_met, meets, crossed, crossed_mentions, none_hold, part_holds, part_mentions, part_fits, IsGuard, IsPart, IsBit};
 
 use bit_words::{Kind, List, Value};

@@ -1,9 +1,9 @@
 mod Initialized
 mod Literals
-mod Nexts
+pub mod Nexts
 mod ExampleOfARun
-mod Settling
-mod Ports
+pub mod Settling
+pub mod Ports
 mod Chains
 pub mod Blocks
 mod Sides

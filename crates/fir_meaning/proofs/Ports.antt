@@ -73,7 +73,7 @@ bundle_leaves place fields = grind (arith, common_steps, type_lemmas, flat_map-m
 
 -- The module behind one more instance
 
-abbrev inside : Design → TypedModule → ℕ → Option TypedModule
+abbrev pub inside : Design → TypedModule → ℕ → Option TypedModule
 inside design m i = option_and_then (module_named design) (target_of m i)
 
 pub and_some : {A : Type 0} (o : Option A) → option_and_then (λ n. Some n) o ≡ o
@@ -90,7 +90,7 @@ within_snoc design m [] i = and_some (inside design m i)
 within_snoc design m (j ∷ path) i =
     and_within (λ n. module_within design n path) (λ n. inside design n i) (λ n. module_within design n (path ++ i ∷ [])) (λ n. within_snoc design n path i) (inside design m j)
 
-at_snoc : (design : Design) (path : List ℕ) (i : ℕ) → module_at design (path ++ i ∷ []) ≡ option_and_then (λ n. inside design n i) (module_at design path)
+pub at_snoc : (design : Design) (path : List ℕ) (i : ℕ) → module_at design (path ++ i ∷ []) ≡ option_and_then (λ n. inside design n i) (module_at design path)
 at_snoc design path i =
     and_within (λ n. module_within design n path) (λ n. inside design n i) (λ n. module_within design n (path ++ i ∷ [])) (λ n. within_snoc design n path i) (module_named design design.main)
 
@@ -121,7 +121,7 @@ component_found m name c e =
 pub target_is : (m : TypedModule) (c : Component) (target : ℕ) → component_named m c.declaration.name ≡ Some c → c.declaration.sort ≡ An_instance target → target_of m c.declaration.name ≡ Some target
 target_is m c target e s = ap (option_and_then (λ x. target_in x.declaration.sort)) e ∙ ap target_in s
 
-target_sort : (sort : Sort) (target : ℕ) → target_in sort ≡ Some target → sort ≡ An_instance target
+pub target_sort : (sort : Sort) (target : ℕ) → target_in sort ≡ Some target → sort ≡ An_instance target
 target_sort (An_instance t) target e = ap An_instance (some_same t target e)
 target_sort An_input target e = absurd (none_some e)
 target_sort An_output target e = absurd (none_some e)

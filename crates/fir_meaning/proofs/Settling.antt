@@ -48,7 +48,7 @@ local m path rho = λ c way. seen_through rho path c (target_of m c) way
 pub local_at : (m : TypedModule) (path : List ℕ) (rho : Valuation) (y : Leaf) → local m path rho y.component y.way ≡ at rho (flat m path y)
 local_at m path rho y = through_at rho path y.component (target_of m y.component) y.way
 
-seen_at : (m : TypedModule) (path : List ℕ) (rho : Valuation) (c : Component) (leaf : TypeLeaf) → seen m path rho c leaf ≡ at rho (flat m path (leaf_of c leaf))
+pub seen_at : (m : TypedModule) (path : List ℕ) (rho : Valuation) (c : Component) (leaf : TypeLeaf) → seen m path rho c leaf ≡ at rho (flat m path (leaf_of c leaf))
 seen_at m path rho c leaf = local_at m path rho (leaf_of c leaf)
 
 pub agree_at : (m : TypedModule) (path : List ℕ) (rho other : Valuation) (ys : List Leaf) → ((y : Leaf) → Contains ys y → at rho (flat m path y) ≡ at other (flat m path y))
@@ -57,12 +57,12 @@ agree_at m path rho other ys h = record { agree = λ y c. local_at m path rho y 
 
 -- Lists
 
-get_there : {A : Type 0} (xs : List A) (x : A) (c : Contains xs x) → slice_get xs c.0 ≡ Some x
+pub get_there : {A : Type 0} (xs : List A) (x : A) (c : Contains xs x) → slice_get xs c.0 ≡ Some x
 get_there [] x (k, below, is) = absurd (omega arith)
 get_there (y ∷ ys) x (zero, below, is) = ap Some is
 get_there (y ∷ ys) x (suc k, below, is) = get_there ys x (k, omega arith, is)
 
-get-map : {A B : Type 0} (h : A → B) (xs : List A) (k : ℕ) → slice_get (map h xs) k ≡ option_map h (slice_get xs k)
+pub get-map : {A B : Type 0} (h : A → B) (xs : List A) (k : ℕ) → slice_get (map h xs) k ≡ option_map h (slice_get xs k)
 get-map h [] zero = refl
 get-map h [] (suc k) = refl
 get-map h (x ∷ xs) zero = refl
@@ -109,7 +109,7 @@ port_bundle element depth (line.ReadLatency at n) f e = absurd (none_some e)
 port_bundle element depth (line.WriteLatency at n) f e = absurd (none_some e)
 port_bundle element depth (line.ReadUnder at u) f e = absurd (none_some e)
 
-memory_way : (memory : Memory) (element : FirType) (leaf : TypeLeaf) → Contains (leaves (ports_bundle memory element)) leaf
+pub memory_way : (memory : Memory) (element : FirType) (leaf : TypeLeaf) → Contains (leaves (ports_bundle memory element)) leaf
     → (port : ℕ) × (inner : ℕ) × (way : List PathStep) × (leaf.path ≡ step.Field port ∷ step.Field inner ∷ way)
 memory_way memory element leaf c =
     let outer = from_flat_map (λ f. map (under (step.Field f.name.id ∷ []) f.flip) (leaves f.typ)) (filter_map (port_field element (depth_of memory)) memory.lines) leaf
@@ -141,7 +141,7 @@ flat_none path i (step.Field x ∷ way) = refl
 flat_none path i (step.Element n ∷ way) = refl
 
 -- a leaf of an instance, and that of the port inside, are one leaf of the run
-one_leaf : (path : List ℕ) (m n : TypedModule) (c p : Component) (leaf part : TypeLeaf) (target : ℕ) → component_named m c.declaration.name ≡ Some c → c.declaration.sort ≡ An_instance target
+pub one_leaf : (path : List ℕ) (m n : TypedModule) (c p : Component) (leaf part : TypeLeaf) (target : ℕ) → component_named m c.declaration.name ≡ Some c → c.declaration.sort ≡ An_instance target
     → component_named n p.declaration.name ≡ Some p → is_port p.declaration.sort ≡ true → leaf.path ≡ step.Field p.declaration.name ∷ part.path
     → flat m path (leaf_of c leaf) ≡ flat n (path ++ c.declaration.name ∷ []) (leaf_of p part)
 one_leaf path m n c p leaf part target declared sort inner is way =

@@ -8,3 +8,4 @@ pub mod Certain
 pub mod Loops
 pub mod ClockRoot
 pub mod WellTyped
+pub mod Elements

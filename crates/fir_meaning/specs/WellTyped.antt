@@ -17,8 +17,9 @@ use Rattle.fir_tree.specs.declared.expr.Form.TheOpen.{Form-F, Suffix-F, Expr-F}
 use Rattle.fir_tree.specs.declared.stmt.Stmt.{Stmt, fold-Stmt}
 use Rattle.fir_tree.specs.declared.stmt.Stmt.TheOpen.{Stmt-F, Arm-F}
 use Rattle.cycle_values.specs.Shapes.{Shape, shaped, same_kind, is_unsigned, all_of, shape_of_row}
-use Rattle.fir_meaning.specs.Components.{TypedModule, Component, Sort, A_node, A_memory, component_named, declarations_of, kind_of_leaf, width_of_leaf, width_or_none}
-use Rattle.fir_meaning.specs.MemoryPorts.{memory_ports}
+use Rattle.fir_meaning.specs.Components.{TypedModule, Component, A_node, A_memory, component_named, declarations_of, kind_of_leaf, width_of_leaf, width_or_none, is_clock}
+use Rattle.fir_meaning.specs.MemoryPorts.{MemoryPort, memory_ports, port_named}
+use Rattle.fir_meaning.specs.States.{is_register}
 use Rattle.fir_meaning.specs.Values.{field_of_shape, element_of_shape, vector_length, literal_width}
 
 -- The types of a module's components; none where there is no component of the name.
@@ -149,3 +150,8 @@ pub record HasTypes (holder : Module) (m : TypedModule) : Type 0 where
   pub ways : (c : Component) (j k : ℕ) (a b : TypeLeaf) → Contains m.components c → slice_get (leaves c.typ) j ≡ Some a → slice_get (leaves c.typ) k ≡ Some b → a.path ≡ b.path → j ≡ k
   -- the elements of a memory without ports, which has no leaves
   pub elements : (c : Component) (memory : Memory) (leaf : TypeLeaf) → Contains m.components c → c.declaration.sort ≡ A_memory memory → memory_ports memory ≡ [] → Contains (leaves (element_of memory)) leaf → width_of_leaf leaf ≤ 128
+  -- registers and memories hold no Clock, registers have no flipped leaf, and the ports of a memory have different names
+  pub held : (c : Component) (leaf : TypeLeaf) → Contains m.components c → is_register c.declaration.sort ≡ true → Contains (leaves c.typ) leaf → is_clock leaf ≡ false
+  pub read_data : (c : Component) (memory : Memory) (leaf : TypeLeaf) → Contains m.components c → c.declaration.sort ≡ A_memory memory → Contains (leaves c.typ) leaf → leaf.flip ≡ false → is_clock leaf ≡ false
+  pub port_names : (c : Component) (memory : Memory) (port : MemoryPort) → Contains m.components c → c.declaration.sort ≡ A_memory memory → Contains (memory_ports memory) port → port_named memory port.name ≡ Some port
+  pub held_passive : (c : Component) (leaf : TypeLeaf) → Contains m.components c → is_register c.declaration.sort ≡ true → Contains (leaves c.typ) leaf → leaf.flip ≡ false

@@ -12,6 +12,10 @@ use Rattle.fir_types.specs.declared.name.Name.{Name}
 use Rattle.fir_types.specs.declared.port.Port.{Port}
 use Rattle.fir_types.specs.Leaves.{leaves}
 use Rattle.fir_types.specs.Memories.{element_of}
+use Rattle.fir_types.specs.Bundles.{memory_of}
+use Rattle.fir_types.specs.Equivalence.{Equivalent}
+use Rattle.fir_types.proofs.Ways.{same_ways}
+use Rattle.fir_types.proofs.Masks.{straight}
 use Rattle.prim_ops.specs.declared.widths.Width.{Width}
 use Rattle.prim_ops.specs.declared.widths.Width.TheVariants.{Bits}
 use Rattle.fir_tree.specs.declared.circuit.Circuit.{Circuit}
@@ -26,12 +30,13 @@ use Rattle.width_rules.specs.Solutions.{IsWidth, IsLeast}
 use Rattle.width_rules.specs.declared.rule.Rule.{Rule}
 use Rattle.width_rules.specs.declared.rule.Formula.{Formula}
 use Rattle.width_rules.specs.Circuits as ruling
-use Rattle.width_rules.specs.Circuits.{WithPorts, modules_from, all_open, bodies_from, rules_in, rules_of_modules, port_places, open_ports}
+use Rattle.width_rules.specs.Circuits.{memory_slots, WithPorts, modules_from, all_open, bodies_from, rules_in, rules_of_modules, port_places, open_ports}
 use Rattle.width_rules.proofs.Bounds.{Each}
 use Rattle.width_rules.proofs.Ports.{modules_open, module_places}
 use Rattle.width_fit.specs.declared.fault.WidthFault.{WidthFault}
-use Rattle.width_fit.specs.Judging.{Solved, told_of}
+use Rattle.width_fit.specs.Judging.{Solved, told_of, slot_width}
 use Rattle.fir_meaning.specs.Components.{Declaration, Component, TypedModule, A_node, A_memory, declarations_of, with_types, modules_of, component_named}
+use Rattle.fir_meaning.specs.MemoryPorts.{MemoryPort, memory_ports}
 use Rattle.fir_meaning.specs.WellTyped.{Known, known_in, HasTypes}
 use Rattle.fir_names.specs.Extents.{uses_in, instances_in, declared_in}
 use Rattle.fir_names.specs.Parts.{Part, stmt_part}
@@ -55,7 +60,9 @@ use Rattle.fitted_laws.proofs.Known.{Marks, Marked, RuleMarked}
 use Rattle.fitted_laws.proofs.Walking.{Begins, Solves, rule_of, NamedAs, TargetsIn}
 use Rattle.fitted_laws.proofs.Ruling.{free_marks, least_solves}
 use Rattle.fitted_laws.proofs.Stored.{HasGoodPorts, IsInstance, instance_there, instance_good}
-use Rattle.fitted_laws.proofs.Declared.{IsDeclared}
+use Rattle.fitted_laws.proofs.Filling.{filled_equivalent}
+use Rattle.fitted_laws.proofs.Held.{unclocked, read_silent, port_itself}
+use Rattle.fitted_laws.proofs.Declared.{IsDeclared, straight_ways}
 use Rattle.fitted_laws.proofs.Statements.{Instances}
 use Rattle.fitted_laws.proofs.Modules.{ports_walk, IsFaultless, IsModule, ModulesCome, modules_come}
 
@@ -273,4 +280,11 @@ module _ (fitted : Fitted) (ok : IsAccepted fitted) where
         parts = λ c among. (each c among).narrow;
         ways = λ c j k a b among. differ_places (leaves c.typ) (each c among).ways j k a b;
         elements = λ c memory leaf among s none i. narrow_leaves (element_of memory) ((each c among).elements memory s) leaf (In-contained (leaves (element_of memory)) leaf i);
+        held = λ c leaf among r i. let g = (each c among).register r in unclocked g.1 g.2 leaf (In-contained (leaves c.typ) leaf i);
+        held_passive = λ c leaf among r i. let g = (each c among).register r in straight_ways ws with_ports (leaves g.0) (leaves c.typ) (same_ways g.1) (straight g.0 g.3) leaf (In-contained (leaves c.typ) leaf i);
+        read_data = λ c memory leaf among s i f.
+            let is = (each c among).memory memory s in
+            let q : Equivalent (memory_of memory) c.typ = subst (Equivalent (memory_of memory)) (sym is.2) (filled_equivalent (memory_of memory) (map (slot_width ws) (memory_slots memory is.0))) in
+            read_silent memory c.typ ((each c among).stored memory s) q (same_ways q) leaf (In-contained (leaves c.typ) leaf i) f;
+        port_names = λ c memory port among s i. port_itself memory ((each c among).stored memory s) port (In-contained (memory_ports memory) port i);
       }

@@ -14,12 +14,14 @@ use Rattle.fir_types.specs.Leaves.{leaves, way_of}
 use Rattle.fir_types.specs.Memories.{element_of}
 use Rattle.fir_types.specs.Bundles.{memory_of}
 use Rattle.fir_types.specs.Passivity.{has_flip}
+use Rattle.fir_types.specs.Equivalence.{Equivalent}
 use Rattle.fir_types.proofs.Ways.{same_ways}
 use Rattle.fir_types.proofs.Masks.{straight}
 use Rattle.prim_ops.specs.declared.widths.Width.{Width}
 use Rattle.prim_ops.specs.declared.widths.Width.TheVariants.{Bits}
 use Rattle.fir_tree.specs.declared.expr.Expr.{Expr}
-use Rattle.type_check.specs.Texts.{twice_in}
+use Rattle.type_check.specs.Texts.{twice_in, has_clock}
+use Rattle.type_check.specs.Memories.{memory_faults}
 use Rattle.width_rules.specs.declared.component.Component.{Component}
 use Rattle.width_rules.specs.declared.slot.Slot.{Slot}
 use Rattle.width_rules.specs.Places.{size}
@@ -31,6 +33,7 @@ use Rattle.width_rules.proofs.Monotone.{width_is_width}
 use Rattle.width_fit.specs.Filling.{filled}
 use Rattle.width_fit.specs.Judging.{slot_width}
 use Rattle.fir_meaning.specs.Components.{Declaration, Sort, A_node, A_memory, An_instance}
+use Rattle.fir_meaning.specs.States.{is_register}
 use Rattle.fir_meaning.specs.WellTyped.{Known, typed, is_narrow}
 use Rattle.fir_names.specs.Scopes.{In, here, there}
 use Rattle.fir_names.proofs.Graphs.{In-either, In-one}
@@ -47,6 +50,8 @@ module _ (ws : List Width) (with_ports : List WithPorts) where
     pub instance : (target : ℕ) → d.sort ≡ An_instance target → typ ≡ filled (instance_in with_ports target).part.typ (map (slot_width ws) (instance_in with_ports target).slots)
     pub memory : (m : Memory) → d.sort ≡ A_memory m → (element : List Slot) × (length element ≡ size (element_of m)) × (typ ≡ filled (memory_of m) (map (slot_width ws) (memory_slots m element)))
     pub elements : (m : Memory) → d.sort ≡ A_memory m → is_narrow (element_of m) ≡ true
+    pub register : is_register d.sort ≡ true → (t : FirType) × Equivalent t typ × (has_clock t ≡ false) × (has_flip t ≡ false)
+    pub stored : (m : Memory) → d.sort ≡ A_memory m → memory_faults m ≡ []
 
   slots_bounded : ((k : ℕ) → IsWidth (get_or ws k (Bits 0))) → (slots : List Slot) → Each IsWidth (map (slot_width ws) slots)
   slots_bounded b [] = tt
@@ -78,7 +83,7 @@ module _ (ws : List Width) (with_ports : List WithPorts) where
   pub filled_differ : (t : FirType) (vs : List Width) → twice_in t ≡ [] → Differ (leaves (filled t vs))
   filled_differ t vs h = differ_ways (leaves t) (leaves (filled t vs)) (same_ways (filled_equivalent t vs)) (leaves_differ t h)
 
-  straight_ways : (ls ms : List TypeLeaf) → map way_of ls ≡ map way_of ms → AllByRecursion (λ (l : TypeLeaf). l.flip ≡ false) ls → (m : TypeLeaf) → In m ms → m.flip ≡ false
+  pub straight_ways : (ls ms : List TypeLeaf) → map way_of ls ≡ map way_of ms → AllByRecursion (λ (l : TypeLeaf). l.flip ≡ false) ls → (m : TypeLeaf) → In m ms → m.flip ≡ false
   straight_ways [] [] e h m i = elim i [ ]
   straight_ways [] (x ∷ ms) e h m i = cc
   straight_ways (l ∷ ls) [] e h m i = cc
@@ -93,8 +98,9 @@ module _ (ws : List Width) (with_ports : List WithPorts) where
 
   -- a declaration that is no node, no instance and no memory
   pub plain_declared : ((k : ℕ) → IsWidth (get_or ws k (Bits 0))) → (K : Known) (d : Declaration) (t : FirType) (slots : List Slot) → twice_in t ≡ []
-      → ((e : Expr) → d.sort ≢ A_node e) → ((target : ℕ) → d.sort ≢ An_instance target) → ((m : Memory) → d.sort ≢ A_memory m) → IsDeclared K d (filled t (map (slot_width ws) slots))
-  plain_declared b K d t slots h node instance memory = record {
+      → ((e : Expr) → d.sort ≢ A_node e) → ((target : ℕ) → d.sort ≢ An_instance target) → ((m : Memory) → d.sort ≢ A_memory m)
+      → (is_register d.sort ≡ true → (has_clock t ≡ false) × (has_flip t ≡ false)) → IsDeclared K d (filled t (map (slot_width ws) slots))
+  plain_declared b K d t slots h node instance memory register = record {
     node = λ e s. absurd (node e s);
     passive = λ e s l i. absurd (node e s);
     narrow = slots_narrow b t slots;
@@ -102,4 +108,6 @@ module _ (ws : List Width) (with_ports : List WithPorts) where
     instance = λ target s. absurd (instance target s);
     memory = λ m s. absurd (memory m s);
     elements = λ m s. absurd (memory m s);
+    register = λ r. let holds = register r in (t, filled_equivalent t (map (slot_width ws) slots), holds.0, holds.1);
+    stored = λ m s. absurd (memory m s);
   }

@@ -4,6 +4,7 @@ mod Literals
 mod Steps
 mod Once
 mod Expressions
+mod Held
 mod Known
 mod Walking
 mod Measured

@@ -47,6 +47,7 @@ use Rattle.fitted_laws.proofs.Expressions.{TKnown, WKnown, Knows, Filled}
 use Rattle.fitted_laws.proofs.Known.{Marks, Marked, RuleMarked, knows_with, filled_with, kept_found, with_itself, get_more, more_rule}
 use Rattle.fitted_laws.proofs.Walking.{SeenIn, Begins, begins_more, Stands, Solves, solves_front, rule_of, NamedAs, zip_front, zip_rest, zip_both, TargetsIn, Comes}
 use Rattle.fitted_laws.proofs.Ruling.{slots_free, length-slots, free_placed}
+use Rattle.fir_meaning.specs.States.{is_register}
 use Rattle.fitted_laws.proofs.Declared.{IsDeclared, plain_declared}
 use Rattle.fitted_laws.proofs.Statements.{Instances, body_walks, body_comes}
 
@@ -112,21 +113,21 @@ module _ (all : Solved) (modules : List Module) (with_ports : List WithPorts) (p
       ports_filled body (n + open_spots (spots p.typ)) ps (sources.known_with wk p.name.id (record { part = part_of p.typ (port_flow p); slots = slots_from n (spots p.typ) })) K named.1
       (filled_with ws wk p.name.id (record { part = part_of p.typ (port_flow p); slots = slots_from n (spots p.typ) }) K fits named.0)
 
-  port_sort : (body : List Stmt) (p : Port) → (d : Declaration) → declared_by_port body p ≡ d → ((e : _) → d.sort ≢ A_node e) × ((t : ℕ) → d.sort ≢ An_instance t) × ((m : _) → d.sort ≢ A_memory m)
+  port_sort : (body : List Stmt) (p : Port) → (d : Declaration) → declared_by_port body p ≡ d → ((e : _) → d.sort ≢ A_node e) × ((t : ℕ) → d.sort ≢ An_instance t) × ((m : _) → d.sort ≢ A_memory m) × (is_register d.sort ≢ true)
   port_sort body p d e = by p.output refl where
-    by : (b : Bool) → p.output ≡ b → ((e : _) → d.sort ≢ A_node e) × ((t : ℕ) → d.sort ≢ An_instance t) × ((m : _) → d.sort ≢ A_memory m)
+    by : (b : Bool) → p.output ≡ b → ((e : _) → d.sort ≢ A_node e) × ((t : ℕ) → d.sort ≢ An_instance t) × ((m : _) → d.sort ≢ A_memory m) × (is_register d.sort ≢ true)
     by true q =
         let is : d.sort ≡ An_output = ap (λ (x : Declaration). x.sort) (sym e) ∙ ap (λ b. cond b An_output An_input) q in
-        (λ x s. (let f = sym is ∙ s in cc), λ x s. (let f = sym is ∙ s in cc), λ x s. (let f = sym is ∙ s in cc))
+        (λ x s. (let f = sym is ∙ s in cc), λ x s. (let f = sym is ∙ s in cc), λ x s. (let f = sym is ∙ s in cc), λ r. (let f = sym (ap is_register is) ∙ r in cc))
     by false q =
         let is : d.sort ≡ An_input = ap (λ (x : Declaration). x.sort) (sym e) ∙ ap (λ b. cond b An_output An_input) q in
-        (λ x s. (let f = sym is ∙ s in cc), λ x s. (let f = sym is ∙ s in cc), λ x s. (let f = sym is ∙ s in cc))
+        (λ x s. (let f = sym is ∙ s in cc), λ x s. (let f = sym is ∙ s in cc), λ x s. (let f = sym is ∙ s in cc), λ r. (let f = sym (ap is_register is) ∙ r in cc))
 
   ports_well : (body : List Stmt) (n : ℕ) (ps : List Port) (tk : TKnown) (K : Known) → (ports_walk ps tk).faults ≡ [] → AllZip (S K) (map (declared_by_port body) ps) (ports_declared all ps (ports_from n ps))
   ports_well body n [] tk K e = tt
   ports_well body n (p ∷ ps) tk K e =
       let s = port_sort body p (declared_by_port body p) refl in (
-        plain_declared ws with_ports bounded K (declared_by_port body p) p.typ (slots_from n (spots p.typ)) (left_empty (twice_in p.typ) [] (left_empty (checking.port_walk p tk).faults _ e)) s.0 s.1 s.2,
+        plain_declared ws with_ports bounded K (declared_by_port body p) p.typ (slots_from n (spots p.typ)) (left_empty (twice_in p.typ) [] (left_empty (checking.port_walk p tk).faults _ e)) s.0 s.1 s.2 (λ r. absurd (s.3 r)),
         ports_well body (n + open_spots (spots p.typ)) ps (checking.port_walk p tk).known K (right_empty (checking.port_walk p tk).faults _ e)
       )
 

@@ -47,7 +47,7 @@ when_false : (b : Bool) (fault : TypeFault) → b ≡ false → when b fault ≡
 when_false true fault e = cc
 when_false false fault e = refl
 
-false_when : (b : Bool) (fault : TypeFault) → when b fault ≡ [] → b ≡ false
+pub false_when : (b : Bool) (fault : TypeFault) → when b fault ≡ [] → b ≡ false
 false_when true fault e = cc
 false_when false fault e = refl
 

@@ -70,6 +70,7 @@ use Rattle.fitted_laws.proofs.Walking.{SeenIn, named_known, Begins, begins_more,
 use Rattle.fitted_laws.proofs.Measured.{same_measured}
 use Rattle.fitted_laws.proofs.Ruling.{IsFree, NoFlip, slots_free, length-slots, length-node_slots, free_marks, free_ruled, free_placed, node_marks, node_marked, node_ruled, node_widths, connected_marked, invalidated_marked, drivable}
 use Rattle.fitted_laws.proofs.Flips.{straight_spots, flips_alike, drivable_straight, source_placed, places_narrow}
+use Rattle.fitted_laws.proofs.Held.{stored_holds}
 use Rattle.fitted_laws.proofs.Declared.{IsDeclared, slots_narrow, filled_differ, filled_straight, plain_declared}
 
 abbrev told_arm : Arm → ToldArm
@@ -266,13 +267,14 @@ module _ (all : Solved) (modules : List Module) (with_ports : List WithPorts) (p
         shows = refl;
         marked = tt;
         ruled = λ x f is. free_ruled ms (open_spots (spots typ)) x f [] is;
-        well = λ K fits solves none. (refl, plain_declared ws with_ports bounded K _ typ (slots_from n (spots typ)) once (λ e s. cc) (λ t s. cc) (λ m s. cc));
+        well = λ K fits solves none. (refl, plain_declared ws with_ports bounded K _ typ (slots_from n (spots typ)) once (λ e s. cc) (λ t s. cc) (λ m s. cc) (λ r. cc));
       })
 
   register_comes : (name : Name) (typ : FirType) (clock : Expr) → is_shaped clock ≡ true → (block behind : List Stmt) → Comes_to all modules ports S (layer (Stmt-F.Reg name typ clock) block behind)
   register_comes name typ clock shape block behind tk wk n ms seen i st si au ti e =
       let w : Walks = layer (Stmt-F.Reg name typ clock) block behind in
       let once : twice_in typ ≡ [] = left_empty (twice_in typ) _ (left_empty (stored_faults typ) _ e) in
+      let holds = stored_holds typ (left_empty (stored_faults typ) _ e) in
       let rest = right_empty (stored_faults typ) _ e in
       let f = found_in tk wk n ms seen st si clock (every-left Use IsNamed (map (λ name. record { name = name; seen = seen }) (references clock)) [] au)
       (left_empty (found_of tk clock).faults _ (left_empty ((found_of tk clock).faults ++ check.where_typed (checking.clock_faults clock.place) (found_of tk clock).part) [] rest)) shape in
@@ -295,7 +297,7 @@ module _ (all : Solved) (modules : List Module) (with_ports : List WithPorts) (p
         ruled = λ x f is. free_ruled ms (open_spots (spots typ)) x f [] is;
         well = λ K fits solves none. (
           typed_true tk wk ms clock f K fits (left_empty (survey ws clock wk).faults _ none),
-          plain_declared ws with_ports bounded K _ typ (slots_from n (spots typ)) once (λ e s. cc) (λ t s. cc) (λ m s. cc)
+          plain_declared ws with_ports bounded K _ typ (slots_from n (spots typ)) once (λ e s. cc) (λ t s. cc) (λ m s. cc) (λ r. holds)
         );
       })
 
@@ -312,6 +314,7 @@ module _ (all : Solved) (modules : List Module) (with_ports : List WithPorts) (p
       let w : Walks = layer (Stmt-F.RegReset name typ clock reset init) block behind in
       let once : twice_in typ ≡ [] = left_empty (twice_in typ) _ (left_empty (stored_faults typ) _ e) in
       let passive : is_passive typ ≡ true = unless_true _ _ (right_empty (check.when (has_clock typ) (OperandKind typ.place)) _ (right_empty (twice_in typ) _ (left_empty (stored_faults typ) _ e))) in
+      let holds = stored_holds typ (left_empty (stored_faults typ) _ e) in
       let rest = right_empty (stored_faults typ) _ e in
       let rest2 = right_empty (asked (checking.clock_faults clock.place) tk clock) _ rest in
       let rest3 = right_empty (asked (checking.condition_faults reset.place) tk reset) _ rest2 in
@@ -348,7 +351,7 @@ module _ (all : Solved) (modules : List Module) (with_ports : List WithPorts) (p
             let none3 = right_empty ((survey ws reset wk).faults ++ judging.condition_faults ws (survey ws reset wk)) _ none2 in (
               ap₂ (λ a b. a && b) (typed_true tk wk ms clock fc K fits (left_empty (survey ws clock wk).faults _ none))
                   (ap₂ (λ a b. a && b) (condition_true tk wk ms reset fr ru K fits (left_empty (survey ws reset wk).faults _ own)) (typed_true tk wk ms init fi K fits (left_empty (survey ws init wk).faults _ none3))),
-              plain_declared ws with_ports bounded K _ typ (slots_from n (spots typ)) once (λ e s. cc) (λ t s. cc) (λ m s. cc)
+              plain_declared ws with_ports bounded K _ typ (slots_from n (spots typ)) once (λ e s. cc) (λ t s. cc) (λ m s. cc) (λ r. holds)
             );
       })
     where
@@ -481,6 +484,8 @@ module _ (all : Solved) (modules : List Module) (with_ports : List WithPorts) (p
             memory = λ m s. let same : memory ≡ m = cc in (slots, length-slots n (spots element) ∙ ap (λ (x : Memory). size (element_of x)) same, ap (λ (x : Memory). filled (memory_of x) (map (slot_width ws) (memory_slots x slots))) same);
             elements = λ m s. let same : memory ≡ m = cc in subst (λ (x : Memory). is_narrow (element_of x) ≡ true) same
                 (places_narrow ws n element (where_false _ _ (right_empty (where_ (list_any (is_unknown all.rules) slots) (WidthUnknown memory.name.place)) _ none)));
+            register = λ r. cc;
+            stored = λ m s. let same : memory ≡ m = cc in subst (λ (x : Memory). memory_faults x ≡ []) same faultless;
           },
         );
       })
@@ -546,6 +551,8 @@ module _ (all : Solved) (modules : List Module) (with_ports : List WithPorts) (p
                 instance = λ t q. cc;
                 memory = λ x q. cc;
                 elements = λ x q. cc;
+                register = λ r. cc;
+                stored = λ x q. cc;
               },
             );
       })
@@ -597,6 +604,8 @@ module _ (all : Solved) (modules : List Module) (with_ports : List WithPorts) (p
             instance = λ t s. let same : target.id ≡ t = cc in ap (λ x. filled (ruling.instance_in with_ports x).part.typ (map (slot_width ws) (ruling.instance_in with_ports x).slots)) same;
             memory = λ m s. cc;
             elements = λ m s. cc;
+            register = λ r. cc;
+            stored = λ m s. cc;
           },
         );
       })

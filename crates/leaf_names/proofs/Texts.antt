@@ -1,4 +1,4 @@
-use Rattle.std.proofs.Common.{◌≡◌, ℕ, zero, suc, List, [], ◌∷◌, None, refl, get_or}
+use Rattle.std.proofs.Common.{◌≡◌, ℕ, zero, suc, [], ◌∷◌, None, refl}
 use Rattle.std.specs.List.{slice_get}
 use Rattle.leaf_names.specs.LeafNames.{Texts, text_of}
 

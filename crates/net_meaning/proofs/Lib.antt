@@ -1,8 +1,8 @@
 pub mod Loops
 pub mod Settling
 pub mod Shaping
-mod Mentioning
+pub mod Mentioning
 pub mod Examples
 mod ExamplesOfCones
 mod Placing
-mod Ranges
+pub mod Ranges

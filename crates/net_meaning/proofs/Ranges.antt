@@ -172,6 +172,8 @@ pub record ComesFrom (net : Net) (c : Capture) : Type 0 where
   pub read : NetRead
   pub reads : c.port.read ≡ Some read
   pub leaf : slice_get read.leaves c.element ≡ Some c.leaf
+  pub late : read.captured ≡ true
+  pub after : c.after ≡ read.after
 
 module _ (net : Net) (m : ℕ) (memory : NetMemory) (there : slice_get net.memories m ≡ Some memory) (q : ℕ) (port : NetPort) (listed : slice_get memory.ports q ≡ Some port) where
   abbrev make : NetRead → ℕ × ℕ → Capture
@@ -179,17 +181,17 @@ module _ (net : Net) (m : ℕ) (memory : NetMemory) (there : slice_get net.memor
 
   from_read : (o : Option NetRead) → port.read ≡ o → (j : ℕ) (c : Capture) → slice_get (captured_by m memory port o) j ≡ Some c → ComesFrom net c
   from_read None e j c h = absurd (none_some h)
-  from_read (Some read) e j c h = by_test read.captured h
+  from_read (Some read) e j c h = by_test read.captured refl h
     where
-      by_test : (b : Bool) → slice_get (if b then map (make read) (numbered read.leaves) else []) j ≡ Some c → ComesFrom net c
-      by_test false h = absurd (none_some h)
-      by_test true h =
+      by_test : (b : Bool) → read.captured ≡ b → slice_get (if b then map (make read) (numbered read.leaves) else []) j ≡ Some c → ComesFrom net c
+      by_test false late h = absurd (none_some h)
+      by_test true late h =
           let x = mapped (make read) (numbered read.leaves) j c h in
           let at = from_numbered 0 read.leaves j x.0 x.1 in
           let z : 0 + j ≡ j = omega arith in
-          subst (ComesFrom net) x.2 (record { there = there; place = q; listed = listed; read = read; reads = e; leaf = ap (slice_get read.leaves) (at.0 ∙ z) ∙ at.1 })
+          subst (ComesFrom net) x.2 (record { there = there; place = q; listed = listed; read = read; reads = e; leaf = ap (slice_get read.leaves) (at.0 ∙ z) ∙ at.1; late = late; after = refl })
 
-capture_from : (net : Net) (n : ℕ) (c : Capture) → slice_get (captures net) n ≡ Some c → ComesFrom net c
+pub capture_from : (net : Net) (n : ℕ) (c : Capture) → slice_get (captures net) n ≡ Some c → ComesFrom net c
 capture_from net n c e =
     let m = from_flat_map (λ both. flat_map (λ port. captured_by both.0 both.1 port port.read) both.1.ports) (numbered net.memories) n c e in
     let at = from_numbered 0 net.memories m.0 m.1 m.2 in

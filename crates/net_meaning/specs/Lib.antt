@@ -2,3 +2,4 @@ pub mod Shapes
 pub mod Cycles
 pub mod Nets
 pub mod Words
+pub mod StatementShapes

@@ -1,6 +1,6 @@
 -- The lines of leaves behind a front that grows by the steps to them.
-use Rattle.std.proofs.Common.{◌≡◌, ℕ, zero, suc, ◌+◌, ◌<◌, Bool, false, List, [], ◌∷◌, ◌++◌, map, length, take, get_or, None, refl, sym, ap, ap₂, ◌∙◌, subst, arith, append_assoc, add-one, decimal}
-use Rattle.std.specs.List.{flat_map, slice_get}
+use Rattle.std.proofs.Common.{◌≡◌, ℕ, zero, suc, ◌+◌, ◌<◌, Bool, false, List, [], ◌∷◌, ◌++◌, map, length, take, get_or, refl, sym, ap, ap₂, ◌∙◌, subst, arith, append_assoc, add-one, decimal}
+use Rattle.std.specs.List.{flat_map}
 use Rattle.std.proofs.lemmas.Grind.{common_steps, flat_map-append}
 use Rattle.std.proofs.Math.Seq.{take-append_seam}
 use Rattle.fir_types.specs.declared.fir_type.Field.{Field}
@@ -9,7 +9,7 @@ use Rattle.fir_types.specs.declared.leaf.PathStep.{PathStep}
 use Rattle.fir_types.specs.declared.leaf.PathStep.TheVariants as step
 use Rattle.fir_types.specs.Leaves.{leaves, field_leaves, elements, under}
 use Rattle.fir_types.proofs.Layers.{leaves-field}
-use Rattle.leaf_names.specs.LeafNames.{Texts, text_of, step_text}
+use Rattle.leaf_names.specs.LeafNames.{Texts, step_text}
 use Rattle.trace_print.specs.Listing.{shape_line, leaf_line}
 
 -- a name without a text

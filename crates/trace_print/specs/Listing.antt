@@ -1,12 +1,10 @@
 -- The listing of a circuit's widths: `MODULE LEAF KIND WIDTH` for each leaf with a width of what is listed, in text order. A leaf is
 -- written as in an expression, such as `io.v[2].x`.
-use Rattle.std.specs.Prelude.{ℕ, Bool, true, false, List, [], ◌++◌, map, flat_map, zip, sum, get_or, Option, Some, None, codes, decimal}
+use Rattle.std.specs.Prelude.{ℕ, Bool, true, false, List, [], ◌++◌, map, flat_map, zip, sum, Option, Some, None, codes, decimal}
 use Rattle.fir_types.specs.declared.fir_type.FirType.{FirType}
 use Rattle.fir_types.specs.declared.fir_type.Shape.{Shape}
 use Rattle.fir_types.specs.declared.fir_type.Shape.TheVariants as shape
 use Rattle.fir_types.specs.declared.leaf.TypeLeaf.{TypeLeaf}
-use Rattle.fir_types.specs.declared.leaf.PathStep.{PathStep}
-use Rattle.fir_types.specs.declared.leaf.PathStep.TheVariants as step
 use Rattle.fir_types.specs.Leaves.{leaves, count}
 use Rattle.fir_tree.specs.declared.scope.Fitted.{Fitted}
 use Rattle.leaf_names.specs.LeafNames.{Texts, text_of, way_text}

@@ -3,7 +3,7 @@ use Rattle.std.specs.List.{list_all}
 use Rattle.ground_net.specs.Grounds.{mentions, joined}
 use Rattle.ground_net.specs.Statements.{all_hold}
 use Rattle.net_meaning.specs.Shapes.{Table}
-use Rattle.expand_whens.specs.Shapes.{is_condition}
+use Rattle.net_meaning.specs.StatementShapes.{is_condition}
 use Rattle.expand_whens.specs.Ways.{crossed, crossed_mentions, asked_fits, part_fits, IsPart}
 use Rattle.expand_whens.proofs.guard.guard_of.Given as goal
 

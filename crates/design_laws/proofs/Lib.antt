@@ -1,0 +1,5 @@
+pub mod Lists
+pub mod Standing
+pub mod Once
+pub mod Declared
+pub mod Accepted
