@@ -1,18 +1,13 @@
 -- The bundles of instances and of memories, with widths.
-use Rattle.std.proofs.Common.{◌≡◌, ◌≢◌, ℕ, zero, suc, ◌+◌, ◌==◌, ◌<◌, ◌≤◌, Bool, true, false, not, cond, List, [], ◌∷◌, ◌++◌, map, zip, length, take, drop, Option, Some, None, refl, sym, ap, ap₂, ◌∙◌, subst, arith, slice_get, append_assoc, append-nil, length-append}
-use Rattle.std.specs.Prelude.{⊤, find, option_map, Contains}
+use Rattle.std.proofs.Common.{◌≡◌, ℕ, zero, suc, ◌+◌, ◌==◌, Bool, true, false, not, cond, List, [], ◌∷◌, ◌++◌, map, zip, length, Option, Some, None, refl, sym, ap, ap₂, ◌∙◌, subst, arith, slice_get, append-nil}
+use Rattle.std.specs.Prelude.{find}
 use Rattle.std.specs.List.{flat_map, filter_map, cons_option}
-use Rattle.std.proofs.lemmas.Grind.{common_steps}
-use Rattle.std.proofs.lemmas.Bool.{eqb-true, eqb-false, eq-eqb}
+use Rattle.std.proofs.lemmas.Bool.{eqb-true, eq-eqb}
 use Rattle.std.proofs.lemmas.List.{take_at, drop_at, map-append, length-map}
 use Rattle.std.proofs.lemmas.List.Elements.{filter_map-append}
-use Rattle.place_text.specs.declared.place.Place.{Place}
 use Rattle.fir_types.specs.declared.fir_type.FirType.{FirType}
-use Rattle.fir_types.specs.declared.fir_type.Shape.TheVariants as shape
 use Rattle.fir_types.specs.declared.fir_type.Field.{Field}
-use Rattle.fir_types.specs.declared.leaf.TypeLeaf.{TypeLeaf}
 use Rattle.fir_types.specs.declared.leaf.PathStep.TheVariants as step
-use Rattle.fir_types.specs.declared.name.Name.{Name}
 use Rattle.fir_types.specs.declared.port.Port.{Port}
 use Rattle.fir_types.specs.Leaves.{leaves, field_leaves, under}
 use Rattle.fir_types.specs.Bundles.{nowhere, instance_of, instance_field}
@@ -26,8 +21,7 @@ use Rattle.fir_tree.specs.declared.stmt.Stmt.TheFolds.{map-Stmt, map-Arm, fold-r
 use Rattle.fir_tree.specs.declared.stmt.Stmt.TheViews.{roll-Stmt, roll-Arm}
 use Rattle.width_rules.specs.declared.slot.Slot.{Slot}
 use Rattle.width_rules.specs.Places.{spots, size, slots_from, open_spots}
-use Rattle.width_rules.specs.Circuits.{WithPorts, ports_from, open_ports, modules_from, instance_in, instance_component}
-use Rattle.width_rules.specs.Sources.{component_or_none}
+use Rattle.width_rules.specs.Circuits.{WithPorts, ports_from, open_ports, modules_from}
 use Rattle.width_fit.specs.Filling.{filled}
 use Rattle.width_fit.specs.Judging.{Solved, slot_width, ports_declared}
 use Rattle.fir_meaning.specs.Components.{Declaration, Component, TypedModule, Sort, An_input, An_output, A_wire, A_register, A_reset_register, A_memory, An_instance, A_node, Told, ToldArm, told, of_told, of_told_arm, declared_from, declared_in_block, declared_by_port, declarations_of, port_of, typed_ports}

@@ -1,13 +1,11 @@
 -- A circuit that the checks let pass is well typed.
-use Rattle.std.proofs.Common.{◌≡◌, ◌≢◌, ℕ, zero, suc, ◌+◌, ◌==◌, ◌<◌, ◌≤◌, Bool, true, false, cond, List, [], ◌∷◌, ◌++◌, map, zip, fold, length, get_or, replicate, Option, Some, None, refl, sym, ap, ap₂, ◌∙◌, subst, arith, slice_get, ◌⊎◌, inl, inr, ⊎_elim, append-nil, length-append}
-use Rattle.std.specs.Prelude.{⊤, is_some, find, option_map, sum_by, Contains}
-use Rattle.std.specs.List.{AllZip, list_all, flat_map}
-use Rattle.std.proofs.lemmas.Bool.{eqb-true, eqb-false, eq-eqb}
-use Rattle.std.proofs.lemmas.List.{length-replicate, length-map}
+use Rattle.std.proofs.Common.{◌≡◌, ℕ, zero, suc, ◌+◌, ◌==◌, ◌≤◌, Bool, true, false, cond, List, [], ◌∷◌, ◌++◌, map, zip, fold, length, get_or, replicate, Option, Some, None, refl, sym, ap, ap₂, ◌∙◌, subst, arith, slice_get, ⊎_elim, append-nil, length-append}
+use Rattle.std.specs.Prelude.{is_some, find, option_map, sum_by, Contains}
+use Rattle.std.specs.List.{AllZip, flat_map}
+use Rattle.std.proofs.lemmas.Bool.{eqb-false}
+use Rattle.std.proofs.lemmas.List.{length-replicate}
 use Rattle.std.proofs.lemmas.Option.{get_or_from_slice_get}
 use Rattle.fir_types.specs.declared.fir_type.FirType.{FirType}
-use Rattle.fir_types.specs.declared.leaf.TypeLeaf.{TypeLeaf}
-use Rattle.fir_types.specs.declared.memory.Memory.{Memory}
 use Rattle.fir_types.specs.declared.name.Name.{Name}
 use Rattle.fir_types.specs.declared.port.Port.{Port}
 use Rattle.fir_types.specs.Leaves.{leaves}
@@ -21,35 +19,28 @@ use Rattle.prim_ops.specs.declared.widths.Width.TheVariants.{Bits}
 use Rattle.fir_tree.specs.declared.circuit.Circuit.{Circuit}
 use Rattle.fir_tree.specs.declared.circuit.Module.{Module}
 use Rattle.fir_tree.specs.declared.scope.Fitted.{Fitted}
-use Rattle.circuit_parts.specs.declared.part.Part.{Part as APart}
 use Rattle.circuit_parts.specs.Parts as parts
-use Rattle.type_check.specs.declared.fault.TypeFault.{TypeFault}
 use Rattle.type_check.specs.Texts.{twice_in}
 use Rattle.type_check.specs.Statements as checking
-use Rattle.width_rules.specs.Solutions.{IsWidth, IsLeast}
-use Rattle.width_rules.specs.declared.rule.Rule.{Rule}
+use Rattle.width_rules.specs.Solutions.{IsWidth}
 use Rattle.width_rules.specs.declared.rule.Formula.{Formula}
-use Rattle.width_rules.specs.Circuits as ruling
-use Rattle.width_rules.specs.Circuits.{memory_slots, WithPorts, modules_from, all_open, bodies_from, rules_in, rules_of_modules, port_places, open_ports}
+use Rattle.width_rules.specs.Circuits.{memory_slots, WithPorts, modules_from, all_open, bodies_from, rules_in, open_ports}
 use Rattle.width_rules.proofs.Bounds.{Each}
 use Rattle.width_rules.proofs.Ports.{modules_open, module_places}
-use Rattle.width_fit.specs.declared.fault.WidthFault.{WidthFault}
 use Rattle.width_fit.specs.Judging.{Solved, told_of, slot_width}
-use Rattle.fir_meaning.specs.Components.{Declaration, Component, TypedModule, A_node, A_memory, declarations_of, with_types, modules_of, component_named}
-use Rattle.fir_meaning.specs.MemoryPorts.{MemoryPort, memory_ports}
+use Rattle.fir_meaning.specs.Components.{Declaration, Component, TypedModule, declarations_of, with_types, modules_of}
+use Rattle.fir_meaning.specs.MemoryPorts.{memory_ports}
 use Rattle.fir_meaning.specs.WellTyped.{Known, known_in, HasTypes}
 use Rattle.fir_names.specs.Extents.{uses_in, instances_in, declared_in}
 use Rattle.fir_names.specs.Parts.{Part, stmt_part}
 use Rattle.fir_names.specs.Parts as named
-use Rattle.fir_names.specs.Scopes.{In, here, there, texts, module_names, FirstOf, Means, Names, IsScope}
-use Rattle.fault_order.specs.First.{HasNone}
+use Rattle.fir_names.specs.Scopes.{In, here, there, texts, FirstOf, Means}
 use Rattle.fir_names.specs.Faults.{name_twice}
 use Rattle.fir_names.proofs.Graphs.{In-either, In-one, In-get, some_same}
 use Rattle.fir_names.proofs.Agreement.{declares_its_names}
 use Rattle.circuit_laws.specs.Names.{Every}
 use Rattle.circuit_laws.specs.Designs.{component_of}
-use Rattle.circuit_laws.proofs.Alone.{every-left, every-right}
-use Rattle.circuit_laws.proofs.Scoping.{Distinct, AllNamed, every_named, named_within, distinct_behind, distinct-left}
+use Rattle.circuit_laws.proofs.Scoping.{Distinct, every_named, named_within, distinct_behind, distinct-left}
 use Rattle.circuit_laws.proofs.Typed.{named_itself}
 use Rattle.circuit_laws.proofs.Pieces.{In-among, In-contained, contained_In, all_true, narrow_leaves}
 use Rattle.fitted_laws.specs.Shaped.{is_shaped_module}
@@ -59,7 +50,7 @@ use Rattle.fitted_laws.proofs.Once.{differ_places}
 use Rattle.fitted_laws.proofs.Known.{Marks, Marked, RuleMarked}
 use Rattle.fitted_laws.proofs.Walking.{Begins, Solves, rule_of, NamedAs, TargetsIn}
 use Rattle.fitted_laws.proofs.Ruling.{free_marks, least_solves}
-use Rattle.fitted_laws.proofs.Stored.{HasGoodPorts, IsInstance, instance_there, instance_good}
+use Rattle.fitted_laws.proofs.Stored.{HasGoodPorts, instance_there, instance_good}
 use Rattle.fitted_laws.proofs.Filling.{filled_equivalent}
 use Rattle.fitted_laws.proofs.Held.{unclocked, read_silent, port_itself}
 use Rattle.fitted_laws.proofs.Declared.{IsDeclared, straight_ways}

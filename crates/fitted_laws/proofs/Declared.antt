@@ -1,11 +1,6 @@
 -- What a declaration with its filled type is.
-use Rattle.std.proofs.Common.{◌≡◌, ◌≢◌, ℕ, zero, suc, ◌+◌, ◌<◌, ◌≤◌, Bool, true, false, not, ◌&&◌, List, [], ◌∷◌, ◌++◌, map, length, get_or, Option, Some, None, refl, sym, ap, ap₂, ◌∙◌, subst, arith, ◌⊎◌, inl, inr, ⊎_elim}
-use Rattle.std.specs.Prelude.{⊤, nat_le}
-use Rattle.std.specs.List.{flat_map, list_any, list_all, AllByRecursion}
-use Rattle.std.proofs.lemmas.Grind.{common_steps}
-use Rattle.std.proofs.lemmas.Bool.{le-leb, leb-true}
-use Rattle.std.proofs.lemmas.List.Folds.{flat_map-map}
-use Rattle.place_text.specs.declared.place.Place.{Place}
+use Rattle.std.proofs.Common.{◌≡◌, ◌≢◌, ℕ, Bool, true, false, List, [], ◌∷◌, map, length, get_or, Some, sym, ap, ◌∙◌, subst, ⊎_elim}
+use Rattle.std.specs.List.{AllByRecursion}
 use Rattle.fir_types.specs.declared.fir_type.FirType.{FirType}
 use Rattle.fir_types.specs.declared.leaf.TypeLeaf.{TypeLeaf}
 use Rattle.fir_types.specs.declared.leaf.PathStep.{PathStep}
@@ -22,7 +17,6 @@ use Rattle.prim_ops.specs.declared.widths.Width.TheVariants.{Bits}
 use Rattle.fir_tree.specs.declared.expr.Expr.{Expr}
 use Rattle.type_check.specs.Texts.{twice_in, has_clock}
 use Rattle.type_check.specs.Memories.{memory_faults}
-use Rattle.width_rules.specs.declared.component.Component.{Component}
 use Rattle.width_rules.specs.declared.slot.Slot.{Slot}
 use Rattle.width_rules.specs.Places.{size}
 use Rattle.width_rules.specs.Solutions.{IsWidth}
@@ -32,10 +26,10 @@ use Rattle.width_rules.proofs.Bounds.{Each}
 use Rattle.width_rules.proofs.Monotone.{width_is_width}
 use Rattle.width_fit.specs.Filling.{filled}
 use Rattle.width_fit.specs.Judging.{slot_width}
-use Rattle.fir_meaning.specs.Components.{Declaration, Sort, A_node, A_memory, An_instance}
+use Rattle.fir_meaning.specs.Components.{Declaration, A_node, A_memory, An_instance}
 use Rattle.fir_meaning.specs.States.{is_register}
 use Rattle.fir_meaning.specs.WellTyped.{Known, typed, is_narrow}
-use Rattle.fir_names.specs.Scopes.{In, here, there}
+use Rattle.fir_names.specs.Scopes.{In}
 use Rattle.fir_names.proofs.Graphs.{In-either, In-one}
 use Rattle.circuit_laws.specs.Names.{Every}
 use Rattle.fitted_laws.proofs.Filling.{leaf_shapes, filled_equivalent, filled_narrow}

@@ -1,10 +1,10 @@
 -- An expression without faults of types has a type, the rules measure the places of that type, and where its widths have no fault it is
 -- well typed with the type that its widths fill.
-use Rattle.std.proofs.Common.{◌≡◌, ℕ, zero, suc, ◌+◌, ◌<◌, ◌≤◌, Bool, true, false, not, cond, ◌&&◌, ◌||◌, if◌then◌else◌, List, [], ◌∷◌, ◌++◌, map, fold, zip, length, Option, Some, None, refl, sym, ap, ap₂, ◌∙◌, subst, arith, ◌⊎◌, inl, inr, ⊎_elim}
-use Rattle.std.specs.Prelude.{⊤, option_map, option_and_then, is_some, nat_lt, nat_le, nat_eq, get_or, slice_index, ℤ}
-use Rattle.std.specs.List.{flat_map, list_all, list_any}
+use Rattle.std.proofs.Common.{◌≡◌, ℕ, suc, ◌+◌, ◌≤◌, Bool, true, false, not, cond, ◌&&◌, ◌||◌, if◌then◌else◌, List, [], ◌∷◌, ◌++◌, map, zip, length, Option, Some, None, refl, sym, ap, ap₂, ◌∙◌, subst, arith}
+use Rattle.std.specs.Prelude.{⊤, option_map, option_and_then, is_some, nat_lt, nat_le, nat_eq, slice_index}
+use Rattle.std.specs.List.{flat_map, list_any}
 use Rattle.std.specs.Map.{lookup}
-use Rattle.std.proofs.lemmas.Bool.{leb-true, leb-false, le-leb, lt-ltb, ltb-true, eqb-true, eq-eqb}
+use Rattle.std.proofs.lemmas.Bool.{leb-true, lt-ltb, eqb-true, eq-eqb}
 use Rattle.std.proofs.lemmas.List.{length-map}
 use Rattle.std.proofs.lemmas.Simd.{map-map}
 use Rattle.std.proofs.lemmas.List.Concat.{flat_map-append}
@@ -15,7 +15,6 @@ use Rattle.bit_words.specs.declared.value.Kind.TheVariants.{Unsigned, Signed}
 use Rattle.bit_words.specs.declared.number.Number.{Number}
 use Rattle.bit_words.specs.Numbers.{integer_of_number}
 use Rattle.fir_types.specs.declared.fir_type.FirType.{FirType, the_lemmas}
-use Rattle.fir_types.specs.declared.fir_type.Shape.TheOpen.{Shape-F}
 use Rattle.fir_types.specs.declared.fir_type.Shape.TheViews.{out-Shape}
 use Rattle.fir_types.specs.declared.name.Name.{Name}
 use Rattle.fir_types.specs.Equivalence.{Equivalent, a_uint, a_sint}
@@ -35,11 +34,11 @@ use Rattle.fir_tree.specs.declared.expr.Form.TheViews.{roll-Form, roll-Suffix, r
 use Rattle.circuit_parts.specs.declared.part.Part.{Part}
 use Rattle.circuit_parts.specs.declared.part.Flow.{Flow}
 use Rattle.circuit_parts.specs.declared.part.Flow.TheVariants.{Source}
-use Rattle.circuit_parts.specs.Parts.{part_of, source_of, element_part, flow_through}
+use Rattle.circuit_parts.specs.Parts.{part_of, source_of, flow_through}
 use Rattle.fir_types.specs.Leaves.{leaves}
 use Rattle.circuit_parts.specs.Kinds.{sign_of, is_unsigned, ground, sign_or_unsigned}
 use Rattle.type_check.specs.declared.fault.TypeFault.{TypeFault}
-use Rattle.type_check.specs.declared.fault.TypeFault.TheVariants.{NotVector, IndexRange, IndexKind, OperandKind, ConditionKind, NotEquivalent, NotPassive, LiteralFit}
+use Rattle.type_check.specs.declared.fault.TypeFault.TheVariants.{OperandKind, ConditionKind, NotPassive, LiteralFit}
 use Rattle.type_check.specs.Parts as check
 use Rattle.type_check.specs.Parts.{unless, when, typed_without}
 use Rattle.type_check.specs.Texts.{twice_in, has_clock, is_passive, are_equivalent}
@@ -49,15 +48,15 @@ use Rattle.width_rules.specs.declared.component.Component.{Component}
 use Rattle.width_rules.specs.declared.slot.Slot.{Slot}
 use Rattle.width_rules.specs.declared.rule.Formula.{Formula}
 use Rattle.width_rules.specs.declared.rule.Formula.TheVariants as formula
-use Rattle.width_rules.specs.Formulas.{width_under, greatest}
+use Rattle.width_rules.specs.Formulas.{width_under}
 use Rattle.width_rules.specs.Places.{Spot, spots, size}
 use Rattle.width_rules.specs.Sources as sources
 use Rattle.width_rules.specs.Sources.{Measured, formula_of, lone, kind_of, operation_formula, greater_of, component, component_or_none, named, measured_reference, element_step}
 use Rattle.width_rules.proofs.Rows.{row_arity}
-use Rattle.width_rules.proofs.FormulaLemmas.{width-Fixed, width-Op, width-Greatest, widths_under}
+use Rattle.width_rules.proofs.FormulaLemmas.{width-Fixed, width-Op, width-Greatest}
 use Rattle.width_rules.proofs.Bounds.{Each}
 use Rattle.width_fit.specs.declared.fault.WidthFault.{WidthFault}
-use Rattle.width_fit.specs.declared.fault.WidthFault.TheVariants.{WidthOver, ParameterRange, ConditionWidth}
+use Rattle.width_fit.specs.declared.fault.WidthFault.TheVariants.{ParameterRange}
 use Rattle.width_fit.specs.Filling.{filled}
 use Rattle.width_fit.specs.Judging as judging
 use Rattle.width_fit.specs.Judging.{Survey, survey, surveyed, slot_width, widths_of, is_over, where_, lone_width, fit_width, parameter_faults, choice_faults}
@@ -73,12 +72,11 @@ use Rattle.fir_names.proofs.Graphs.{some_same}
 use Rattle.circuit_laws.specs.Names.{Every}
 use Rattle.circuit_laws.proofs.Alone.{every-left, every-right}
 use Rattle.circuit_laws.proofs.Pieces.{mapped_some}
-use Rattle.circuit_laws.proofs.Typing.{and_then_some}
 use Rattle.fitted_laws.specs.Shaped as shaping
 use Rattle.fitted_laws.specs.Shaped.{is_shaped, all_are}
 use Rattle.fitted_laws.proofs.Filling.{leaf_shapes, first_width, filled_unsigned, filled_signed, IsNumber, bigger, wider_filled, size_alike, unsigned_size, signed_size}
 use Rattle.fitted_laws.proofs.Equivalence.{unsigned_is, IsNumberType, a_natural, an_integer, number_is, is_equivalent}
-use Rattle.fitted_laws.proofs.Steps.{left_empty, right_empty, Placed, IsGood, IsStep, IsVector, field_step, vector_of}
+use Rattle.fitted_laws.proofs.Steps.{left_empty, right_empty, Placed, IsGood, IsVector, field_step, vector_of}
 use Rattle.fitted_laws.proofs.Literals.{same_least}
 
 -- Answers
@@ -360,17 +358,17 @@ module _ (Q : Flow → Formula → Type 0) (allows : Allows Q) (ws : List Width)
         r.0,
         subst (λ c. IsFound (as_node place (along (map checking.suffix_step ss) tk (check.component tk name.id))) (surveyed ws place (measured_reference (named (steps_to ss) c)) [] surveys)
             (λ K. option_map (λ typ. map typing.leaf_shape (leaves typ)) (type_behind K (map suffix_typed ss) (K name.id))) r.0) (sym known_w) (record {
-          found = ap (λ o. (along (map checking.suffix_step ss) tk o).part) known ∙ r.1.found;
-          measured = r.1.part_is;
-          counted = length-map last.slots formula_of ∙ r.1.good.counted ∙ ap (λ (p : Part). size p.typ) r.1.part_is;
-          once = subst (λ (p : Part). twice_in p.typ ≡ []) r.1.part_is r.1.good.once;
-          placed = subst (λ (p : Part). Placed Q p.flow (spots p.typ) (map formula_of last.slots)) r.1.part_is r.1.good.placed;
-          numbers = λ none. none_over (widths_of ws (measured_reference last)) (where_false _ _ (left_empty _ [] (right_empty (flat_map (λ (s : Survey). s.faults) surveys) _ none)));
-          typed_is = λ K fits none.
-              ap (λ o. option_map (λ typ. map typing.leaf_shape (leaves typ)) (type_behind K (map suffix_typed ss) o)) (fits name.id sized one.1)
-              ∙ ap (option_map (λ typ. map typing.leaf_shape (leaves typ))) (r.1.typed_is K fits (left_empty (flat_map (λ (s : Survey). s.faults) surveys) _ none))
-              ∙ ap (λ vs. Some (leaf_shapes (filled r.0.typ vs))) (sym widths);
-        }),
+              found = ap (λ o. (along (map checking.suffix_step ss) tk o).part) known ∙ r.1.found;
+              measured = r.1.part_is;
+              counted = length-map last.slots formula_of ∙ r.1.good.counted ∙ ap (λ (p : Part). size p.typ) r.1.part_is;
+              once = subst (λ (p : Part). twice_in p.typ ≡ []) r.1.part_is r.1.good.once;
+              placed = subst (λ (p : Part). Placed Q p.flow (spots p.typ) (map formula_of last.slots)) r.1.part_is r.1.good.placed;
+              numbers = λ none. none_over (widths_of ws (measured_reference last)) (where_false _ _ (left_empty _ [] (right_empty (flat_map (λ (s : Survey). s.faults) surveys) _ none)));
+              typed_is = λ K fits none.
+                  ap (λ o. option_map (λ typ. map typing.leaf_shape (leaves typ)) (type_behind K (map suffix_typed ss) o)) (fits name.id sized one.1)
+                  ∙ ap (option_map (λ typ. map typing.leaf_shape (leaves typ))) (r.1.typed_is K fits (left_empty (flat_map (λ (s : Survey). s.faults) surveys) _ none))
+                  ∙ ap (λ vs. Some (leaf_shapes (filled r.0.typ vs))) (sym widths);
+            }),
       )
 
   -- Literals
@@ -773,11 +771,13 @@ module _ (Q : Flow → Formula → Type 0) (allows : Allows Q) (ws : List Width)
       three_found place a b c (x ∷ y ∷ z ∷ []) f e =
           let js : List Judgement = found_of tk a.0 ∷ found_of tk b.0 ∷ found_of tk c.0 ∷ [] in
           let ops : typed_operands tk (judged_all (a.0 ∷ b.0 ∷ c.0 ∷ [])) ≡ Some (operands_of (a.0 ∷ b.0 ∷ c.0 ∷ []) (x ∷ y ∷ z ∷ [])) = operands_typed (a ∷ b ∷ c ∷ []) (x ∷ y ∷ z ∷ []) f in
-          let r = choice_found place a.0 b.0 c.0 x y z f.0 f.1.0 f.1.1.0 (ap (λ o. (over place (checking.choice place) js o).faults) (sym ops) ∙ e) in
-          (r.0, subst (λ o. IsFound (over place (checking.choice place) js o)
-          (surveyed ws place (sources.choice ((survey ws a.0 wk).measured ∷ (survey ws b.0 wk).measured ∷ (survey ws c.0 wk).measured ∷ []))
-          (choice_faults ws (survey ws a.0 wk ∷ survey ws b.0 wk ∷ survey ws c.0 wk ∷ [])) (survey ws a.0 wk ∷ survey ws b.0 wk ∷ survey ws c.0 wk ∷ []))
-          (λ K. chosen_shapes (typed a.0 K ∷ typed b.0 K ∷ typed c.0 K ∷ [])) r.0) (sym ops) r.1)
+          let r = choice_found place a.0 b.0 c.0 x y z f.0 f.1.0 f.1.1.0 (ap (λ o. (over place (checking.choice place) js o).faults) (sym ops) ∙ e) in (
+            r.0,
+            subst (λ o. IsFound (over place (checking.choice place) js o)
+                (surveyed ws place (sources.choice ((survey ws a.0 wk).measured ∷ (survey ws b.0 wk).measured ∷ (survey ws c.0 wk).measured ∷ []))
+                (choice_faults ws (survey ws a.0 wk ∷ survey ws b.0 wk ∷ survey ws c.0 wk ∷ [])) (survey ws a.0 wk ∷ survey ws b.0 wk ∷ survey ws c.0 wk ∷ []))
+                (λ K. chosen_shapes (typed a.0 K ∷ typed b.0 K ∷ typed c.0 K ∷ [])) r.0) (sym ops) r.1,
+          )
 
   -- All expressions
 

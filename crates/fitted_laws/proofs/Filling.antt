@@ -1,19 +1,18 @@
 -- Types with widths in their places: what they take, their parts, and the kinds and widths of their leaves.
-use Rattle.std.proofs.Common.{◌≡◌, ℕ, zero, suc, ◌+◌, ◌-◌, ◌==◌, ◌<◌, ◌≤◌, max, Bool, true, false, ◌&&◌, if◌then◌else◌, List, [], ◌∷◌, ◌++◌, map, zip, length, take, drop, Option, Some, None, refl, sym, ap, ap₂, ◌∙◌, subst, arith, length-append, append_assoc}
+use Rattle.std.proofs.Common.{◌≡◌, ℕ, zero, suc, ◌+◌, ◌-◌, ◌==◌, ◌<◌, ◌≤◌, max, Bool, true, false, ◌&&◌, if◌then◌else◌, List, [], ◌∷◌, ◌++◌, map, zip, length, take, drop, Option, Some, refl, sym, ap, ap₂, ◌∙◌, subst, arith, length-append}
 use Rattle.std.specs.Prelude.{find, option_map, option_and_then, nat_le}
 use Rattle.std.specs.List.{flat_map, list_all}
 use Rattle.std.proofs.lemmas.Grind.{common_steps}
 use Rattle.std.proofs.lemmas.Bool.{le-leb, leb-true, leb-false}
-use Rattle.std.proofs.lemmas.List.{take-take, drop-drop, drop-take, length-drop, length-map, map-append, take-map, drop-map}
+use Rattle.std.proofs.lemmas.List.{take-take, drop-drop, drop-take, length-drop, length-map, map-append}
 use Rattle.std.proofs.lemmas.List.Folds.{flat_map-map}
 use Rattle.place_text.specs.declared.place.Place.{Place}
-use Rattle.bit_words.specs.declared.value.Kind.{Kind}
 use Rattle.bit_words.specs.declared.value.Kind.TheVariants.{Unsigned, Signed}
 use Rattle.fir_types.specs.declared.fir_type.FirType.{FirType, ind-FirType, the_lemmas}
 use Rattle.fir_types.specs.declared.fir_type.Shape.{Shape, fold-Shape}
 use Rattle.fir_types.specs.declared.fir_type.Shape.TheOpen.{Shape-F, Field-F, FirType-F}
 use Rattle.fir_types.specs.declared.fir_type.Shape.TheFolds.{map-Shape, map-Field, map-FirType}
-use Rattle.fir_types.specs.declared.fir_type.Shape.TheViews.{roll-Shape, roll-Field, roll-FirType, out-Shape}
+use Rattle.fir_types.specs.declared.fir_type.Shape.TheViews.{roll-Shape, roll-Field, roll-FirType}
 use Rattle.fir_types.specs.declared.fir_type.Shape.TheVariants as shape
 use Rattle.fir_types.specs.declared.fir_type.Shape.TheVariants.{rolls-Unsigned, rolls-Signed, rolls-Clock, rolls-Reset, rolls-Bundle, rolls-Vector}
 use Rattle.fir_types.specs.declared.fir_type.Field.{Field}
@@ -32,8 +31,8 @@ use Rattle.width_rules.specs.Solutions.{IsWidth}
 use Rattle.width_rules.proofs.Bounds.{Each}
 use Rattle.width_fit.specs.Filling.{Taking, taking, filled, number, first_number, behind_first}
 use Rattle.width_fit.specs.Layers.{shape_taking, field_taking, fields_taking}
-use Rattle.cycle_values.specs.Shapes.{Shape as ValueShape, shaped, same_kind}
-use Rattle.fir_meaning.specs.Components.{kind_of_leaf, width_of_leaf, width_or_none}
+use Rattle.cycle_values.specs.Shapes.{Shape as ValueShape, shaped}
+use Rattle.fir_meaning.specs.Components.{width_or_none}
 use Rattle.fir_meaning.specs.WellTyped.{leaf_shape, wider_each, wider, is_narrow}
 use Rattle.fir_names.proofs.Graphs.{some_same}
 use Rattle.circuit_laws.proofs.Pieces.{mapped_some, field_narrow, narrow-bundle, narrow-vector, narrow-field}

@@ -1,5 +1,5 @@
 -- Flips and widths of places by their types.
-use Rattle.std.proofs.Common.{◌≡◌, ◌≢◌, ℕ, zero, suc, ◌+◌, ◌<◌, ◌≤◌, Bool, true, false, not, ◌&&◌, ◌||◌, if◌then◌else◌, List, [], ◌∷◌, ◌++◌, map, Option, Some, None, refl, sym, ap, ap₂, ◌∙◌, subst, arith, ◌⊎◌, inl, inr}
+use Rattle.std.proofs.Common.{◌≡◌, ◌≢◌, ℕ, ◌+◌, ◌≤◌, Bool, true, false, not, ◌&&◌, ◌||◌, if◌then◌else◌, List, [], ◌∷◌, ◌++◌, map, Option, Some, None, refl, sym, ap, ap₂, ◌∙◌, subst, arith, inr}
 use Rattle.std.specs.Prelude.{nat_le}
 use Rattle.std.specs.List.{flat_map, list_any, list_all}
 use Rattle.std.proofs.lemmas.Grind.{common_steps}
@@ -19,7 +19,6 @@ use Rattle.fir_types.specs.Equivalence.{Equivalent, SameFields, IsUnsigned, IsSi
 use Rattle.fir_types.proofs.Layers.{flip-bundle}
 use Rattle.prim_ops.specs.declared.widths.Width.{Width}
 use Rattle.prim_ops.specs.declared.widths.Width.TheVariants.{Bits, Over}
-use Rattle.prim_ops.specs.Widths.{bounded}
 use Rattle.circuit_parts.specs.declared.part.Flow.{Flow}
 use Rattle.circuit_parts.specs.declared.part.Flow.TheVariants.{Source}
 use Rattle.circuit_parts.specs.Parts.{flow_through}
@@ -37,7 +36,7 @@ use Rattle.circuit_laws.proofs.Pieces.{narrow-vector}
 use Rattle.fitted_laws.proofs.Filling.{is_narrow-unsigned, is_narrow-signed, is_narrow-clock, is_narrow-bundle}
 use Rattle.fitted_laws.proofs.Steps.{Placed}
 use Rattle.fitted_laws.proofs.Known.{Marks, Marked}
-use Rattle.fitted_laws.proofs.Ruling.{NoFlip, IsFree, Drivable, not_source}
+use Rattle.fitted_laws.proofs.Ruling.{NoFlip, Drivable, not_source}
 
 -- Passive types
 

@@ -1,6 +1,6 @@
 -- What registers and memories hold: no Clock and nothing flipped; and the names of a memory's ports.
-use Rattle.std.proofs.Common.{◌≡◌, ◌≢◌, ℕ, zero, suc, ◌==◌, Bool, true, false, not, ◌||◌, if◌then◌else◌, cond, List, [], ◌∷◌, ◌++◌, map, Option, Some, None, refl, sym, ap, ap₂, ◌∙◌, subst, arith, ◌⊎◌, inl, inr, ⊎_elim}
-use Rattle.std.specs.Prelude.{⊤, nat_eq, find}
+use Rattle.std.proofs.Common.{◌≡◌, ◌≢◌, ℕ, zero, suc, ◌==◌, Bool, true, false, not, cond, List, [], ◌∷◌, ◌++◌, map, Some, refl, sym, ap, ap₂, ◌∙◌, subst, arith, ⊎_elim}
+use Rattle.std.specs.Prelude.{nat_eq, find}
 use Rattle.std.specs.List.{flat_map, list_any, filter_map, AllByRecursion}
 use Rattle.std.proofs.lemmas.Grind.{common_steps}
 use Rattle.std.proofs.lemmas.Bool.{eq-eqb, eqb-false, ne_eqb, or_parts}
@@ -18,7 +18,6 @@ use Rattle.fir_types.specs.declared.memory.MemLine.{MemLine}
 use Rattle.fir_types.specs.declared.memory.MemLine.TheVariants as line
 use Rattle.fir_types.specs.declared.memory.PortMode.{PortMode}
 use Rattle.fir_types.specs.declared.memory.PortMode.TheVariants as mode
-use Rattle.fir_types.specs.declared.name.Name.{Name}
 use Rattle.fir_types.specs.Leaves.{leaves, field_leaves, elements, under, way_of, is_clock}
 use Rattle.fir_types.specs.Memories.{element_of, element_in, depth_of, first_or}
 use Rattle.fir_types.specs.Bundles.{memory_of, port_field, port_type, fields_of_mode, mask_of, plain_field, flipped_field, uint_at, clock_at, address_bits, addr_name, en_name, clk_name, data_name, mask_name, rdata_name, wmode_name, wdata_name, wmask_name}
@@ -33,7 +32,7 @@ use Rattle.type_check.specs.Texts.{has_clock, stored_faults, twice_in, is_passiv
 use Rattle.type_check.specs.Memories.{memory_faults, line_faults, again_behind, is_said, is_port}
 use Rattle.fir_meaning.specs.Components as meaning
 use Rattle.fir_meaning.specs.MemoryPorts.{MemoryPort, memory_ports, port_named, port_in}
-use Rattle.fir_names.specs.Scopes.{In, here, there}
+use Rattle.fir_names.specs.Scopes.{In}
 use Rattle.fir_names.proofs.Graphs.{In-either, In-one}
 use Rattle.circuit_laws.specs.Names.{Every}
 use Rattle.circuit_laws.proofs.Alone.{every-append}
@@ -163,7 +162,7 @@ clock_plain place = one_plain (clock_at place) (grind (arith, common_steps, the_
 
 plain_field_loud : (f : Field) → f.flip ≡ false → Every TypeLeaf Plain (leaves f.typ) → Every TypeLeaf Loud (field_leaves f)
 plain_field_loud f e h =
-    subst (Every TypeLeaf Loud) (sym (leaves-field f) ) (subst (λ b. Every TypeLeaf Loud (map (under (step.Field f.name.id ∷ []) b) (leaves f.typ))) (sym e) (plain_loud (step.Field f.name.id ∷ []) (leaves f.typ) h))
+    subst (Every TypeLeaf Loud) (sym (leaves-field f)) (subst (λ b. Every TypeLeaf Loud (map (under (step.Field f.name.id ∷ []) b) (leaves f.typ))) (sym e) (plain_loud (step.Field f.name.id ∷ []) (leaves f.typ) h))
 
 silent_field_loud : (f : Field) → Every TypeLeaf NoClock (leaves f.typ) → Every TypeLeaf Loud (field_leaves f)
 silent_field_loud f h = subst (Every TypeLeaf Loud) (sym (leaves-field f)) (silent_loud (step.Field f.name.id ∷ []) f.flip (leaves f.typ) h)
@@ -261,7 +260,7 @@ read_silent memory typ e q ways l i f =
     let silent : has_clock (element_of memory) ≡ false = element_silent _ memory.lines empty_silent (left_empty (flat_map line_faults memory.lines) _ e) in
     let fields : List Field = filter_map (port_field (element_of memory) (depth_of memory)) memory.lines in
     let quiet : Every TypeLeaf Quiet (leaves (memory_of memory)) = subst (Every TypeLeaf Quiet) (sym (leaves-bundle (memory_of memory) fields refl))
-        (ports_quiet (element_of memory) (depth_of memory) memory.lines (none_any (leaves (element_of memory)) silent)) in
+    (ports_quiet (element_of memory) (depth_of memory) memory.lines (none_any (leaves (element_of memory)) silent)) in
     same_clock l ∙ every_in Quiet (leaves typ) (quiet_ways (leaves (memory_of memory)) (leaves typ) ways (same_clocks q) quiet) l i f
 
 -- The names of a memory's ports

@@ -1,12 +1,9 @@
 -- Components by their names, and what is known of the variables of the rules.
-use Rattle.std.proofs.Common.{◌≡◌, ◌≢◌, ℕ, zero, suc, ◌+◌, ◌<◌, ◌≤◌, Bool, true, false, cond, if◌then◌else◌, List, [], ◌∷◌, ◌++◌, map, length, Option, Some, None, refl, sym, ap, ap₂, ◌∙◌, subst, arith, slice_get, ◌⊎◌, inl, inr, ⊎_elim, append_assoc, length-append}
-use Rattle.std.specs.Prelude.{⊤, nat_eq, is_some, option_map}
+use Rattle.std.proofs.Common.{◌≡◌, ℕ, zero, suc, ◌+◌, Bool, true, false, cond, if◌then◌else◌, List, [], ◌∷◌, ◌++◌, map, length, Option, Some, None, refl, sym, ap, ap₂, ◌∙◌, subst, arith, slice_get, ◌⊎◌, inl, inr, ⊎_elim}
+use Rattle.std.specs.Prelude.{nat_eq, is_some, option_map}
 use Rattle.std.specs.Map.{lookup}
-use Rattle.std.proofs.lemmas.Bool.{eqb-true, eq-eqb, ne_eqb}
-use Rattle.fir_types.specs.declared.fir_type.FirType.{FirType}
-use Rattle.fir_types.specs.declared.name.Name.{Name}
+use Rattle.std.proofs.lemmas.Bool.{eqb-true, eq-eqb}
 use Rattle.prim_ops.specs.declared.widths.Width.{Width}
-use Rattle.circuit_parts.specs.declared.part.Part.{Part}
 use Rattle.circuit_parts.specs.declared.part.Flow.{Flow}
 use Rattle.circuit_parts.specs.declared.part.Flow.TheVariants.{Source}
 use Rattle.type_check.specs.Parts as check
@@ -22,7 +19,7 @@ use Rattle.width_fit.specs.Judging.{slot_width}
 use Rattle.fir_meaning.specs.WellTyped.{Known}
 use Rattle.fir_names.proofs.Graphs.{some_same}
 use Rattle.fitted_laws.proofs.Steps.{Placed, IsGood}
-use Rattle.fitted_laws.proofs.Expressions.{TKnown, WKnown, Knows, Filled, IsIn, Allows}
+use Rattle.fitted_laws.proofs.Expressions.{TKnown, WKnown, Knows, Filled, Allows}
 
 -- What is known of the variables: a node's have the formula that they take.
 abbrev pub Marks : Type 0

@@ -1,5 +1,5 @@
 -- A memory with widths is the bundle of its ports over its elements with widths.
-use Rattle.std.proofs.Common.{◌≡◌, ℕ, zero, suc, ◌+◌, ◌^◌, ◌<◌, ◌≤◌, Bool, true, false, if◌then◌else◌, List, [], ◌∷◌, ◌++◌, map, length, drop, Option, Some, None, refl, sym, ap, ap₂, ◌∙◌, subst, arith, slice_get, append_assoc, append-nil, length-append}
+use Rattle.std.proofs.Common.{◌≡◌, ℕ, zero, suc, ◌+◌, ◌^◌, ◌<◌, ◌≤◌, Bool, true, false, if◌then◌else◌, List, [], ◌∷◌, ◌++◌, map, length, drop, Option, Some, refl, sym, ap, ap₂, ◌∙◌, subst, arith, slice_get, append-nil}
 use Rattle.std.specs.Prelude.{nat_le}
 use Rattle.std.specs.List.{flat_map, filter_map}
 use Rattle.std.proofs.lemmas.Grind.{common_steps}
@@ -21,11 +21,9 @@ use Rattle.fir_types.specs.declared.memory.PortMode.{PortMode}
 use Rattle.fir_types.specs.declared.memory.PortMode.TheVariants as mode
 use Rattle.fir_types.specs.declared.name.Name.{Name}
 use Rattle.fir_types.specs.Memories.{element_of, depth_of}
-use Rattle.fir_types.specs.Leaves.{leaves}
 use Rattle.fir_types.specs.Bundles.{memory_of, port_field, port_type, fields_of_mode, mask_of, mask_of_field, plain_field, flipped_field, uint_at, clock_at, address_bits, least_reaching, addr_name, en_name, clk_name, data_name, mask_name, rdata_name, wmode_name, wdata_name, wmask_name}
 use Rattle.prim_ops.specs.declared.widths.Width.{Width}
 use Rattle.prim_ops.specs.declared.widths.Width.TheVariants.{Bits, Over}
-use Rattle.prim_ops.specs.Widths.{bounded}
 use Rattle.width_rules.specs.declared.slot.Slot.{Slot}
 use Rattle.width_rules.specs.declared.slot.Slot.TheVariants as slot
 use Rattle.width_rules.specs.Places.{Spot, spots, size}

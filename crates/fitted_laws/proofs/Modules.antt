@@ -1,9 +1,7 @@
 -- What the modules of a circuit come to.
-use Rattle.std.proofs.Common.{◌≡◌, ◌≢◌, ℕ, zero, suc, ◌+◌, ◌<◌, ◌≤◌, Bool, true, false, cond, ◌&&◌, List, [], ◌∷◌, ◌++◌, map, zip, length, drop, get_or, replicate, Option, Some, None, refl, sym, ap, ap₂, ◌∙◌, subst, arith, slice_get, ◌⊎◌, inl, inr, ⊎_elim, append_assoc, append-nil, length-append}
-use Rattle.std.specs.Prelude.{⊤, is_some, nat_eq}
-use Rattle.std.specs.List.{AllZip, list_all, flat_map}
-use Rattle.std.specs.Map.{lookup}
-use Rattle.std.proofs.lemmas.List.{length-map, length-replicate}
+use Rattle.std.proofs.Common.{◌≡◌, ◌≢◌, ℕ, zero, suc, ◌+◌, ◌≤◌, Bool, true, false, cond, List, [], ◌∷◌, ◌++◌, map, zip, length, drop, get_or, Option, Some, None, refl, sym, ap, ap₂, ◌∙◌, subst, arith, slice_get, ◌⊎◌, inl, inr, ⊎_elim, append_assoc, append-nil, length-append}
+use Rattle.std.specs.Prelude.{is_some}
+use Rattle.std.specs.List.{AllZip}
 use Rattle.fir_types.specs.declared.fir_type.FirType.{FirType}
 use Rattle.fir_types.specs.declared.name.Name.{Name}
 use Rattle.fir_types.specs.declared.port.Port.{Port}
@@ -15,21 +13,15 @@ use Rattle.circuit_parts.specs.Parts.{part_of, port_flow, instance_in}
 use Rattle.type_check.specs.Parts as check
 use Rattle.type_check.specs.Texts.{twice_in}
 use Rattle.type_check.specs.Statements as checking
-use Rattle.type_check.specs.declared.fault.TypeFault.{TypeFault}
-use Rattle.width_rules.specs.declared.component.Component.{Component}
-use Rattle.width_rules.specs.declared.slot.Slot.{Slot}
 use Rattle.width_rules.specs.declared.rule.Formula.{Formula}
 use Rattle.width_rules.specs.Solutions.{IsWidth}
 use Rattle.width_rules.specs.Places.{spots, slots_from, open_spots}
 use Rattle.width_rules.specs.Sources as sources
-use Rattle.width_rules.specs.Circuits as ruling
 use Rattle.width_rules.specs.Circuits.{WithPorts, ports_from, open_ports, modules_from, all_open, known_ports, body_walk, bodies_from}
 use Rattle.width_rules.proofs.Bounds.{Each, each_append}
-use Rattle.width_fit.specs.Filling.{filled}
 use Rattle.width_fit.specs.Judging as judging
 use Rattle.width_fit.specs.Judging.{Solved, slot_width, ports_declared, ports_faults, module_survey, told_from, where_reached}
-use Rattle.fir_meaning.specs.Components.{Declaration, Component as Typed, TypedModule, An_input, An_output, A_node, A_memory, An_instance, told, declared_in_block, declared_by_port, declarations_of, with_types}
-use Rattle.fir_meaning.specs.WellTyped as typing
+use Rattle.fir_meaning.specs.Components.{Declaration, TypedModule, An_input, An_output, A_node, A_memory, An_instance, told, declared_in_block, declared_by_port, declarations_of, with_types}
 use Rattle.fir_meaning.specs.WellTyped.{Known, are_typed}
 use Rattle.fir_names.specs.Extents.{Seen, Use, uses_in, instances_in}
 use Rattle.fir_names.specs.Parts as parts
@@ -39,13 +31,13 @@ use Rattle.fir_names.proofs.Graphs.{In-left, In-right, some_same}
 use Rattle.fir_names.proofs.Agreement.{sees_its_blocks, has_its_instances}
 use Rattle.circuit_laws.specs.Names.{Every}
 use Rattle.circuit_laws.specs.Designs.{component_of}
-use Rattle.circuit_laws.proofs.Alone.{every-left, every-right, every-append}
+use Rattle.circuit_laws.proofs.Alone.{every-right}
 use Rattle.circuit_laws.proofs.Scoping.{IsNamed, AllNamed}
 use Rattle.fitted_laws.specs.Shaped.{is_shaped_module}
 use Rattle.fitted_laws.proofs.Steps.{left_empty, right_empty, IsGood}
 use Rattle.fitted_laws.proofs.Expressions.{TKnown, WKnown, Knows, Filled}
-use Rattle.fitted_laws.proofs.Known.{Marks, Marked, RuleMarked, knows_with, filled_with, kept_found, with_itself, get_more, more_rule}
-use Rattle.fitted_laws.proofs.Walking.{SeenIn, Begins, begins_more, Stands, Solves, solves_front, rule_of, NamedAs, zip_front, zip_rest, zip_both, TargetsIn, Comes}
+use Rattle.fitted_laws.proofs.Known.{Marks, Marked, RuleMarked, knows_with, filled_with, kept_found, with_itself, more_rule}
+use Rattle.fitted_laws.proofs.Walking.{SeenIn, Begins, Solves, solves_front, rule_of, NamedAs, zip_front, zip_rest, zip_both, TargetsIn, Comes}
 use Rattle.fitted_laws.proofs.Ruling.{slots_free, length-slots, free_placed}
 use Rattle.fir_meaning.specs.States.{is_register}
 use Rattle.fitted_laws.proofs.Declared.{IsDeclared, plain_declared}
@@ -128,7 +120,7 @@ module _ (all : Solved) (modules : List Module) (with_ports : List WithPorts) (p
   ports_well body n (p ∷ ps) tk K e =
       let s = port_sort body p (declared_by_port body p) refl in (
         plain_declared ws with_ports bounded K (declared_by_port body p) p.typ (slots_from n (spots p.typ)) (left_empty (twice_in p.typ) [] (left_empty (checking.port_walk p tk).faults _ e)) s.0 s.1 s.2 (λ r. absurd (s.3 r)),
-        ports_well body (n + open_spots (spots p.typ)) ps (checking.port_walk p tk).known K (right_empty (checking.port_walk p tk).faults _ e)
+        ports_well body (n + open_spots (spots p.typ)) ps (checking.port_walk p tk).known K (right_empty (checking.port_walk p tk).faults _ e),
       )
 
   -- A module
@@ -268,13 +260,13 @@ module _ (all : Solved) (modules : List Module) (with_ports : List WithPorts) (p
               let none' : (told_in k' n' rest (drop 1 reached)).faults ≡ [] = ap (λ (g : judging.Told). g.faults) (sym same) ∙ right_empty (where_reached (get_or reached 0 false) own.faults) _ none in
               λ j. elim j as (λ j. (holder : Module) (m : TypedModule) → slice_get (h ∷ rest) j ≡ Some holder
               → (more : List FirType) → slice_get (with_types (h ∷ rest) ((own.declared ++ t) ++ more)) j ≡ Some m → get_or reached j false ≡ true → (K : Known) → IsModule holder m K (slice_get (modules_from k (h ∷ rest)) j)) [
-              | zero ↦ λ holder m e more at flag K. first holder m (some_same e) more (some_same at) K (solves_front ws (ms ++ one.marks) r.marks s)
-                  (ap (λ c. where_reached c own.faults) (sym flag) ∙ left_empty (where_reached (get_or reached 0 false) own.faults) _ none)
-              | suc i ↦ λ holder m e more at flag K.
-                  r.each s none' i holder m e more
-                  (ap (λ l. slice_get (with_types rest l) i)
-                  (ap (λ (g : judging.Told). g.declared ++ more) (sym same) ∙ sym (drop_front own.declared (t ++ more) (length (declarations_of h)) (sym one.declared)) ∙ ap (drop (length (declarations_of h))) (sym (append_assoc own.declared t more)))
-                  ∙ at) (flag_later reached i flag) K
+                | zero ↦ λ holder m e more at flag K. first holder m (some_same e) more (some_same at) K (solves_front ws (ms ++ one.marks) r.marks s)
+                    (ap (λ c. where_reached c own.faults) (sym flag) ∙ left_empty (where_reached (get_or reached 0 false) own.faults) _ none)
+                | suc i ↦ λ holder m e more at flag K.
+                    r.each s none' i holder m e more
+                    (ap (λ l. slice_get (with_types rest l) i)
+                    (ap (λ (g : judging.Told). g.declared ++ more) (sym same) ∙ sym (drop_front own.declared (t ++ more) (length (declarations_of h)) (sym one.declared)) ∙ ap (drop (length (declarations_of h))) (sym (append_assoc own.declared t more)))
+                    ∙ at) (flag_later reached i flag) K
               ];
         }
       where

@@ -1,9 +1,9 @@
 -- Types in which no bundle has two fields of one name: their leaves have different ways, and so have instances and memories.
-use Rattle.std.proofs.Common.{◌≡◌, ◌≢◌, ℕ, zero, suc, ◌+◌, ◌==◌, ◌<◌, ◌≤◌, Bool, true, false, ◌||◌, List, [], ◌∷◌, ◌++◌, map, Option, Some, None, refl, sym, ap, ap₂, ◌∙◌, subst, arith, slice_get, ◌⊎◌, inl, inr, ⊎_elim, append_assoc, append-nil}
+use Rattle.std.proofs.Common.{◌≡◌, ◌≢◌, ℕ, zero, suc, ◌<◌, Bool, true, false, ◌||◌, List, [], ◌∷◌, ◌++◌, map, Some, refl, sym, ap, ap₂, ◌∙◌, subst, arith, slice_get, ⊎_elim, append-nil}
 use Rattle.std.specs.Prelude.{⊤, nat_eq}
-use Rattle.std.specs.List.{flat_map, list_any, filter_map, cons_option}
+use Rattle.std.specs.List.{flat_map, list_any, filter_map}
 use Rattle.std.proofs.lemmas.Grind.{common_steps}
-use Rattle.std.proofs.lemmas.Bool.{eqb-true, eqb-false, ne_eqb, or_parts}
+use Rattle.std.proofs.lemmas.Bool.{eqb-false, ne_eqb, or_parts}
 use Rattle.std.proofs.lemmas.List.{map-append, append_cancel_left}
 use Rattle.std.proofs.lemmas.List.Elements.{filter_map-append}
 use Rattle.std.proofs.lemmas.List.Folds.{list_any-append}
@@ -28,20 +28,20 @@ use Rattle.fir_types.specs.declared.name.Name.{Name}
 use Rattle.fir_types.specs.declared.port.Port.{Port}
 use Rattle.fir_types.specs.Leaves.{leaves, field_leaves, elements, under}
 use Rattle.fir_types.specs.Memories.{element_of, element_in, depth_of, first_or}
-use Rattle.fir_types.specs.Bundles.{instance_of, instance_field, memory_of, port_field, port_type, fields_of_mode, mask_of, mask_of_field, uint_at, clock_at}
+use Rattle.fir_types.specs.Bundles.{instance_of, instance_field, memory_of, port_field, port_type, mask_of, mask_of_field, uint_at, clock_at}
 use Rattle.fir_types.proofs.Layers.{leaves-bundle, leaves-vector, leaves-field}
 use Rattle.type_check.specs.declared.fault.TypeFault.{TypeFault}
 use Rattle.type_check.specs.declared.fault.TypeFault.TheVariants.{FieldTwice, MemoryField}
 use Rattle.type_check.specs.Parts.{when}
 use Rattle.type_check.specs.Texts.{twice_in, seconds_behind, has_name, stored_faults}
-use Rattle.type_check.specs.Memories.{memory_faults, line_faults, again_behind, is_said, is_port, place_of}
+use Rattle.type_check.specs.Memories.{memory_faults, line_faults, again_behind, is_said, is_port}
 use Rattle.fir_names.specs.Scopes.{In, here, there}
 use Rattle.fir_names.proofs.Graphs.{In-either, In-one, some_same}
 use Rattle.circuit_laws.specs.Names.{Every, Avoids}
 use Rattle.circuit_laws.proofs.Alone.{every-append}
 use Rattle.circuit_laws.proofs.Pieces.{In-map, In-from, In-of}
 use Rattle.circuit_laws.proofs.Scoping.{Distinct}
-use Rattle.fitted_laws.proofs.Steps.{left_empty, right_empty, all_empty, twice_of_bundle, twice-vector}
+use Rattle.fitted_laws.proofs.Steps.{left_empty, right_empty, twice_of_bundle, twice-vector}
 
 when_false : (b : Bool) (fault : TypeFault) → b ≡ false → when b fault ≡ []
 when_false true fault e = cc

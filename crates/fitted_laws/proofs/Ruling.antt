@@ -3,14 +3,12 @@ use Rattle.std.proofs.Common.{◌≡◌, ◌≢◌, ℕ, zero, suc, ◌+◌, ◌
 use Rattle.std.specs.Prelude.{⊤}
 use Rattle.std.proofs.lemmas.Bool.{cases_eq}
 use Rattle.std.proofs.lemmas.Option.{slice_get_within}
-use Rattle.std.proofs.lemmas.List.{length-map, length-set, get_or-set_same, get_or-set_other}
+use Rattle.std.proofs.lemmas.List.{length-set, get_or-set_same, get_or-set_other}
 use Rattle.prim_ops.specs.declared.widths.Width.{Width}
 use Rattle.prim_ops.specs.declared.widths.Width.TheVariants.{Bits, Over}
 use Rattle.circuit_parts.specs.declared.part.Flow.{Flow}
 use Rattle.circuit_parts.specs.declared.part.Flow.TheVariants.{Source, Sink, Duplex}
 use Rattle.circuit_parts.specs.Parts.{flow_through}
-use Rattle.width_rules.specs.declared.slot.Slot.{Slot}
-use Rattle.width_rules.specs.declared.slot.Slot.TheVariants as slot
 use Rattle.width_rules.specs.declared.rule.Formula.{Formula}
 use Rattle.width_rules.specs.declared.rule.Formula.TheVariants as formula
 use Rattle.width_rules.specs.declared.rule.Rule.{Rule}
@@ -24,10 +22,10 @@ use Rattle.width_rules.proofs.FormulaLemmas.{width-Var}
 use Rattle.width_rules.proofs.Monotone.{width_is_width, width_grows}
 use Rattle.width_fit.specs.Judging.{slot_width}
 use Rattle.fir_names.specs.Scopes.{In, here, there}
-use Rattle.fir_names.proofs.Graphs.{In-either, In-one, In-left, In-right, some_same}
+use Rattle.fir_names.proofs.Graphs.{In-either, In-one, some_same}
 use Rattle.circuit_laws.proofs.Scoping.{get-either}
 use Rattle.fitted_laws.proofs.Steps.{Placed}
-use Rattle.fitted_laws.proofs.Known.{Marks, Marked, RuleMarked, get_more, get_behind}
+use Rattle.fitted_laws.proofs.Known.{Marks, Marked, RuleMarked, get_behind}
 use Rattle.fitted_laws.proofs.Walking.{Solves, rule_of}
 
 same_var : (x y : ℕ) → formula.Var x ≡ formula.Var y → x ≡ y

@@ -1,5 +1,5 @@
 -- What each statement comes to.
-use Rattle.std.proofs.Common.{◌≡◌, ◌≢◌, ℕ, zero, suc, ◌+◌, ◌<◌, ◌≤◌, Bool, true, false, not, ◌&&◌, List, [], ◌∷◌, ◌++◌, map, length, get_or, replicate, Option, Some, None, refl, sym, ap, ap₂, ◌∙◌, subst, arith, slice_get, ◌⊎◌, inl, inr, ⊎_elim, append-nil, length-append}
+use Rattle.std.proofs.Common.{◌≡◌, ◌≢◌, ℕ, zero, suc, ◌+◌, Bool, true, false, not, ◌&&◌, List, [], ◌∷◌, ◌++◌, map, length, get_or, replicate, Option, Some, None, refl, sym, ap, ap₂, ◌∙◌, subst, arith, slice_get, ◌⊎◌, inl, inr, ⊎_elim, append-nil, length-append}
 use Rattle.std.specs.Prelude.{⊤, is_some, nat_eq, option_map}
 use Rattle.std.specs.List.{AllZip, list_all, list_any, flat_map}
 use Rattle.std.specs.Map.{lookup}
@@ -36,7 +36,7 @@ use Rattle.width_rules.specs.declared.component.Component.{Component}
 use Rattle.width_rules.specs.declared.slot.Slot.{Slot}
 use Rattle.width_rules.specs.declared.rule.Formula.{Formula}
 use Rattle.width_rules.specs.Solutions.{IsWidth}
-use Rattle.width_rules.specs.Places.{Spot, spots, size, slots_from, open_spots, node_slots}
+use Rattle.width_rules.specs.Places.{spots, size, slots_from, open_spots, node_slots}
 use Rattle.width_rules.specs.Sources as sources
 use Rattle.width_rules.specs.Sources.{Measured, formula_of, measured}
 use Rattle.width_rules.specs.Circuits as ruling
@@ -46,7 +46,7 @@ use Rattle.width_fit.specs.Filling.{filled}
 use Rattle.width_fit.specs.Judging as judging
 use Rattle.width_fit.specs.Judging.{Solved, Survey, survey, slot_width, widths_of, is_unknown, where_}
 use Rattle.width_fit.specs.declared.fault.WidthFault.TheVariants.{WidthUnknown}
-use Rattle.fir_meaning.specs.Components.{Declaration, Sort, A_wire, A_register, A_reset_register, A_memory, An_instance, A_node, Told, ToldArm, told, of_told, of_told_arm, declared_from, declared_in_block}
+use Rattle.fir_meaning.specs.Components.{Declaration, A_wire, A_register, A_reset_register, A_memory, An_instance, A_node, Told, ToldArm, told, of_told, of_told_arm, declared_from}
 use Rattle.fir_meaning.specs.WellTyped as typing
 use Rattle.fir_meaning.specs.WellTyped.{Known, typed, is_typed, is_condition, is_one_unsigned, is_narrow}
 use Rattle.fir_names.specs.Extents.{Seen, Use, references}
@@ -54,7 +54,6 @@ use Rattle.fir_names.specs.Parts as parts
 use Rattle.fir_names.specs.Parts.{Part, stmt_part, arm_part}
 use Rattle.fir_names.specs.Scopes.{In}
 use Rattle.fir_names.proofs.Graphs.{some_same}
-use Rattle.circuit_laws.specs.Names.{Every}
 use Rattle.circuit_laws.proofs.Alone.{every-left, every-right}
 use Rattle.circuit_laws.proofs.Scoping.{IsNamed, AllNamed, get-either}
 use Rattle.fitted_laws.specs.Shaped as shaping
@@ -62,13 +61,13 @@ use Rattle.fitted_laws.specs.Shaped.{is_shaped, is_shaped_stmt, all_are}
 use Rattle.fitted_laws.proofs.Filling.{leaf_shapes, filled_unsigned}
 use Rattle.fitted_laws.proofs.Equivalence.{unsigned_is, is_equivalent}
 use Rattle.fitted_laws.proofs.Steps.{left_empty, right_empty, Placed, IsGood}
-use Rattle.fitted_laws.proofs.Expressions.{TKnown, WKnown, Knows, Filled, IsIn, IsFound, expr_found, unless_true, where_false, some_is, and_left, and_right}
+use Rattle.fitted_laws.proofs.Expressions.{TKnown, WKnown, Knows, Filled, expr_found, unless_true, where_false, some_is, and_left, and_right}
 use Rattle.fitted_laws.proofs.Once.{memory_once}
 use Rattle.fitted_laws.proofs.Stored.{memory_good}
-use Rattle.fitted_laws.proofs.Known.{Marks, Marked, RuleMarked, marks_allow, more_knows, more_good, knows_with, filled_with, kept_found, with_itself, get_more}
-use Rattle.fitted_laws.proofs.Walking.{SeenIn, named_known, Begins, begins_more, Stands, Solves, rule_of, NamedAs, TargetsIn, Walks, Comes, Comes_to, both, comes_both, nothing', comes_nothing, stands_still}
+use Rattle.fitted_laws.proofs.Known.{Marks, Marked, RuleMarked, marks_allow, more_knows, more_good, knows_with, filled_with, kept_found, with_itself}
+use Rattle.fitted_laws.proofs.Walking.{SeenIn, named_known, Begins, begins_more, Stands, Solves, rule_of, NamedAs, Walks, Comes, Comes_to, both, comes_both, comes_nothing, stands_still}
 use Rattle.fitted_laws.proofs.Measured.{same_measured}
-use Rattle.fitted_laws.proofs.Ruling.{IsFree, NoFlip, slots_free, length-slots, length-node_slots, free_marks, free_ruled, free_placed, node_marks, node_marked, node_ruled, node_widths, connected_marked, invalidated_marked, drivable}
+use Rattle.fitted_laws.proofs.Ruling.{NoFlip, slots_free, length-slots, length-node_slots, free_marks, free_ruled, free_placed, node_marks, node_marked, node_ruled, node_widths, connected_marked, invalidated_marked, drivable}
 use Rattle.fitted_laws.proofs.Flips.{straight_spots, flips_alike, drivable_straight, source_placed, places_narrow}
 use Rattle.fitted_laws.proofs.Held.{stored_holds}
 use Rattle.fitted_laws.proofs.Declared.{IsDeclared, slots_narrow, filled_differ, filled_straight, plain_declared}
@@ -211,9 +210,10 @@ module _ (all : Solved) (modules : List Module) (with_ports : List WithPorts) (p
     ruled = λ x f is. inl (ap (λ z. slice_get z x) (sym (append-nil ms)) ∙ is);
     counted = ap length b.declares ∙ sym (ap length b.declared);
     fits = λ K named fits. subst (λ t. Filled ws t K) (sym b.rules_known) fits;
-    well = λ K fits solves none.
-        (b.well K (subst (λ t. Filled ws t K) b.rules_known fits) none,
-        subst (λ ds. AllZip (S K) ds (w.widths wk n).declared) (sym b.declares) (subst (AllZip (S K) []) (sym b.declared) tt));
+    well = λ K fits solves none. (
+      b.well K (subst (λ t. Filled ws t K) b.rules_known fits) none,
+      subst (λ ds. AllZip (S K) ds (w.widths wk n).declared) (sym b.declares) (subst (AllZip (S K) []) (sym b.declared) tt),
+    );
   }
 
   -- Wires and registers
@@ -297,7 +297,7 @@ module _ (all : Solved) (modules : List Module) (with_ports : List WithPorts) (p
         ruled = λ x f is. free_ruled ms (open_spots (spots typ)) x f [] is;
         well = λ K fits solves none. (
           typed_true tk wk ms clock f K fits (left_empty (survey ws clock wk).faults _ none),
-          plain_declared ws with_ports bounded K _ typ (slots_from n (spots typ)) once (λ e s. cc) (λ t s. cc) (λ m s. cc) (λ r. holds)
+          plain_declared ws with_ports bounded K _ typ (slots_from n (spots typ)) once (λ e s. cc) (λ t s. cc) (λ m s. cc) (λ r. holds),
         );
       })
 
@@ -351,7 +351,7 @@ module _ (all : Solved) (modules : List Module) (with_ports : List WithPorts) (p
             let none3 = right_empty ((survey ws reset wk).faults ++ judging.condition_faults ws (survey ws reset wk)) _ none2 in (
               ap₂ (λ a b. a && b) (typed_true tk wk ms clock fc K fits (left_empty (survey ws clock wk).faults _ none))
                   (ap₂ (λ a b. a && b) (condition_true tk wk ms reset fr ru K fits (left_empty (survey ws reset wk).faults _ own)) (typed_true tk wk ms init fi K fits (left_empty (survey ws init wk).faults _ none3))),
-              plain_declared ws with_ports bounded K _ typ (slots_from n (spots typ)) once (λ e s. cc) (λ t s. cc) (λ m s. cc) (λ r. holds)
+              plain_declared ws with_ports bounded K _ typ (slots_from n (spots typ)) once (λ e s. cc) (λ t s. cc) (λ m s. cc) (λ r. holds),
             );
       })
     where

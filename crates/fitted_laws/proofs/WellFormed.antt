@@ -1,5 +1,5 @@
 -- An accepted circuit is well formed.
-use Rattle.std.proofs.Common.{◌≡◌, ℕ, List, ◌++◌, map, Option, Some, refl, sym, ap, ap₂, ◌∙◌, subst, slice_get, true}
+use Rattle.std.proofs.Common.{◌≡◌, ℕ, List, map, Some, sym, ap, ◌∙◌, subst, slice_get, true}
 use Rattle.std.specs.Prelude.{Contains, find, option_map, ◌==◌}
 use Rattle.std.specs.List.{flat_map}
 use Rattle.std.proofs.lemmas.Option.{slice_get_within}
@@ -10,7 +10,6 @@ use Rattle.fir_types.specs.Bundles.{instance_of}
 use Rattle.fir_tree.specs.declared.circuit.Circuit.{Circuit}
 use Rattle.fir_tree.specs.declared.circuit.Module.{Module}
 use Rattle.fir_tree.specs.declared.scope.Fitted.{Fitted}
-use Rattle.prim_ops.specs.declared.widths.Width.{Width}
 use Rattle.width_rules.specs.declared.slot.Slot.{Slot}
 use Rattle.width_rules.specs.Circuits.{WithPorts, modules_from, ports_from, instance_in, instance_component}
 use Rattle.width_rules.specs.Sources.{component_or_none}
@@ -18,7 +17,7 @@ use Rattle.width_fit.specs.Filling.{filled}
 use Rattle.width_fit.specs.Judging.{slot_width}
 use Rattle.fir_meaning.specs.Components.{TypedModule, Component, HasBundles, A_memory, An_instance, target_in, typed_ports, ports_bundle, design_of, modules_of, module_at, module_named, component_named}
 use Rattle.fir_meaning.specs.WellTyped.{known_in}
-use Rattle.fir_names.specs.Scopes.{In, texts, module_names, FirstOf, Means, Reaches, through, Instance}
+use Rattle.fir_names.specs.Scopes.{texts, Means, Reaches, through}
 use Rattle.fir_names.proofs.Graphs.{In-get, some_same}
 use Rattle.circuit_laws.specs.WellFormed.{IsWellFormed, IsKnownModule}
 use Rattle.circuit_laws.proofs.Typed.{named_itself, component_declared}
@@ -27,7 +26,6 @@ use Rattle.circuit_laws.proofs.Instances.{declared_instance}
 use Rattle.circuit_laws.proofs.Reached.{IsNumbered, numbered, has_number, module_meant, known_module}
 use Rattle.fitted_laws.specs.Accepted.{IsAccepted}
 use Rattle.fitted_laws.proofs.Declared.{IsDeclared}
-use Rattle.fitted_laws.proofs.Modules.{IsModule}
 use Rattle.fitted_laws.proofs.Circuits as circuits
 use Rattle.fitted_laws.proofs.Bundles.{ports_are, instance_leaves, first_with}
 use Rattle.fitted_laws.proofs.Memories.{memory_filled}

@@ -1,6 +1,6 @@
 -- Trees that a text spells: an operation has as many operands and parameters as it takes, and a `mux` three operands
 -- (FIRRTL specification 3.0, "Primitive Operations" and "Multiplexers").
-use Rattle.std.specs.Prelude.{ℕ, nat_eq, Bool, true, ◌&&◌, List, length}
+use Rattle.std.specs.Prelude.{nat_eq, Bool, true, ◌&&◌, List, length}
 use Rattle.std.specs.List.{list_all}
 use Rattle.prim_ops.specs.Operations.{arity_of}
 use Rattle.fir_tree.specs.declared.circuit.Circuit.{Circuit}
