@@ -10,7 +10,7 @@ use Rattle.fir_types.specs.declared.name.Name.{Name}
 use Rattle.fault_order.specs.First.{HasNone}
 use Rattle.fir_names.specs.Extents.{instances_in}
 use Rattle.fir_names.specs.Scopes.{In, here, there, texts, module_names, FirstOf, Instance, Reaches, itself, through}
-use Rattle.fir_names.specs.Graphs.{Marked, Spreads, count_true}
+use Rattle.fir_names.specs.Graphs.{Marked, Spreads}
 use Rattle.fir_names.specs.Faults.{IsFault, instance_loop}
 use Rattle.fir_names.proofs.Graphs.{In-either, In-one, some_same, unmarked, marks_one, count_true-within}
 
@@ -37,8 +37,8 @@ place_is (y ∷ ys) x k e = by (y == x) refl (place_is ys x) where
       subst (FirstOf (y ∷ ys) x) (sym is.1) (record {
         has = f.has;
         first = λ earlier. elim earlier as (λ n. n < suc is.0 → slice_get (y ∷ ys) n ≡ Some x → ⊥) [
-        | zero ↦ λ below h. eqb-false y x q (some_same h)
-        | suc n ↦ λ below h. f.first n (omega (arith, below)) h
+          | zero ↦ λ below h. eqb-false y x q (some_same h)
+          | suc n ↦ λ below h. f.first n (omega (arith, below)) h
         ];
       })
 
