@@ -5,6 +5,7 @@ mod Steps
 mod Once
 mod Expressions
 mod Held
+mod Spelled
 mod Known
 mod Walking
 mod Measured

@@ -4,12 +4,16 @@ ghost use Rattle.std.specs.Prelude.{◌≡◌, ℕ, true, List, length, slice_ge
 ghost use Rattle.fir_types.specs.declared.fir_type.FirType.{FirType as TheType};
 ghost use Rattle.fir_types.specs.Equivalence.{Equivalent};
 ghost use Rattle.prim_ops.specs.declared.widths.Width.{Width as TheWidth};
+ghost use Rattle.fir_layout.specs.declared.laid.Laid.{Laid as TheLaid};
+ghost use Rattle.fir_tree.specs.declared.circuit.Circuit.{Circuit as ACircuit};
+ghost use Rattle.fir_grammar.specs.Grammar.{IsCircuit};
 ghost use Rattle.fir_tree.specs.declared.circuit.Module.{Module as AModule};
 ghost use Rattle.fir_tree.specs.declared.scope.Fitted.{Fitted as FittedCircuit};
 ghost use Rattle.fir_meaning.specs.Components.{TypedModule, declarations_of, modules_of};
 ghost use Rattle.fir_meaning.specs.WellTyped.{HasTypes};
 ghost use Rattle.width_fit.specs.Filling.{filled};
 ghost use Rattle.circuit_laws.specs.WellFormed.{IsWellFormed};
+ghost use Rattle.fitted_laws.specs.Shaped.{is_shaped_circuit};
 ghost use Rattle.fitted_laws.specs.Accepted.{IsAccepted};
 
 /// A type with widths in its places is equivalent to the type.
@@ -26,4 +30,9 @@ pub fn accepted_modules_are_well_typed()
 /// An accepted circuit is well formed.
 pub fn accepted_circuits_are_well_formed()
     ensures { (fitted : FittedCircuit) → IsAccepted fitted → IsWellFormed fitted }
+{}
+
+/// In a circuit that a text spells, each operation has the operands and the parameters that it takes, and a mux has three operands.
+pub fn spelled_circuits_are_shaped()
+    ensures { (text : List ℕ) (list : List TheLaid) (circuit : ACircuit) → IsCircuit text list circuit → is_shaped_circuit circuit ≡ true }
 {}
