@@ -1,5 +1,5 @@
 -- In a circuit that a text spells, operations have their operands and parameters.
-use Rattle.std.proofs.Common.{◌≡◌, ℕ, zero, suc, Bool, true, false, ◌&&◌, List, [], ◌∷◌, ◌++◌, map, length, refl, sym, ap, ap₂, ◌∙◌, subst, arith}
+use Rattle.std.proofs.Common.{◌≡◌, ℕ, suc, Bool, true, ◌&&◌, List, [], ◌∷◌, map, length, refl, ap, ap₂, ◌∙◌, arith}
 use Rattle.std.specs.Prelude.{⊤, nat_eq}
 use Rattle.std.specs.List.{list_all}
 use Rattle.std.proofs.lemmas.Grind.{common_steps}
@@ -11,11 +11,9 @@ use Rattle.bit_words.specs.declared.value.Kind.{Kind}
 use Rattle.fir_types.specs.declared.name.Name.{Name}
 use Rattle.fir_types.specs.declared.fir_type.FirType.{FirType}
 use Rattle.fir_types.specs.declared.memory.Memory.{Memory}
-use Rattle.fir_types.specs.declared.port.Port.{Port as ModulePort}
 use Rattle.prim_ops.specs.declared.operation.PrimOp.{PrimOp}
 use Rattle.prim_ops.specs.Operations.{arity_of}
 use Rattle.fir_tree.specs.declared.circuit.Circuit.{Circuit}
-use Rattle.fir_tree.specs.declared.circuit.Module.{Module as TheModule}
 use Rattle.fir_tree.specs.declared.stmt.Stmt.{Stmt, the_lemmas as stmt_lemmas}
 use Rattle.fir_tree.specs.declared.stmt.Stmt.TheVariants as stmt
 use Rattle.fir_tree.specs.declared.stmt.Arm.{Arm, fold-Arm}
@@ -179,7 +177,7 @@ case_good an_invalidate (driven, _) (g, _) = of-invalidate driven ∙ g
 case_good a_when (condition, (body, (branches, _))) (g, (h, (k, _))) =
     of-when (record { condition = condition; body = body } ∷ branches.0) branches.1
     ∙ both (both (of-arm condition body ∙ both g h) (and_left (all_are (map shaped_arm branches.0)) (all_are (map is_shaped_stmt branches.1)) k))
-        (and_right (all_are (map shaped_arm branches.0)) (all_are (map is_shaped_stmt branches.1)) k)
+    (and_right (all_are (map shaped_arm branches.0)) (all_are (map is_shaped_stmt branches.1)) k)
 case_good a_skip (at, _) g = of-skip at
 case_good no_branch _ g = refl
 case_good else_when (condition, (body, (branches, _))) (g, (h, (k, _))) =
