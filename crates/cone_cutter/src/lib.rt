@@ -1,0 +1,18 @@
+//! The cut of a net into partitions: each sink's cone, the rule by which sinks are placed, and the assignments of each partition,
+//! of which what several need is in each (Wang and Beamer, "RepCut"). Keeps the contract that the partitions are those of the
+//! rule, and that each has exactly the union of its sinks' cones.
+#![tactic(auto)]
+
+mod buckets;
+mod cutting;
+pub mod laws;
+mod loads;
+mod needing;
+mod placing;
+mod reading;
+mod sinks;
+mod sizing;
+mod walking;
+
+pub use cutting::cut;
+pub use placing::Placing;

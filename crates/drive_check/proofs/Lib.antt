@@ -1,0 +1,9 @@
+mod KeyTests
+mod Placing
+mod Following
+mod Driving
+mod Blocks
+mod Naming
+mod Linking
+mod Telling
+mod Deciding

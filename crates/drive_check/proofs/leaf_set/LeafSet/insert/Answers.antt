@@ -1,0 +1,7 @@
+use Rattle.std.proofs.Common.{◌∙◌, ap}
+use Rattle.drive_check.specs.Keys.{is_among}
+use Rattle.drive_check.proofs.KeyTests.{one_more}
+use Rattle.drive_check.proofs.leaf_set.LeafSet.insert.Goals as goal
+
+pub returns : goal.returns
+returns c = λ leaf. ap (λ keys. is_among keys leaf) c.in_ok-insert.ensures.keys ∙ one_more c.args.self.now.keys.keys c.args.key leaf

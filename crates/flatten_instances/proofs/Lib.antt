@@ -1,0 +1,11 @@
+pub mod Lists
+pub mod Orders
+pub mod Going
+pub mod Walking
+pub mod Steps
+pub mod Visiting
+pub mod Sites
+pub mod RegisterTables
+pub mod Flattening
+pub mod Uniqueness
+pub mod Disjointness

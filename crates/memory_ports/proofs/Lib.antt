@@ -1,0 +1,10 @@
+mod Lists
+mod Marking
+mod Placements
+mod Rising
+mod Positions
+mod Reading
+mod Loads
+mod Captures
+mod WellFormed
+mod SoundCircuits

@@ -1,0 +1,14 @@
+pub mod Walking
+pub mod Placing
+pub mod Inking
+pub mod Saying
+pub mod Finding
+pub mod Lists
+pub mod Ordering
+pub mod Judged
+pub mod Holding
+pub mod Verdict
+pub mod Going
+pub mod Heading
+pub mod Rowing
+pub mod Once
