@@ -14,7 +14,7 @@ use Rattle.fault_order.specs.First.{HasNone}
 use Rattle.fir_names.specs.Faults.{IsFault, module_twice}
 use Rattle.fir_names.proofs.Graphs.{some_same}
 use Rattle.circuit_laws.specs.Designs.{IsOf}
-use Rattle.circuit_laws.specs.WellFormed.{IsKnownModule}
+use Rattle.circuit_laws.specs.WellFormed.{IsWellFormed, IsKnownModule}
 use Rattle.circuit_laws.proofs.Scoping.{distinct_behind, distinct_texts, ids_apart}
 use Rattle.circuit_laws.proofs.Typed.{named_itself, component_declared}
 use Rattle.circuit_laws.proofs.Pieces.{found_in, contained_In}
@@ -248,9 +248,9 @@ module _ (fitted : Fitted) where
             ids_apart (texts (module_names circuit)) (distinct_texts (module_names circuit) (distinct_behind [] (module_names circuit) (λ name t. names _ (module_twice name t)))) main_number k circuit.main.id
             scope.is_main.has means.has
 
-    pub reached_is_standing : (k : ℕ) (m : TypedModule) → slice_get (modules_of fitted) k ≡ Some m
+    pub standing_as_reached : (k : ℕ) (m : TypedModule) → slice_get (modules_of fitted) k ≡ Some m
         → (slice_get fitted.checked.scope.reached k ≡ Some true) ↔ ((path : List ℕ) × (module_at design path ≡ Some m))
-    reached_is_standing k m e = (
+    standing_as_reached k m e = (
       λ r.
           let at = numbered circuit.modules fitted.declared k m e in
           let a : IsAt k = stands_at k ((scope.reached k (slice_get_within circuit.modules k at.holder at.here)).0 r) in
@@ -263,9 +263,17 @@ module _ (fitted : Fitted) where
     )
 
     -- the module at a path
-    pub known_module : (path : List ℕ) (m : TypedModule) → module_at design path ≡ Some m → IsKnownModule fitted m
-    known_module path m e =
+    pub module_there : (path : List ℕ) (m : TypedModule) → module_at design path ≡ Some m → IsKnownModule fitted m
+    module_there path m e =
         let r : IsReached m = reached_by path m e in
         let at = numbered circuit.modules fitted.declared r.k m r.number in
         let flag = marked r.k at.holder at.here r.reaches in
         record { k = r.k; holder = at.holder; here = at.here; number = r.number; reached = flag; typed = types r.k at.holder m at.here r.number flag }
+
+  module _ (well : IsWellFormed fitted) where
+    pub reached_is_standing : (k : ℕ) (m : TypedModule) → slice_get (modules_of fitted) k ≡ Some m
+        → (slice_get fitted.checked.scope.reached k ≡ Some true) ↔ ((path : List ℕ) × (module_at design path ≡ Some m))
+    reached_is_standing = standing_as_reached well.scope well.names well.types
+
+    pub known_module : (path : List ℕ) (m : TypedModule) → module_at design path ≡ Some m → IsKnownModule fitted m
+    known_module = module_there well.scope well.names well.types

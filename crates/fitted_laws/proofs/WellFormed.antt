@@ -23,7 +23,7 @@ use Rattle.circuit_laws.specs.WellFormed.{IsWellFormed, IsKnownModule}
 use Rattle.circuit_laws.proofs.Typed.{named_itself, component_declared}
 use Rattle.circuit_laws.proofs.Pieces.{found_in, contained_In}
 use Rattle.circuit_laws.proofs.Instances.{declared_instance}
-use Rattle.circuit_laws.proofs.Reached.{IsNumbered, numbered, has_number, module_meant, known_module}
+use Rattle.circuit_laws.proofs.Reached.{IsNumbered, numbered, has_number, module_meant, module_there}
 use Rattle.fitted_laws.specs.Accepted.{IsAccepted}
 use Rattle.fitted_laws.proofs.Declared.{IsDeclared}
 use Rattle.fitted_laws.proofs.Circuits as circuits
@@ -38,7 +38,7 @@ module _ (fitted : Fitted) (ok : IsAccepted fitted) where
   with_ports = modules_from 0 circuit.modules
 
   known : (path : List ℕ) (m : TypedModule) → module_at (design_of fitted) path ≡ Some m → IsKnownModule fitted m
-  known = known_module fitted ok.scope ok.names (circuits.module_typed fitted ok)
+  known = module_there fitted ok.scope ok.names (circuits.module_typed fitted ok)
 
   contained : (m : TypedModule) (k : IsKnownModule fitted m) → Contains (modules_of fitted) m
   contained m k = contained_In (modules_of fitted) m (In-get (modules_of fitted) k.k m k.number)
