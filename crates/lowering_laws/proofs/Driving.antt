@@ -1,10 +1,9 @@
 -- What the drivers of the flat circuit leave is what the circuit's statements do.
-use Rattle.std.proofs.Common.{◌≡◌, ℕ, zero, suc, ◌+◌, ◌<◌, ◌≤◌, ◌&&◌, Bool, true, false, cond, not, List, [], ◌∷◌, ◌++◌, map, length, Option, Some, None, option_map, option_and_then, ℤ, refl, sym, ap, ap₂, ◌∙◌, subst, arith, if◌then◌else◌, slice_index, true≢false, ⊎_elim}
+use Rattle.std.proofs.Common.{◌≡◌, ℕ, ◌+◌, ◌<◌, ◌&&◌, Bool, true, false, not, List, [], ◌∷◌, ◌++◌, map, Option, Some, None, option_map, option_and_then, ℤ, refl, sym, ap, ap₂, ◌∙◌, subst, arith, if◌then◌else◌, slice_index, true≢false, ⊎_elim}
 use Rattle.std.specs.Prelude.{Contains, is_some, IsSome}
 use Rattle.std.specs.List.{slice_get, flat_map, sum_by}
-use Rattle.std.proofs.lemmas.Grind.{common_steps, flat_map-append}
+use Rattle.std.proofs.lemmas.Grind.{flat_map-append}
 use Rattle.std.proofs.lemmas.List.Concat.{flat_map-cons}
-use Rattle.std.proofs.lemmas.List.Sums.{sum_by-append}
 use Rattle.bit_words.specs.declared.value.Value.{Value}
 use Rattle.bit_words.specs.Values.{integer_of}
 use Rattle.fir_types.specs.declared.leaf.TypeLeaf.{TypeLeaf}
@@ -14,7 +13,7 @@ use Rattle.fir_types.specs.Bundles.{instance_of}
 use Rattle.fir_tree.specs.declared.expr.Expr.{Expr}
 use Rattle.fir_tree.specs.declared.scope.Fitted.{Fitted}
 use Rattle.cycle_values.specs.Shapes.{shape_of_value}
-use Rattle.fir_meaning.specs.Components.{Design, TypedModule, Component, Leaf, Sort, An_input, An_output, A_wire, A_register, A_reset_register, A_memory, An_instance, A_node, Flow, Source, Sink, Duplex, design_of, module_at, component_named, target_of, target_in, typed_ports, flat, flat_through, type_in, is_clock, flow_of}
+use Rattle.fir_meaning.specs.Components.{Design, TypedModule, Component, Sort, An_input, An_output, A_wire, A_register, A_reset_register, A_memory, An_instance, A_node, design_of, module_at, component_named, target_in, typed_ports, flat, flat_through, type_in, is_clock, flow_of}
 use Rattle.fir_meaning.specs.Values.{Valuation, scene_of, scene_with}
 use Rattle.fir_meaning.specs.Values as tree
 use Rattle.fir_meaning.specs.Drives as tree_drives
@@ -23,7 +22,7 @@ use Rattle.fir_meaning.specs.Mentions as tree_reads
 use Rattle.fir_meaning.specs.States.{Stands, is_port, is_register, is_source, is_driven, leaf_of}
 use Rattle.fir_meaning.specs.Certain.{must_be_driven}
 use Rattle.fir_meaning.specs.WellTyped.{leaf_shape}
-use Rattle.fir_meaning.proofs.Settling.{local, flat_none, port_target, instance_flip, one_leaf}
+use Rattle.fir_meaning.proofs.Settling.{local, flat_none, port_target, one_leaf}
 use Rattle.fir_meaning.proofs.Ports.{component_found, instance_inside, target_sort}
 use Rattle.fir_meaning.proofs.Blocks.{drives_same}
 use Rattle.fir_meaning.proofs.Tracking.{tracked, each_same}
@@ -36,7 +35,6 @@ use Rattle.ground_net.specs.declared.circuit.DrivenCircuit.{DrivenCircuit}
 use Rattle.ground_net.specs.declared.circuit.DrivenModule.{DrivenModule}
 use Rattle.ground_net.specs.declared.circuit.GroundInstance.{GroundInstance}
 use Rattle.ground_net.specs.declared.circuit.GroundLeaf.{GroundLeaf}
-use Rattle.ground_net.specs.declared.circuit.GroundRole.{GroundRole}
 use Rattle.ground_net.specs.declared.circuit.GroundRole.TheVariants.{Input, Clock, Register, Plain}
 use Rattle.ground_net.specs.Grounds.{Sight, value}
 use Rattle.ground_net.specs.Statements.{drives}
@@ -46,10 +44,10 @@ use Rattle.ground_net.proofs.Layers.{renumbered_value}
 use Rattle.expand_whens.specs.Expanding.{IsExpanded, IsDriver, Drives}
 use Rattle.net_of_circuit.specs.FlatOrder.{Placed, Standing, all_leaves, flat_of, ListsLeaves}
 use Rattle.net_of_circuit.specs.NetOf.{valuation_of}
-use Rattle.ground_of_circuit.specs.Numbers.{ModuleLeaf, module_leaves, leaves_of, leaves_before, number_of, scene_at, table_of, is_set, role_of, instance_parts}
+use Rattle.ground_of_circuit.specs.Numbers.{ModuleLeaf, module_leaves, leaves_of, leaves_before, scene_at, is_set, role_of}
 use Rattle.ground_of_circuit.specs.Lowering.{IsGroundOf}
 use Rattle.flatten_instances.specs.FlatOrder.{Spot}
-use Rattle.flatten_instances.specs.Numbers.{AreNumbers, driver_in, driver_with}
+use Rattle.flatten_instances.specs.Numbers.{AreNumbers, driver_in}
 use Rattle.flatten_instances.specs.Instances as paths
 use Rattle.flatten_instances.specs.Flat.{IsFlatDriver, IsLeafAt, is_input, by_its_module, by_its_holder, given}
 use Rattle.net_laws.specs.Typed.{HasPortsFirst}
@@ -167,6 +165,7 @@ snoc_same (x ∷ xs) (y ∷ ys) a b e =
   where
     heads : x ∷ (xs ++ a ∷ []) ≡ y ∷ (ys ++ b ∷ []) → x ≡ y
     heads e = cc
+
     tails : x ∷ (xs ++ a ∷ []) ≡ y ∷ (ys ++ b ∷ []) → xs ++ a ∷ [] ≡ ys ++ b ∷ []
     tails e = cc
 
@@ -234,6 +233,7 @@ module _ (fitted : Fitted) (well : IsWellFormed fitted) (lowered : GroundCircuit
         of : (leaf : GroundLeaf) (o : Option Ground) → o ≡ Some g → Drives leaf y K.g.body o → IsDriver leaf y K.g.body g
         of leaf None q r = none_some q
         of leaf (Some h) q r = subst (λ z. IsDriver leaf y K.g.body z) (some_same q) r
+
         by : (o : Option (Option Ground)) → slice_get d.drivers y ≡ o → lone_driver o ≡ Some g → (leaf : GroundLeaf) × (slice_get K.g.leaves y ≡ Some leaf) × IsDriver leaf y K.g.body g
         by None q h = none_some h
         by (Some o) q h =
@@ -287,12 +287,17 @@ module _ (fitted : Fitted) (well : IsWellFormed fitted) (lowered : GroundCircuit
         let number_same : k' ≡ k = some_same (sym number' ∙ (ap (paths.module_at driven) tails_same ∙ number)) in
         let holder_same : holder' ≡ holder = some_same (sym found' ∙ (ap (slice_get driven.modules) number_same ∙ found)) in
         let gi_same : gi' ≡ gi = some_same (sym inst' ∙ (ap₂ (λ (z : DrivenModule) w. slice_get z.instances w) holder_same heads_same ∙ inst)) in
-        let g = mapped (with_numbers (slice_index numbers)) (driver_in holder' (gi'.first + s.number)) driver e in
-        (numbers, subst (λ z. AreNumbers driven spots path z numbers) number_same (subst (λ z. AreNumbers driven spots z k' numbers) tails_same are),
-        g.0, ap₂ (λ (z : DrivenModule) (w : GroundInstance). driver_in z (w.first + s.number)) (sym holder_same) (sym gi_same) ∙ g.1, g.2)
+        let g = mapped (with_numbers (slice_index numbers)) (driver_in holder' (gi'.first + s.number)) driver e in (
+          numbers,
+          subst (λ z. AreNumbers driven spots path z numbers) number_same (subst (λ z. AreNumbers driven spots z k' numbers) tails_same are),
+          g.0,
+          ap₂ (λ (z : DrivenModule) (w : GroundInstance). driver_in z (w.first + s.number)) (sym holder_same) (sym gi_same) ∙ g.1,
+          g.2,
+        )
       where
         head_same : {a b : ℕ} {p q : List ℕ} → a ∷ p ≡ b ∷ q → a ≡ b
         head_same e = cc
+
         tail_same : {a b : ℕ} {p q : List ℕ} → a ∷ p ≡ b ∷ q → p ≡ q
         tail_same e = cc
     holder_driver s m d names leads p part at is_in path i k holder gi way number found inst o driver (given gl there input way') e = none_some e

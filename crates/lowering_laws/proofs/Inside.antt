@@ -1,5 +1,5 @@
 -- Ports of a module as components, and as fields of its instances.
-use Rattle.std.proofs.Common.{◌≡◌, ℕ, true, true≢false, List, [], ◌∷◌, map, Some, refl, sym, ap}
+use Rattle.std.proofs.Common.{◌≡◌, true, true≢false, List, [], ◌∷◌, map, Some, refl, sym, ap}
 use Rattle.std.specs.List.{flat_map}
 use Rattle.fir_types.specs.declared.leaf.PathStep.TheVariants as step
 use Rattle.fir_types.specs.declared.port.Port.{Port}

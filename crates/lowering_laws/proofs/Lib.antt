@@ -5,3 +5,5 @@ pub mod Matching
 pub mod Seeing
 pub mod Driving
 pub mod Whole
+pub mod Stores
+pub mod Flats

@@ -1,5 +1,5 @@
 -- The flat order of the modules of drivers is that of the circuit.
-use Rattle.std.proofs.Common.{◌≡◌, ℕ, zero, suc, ◌+◌, ◌==◌, ◌<◌, ◌≤◌, ◌&&◌, Bool, true, false, cond, not, List, [], ◌∷◌, ◌++◌, map, filter_map, length, Option, Some, None, option_map, option_and_then, refl, sym, ap, ap₂, ◌∙◌, subst, arith, append_assoc, if◌then◌else◌}
+use Rattle.std.proofs.Common.{◌≡◌, ℕ, zero, suc, ◌+◌, ◌==◌, ◌<◌, ◌≤◌, ◌&&◌, Bool, true, false, List, [], ◌∷◌, ◌++◌, map, filter_map, length, Option, Some, None, option_and_then, refl, sym, ap, ◌∙◌, subst, arith, append_assoc, if◌then◌else◌}
 use Rattle.std.specs.Prelude.{Contains}
 use Rattle.std.specs.List.{slice_get, flat_map, cons_option, sum_by}
 use Rattle.std.proofs.lemmas.Grind.{common_steps, flat_map-append}
@@ -13,7 +13,7 @@ use Rattle.fir_types.specs.Leaves.{leaves, under}
 use Rattle.fir_types.specs.Bundles.{nowhere, instance_field, instance_of}
 use Rattle.fir_tree.specs.declared.circuit.Circuit.{Circuit}
 use Rattle.fir_tree.specs.declared.scope.Fitted.{Fitted}
-use Rattle.fir_names.specs.Scopes.{Means, FirstOf}
+use Rattle.fir_names.specs.Scopes.{FirstOf}
 use Rattle.leaf_names.specs.LeafNames.{Texts}
 use Rattle.fir_meaning.specs.Components.{Design, TypedModule, Component, Sort, An_input, An_output, A_wire, A_register, A_reset_register, A_memory, An_instance, A_node, design_of, modules_of, module_at, module_named, component_named, target_in, typed_ports, port_of}
 use Rattle.fir_meaning.specs.States.{is_port}
@@ -26,12 +26,10 @@ use Rattle.ground_net.specs.declared.circuit.GroundModule.{GroundModule}
 use Rattle.ground_net.specs.declared.circuit.DrivenModule.{DrivenModule}
 use Rattle.ground_net.specs.declared.circuit.GroundInstance.{GroundInstance}
 use Rattle.ground_net.specs.declared.circuit.GroundMemory.{GroundMemory}
-use Rattle.ground_net.specs.declared.circuit.GroundLeaf.{GroundLeaf}
 use Rattle.expand_whens.specs.Expanding.{IsExpanded, IsExpandedModule}
-use Rattle.net_of_circuit.specs.FlatOrder.{Placed, InFlatOrder, no_more, one_more, an_instance, Standing, all_leaves, memory_in}
-use Rattle.net_of_circuit.specs.FlatOrder as flat
-use Rattle.ground_of_circuit.specs.Numbers.{ModuleLeaf, module_leaves, leaves_of, as_memory, memory_parts, instance_parts}
-use Rattle.ground_of_circuit.specs.Lowering.{IsGroundOf, IsGroundModule, IsGroundInstance, IsGroundMemory}
+use Rattle.net_of_circuit.specs.FlatOrder.{Placed, InFlatOrder, no_more, one_more, an_instance, Standing, all_leaves}
+use Rattle.ground_of_circuit.specs.Numbers.{module_leaves, leaves_of, as_memory, memory_parts, instance_parts}
+use Rattle.ground_of_circuit.specs.Lowering.{IsGroundOf, IsGroundModule, IsGroundInstance}
 use Rattle.flatten_instances.specs.FlatOrder.{Spot, spot, Item, A_leaf, instance_here, memory_here, leaf_spots, leaf_in, memories_from}
 use Rattle.flatten_instances.specs.FlatOrder as items
 use Rattle.net_laws.proofs.Rows.{all_of_append, leaves_of as entries_of}
@@ -39,7 +37,7 @@ use Rattle.design_laws.proofs.Lists.{in_list, below_length, map_at, first_of, se
 use Rattle.design_laws.proofs.Standing.{placed_at}
 use Rattle.lowering_laws.proofs.Heights.{some_same, none_some, height, takes_instance, takes_memory, takes_leaf, takes_nothing}
 use Rattle.lowering_laws.proofs.Inside.{instance_leaves}
-use Rattle.lowering_laws.proofs.Parts.{parts_from, memory_part, instance_part, StandsFrom, no_component, instance_next, memory_next, other_next, instance_behind, memory_behind, item, stands_from, leaves_counted_of}
+use Rattle.lowering_laws.proofs.Parts.{StandsFrom, no_component, instance_next, memory_next, other_next, instance_behind, memory_behind, item, stands_from, leaves_counted_of}
 
 -- Lists, two by two
 

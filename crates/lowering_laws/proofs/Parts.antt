@@ -1,5 +1,5 @@
 -- The components of a module beside the instances and memories of its ground statements, one after the other.
-use Rattle.std.proofs.Common.{◌≡◌, ℕ, zero, suc, ◌+◌, ◌==◌, ◌<◌, ◌≤◌, ◌&&◌, Bool, true, false, List, [], ◌∷◌, ◌++◌, map, take, zip, filter_map, length, Option, Some, None, option_map, option_and_then, refl, sym, ap, ap₂, ◌∙◌, subst, arith, append_assoc, if◌then◌else◌}
+use Rattle.std.proofs.Common.{◌≡◌, ℕ, zero, suc, ◌+◌, ◌<◌, ◌≤◌, List, [], ◌∷◌, ◌++◌, map, take, zip, filter_map, length, Option, Some, None, option_map, refl, sym, ap, ◌∙◌, subst, arith, append_assoc}
 use Rattle.std.specs.List.{slice_get, flat_map, range_with_len, cons_option, sum_by}
 use Rattle.std.proofs.lemmas.Grind.{common_steps, flat_map-append}
 use Rattle.std.proofs.lemmas.List.Concat.{flat_map-cons}
@@ -8,16 +8,14 @@ use Rattle.fir_types.specs.declared.leaf.TypeLeaf.{TypeLeaf}
 use Rattle.fir_types.specs.declared.memory.Memory.{Memory}
 use Rattle.fir_types.specs.Leaves.{leaves}
 use Rattle.fir_tree.specs.declared.circuit.Circuit.{Circuit}
-use Rattle.fir_names.specs.Scopes.{Means}
 use Rattle.leaf_names.specs.LeafNames.{Texts}
 use Rattle.fir_meaning.specs.Components.{TypedModule, Component, Sort, An_input, An_output, A_wire, A_register, A_reset_register, A_memory, An_instance, A_node, target_in}
 use Rattle.ground_net.specs.declared.circuit.GroundModule.{GroundModule}
 use Rattle.ground_net.specs.declared.circuit.DrivenModule.{DrivenModule}
 use Rattle.ground_net.specs.declared.circuit.GroundInstance.{GroundInstance}
 use Rattle.ground_net.specs.declared.circuit.GroundMemory.{GroundMemory}
-use Rattle.ground_net.specs.declared.circuit.GroundLeaf.{GroundLeaf}
 use Rattle.expand_whens.specs.Expanding.{IsExpandedModule}
-use Rattle.ground_of_circuit.specs.Numbers.{ModuleLeaf, module_leaves, leaves_of, leaves_before, as_memory, memory_parts, instance_parts}
+use Rattle.ground_of_circuit.specs.Numbers.{module_leaves, leaves_of, leaves_before, as_memory, memory_parts, instance_parts}
 use Rattle.ground_of_circuit.specs.Lowering.{IsGroundModule, IsGroundInstance, IsGroundMemory}
 use Rattle.design_laws.proofs.Lists.{first_of, second_of, below_length, append_nil, map_at}
 use Rattle.lowering_laws.proofs.Heights.{some_same, none_some}
@@ -126,9 +124,10 @@ instance_place cs i at c target e =
     by : (j : ℕ) (d : Component) → slice_get cs j ≡ Some d → (o : Option ℕ) → target_in d.declaration.sort ≡ o → instance_part j d ≡ Some (at, c, target) → (slice_get cs at ≡ Some c) × (target_in c.declaration.sort ≡ Some target)
     by j d there None q h = none_some (sym (ap (option_map (λ t. (j, d, t))) q) ∙ h)
     by j d there (Some t) q h =
-        let same : (j, d, t) ≡ (at, c, target) = some_same {A = ℕ × Component × ℕ} (sym (ap (option_map (λ t. (j, d, t))) q) ∙ h) in
-        (ap (slice_get cs) (sym (ap (λ x. x.0) same)) ∙ (there ∙ ap Some (ap (λ x. x.1) same)),
-        ap (λ (x : Component). target_in x.declaration.sort) (sym (ap (λ x. x.1) same)) ∙ (q ∙ ap Some (ap (λ x. x.2) same)))
+        let same : (j, d, t) ≡ (at, c, target) = some_same {A = ℕ × Component × ℕ} (sym (ap (option_map (λ t. (j, d, t))) q) ∙ h) in (
+          ap (slice_get cs) (sym (ap (λ x. x.0) same)) ∙ (there ∙ ap Some (ap (λ x. x.1) same)),
+          ap (λ (x : Component). target_in x.declaration.sort) (sym (ap (λ x. x.1) same)) ∙ (q ∙ ap Some (ap (λ x. x.2) same)),
+        )
 
 pub memory_place : (cs : List Component) (k at : ℕ) (c : Component) (memory : Memory) → slice_get (memory_parts cs) k ≡ Some (at, c, memory) → (slice_get cs at ≡ Some c) × (c.declaration.sort ≡ A_memory memory)
 memory_place cs k at c memory e =
@@ -138,9 +137,10 @@ memory_place cs k at c memory e =
   where
     by : (j : ℕ) (d : Component) → slice_get cs j ≡ Some d → (sort : Sort) → d.declaration.sort ≡ sort → as_memory j d d.declaration.sort ≡ Some (at, c, memory) → (slice_get cs at ≡ Some c) × (c.declaration.sort ≡ A_memory memory)
     by j d there (A_memory held) q h =
-        let same : (j, d, held) ≡ (at, c, memory) = some_same {A = ℕ × Component × Memory} (sym (ap (as_memory j d) q) ∙ h) in
-        (ap (slice_get cs) (sym (ap (λ x. x.0) same)) ∙ (there ∙ ap Some (ap (λ x. x.1) same)),
-        ap (λ (x : Component). x.declaration.sort) (sym (ap (λ x. x.1) same)) ∙ (q ∙ ap A_memory (ap (λ x. x.2) same)))
+        let same : (j, d, held) ≡ (at, c, memory) = some_same {A = ℕ × Component × Memory} (sym (ap (as_memory j d) q) ∙ h) in (
+          ap (slice_get cs) (sym (ap (λ x. x.0) same)) ∙ (there ∙ ap Some (ap (λ x. x.1) same)),
+          ap (λ (x : Component). x.declaration.sort) (sym (ap (λ x. x.1) same)) ∙ (q ∙ ap A_memory (ap (λ x. x.2) same)),
+        )
     by j d there An_input q h = none_some (sym (ap (as_memory j d) q) ∙ h)
     by j d there An_output q h = none_some (sym (ap (as_memory j d) q) ∙ h)
     by j d there A_wire q h = none_some (sym (ap (as_memory j d) q) ∙ h)
@@ -228,19 +228,25 @@ module _ (texts : Texts) (circuit : Circuit) (m : TypedModule) (g : GroundModule
   stands_from (c ∷ cs) front e = by c.declaration.sort refl (stands_from cs (front ++ c ∷ []) (append_assoc front (c ∷ []) cs ∙ e)) where
     y : ℕ
     y = length (flat_map leaves_of front)
+
     k : ℕ
     k = length (parts_from memory_part 0 front)
+
     i : ℕ
     i = length (parts_from instance_part 0 front)
+
     before : leaves_before m (length front) ≡ y
     before = ap (λ l. sum_by (λ (x : Component). length (leaves x.typ)) (take (length front) l)) (sym e) ∙ (ap (sum_by (λ (x : Component). length (leaves x.typ))) (take_all front (c ∷ cs)) ∙ counted_before front)
+
     Onward : Type 0
     Onward = StandsFrom texts circuit m d (length (flat_map leaves_of (front ++ c ∷ []))) (length (parts_from memory_part 0 (front ++ c ∷ []))) (length (parts_from instance_part 0 (front ++ c ∷ []))) cs
+
     moved : (a b : ℕ) → length (cons_option (memory_part (length front) c) []) ≡ a → length (cons_option (instance_part (length front) c) []) ≡ b → Onward → StandsFrom texts circuit m d (y + length (leaves c.typ)) (k + a) (i + b) cs
     moved a b p q rest =
         subst (λ z. StandsFrom texts circuit m d (y + length (leaves c.typ)) (k + a) z cs) (parts_more instance_part front c ∙ ap (λ z. i + z) q)
         (subst (λ z. StandsFrom texts circuit m d (y + length (leaves c.typ)) z (length (parts_from instance_part 0 (front ++ c ∷ []))) cs) (parts_more memory_part front c ∙ ap (λ z. k + z) p)
         (subst (λ z. StandsFrom texts circuit m d z (length (parts_from memory_part 0 (front ++ c ∷ []))) (length (parts_from instance_part 0 (front ++ c ∷ []))) cs) (leaves_more front c) rest))
+
     plain : (sort : Sort) → c.declaration.sort ≡ sort → target_in sort ≡ None → ((at : ℕ) → as_memory at c sort ≡ None) → Onward → StandsFrom texts circuit m d y k i (c ∷ cs)
     plain sort s none absent rest =
         let none' : target_in c.declaration.sort ≡ None = ap target_in s ∙ none in
@@ -249,6 +255,7 @@ module _ (texts : Texts) (circuit : Circuit) (m : TypedModule) (g : GroundModule
         let zi : i + 0 ≡ i = omega arith in
         let r = moved 0 0 (ap (λ o. length (cons_option o [])) (absent' (length front))) (ap (λ o. length {A = ℕ × Component × ℕ} (cons_option (option_map (λ target. (length front, c, target)) o) [])) none') rest in
         other_next c none' absent' (subst (λ z. StandsFrom texts circuit m d (y + length (leaves c.typ)) k z cs) zi (subst (λ z. StandsFrom texts circuit m d (y + length (leaves c.typ)) z (i + 0) cs) zk r))
+
     by : (sort : Sort) → c.declaration.sort ≡ sort → Onward → StandsFrom texts circuit m d y k i (c ∷ cs)
     by (An_instance target) s rest =
         let t : target_in c.declaration.sort ≡ Some target = ap target_in s in

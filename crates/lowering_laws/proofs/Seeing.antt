@@ -1,12 +1,11 @@
 -- What a module sees of the run: the leaves by their numbers, and the circuit's valuation, are the same.
-use Rattle.std.proofs.Common.{◌≡◌, ℕ, zero, suc, ◌+◌, ◌==◌, ◌<◌, ◌≤◌, ◌&&◌, Bool, true, false, cond, not, List, [], ◌∷◌, ◌++◌, map, filter_map, length, Option, Some, None, option_map, option_and_then, ℤ, refl, sym, ap, ap₂, ◌∙◌, subst, arith, append_assoc, if◌then◌else◌, take, slice_index, true≢false, ⊎_elim}
+use Rattle.std.proofs.Common.{◌≡◌, ℕ, zero, suc, ◌+◌, ◌==◌, ◌<◌, ◌&&◌, Bool, true, false, List, [], ◌∷◌, ◌++◌, map, length, Option, Some, None, option_map, option_and_then, refl, sym, ap, ap₂, ◌∙◌, subst, arith, if◌then◌else◌, slice_index, true≢false, ⊎_elim}
 use Rattle.std.specs.Prelude.{Contains, get_or}
 use Rattle.std.specs.List.{slice_get, flat_map, cons_option, sum_by, position}
 use Rattle.std.proofs.lemmas.Grind.{common_steps, flat_map-append}
 use Rattle.std.proofs.lemmas.List.Concat.{flat_map-cons}
 use Rattle.std.proofs.lemmas.List.Sums.{sum_by-cons, sum_by-append}
 use Rattle.std.proofs.lemmas.List.Quantifiers.{position-Some}
-use Rattle.bit_words.specs.declared.value.Value.{Value}
 use Rattle.bit_words.specs.Values.{integer_of}
 use Rattle.fir_types.specs.declared.fir_type.FirType.{FirType}
 use Rattle.fir_types.specs.declared.leaf.TypeLeaf.{TypeLeaf}
@@ -15,17 +14,15 @@ use Rattle.fir_types.specs.declared.leaf.PathStep.TheVariants as step
 use Rattle.fir_types.specs.Leaves.{leaves, under}
 use Rattle.fir_types.specs.declared.port.Port.{Port}
 use Rattle.fir_types.specs.Bundles.{instance_of, instance_field}
-use Rattle.fir_tree.specs.declared.circuit.Circuit.{Circuit}
 use Rattle.fir_tree.specs.declared.scope.Fitted.{Fitted}
-use Rattle.leaf_names.specs.LeafNames.{Texts}
-use Rattle.fir_meaning.specs.Components.{Design, TypedModule, Component, Leaf, FlatLeaf, Sort, design_of, module_at, module_named, component_named, target_of, target_in, typed_ports, kind_of_leaf, width_of_leaf, flat, flat_through, type_in}
-use Rattle.fir_meaning.specs.Values.{Valuation, scene_of}
+use Rattle.fir_meaning.specs.Components.{Design, TypedModule, Component, Leaf, FlatLeaf, design_of, module_named, component_named, target_of, target_in, typed_ports, kind_of_leaf, width_of_leaf, flat, flat_through}
+use Rattle.fir_meaning.specs.Values.{Valuation}
 use Rattle.fir_meaning.specs.Drives.{same_leaf}
 use Rattle.fir_meaning.specs.Mentions.{Agree}
 use Rattle.fir_meaning.specs.States.{is_port, leaf_of}
 use Rattle.fir_meaning.specs.WellTyped.{leaf_shape}
 use Rattle.fir_meaning.proofs.Settling.{at, local, local_at, flat_none}
-use Rattle.fir_meaning.proofs.Ports.{target_is, target_sort, component_found}
+use Rattle.fir_meaning.proofs.Ports.{target_is, target_sort}
 use Rattle.circuit_laws.specs.WellFormed.{IsWellFormed}
 use Rattle.cycle_values.specs.Shapes.{shape_of_value}
 use Rattle.ground_net.specs.declared.circuit.GroundCircuit.{GroundCircuit}
@@ -35,10 +32,10 @@ use Rattle.ground_net.specs.declared.circuit.GroundInstance.{GroundInstance}
 use Rattle.ground_net.specs.declared.circuit.GroundLeaf.{GroundLeaf}
 use Rattle.ground_net.specs.Grounds.{Sight}
 use Rattle.ground_net.specs.Renumbering.{seen_by}
-use Rattle.net_meaning.specs.Shapes.{Table, HasShapes, shaped}
+use Rattle.net_meaning.specs.Shapes.{HasShapes, shaped}
 use Rattle.net_meaning.specs.Cycles.{integer_at}
 use Rattle.expand_whens.specs.Expanding.{IsExpanded}
-use Rattle.net_of_circuit.specs.FlatOrder.{Placed, Standing, all_leaves, flat_of, ListsLeaves, number_in}
+use Rattle.net_of_circuit.specs.FlatOrder.{Placed, Standing, all_leaves, flat_of, ListsLeaves}
 use Rattle.net_of_circuit.specs.NetOf.{valuation_of}
 use Rattle.ground_of_circuit.specs.Numbers.{ModuleLeaf, module_leaves, leaves_of, leaves_before, number_of, scene_at, table_of, ground_shape, instance_parts}
 use Rattle.ground_of_circuit.specs.Lowering.{IsGroundOf}
@@ -46,12 +43,12 @@ use Rattle.flatten_instances.specs.FlatOrder.{Spot, spot}
 use Rattle.flatten_instances.specs.Numbers.{StandsAt, its_own, of_instance, AreNumbers}
 use Rattle.net_laws.specs.Typed.{HasPortsFirst}
 use Rattle.net_laws.proofs.Numbers.{valuation_at, way_is}
-use Rattle.design_laws.proofs.Lists.{in_list, place_of, later, below_length, map_at, from_map_at, in_append, first_of, second_of, append_nil}
+use Rattle.design_laws.proofs.Lists.{in_list, later, below_length, map_at, from_map_at, in_append, first_of, second_of}
 use Rattle.design_laws.proofs.Accepted.{ports_first}
 use Rattle.lowering_laws.proofs.Heights.{some_same, none_some}
 use Rattle.lowering_laws.proofs.Inside.{port_there, port_sort, instance_leaves}
 use Rattle.lowering_laws.proofs.Parts.{leaves_counted_of, item, instance_place, leaf_behind}
-use Rattle.lowering_laws.proofs.Matching.{Two, two_at, two_back, Known, Leads, at_main, behind, leads_at, leads_known, IsAt, instance_size, field_leaves_of, ports_of_list, port_size, flat_map_map, map_counted, length_append}
+use Rattle.lowering_laws.proofs.Matching.{Two, two_at, Known, Leads, at_main, behind, leads_at, leads_known, IsAt, field_leaves_of, ports_of_list, port_size, flat_map_map, map_counted, length_append}
 
 abbrev leaf_of_type : FirType → TypeLeaf
 leaf_of_type t = record { path = []; flip = false; typ = t }
@@ -296,6 +293,7 @@ module _ (fitted : Fitted) (well : IsWellFormed fitted) (lowered : GroundCircuit
         where
           head_same : {a b : ℕ} {p q : List ℕ} → a ∷ p ≡ b ∷ q → a ≡ b
           head_same e = cc
+
           tail_same : {a b : ℕ} {p q : List ℕ} → a ∷ p ≡ b ∷ q → p ≡ q
           tail_same e = cc
 

@@ -1,19 +1,18 @@
 -- A circuit with what the passes make of it, and its leaves one by one.
-use Rattle.std.proofs.Common.{◌≡◌, ℕ, ◌+◌, ◌<◌, Bool, List, [], ◌∷◌, ◌++◌, map, length, Option, Some, None, option_map, option_and_then, refl, sym, ap, ap₂, ◌∙◌, subst, arith}
+use Rattle.std.proofs.Common.{◌≡◌, ℕ, ◌<◌, List, [], ◌∷◌, ◌++◌, length, Option, Some, option_and_then, refl, sym, ap, ap₂, ◌∙◌, subst}
 use Rattle.std.specs.Prelude.{codes}
-use Rattle.std.specs.List.{slice_get, flat_map}
-use Rattle.std.proofs.lemmas.Grind.{common_steps, flat_map-append}
+use Rattle.std.specs.List.{slice_get}
+use Rattle.std.proofs.lemmas.Grind.{flat_map-append}
 use Rattle.std.proofs.lemmas.List.Concat.{flat_map-cons}
 use Rattle.fir_tree.specs.declared.scope.Fitted.{Fitted}
-use Rattle.leaf_names.specs.LeafNames.{Texts, text_of, leaf_text}
-use Rattle.fir_meaning.specs.Components.{Design, TypedModule, Component, modules_of, design_of, module_at, module_named, module_within, kind_of_leaf, width_of_leaf}
+use Rattle.leaf_names.specs.LeafNames.{Texts, text_of}
+use Rattle.fir_meaning.specs.Components.{Design, TypedModule, modules_of, design_of, module_at, module_named, module_within, kind_of_leaf, width_of_leaf}
 use Rattle.circuit_laws.specs.WellFormed.{IsWellFormed}
 use Rattle.circuit_laws.proofs.Reached.{module_meant, names_with}
 use Rattle.ground_net.specs.declared.circuit.GroundCircuit.{GroundCircuit}
 use Rattle.ground_net.specs.declared.circuit.DrivenCircuit.{DrivenCircuit}
 use Rattle.ground_net.specs.declared.circuit.DrivenModule.{DrivenModule}
 use Rattle.ground_net.specs.declared.circuit.FlatCircuit.{FlatCircuit}
-use Rattle.ground_net.specs.declared.circuit.GroundInstance.{GroundInstance}
 use Rattle.ground_net.specs.declared.circuit.GroundLeaf.{GroundLeaf}
 use Rattle.ground_net.specs.declared.ground.Ground.{Ground}
 use Rattle.expand_whens.specs.Expanding.{IsExpanded}
@@ -26,9 +25,9 @@ use Rattle.flatten_instances.specs.Instances as paths
 use Rattle.flatten_instances.specs.Flat.{IsFlat, IsFlatDriver, role_at}
 use Rattle.design_laws.proofs.Lists.{below_length, append_nil}
 use Rattle.design_laws.proofs.Accepted.{lists_leaves}
-use Rattle.lowering_laws.proofs.Heights.{some_same, none_some}
+use Rattle.lowering_laws.proofs.Heights.{some_same}
 use Rattle.lowering_laws.proofs.Parts.{item}
-use Rattle.lowering_laws.proofs.Matching.{Two, two_at, two_back, two_counted, Known, known_at, Leads, at_main, behind, leads_at, leads_known, IsAt, Matched, matched, map_counted}
+use Rattle.lowering_laws.proofs.Matching.{Two, two_back, two_counted, known_at, Leads, at_main, behind, leads_known, IsAt, Matched, matched, map_counted}
 use Rattle.lowering_laws.proofs.Driving.{leads_number}
 
 -- The circuit, its ground statements, its drivers, its flat circuit, and its components in flat order.
@@ -47,7 +46,7 @@ pub record Setting : Type 0 where
   pub matched : Matched fitted well lowered is driven expanded [] main main.components is_flat.items
 
 -- There is such a setting wherever the passes have done their work.
-main_module : (fitted : Fitted) (well : IsWellFormed fitted) (lowered : GroundCircuit) (is : IsGroundOf fitted lowered) (driven : DrivenCircuit) (expanded : IsExpanded lowered driven) (d : DrivenModule) → slice_get driven.modules driven.main ≡ Some d
+pub main_module : (fitted : Fitted) (well : IsWellFormed fitted) (lowered : GroundCircuit) (is : IsGroundOf fitted lowered) (driven : DrivenCircuit) (expanded : IsExpanded lowered driven) (d : DrivenModule) → slice_get driven.modules driven.main ≡ Some d
     → (m : TypedModule) × (module_named (design_of fitted) (design_of fitted).main ≡ Some m) × Leads fitted well lowered is driven expanded [] driven.main m d []
 main_module fitted well lowered is driven expanded d found =
     let counted : length (modules_of fitted) ≡ length fitted.checked.circuit.modules =
@@ -58,7 +57,7 @@ main_module fitted well lowered is driven expanded d found =
     let at : module_at (design_of fitted) [] ≡ Some m.0 = ap (option_and_then (λ x. module_within (design_of fitted) x [])) named in
     (m.0, named, at_main m.0 d at (known_at fitted well lowered is driven expanded [] driven.main m.0 d at m.1 found))
 
-pub setting : (fitted : Fitted) (well : IsWellFormed fitted) (lowered : GroundCircuit) (is : IsGroundOf fitted lowered) (driven : DrivenCircuit) (expanded : IsExpanded lowered driven) (flat : FlatCircuit) → IsFlat driven flat → Setting
+abbrev pub setting : (fitted : Fitted) (well : IsWellFormed fitted) (lowered : GroundCircuit) (is : IsGroundOf fitted lowered) (driven : DrivenCircuit) (expanded : IsExpanded lowered driven) (flat : FlatCircuit) → IsFlat driven flat → Setting
 setting fitted well lowered is driven expanded flat is_flat =
     let m = main_module fitted well lowered is driven expanded is_flat.main is_flat.found in
     record {

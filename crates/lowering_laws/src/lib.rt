@@ -1,4 +1,4 @@
-//! From the passes to the net: a circuit's ground statements, drivers, flat circuit and net, each as its pass says, make the net that
+//! From the passes to the circuit: ground statements, drivers and the flat circuit, each as its pass says, are together the flat circuit
 //! of the circuit. Keeps the contracts of laws; the functions do nothing.
 #![tactic(auto)]
 
