@@ -73,12 +73,12 @@ ports_within (c ∷ cs) =
 pub ports_before : (ports others : List Component) → ((c : Component) → Contains ports c → is_port c.declaration.sort ≡ true) → ((c : Component) → Contains others c → is_port c.declaration.sort ≡ false)
     → (at : ℕ) (c : Component) → slice_get (ports ++ others) at ≡ Some c → is_port c.declaration.sort ≡ false
     → sum_by port_size (ports ++ others) ≤ sum_by (λ c. length (leaves c.typ)) (take at (ports ++ others))
-ports_before [] others all none at c e no = let n = none_sized others none in omega (arith, n)
-ports_before (p ∷ ports) others all none zero c e no =
-    absurd (true≢false (sym (all p (0, omega arith, refl)) ∙ (ap (λ (x : Component). is_port x.declaration.sort) (some_same e) ∙ no)))
-ports_before (p ∷ ports) others all none (suc at) c e no =
+ports_before [] others all none at c e other = let n = none_sized others none in omega (arith, n)
+ports_before (p ∷ ports) others all none zero c e other =
+    absurd (true≢false (sym (all p (0, omega arith, refl)) ∙ (ap (λ (x : Component). is_port x.declaration.sort) (some_same e) ∙ other)))
+ports_before (p ∷ ports) others all none (suc at) c e other =
     let own = port_within p in
-    let rest = ports_before ports others (λ x h. all x (later p ports x h)) none at c e no in
+    let rest = ports_before ports others (λ x h. all x (later p ports x h)) none at c e other in
     let left = sum_by-cons port_size p (ports ++ others) in
     let right : sum_by (λ (x : Component). length (leaves x.typ)) (take (suc at) (p ∷ (ports ++ others))) ≡ size p + sum_by (λ (x : Component). length (leaves x.typ)) (take at (ports ++ others)) =
     sum_by-cons (λ (x : Component). length (leaves x.typ)) p (take at (ports ++ others)) in
