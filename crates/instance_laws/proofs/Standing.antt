@@ -1,6 +1,5 @@
 -- The modules that main reaches: each stands at a path of the circuit, and has its instances and memories in turn.
-use Rattle.std.proofs.Common.{◌≡◌, ℕ, zero, suc, ◌+◌, ◌<◌, ◌≤◌, true, false, List, [], ◌∷◌, ◌++◌, map, length, Option, Some, None, option_and_then, refl, sym, ap, ◌∙◌, subst, arith, take}
-use Rattle.std.specs.Prelude.{Contains}
+use Rattle.std.proofs.Common.{◌≡◌, ℕ, zero, suc, ◌+◌, ◌<◌, ◌≤◌, false, List, [], ◌∷◌, ◌++◌, length, Some, option_and_then, refl, sym, ap, ◌∙◌, subst, arith, take}
 use Rattle.std.specs.List.{slice_get, sum_by}
 use Rattle.fir_types.specs.Leaves.{leaves}
 use Rattle.fir_types.specs.Bundles.{instance_of}
@@ -8,7 +7,8 @@ use Rattle.fir_types.specs.declared.name.Name.{Name}
 use Rattle.fir_tree.specs.declared.circuit.Circuit.{Circuit}
 use Rattle.fir_tree.specs.declared.circuit.Module.{Module}
 use Rattle.fir_tree.specs.declared.scope.Fitted.{Fitted}
-use Rattle.fir_names.specs.Scopes.{Means, Instance, texts, module_names}
+use Rattle.fir_names.specs.Scopes.{Means, Instance, module_names}
+use Rattle.leaf_names.specs.LeafNames.{Texts}
 use Rattle.fir_meaning.specs.Components.{Design, TypedModule, Component, Sort, An_instance, design_of, modules_of, module_at, module_named, component_named, target_in, typed_ports}
 use Rattle.fir_meaning.specs.States.{is_port}
 use Rattle.fir_meaning.specs.WellTyped.{HasTypes}
@@ -25,11 +25,10 @@ use Rattle.ground_net.specs.declared.circuit.GroundMemory.{GroundMemory}
 use Rattle.expand_whens.specs.Expanding.{IsExpanded}
 use Rattle.ground_of_circuit.specs.Numbers.{leaves_before, instance_parts}
 use Rattle.ground_of_circuit.specs.Lowering.{IsGroundOf, IsGroundInstance}
-use Rattle.flatten_instances.specs.Instances.{Reaches, itself, along, HasPlace, IsInTurn, HasInstances}
-use Rattle.net_laws.specs.Typed.{HasPortsFirst}
+use Rattle.flatten_instances.specs.Instances.{Reaches, itself, along, IsInTurn, HasInstances}
 use Rattle.design_laws.proofs.Lists.{in_list, below_length, map_at, from_map_at}
 use Rattle.design_laws.proofs.Accepted.{ports_first}
-use Rattle.lowering_laws.proofs.Heights.{some_same, none_some}
+use Rattle.lowering_laws.proofs.Heights.{some_same}
 use Rattle.lowering_laws.proofs.Parts.{StandsFrom, item, stands_from, instance_place, instance_behind, memory_behind}
 use Rattle.lowering_laws.proofs.Matching.{Known, known_at, instance_size, port_size}
 use Rattle.instance_laws.proofs.Turns.{total, total_is, ports_within, ports_before, InstanceAt, instance_at, MemoryAt, memory_at, memory_before}
@@ -48,6 +47,9 @@ module _ (fitted : Fitted) (well : IsWellFormed fitted) (lowered : GroundCircuit
 
   abbrev circuit : Circuit
   circuit = fitted.checked.circuit
+
+  abbrev texts : Texts
+  texts = circuit.names
 
   -- A module of a number stands at a path.
   record Standing (n : ℕ) : Type 0 where
@@ -90,7 +92,7 @@ module _ (fitted : Fitted) (well : IsWellFormed fitted) (lowered : GroundCircuit
     part : slice_get (instance_parts before.m.components) i ≡ Some (place, c, target)
     there : slice_get before.m.components place ≡ Some c
     sort : c.declaration.sort ≡ An_instance target
-    placed : IsGroundInstance fitted.checked.circuit.names circuit before.m place c target gi
+    placed : IsGroundInstance texts circuit before.m place c target gi
     child : Standing gi.module
     sized : child.d.ports ≡ length (leaves c.typ)
 
@@ -163,8 +165,8 @@ module _ (fitted : Fitted) (well : IsWellFormed fitted) (lowered : GroundCircuit
     abbrev d : DrivenModule
     d = s.d
 
-    whole : StandsFrom fitted.checked.circuit.names circuit m d 0 0 0 m.components
-    whole = stands_from fitted.checked.circuit.names circuit m s.known.g d s.known.ground_is s.known.driven_is m.components [] refl
+    whole : StandsFrom texts circuit m d 0 0 0 m.components
+    whole = stands_from texts circuit m s.known.g d s.known.ground_is s.known.driven_is m.components [] refl
 
     leaves_are : length d.leaves ≡ 0 + total m.components
     leaves_are =
@@ -174,11 +176,11 @@ module _ (fitted : Fitted) (well : IsWellFormed fitted) (lowered : GroundCircuit
     ports_are : d.ports ≡ sum_by port_size m.components
     ports_are = s.known.driven_is.ports ∙ s.known.ground_is.ports
 
-    instance : (i : ℕ) (gi : GroundInstance) → slice_get d.instances i ≡ Some gi → InstanceAt fitted.checked.circuit.names circuit m d 0 0 (0 + total m.components) i gi
-    instance i gi at = instance_at fitted.checked.circuit.names circuit m d m.components 0 0 0 whole (omega arith) i i (omega arith) gi at
+    instance : (i : ℕ) (gi : GroundInstance) → slice_get d.instances i ≡ Some gi → InstanceAt texts circuit m d 0 (0 + total m.components) i gi
+    instance i gi at = instance_at texts circuit m d m.components 0 0 0 whole (omega arith) i i (omega arith) gi at
 
-    memory : (k : ℕ) (gm : GroundMemory) → slice_get d.memories k ≡ Some gm → MemoryAt fitted.checked.circuit.names circuit m d 0 (0 + total m.components) k gm
-    memory k gm at = memory_at fitted.checked.circuit.names circuit m d m.components 0 0 0 whole k k (omega arith) gm at
+    memory : (k : ℕ) (gm : GroundMemory) → slice_get d.memories k ≡ Some gm → MemoryAt texts circuit m d 0 (0 + total m.components) k gm
+    memory k gm at = memory_at texts circuit m d m.components 0 0 0 whole k k (omega arith) gm at
 
     behind_ports : (i : ℕ) (gi : GroundInstance) → slice_get d.instances i ≡ Some gi → d.ports ≤ gi.first
     behind_ports i gi at =
@@ -223,17 +225,17 @@ module _ (fitted : Fitted) (well : IsWellFormed fitted) (lowered : GroundCircuit
           (omega (arith, a, b), r.1);
       memories = λ k gm at. let a = (memory k gm at).within in let b = leaves_are in omega (arith, a, b);
       next_memories = λ k gm next at at_next. let r = memory k gm at in let a = r.next in let b = memory_behind r.rest next at_next in omega (arith, a, b);
-      memories_before = λ i k gi gm at at_memory lt. memory_before fitted.checked.circuit.names circuit m d m.components 0 0 0 whole (omega arith) i i (omega arith) k k (omega arith) gi gm at at_memory lt;
+      memories_before = λ i k gi gm at at_memory lt. memory_before texts circuit m d m.components 0 0 0 whole (omega arith) i i (omega arith) k k (omega arith) gi gm at at_memory lt;
       memories_behind = λ i k gi child gm at found at_memory le.
           let a = child_sized i gi child at found in
           let r = instance i gi at in
           let b = (behind_memory gi gm k (gi.first + length (leaves r.c.typ)) (i + 1) r.cs r.rest le at_memory) in
           omega (arith, a, b);
     } where
-      behind_memory : (gi : GroundInstance) (gm : GroundMemory) (k y i : ℕ) (cs : List Component) → StandsFrom fitted.checked.circuit.names circuit m d y gi.memories i cs → gi.memories ≤ k → slice_get d.memories k ≡ Some gm → y ≤ gm.first
+      behind_memory : (gi : GroundInstance) (gm : GroundMemory) (k y i : ℕ) (cs : List Component) → StandsFrom texts circuit m d y gi.memories i cs → gi.memories ≤ k → slice_get d.memories k ≡ Some gm → y ≤ gm.first
       behind_memory gi gm k y i cs rest le at =
           let e = difference gi.memories k le in
-          (memory_at fitted.checked.circuit.names circuit m d cs y gi.memories i rest k e.0 e.1 gm at).behind
+          (memory_at texts circuit m d cs y gi.memories i rest k e.0 e.1 gm at).behind
 
   pub has_instances : HasInstances driven
   has_instances = record {

@@ -15,7 +15,7 @@ use Rattle.ground_net.specs.declared.circuit.GroundInstance.{GroundInstance}
 use Rattle.ground_net.specs.declared.circuit.GroundMemory.{GroundMemory}
 use Rattle.ground_of_circuit.specs.Numbers.{leaves_of, instance_parts}
 use Rattle.ground_of_circuit.specs.Lowering.{IsGroundInstance}
-use Rattle.design_laws.proofs.Lists.{in_list, later, below_length}
+use Rattle.design_laws.proofs.Lists.{later, below_length}
 use Rattle.lowering_laws.proofs.Heights.{some_same, none_some}
 use Rattle.lowering_laws.proofs.Parts.{StandsFrom, no_component, instance_next, memory_next, other_next, leaves_counted_of}
 use Rattle.lowering_laws.proofs.Matching.{port_size, length_append}
@@ -87,8 +87,8 @@ ports_before (p ∷ ports) others all none (suc at) c e other =
 -- Instances and memories in turn
 
 module _ (texts : Texts) (circuit : Circuit) (m : TypedModule) (d : DrivenModule) where
-  -- An instance of a module, behind so many leaves and memories, within so many leaves in all: the component that it is, and what stands behind it.
-  pub record InstanceAt (low before all j : ℕ) (gi : GroundInstance) : Type 0 where
+  -- An instance of a module, behind so many leaves and within so many: the component that it is, and what stands behind it.
+  pub record InstanceAt (low all j : ℕ) (gi : GroundInstance) : Type 0 where
     pub at : ℕ
     pub target : ℕ
     pub c : Component
@@ -97,15 +97,13 @@ module _ (texts : Texts) (circuit : Circuit) (m : TypedModule) (d : DrivenModule
     pub part : slice_get (instance_parts m.components) j ≡ Some (at, c, target)
     pub placed : IsGroundInstance texts circuit m at c target gi
     pub behind : low ≤ gi.first
-    pub memories_behind : before ≤ gi.memories
     pub within : gi.first + length (leaves c.typ) ≤ all
     pub memories : gi.memories ≤ length d.memories
     pub rest : StandsFrom texts circuit m d (gi.first + length (leaves c.typ)) gi.memories (j + 1) cs
 
-  widen_instance : (low before all low' before' all' j : ℕ) (gi : GroundInstance) → low' ≤ low → before' ≤ before → all ≤ all' → InstanceAt low before all j gi → InstanceAt low' before' all' j gi
-  widen_instance low before all low' before' all' j gi a b c r =
+  widen_instance : (low all low' all' j : ℕ) (gi : GroundInstance) → low' ≤ low → all ≤ all' → InstanceAt low all j gi → InstanceAt low' all' j gi
+  widen_instance low all low' all' j gi a c r =
       let x = r.behind in
-      let y = r.memories_behind in
       let z = r.within in
       record {
         at = r.at;
@@ -116,19 +114,18 @@ module _ (texts : Texts) (circuit : Circuit) (m : TypedModule) (d : DrivenModule
         part = r.part;
         placed = r.placed;
         behind = omega (arith, a, x);
-        memories_behind = omega (arith, b, y);
         within = omega (arith, c, z);
         memories = r.memories;
         rest = r.rest;
       }
 
-  pub instance_at : (cs : List Component) (y k i : ℕ) → StandsFrom texts circuit m d y k i cs → k ≤ length d.memories → (j e : ℕ) → j ≡ i + e → (gi : GroundInstance) → slice_get d.instances j ≡ Some gi → InstanceAt y k (y + total cs) j gi
+  pub instance_at : (cs : List Component) (y k i : ℕ) → StandsFrom texts circuit m d y k i cs → k ≤ length d.memories → (j e : ℕ) → j ≡ i + e → (gi : GroundInstance) → slice_get d.instances j ≡ Some gi → InstanceAt y (y + total cs) j gi
   instance_at [] y k i (no_component a b none) counted j e q gi h = none_some (sym (none_later d.instances i j (omega (arith, q)) none) ∙ h)
   instance_at (c ∷ cs) y k i (instance_next _ at target other makes there first memories part placed rest) counted j zero q gi h =
       let number : i ≡ j = omega (arith, q) in
       let same : other ≡ gi = some_same (sym there ∙ (ap (slice_get d.instances) number ∙ h)) in
       let all : total (c ∷ cs) ≡ length (leaves c.typ) + total cs = refl in
-      subst (λ z. InstanceAt y k (y + total (c ∷ cs)) z gi) number (subst (λ g. InstanceAt y k (y + total (c ∷ cs)) i g) same (record {
+      subst (λ z. InstanceAt y (y + total (c ∷ cs)) z gi) number (subst (λ g. InstanceAt y (y + total (c ∷ cs)) i g) same (record {
         at = at;
         target = target;
         c = c;
@@ -137,7 +134,6 @@ module _ (texts : Texts) (circuit : Circuit) (m : TypedModule) (d : DrivenModule
         part = part;
         placed = placed;
         behind = omega (arith, first);
-        memories_behind = omega (arith, memories);
         within = omega (arith, first, all);
         memories = omega (arith, memories, counted);
         rest = subst (λ z. StandsFrom texts circuit m d (z + length (leaves c.typ)) other.memories (i + 1) cs) (sym first)
@@ -145,16 +141,16 @@ module _ (texts : Texts) (circuit : Circuit) (m : TypedModule) (d : DrivenModule
       }))
   instance_at (c ∷ cs) y k i (instance_next _ at target other makes there first memories part placed rest) counted j (suc e) q gi h =
       let all : total (c ∷ cs) ≡ length (leaves c.typ) + total cs = refl in
-      widen_instance (y + length (leaves c.typ)) k (y + length (leaves c.typ) + total cs) y k (y + total (c ∷ cs)) j gi (omega arith) (omega arith) (omega (arith, all))
+      widen_instance (y + length (leaves c.typ)) (y + length (leaves c.typ) + total cs) y (y + total (c ∷ cs)) j gi (omega arith) (omega (arith, all))
       (instance_at cs (y + length (leaves c.typ)) k (i + 1) rest counted j e (omega (arith, q)) gi h)
   instance_at (c ∷ cs) y k i (memory_next _ at memory gm sort there first part placed rest) counted j e q gi h =
       let all : total (c ∷ cs) ≡ length (leaves c.typ) + total cs = refl in
       let below = below_length d.memories k gm there in
-      widen_instance (y + length (leaves c.typ)) (k + 1) (y + length (leaves c.typ) + total cs) y k (y + total (c ∷ cs)) j gi (omega arith) (omega arith) (omega (arith, all))
+      widen_instance (y + length (leaves c.typ)) (y + length (leaves c.typ) + total cs) y (y + total (c ∷ cs)) j gi (omega arith) (omega (arith, all))
       (instance_at cs (y + length (leaves c.typ)) (k + 1) i rest (omega (arith, below)) j e q gi h)
   instance_at (c ∷ cs) y k i (other_next _ own absent rest) counted j e q gi h =
       let all : total (c ∷ cs) ≡ length (leaves c.typ) + total cs = refl in
-      widen_instance (y + length (leaves c.typ)) k (y + length (leaves c.typ) + total cs) y k (y + total (c ∷ cs)) j gi (omega arith) (omega arith) (omega (arith, all))
+      widen_instance (y + length (leaves c.typ)) (y + length (leaves c.typ) + total cs) y (y + total (c ∷ cs)) j gi (omega arith) (omega (arith, all))
       (instance_at cs (y + length (leaves c.typ)) k i rest counted j e q gi h)
 
   -- A memory likewise.
