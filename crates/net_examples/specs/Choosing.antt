@@ -1,6 +1,6 @@
 -- Expressions that choose, and statements under conditions (FIRRTL specification 3.0, "Multiplexers", "Sub-accesses", "Last Connect
 -- Semantics" and "Conditionals").
-use Rattle.std.specs.Prelude.{ℕ, List, [], ◌∷◌, Option, ℤ, pos, negsuc, slice_index}
+use Rattle.std.specs.Prelude.{ℕ, List, [], ◌∷◌, Option, negsuc, slice_index}
 use Rattle.bit_words.specs.declared.value.Value.{Value}
 use Rattle.ground_net.specs.declared.ground.Ground.{Ground}
 use Rattle.ground_net.specs.declared.ground.Ground.TheVariants as expression
@@ -22,8 +22,8 @@ constant n = expression.Const (uint 8 n)
 -- A choice of 10, 20, 30 and 40 by the leaves 0, 1 and 2.
 abbrev pub choice : Ground
 choice = expression.Mux (
-  expression.Leaf 0 ∷ constant 10 ∷ expression.Leaf 1 ∷ constant 20 ∷ expression.Leaf 2 ∷ constant 30 ∷ constant 40 ∷ []
-)
+    expression.Leaf 0 ∷ constant 10 ∷ expression.Leaf 1 ∷ constant 20 ∷ expression.Leaf 2 ∷ constant 30 ∷ constant 40 ∷ []
+    )
 
 abbrev pub chosen_by : ℕ → ℕ → ℕ → Value
 chosen_by a b c = value choice (seeing (a ∷ b ∷ c ∷ []))
@@ -37,9 +37,12 @@ selected_by n = value (expression.Select (expression.Leaf 0 ∷ [])
 abbrev pub nothing_selected : Value
 nothing_selected = value (expression.Select (expression.Leaf 0 ∷ []) []) (seeing (0 ∷ []))
 
--- the leaf 3 is set to a constant
+-- a leaf is set to a constant, and the leaf 3 is
+abbrev pub sets_leaf : ℕ → ℕ → GroundStmt
+sets_leaf x n = statement.Connect x [] (constant n)
+
 abbrev pub sets : ℕ → GroundStmt
-sets n = statement.Connect 3 [] (constant n)
+sets n = sets_leaf 3 n
 
 -- it is set to a constant where the leaves 0 and 1 are 1
 abbrev pub sets_where : ℕ → GroundStmt
@@ -56,6 +59,10 @@ two_arms first = statement.When first (arm 0 (sets 10 ∷ []) ∷ arm 1 (sets 20
 -- a `when` of the leaf 0, behind so many leaves, that sets the leaf 3
 abbrev pub lone_arm : ℕ → GroundStmt
 lone_arm first = statement.When first (arm 0 (sets 10 ∷ []) ∷ []) []
+
+-- a `when` of the leaf 1, behind four leaves, in a `when` of the leaf 0 that has three leaves before it: the leaf 3 stands between them
+abbrev pub nested : GroundStmt
+nested = statement.When 3 (arm 0 (statement.When 4 (arm 1 (sets 10 ∷ []) ∷ []) [] ∷ []) ∷ []) []
 
 -- What statements leave in the leaf 3 where the leaves 0 and 1 have these numbers.
 abbrev pub left_by : List GroundStmt → ℕ → ℕ → Option Value

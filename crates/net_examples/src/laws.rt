@@ -13,7 +13,7 @@ ghost use Rattle.net_examples.specs.Circuits.{uint, of_readwriter, holding, aski
 ghost use Rattle.net_examples.specs.Kept.{keeping, kept_state, pairs};
 ghost use Rattle.net_examples.specs.Needing.{between, of_ports, a_writer, a_reader, a_readwriter};
 ghost use Rattle.net_examples.specs.Writing.{met, registered, sint};
-ghost use Rattle.net_examples.specs.Choosing.{chosen_by, selected_by, sets, two_arms, lone_arm, sets_where, left_by, nothing_selected, takes, taking_arm, taking_arms};
+ghost use Rattle.net_examples.specs.Choosing.{chosen_by, selected_by, sets, sets_leaf, two_arms, lone_arm, sets_where, left_by, nothing_selected, takes, taking_arm, taking_arms, nested};
 
 /// A readwriter whose mode is 1 writes, and reads 0.
 pub fn readwriters_write_in_mode_1()
@@ -150,7 +150,8 @@ pub fn selections_end_in_0()
 /// Of the connects that happen the last stays, and those of other leaves are nothing to a leaf.
 pub fn last_connects_stay()
     ensures last { left_by (sets 10 ∷ sets 20 ∷ []) 0 0 ≡ Some (uint 8 20) }
-    ensures others { left_by [] 0 0 ≡ None }
+    ensures others { left_by (sets 10 ∷ sets_leaf 2 50 ∷ []) 0 0 ≡ Some (uint 8 10) }
+    ensures others_alone { left_by (sets_leaf 2 50 ∷ sets_leaf 4 50 ∷ []) 0 0 ≡ None }
     ensures all_hold { left_by (sets 10 ∷ sets_where 20 ∷ []) 1 1 ≡ Some (uint 8 20) }
     ensures one_fails { left_by (sets 10 ∷ sets_where 20 ∷ []) 1 0 ≡ Some (uint 8 10) }
     ensures over_when { left_by (two_arms 4 ∷ sets 40 ∷ []) 1 1 ≡ Some (uint 8 40) }
@@ -163,7 +164,6 @@ pub fn first_arms_count()
     ensures first { left_by (two_arms 4 ∷ []) 1 1 ≡ Some (uint 8 10) }
     ensures second { left_by (two_arms 4 ∷ []) 0 1 ≡ Some (uint 8 20) }
     ensures neither { left_by (two_arms 4 ∷ []) 0 2 ≡ Some (uint 8 30) }
-    ensures without { left_by (lone_arm 4 ∷ []) 0 0 ≡ None }
 {}
 
 /// Conditions around the declaration of a leaf aren't asked: a leaf is declared in the `when` where its number isn't below that of
@@ -172,6 +172,8 @@ pub fn inner_leaves_ask_nothing()
     ensures asked { left_by (lone_arm 4 ∷ []) 0 0 ≡ None }
     ensures directly_in { left_by (lone_arm 3 ∷ []) 0 0 ≡ Some (uint 8 10) }
     ensures further_in { left_by (lone_arm 2 ∷ []) 0 0 ≡ Some (uint 8 10) }
+    ensures outer_condition { left_by (nested ∷ []) 0 1 ≡ Some (uint 8 10) }
+    ensures inner_condition { left_by (nested ∷ []) 1 0 ≡ None }
 {}
 
 /// A connect is live where no later statement is certain: a later connect without conditions, or a `when` with an `else` all of whose
@@ -179,13 +181,15 @@ pub fn inner_leaves_ask_nothing()
 pub fn covered_connects_are_not_live()
     ensures covered { live 3 (takes 4 ∷ takes 5 ∷ []) ≡ (5 ∷ []) ∷ [] }
     ensures under_condition { live 3 (takes 4 ∷ taking_arm 4 ∷ []) ≡ (4 ∷ []) ∷ (0 ∷ 6 ∷ []) ∷ [] }
+    ensures with_conditions { live 3 (takes 4 ∷ sets_where 20 ∷ []) ≡ (4 ∷ []) ∷ (0 ∷ 1 ∷ []) ∷ [] }
     ensures covered_by_when { live 3 (takes 4 ∷ taking_arms 4 ∷ []) ≡ (0 ∷ 6 ∷ []) ∷ (0 ∷ 1 ∷ 7 ∷ []) ∷ (0 ∷ 1 ∷ 8 ∷ []) ∷ [] }
     ensures certain { is_certain 3 (taking_arms 4 ∷ []) ≡ true }
-    ensures uncertain { is_certain 3 (taking_arm 4 ∷ []) ≡ false }
+    ensures without_else { is_certain 3 (taking_arm 4 ∷ []) ≡ false }
+    ensures conditional { is_certain 3 (sets_where 20 ∷ []) ≡ false }
 {}
 
 /// What is taken in an arm reads the conditions of the arm and of those before it, where the leaf stands around the `when`.
 pub fn arms_read_the_conditions_before_them()
     ensures around { live 3 (taking_arms 4 ∷ []) ≡ (0 ∷ 6 ∷ []) ∷ (0 ∷ 1 ∷ 7 ∷ []) ∷ (0 ∷ 1 ∷ 8 ∷ []) ∷ [] }
-    ensures within { live 3 (taking_arms 3 ∷ []) ≡ (6 ∷ []) ∷ (7 ∷ []) ∷ (8 ∷ []) ∷ [] }
+    ensures within { live 3 (taking_arm 3 ∷ []) ≡ (6 ∷ []) ∷ [] }
 {}

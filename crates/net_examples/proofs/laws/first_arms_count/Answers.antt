@@ -12,6 +12,3 @@ returns-clause-second c = grind (arith, common_steps, the_lemmas, the_statement_
 
 pub returns-clause-neither : goal.returns-clause-neither
 returns-clause-neither c = grind (arith, common_steps, the_lemmas, the_statement_lemmas)
-
-pub returns-clause-without : goal.returns-clause-without
-returns-clause-without c = grind (arith, common_steps, the_lemmas, the_statement_lemmas)

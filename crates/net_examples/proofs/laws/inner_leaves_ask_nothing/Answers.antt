@@ -12,3 +12,9 @@ returns-clause-directly_in c = grind (arith, common_steps, the_lemmas, the_state
 
 pub returns-clause-further_in : goal.returns-clause-further_in
 returns-clause-further_in c = grind (arith, common_steps, the_lemmas, the_statement_lemmas)
+
+pub returns-clause-outer_condition : goal.returns-clause-outer_condition
+returns-clause-outer_condition c = grind (arith, common_steps, the_lemmas, the_statement_lemmas)
+
+pub returns-clause-inner_condition : goal.returns-clause-inner_condition
+returns-clause-inner_condition c = grind (arith, common_steps, the_lemmas, the_statement_lemmas)

@@ -10,6 +10,9 @@ returns-clause-last c = grind (arith, common_steps, the_lemmas, the_statement_le
 pub returns-clause-others : goal.returns-clause-others
 returns-clause-others c = grind (arith, common_steps, the_lemmas, the_statement_lemmas)
 
+pub returns-clause-others_alone : goal.returns-clause-others_alone
+returns-clause-others_alone c = grind (arith, common_steps, the_lemmas, the_statement_lemmas)
+
 pub returns-clause-all_hold : goal.returns-clause-all_hold
 returns-clause-all_hold c = grind (arith, common_steps, the_lemmas, the_statement_lemmas)
 
