@@ -21,9 +21,8 @@ constant n = expression.Const (uint 8 n)
 
 -- A choice of 10, 20, 30 and 40 by the leaves 0, 1 and 2.
 abbrev pub choice : Ground
-choice = expression.Mux (
-    expression.Leaf 0 ∷ constant 10 ∷ expression.Leaf 1 ∷ constant 20 ∷ expression.Leaf 2 ∷ constant 30 ∷ constant 40 ∷ []
-    )
+choice = expression.Mux
+    (expression.Leaf 0 ∷ constant 10 ∷ expression.Leaf 1 ∷ constant 20 ∷ expression.Leaf 2 ∷ constant 30 ∷ constant 40 ∷ [])
 
 abbrev pub chosen_by : ℕ → ℕ → ℕ → Value
 chosen_by a b c = value choice (seeing (a ∷ b ∷ c ∷ []))

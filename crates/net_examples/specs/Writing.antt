@@ -14,12 +14,9 @@ use Rattle.net_examples.specs.Needing.{memory_behind, port_from, writing_from, r
 
 -- A reader before the writes (leaves 4 to 7), one after them (8 to 11), a writer (12 to 17) and a second writer (18 to 23).
 abbrev pub shared_memory : NetMemory
-shared_memory = memory_behind 0 (
-    port_from 4 None None (reading_from 6 true false)
-    ∷ port_from 8 None None (reading_from 10 true true)
-    ∷ port_from 12 None (writing_from 14) None
-    ∷ port_from 18 None (writing_from 20) None ∷ []
-    )
+shared_memory = memory_behind 0
+    (port_from 4 None None (reading_from 6 true false) ∷ port_from 8 None None (reading_from 10 true true)
+    ∷ port_from 12 None (writing_from 14) None ∷ port_from 18 None (writing_from 20) None ∷ [])
 
 -- That memory, behind another one with a reader.
 abbrev pub meeting : Net
