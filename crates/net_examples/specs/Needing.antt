@@ -55,3 +55,22 @@ a_reader captured = port_from 20 None None (reading_from 22 captured false)
 -- 37 and 38.
 abbrev pub a_readwriter : Bool → NetPort
 a_readwriter captured = port_from 30 (Some 34) (writing_from 35) (reading_from 32 captured false)
+
+-- A writer and a reader of the net below.
+abbrev pub chained_writer : NetPort
+chained_writer = record { addr = 2; en = 0; mode = None; write = Some (record { leaves = 0 ∷ 0 ∷ []; masks = 0 ∷ 0 ∷ [] }); read = None }
+
+abbrev pub chained_reader : NetPort
+chained_reader = record { addr = 3; en = 0; mode = None; write = None; read = reading_from 4 false false }
+
+-- An input (leaf 0), a node that takes it (1), a node that takes that one (2), one that takes the input (3), and the data of a reader (4
+-- and 5), which come at once. The address of a writer is the second node, and that of the reader the third.
+abbrev pub chained : Net
+chained = record {
+  ports = 1;
+  leaves = leaf 2 (role.Input 0) ∷ leaf 2 role.Assigned ∷ leaf 2 role.Assigned ∷ leaf 2 role.Assigned ∷ leaf 8 role.Assigned ∷ leaf 8 role.Assigned ∷ [];
+  drivers = None ∷ Some (expression.Leaf 0) ∷ Some (expression.Leaf 1) ∷ Some (expression.Leaf 0)
+      ∷ Some (expression.Load 0 0 (expression.Leaf 3 ∷ expression.Leaf 0 ∷ [])) ∷ Some (expression.Load 0 1 (expression.Leaf 3 ∷ expression.Leaf 0 ∷ [])) ∷ [];
+  registers = [];
+  memories = memory_behind 1 (chained_writer ∷ chained_reader ∷ []) ∷ [];
+}

@@ -1,9 +1,9 @@
 //! Laws of the nets of specs/. The functions do nothing.
 
-ghost use Rattle.std.specs.Prelude.{◌≡◌, ◌∷◌, [], ◌-◌, ◌^◌, pos, negsuc, true, false, Some, None};
+ghost use Rattle.std.specs.Prelude.{◌≡◌, ◌⊎◌, ℕ, ◌∷◌, [], ◌-◌, ◌^◌, pos, negsuc, true, false, Some, None};
 ghost use Rattle.ground_net.specs.declared.ground.Ground.TheVariants.{Load as A_load, Const as A_constant};
 ghost use Rattle.ground_net.specs.Grounds.{value};
-ghost use Rattle.ground_net.specs.Cones.{A_watched, A_register, A_memory, sinks, needs};
+ghost use Rattle.ground_net.specs.Cones.{A_watched, A_register, A_memory, InCone, sinks, needs};
 ghost use Rattle.ground_net.specs.Reads.{IsOrder};
 ghost use Rattle.ground_net.specs.Statements.{live, is_certain};
 ghost use Rattle.net_meaning.specs.Cycles.{sight_of};
@@ -11,7 +11,7 @@ ghost use Rattle.net_meaning.specs.Nets.{IsNet};
 ghost use Rattle.net_meaning.specs.Words.{SaysItsWords, words_of, register_word, memory_word, element_word, captured_word, state_words};
 ghost use Rattle.net_examples.specs.Circuits.{uint, of_readwriter, holding, asking, asked, delayed};
 ghost use Rattle.net_examples.specs.Kept.{keeping, kept_state, pairs};
-ghost use Rattle.net_examples.specs.Needing.{between, of_ports, a_writer, a_reader, a_readwriter};
+ghost use Rattle.net_examples.specs.Needing.{between, of_ports, a_writer, a_reader, a_readwriter, chained};
 ghost use Rattle.net_examples.specs.Writing.{met, registered, sint};
 ghost use Rattle.net_examples.specs.Choosing.{chosen_by, selected_by, sets, sets_leaf, two_arms, lone_arm, sets_where, left_by, nothing_selected, takes, taking_arm, taking_arms, nested};
 
@@ -95,6 +95,13 @@ pub fn memories_need_what_ports_show()
     ensures both { needs (of_ports (a_readwriter true ∷ [])) (A_memory 0) ≡ 30 ∷ 31 ∷ 34 ∷ 35 ∷ 36 ∷ 37 ∷ 38 ∷ [] }
     ensures both_at_once { needs (of_ports (a_readwriter false ∷ [])) (A_memory 0) ≡ 30 ∷ 31 ∷ 34 ∷ 35 ∷ 36 ∷ 37 ∷ 38 ∷ [] }
     ensures all { needs (of_ports (a_reader true ∷ a_reader false ∷ a_writer ∷ [])) (A_memory 0) ≡ 20 ∷ 21 ∷ 10 ∷ 11 ∷ 12 ∷ 13 ∷ 14 ∷ 15 ∷ [] }
+{}
+
+/// The cone of a memory is what its writers show, and what that reads: not the address of a reader whose data come at once.
+pub fn cones_go_behind_ports()
+    ensures address { InCone chained (A_memory 0) 2 }
+    ensures behind { InCone chained (A_memory 0) 1 }
+    ensures only { (x : ℕ) → InCone chained (A_memory 0) x → (x ≡ 2) ⊎ (x ≡ 1) }
 {}
 
 /// Of two readers at an element that is written, one has what stood there before, and the other what is written. Each memory has its
