@@ -1,2 +1,3 @@
 pub mod Drivers
 pub mod Reading
+pub mod Inits
