@@ -1,3 +1,4 @@
 pub mod Drivers
 pub mod Reading
 pub mod Inits
+pub mod Registers
