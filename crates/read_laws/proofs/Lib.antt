@@ -2,3 +2,4 @@ pub mod Drivers
 pub mod Reading
 pub mod Inits
 pub mod Registers
+pub mod Taking

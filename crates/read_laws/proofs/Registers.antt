@@ -1,4 +1,4 @@
--- The registers of the flat circuit are those of the circuit: what they hold next, and what they take.
+-- What the registers of the flat circuit hold next is what the circuit's do.
 use Rattle.std.proofs.Common.{◌≡◌, ℕ, zero, suc, ◌+◌, ◌<◌, ◌&&◌, Bool, true, false, cond, not, List, [], ◌∷◌, ◌++◌, map, filter, length, Option, Some, None, option_map, ℤ, refl, sym, ap, ap₂, ◌∙◌, subst, arith, if◌then◌else◌, slice_index, true≢false, ⊎_elim}
 use Rattle.std.specs.Prelude.{Contains, ◌⊎◌}
 use Rattle.std.specs.List.{slice_get}
@@ -17,7 +17,7 @@ use Rattle.fir_meaning.specs.Drives.{left_in, set_at}
 use Rattle.fir_meaning.specs.Mentions as tree_reads
 use Rattle.fir_meaning.specs.Mentions.{Agree, whole_region}
 use Rattle.fir_meaning.specs.Loops as tree_loops
-use Rattle.fir_meaning.specs.Loops.{TakesFrom, by_live_connect, by_reset, by_init, by_write, by_read, driven_from, IsRead}
+use Rattle.fir_meaning.specs.Loops.{driven_from}
 use Rattle.fir_meaning.specs.States.{Stands, is_port, is_register, is_source, leaf_of, or_else}
 use Rattle.fir_meaning.specs.States as tree_states
 use Rattle.fir_meaning.proofs.Settling.{local}
@@ -35,7 +35,6 @@ use Rattle.ground_net.specs.declared.net.NetReset.{NetReset}
 use Rattle.ground_net.specs.Grounds.{Sight, value, mentions, joined}
 use Rattle.ground_net.specs.Statements.{drives, live}
 use Rattle.ground_net.specs.Renumbering.{with_numbers, seen_by}
-use Rattle.ground_net.specs.Cones.{mentioned_by, mentioned_by_reset}
 use Rattle.ground_net.proofs.Layers.{renumbered_value, renumbered_mentions}
 use Rattle.net_meaning.specs.Shapes.{Table, HasShapes}
 use Rattle.net_meaning.specs.Cycles.{driven_or, after_reset}
@@ -64,7 +63,7 @@ from_filter {A} p (a ∷ xs) n s e = by (p a) n e (λ n e. from_filter p xs n s 
   by true zero e h = (0, e)
   by true (suc n) e h = let r = h n e in (suc r.0, r.1)
 
-register_flow : (sort : Sort) (flip : Bool) → is_register sort ≡ true → is_source (flow_of sort flip) ≡ false
+pub register_flow : (sort : Sort) (flip : Bool) → is_register sort ≡ true → is_source (flow_of sort flip) ≡ false
 register_flow (A_register clock) flip e = refl
 register_flow (A_reset_register clock reset init) flip e = refl
 register_flow An_input flip e = absurd (true≢false (sym e))
@@ -74,7 +73,7 @@ register_flow (A_memory memory) flip e = absurd (true≢false (sym e))
 register_flow (An_instance target) flip e = absurd (true≢false (sym e))
 register_flow (A_node expr) flip e = absurd (true≢false (sym e))
 
-register_target : (sort : Sort) → is_register sort ≡ true → target_in sort ≡ None
+pub register_target : (sort : Sort) → is_register sort ≡ true → target_in sort ≡ None
 register_target (A_register clock) e = refl
 register_target (A_reset_register clock reset init) e = refl
 register_target An_input e = refl
@@ -99,7 +98,7 @@ chosen_or true held i o = refl
 chosen_or false held i o = refl
 
 -- a register is held, not driven
-held_not_driven : (y : Standing) → is_clock y.1 ≡ false → is_register y.0.c.declaration.sort ≡ true → part_of y ≡ Driven → ⊥
+pub held_not_driven : (y : Standing) → is_clock y.1 ≡ false → is_register y.0.c.declaration.sort ≡ true → part_of y ≡ Driven → ⊥
 held_not_driven y clock register e = differs (sym is ∙ e) where
   is : part_of y ≡ Held
   is = ap (λ b. if b then Without_value else if is_register y.0.c.declaration.sort then Held else if is_input_of_main y.0.path y.0.c y.1 then Given else if is_late_read y.0.c.declaration.sort y.1 then Kept else Driven) clock
@@ -151,16 +150,16 @@ module _ (z : Setting) where
   pub is_of_register : (register : NetRegister) (y : Standing) → RegisterAt register y → is_register y.0.c.declaration.sort ≡ true
   is_of_register register y R = has_register y.0.m (table_of (known_of z R.leads).g.leaves) (y.0.c, y.1) y.0.c.declaration.sort R.own.reset (reset_of register y R)
 
-  register_clock : (path : List ℕ) (m : TypedModule) (c : Component) (leaf : TypeLeaf) → Stands (design z) path m c leaf → is_register c.declaration.sort ≡ true → is_clock leaf ≡ false
+  pub register_clock : (path : List ℕ) (m : TypedModule) (c : Component) (leaf : TypeLeaf) → Stands (design z) path m c leaf → is_register c.declaration.sort ≡ true → is_clock leaf ≡ false
   register_clock path m c leaf stands register =
       let it = known_module z.fitted z.well path m stands.reached in
       it.typed.held c leaf (component_found m c.declaration.name c stands.declared).1 register stands.listed
 
   -- the driver of a register's leaf
-  register_driver : (x : ℕ) (y : Standing) → slice_get (all z) x ≡ Some y → is_register y.0.c.declaration.sort ≡ true → DriverOf z y.0.m y.0.path y.0.c y.1 (flat_driver z x)
+  pub register_driver : (x : ℕ) (y : Standing) → slice_get (all z) x ≡ Some y → is_register y.0.c.declaration.sort ≡ true → DriverOf z y.0.m y.0.path y.0.c y.1 (flat_driver z x)
   register_driver x y there register = own_driver z x y there (set_not_input y.0.c y.1 (register_flow y.0.c.declaration.sort y.1.flip register))
 
-  register_set : (y : Standing) → is_clock y.1 ≡ false → is_register y.0.c.declaration.sort ≡ true → is_set (y.0.c, y.1) ≡ true
+  pub register_set : (y : Standing) → is_clock y.1 ≡ false → is_register y.0.c.declaration.sort ≡ true → is_set (y.0.c, y.1) ≡ true
   register_set y clock register = ap₂ (λ a b. not a && not b) (register_flow y.0.c.declaration.sort y.1.flip register) clock
 
   -- What registers hold next
