@@ -3,3 +3,4 @@ pub mod Reading
 pub mod Inits
 pub mod Registers
 pub mod Taking
+pub mod Nets

@@ -266,6 +266,74 @@ module _ (z : Setting) where
   pub all_reads : (x : ℕ) (y : Standing) (f : FlatLeaf) → slice_get (all z) x ≡ Some y → ReadsLeaf (design z) (flat_of y) f → HasRead x f ⊎ IsPortRead y f
   all_reads x y f there r = reads_of (flat_of y) f r x y there refl
 
+  -- Read data of a memory
+
+  no_node : (sort : Sort) (e : Expr) (memory : Memory) → sort ≡ A_node e → sort ≡ A_memory memory → ⊥
+  no_node sort e memory p q = differs (sym p ∙ q) where
+    is_node : Sort → Bool
+    is_node (A_node e) = true
+    is_node _ = false
+    differs : A_node e ≡ A_memory memory → ⊥
+    differs d = true≢false (ap is_node d)
+
+  no_port : (sort : Sort) (memory : Memory) → sort ≡ A_memory memory → is_port sort ≡ true → ⊥
+  no_port sort memory q p = true≢false (sym p ∙ ap is_port q)
+
+  -- read data are no leaf that statements decide
+  data_not_driven : (path : List ℕ) (m : TypedModule) (c : Component) (leaf : TypeLeaf) → Stands (design z) path m c leaf → is_driven c leaf ≡ true → (x : ℕ) (y : Standing) → slice_get (all z) x ≡ Some y → flat m path (leaf_of c leaf) ≡ flat_of y
+      → (memory : Memory) → y.0.c.declaration.sort ≡ A_memory memory → y.1.flip ≡ false → ⊥
+  data_not_driven path m c leaf stands driven x y there same memory sort_is turned = by (target_in c.declaration.sort) refl where
+    by : (t : Option ℕ) → target_in c.declaration.sort ≡ t → ⊥
+    by None q =
+        let is : y ≡ (record { path = path; m = m; c = c }, leaf) = entry_here z path m c leaf stands q x y there same in
+        true≢false (sym (ap₂ (λ s b. is_source (flow_of s b)) sort_is turned) ∙ (ap (λ (w : Standing). is_source (flow_of w.0.c.declaration.sort w.1.flip)) is ∙ driven_source c leaf driven))
+    by (Some target) q =
+        let sort : c.declaration.sort ≡ An_instance target = target_sort c.declaration.sort target q in
+        let in_ = instance_inside (design z) z.well.bundles path m c leaf target stands sort in
+        let n : TypedModule = in_.0 in
+        let p : Component = in_.1 in
+        let part : TypeLeaf = in_.2 in
+        let inner = in_.3 in
+        let port : is_port p.declaration.sort ≡ true = in_.4 in
+        let names : List ℕ = path ++ c.declaration.name ∷ [] in
+        let is : y ≡ (record { path = names; m = n; c = p }, part) =
+        entry_here z names n p part inner (port_target p.declaration.sort port) x y there (sym (one_leaf path m n c p leaf part target stands.declared sort inner.declared port in_.6) ∙ same) in
+        no_port p.declaration.sort memory (sym (ap (λ (w : Standing). w.0.c.declaration.sort) is) ∙ sort_is) port
+
+  data_of : (a f : FlatLeaf) → ReadsLeaf (design z) a f → (x : ℕ) (y : Standing) → slice_get (all z) x ≡ Some y → a ≡ flat_of y → (memory : Memory) → y.0.c.declaration.sort ≡ A_memory memory → y.1.flip ≡ false → IsPortRead y f
+  data_of a f (by_connect path m c leaf u stands driven h) x y there same memory sort_is turned = absurd (data_not_driven path m c leaf stands driven x y there same memory sort_is turned)
+  data_of a f (by_node path m c leaf e k mentioned u stands sort clock kth mth h) x y there same memory sort_is turned =
+      let is : y ≡ (record { path = path; m = m; c = c }, leaf) = entry_here z path m c leaf stands (ap target_in sort) x y there same in
+      absurd (no_node c.declaration.sort e memory sort (sym (ap (λ (w : Standing). w.0.c.declaration.sort) is) ∙ sort_is))
+  data_of a f (by_port path m c leaf memory' port name field way stands sort latency source way_is named by goes) x y there same memory sort_is turned =
+      own_of path m c leaf stands (ap target_in sort) x y there same (λ w. IsPortRead w (flat m path (record { component = c.declaration.name; way = step.Field name ∷ step.Field by ∷ [] }))) (record {
+        memory = memory';
+        port = port;
+        name = name;
+        field = field;
+        way = way;
+        by = by;
+        sort = sort;
+        latency = latency;
+        source = source;
+        path = way_is;
+        named = named;
+        goes = goes;
+        is = refl;
+      })
+
+  -- Read data of a memory read what a read of latency 0 goes by, and nothing else.
+  pub data_reads : (x : ℕ) (y : Standing) (f : FlatLeaf) → slice_get (all z) x ≡ Some y → (memory : Memory) → y.0.c.declaration.sort ≡ A_memory memory → y.1.flip ≡ false → ReadsLeaf (design z) (flat_of y) f → IsPortRead y f
+  data_reads x y f there memory sort turned r = data_of (flat_of y) f r x y there refl memory sort turned
+
+  -- Such a read is one of the circuit.
+  pub port_reads : (x : ℕ) (y : Standing) (f : FlatLeaf) → slice_get (all z) x ≡ Some y → IsPortRead y f → ReadsLeaf (design z) (flat_of y) f
+  port_reads x y f there r =
+      let L = lists z in
+      let stands = (L.stands x y there).0 in
+      subst (λ a. ReadsLeaf (design z) a f) (own_flat z y.0.path y.0.m y.0.c y.1 stands.declared (ap target_in r.sort))
+      (subst (λ b. ReadsLeaf (design z) (flat y.0.m y.0.path (leaf_of y.0.c y.1)) b) (sym r.is) (by_port y.0.path y.0.m y.0.c y.1 r.memory r.port r.name r.field r.way stands r.sort r.latency r.source r.path r.named r.by r.goes))
+
   -- Reads alone
 
   -- what the driver of a leaf that statements decide mentions
