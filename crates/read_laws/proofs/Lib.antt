@@ -4,3 +4,4 @@ pub mod Inits
 pub mod Registers
 pub mod Taking
 pub mod Nets
+pub mod Orders
