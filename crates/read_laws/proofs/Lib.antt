@@ -5,3 +5,4 @@ pub mod Registers
 pub mod Taking
 pub mod Nets
 pub mod Orders
+pub mod Loads
