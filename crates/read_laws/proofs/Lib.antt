@@ -6,3 +6,4 @@ pub mod Taking
 pub mod Nets
 pub mod Orders
 pub mod Loads
+pub mod Clauses

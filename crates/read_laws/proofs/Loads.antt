@@ -62,7 +62,7 @@ goes_en mode.Reader = (1, omega arith, refl)
 goes_en mode.Writer = (1, omega arith, refl)
 goes_en mode.ReadWriter = (1, omega arith, refl)
 
-memory_same : (memory other : Memory) → A_memory memory ≡ A_memory other → memory ≡ other
+pub memory_same : (memory other : Memory) → A_memory memory ≡ A_memory other → memory ≡ other
 memory_same memory other e = some_same (ap of e) where
   of : Sort → Option Memory
   of (A_memory memory) = Some memory

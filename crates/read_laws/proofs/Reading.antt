@@ -156,7 +156,7 @@ module _ (z : Setting) where
     no_snoc (x ∷ xs) a e = absurd cc
   input_below path names n m d front i (behind {path = outer} j at target c gi inner child leads part there placed named at' known) e r q = ap (role_at (j ∷ outer)) q
 
-  plain_role : (x : ℕ) (y : Standing) (there : slice_get (all z) x ≡ Some y) → role_of (y.0.c, y.1) ≡ Plain → (leaf_at z x y there).leaf.role ≡ Plain
+  pub plain_role : (x : ℕ) (y : Standing) (there : slice_get (all z) x ≡ Some y) → role_of (y.0.c, y.1) ≡ Plain → (leaf_at z x y there).leaf.role ≡ Plain
   plain_role x y there e = let at = leaf_at z x y there in at.role ∙ plain_stays at.s.path (role_of (y.0.c, y.1)) e
 
   -- All reads
