@@ -1,5 +1,5 @@
 -- What each leaf of the net reads is what the circuit's leaf does, both ways, where the data that leaves show are those of the circuit's memories.
-use Rattle.std.proofs.Common.{◌≡◌, ℕ, ◌&&◌, Bool, true, false, List, [], ◌∷◌, take, Option, Some, None, refl, sym, ap, ap₂, ◌∙◌, subst, arith, ⊎_elim}
+use Rattle.std.proofs.Common.{◌≡◌, ℕ, ◌&&◌, false, List, [], ◌∷◌, take, Option, Some, None, sym, ap, ◌∙◌, subst, arith, ⊎_elim}
 use Rattle.std.specs.Prelude.{Contains}
 use Rattle.std.specs.List.{slice_get}
 use Rattle.fir_types.specs.declared.fir_type.FirType.{FirType}
@@ -13,14 +13,12 @@ use Rattle.fir_meaning.specs.Loops.{ReadsLeaf}
 use Rattle.fir_meaning.specs.States.{is_port, is_register, is_source}
 use Rattle.fir_meaning.proofs.Ports.{component_found}
 use Rattle.circuit_laws.proofs.Reached.{known_module}
-use Rattle.ground_net.specs.declared.ground.Ground.{Ground}
 use Rattle.ground_net.specs.declared.circuit.GroundRole.{GroundRole}
-use Rattle.ground_net.specs.declared.circuit.GroundRole.TheVariants.{Input, Clock, Register, Plain}
+use Rattle.ground_net.specs.declared.circuit.GroundRole.TheVariants.{Plain}
 use Rattle.ground_net.specs.declared.net.Net.{Net}
 use Rattle.ground_net.specs.declared.net.NetPort.{NetPort}
-use Rattle.ground_net.specs.Grounds.{mentions}
 use Rattle.ground_net.specs.Reads.{Reads, direct_reads, driver_of, read_of, read_by}
-use Rattle.net_of_circuit.specs.FlatOrder.{Placed, Standing, flat_of}
+use Rattle.net_of_circuit.specs.FlatOrder.{Standing, flat_of}
 use Rattle.net_of_circuit.specs.NetOf.{IsPortOf}
 use Rattle.memory_ports.specs.declared.reads.ReadData.{ReadData}
 use Rattle.memory_ports.specs.declared.reads.ReadData.TheVariants as read_data

@@ -2,13 +2,13 @@
 use Rattle.std.proofs.Common.{◌≡◌, ℕ, zero, suc, ◌+◌, ◌<◌, ◌&&◌, Bool, true, false, not, List, [], ◌∷◌, ◌++◌, map, length, Option, Some, None, option_map, option_and_then, refl, sym, ap, ap₂, ◌∙◌, subst, arith, if◌then◌else◌, slice_index, true≢false, ⊎_elim, inl, inr}
 use Rattle.std.specs.Prelude.{Contains, ◌⊎◌}
 use Rattle.std.specs.List.{slice_get, flat_map, sum_by}
-use Rattle.std.proofs.lemmas.Grind.{common_steps, flat_map-append}
+use Rattle.std.proofs.lemmas.Grind.{flat_map-append}
 use Rattle.std.proofs.lemmas.List.Concat.{flat_map-cons}
 use Rattle.fir_types.specs.declared.leaf.TypeLeaf.{TypeLeaf}
 use Rattle.fir_types.specs.declared.leaf.PathStep.TheVariants as step
 use Rattle.fir_types.specs.Leaves.{leaves}
 use Rattle.fir_types.specs.Bundles.{instance_of}
-use Rattle.fir_meaning.specs.Components.{Design, TypedModule, Component, Leaf, FlatLeaf, Sort, An_input, An_output, A_wire, A_register, A_reset_register, A_memory, An_instance, A_node, component_named, module_at, target_in, typed_ports, flat, flat_through, is_clock, flow_of}
+use Rattle.fir_meaning.specs.Components.{TypedModule, Component, Leaf, Sort, An_input, An_output, A_wire, A_register, A_reset_register, A_memory, An_instance, A_node, component_named, module_at, target_in, typed_ports, flat, flat_through, is_clock, flow_of}
 use Rattle.fir_meaning.specs.States.{Stands, is_port, is_register, is_source, is_driven, leaf_of}
 use Rattle.fir_meaning.proofs.Settling.{flat_none, port_target, one_leaf}
 use Rattle.fir_meaning.proofs.Ports.{component_found, instance_inside, target_sort, from_map}
@@ -26,7 +26,7 @@ use Rattle.ground_net.specs.Renumbering.{with_numbers}
 use Rattle.ground_net.specs.Reads.{lone_driver}
 use Rattle.ground_net.proofs.Layers.{renumbered_mentions}
 use Rattle.expand_whens.specs.Expanding.{IsDriver, IsUndriven, Drives}
-use Rattle.net_of_circuit.specs.FlatOrder.{Placed, Standing, all_leaves, flat_of}
+use Rattle.net_of_circuit.specs.FlatOrder.{Standing, all_leaves, flat_of}
 use Rattle.ground_of_circuit.specs.Numbers.{ModuleLeaf, module_leaves, leaves_of, leaves_before, number_of, role_of, SameReads}
 use Rattle.flatten_instances.specs.FlatOrder.{Spot}
 use Rattle.flatten_instances.specs.Numbers.{AreNumbers, driver_in, driver_with}
@@ -37,10 +37,10 @@ use Rattle.design_laws.proofs.Lists.{in_list, place_of, later, below_length, fro
 use Rattle.design_laws.proofs.Accepted.{ports_first}
 use Rattle.lowering_laws.proofs.Heights.{some_same, none_some}
 use Rattle.lowering_laws.proofs.Parts.{item, instance_place, leaf_behind}
-use Rattle.lowering_laws.proofs.Matching.{two_back, Known, Leads, at_main, behind, leads_at, leads_known, port_size}
+use Rattle.lowering_laws.proofs.Matching.{two_back, Known, at_main, behind, leads_at, leads_known, port_size}
 use Rattle.lowering_laws.proofs.Seeing.{inner_leaf, ports_sum, found_leaf, entry_of}
 use Rattle.lowering_laws.proofs.Driving.{leads_number}
-use Rattle.lowering_laws.proofs.Whole.{Setting, design, texts, spots, placed, Way, match, lists, driver_at}
+use Rattle.lowering_laws.proofs.Whole.{Setting, design, spots, placed, Way, match, lists, driver_at}
 
 -- Roles
 
@@ -128,6 +128,7 @@ snoc_same (x ∷ xs) (y ∷ ys) a b e =
   where
     heads : x ∷ (xs ++ a ∷ []) ≡ y ∷ (ys ++ b ∷ []) → x ≡ y
     heads e = cc
+
     tails : x ∷ (xs ++ a ∷ []) ≡ y ∷ (ys ++ b ∷ []) → xs ++ a ∷ [] ≡ ys ++ b ∷ []
     tails e = cc
 
@@ -255,9 +256,11 @@ module _ (z : Setting) where
       let tails : path' ≡ front = tail_same (sym way' ∙ way) in
       let number : k' ≡ k = some_same (sym number' ∙ (ap (paths.module_at z.driven) tails ∙ leads_number z.fitted z.well z.lowered z.is z.driven z.expanded leads')) in
       let holder_same : holder' ≡ holder = some_same (sym found' ∙ (ap (slice_get z.driven.modules) number ∙ (known_of leads').driven_there)) in
-      let gi_same : gi' ≡ gi = some_same (sym inst' ∙ (ap₂ (λ (w : DrivenModule) v. slice_get w.instances v) holder_same heads ∙ inst)) in
-      (numbers, subst (λ w. AreNumbers z.driven (spots z) front w numbers) number (subst (λ w. AreNumbers z.driven (spots z) w k' numbers) tails are),
-      ap₂ (λ (w : DrivenModule) (v : GroundInstance). driver_with numbers (driver_in w (v.first + s.number))) holder_same gi_same)
+      let gi_same : gi' ≡ gi = some_same (sym inst' ∙ (ap₂ (λ (w : DrivenModule) v. slice_get w.instances v) holder_same heads ∙ inst)) in (
+        numbers,
+        subst (λ w. AreNumbers z.driven (spots z) front w numbers) number (subst (λ w. AreNumbers z.driven (spots z) w k' numbers) tails are),
+        ap₂ (λ (w : DrivenModule) (v : GroundInstance). driver_with numbers (driver_in w (v.first + s.number))) holder_same gi_same,
+      )
   holders s m d names leads p part at is_in i gi leads' way inst o (given gl there input way') = absurd (empty_cons (sym way' ∙ way)) where
     empty_cons : {a : ℕ} {q : List ℕ} → [] ≡ a ∷ q → ⊥
     empty_cons e = cc
@@ -394,6 +397,12 @@ module _ (z : Setting) where
         undriven q = subst (λ w. Drives own_drives.0 D.y K.g.body w) q own_drives.2
       by (Some g) q =
           let l = found_leaf m u at.0 at.1 in
-          let entry = numbered_at D.leads D.numbers D.are at.0 l.0 l.1 in
-          (with_numbers (slice_index D.numbers) g, D.has ∙ ap (driver_with D.numbers) q, slice_index D.numbers at.0, entry.0, entry.1, entry.2 ∙ ap (flat m names) l.2,
-          subst (λ l. Contains l (slice_index D.numbers at.0)) (sym (renumbered_mentions (slice_index D.numbers) g)) (Contains-map (slice_index D.numbers) (mentions g) at.0 ((is_driver g q).all at.0 at.2)))
+          let entry = numbered_at D.leads D.numbers D.are at.0 l.0 l.1 in (
+            with_numbers (slice_index D.numbers) g,
+            D.has ∙ ap (driver_with D.numbers) q,
+            slice_index D.numbers at.0,
+            entry.0,
+            entry.1,
+            entry.2 ∙ ap (flat m names) l.2,
+            subst (λ l. Contains l (slice_index D.numbers at.0)) (sym (renumbered_mentions (slice_index D.numbers) g)) (Contains-map (slice_index D.numbers) (mentions g) at.0 ((is_driver g q).all at.0 at.2)),
+          )

@@ -1,5 +1,5 @@
 -- What the load of a read of latency 0 mentions is what the read goes by.
-use Rattle.std.proofs.Common.{◌≡◌, ℕ, zero, suc, ◌==◌, ◌<◌, Bool, true, false, List, [], ◌∷◌, ◌++◌, map, Option, Some, None, refl, sym, ap, ap₂, ◌∙◌, subst, arith}
+use Rattle.std.proofs.Common.{◌≡◌, ℕ, zero, suc, ◌==◌, false, List, [], ◌∷◌, ◌++◌, map, Option, Some, None, refl, sym, ap, ap₂, ◌∙◌, subst, arith}
 use Rattle.std.specs.Prelude.{Contains}
 use Rattle.std.specs.List.{slice_get}
 use Rattle.std.proofs.lemmas.List.Concat.{flat_map-cons}
@@ -14,17 +14,16 @@ use Rattle.fir_types.specs.Bundles.{addr_name, en_name, wmode_name}
 use Rattle.fir_meaning.specs.Components.{FlatLeaf, Sort, A_memory, target_in, flat}
 use Rattle.fir_meaning.specs.MemoryPorts.{MemoryPort, memory_ports, port_named}
 use Rattle.fir_meaning.specs.Loops.{ReadsLeaf, read_goes_by}
-use Rattle.fir_meaning.specs.States.{Stands}
 use Rattle.fir_meaning.proofs.Ports.{found, same_number}
 use Rattle.ground_net.specs.declared.ground.Ground.{Ground}
 use Rattle.ground_net.specs.declared.ground.Ground.TheVariants as expression
 use Rattle.ground_net.specs.declared.net.NetPort.{NetPort}
 use Rattle.ground_net.specs.Grounds.{mentions, joined}
 use Rattle.ground_net.proofs.Layers.{mentions-Const, mentions-Leaf, mentions-Mux, mentions-Load}
-use Rattle.net_of_circuit.specs.FlatOrder.{Placed, Standing, flat_of}
+use Rattle.net_of_circuit.specs.FlatOrder.{Standing, flat_of}
 use Rattle.net_of_circuit.specs.NetOf.{Names, IsPortOf, has_mode}
 use Rattle.memory_ports.specs.Placing.{zero_bit, reading, load_of}
-use Rattle.lowering_laws.proofs.Heights.{some_same, none_some}
+use Rattle.lowering_laws.proofs.Heights.{some_same}
 use Rattle.lowering_laws.proofs.Whole.{Setting, design, lists}
 use Rattle.read_laws.proofs.Drivers.{all, own_flat}
 use Rattle.read_laws.proofs.Reading.{IsPortRead, port_reads}
@@ -140,11 +139,14 @@ module _ (z : Setting) (x : ℕ) (y : Standing) (there : slice_get (all z) x ≡
     port_same = some_same (sym r.named ∙ (ap₂ port_named memory_is (first_step (sym r.path ∙ path)) ∙ named))
 
     named_field : (by number : ℕ) → r.by ≡ by → Names (all z) y.0 (step.Field port.name ∷ step.Field by ∷ []) number → Contains (load_leaves np np.mode) number → Mentioned m k f
-    named_field by number e names c =
-        (number, (y.0, names.leaf), names.there,
-        field_is by number names (y.0, names.leaf) names.there
-        ∙ (ap₂ (λ i b. flat y.0.m y.0.path (record { component = y.0.c.declaration.name; way = step.Field i ∷ step.Field b ∷ [] })) (sym (first_step (sym r.path ∙ path))) (sym e) ∙ sym r.is),
-        subst (λ l. Contains l number) (sym (mentions_load m k np)) c)
+    named_field by number e names c = (
+      number,
+      (y.0, names.leaf),
+      names.there,
+      field_is by number names (y.0, names.leaf) names.there
+          ∙ (ap₂ (λ i b. flat y.0.m y.0.path (record { component = y.0.c.declaration.name; way = step.Field i ∷ step.Field b ∷ [] })) (sym (first_step (sym r.path ∙ path))) (sym e) ∙ sym r.is),
+      subst (λ l. Contains l number) (sym (mentions_load m k np)) c,
+    )
 
     without : np.mode ≡ None → Contains (addr_name ∷ en_name ∷ []) r.by → Mentioned m k f
     without q (zero, below, is) = named_field addr_name np.addr (sym is) of.addr (subst (λ o. Contains (load_leaves np o) np.addr) (sym q) (0, omega arith, refl))

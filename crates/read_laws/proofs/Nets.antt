@@ -1,12 +1,12 @@
 -- The clauses of reads and registers of the net of a circuit, where the net is that of the flat circuit.
-use Rattle.std.proofs.Common.{◌≡◌, ℕ, ◌<◌, ◌&&◌, Bool, true, false, List, [], ◌∷◌, ◌++◌, map, take, length, Option, Some, None, option_map, refl, sym, ap, ap₂, ◌∙◌, subst, arith, ⊎_elim, inl, inr}
+use Rattle.std.proofs.Common.{◌≡◌, ℕ, ◌<◌, ◌&&◌, true, false, List, [], ◌∷◌, ◌++◌, take, length, Option, Some, None, option_map, refl, sym, ap, ap₂, ◌∙◌, subst, arith, ⊎_elim, inl, inr}
 use Rattle.std.specs.Prelude.{Contains, ◌⊎◌}
 use Rattle.std.specs.List.{slice_get, range_with_len}
 use Rattle.std.proofs.lemmas.List.FromFn.{length-range_with_len}
 use Rattle.bit_words.specs.Values.{integer_of}
 use Rattle.fir_types.specs.declared.fir_type.FirType.{FirType}
 use Rattle.fir_types.specs.declared.memory.Memory.{Memory}
-use Rattle.fir_meaning.specs.Components.{FlatLeaf, A_memory, flow_of, is_clock}
+use Rattle.fir_meaning.specs.Components.{FlatLeaf, A_memory, flow_of}
 use Rattle.fir_meaning.specs.Values.{scene_of}
 use Rattle.fir_meaning.specs.Loops.{ReadsLeaf, TakesFrom}
 use Rattle.fir_meaning.specs.States.{State, is_port, is_register, is_source}
@@ -19,14 +19,14 @@ use Rattle.ground_net.specs.declared.net.Leaf.{Leaf}
 use Rattle.ground_net.specs.declared.net.Role.TheVariants as role
 use Rattle.ground_net.specs.declared.net.Net.{Net}
 use Rattle.ground_net.specs.declared.net.NetRegister.{NetRegister}
-use Rattle.ground_net.specs.Grounds.{Sight, mentions}
+use Rattle.ground_net.specs.Grounds.{Sight}
 use Rattle.ground_net.specs.Reads.{Reads, driver_of, read_of, read_by}
 use Rattle.ground_net.specs.Cones.{register_needs, mentioned_by, mentioned_by_reset}
 use Rattle.net_meaning.specs.Shapes.{HasShapes, shaped}
 use Rattle.net_meaning.specs.Cycles.{NetState, sight_of, driven_or, after_reset}
 use Rattle.net_meaning.specs.Cycles as cycle
 use Rattle.net_meaning.specs.Nets.{table_of, leaf_shape}
-use Rattle.net_of_circuit.specs.FlatOrder.{Placed, Standing, flat_of}
+use Rattle.net_of_circuit.specs.FlatOrder.{Standing, flat_of}
 use Rattle.net_of_circuit.specs.NetOf.{Driven, part_of, IsSeen, seen_valuation}
 use Rattle.ground_of_circuit.specs.Numbers.{role_of}
 use Rattle.flatten_instances.specs.Flat.{role_at}

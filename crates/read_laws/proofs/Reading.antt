@@ -1,5 +1,5 @@
 -- What a flat driver mentions is what the leaf of the run reads.
-use Rattle.std.proofs.Common.{◌≡◌, ℕ, zero, suc, ◌+◌, ◌<◌, ◌&&◌, Bool, true, false, not, List, [], ◌∷◌, ◌++◌, map, Option, Some, None, refl, sym, ap, ap₂, ◌∙◌, subst, arith, if◌then◌else◌, true≢false, ⊎_elim, inl, inr}
+use Rattle.std.proofs.Common.{◌≡◌, ℕ, zero, suc, ◌<◌, ◌&&◌, Bool, true, false, not, List, [], ◌∷◌, ◌++◌, map, Option, Some, None, refl, sym, ap, ap₂, ◌∙◌, subst, arith, if◌then◌else◌, true≢false, ⊎_elim, inl, inr}
 use Rattle.std.specs.Prelude.{Contains, ◌⊎◌}
 use Rattle.std.specs.List.{slice_get}
 use Rattle.fir_types.specs.declared.leaf.TypeLeaf.{TypeLeaf}
@@ -9,7 +9,7 @@ use Rattle.fir_types.specs.declared.memory.Memory.{Memory}
 use Rattle.fir_types.specs.Leaves.{leaves}
 use Rattle.fir_types.specs.Memories.{read_latency_of}
 use Rattle.fir_tree.specs.declared.expr.Expr.{Expr}
-use Rattle.fir_meaning.specs.Components.{Design, TypedModule, Component, Leaf, FlatLeaf, Sort, An_input, An_output, A_wire, A_register, A_reset_register, A_memory, An_instance, A_node, target_in, type_in, flat, is_clock, flow_of}
+use Rattle.fir_meaning.specs.Components.{TypedModule, Component, Leaf, FlatLeaf, Sort, An_input, An_output, A_wire, A_register, A_reset_register, A_memory, An_instance, A_node, target_in, type_in, flat, is_clock, flow_of}
 use Rattle.fir_meaning.specs.MemoryPorts.{MemoryPort, port_named}
 use Rattle.fir_meaning.specs.Mentions as tree_reads
 use Rattle.fir_meaning.specs.Loops as tree_loops
@@ -25,17 +25,16 @@ use Rattle.ground_net.specs.declared.circuit.DrivenModule.{DrivenModule}
 use Rattle.ground_net.specs.declared.circuit.GroundLeaf.{GroundLeaf}
 use Rattle.ground_net.specs.declared.circuit.GroundRole.{GroundRole}
 use Rattle.ground_net.specs.declared.circuit.GroundRole.TheVariants.{Input, Clock, Register, Plain}
-use Rattle.ground_net.specs.Grounds.{mentions, joined}
-use Rattle.ground_net.specs.Statements.{live}
-use Rattle.net_of_circuit.specs.FlatOrder.{Placed, Standing, flat_of}
-use Rattle.ground_of_circuit.specs.Numbers.{role_of, is_set, SameReads}
+use Rattle.ground_net.specs.Grounds.{mentions}
+use Rattle.net_of_circuit.specs.FlatOrder.{Standing, flat_of}
+use Rattle.ground_of_circuit.specs.Numbers.{role_of, is_set}
 use Rattle.flatten_instances.specs.Flat.{is_input, role_at}
 use Rattle.design_laws.proofs.Lists.{below_length, map_at}
 use Rattle.lowering_laws.proofs.Heights.{some_same, none_some}
 use Rattle.lowering_laws.proofs.Parts.{item}
 use Rattle.lowering_laws.proofs.Matching.{at_main, behind}
 use Rattle.lowering_laws.proofs.Whole.{Setting, design, Way, lists, leaf_at}
-use Rattle.read_laws.proofs.Drivers.{all, flat_driver, DriverOf, K, own_driver, set_driver, behind_driver, own_flat, entry_here, only_read, all_read, role_is, no_port_not_input, port_held, driven_source, driven_register, driven_clock}
+use Rattle.read_laws.proofs.Drivers.{all, flat_driver, K, own_driver, set_driver, own_flat, entry_here, only_read, all_read, role_is, no_port_not_input, port_held, driven_source, driven_register, driven_clock}
 
 -- Roles
 
@@ -273,6 +272,7 @@ module _ (z : Setting) where
     is_node : Sort → Bool
     is_node (A_node e) = true
     is_node _ = false
+
     differs : A_node e ≡ A_memory memory → ⊥
     differs d = true≢false (ap is_node d)
 

@@ -1,15 +1,12 @@
 -- What the registers of the flat circuit hold next is what the circuit's do.
-use Rattle.std.proofs.Common.{◌≡◌, ℕ, zero, suc, ◌+◌, ◌<◌, ◌&&◌, Bool, true, false, cond, not, List, [], ◌∷◌, ◌++◌, map, filter, length, Option, Some, None, option_map, ℤ, refl, sym, ap, ap₂, ◌∙◌, subst, arith, if◌then◌else◌, slice_index, true≢false, ⊎_elim}
-use Rattle.std.specs.Prelude.{Contains, ◌⊎◌}
+use Rattle.std.proofs.Common.{◌≡◌, ℕ, zero, suc, ◌<◌, ◌&&◌, Bool, true, false, cond, not, List, [], ◌∷◌, filter, Option, Some, None, option_map, ℤ, refl, sym, ap, ap₂, ◌∙◌, subst, if◌then◌else◌, slice_index, true≢false}
 use Rattle.std.specs.List.{slice_get}
-use Rattle.std.proofs.lemmas.List.Elements.{Contains-append_cases, Contains-append_left, Contains-append_right}
 use Rattle.bit_words.specs.declared.value.Value.{Value}
 use Rattle.bit_words.specs.Values.{integer_of}
 use Rattle.fir_types.specs.declared.leaf.TypeLeaf.{TypeLeaf}
-use Rattle.fir_types.specs.declared.memory.Memory.{Memory}
 use Rattle.fir_tree.specs.declared.expr.Expr.{Expr}
 use Rattle.cycle_values.specs.Values.{is_one}
-use Rattle.fir_meaning.specs.Components.{Design, TypedModule, Component, Leaf, FlatLeaf, Sort, An_input, An_output, A_wire, A_register, A_reset_register, A_memory, An_instance, A_node, target_in, type_in, flat, is_clock, flow_of}
+use Rattle.fir_meaning.specs.Components.{TypedModule, Component, Leaf, Sort, An_input, An_output, A_wire, A_register, A_reset_register, A_memory, An_instance, A_node, target_in, type_in, is_clock, flow_of}
 use Rattle.fir_meaning.specs.Values.{Valuation, Scene, scene_of, whole}
 use Rattle.fir_meaning.specs.Values as tree
 use Rattle.fir_meaning.specs.Drives as tree_drives
@@ -35,24 +32,23 @@ use Rattle.ground_net.specs.declared.net.NetReset.{NetReset}
 use Rattle.ground_net.specs.Grounds.{Sight, value, mentions, joined}
 use Rattle.ground_net.specs.Statements.{drives, live}
 use Rattle.ground_net.specs.Renumbering.{with_numbers, seen_by}
-use Rattle.ground_net.proofs.Layers.{renumbered_value, renumbered_mentions}
+use Rattle.ground_net.proofs.Layers.{renumbered_value}
 use Rattle.net_meaning.specs.Shapes.{Table, HasShapes}
 use Rattle.net_meaning.specs.Cycles.{driven_or, after_reset}
 use Rattle.expand_whens.specs.Expanding.{IsDriver, IsUndriven, Drives}
-use Rattle.net_of_circuit.specs.FlatOrder.{Placed, Standing, all_leaves, flat_of}
-use Rattle.net_of_circuit.specs.NetOf.{Part, Held, Driven, part_of, valuation_of, is_input_of_main, is_late_read, Without_value, Given, Kept}
+use Rattle.net_of_circuit.specs.FlatOrder.{Standing, flat_of}
+use Rattle.net_of_circuit.specs.NetOf.{Held, Driven, part_of, valuation_of, is_input_of_main, is_late_read, Without_value, Given, Kept}
 use Rattle.ground_of_circuit.specs.Numbers.{ModuleLeaf, module_leaves, scene_at, table_of, role_of, is_set, SameReads}
 use Rattle.ground_of_circuit.specs.Lowering.{IsReset, HasReset}
-use Rattle.flatten_instances.specs.FlatOrder.{Spot}
 use Rattle.flatten_instances.specs.Numbers.{AreNumbers, driver_in, driver_with, register_with, reset_with}
 use Rattle.flatten_instances.specs.Flat.{is_register_at}
 use Rattle.design_laws.proofs.Lists.{below_length}
 use Rattle.lowering_laws.proofs.Heights.{some_same, none_some}
 use Rattle.lowering_laws.proofs.Parts.{item}
-use Rattle.lowering_laws.proofs.Matching.{two_at, Known, leads_at}
+use Rattle.lowering_laws.proofs.Matching.{two_at}
 use Rattle.lowering_laws.proofs.Seeing.{Fits, seen_agree, inner_fits}
 use Rattle.lowering_laws.proofs.Whole.{Setting, design, spots, placed, Way, match, lists}
-use Rattle.read_laws.proofs.Drivers.{all, known_of, flat_driver, DriverOf, K, numbered_at, only_named, all_named, own_driver, set_driver, own_flat, entry_here, own_drives, only_read, all_read, set_not_input, role_is}
+use Rattle.read_laws.proofs.Drivers.{all, known_of, flat_driver, DriverOf, numbered_at, own_driver, own_flat, own_drives, set_not_input, role_is}
 use Rattle.read_laws.proofs.Inits.{init_same}
 
 from_filter : {A : Type 0} (p : A → Bool) (xs : List A) (n : ℕ) (s : A) → slice_get (filter p xs) n ≡ Some s → (x : ℕ) × (slice_get xs x ≡ Some s)
@@ -103,6 +99,7 @@ held_not_driven y clock register e = differs (sym is ∙ e) where
   is : part_of y ≡ Held
   is = ap (λ b. if b then Without_value else if is_register y.0.c.declaration.sort then Held else if is_input_of_main y.0.path y.0.c y.1 then Given else if is_late_read y.0.c.declaration.sort y.1 then Kept else Driven) clock
       ∙ ap (λ b. if b then Held else if is_input_of_main y.0.path y.0.c y.1 then Given else if is_late_read y.0.c.declaration.sort y.1 then Kept else Driven) register
+
   differs : Held ≡ Driven → ⊥
   differs e = cc
 

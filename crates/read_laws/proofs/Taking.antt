@@ -1,5 +1,5 @@
 -- What the driver, the reset and the `init` of a flat register mention is what the edge takes for it.
-use Rattle.std.proofs.Common.{◌≡◌, ℕ, Bool, true, false, List, [], ◌∷◌, ◌++◌, map, Option, Some, None, option_map, refl, sym, ap, ap₂, ◌∙◌, subst, arith, slice_index, ⊎_elim}
+use Rattle.std.proofs.Common.{◌≡◌, ℕ, true, false, List, [], ◌++◌, map, Option, Some, None, option_map, refl, sym, ap, ap₂, ◌∙◌, subst, arith, slice_index, ⊎_elim}
 use Rattle.std.specs.Prelude.{Contains}
 use Rattle.std.specs.List.{slice_get}
 use Rattle.std.proofs.lemmas.List.Elements.{Contains-append_cases, Contains-append_left, Contains-append_right}
@@ -16,17 +16,16 @@ use Rattle.ground_net.specs.declared.net.NetRegister.{NetRegister}
 use Rattle.ground_net.specs.declared.net.NetReset.{NetReset}
 use Rattle.ground_net.specs.Grounds.{mentions, joined}
 use Rattle.ground_net.specs.Statements.{live}
-use Rattle.ground_net.specs.Renumbering.{with_numbers}
 use Rattle.ground_net.specs.Cones.{mentioned_by, mentioned_by_reset}
 use Rattle.ground_net.proofs.Layers.{renumbered_mentions}
-use Rattle.net_of_circuit.specs.FlatOrder.{Placed, Standing, flat_of}
-use Rattle.net_of_circuit.specs.NetOf.{Part, Driven, part_of}
+use Rattle.net_of_circuit.specs.FlatOrder.{Standing, flat_of}
+use Rattle.net_of_circuit.specs.NetOf.{Driven, part_of}
 use Rattle.ground_of_circuit.specs.Numbers.{table_of, SameReads}
 use Rattle.ground_of_circuit.specs.Lowering.{IsReset, HasReset}
 use Rattle.flatten_instances.specs.Numbers.{reset_with}
-use Rattle.lowering_laws.proofs.Heights.{some_same, none_some}
+use Rattle.lowering_laws.proofs.Heights.{some_same}
 use Rattle.lowering_laws.proofs.Whole.{Setting, design, lists}
-use Rattle.read_laws.proofs.Drivers.{all, known_of, flat_driver, DriverOf, K, only_named, all_named, own_flat, entry_here, only_read, all_read}
+use Rattle.read_laws.proofs.Drivers.{all, known_of, flat_driver, DriverOf, only_named, all_named, own_flat, entry_here, only_read, all_read}
 use Rattle.read_laws.proofs.Registers.{RegisterAt, register_at, reset_of, is_of_register, register_clock, register_driver, register_set, register_target, held_not_driven}
 
 nothing : {A : Type 0} {B : Type 0} (x : A) → Contains [] x → B
@@ -143,16 +142,26 @@ module _ (z : Setting) where
     all_resets : (clock reset init : Expr) (u : Leaf) → Has (A_reset_register clock reset init) → Contains (resets y reset) u → HasTaken (flat y.0.m y.0.path u)
     all_resets clock reset init u h c =
         let it : IsReset y.0.m (table_of (known_of z R.leads).g.leaves) (y.0.c, y.1) reset init h.0 = h.2 in
-        let r = all_named z R.leads R.numbers R.are (resets y reset) (mentions h.0.reset) it.reset_reads u c in
-        (r.0, r.1, r.2, r.3, Contains-append_right (mentioned_by (flat_driver z register.leaf)) (mentioned_by_reset register.reset) r.0
-        (subst (λ l. Contains l r.0) (sym (reset_mentions h.0 h.1)) (Contains-append_left (map (slice_index R.numbers) (mentions h.0.reset)) (map (slice_index R.numbers) (mentions h.0.init)) r.0 r.4)))
+        let r = all_named z R.leads R.numbers R.are (resets y reset) (mentions h.0.reset) it.reset_reads u c in (
+          r.0,
+          r.1,
+          r.2,
+          r.3,
+          Contains-append_right (mentioned_by (flat_driver z register.leaf)) (mentioned_by_reset register.reset) r.0
+              (subst (λ l. Contains l r.0) (sym (reset_mentions h.0 h.1)) (Contains-append_left (map (slice_index R.numbers) (mentions h.0.reset)) (map (slice_index R.numbers) (mentions h.0.init)) r.0 r.4)),
+        )
 
     all_inits : (clock reset init : Expr) (u : Leaf) → Has (A_reset_register clock reset init) → Contains (inits y init) u → HasTaken (flat y.0.m y.0.path u)
     all_inits clock reset init u h c =
         let it : IsReset y.0.m (table_of (known_of z R.leads).g.leaves) (y.0.c, y.1) reset init h.0 = h.2 in
-        let r = all_named z R.leads R.numbers R.are (inits y init) (mentions h.0.init) it.init_reads u c in
-        (r.0, r.1, r.2, r.3, Contains-append_right (mentioned_by (flat_driver z register.leaf)) (mentioned_by_reset register.reset) r.0
-        (subst (λ l. Contains l r.0) (sym (reset_mentions h.0 h.1)) (Contains-append_right (map (slice_index R.numbers) (mentions h.0.reset)) (map (slice_index R.numbers) (mentions h.0.init)) r.0 r.4)))
+        let r = all_named z R.leads R.numbers R.are (inits y init) (mentions h.0.init) it.init_reads u c in (
+          r.0,
+          r.1,
+          r.2,
+          r.3,
+          Contains-append_right (mentioned_by (flat_driver z register.leaf)) (mentioned_by_reset register.reset) r.0
+              (subst (λ l. Contains l r.0) (sym (reset_mentions h.0 h.1)) (Contains-append_right (map (slice_index R.numbers) (mentions h.0.reset)) (map (slice_index R.numbers) (mentions h.0.init)) r.0 r.4)),
+        )
 
     -- what is told of the register by its component and leaf
     sort_of : (path : List ℕ) (m : TypedModule) (c : Component) (leaf : TypeLeaf) → y ≡ (record { path = path; m = m; c = c }, leaf) → (sort : Sort) → c.declaration.sort ≡ sort → Has sort
