@@ -149,20 +149,20 @@ element_leaf typ part k e h l i = record {
 
 -- Narrow types
 
-abbrev field_narrow : Field → Bool
+abbrev pub field_narrow : Field → Bool
 field_narrow = fold-Field Bool Bool Bool narrow_layer (λ f. f.typ) (λ t. t.shape)
 
 list_all-of : {A : Type 0} (f : A → Bool) (xs : List A) → list_all (λ b. b) (map f xs) ≡ list_all f xs
 list_all-of f [] = refl
 list_all-of f (x ∷ xs) = ap (λ b. f x && b) (list_all-of f xs)
 
-narrow-bundle : (t : FirType) (fs : List Field) → t.shape ≡ shape.Bundle fs → is_narrow t ≡ list_all field_narrow fs
+pub narrow-bundle : (t : FirType) (fs : List Field) → t.shape ≡ shape.Bundle fs → is_narrow t ≡ list_all field_narrow fs
 narrow-bundle t fs e = grind (arith, common_steps, the_lemmas, list_all-of)
 
-narrow-vector : (t e : FirType) (n : ℕ) → t.shape ≡ shape.Vector e n → is_narrow t ≡ is_narrow e
+pub narrow-vector : (t e : FirType) (n : ℕ) → t.shape ≡ shape.Vector e n → is_narrow t ≡ is_narrow e
 narrow-vector t e n h = grind (arith, common_steps, the_lemmas)
 
-narrow-field : (f : Field) → field_narrow f ≡ is_narrow f.typ
+pub narrow-field : (f : Field) → field_narrow f ≡ is_narrow f.typ
 narrow-field f = grind (arith, common_steps, the_lemmas)
 
 left_true : (a b : Bool) → (a && b) ≡ true → a ≡ true

@@ -9,7 +9,7 @@ use Rattle.fir_tree.specs.declared.circuit.Module.{Module}
 use Rattle.fir_tree.specs.declared.scope.Fitted.{Fitted}
 use Rattle.fir_meaning.specs.Components.{Declaration, Component, TypedModule, Design, declarations_of, with_types, modules_of, design_of, module_named, component_named, target_in, target_of, module_within, module_at}
 use Rattle.fir_meaning.specs.WellTyped.{HasTypes}
-use Rattle.fir_names.specs.Scopes.{texts, module_names, FirstOf, Means, Reaches, itself, through}
+use Rattle.fir_names.specs.Scopes.{texts, module_names, FirstOf, Means, Reaches, itself, through, IsScope}
 use Rattle.fault_order.specs.First.{HasNone}
 use Rattle.fir_names.specs.Faults.{IsFault, module_twice}
 use Rattle.fir_names.proofs.Graphs.{some_same}
@@ -157,9 +157,11 @@ module _ (fitted : Fitted) where
       let main = and_then_some (λ m. module_within design m p) (module_named design design.main) n e in
       ap (option_and_then (λ m. module_within design m (p ++ i ∷ []))) main.1 ∙ within_more p main.0 n i main.2
 
-  module _ (well : IsWellFormed fitted) where
+  module _ (scope : IsScope circuit fitted.checked.scope) (names : HasNone (IsFault circuit))
+      (types : (k : ℕ) (holder : Module) (m : TypedModule) → slice_get circuit.modules k ≡ Some holder → slice_get (modules_of fitted) k ≡ Some m
+      → slice_get fitted.checked.scope.reached k ≡ Some true → HasTypes holder m) where
     abbrev main_number : ℕ
-    main_number = well.scope.main
+    main_number = scope.main
 
     get_mapped : (cs : List Component) (k : ℕ) (d : Declaration) → slice_get (map (λ c. c.declaration) cs) k ≡ Some d → (c : Component) × Contains cs c × (c.declaration ≡ d)
     get_mapped [] k d e = cc
@@ -173,7 +175,7 @@ module _ (fitted : Fitted) where
 
     -- what main reaches is marked
     marked : (k : ℕ) (holder : Module) → slice_get circuit.modules k ≡ Some holder → Reaches circuit main_number k → slice_get fitted.checked.scope.reached k ≡ Some true
-    marked k holder e r = (well.scope.reached k (slice_get_within circuit.modules k holder e)).1 r
+    marked k holder e r = (scope.reached k (slice_get_within circuit.modules k holder e)).1 r
 
     record IsAt (k : ℕ) : Type 0 where
       path : List ℕ
@@ -185,7 +187,7 @@ module _ (fitted : Fitted) where
     number_of_main m e = record {
       path = [];
       m = m;
-      at = ap (option_and_then (λ n. Some n)) (module_meant circuit.main.id main_number m well.scope.is_main e);
+      at = ap (option_and_then (λ n. Some n)) (module_meant circuit.main.id main_number m scope.is_main e);
       number = e;
     }
 
@@ -196,15 +198,15 @@ module _ (fitted : Fitted) where
 
     stands_at : (k : ℕ) → Reaches circuit main_number k → IsAt k
     stands_at k itself =
-        let holder = first_has circuit.modules main_number circuit.main.id well.scope.is_main.has in
+        let holder = first_has circuit.modules main_number circuit.main.id scope.is_main.has in
         let m = has_number circuit.modules fitted.declared main_number holder.0 holder.1 in
         number_of_main m.0 m.1
     stands_at k (through middle to target r i) =
         let before : IsAt middle = stands_at middle r in
-        let typed : HasTypes i.holder before.m = well.types middle i.holder before.m i.here before.number (marked middle i.holder i.here r) in
+        let typed : HasTypes i.holder before.m = types middle i.holder before.m i.here before.number (marked middle i.holder i.here r) in
         let made = instance_declared i.holder target i.stands in
         let c = get_mapped before.m.components made.0 made.1 (ap (λ l. slice_get l made.0) typed.components ∙ made.2) in
-        let found : component_named before.m c.0.declaration.name ≡ Some c.0 = named_itself fitted well.names before.m (contained (modules_of fitted) middle before.m before.number) c.0 c.1 in
+        let found : component_named before.m c.0.declaration.name ≡ Some c.0 = named_itself fitted names before.m (contained (modules_of fitted) middle before.m before.number) c.0 c.1 in
         let holder = first_has circuit.modules k target.id i.means.has in
         let n = has_number circuit.modules fitted.declared k holder.0 holder.1 in
         let makes : target_of before.m c.0.declaration.name ≡ Some target.id
@@ -243,27 +245,35 @@ module _ (fitted : Fitted) where
       where
         same_main : (k : ℕ) (n : TypedModule) → slice_get (modules_of fitted) k ≡ Some n → Means circuit circuit.main.id k → main_number ≡ k
         same_main k n e means =
-            ids_apart (texts (module_names circuit)) (distinct_texts (module_names circuit) (distinct_behind [] (module_names circuit) (λ name t. well.names _ (module_twice name t)))) main_number k circuit.main.id
-            well.scope.is_main.has means.has
+            ids_apart (texts (module_names circuit)) (distinct_texts (module_names circuit) (distinct_behind [] (module_names circuit) (λ name t. names _ (module_twice name t)))) main_number k circuit.main.id
+            scope.is_main.has means.has
 
-    pub reached_is_standing : (k : ℕ) (m : TypedModule) → slice_get (modules_of fitted) k ≡ Some m
+    pub standing_as_reached : (k : ℕ) (m : TypedModule) → slice_get (modules_of fitted) k ≡ Some m
         → (slice_get fitted.checked.scope.reached k ≡ Some true) ↔ ((path : List ℕ) × (module_at design path ≡ Some m))
-    reached_is_standing k m e = (
+    standing_as_reached k m e = (
       λ r.
           let at = numbered circuit.modules fitted.declared k m e in
-          let a : IsAt k = stands_at k ((well.scope.reached k (slice_get_within circuit.modules k at.holder at.here)).0 r) in
+          let a : IsAt k = stands_at k ((scope.reached k (slice_get_within circuit.modules k at.holder at.here)).0 r) in
           (a.path, a.at ∙ sym a.number ∙ e),
       λ p.
           let r : IsReached m = reached_by p.0 m p.1 in
-          let same : r.k ≡ k = one_number well.names r.k k m m r.number e refl in
+          let same : r.k ≡ k = one_number names r.k k m m r.number e refl in
           let at = numbered circuit.modules fitted.declared k m e in
           marked k at.holder at.here (subst (λ j. Reaches circuit main_number j) same r.reaches),
     )
 
     -- the module at a path
-    pub known_module : (path : List ℕ) (m : TypedModule) → module_at design path ≡ Some m → IsKnownModule fitted m
-    known_module path m e =
+    pub module_there : (path : List ℕ) (m : TypedModule) → module_at design path ≡ Some m → IsKnownModule fitted m
+    module_there path m e =
         let r : IsReached m = reached_by path m e in
         let at = numbered circuit.modules fitted.declared r.k m r.number in
         let flag = marked r.k at.holder at.here r.reaches in
-        record { k = r.k; holder = at.holder; here = at.here; number = r.number; reached = flag; typed = well.types r.k at.holder m at.here r.number flag }
+        record { k = r.k; holder = at.holder; here = at.here; number = r.number; reached = flag; typed = types r.k at.holder m at.here r.number flag }
+
+  module _ (well : IsWellFormed fitted) where
+    pub reached_is_standing : (k : ℕ) (m : TypedModule) → slice_get (modules_of fitted) k ≡ Some m
+        → (slice_get fitted.checked.scope.reached k ≡ Some true) ↔ ((path : List ℕ) × (module_at design path ≡ Some m))
+    reached_is_standing = standing_as_reached well.scope well.names well.types
+
+    pub known_module : (path : List ℕ) (m : TypedModule) → module_at design path ≡ Some m → IsKnownModule fitted m
+    known_module = module_there well.scope well.names well.types

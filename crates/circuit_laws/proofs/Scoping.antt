@@ -36,10 +36,10 @@ use Rattle.circuit_laws.proofs.Alone.{every-append, every-left, every-right}
 abbrev NotSeen : ℕ → List Seen → Type 0
 NotSeen c = Every Seen (λ s. s.0 ≢ c)
 
-abbrev IsNamed : Use → Type 0
+abbrev pub IsNamed : Use → Type 0
 IsNamed u = (number : ℕ) × Names u number
 
-abbrev AllNamed : List Use → Type 0
+abbrev pub AllNamed : List Use → Type 0
 AllNamed = Every Use IsNamed
 
 abbrev pub Distinct : List Name → Type 0
@@ -58,7 +58,7 @@ avoids-right c = every-right Name (λ name. name.id ≢ c)
 seen-append : (c : ℕ) (xs ys : List Seen) → NotSeen c xs → NotSeen c ys → NotSeen c (xs ++ ys)
 seen-append c = every-append Seen (λ s. s.0 ≢ c)
 
-distinct-left : (xs ys : List Name) → Distinct (xs ++ ys) → Distinct xs
+pub distinct-left : (xs ys : List Name) → Distinct (xs ++ ys) → Distinct xs
 distinct-left [] ys d = tt
 distinct-left (x ∷ xs) ys d = (avoids-left x.id xs ys d.0, distinct-left xs ys d.1)
 
@@ -580,12 +580,12 @@ body_alone ss seen n d k h w a e =
 
 -- A module without a fault in its names
 
-every_named : (us : List Use) (ns : List ℕ) → AllZip Names us ns → AllNamed us
+pub every_named : (us : List Use) (ns : List ℕ) → AllZip Names us ns → AllNamed us
 every_named [] ns z = tt
 every_named (u ∷ us) [] z = absurd z
 every_named (u ∷ us) (n ∷ ns) z = ((n, z.0), every_named us ns z.1)
 
-named_within : (modules : List Module) (holder : Module) → In holder modules → AllNamed (flat_map uses_in modules) → AllNamed (uses_in holder)
+pub named_within : (modules : List Module) (holder : Module) → In holder modules → AllNamed (flat_map uses_in modules) → AllNamed (uses_in holder)
 named_within [] holder i a = elim i [ ]
 named_within (m ∷ modules) holder i a =
     let split : AllNamed (uses_in m ++ flat_map uses_in modules) = subst AllNamed (flat_map-cons uses_in m modules) a in

@@ -14,7 +14,8 @@ ghost use Rattle.fir_meaning.specs.Drives.{effect, in_turn};
 ghost use Rattle.fir_meaning.specs.Certain.{certain};
 ghost use Rattle.fir_meaning.specs.Loops.{driving, live};
 ghost use Rattle.fir_names.specs.Extents.{references};
-ghost use Rattle.fir_names.specs.Scopes.{In, IsScope, Means};
+ghost use Rattle.fir_names.specs.Scopes.{In, Instance, IsScope, Means};
+ghost use Rattle.fir_types.specs.declared.name.Name.{Name as AName};
 ghost use Rattle.fault_order.specs.First.{HasNone};
 ghost use Rattle.fir_names.specs.Faults.{IsFault};
 ghost use Rattle.fir_tree.specs.declared.circuit.Circuit.{Circuit as ACircuit};
@@ -113,4 +114,9 @@ pub fn modules_are_named()
 pub fn reached_modules_stand_at_paths()
     ensures reached { (fitted : FittedCircuit) → IsWellFormed fitted → (k : ℕ) (m : TypedModule) → slice_get (modules_of fitted) k ≡ Some m → (slice_get fitted.checked.scope.reached k ≡ Some true) ↔ ((path : List ℕ) × (module_at (design_of fitted) path ≡ Some m)) }
     ensures typed { (fitted : FittedCircuit) → IsWellFormed fitted → (path : List ℕ) (m : TypedModule) → module_at (design_of fitted) path ≡ Some m → IsKnownModule fitted m }
+{}
+
+/// Where the names of a circuit have no fault, modules have ranks that fall along instances.
+pub fn modules_have_ranks()
+    ensures { (circuit : ACircuit) → HasNone (IsFault circuit) → (rank : ℕ → ℕ) × ((k : ℕ) → k < length circuit.modules → rank k < length circuit.modules) × ((from to : ℕ) (target : AName) → Instance circuit from target to → rank to < rank from) }
 {}

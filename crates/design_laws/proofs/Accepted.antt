@@ -17,7 +17,7 @@ use Rattle.circuit_laws.proofs.Reached.{known_module}
 use Rattle.circuit_laws.proofs.Scoping.{declared_once}
 use Rattle.circuit_laws.proofs.TypedModules.{module_values}
 use Rattle.net_of_circuit.specs.FlatOrder.{Placed, InFlatOrder, ListsLeaves}
-use Rattle.net_laws.specs.Typed.{IsTyped}
+use Rattle.net_laws.specs.Typed.{IsTyped, HasPortsFirst}
 use Rattle.net_laws.proofs.Numbers.{some_same, none_some}
 use Rattle.design_laws.proofs.Lists.{in_list, place_of, map_at}
 use Rattle.design_laws.proofs.Standing.{within, leaf_there, entry_stands, own_there, placed_at}
@@ -105,6 +105,26 @@ module _ (fitted : Fitted) (well : IsWellFormed fitted) where
     stands : (k : ℕ) (p : Placed) → slice_get placed k ≡ Some p → (module_at design p.path ≡ Some p.m) × (component_named p.m p.c.declaration.name ≡ Some p.c) × (target_in p.c.declaration.sort ≡ None)
     stands k p e = entry_stands design well.bundles [] main main.components order (at_main main found) (λ c h. h) k p e
 
+  -- The ports of a module stand first among its components.
+  pub ports_first : (path : List ℕ) (m : TypedModule) → module_at design path ≡ Some m → HasPortsFirst m
+  ports_first path m at =
+      let it = known path m at in
+      let n : ℕ = length it.holder.ports in
+      let front : List Declaration = map (declared_by_port it.holder.body) it.holder.ports in
+      let inner : List Declaration = declared_in_block (map told it.holder.body) in
+      let counted : n ≡ length front = grind (arith, common_steps) in
+      let ports_are : map (λ c. c.declaration) (take n m.components) ≡ front =
+      map_take (λ c. c.declaration) n m.components ∙ (ap (take n) it.typed.components ∙ (ap (λ i. take i (front ++ inner)) counted ∙ take_front front inner)) in
+      let others_are : map (λ c. c.declaration) (drop n m.components) ≡ inner =
+      map_drop (λ c. c.declaration) n m.components ∙ (ap (drop n) it.typed.components ∙ (ap (λ i. drop i (front ++ inner)) counted ∙ drop_front front inner)) in
+      record {
+        ports = take n m.components;
+        others = drop n m.components;
+        are = take_drop n m.components;
+        all = λ c h. port_declares it.holder.body it.holder.ports c.declaration (subst (λ l. Contains l c.declaration) ports_are (contains_map (λ x. x.declaration) (take n m.components) c h));
+        none = λ c h. body_makes it.holder.body c.declaration (subst (λ l. Contains l c.declaration) others_are (contains_map (λ x. x.declaration) (drop n m.components) c h));
+      }
+
   -- Its types are sound.
   pub is_typed : IsTyped design
   is_typed = record {
@@ -114,21 +134,5 @@ module _ (fitted : Fitted) (well : IsWellFormed fitted) where
         let it = known path m reached in
         module_values it.holder m it.typed e _ (it.typed.nodes c e (among m c declared) sort) (λ x way. seen_through rho path x (target_of m x) way);
     ports = λ path m c memory port reached declared sort h. (known path m reached).typed.port_names c memory port (among m c declared) sort h;
-    main = λ m found.
-        let it = known [] m (at_main m found) in
-        let n : ℕ = length it.holder.ports in
-        let front : List Declaration = map (declared_by_port it.holder.body) it.holder.ports in
-        let inner : List Declaration = declared_in_block (map told it.holder.body) in
-        let counted : n ≡ length front = grind (arith, common_steps) in
-        let ports_are : map (λ c. c.declaration) (take n m.components) ≡ front =
-        map_take (λ c. c.declaration) n m.components ∙ (ap (take n) it.typed.components ∙ (ap (λ i. take i (front ++ inner)) counted ∙ take_front front inner)) in
-        let others_are : map (λ c. c.declaration) (drop n m.components) ≡ inner =
-        map_drop (λ c. c.declaration) n m.components ∙ (ap (drop n) it.typed.components ∙ (ap (λ i. drop i (front ++ inner)) counted ∙ drop_front front inner)) in
-        record {
-          ports = take n m.components;
-          others = drop n m.components;
-          are = take_drop n m.components;
-          all = λ c h. port_declares it.holder.body it.holder.ports c.declaration (subst (λ l. Contains l c.declaration) ports_are (contains_map (λ x. x.declaration) (take n m.components) c h));
-          none = λ c h. body_makes it.holder.body c.declaration (subst (λ l. Contains l c.declaration) others_are (contains_map (λ x. x.declaration) (drop n m.components) c h));
-        };
+    main = λ m found. ports_first [] m (at_main m found);
   }

@@ -1,1 +1,2 @@
 mod Delayed
+mod Chained

@@ -1,2 +1,6 @@
 -- what a reader must believe
 pub mod Circuits
+pub mod Kept
+pub mod Needing
+pub mod Writing
+pub mod Choosing

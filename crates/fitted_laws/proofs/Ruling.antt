@@ -1,0 +1,225 @@
+-- The rules of statements by the marks of their variables, and what the least widths make of them.
+use Rattle.std.proofs.Common.{◌≡◌, ◌≢◌, ℕ, zero, suc, ◌+◌, ◌-◌, ◌<◌, ◌≤◌, Bool, true, false, List, [], ◌∷◌, ◌++◌, map, length, set, get_or, replicate, Option, Some, None, refl, sym, ap, ap₂, ◌∙◌, subst, arith, slice_get, ◌⊎◌, inl, inr, ⊎_elim}
+use Rattle.std.specs.Prelude.{⊤}
+use Rattle.std.proofs.lemmas.Bool.{cases_eq}
+use Rattle.std.proofs.lemmas.Option.{slice_get_within}
+use Rattle.std.proofs.lemmas.List.{length-set, get_or-set_same, get_or-set_other}
+use Rattle.prim_ops.specs.declared.widths.Width.{Width}
+use Rattle.prim_ops.specs.declared.widths.Width.TheVariants.{Bits, Over}
+use Rattle.circuit_parts.specs.declared.part.Flow.{Flow}
+use Rattle.circuit_parts.specs.declared.part.Flow.TheVariants.{Source, Sink, Duplex}
+use Rattle.circuit_parts.specs.Parts.{flow_through}
+use Rattle.width_rules.specs.declared.rule.Formula.{Formula}
+use Rattle.width_rules.specs.declared.rule.Formula.TheVariants as formula
+use Rattle.width_rules.specs.declared.rule.Rule.{Rule}
+use Rattle.width_rules.specs.Formulas.{level, width_under}
+use Rattle.width_rules.specs.Solutions.{IsWidth, level_at, MeetsOne, Meets, IsAssignment, AtOrBelow, IsLeast}
+use Rattle.width_rules.specs.Places.{Spot, slot_of, is_open, slots_from, open_spots, node_slots}
+use Rattle.width_rules.specs.Sources.{formula_of}
+use Rattle.width_rules.specs.Circuits.{at_least, driven, connected, zeroed, invalidated, node_rules}
+use Rattle.width_rules.proofs.Bounds.{Each, each_append}
+use Rattle.width_rules.proofs.FormulaLemmas.{width-Var}
+use Rattle.width_rules.proofs.Monotone.{width_is_width, width_grows}
+use Rattle.width_fit.specs.Judging.{slot_width}
+use Rattle.fir_names.specs.Scopes.{In, here, there}
+use Rattle.fir_names.proofs.Graphs.{In-either, In-one, some_same}
+use Rattle.circuit_laws.proofs.Scoping.{get-either}
+use Rattle.fitted_laws.proofs.Steps.{Placed}
+use Rattle.fitted_laws.proofs.Known.{Marks, Marked, RuleMarked, get_behind}
+use Rattle.fitted_laws.proofs.Walking.{Solves, rule_of}
+
+same_var : (x y : ℕ) → formula.Var x ≡ formula.Var y → x ≡ y
+same_var x y e = cc
+
+-- Formulas whose variables are no node's
+
+abbrev pub IsFree : Marks → Formula → Type 0
+IsFree ms f = (x : ℕ) → f ≡ formula.Var x → slice_get ms x ≡ Some None
+
+pub free_placed : (ms : Marks) (flow : Flow) (ss : List Spot) (fs : List Formula) → Each (IsFree ms) fs → Placed (Marked ms) flow ss fs
+free_placed ms flow [] fs h = tt
+free_placed ms flow (s ∷ ss) [] h = tt
+free_placed ms flow (s ∷ ss) (f ∷ fs) h = (λ x e. inl (h.0 x e), free_placed ms flow ss fs h.1)
+
+slot_free : (ms : Marks) (n : ℕ) (width : Option ℕ) → ((x : ℕ) → n ≤ x → x < n + is_open width → slice_get ms x ≡ Some None) → IsFree ms (formula_of (slot_of n width))
+slot_free ms n (Some w) h x e = absurd cc
+slot_free ms n None h x e = let same : n ≡ x = same_var n x e in subst (λ y. slice_get ms y ≡ Some None) same (h n (omega arith) (omega arith))
+
+pub slots_free : (ms : Marks) (n : ℕ) (ss : List Spot) → ((x : ℕ) → n ≤ x → x < n + open_spots ss → slice_get ms x ≡ Some None) → Each (IsFree ms) (map formula_of (slots_from n ss))
+slots_free ms n [] h = tt
+slots_free ms n (s ∷ ss) h = (
+  slot_free ms n s.width (λ x a b. h x a (omega (arith, b))),
+  slots_free ms (n + is_open s.width) ss (λ x a b. h x (omega (arith, a)) (omega (arith, b))),
+)
+
+pub length-slots : (n : ℕ) (ss : List Spot) → length (slots_from n ss) ≡ length ss
+length-slots n [] = refl
+length-slots n (s ∷ ss) = ap suc (length-slots (n + is_open s.width) ss)
+
+pub length-node_slots : (n : ℕ) (ss : List Spot) → length (node_slots n ss) ≡ length ss
+length-node_slots n [] = refl
+length-node_slots n (s ∷ ss) = ap suc (length-node_slots (n + 1) ss)
+
+get-none : (k x : ℕ) (o : Option Formula) → slice_get (replicate k None) x ≡ Some o → o ≡ None
+get-none zero x o e = cc
+get-none (suc k) zero o e = sym (some_same e)
+get-none (suc k) (suc x) o e = get-none k x o e
+
+none-get : (k x : ℕ) → x < k → ◌≡◌ {A = Option (Option Formula)} (slice_get (replicate k None) x) (Some None)
+none-get zero x h = absurd (omega (arith, h))
+none-get (suc k) zero h = refl
+none-get (suc k) (suc x) h = none-get k x (omega (arith, h))
+
+-- new variables that are no node's
+pub free_marks : (ms : Marks) (n k : ℕ) → length ms ≡ n → (x : ℕ) → n ≤ x → x < n + k → slice_get (ms ++ replicate k None) x ≡ Some None
+free_marks ms n k e x a b =
+    let j : ℕ = x - n in
+    let at : x ≡ length ms + j = omega (arith, e, a) in
+    ap (slice_get (ms ++ replicate k None)) at ∙ get_behind ms (replicate k None) j ∙ none-get k j (omega (arith, a, b))
+
+pub free_ruled : (ms : Marks) (k x : ℕ) (f : Formula) (rules : List Rule) → slice_get (ms ++ replicate k None) x ≡ Some (Some f) → (slice_get ms x ≡ Some (Some f)) ⊎ In (rule_of x f) rules
+free_ruled ms k x f rules e = ⊎_elim (λ l. inl l) (λ r. absurd (let g : Some f ≡ None = get-none k r.0 (Some f) r.2 in cc)) (get-either ms (replicate k None) x (Some f) e)
+
+-- Nodes
+
+pub node_marks : (ms : Marks) (fs : List Formula) (n k : ℕ) (f : Formula) → length ms ≡ n → slice_get fs k ≡ Some f → slice_get (ms ++ map Some fs) (n + k) ≡ Some (Some f)
+node_marks ms fs n k f e g = ap (λ m. slice_get (ms ++ map Some fs) (m + k)) (sym e) ∙ get_behind ms (map Some fs) k ∙ mapped fs k g where
+  mapped : (fs : List Formula) (k : ℕ) → slice_get fs k ≡ Some f → slice_get (map Some fs) k ≡ Some (Some f)
+  mapped [] k g = cc
+  mapped (x ∷ fs) zero g = ap Some g
+  mapped (x ∷ fs) (suc k) g = mapped fs k g
+
+pub node_marked : (ms : Marks) (n : ℕ) (ss : List Spot) (fs : List Formula) → ((k : ℕ) (f : Formula) → slice_get fs k ≡ Some f → slice_get ms (n + k) ≡ Some (Some f)) → Each (RuleMarked ms) (node_rules (node_slots n ss) fs)
+node_marked ms n [] fs h = tt
+node_marked ms n (s ∷ ss) [] h = tt
+node_marked ms n (s ∷ ss) (f ∷ fs) h =
+    let here' : slice_get ms n ≡ Some (Some f) = ap (slice_get ms) (let e : n ≡ n + 0 = omega arith in e) ∙ h 0 f refl in
+    (inr here', node_marked ms (n + 1) ss fs (λ k g e. ap (slice_get ms) (let m : (n + 1) + k ≡ n + suc k = omega arith in m) ∙ h (suc k) g e))
+
+pub node_ruled : (n : ℕ) (ss : List Spot) (fs : List Formula) → length ss ≡ length fs → (k : ℕ) (f : Formula) → slice_get fs k ≡ Some f → In (rule_of (n + k) f) (node_rules (node_slots n ss) fs)
+node_ruled n [] [] e k f g = cc
+node_ruled n [] (x ∷ fs) e k f g = absurd (omega (arith, e))
+node_ruled n (s ∷ ss) [] e k f g = cc
+node_ruled n (s ∷ ss) (x ∷ fs) e zero f g =
+    subst (λ r. In r (rule_of n x ∷ node_rules (node_slots (n + 1) ss) fs)) (ap₂ rule_of (let m : n ≡ n + 0 = omega arith in m) (some_same g)) (here (node_rules (node_slots (n + 1) ss) fs))
+node_ruled n (s ∷ ss) (x ∷ fs) e (suc k) f g =
+    there (rule_of n x) (node_rules (node_slots (n + 1) ss) fs) (subst (λ m. In (rule_of m f) (node_rules (node_slots (n + 1) ss) fs)) (let m : (n + 1) + k ≡ n + suc k = omega arith in m) (node_ruled (n + 1) ss fs (omega (arith, e)) k f g))
+
+pub node_widths : (ws : List Width) (ms : Marks) → Solves ws ms → (n : ℕ) (ss : List Spot) (fs : List Formula) → length ss ≡ length fs
+    → ((k : ℕ) (f : Formula) → slice_get fs k ≡ Some f → slice_get ms (n + k) ≡ Some (Some f)) → map (slot_width ws) (node_slots n ss) ≡ map (λ f. width_under f ws) fs
+node_widths ws ms s n [] [] e h = refl
+node_widths ws ms s n [] (f ∷ fs) e h = absurd (omega (arith, e))
+node_widths ws ms s n (x ∷ ss) [] e h = absurd (omega (arith, e))
+node_widths ws ms s n (x ∷ ss) (f ∷ fs) e h =
+    ap₂ (λ a b. a ∷ b) (s n f (ap (slice_get ms) (let m : n ≡ n + 0 = omega arith in m) ∙ h 0 f refl))
+    (node_widths ws ms s (n + 1) ss fs (omega (arith, e)) (λ k g q. ap (slice_get ms) (let m : (n + 1) + k ≡ n + suc k = omega arith in m) ∙ h (suc k) g q))
+
+-- Connects
+
+abbrev pub NoFlip : Spot → Type 0
+NoFlip s = s.flip ≡ false
+
+-- what is driven at each place is free
+abbrev pub Drivable : Marks → List Spot → List Formula → List Formula → Type 0
+Drivable ms (s ∷ ss) (l ∷ ls) (r ∷ rs) = (s.flip ≡ false → IsFree ms l) × (s.flip ≡ true → IsFree ms r) × Drivable ms ss ls rs
+Drivable ms [] ls rs = ⊤
+Drivable ms (s ∷ ss) [] rs = ⊤
+Drivable ms (s ∷ ss) (l ∷ ls) [] = ⊤
+
+at_least_marked : (ms : Marks) (f g : Formula) → IsFree ms f → Each (RuleMarked ms) (at_least f g)
+at_least_marked ms (formula.Var x) g h = (inl (h x refl), tt)
+at_least_marked ms f g h = tt
+
+driven_marked : (ms : Marks) (b : Bool) (l r : Formula) → (b ≡ false → IsFree ms l) → (b ≡ true → IsFree ms r) → Each (RuleMarked ms) (driven b l r)
+driven_marked ms false l r h k = at_least_marked ms l r (h refl)
+driven_marked ms true l r h k = at_least_marked ms r l (k refl)
+
+pub connected_marked : (ms : Marks) (ss : List Spot) (ls rs : List Formula) → Drivable ms ss ls rs → Each (RuleMarked ms) (connected ss ls rs)
+connected_marked ms [] ls rs h = tt
+connected_marked ms (s ∷ ss) [] rs h = tt
+connected_marked ms (s ∷ ss) (l ∷ ls) [] h = tt
+connected_marked ms (s ∷ ss) (l ∷ ls) (r ∷ rs) h = each_append (RuleMarked ms) (driven s.flip l r) (connected ss ls rs) (driven_marked ms s.flip l r h.0 h.1) (connected_marked ms ss ls rs h.2)
+
+pub not_source : (ms : Marks) (flow : Flow) (f : Formula) → Marked ms flow f → flow ≢ Source → IsFree ms f
+not_source ms flow f h n x e = ⊎_elim (λ l. l) (λ r. absurd (n r)) (h x e)
+
+zeroed_marked : (ms : Marks) (flow : Flow) (f : Formula) → Marked ms flow f → Each (RuleMarked ms) (zeroed flow f)
+zeroed_marked ms Source f h = tt
+zeroed_marked ms Sink f h = at_least_marked ms f (formula.Fixed 0) (not_source ms Sink f h (λ e. cc))
+zeroed_marked ms Duplex f h = at_least_marked ms f (formula.Fixed 0) (not_source ms Duplex f h (λ e. cc))
+
+pub invalidated_marked : (ms : Marks) (flow : Flow) (ss : List Spot) (fs : List Formula) → Placed (Marked ms) flow ss fs → Each (RuleMarked ms) (invalidated flow ss fs)
+invalidated_marked ms flow [] fs h = tt
+invalidated_marked ms flow (s ∷ ss) [] h = tt
+invalidated_marked ms flow (s ∷ ss) (f ∷ fs) h =
+    each_append (RuleMarked ms) (zeroed (flow_through s.flip flow) f) (invalidated flow ss fs) (zeroed_marked ms (flow_through s.flip flow) f h.0) (invalidated_marked ms flow ss fs h.1)
+
+turned_source : (flow : Flow) → flow ≢ Sink → flow_through true flow ≢ Source
+turned_source Source n e = cc
+turned_source Sink n e = n refl
+turned_source Duplex n e = cc
+
+-- the left side of a connect is no source; the right side is no sink, or has no flip
+pub drivable : (ms : Marks) (lf rf : Flow) (ss ts : List Spot) (ls rs : List Formula) → map (λ (s : Spot). s.flip) ss ≡ map (λ (s : Spot). s.flip) ts
+    → Placed (Marked ms) lf ss ls → Placed (Marked ms) rf ts rs → lf ≢ Source → Each NoFlip ts ⊎ (rf ≢ Sink) → Drivable ms ss ls rs
+drivable ms lf rf [] ts ls rs e h k n o = tt
+drivable ms lf rf (s ∷ ss) [] ls rs e h k n o = cc
+drivable ms lf rf (s ∷ ss) (t ∷ ts) [] rs e h k n o = tt
+drivable ms lf rf (s ∷ ss) (t ∷ ts) (l ∷ ls) [] e h k n o = tt
+drivable ms lf rf (s ∷ ss) (t ∷ ts) (l ∷ ls) (r ∷ rs) e h k n o =
+    let same : s.flip ≡ t.flip = cc in
+    let rest : map (λ (s : Spot). s.flip) ss ≡ map (λ (s : Spot). s.flip) ts = cc in (
+      λ f. not_source ms lf l (subst (λ b. Marked ms (flow_through b lf) l) f h.0) n,
+      λ f. ⊎_elim (λ a. absurd (let q : true ≡ false = sym f ∙ same ∙ a.0 in cc)) (λ b. not_source ms (flow_through true rf) r (subst (λ c. Marked ms (flow_through c rf) r) (sym same ∙ f) k.0) (turned_source rf b)) o,
+      drivable ms lf rf ss ts ls rs rest h.1 k.1 n (⊎_elim (λ a. inl a.1) (λ b. inr b) o),
+    )
+
+-- The least widths
+
+same_level : (v w : Width) → IsWidth v → IsWidth w → level v ≡ level w → v ≡ w
+same_level (Bits m) (Bits n) h i e = ap Bits e
+same_level (Bits m) Over h i e = absurd (omega (arith, h, e))
+same_level Over (Bits n) h i e = absurd (omega (arith, i, e))
+same_level Over Over h i e = refl
+
+rule_holds : (P : Rule → Type 0) (rules : List Rule) (r : Rule) → Each P rules → In r rules → P r
+rule_holds P [] r h i = elim i [ ]
+rule_holds P (q ∷ rules) r h i = ⊎_elim (λ l. subst P (sym (In-one l)) h.0) (λ j. rule_holds P rules r h.1 j) (In-either (q ∷ []) rules i)
+
+all_rule : (P : Rule → Type 0) (rules : List Rule) (r : Rule) → ((k : ℕ) (d : Rule) → k < length rules → P (get_or rules k d)) → In r rules → P r
+all_rule P [] r h i = elim i [ ]
+all_rule P (q ∷ rules) r h i = ⊎_elim (λ l. subst P (sym (In-one l)) (h 0 q (omega arith))) (λ j. all_rule P rules r (λ k d b. h (suc k) d (omega (arith, b))) j) (In-either (q ∷ []) rules i)
+
+In-at : (rules : List Rule) (k : ℕ) (d : Rule) → k < length rules → In (get_or rules k d) rules
+In-at [] k d h = absurd (omega (arith, h))
+In-at (r ∷ rules) zero d h = here rules
+In-at (r ∷ rules) (suc k) d h = there r rules (In-at rules k d (omega (arith, h)))
+
+-- a node's variable has the width of its formula
+pub least_solves : (rules : List Rule) (count : ℕ) (ws : List Width) (ms : Marks) → IsLeast rules count ws → length ms ≡ count → Each (RuleMarked ms) rules
+    → ((x : ℕ) (f : Formula) → slice_get ms x ≡ Some (Some f) → In (rule_of x f) rules) → Solves ws ms
+least_solves rules count ws ms least counted marked ruled x f e =
+    let w : Width = width_under f ws in
+    let below : x < length ws = omega (arith, slice_get_within ms x (Some f) e, counted, least.assignment.counted) in
+    let isw : IsWidth w = width_is_width ws least.assignment.bounded f in
+    let met : level w ≤ level_at ws x = all_rule (λ rule. MeetsOne rule ws) rules (rule_of x f) least.meets (ruled x f e) in
+    let other : List Width = set ws x w in
+    let same : get_or other x (Bits 0) ≡ w = get_or-set_same ws x w (Bits 0) below in
+    let lower : AtOrBelow other ws = λ k. ⊎_elim (λ q. rw q (omega (arith, met, ap level same))) (λ q. omega (arith, ap level (get_or-set_other ws x k w (Bits 0) q))) (cases_eq k x) in
+    let assigned : IsAssignment count other = record {
+      counted = length-set ws x w ∙ least.assignment.counted;
+      bounded = λ k. ⊎_elim (λ q. subst (λ j. IsWidth (get_or other j (Bits 0))) (sym q) (subst IsWidth (sym same) isw))
+          (λ q. subst IsWidth (sym (get_or-set_other ws x k w (Bits 0) q)) (least.assignment.bounded k)) (cases_eq k x);
+    } in
+    let meets : Meets rules other = λ k d b.
+    let r : Rule = get_or rules k d in
+    let grows : level (width_under r.formula other) ≤ level (width_under r.formula ws) = width_grows other ws least.assignment.bounded lower r.formula in
+    ⊎_elim
+    (λ q. rw q (⊎_elim
+    (λ l. absurd (let g : Some None ≡ Some (Some f) = sym l ∙ ap (slice_get ms) q ∙ e in cc))
+    (λ m. let g : r.formula ≡ f = some_same (some_same (sym m ∙ ap (slice_get ms) q ∙ e)) in omega (arith, grows, ap (λ h. level (width_under h ws)) g, ap level same))
+    (rule_holds (RuleMarked ms) rules r marked (In-at rules k d b))))
+    (λ q. omega (arith, grows, least.meets k d b, ap level (get_or-set_other ws x r.target w (Bits 0) q)))
+    (cases_eq r.target x) in
+    let least_is : level_at ws x ≤ level_at other x = least.least other assigned meets x in
+    width-Var x ws ∙ same_level (get_or ws x (Bits 0)) w (least.assignment.bounded x) isw (omega (arith, met, least_is, ap level same))

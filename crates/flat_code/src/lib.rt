@@ -1,0 +1,15 @@
+//! Code of a partition as flat instructions over the words of a frame: what an instruction means, and a step of a code. Keeps the
+//! contract that a step's effects are a function of the code, the shared words and the inputs, whatever the frame held.
+#![tactic(auto)]
+
+pub mod code;
+pub mod evaluation;
+pub mod instr;
+pub mod laws;
+pub mod loads;
+pub mod running;
+
+pub use code::Code;
+pub use instr::{Form, Instr, Op, Port, Region, Spot, Wide};
+pub use loads::Loads;
+pub use running::{Effects, step};

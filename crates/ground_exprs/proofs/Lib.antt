@@ -1,0 +1,11 @@
+pub mod Lists
+pub mod Leasts
+pub mod Fits
+pub mod Wholes
+pub mod Operations
+pub mod Forms
+pub mod Lowered
+pub mod Choosing
+pub mod Operands
+pub mod Mixing
+pub mod Closing

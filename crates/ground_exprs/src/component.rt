@@ -1,0 +1,10 @@
+//! Components, by the numbers of their leaves.
+
+use fir_types::FirType;
+
+/// A component: its type, and the number of its first leaf.
+#[derive(Debug, Drop)]
+pub struct Component {
+    pub typ: FirType,
+    pub first: u32,
+}

@@ -1,0 +1,50 @@
+//! Steps of references that evaluate nothing.
+
+ghost use Rattle.std.specs.Prelude.{◌≡◌, ◌<◌, ℕ, Some, IfOk, IsSome};
+ghost use Rattle.fir_types.specs.declared.fir_type.Shape.TheViews.{out-Shape};
+ghost use Rattle.fir_types.specs.declared.leaf.PathStep.TheVariants as step;
+ghost use Rattle.fir_meaning.specs.Values.{field_of_shape, element_of_shape, vector_length};
+ghost use Rattle.ground_parts.specs.Numbers.{IsInside};
+ghost use Rattle.ground_exprs.specs.Views.{Moves};
+
+use fir_types::FirType;
+use ground_parts::Part;
+use ground_parts::inside::{to_elements, to_field};
+use ground_parts::stepping::{moved, moved_to};
+use std::alloc::AllocError;
+
+/// A part of a component with its type.
+#[derive(Drop)]
+pub struct View<'a> {
+    pub typ: &'a FirType,
+    pub part: Part,
+}
+
+/// The field of a name.
+pub fn enter_field<'a>(typ: &'a FirType, part: Part, id: u32) -> Result<View<'a>, AllocError>
+    requires { IsSome (field_of_shape id (out-Shape typ.now.shape)) }
+    ensures typ { IfOk result (λ view. field_of_shape id (out-Shape typ.now.shape) ≡ Some view.typ.now) }
+    ensures part { IfOk result (λ view. Moves typ.now (step.Field id) part view.typ.now view.part) }
+{
+    let inner = to_field(typ, id)?;
+    let part = moved(part, inner.before)?;
+    Ok(View {
+        typ: inner.typ,
+        part,
+    })
+}
+
+/// The element of a number.
+pub fn enter_element<'a>(typ: &'a FirType, part: Part, number: u128) -> Result<View<'a>, AllocError>
+    requires vector { IsSome (element_of_shape (out-Shape typ.now.shape)) }
+    requires within { number < vector_length typ.now }
+    ensures typ { IfOk result (λ view. element_of_shape (out-Shape typ.now.shape) ≡ Some view.typ.now) }
+    ensures part { IfOk result (λ view. Moves typ.now (step.Element number) part view.typ.now view.part) }
+{
+    let elements = to_elements(typ)?;
+    let part = moved_to(part, number, elements.stride)?;
+    Ok(View {
+        typ: elements.typ,
+        part,
+    })
+}

@@ -1,0 +1,5 @@
+pub mod Members
+pub mod Selections
+pub mod Insides
+pub mod Onwards
+pub mod Narrow

@@ -1,0 +1,9 @@
+pub mod Heights
+pub mod Inside
+pub mod Parts
+pub mod Matching
+pub mod Seeing
+pub mod Driving
+pub mod Whole
+pub mod Stores
+pub mod Flats
