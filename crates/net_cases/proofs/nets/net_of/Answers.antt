@@ -1,4 +1,4 @@
-use Rattle.std.proofs.Common.{arith, sym, subst, ap, ◌∙◌, ◌+◌, length, Some}
+use Rattle.std.proofs.Common.{arith, sym, subst, ap, ◌∙◌, ◌+◌, length}
 use Rattle.std.proofs.lemmas.List.{length_push}
 use Rattle.ground_net.specs.declared.net.Net.{Net}
 use Rattle.net_cases.proofs.Reading.{AllBelow, mentions, more}
