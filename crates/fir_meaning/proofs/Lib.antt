@@ -1,15 +1,15 @@
-mod Initialized
-mod Literals
+pub mod Initialized
+pub mod Literals
 pub mod Nexts
 mod ExampleOfARun
 pub mod Settling
 pub mod Ports
-mod Chains
+pub mod Chains
 pub mod Blocks
-mod Sides
+pub mod Sides
 pub mod Covering
 pub mod Tracking
-mod Equations
+pub mod Equations
 mod Samples
 mod Examples
 mod ExamplesOfParts

@@ -7,5 +7,5 @@ pub mod Mentions
 pub mod Certain
 pub mod Loops
 pub mod ClockRoot
-pub mod WellTyped
 pub mod Elements
+pub mod WellTyped

@@ -13,12 +13,17 @@ use Rattle.fir_types.specs.Leaves.{leaves}
 use Rattle.fir_types.specs.Memories.{element_of}
 use Rattle.fir_tree.specs.declared.circuit.Module.{Module}
 use Rattle.fir_tree.specs.declared.expr.Expr.{Expr, fold-Expr}
+use Rattle.fir_tree.specs.declared.expr.Form.{Form}
+use Rattle.fir_tree.specs.declared.expr.Suffix.{Suffix, fold-Suffix}
 use Rattle.fir_tree.specs.declared.expr.Form.TheOpen.{Form-F, Suffix-F, Expr-F}
+use Rattle.fir_tree.specs.declared.expr.Form.TheViews.{out-Form}
 use Rattle.fir_tree.specs.declared.stmt.Stmt.{Stmt, fold-Stmt}
 use Rattle.fir_tree.specs.declared.stmt.Stmt.TheOpen.{Stmt-F, Arm-F}
 use Rattle.cycle_values.specs.Shapes.{Shape, shaped, same_kind, is_unsigned, all_of, shape_of_row}
 use Rattle.fir_meaning.specs.Components.{TypedModule, Component, A_node, A_memory, component_named, declarations_of, kind_of_leaf, width_of_leaf, width_or_none, is_clock}
 use Rattle.fir_meaning.specs.MemoryPorts.{MemoryPort, memory_ports, port_named}
+use Rattle.fir_meaning.specs.Elements.{IsElement}
+use Rattle.fir_meaning.specs.Drives.{same_way, is_turned}
 use Rattle.fir_meaning.specs.States.{is_register}
 use Rattle.fir_meaning.specs.Values.{field_of_shape, element_of_shape, vector_length, literal_width}
 
@@ -93,6 +98,30 @@ of_expr e = e.form
 abbrev pub typed : Expr → InKnown
 typed = fold-Expr InKnown Onward InKnown of_form of_suffix of_expr
 
+-- the type behind a step of a reference, where it is well typed
+abbrev pub typed_step : Suffix → Onward
+typed_step = fold-Suffix InKnown Onward InKnown of_form of_suffix of_expr
+
+-- only a reference names anything
+abbrev pub named_in_form : Known → Form-F Form Suffix Expr → Option FirType
+named_in_form known (Form-F.Ref name suffixes) = type_behind known (map typed_step suffixes) (known name.id)
+named_in_form known _ = None
+
+-- The type of what a reference names; none of an expression that is no reference.
+abbrev pub named_type : Known → Expr → Option FirType
+named_type known e = named_in_form known (out-Form e.form)
+
+-- The leaves stand at the same ways and are flipped alike, pair by pair.
+abbrev pub same_leaves : List TypeLeaf → List TypeLeaf → Bool
+same_leaves [] [] = true
+same_leaves (a ∷ rest) (b ∷ others) = same_way a.path b.path && (is_turned a.flip b && same_leaves rest others)
+same_leaves _ _ = false
+
+-- What both sides of a connect name has the same leaves, where both are references.
+abbrev pub both_match : Option FirType → Option FirType → Bool
+both_match (Some left) (Some right) = same_leaves (leaves left) (leaves right)
+both_match _ _ = true
+
 -- the expression is well typed
 abbrev pub is_typed : Known → Expr → Bool
 is_typed known e = is_some (typed e known)
@@ -102,7 +131,7 @@ abbrev pub is_condition : Known → Expr → Bool
 is_condition known e = is_one_unsigned (typed e known)
 
 module _ (known : Known) where
-  -- The expressions of a statement are well typed, and conditions and resets are UInts.
+  -- The expressions of a statement are well typed, conditions and resets are UInts, and both sides of a connect match.
   abbrev pub of_stmt : Stmt-F Bool Bool → Bool
   of_stmt (Stmt-F.Wire name typ) = true
   of_stmt (Stmt-F.Reg name typ clock) = is_typed known clock
@@ -110,7 +139,7 @@ module _ (known : Known) where
   of_stmt (Stmt-F.Mem memory) = true
   of_stmt (Stmt-F.Inst name target) = true
   of_stmt (Stmt-F.Node name e) = is_typed known e
-  of_stmt (Stmt-F.Connect left right) = is_typed known left && is_typed known right
+  of_stmt (Stmt-F.Connect left right) = is_typed known left && (is_typed known right && both_match (named_type known left) (named_type known right))
   of_stmt (Stmt-F.Invalidate target) = is_typed known target
   of_stmt (Stmt-F.When arms other) = list_all (λ arm. arm) arms && list_all (λ s. s) other
   of_stmt (Stmt-F.Skip place) = true
@@ -155,3 +184,5 @@ pub record HasTypes (holder : Module) (m : TypedModule) : Type 0 where
   pub read_data : (c : Component) (memory : Memory) (leaf : TypeLeaf) → Contains m.components c → c.declaration.sort ≡ A_memory memory → Contains (leaves c.typ) leaf → leaf.flip ≡ false → is_clock leaf ≡ false
   pub port_names : (c : Component) (memory : Memory) (port : MemoryPort) → Contains m.components c → c.declaration.sort ≡ A_memory memory → Contains (memory_ports memory) port → port_named memory port.name ≡ Some port
   pub held_passive : (c : Component) (leaf : TypeLeaf) → Contains m.components c → is_register c.declaration.sort ≡ true → Contains (leaves c.typ) leaf → leaf.flip ≡ false
+  -- so have the elements of a memory no flipped leaf
+  pub stored_passive : (c : Component) (memory : Memory) (element : FirType) (leaf : TypeLeaf) → Contains m.components c → c.declaration.sort ≡ A_memory memory → IsElement c memory element → Contains (leaves element) leaf → leaf.flip ≡ false

@@ -7,7 +7,7 @@ use Rattle.fir_types.specs.declared.fir_type.FirType.{FirType}
 use Rattle.fir_types.specs.declared.leaf.TypeLeaf.{TypeLeaf}
 use Rattle.fir_types.specs.Leaves.{leaves}
 use Rattle.fir_tree.specs.declared.expr.Expr.{Expr}
-use Rattle.fir_tree.specs.declared.expr.Suffix.{Suffix, fold-Suffix}
+use Rattle.fir_tree.specs.declared.expr.Suffix.{Suffix}
 use Rattle.cycle_values.specs.Values.{fitted}
 use Rattle.ground_net.specs.Grounds.{Sight, value, mentions}
 use Rattle.net_meaning.specs.Shapes.{Shape, shaped, Table, HasShapes, shape}
@@ -16,7 +16,8 @@ use Rattle.fir_meaning.specs.Components.{Leaf, kind_of_leaf, width_of_leaf}
 use Rattle.fir_meaning.specs.Values as tree
 use Rattle.fir_meaning.specs.Mentions as tree_reads
 use Rattle.fir_meaning.specs.Mentions.{Scope}
-use Rattle.fir_meaning.specs.WellTyped.{Known, InKnown, Onward, typed, lone_shape, type_behind, of_form, of_suffix, of_expr}
+use Rattle.fir_meaning.specs.WellTyped.{Known, typed, lone_shape, type_behind}
+pub use Rattle.fir_meaning.specs.WellTyped.{typed_step}
 use Rattle.ground_parts.specs.declared.part.Pick.{Pick}
 use Rattle.ground_parts.specs.declared.part.Part.{Part}
 use Rattle.ground_parts.specs.Parts.{picked, choices, index_mentions, are_indices}
@@ -79,10 +80,6 @@ is_lone known e = is_some (lone_shape (typed e known))
 pub record AreOperands (entries : Entries) (es : List Expr) (count : ℕ) (sources : List Source) : Type 0 where
   pub counted : length sources ≡ count
   pub each : (k : ℕ) (e : Expr) (s : Source) → slice_get es k ≡ Some e → slice_get sources k ≡ Some s → IsLowered entries e (s ∷ [])
-
--- the type behind a step of a reference, where it is well typed
-abbrev pub typed_step : Suffix → Onward
-typed_step = fold-Suffix InKnown Onward InKnown of_form of_suffix of_expr
 
 -- A step of a reference goes from a part to a part of it, wherever the components stand.
 pub record Steps (entries : Entries) (s : Suffix) (typ : FirType) (part : Part) (inner : FirType) (after : Part) : Type 0 where

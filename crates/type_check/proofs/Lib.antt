@@ -1,5 +1,5 @@
 mod FaultsOfStatements
-mod Equivalence
+pub mod Equivalence
 mod Examples
 mod Lines
 mod Seconds

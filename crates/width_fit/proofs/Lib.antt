@@ -1,8 +1,8 @@
 mod Declaring
-mod Filled
+pub mod Filled
 mod Formulas
 mod Marking
-mod Measured
+pub mod Measured
 mod FaultsTold
 mod Surveys
 mod Walking
