@@ -1,0 +1,11 @@
+pub mod Tables
+pub mod Origins
+pub mod Shaped
+pub mod Firsts
+pub mod Lists
+pub mod Registering
+pub mod Bundles
+pub mod Stored
+pub mod PortsSound
+pub mod Rising
+pub mod Driven
