@@ -1,5 +1,5 @@
 -- A plain leaf of the flat circuit that shows no read data has a driver.
-use Rattle.std.proofs.Common.{◌≡◌, ℕ, zero, suc, ◌+◌, ◌==◌, ◌<◌, ◌&&◌, Bool, true, false, not, List, [], ◌∷◌, ◌++◌, map, fold, length, Option, Some, None, option_map, ℤ, pos, refl, sym, ap, ap₂, ◌∙◌, subst, arith, true≢false, if◌then◌else◌, slice_index, ◌⊎◌, inl, inr, ⊎_elim}
+use Rattle.std.proofs.Common.{◌≡◌, ℕ, zero, suc, ◌+◌, ◌==◌, ◌<◌, ◌≤◌, ◌&&◌, Bool, true, false, not, List, [], ◌∷◌, ◌++◌, map, fold, length, Option, Some, None, option_map, ℤ, pos, refl, sym, ap, ap₂, ◌∙◌, subst, arith, true≢false, if◌then◌else◌, slice_index, ◌⊎◌, inl, inr, ⊎_elim}
 use Rattle.std.specs.Prelude.{Contains, IsSome, is_some}
 use Rattle.std.specs.List.{slice_get, range_with_len, flat_map}
 use Rattle.std.proofs.lemmas.Grind.{common_steps}
@@ -66,17 +66,18 @@ use Rattle.sound_laws.proofs.Lists.{off, off_at, range_get, numbered_is, from_fl
 use Rattle.sound_laws.proofs.Bundles.{fields_of, part_leaves, port_leaves, twice, bundle_is, uint_leaves, clock_leaves, data_leaf, FieldSort, a_uint, the_clock, read_data, written_data, a_mask, field_sort}
 use Rattle.sound_laws.proofs.Firsts.{of_component}
 use Rattle.sound_laws.proofs.Origins.{Outside, outside, path_behind}
+use Rattle.sound_laws.proofs.Rising.{of_memory}
 use Rattle.sound_laws.proofs.Shaped.{entry_at}
-use Rattle.sound_laws.proofs.Stored.{Held, held, located, unflipped}
+use Rattle.sound_laws.proofs.Stored.{Held, held, unflipped, make_flat}
 
 -- What a leaf shows
 
 shown_on : (x : ℕ) (reads : List Shows) (before : Option ReadData) → is_some before ≡ true → is_some (last_data reads x before) ≡ true
 shown_on x [] before e = e
-shown_on x (r ∷ reads) before e = by (r.0 == x) where
-  by : (b : Bool) → is_some (last_data reads x (if b then Some r.1 else before)) ≡ true
-  by true = shown_on x reads (Some r.1) refl
-  by false = shown_on x reads before e
+shown_on x (r ∷ reads) before e = by (r.0 == x) (shown_on x reads (Some r.1) refl) (shown_on x reads before e) where
+  by : (b : Bool) → is_some (last_data reads x (Some r.1)) ≡ true → is_some (last_data reads x before) ≡ true → is_some (last_data reads x (if b then Some r.1 else before)) ≡ true
+  by true p q = p
+  by false p q = q
 
 shown_by : (x : ℕ) (reads : List Shows) (i : ℕ) (s : Shows) (before : Option ReadData) → slice_get reads i ≡ Some s → s.0 ≡ x → is_some (last_data reads x before) ≡ true
 shown_by x [] i s before e q = none_some e
@@ -288,7 +289,7 @@ module _ (z : Setting) where
           let way_is : names.leaf.path ≡ y.1.path =
           names.is ∙ (ap (λ (g : Field). step.Field port.name ∷ step.Field g.name.id ∷ l.path) (sym field_is) ∙ ap (λ (w : TypeLeaf). w.path) is) in
           let L = lists z in
-          let same : at.0 ≡ x = L.once at.0 x (y.0, names.leaf) y names.there there (ap make_flat way_is) in
+          let same : at.0 ≡ x = L.once at.0 x (y.0, names.leaf) y names.there there (ap (make_flat y.0) way_is) in
           let one : Shows = (at.0, data_of listed.0 k np.0 r.0) in
           let in_port : slice_get (reads_of_port listed.0 np.0 np.0.read) k ≡ Some one =
           ap (λ o. slice_get (reads_of_port listed.0 np.0 o) k) r.1 ∙ map_at (λ (both : ℕ × ℕ). (both.1, data_of listed.0 both.0 np.0 r.0)) (numbered r.0.leaves) k (k, at.0) (numbered_is r.0.leaves k at.0 at.1) in
@@ -296,12 +297,6 @@ module _ (z : Setting) where
           let in_all = off_at of_memory (numbered z.flat.memories) listed.0 (off (λ p. reads_of_port listed.0 p p.read) flat_memory.0.ports q + k) (listed.0, flat_memory.0) one
           (numbered_is z.flat.memories listed.0 flat_memory.0 flat_memory.1) in_memory in
           (off of_memory (numbered z.flat.memories) listed.0 + (off (λ p. reads_of_port listed.0 p p.read) flat_memory.0.ports q + k), one, in_all, same)
-        where
-          abbrev make_flat : List PathStep → FlatLeaf
-          make_flat way = record { path = y.0.path; component = y.0.c.declaration.name; way = way }
-
-          abbrev of_memory : ℕ × GroundMemory → List Shows
-          of_memory both = flat_map (λ port. reads_of_port both.0 port port.read) both.1.ports
 
       by_field : FieldSort h.element port f → Read_there x
       by_field (a_uint width flip typ) = absurd (not_flipped flip (lone_unflipped _ _ (uint_leaves port.place width) refl typ))

@@ -52,7 +52,7 @@ mode_both mode.Writer e = absurd (true≢false (sym e))
 mode_both mode.ReadWriter e = (refl, refl)
 
 -- what is there is allowed
-allowed : {A : Type 0} (b : Bool) (o : Option A) (x : A) → (b ≡ false → o ≡ None) → o ≡ Some x → b ≡ true
+pub allowed : {A : Type 0} (b : Bool) (o : Option A) (x : A) → (b ≡ false → o ≡ None) → o ≡ Some x → b ≡ true
 allowed true o x h e = refl
 allowed false o x h e = none_some (sym (h refl) ∙ e)
 

@@ -78,7 +78,7 @@ register_role false false false h = refl
 parts_counted : (ls : List GroundLeaf) (ss : List (Option ReadData)) → length ls ≡ length ss → length (parts_of ls ss) ≡ length ls
 parts_counted [] ss e = refl
 parts_counted (l ∷ ls) [] e = absurd (omega arith)
-parts_counted (l ∷ ls) (s ∷ ss) e = ap (λ n. 1 + n) (parts_counted ls ss (omega arith))
+parts_counted (l ∷ ls) (s ∷ ss) e = ap suc (parts_counted ls ss (omega arith))
 
 part_there : (ls : List GroundLeaf) (ss : List (Option ReadData)) (x : ℕ) (part : Part) → slice_get (parts_of ls ss) x ≡ Some part
     → (leaf : GroundLeaf) × (shown : Option ReadData) × (slice_get ls x ≡ Some leaf) × (part_of leaf.role shown ≡ part)

@@ -38,7 +38,7 @@ shows_leaf m np (Some r) k s e =
     (r, refl, parts.1 ∙ ap (λ (w : Shows). Some w.0) q.2)
 
 -- what a memory's ports read
-abbrev of_memory : ℕ × GroundMemory → List Shows
+abbrev pub of_memory : ℕ × GroundMemory → List Shows
 of_memory both = flat_map (λ port. reads_of_port both.0 port port.read) both.1.ports
 
 module _ (z : Setting) where

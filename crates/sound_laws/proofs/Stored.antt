@@ -44,6 +44,10 @@ memory_in_same p (A_reset_register clock reset init) b e = none_some e
 memory_in_same p (An_instance target) b e = none_some e
 memory_in_same p (A_node expr) b e = none_some e
 
+-- a leaf of the run of a component
+abbrev pub make_flat : Placed → List PathStep → FlatLeaf
+make_flat p way = record { path = p.path; component = p.c.declaration.name; way = way }
+
 module _ (z : Setting) where
   -- A memory of the flat circuit is this one of the circuit.
   pub record Held (memory : GroundMemory) (b : Placed × Memory) : Type 0 where
@@ -97,11 +101,8 @@ module _ (z : Setting) where
       pub named_place : (x : ℕ) → Names (all z) b.0 (step.Field port.name ∷ step.Field f.name.id ∷ l.path) x → x ≡ off entries_of (placed z) at + place_in b.1 h.element port q i k
       named_place x names =
           let L = lists z in
-          let same : make_flat names.leaf.path ≡ make_flat (step.Field port.name ∷ step.Field f.name.id ∷ l.path) = ap make_flat names.is in
+          let same : make_flat b.0 names.leaf.path ≡ make_flat b.0 (step.Field port.name ∷ step.Field f.name.id ∷ l.path) = ap (make_flat b.0) names.is in
           L.once x (off entries_of (placed z) at + place_in b.1 h.element port q i k) (b.0, names.leaf) (b.0, twice port.name f l) names.there leaf_place same
-        where
-          abbrev make_flat : List PathStep → FlatLeaf
-          make_flat way = record { path = b.0.path; component = b.0.c.declaration.name; way = way }
 
       pub named_leaf : (x : ℕ) → Names (all z) b.0 (step.Field port.name ∷ step.Field f.name.id ∷ l.path) x → slice_get (all z) x ≡ Some (b.0, twice port.name f l)
       named_leaf x names = ap (slice_get (all z)) (named_place x names) ∙ leaf_place

@@ -10,7 +10,7 @@ use Rattle.ground_net.specs.declared.ground.Ground.TheVariants.{Const, Leaf, Op,
 use Rattle.ground_net.specs.Renumbering.{with_numbers}
 use Rattle.ground_net.proofs.Layers.{ground_induction, maps}
 use Rattle.net_meaning.specs.Shapes.{Shape, Table, is_unsigned, all_of, shape, shape_of_row, shape_of_choice, shape_of_selection, shape_of_load, shape_of_fit}
-use Rattle.net_meaning.proofs.Shaping.{and_then, shapes_of, shape-Const, shape-Leaf, shape-Op, shape-Mux, shape-Select, shape-Load, shape-Fit}
+use Rattle.net_meaning.proofs.Shaping.{and_then, if_some, shapes_of, shape-Const, shape-Leaf, shape-Op, shape-Mux, shape-Select, shape-Load, shape-Fit}
 
 none_some : {A B : Type 0} {x : A} → None ≡ Some x → B
 none_some e = absurd cc
@@ -40,10 +40,7 @@ renumbered-Fit number kind width items = grind (arith, common_steps, the_lemmas,
 no_load : {B : Type 0} (ss : List Shape) (s : Shape) → shape_of_load None ss ≡ Some s → B
 no_load [] s e = none_some e
 no_load (a ∷ []) s e = none_some e
-no_load {B} (a ∷ b ∷ []) s e = by (is_unsigned a && is_unsigned b) e where
-  by : (t : Bool) → (if t then None {A = Shape} else None) ≡ Some s → B
-  by true e = none_some e
-  by false e = none_some e
+no_load (a ∷ b ∷ []) s e = none_some ((if_some (is_unsigned a && is_unsigned b) None s e).1)
 no_load (a ∷ b ∷ c ∷ ss) s e = none_some e
 
 module _ (number : ℕ → ℕ) (from to : Table) (leaves : (y : ℕ) (s : Shape) → from.leaf y ≡ Some s → to.leaf (number y) ≡ Some s) (none : (m k : ℕ) → from.element m k ≡ None) where
