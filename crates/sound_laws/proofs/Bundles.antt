@@ -1,5 +1,5 @@
 -- The leaves of a memory: port by port, field by field, and leaf by leaf.
-use Rattle.std.proofs.Common.{◌≡◌, ℕ, zero, suc, ◌+◌, Bool, true, false, not, List, [], ◌∷◌, ◌++◌, map, filter_map, Option, Some, None, refl, sym, ap, ap₂, ◌∙◌, subst, arith, true≢false}
+use Rattle.std.proofs.Common.{◌≡◌, ℕ, zero, suc, ◌+◌, Bool, true, false, List, [], ◌∷◌, ◌++◌, map, filter_map, Some, refl, sym, ap, ap₂, ◌∙◌, subst, arith, true≢false}
 use Rattle.std.specs.List.{slice_get, flat_map, AllByRecursion}
 use Rattle.std.proofs.lemmas.Grind.{common_steps}
 use Rattle.std.proofs.lemmas.List.{map-append}
@@ -19,7 +19,7 @@ use Rattle.fir_types.specs.declared.memory.PortMode.{PortMode}
 use Rattle.fir_types.specs.declared.memory.PortMode.TheVariants as mode
 use Rattle.fir_types.specs.Leaves.{leaves, field_leaves, under, way_of}
 use Rattle.fir_types.specs.Memories.{depth_of}
-use Rattle.fir_types.specs.Bundles.{port_field, port_type, fields_of_mode, plain_field, flipped_field, uint_at, clock_at, mask_of, address_bits, addr_name, en_name, clk_name, data_name, mask_name, rdata_name, wmode_name, wdata_name, wmask_name}
+use Rattle.fir_types.specs.Bundles.{port_field, port_type, fields_of_mode, plain_field, flipped_field, uint_at, clock_at, mask_of, address_bits, addr_name, en_name, clk_name, wmode_name}
 use Rattle.fir_types.proofs.Layers.{leaves-bundle, leaves-field}
 use Rattle.fir_types.proofs.Masks.{masked}
 use Rattle.cycle_values.specs.Shapes.{shaped}

@@ -1,6 +1,6 @@
 -- A plain leaf of the flat circuit that shows no read data has a driver.
-use Rattle.std.proofs.Common.{◌≡◌, ℕ, zero, suc, ◌+◌, ◌==◌, ◌<◌, ◌≤◌, ◌&&◌, Bool, true, false, not, List, [], ◌∷◌, ◌++◌, map, fold, length, Option, Some, None, option_map, ℤ, pos, refl, sym, ap, ap₂, ◌∙◌, subst, arith, true≢false, if◌then◌else◌, slice_index, ◌⊎◌, inl, inr, ⊎_elim}
-use Rattle.std.specs.Prelude.{Contains, IsSome, is_some}
+use Rattle.std.proofs.Common.{◌≡◌, ℕ, zero, suc, ◌+◌, ◌==◌, ◌<◌, ◌≤◌, ◌&&◌, Bool, true, false, not, List, [], ◌∷◌, map, length, Option, Some, None, option_map, pos, refl, sym, ap, ap₂, ◌∙◌, subst, arith, true≢false, if◌then◌else◌, slice_index, ◌⊎◌, inl, inr, ⊎_elim}
+use Rattle.std.specs.Prelude.{IsSome, is_some}
 use Rattle.std.specs.List.{slice_get, range_with_len, flat_map}
 use Rattle.std.proofs.lemmas.Grind.{common_steps}
 use Rattle.bit_words.specs.declared.value.Value.{Value}
@@ -8,7 +8,6 @@ use Rattle.bit_words.specs.Values.{integer_of}
 use Rattle.fir_types.specs.declared.fir_type.FirType.{FirType}
 use Rattle.fir_types.specs.declared.fir_type.Field.{Field}
 use Rattle.fir_types.specs.declared.leaf.TypeLeaf.{TypeLeaf}
-use Rattle.fir_types.specs.declared.leaf.PathStep.{PathStep}
 use Rattle.fir_types.specs.declared.leaf.PathStep.TheVariants as step
 use Rattle.fir_types.specs.declared.memory.Memory.{Memory}
 use Rattle.fir_types.specs.Leaves.{leaves}
@@ -17,7 +16,7 @@ use Rattle.fir_types.specs.Bundles.{flipped_field}
 use Rattle.fir_tree.specs.declared.expr.Expr.{Expr}
 use Rattle.cycle_values.specs.Values.{lone, fitted}
 use Rattle.cycle_values.specs.Shapes.{shape_of_value}
-use Rattle.fir_meaning.specs.Components.{TypedModule, Component, FlatLeaf, Sort, An_input, An_output, A_wire, A_register, A_reset_register, A_memory, An_instance, A_node, type_in, target_in, is_clock, flow_of}
+use Rattle.fir_meaning.specs.Components.{TypedModule, Component, Sort, An_input, An_output, A_wire, A_register, A_reset_register, A_memory, An_instance, A_node, type_in, target_in, is_clock, flow_of}
 use Rattle.fir_meaning.specs.MemoryPorts.{MemoryPort, memory_ports}
 use Rattle.fir_meaning.specs.Values.{Valuation, scene_of}
 use Rattle.fir_meaning.specs.Values as tree
@@ -39,16 +38,15 @@ use Rattle.ground_net.specs.declared.circuit.GroundMemory.{GroundMemory}
 use Rattle.ground_net.specs.declared.circuit.GroundRole.{GroundRole}
 use Rattle.ground_net.specs.declared.circuit.GroundRole.TheVariants.{Input, Clock, Register, Plain}
 use Rattle.ground_net.specs.declared.circuit.GroundStmt.{GroundStmt}
-use Rattle.ground_net.specs.declared.net.NetRead.{NetRead}
 use Rattle.ground_net.specs.Cones.{numbered}
-use Rattle.ground_net.specs.Grounds.{Sight, joined}
-use Rattle.ground_net.specs.Statements.{drives, live}
+use Rattle.ground_net.specs.Grounds.{Sight}
+use Rattle.ground_net.specs.Statements.{drives}
 use Rattle.ground_net.specs.Renumbering.{with_numbers, seen_by}
 use Rattle.net_meaning.specs.Shapes.{HasShapes, shaped}
 use Rattle.net_meaning.proofs.Shaping.{fitted_shape}
 use Rattle.expand_whens.specs.Expanding.{IsUndriven, Drives}
 use Rattle.net_of_circuit.specs.FlatOrder.{Placed, Standing, all_memories, memory_in}
-use Rattle.net_of_circuit.specs.NetOf.{Names, valuation_of, may_read, read_field}
+use Rattle.net_of_circuit.specs.NetOf.{valuation_of, may_read, read_field}
 use Rattle.ground_of_circuit.specs.Numbers.{module_leaves, scene_at, is_set, role_of, table_of}
 use Rattle.flatten_instances.specs.Flat.{is_input, role_at}
 use Rattle.flatten_instances.specs.Numbers.{AreNumbers, driver_in, driver_with}

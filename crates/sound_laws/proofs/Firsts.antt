@@ -1,11 +1,10 @@
 -- The leaves of main's ports stand first, and memories stand in flat order.
-use Rattle.std.proofs.Common.{◌≡◌, ℕ, zero, suc, ◌+◌, ◌<◌, ◌≤◌, ◌&&◌, Bool, true, false, List, [], ◌∷◌, ◌++◌, map, length, Option, Some, None, refl, sym, ap, ap₂, ◌∙◌, subst, arith, true≢false, if◌then◌else◌, ⊎_elim}
+use Rattle.std.proofs.Common.{◌≡◌, ℕ, zero, suc, ◌+◌, ◌<◌, ◌≤◌, ◌&&◌, true, false, List, [], ◌∷◌, ◌++◌, map, length, Some, refl, sym, ap, ap₂, ◌∙◌, subst, arith, true≢false, ⊎_elim}
 use Rattle.std.specs.Prelude.{Contains}
 use Rattle.std.specs.List.{slice_get, flat_map}
 use Rattle.std.proofs.lemmas.List.Concat.{flat_map-cons}
-use Rattle.fir_types.specs.declared.leaf.TypeLeaf.{TypeLeaf}
 use Rattle.fir_types.specs.Leaves.{leaves}
-use Rattle.fir_meaning.specs.Components.{Design, TypedModule, Component, module_at, is_clock, flow_of}
+use Rattle.fir_meaning.specs.Components.{Design, TypedModule, Component, is_clock, flow_of}
 use Rattle.fir_meaning.specs.States.{is_port, is_register, is_source}
 use Rattle.fir_meaning.proofs.Settling.{port_target}
 use Rattle.ground_net.specs.declared.circuit.GroundLeaf.{GroundLeaf}
@@ -19,11 +18,11 @@ use Rattle.flatten_instances.specs.FlatOrder.{Spot, Item, A_leaf, A_memory, leaf
 use Rattle.flatten_instances.specs.Flat.{is_input, role_at}
 use Rattle.net_laws.specs.Typed.{HasPortsFirst}
 use Rattle.net_laws.proofs.Rows.{begins, all_of_append, leaves_of as entries_of}
-use Rattle.design_laws.proofs.Lists.{below_length, in_append, later, from_map_at, in_list}
+use Rattle.design_laws.proofs.Lists.{below_length, in_append, later, from_map_at}
 use Rattle.design_laws.proofs.Accepted.{ports_first}
 use Rattle.lowering_laws.proofs.Heights.{some_same, none_some}
 use Rattle.lowering_laws.proofs.Parts.{item, leaves_counted_of}
-use Rattle.lowering_laws.proofs.Matching.{leads_at, leads_known, map_counted, length_append, two_back}
+use Rattle.lowering_laws.proofs.Matching.{leads_at, leads_known, map_counted, length_append}
 use Rattle.lowering_laws.proofs.Seeing.{ports_sum}
 use Rattle.lowering_laws.proofs.Whole.{Setting, design, placed, leaves_counted, leaf_at}
 use Rattle.read_laws.proofs.Drivers.{all}

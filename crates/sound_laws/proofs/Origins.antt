@@ -1,14 +1,13 @@
 -- Where the driver of a flat leaf comes from: from the leaf of a component of a module, or from nowhere.
-use Rattle.std.proofs.Common.{◌≡◌, ℕ, ◌&&◌, Bool, true, false, List, [], ◌∷◌, ◌++◌, Option, Some, None, refl, sym, ap, ap₂, ◌∙◌, subst, true≢false, if◌then◌else◌, slice_index, ◌⊎◌, inl, inr}
+use Rattle.std.proofs.Common.{◌≡◌, ℕ, ◌&&◌, Bool, true, false, List, [], ◌∷◌, ◌++◌, Option, Some, None, refl, sym, ap, ap₂, ◌∙◌, subst, true≢false, if◌then◌else◌, slice_index}
 use Rattle.std.specs.List.{slice_get}
 use Rattle.fir_types.specs.declared.leaf.TypeLeaf.{TypeLeaf}
-use Rattle.fir_meaning.specs.Components.{TypedModule, Component, An_instance, target_in, flat, is_clock, flow_of}
+use Rattle.fir_meaning.specs.Components.{TypedModule, Component, An_instance, flat, is_clock, flow_of}
 use Rattle.fir_meaning.specs.States.{Stands, is_port, is_register, is_source, leaf_of}
 use Rattle.fir_meaning.proofs.Settling.{one_leaf}
 use Rattle.fir_meaning.proofs.Ports.{port_outside}
 use Rattle.ground_net.specs.declared.circuit.DrivenModule.{DrivenModule}
 use Rattle.ground_net.specs.declared.circuit.GroundLeaf.{GroundLeaf}
-use Rattle.ground_net.specs.declared.circuit.GroundRole.{GroundRole}
 use Rattle.ground_net.specs.declared.circuit.GroundRole.TheVariants.{Input, Clock, Register, Plain}
 use Rattle.ground_net.specs.declared.ground.Ground.{Ground}
 use Rattle.net_of_circuit.specs.FlatOrder.{Standing, flat_of}
@@ -17,8 +16,8 @@ use Rattle.flatten_instances.specs.FlatOrder.{Spot}
 use Rattle.flatten_instances.specs.Flat.{IsFlatDriver, IsLeafAt, is_input, by_its_module, by_its_holder, given}
 use Rattle.ground_net.specs.Reads.{lone_driver}
 use Rattle.lowering_laws.proofs.Heights.{some_same, none_some}
-use Rattle.lowering_laws.proofs.Matching.{at_main, behind, two_back}
-use Rattle.lowering_laws.proofs.Whole.{Setting, design, spots, Way, match, lists, leaf_at, driver_at}
+use Rattle.lowering_laws.proofs.Matching.{at_main, behind}
+use Rattle.lowering_laws.proofs.Whole.{Setting, design, spots, Way, lists, leaf_at, driver_at}
 use Rattle.read_laws.proofs.Drivers.{all, known_of, flat_driver, DriverOf, numbered_at, own_driver, own_flat, set_driver}
 
 pub input_parts : (a b c : Bool) → is_input (if a then Clock else if b then Register else if c then Input else Plain) ≡ true → (a ≡ false) × (b ≡ false) × (c ≡ true)

@@ -1,13 +1,9 @@
 -- The ports of the flat circuit's memories have the leaves that they need.
-use Rattle.std.proofs.Common.{◌≡◌, ℕ, zero, suc, ◌<◌, ◌&&◌, Bool, true, false, not, List, [], ◌∷◌, length, Option, Some, None, refl, sym, ap, ap₂, ◌∙◌, subst, true≢false}
-use Rattle.std.specs.Prelude.{IsSome, is_some}
+use Rattle.std.proofs.Common.{◌≡◌, ℕ, ◌<◌, ◌&&◌, Bool, true, false, not, List, [], ◌∷◌, length, Option, Some, None, refl, sym, ap, ap₂, ◌∙◌, subst, true≢false}
+use Rattle.std.specs.Prelude.{is_some}
 use Rattle.std.specs.List.{slice_get}
-use Rattle.place_text.specs.declared.place.Place.{Place}
-use Rattle.bit_words.specs.declared.value.Kind.TheVariants.{Unsigned}
-use Rattle.fir_types.specs.declared.fir_type.FirType.{FirType}
 use Rattle.fir_types.specs.declared.fir_type.Field.{Field}
 use Rattle.fir_types.specs.declared.leaf.TypeLeaf.{TypeLeaf}
-use Rattle.fir_types.specs.declared.leaf.PathStep.{PathStep}
 use Rattle.fir_types.specs.declared.leaf.PathStep.TheVariants as step
 use Rattle.fir_types.specs.declared.memory.Memory.{Memory}
 use Rattle.fir_types.specs.declared.memory.PortMode.{PortMode}
@@ -15,12 +11,11 @@ use Rattle.fir_types.specs.declared.memory.PortMode.TheVariants as mode
 use Rattle.fir_types.specs.Leaves.{leaves}
 use Rattle.fir_types.specs.Memories.{depth_of}
 use Rattle.fir_types.specs.Bundles.{plain_field, flipped_field, uint_at, mask_of, address_bits, addr_name, en_name, wmode_name}
-use Rattle.fir_meaning.specs.Components.{A_memory, is_clock, flow_of}
+use Rattle.fir_meaning.specs.Components.{is_clock, flow_of}
 use Rattle.fir_meaning.specs.MemoryPorts.{MemoryPort, memory_ports, written_field, mask_field}
 use Rattle.fir_meaning.specs.States.{is_port, is_register, is_source}
 use Rattle.ground_net.specs.declared.circuit.GroundMemory.{GroundMemory}
 use Rattle.ground_net.specs.declared.circuit.GroundRole.TheVariants.{Plain}
-use Rattle.ground_net.specs.declared.net.ElementLeaf.{ElementLeaf}
 use Rattle.ground_net.specs.declared.net.NetPort.{NetPort}
 use Rattle.ground_net.specs.declared.net.NetRead.{NetRead}
 use Rattle.ground_net.specs.declared.net.NetWrite.{NetWrite}
@@ -29,7 +24,7 @@ use Rattle.net_of_circuit.specs.FlatOrder.{Placed, Standing}
 use Rattle.net_of_circuit.specs.NetOf.{Names, NameAll, IsPortOf, may_write, may_read, has_mode, read_field}
 use Rattle.ground_of_circuit.specs.Numbers.{role_of}
 use Rattle.memory_ports.specs.Sound.{IsUInt, IsPlain, AreData, IsPortIn}
-use Rattle.design_laws.proofs.Lists.{below_length, in_list}
+use Rattle.design_laws.proofs.Lists.{below_length}
 use Rattle.lowering_laws.proofs.Heights.{some_same, none_some}
 use Rattle.lowering_laws.proofs.Parts.{item}
 use Rattle.lowering_laws.proofs.Whole.{Setting, lists, leaf_at}

@@ -1,18 +1,17 @@
 -- The registers of the flat circuit are those of the registers' leaves, in flat order.
-use Rattle.std.proofs.Common.{◌≡◌, ℕ, zero, suc, ◌+◌, ◌<◌, ◌==◌, ◌&&◌, ◌||◌, Bool, true, false, List, [], ◌∷◌, map, filter, zip, length, Option, Some, None, option_map, refl, sym, ap, ap₂, ◌∙◌, subst, arith, true≢false, if◌then◌else◌, slice_index}
+use Rattle.std.proofs.Common.{◌≡◌, ℕ, zero, suc, ◌+◌, ◌<◌, ◌==◌, ◌&&◌, ◌||◌, Bool, true, false, List, [], ◌∷◌, map, filter, zip, length, Option, Some, None, option_map, refl, sym, ap, ◌∙◌, subst, arith, true≢false, if◌then◌else◌, slice_index}
 use Rattle.std.specs.List.{slice_get, list_any}
 use Rattle.bit_words.specs.declared.value.Kind.TheVariants.{Unsigned}
 use Rattle.fir_tree.specs.declared.expr.Expr.{Expr}
 use Rattle.fir_meaning.specs.WellTyped.{leaf_shape}
 use Rattle.fir_meaning.specs.Components.{Sort, An_input, An_output, A_wire, A_register, A_reset_register, A_memory, An_instance, A_node, is_clock, flow_of}
 use Rattle.fir_meaning.specs.States.{is_port, is_register, is_source}
-use Rattle.ground_net.specs.declared.circuit.DrivenModule.{DrivenModule}
 use Rattle.ground_net.specs.declared.circuit.GroundLeaf.{GroundLeaf}
 use Rattle.ground_net.specs.declared.circuit.GroundRole.{GroundRole}
 use Rattle.ground_net.specs.declared.circuit.GroundRole.TheVariants.{Input, Clock, Register, Plain}
 use Rattle.ground_net.specs.declared.net.NetRegister.{NetRegister}
 use Rattle.ground_net.specs.declared.net.NetReset.{NetReset}
-use Rattle.net_meaning.specs.Shapes.{Shape, shaped, shape}
+use Rattle.net_meaning.specs.Shapes.{shaped, shape}
 use Rattle.net_of_circuit.specs.FlatOrder.{Standing, flat_of}
 use Rattle.ground_of_circuit.specs.Numbers.{ModuleLeaf, module_leaves, role_of, table_of, register_numbers}
 use Rattle.ground_of_circuit.specs.Lowering.{HasReset, IsReset}

@@ -1,7 +1,6 @@
 -- The leaves that show what ports read stand in flat order.
-use Rattle.std.proofs.Common.{◌≡◌, ℕ, zero, suc, ◌+◌, ◌<◌, ◌≤◌, true, List, [], ◌∷◌, map, length, Option, Some, None, refl, sym, ap, ap₂, ◌∙◌, subst, arith}
+use Rattle.std.proofs.Common.{◌≡◌, ℕ, ◌+◌, ◌<◌, ◌≤◌, List, length, Option, Some, None, refl, sym, ap, ◌∙◌, subst, arith}
 use Rattle.std.specs.List.{slice_get, flat_map}
-use Rattle.fir_types.specs.declared.leaf.TypeLeaf.{TypeLeaf}
 use Rattle.fir_types.specs.declared.memory.Memory.{Memory}
 use Rattle.fir_types.specs.Leaves.{leaves}
 use Rattle.fir_types.specs.Memories.{depth_of}
@@ -11,8 +10,8 @@ use Rattle.ground_net.specs.Cones.{numbered}
 use Rattle.ground_net.specs.declared.circuit.GroundMemory.{GroundMemory}
 use Rattle.ground_net.specs.declared.net.NetPort.{NetPort}
 use Rattle.ground_net.specs.declared.net.NetRead.{NetRead}
-use Rattle.net_of_circuit.specs.FlatOrder.{Placed, Standing, all_memories, memory_in}
-use Rattle.net_of_circuit.specs.NetOf.{may_read, read_field, IsPortOf}
+use Rattle.net_of_circuit.specs.FlatOrder.{Placed, memory_in}
+use Rattle.net_of_circuit.specs.NetOf.{may_read, read_field}
 use Rattle.net_laws.proofs.Rows.{leaves_of as entries_of}
 use Rattle.memory_ports.specs.Placing.{Shows, data_of, reads_of_port, reads_of}
 use Rattle.design_laws.proofs.Lists.{below_length, from_map_at, map_at}
@@ -20,7 +19,6 @@ use Rattle.lowering_laws.proofs.Heights.{some_same, none_some}
 use Rattle.lowering_laws.proofs.Parts.{item}
 use Rattle.lowering_laws.proofs.Matching.{map_counted}
 use Rattle.lowering_laws.proofs.Whole.{Setting, placed}
-use Rattle.read_laws.proofs.Drivers.{all}
 use Rattle.sound_laws.proofs.Lists.{off, off_at, off_below, numbered_parts, TwoPicked, two_picked, from_flat, KeysRise, flat_rises}
 use Rattle.sound_laws.proofs.Bundles.{fields_of, part_leaves, port_leaves, place_in, twice, read_there}
 use Rattle.sound_laws.proofs.Stored.{Held, held, listed_at, port_of, place_within, named_place, memory_in_same}

@@ -1,5 +1,5 @@
 -- Drivers of the flat circuit have the kinds and widths of their leaves.
-use Rattle.std.proofs.Common.{◌≡◌, ℕ, ◌<◌, true, false, List, [], Option, Some, None, option_map, refl, sym, ap, ap₂, ◌∙◌, subst, slice_index}
+use Rattle.std.proofs.Common.{◌≡◌, ℕ, ◌<◌, false, List, [], Option, Some, None, option_map, refl, sym, ap, ap₂, ◌∙◌, subst, slice_index}
 use Rattle.std.specs.List.{slice_get}
 use Rattle.fir_types.specs.declared.fir_type.FirType.{FirType}
 use Rattle.fir_types.specs.declared.leaf.TypeLeaf.{TypeLeaf}
@@ -14,9 +14,9 @@ use Rattle.ground_net.specs.Reads.{lone_driver}
 use Rattle.ground_net.specs.Renumbering.{with_numbers}
 use Rattle.net_meaning.specs.Shapes.{Shape, shaped, shape}
 use Rattle.expand_whens.specs.Expanding.{IsDriver, Drives}
-use Rattle.net_of_circuit.specs.FlatOrder.{Standing, all_leaves}
-use Rattle.ground_of_circuit.specs.Numbers.{ModuleLeaf, module_leaves, table_of}
-use Rattle.flatten_instances.specs.Numbers.{AreNumbers, driver_in, driver_with}
+use Rattle.net_of_circuit.specs.FlatOrder.{Standing}
+use Rattle.ground_of_circuit.specs.Numbers.{module_leaves, table_of}
+use Rattle.flatten_instances.specs.Numbers.{AreNumbers, driver_in}
 use Rattle.memory_ports.specs.Sound.{flat_table, ground_shape}
 use Rattle.design_laws.proofs.Lists.{below_length}
 use Rattle.lowering_laws.proofs.Heights.{some_same, none_some}

@@ -1,7 +1,7 @@
 -- The memories of the flat circuit and where the leaves of their ports stand.
-use Rattle.std.proofs.Common.{◌≡◌, ℕ, zero, suc, ◌+◌, ◌<◌, ◌≤◌, true, false, not, List, [], ◌∷◌, length, Option, Some, None, refl, sym, ap, ap₂, ◌∙◌, subst, arith}
+use Rattle.std.proofs.Common.{◌≡◌, ℕ, ◌+◌, ◌<◌, false, List, ◌∷◌, Some, sym, ap, ◌∙◌, subst}
 use Rattle.std.specs.Prelude.{Contains}
-use Rattle.std.specs.List.{slice_get, flat_map}
+use Rattle.std.specs.List.{slice_get}
 use Rattle.fir_types.specs.declared.fir_type.FirType.{FirType}
 use Rattle.fir_types.specs.declared.fir_type.Field.{Field}
 use Rattle.fir_types.specs.declared.leaf.TypeLeaf.{TypeLeaf}
@@ -18,14 +18,14 @@ use Rattle.circuit_laws.proofs.Reached.{known_module}
 use Rattle.ground_net.specs.declared.circuit.GroundMemory.{GroundMemory}
 use Rattle.ground_net.specs.declared.net.NetMemory.{NetMemory}
 use Rattle.ground_net.specs.declared.net.NetPort.{NetPort}
-use Rattle.net_of_circuit.specs.FlatOrder.{Placed, Standing, all_memories, memory_in}
+use Rattle.net_of_circuit.specs.FlatOrder.{Placed, all_memories, memory_in}
 use Rattle.net_of_circuit.specs.NetOf.{Names, IsPortOf, IsMemoryOf}
 use Rattle.net_laws.proofs.Rows.{leaves_of as entries_of}
 use Rattle.design_laws.proofs.Lists.{below_length, map_at, in_list}
 use Rattle.lowering_laws.proofs.Heights.{some_same, none_some}
 use Rattle.lowering_laws.proofs.Parts.{item}
 use Rattle.lowering_laws.proofs.Whole.{Setting, design, texts, placed, lists}
-use Rattle.lowering_laws.proofs.Stores.{StoreAt, store_at, memory_is, memories_counted}
+use Rattle.lowering_laws.proofs.Stores.{store_at, memory_is, memories_counted}
 use Rattle.read_laws.proofs.Drivers.{all}
 use Rattle.sound_laws.proofs.Lists.{off, off_at}
 use Rattle.sound_laws.proofs.Bundles.{fields_of, twice, place_in, place_is}
