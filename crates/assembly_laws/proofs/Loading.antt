@@ -1,5 +1,5 @@
 -- A read of latency 0 has in the net what it has in the circuit.
-use Rattle.std.proofs.Common.{◌≡◌, ℕ, ◌<◌, ◌&&◌, not, Bool, true, false, List, [], ◌∷◌, map, length, Some, None, option_map, option_and_then, ℤ, pos, unsigned_abs, int_eq, nat_lt, refl, sym, ap, ap₂, ◌∙◌, subst, if◌then◌else◌}
+use Rattle.std.proofs.Common.{◌≡◌, ℕ, ◌<◌, ◌&&◌, not, false, List, [], ◌∷◌, length, Some, None, option_map, option_and_then, ℤ, pos, unsigned_abs, int_eq, nat_lt, refl, sym, ap, ap₂, ◌∙◌, subst, if◌then◌else◌}
 use Rattle.std.specs.List.{slice_get}
 use Rattle.bit_words.specs.Values.{integer_of}
 use Rattle.fir_types.specs.declared.fir_type.FirType.{FirType}
@@ -22,7 +22,6 @@ use Rattle.fir_meaning.proofs.Ports.{component_found}
 use Rattle.circuit_laws.proofs.Reached.{known_module}
 use Rattle.ground_net.specs.declared.ground.Ground.{Ground}
 use Rattle.ground_net.specs.declared.circuit.GroundRole.TheVariants.{Plain}
-use Rattle.ground_net.specs.declared.circuit.GroundMemory.{GroundMemory}
 use Rattle.ground_net.specs.declared.net.Net.{Net}
 use Rattle.ground_net.specs.declared.net.NetMemory.{NetMemory}
 use Rattle.ground_net.specs.declared.net.NetPort.{NetPort}
@@ -33,12 +32,12 @@ use Rattle.ground_net.specs.Reads.{driver_of}
 use Rattle.net_meaning.specs.Cycles.{NetState, sight_of, is_set, where_it_reads}
 use Rattle.net_meaning.specs.Cycles as cycle
 use Rattle.net_meaning.specs.Nets.{IsWithin}
-use Rattle.net_of_circuit.specs.FlatOrder.{Placed, Standing, all_leaves, all_memories}
-use Rattle.net_of_circuit.specs.NetOf.{IsSeen, Names, IsPortOf, IsMemoryOf, may_write, may_read, has_mode, seen_valuation}
+use Rattle.net_of_circuit.specs.FlatOrder.{Placed, Standing, all_memories}
+use Rattle.net_of_circuit.specs.NetOf.{IsSeen, Names, IsPortOf, IsMemoryOf, may_read, has_mode, seen_valuation}
 use Rattle.net_laws.proofs.Numbers.{valuation_at}
 use Rattle.memory_ports.specs.declared.reads.ReadData.{ReadData}
 use Rattle.memory_ports.specs.declared.reads.ReadData.TheVariants as read_data
-use Rattle.memory_ports.specs.Placing.{IsPlaced, data_in, load_of, driver_for, own_driver, without_word}
+use Rattle.memory_ports.specs.Placing.{IsPlaced, load_of, driver_for, own_driver, without_word}
 use Rattle.design_laws.proofs.Lists.{below_length, map_at}
 use Rattle.lowering_laws.proofs.Heights.{some_same}
 use Rattle.lowering_laws.proofs.Parts.{item}

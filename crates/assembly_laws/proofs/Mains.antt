@@ -7,7 +7,7 @@ use Rattle.std.proofs.lemmas.List.Sums.{sum_by-cons}
 use Rattle.std.proofs.lemmas.List.Concat.{flat_map-cons}
 use Rattle.fir_types.specs.declared.leaf.TypeLeaf.{TypeLeaf}
 use Rattle.fir_types.specs.Leaves.{leaves}
-use Rattle.fir_meaning.specs.Components.{Design, TypedModule, Component, An_instance}
+use Rattle.fir_meaning.specs.Components.{Design, TypedModule, Component}
 use Rattle.fir_meaning.specs.States.{is_port}
 use Rattle.fir_meaning.proofs.Ports.{target_sort}
 use Rattle.ground_net.specs.declared.net.Net.{Net}
@@ -17,7 +17,7 @@ use Rattle.net_laws.proofs.Rows.{begins, all_of_append}
 use Rattle.memory_ports.specs.Placing.{IsPlaced}
 use Rattle.design_laws.proofs.Standing.{within}
 use Rattle.lowering_laws.proofs.Matching.{leads_known, port_size, length_append}
-use Rattle.lowering_laws.proofs.Whole.{Setting, placed}
+use Rattle.lowering_laws.proofs.Whole.{Setting}
 use Rattle.read_laws.proofs.Drivers.{all}
 
 filter_none : {A : Type 0} (test : A → Bool) (xs : List A) → ((k : ℕ) (x : A) → slice_get xs k ≡ Some x → test x ≡ false) → filter test xs ≡ []

@@ -1,5 +1,5 @@
 -- What a leaf of the net is in a cycle is what the circuit's leaf is.
-use Rattle.std.proofs.Common.{◌≡◌, ℕ, ◌==◌, ◌&&◌, Bool, true, false, not, List, [], ◌∷◌, ◌++◌, take, Option, Some, None, refl, sym, ap, ap₂, ◌∙◌, subst, true≢false, if◌then◌else◌, ⊎_elim, inl, inr}
+use Rattle.std.proofs.Common.{◌≡◌, ℕ, ◌==◌, ◌&&◌, Bool, true, false, not, List, [], ◌∷◌, ◌++◌, take, Option, Some, refl, sym, ap, ◌∙◌, true≢false, if◌then◌else◌, ⊎_elim, inl, inr}
 use Rattle.std.specs.Prelude.{◌⊎◌}
 use Rattle.std.specs.List.{slice_get}
 use Rattle.fir_types.specs.declared.leaf.TypeLeaf.{TypeLeaf}
@@ -18,7 +18,6 @@ use Rattle.net_laws.proofs.Seen.{part_is, port_late}
 use Rattle.ground_of_circuit.specs.Numbers.{role_of}
 use Rattle.flatten_instances.specs.Flat.{role_at, is_input}
 use Rattle.memory_ports.specs.declared.reads.ReadData.{ReadData}
-use Rattle.memory_ports.specs.declared.reads.ReadData.TheVariants as read_data
 use Rattle.memory_ports.specs.Placing.{IsPlaced, data_in, role_behind, parts_of}
 use Rattle.memory_ports.specs.Placing as placing
 use Rattle.lowering_laws.proofs.Heights.{some_same}
@@ -26,7 +25,7 @@ use Rattle.lowering_laws.proofs.Matching.{at_main, behind}
 use Rattle.lowering_laws.proofs.Whole.{Setting, Way, leaf_at}
 use Rattle.read_laws.proofs.Drivers.{all, role_is}
 use Rattle.read_laws.proofs.Nets.{shown_at}
-use Rattle.assembly_laws.proofs.Showing.{ReadOf, ShowsData, nothing, what_is_read, shows_data, is_load, is_late, equal_zero}
+use Rattle.assembly_laws.proofs.Showing.{ShowsData, nothing, what_is_read, shows_data, is_load, is_late, equal_zero}
 
 abbrev as_part : placing.Part → Part
 as_part placing.Given = Given

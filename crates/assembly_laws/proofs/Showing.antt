@@ -1,5 +1,5 @@
 -- The leaves of the flat circuit that show what ports read are the read data of the circuit's memories.
-use Rattle.std.proofs.Common.{◌≡◌, ℕ, zero, suc, ◌==◌, ◌<◌, Bool, true, false, not, List, [], ◌∷◌, length, Option, Some, None, refl, sym, ap, ap₂, ◌∙◌, subst, arith, true≢false, if◌then◌else◌}
+use Rattle.std.proofs.Common.{◌≡◌, ℕ, ◌==◌, ◌<◌, Bool, true, false, not, List, ◌∷◌, length, Option, Some, None, refl, sym, ap, ◌∙◌, subst, arith, true≢false, if◌then◌else◌}
 use Rattle.std.specs.Prelude.{Contains}
 use Rattle.std.specs.List.{slice_get}
 use Rattle.std.proofs.lemmas.Grind.{common_steps}
@@ -13,8 +13,6 @@ use Rattle.fir_types.specs.Memories.{read_latency_of}
 use Rattle.fir_meaning.specs.Components.{FlatLeaf, Sort, An_input, An_output, A_wire, A_register, A_reset_register, A_memory, An_instance, A_node, module_at}
 use Rattle.fir_meaning.specs.MemoryPorts.{MemoryPort, memory_ports, port_named}
 use Rattle.fir_meaning.specs.Elements.{IsElement}
-use Rattle.fir_meaning.specs.WellTyped.{HasTypes}
-use Rattle.fir_meaning.specs.States.{Stands}
 use Rattle.fir_meaning.proofs.Ports.{component_found, from_filter_map}
 use Rattle.circuit_laws.specs.WellFormed.{IsKnownModule}
 use Rattle.circuit_laws.proofs.Reached.{known_module}
@@ -22,11 +20,11 @@ use Rattle.ground_net.specs.declared.circuit.GroundMemory.{GroundMemory}
 use Rattle.ground_net.specs.declared.net.NetMemory.{NetMemory}
 use Rattle.ground_net.specs.declared.net.NetPort.{NetPort}
 use Rattle.ground_net.specs.declared.net.NetRead.{NetRead}
-use Rattle.net_of_circuit.specs.FlatOrder.{Placed, Standing, all_leaves, all_memories, memory_in, flat_of}
+use Rattle.net_of_circuit.specs.FlatOrder.{Placed, Standing, all_memories, memory_in, flat_of}
 use Rattle.net_of_circuit.specs.NetOf.{NameAll, IsPortOf, IsMemoryOf, may_read, read_field}
 use Rattle.memory_ports.specs.declared.reads.ReadData.{ReadData}
 use Rattle.memory_ports.specs.declared.reads.ReadData.TheVariants as read_data
-use Rattle.memory_ports.specs.Placing.{data_of, load_of, data_in, reads_of, last_data, IsRead, without_word}
+use Rattle.memory_ports.specs.Placing.{data_of, load_of, data_in, reads_of, last_data, IsRead}
 use Rattle.design_laws.proofs.Lists.{in_list, place_of, below_length}
 use Rattle.design_laws.proofs.Standing.{Within, within}
 use Rattle.lowering_laws.proofs.Heights.{some_same, none_some}

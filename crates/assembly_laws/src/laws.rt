@@ -11,6 +11,7 @@ ghost use Rattle.ground_net.specs.declared.net.Net.{Net as TheNet};
 ghost use Rattle.net_meaning.specs.Nets.{IsNet};
 ghost use Rattle.expand_whens.specs.Expanding.{IsExpanded};
 ghost use Rattle.net_of_circuit.specs.NetOf.{IsNetOf};
+ghost use Rattle.net_laws.specs.Serves.{Serves};
 ghost use Rattle.ground_of_circuit.specs.Lowering.{IsGroundOf};
 ghost use Rattle.flatten_instances.specs.Flat.{IsFlat};
 ghost use Rattle.memory_ports.specs.Placing.{IsPlaced};
@@ -27,3 +28,8 @@ pub fn passes_make_the_net()
     initialized_leaves_are_driven();
     loads_are_what_ports_read();
 }
+
+/// The net of a well formed circuit serves it: its flat order lists each leaf of the run once, and its types are sound.
+pub fn nets_of_circuits_serve_them()
+    ensures { (fitted : FittedCircuit) → IsWellFormed fitted → (net : TheNet) → IsNetOf fitted.checked.circuit.names (design_of fitted) net → Serves fitted.checked.circuit.names (design_of fitted) net }
+{}
