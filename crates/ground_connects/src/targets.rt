@@ -1,9 +1,8 @@
 //! The leaves that a leaf of a part may be.
 
-ghost use Rattle.std.specs.Prelude.{◌≡◌, ◌++◌, [], ◌∷◌, map, true, IfOk, OnOk, IsTrue, ◌↔◌};
-ghost use Rattle.ground_net.specs.declared.circuit.GroundStmt.TheVariants as statement;
+ghost use Rattle.std.specs.Prelude.{◌≡◌, ◌++◌, [], ◌∷◌, map, slice_get, IfOk, OnOk};
 ghost use Rattle.ground_parts.specs.Parts.{is_nowhere};
-ghost use Rattle.ground_connects.specs.Targets.{equals, under_condition, targets, set_each};
+ghost use Rattle.ground_connects.specs.Targets.{equals, under_condition, targets, is_allowed, set_each};
 
 use bit_words::{Kind, List, Number};
 use ground_exprs::constants::constant;
@@ -128,9 +127,20 @@ fn push_one(
 ) -> Result<(), AllocError>
     ensures { OnOk result (made.new ≡ made.old ++ set_each settable.now source.now (target ∷ [])) }
 {
-    if let Some(true) = settable.get(target.leaf as usize) {
-        let source = copied(alloc, source)?;
-        made.push(GroundStmt::Connect(target.leaf, target.conditions, source))?;
+    if !is_allowed(settable, target.leaf) {
+        return Ok(());
     }
+    let source = copied(alloc, source)?;
+    made.push(GroundStmt::Connect(target.leaf, target.conditions, source))?;
     Ok(())
+}
+
+/// The leaf may be set.
+fn is_allowed(settable: &[bool], leaf: u32) -> bool
+    ensures { result ≡ is_allowed (slice_get settable.now leaf) }
+{
+    match settable.get(leaf as usize) {
+        Some(flag) => *flag,
+        None => false,
+    }
 }

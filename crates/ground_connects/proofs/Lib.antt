@@ -1,0 +1,3 @@
+pub mod Statements
+pub mod Hits
+pub mod Walks
