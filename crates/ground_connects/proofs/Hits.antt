@@ -147,20 +147,20 @@ any_past p m a (suc n) h =
 
 any_at : (p : ℕ → Bool) (m a n : ℕ) → a ≤ m → list_any (λ k. p k && int_eq (pos m) (pos k)) (range_with_len a n) ≡ if nat_lt m (a + n) then p m else false
 any_at p m a zero h = let t : nat_lt m (a + 0) ≡ false = grind (arith, common_steps, nat_tests, h) in ap (λ b. if b then p m else false) (sym t)
-any_at p m a (suc n) h = by (m == a) refl
+any_at p m a (suc n) h = by (λ l. any_at p m (a + 1) n l) (m == a) refl
   where
-    by : (b : Bool) → (m == a) ≡ b → (((p a && int_eq (pos m) (pos a)) || list_any (λ k. p k && int_eq (pos m) (pos k)) (range_with_len (a + 1) n)) ≡ if nat_lt m (a + suc n) then p m else false)
-    by true e =
+    by : (a + 1 ≤ m → list_any (λ k. p k && int_eq (pos m) (pos k)) (range_with_len (a + 1) n) ≡ if nat_lt m (a + 1 + n) then p m else false) → (b : Bool) → (m == a) ≡ b → (((p a && int_eq (pos m) (pos a)) || list_any (λ k. p k && int_eq (pos m) (pos k)) (range_with_len (a + 1) n)) ≡ if nat_lt m (a + suc n) then p m else false)
+    by deep true e =
         let same : m ≡ a = grind (arith, common_steps, nat_tests, e) in
         let t : nat_lt m (a + suc n) ≡ true = grind (arith, common_steps, nat_tests, same) in
         or_nothing (p a && int_eq (pos m) (pos a)) (list_any (λ k. p k && int_eq (pos m) (pos k)) (range_with_len (a + 1) n)) (any_past p m (a + 1) n (omega (arith, same)))
         ∙ (and_true (p a) (int_eq (pos m) (pos a)) (int_same m a same) ∙ (ap p (sym same) ∙ ap (λ b. if b then p m else false) (sym t)))
-    by false e =
+    by deep false e =
         let other : m ≡ a → ⊥ = λ s. true≢false (sym (same_test m a s) ∙ e) in
         let later : a + 1 ≤ m = after m a h other in
         let t : nat_lt m (a + 1 + n) ≡ nat_lt m (a + suc n) = ap (nat_lt m) (shift a n) in
         or_nothing_before (p a && int_eq (pos m) (pos a)) (list_any (λ k. p k && int_eq (pos m) (pos k)) (range_with_len (a + 1) n)) (and_false (p a) (int_eq (pos m) (pos a)) (int_other m a other))
-        ∙ (any_at p m (a + 1) n later ∙ ap (λ b. if b then p m else false) t)
+        ∙ (deep later ∙ ap (λ b. if b then p m else false) t)
       where
         same_test : (m a : ℕ) → m ≡ a → (m == a) ≡ true
         same_test m a s = grind (arith, common_steps, nat_tests, s)
@@ -311,18 +311,19 @@ module _ (settable : List Bool) (source : Ground) (x : ℕ) where
 
   pub lives_from : (ts : List Target) (y : ℕ) → Contains (joined (lives_of ts)) y → (t : Target) × Contains ts t × Contains (joined (map mentions t.conditions) ++ mentions source) y
   lives_from [] y c = absurd (not_in_none y c)
-  lives_from (t ∷ ts) y c = by (t.leaf == x) c
+  lives_from (t ∷ ts) y c = by (λ d. lives_from ts y d) (t.leaf == x) c
     where
-      later : Contains (joined (lives_of ts)) y → (u : Target) × Contains (t ∷ ts) u × Contains (joined (map mentions u.conditions) ++ mentions source) y
-      later d = let r = lives_from ts y d in (r.0, in_later t ts r.0 r.1, r.2)
-
-      by : (b : Bool) → Contains (joined ((if b then (joined (map mentions t.conditions) ++ mentions source) ∷ [] else []) ++ lives_of ts)) y
+      later : (Contains (joined (lives_of ts)) y → (u : Target) × Contains ts u × Contains (joined (map mentions u.conditions) ++ mentions source) y) → Contains (joined (lives_of ts)) y
           → (u : Target) × Contains (t ∷ ts) u × Contains (joined (map mentions u.conditions) ++ mentions source) y
-      by true d =
-          ⊎_elim (λ l. (t, in_front t ts, l)) later
+      later deep d = let r = deep d in (r.0, in_later t ts r.0 r.1, r.2)
+
+      by : (Contains (joined (lives_of ts)) y → (u : Target) × Contains ts u × Contains (joined (map mentions u.conditions) ++ mentions source) y) → (b : Bool) → Contains (joined ((if b then (joined (map mentions t.conditions) ++ mentions source) ∷ [] else []) ++ lives_of ts)) y
+          → (u : Target) × Contains (t ∷ ts) u × Contains (joined (map mentions u.conditions) ++ mentions source) y
+      by deep true d =
+          ⊎_elim (λ l. (t, in_front t ts, l)) (later deep)
           (Contains-append_cases (joined (map mentions t.conditions) ++ mentions source) (joined (lives_of ts)) y
           (subst (λ l. Contains l y) (flat_map-cons (λ (l : List ℕ). l) (joined (map mentions t.conditions) ++ mentions source) (lives_of ts)) d))
-      by false d = later d
+      by deep false d = later deep d
 
   pub lives_in : (ts : List Target) (t : Target) (y : ℕ) → Contains ts t → (t.leaf == x) ≡ true → Contains (joined (map mentions t.conditions) ++ mentions source) y → Contains (joined (lives_of ts)) y
   lives_in [] t y c e d = absurd (not_in_none t c)

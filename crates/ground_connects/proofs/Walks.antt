@@ -7,13 +7,28 @@ use Rattle.fir_types.specs.declared.leaf.TypeLeaf.{TypeLeaf}
 use Rattle.ground_net.specs.declared.ground.Ground.{Ground}
 use Rattle.ground_net.specs.declared.circuit.GroundStmt.{GroundStmt}
 use Rattle.ground_net.specs.declared.circuit.GroundStmt.TheVariants.{Connect}
-use Rattle.ground_net.proofs.Numbering.{range_more}
 use Rattle.ground_parts.specs.declared.part.Pick.{Pick}
 use Rattle.ground_parts.specs.Parts.{is_nowhere}
 use Rattle.ground_exprs.specs.declared.source.Source.{Source}
 use Rattle.ground_connects.specs.declared.targets.Target.{Target}
 use Rattle.ground_connects.specs.Targets.{equals, under_condition, targets, is_allowed, set_each, set_one, set_leaves, FitsLeaf, AreFits, first_of, rest_of}
 use Rattle.ground_connects.specs.Nodes.{node_leaf, node_leaves}
+
+range_from : (a n : ℕ) → range_with_len a (n + 1) ≡ range_with_len a n ++ (a + n) ∷ []
+range_from a zero = ap (λ m. m ∷ []) (plain a)
+  where
+    plain : (a : ℕ) → a ≡ a + 0
+    plain a = omega arith
+range_from a (suc n) = ap (λ l. a ∷ l) (range_from (a + 1) n ∙ ap (λ m. range_with_len (a + 1) n ++ m ∷ []) (shift a n))
+  where
+    shift : (a n : ℕ) → a + 1 + n ≡ a + suc n
+    shift a n = omega arith
+
+range_more : (n : ℕ) → range_with_len 0 (n + 1) ≡ range_with_len 0 n ++ n ∷ []
+range_more n = range_from 0 n ∙ ap (λ m. range_with_len 0 n ++ m ∷ []) (plain n)
+  where
+    plain : (n : ℕ) → 0 + n ≡ n
+    plain n = omega arith
 
 pub set_each_more : (settable : List Bool) (source : Ground) (ts : List Target) (t : Target) → set_each settable source (ts ++ t ∷ []) ≡ set_each settable source ts ++ set_each settable source (t ∷ [])
 set_each_more settable source [] t = refl
@@ -125,3 +140,6 @@ node_short leaves its k number made told e inv = sym (append-nil made) ∙ (ap (
 
 pub node_end : (leaves : List TypeLeaf) (its : List Source) (k number : ℕ) (made told : List GroundStmt) → length leaves ≤ k → made ++ node_leaves number (drop k leaves) its ≡ told → made ≡ told
 node_end leaves its k number made told h inv = sym (append-nil made) ∙ (ap (λ l. made ++ node_leaves number l its) (sym (drop_end leaves k h)) ∙ inv)
+
+pub one_longer : {A : Type 0} (first number : ℕ) (xs : List A) (x : A) → number ≡ first + length xs → number + 1 ≡ first + length (xs ++ x ∷ [])
+one_longer first number xs x e = grind (arith, common_steps, e)

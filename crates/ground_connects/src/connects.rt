@@ -72,8 +72,8 @@ fn half(
     target: &Expr,
     sources: List<Source>,
 ) -> Result<List<GroundStmt>, AllocError>
-    requires narrow { AreNarrow view.entry.known.now.entries }
-    requires typed { is_typed (known_of view.entry.known.now.entries) target.now ≡ true }
+    requires narrow { AreNarrow view.known.now.entries }
+    requires typed { is_typed (known_of view.known.now.entries) target.now ≡ true }
     ensures { IfOk result (λ made. IsHalf view.entry.known.now.entries view.entry.settable.now flip target.now sources made) }
 {
     let Form::Ref(name, suffixes) = &target.form else {
