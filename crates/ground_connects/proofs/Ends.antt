@@ -13,7 +13,8 @@ use Rattle.fir_types.specs.declared.fir_type.FirType.{FirType}
 use Rattle.fir_types.specs.declared.leaf.TypeLeaf.{TypeLeaf}
 use Rattle.fir_types.specs.declared.leaf.PathStep.{PathStep}
 use Rattle.fir_types.specs.Leaves.{leaves}
-use Rattle.fir_tree.specs.declared.expr.Expr.{Expr}
+use Rattle.fir_tree.specs.declared.expr.Expr.{Expr, the_lemmas as form_lemmas}
+use Rattle.fir_tree.specs.declared.expr.Form.TheVariants as form
 use Rattle.fir_tree.specs.declared.expr.Form.{Form}
 use Rattle.fir_tree.specs.declared.expr.Suffix.{Suffix}
 use Rattle.fir_tree.specs.declared.expr.Form.TheOpen.{Form-F}
@@ -68,11 +69,11 @@ lone_zero = zero_fitted Unsigned 0
 
 module _ (n : Numbering) (flip : Bool) where
   fit_zero : (leaf : TypeLeaf) (has : Sight → Value) (fit : Source) → thin leaf ≡ true → ((sight : Sight) → HasShapes n.table sight → has sight ≡ lone []) → IsFit flip leaf None fit → FitsAt n flip leaf has [] fit
-  fit_zero leaf has fit small zero f = record {
+  fit_zero leaf has fit small nothing f = record {
     turned = f.turned;
     value = λ sight h.
         ap (λ g. integer_of (value g sight)) f.fits ∙ (ap integer_of (value-Const (fitted fit.kind fit.width (pos 0)) sight) ∙ (zero_fitted fit.kind fit.width
-        ∙ sym (ap (λ v. integer_of (fitted_to leaf (integer_of v))) (zero sight h) ∙ (ap (λ i. integer_of (fitted_to leaf i)) lone_zero ∙ zero_fitted (kind_of_leaf leaf) (width_of_leaf leaf)))));
+        ∙ sym (ap (λ v. integer_of (fitted_to leaf (integer_of v))) (nothing sight h) ∙ (ap (λ i. integer_of (fitted_to leaf i)) lone_zero ∙ zero_fitted (kind_of_leaf leaf) (width_of_leaf leaf)))));
     shape = ap (λ g. shape g n.table) f.fits ∙ (shape-Const (fitted fit.kind fit.width (pos 0)) n.table
         ∙ ap₂ (λ k w. Some (shaped k w)) f.kind (ap (λ w. min w 128) (f.width ∙ thin_is (width_of_leaf leaf) small) ∙ thin_is (width_of_leaf leaf) small));
     reads = subst (SameLeaves n []) (sym (ap mentions f.fits ∙ mentions-Const (fitted fit.kind fit.width (pos 0)))) (same_none n);
@@ -144,7 +145,7 @@ nothing_named n types settable flip has ms = record {
     others = λ x d. alone_none x;
     shaped = refl;
   };
-  quiet = λ leaf x may is_x no. alone_none x;
+  quiet = λ leaf x may is_x nope. alone_none x;
 }
 
 none_of : {A : Type 0} (p : A → Bool) (xs : List A) (k : ℕ) (x : A) → list_any p xs ≡ false → slice_get xs k ≡ Some x → p x ≡ false
@@ -190,10 +191,10 @@ half_named entries n types knows one settable flip name suffixes sources made se
         let w = p.each at.0 at.1 in
         ap n.table.leaf (sym at.2) ∙ w.2.shapes k l g);
   };
-  quiet = λ leaf x may is_x no. subst (λ m. LeavesAlone m x) (sym set.side.is)
+  quiet = λ leaf x may is_x nope. subst (λ m. LeavesAlone m x) (sym set.side.is)
       (subst (λ m. LeavesAlone (set_leaves settable set.part.picks m set.side.fits) x) (plus_none set.part.first)
       (quiet n one region spot set.typ set.part p steps f.long flip settable x leaf (ap is_allowed may) is_x (leaves set.typ) hasS ms set.side.fits 0 all
-      (λ k l g. (subst (λ m. slice_get (leaves set.typ) m ≡ Some l) (none_plus k) g, none_of (may_be flip region leaf) (leaves set.typ) k l (ap (λ t. list_any (may_be flip region leaf) (leaves t)) (sym p.region_type) ∙ no) g))).0);
+      (λ k l g. (subst (λ m. slice_get (leaves set.typ) m ≡ Some l) (none_plus k) g, none_of (may_be flip region leaf) (leaves set.typ) k l (ap (λ t. list_any (may_be flip region leaf) (leaves t)) (sym p.region_type) ∙ nope) g))).0);
 }
   where
     region : Region
@@ -446,6 +447,17 @@ module _ (entries : Entries) (settable : List Bool) (n : Numbering) (types : Sco
   both_forms y w set also match =
       two_halves n types settable (λ scene. spot_of_form scene y) (λ scene. spot_of_form scene w) (region_of_form types y) (region_of_form types w) has shown ms ns first second made
       (half_form false y sources has ms first from set) (half_form true w others shown ns second beside_it also) (never_form y w set also match) is
+
+pub half_is : (entries : Entries) (settable : List Bool) (flip : Bool) (target : Expr) (name : Name) (suffixes slice : List Suffix) (typ : FirType) (part : Part) (sources : List Source) (made : List GroundStmt)
+    → target.form ≡ form.Ref name suffixes → slice ≡ suffixes → Leads entries name.id slice typ part → IsSide settable flip typ part sources made → IsHalf entries settable flip target sources made
+half_is entries settable flip target name suffixes slice typ part sources made is same leads side =
+    let out : out-Form target.form ≡ Form-F.Ref name suffixes = grind (arith, common_steps, form_lemmas) in
+    subst (λ y. SetsForm entries settable flip y sources made) (sym out) (record {
+      typ = typ;
+      part = part;
+      leads = subst (λ ss. Leads entries name.id ss typ part) same leads;
+      side = side;
+    })
 
 pub connect_is : (entries : Entries) (settable : List Bool) (left right : Expr) (from_left from_right : List Source) (first second made : List GroundStmt) → IsLowered entries left from_left → IsLowered entries right from_right
     → IsHalf entries settable false left from_right first → IsHalf entries settable true right from_left second

@@ -21,7 +21,7 @@ use Rattle.ground_net.specs.Grounds as net
 use Rattle.ground_net.specs.Grounds.{Sight, value, mentions}
 use Rattle.ground_net.specs.Statements.{in_turn, effect, is_certain, live}
 use Rattle.net_meaning.specs.Shapes.{Shape, shaped, same_kind, same_shape, Table, HasShapes, shape}
-use Rattle.net_meaning.specs.StatementShapes.{some_same, is_condition, is_source, is_shaped}
+use Rattle.net_meaning.specs.StatementShapes.{some_same as both_alike, is_condition, is_source, is_shaped}
 use Rattle.fir_meaning.specs.Components.{Leaf}
 use Rattle.fir_meaning.specs.Values.{Scene, Spot, beside, fitted_to}
 use Rattle.fir_meaning.specs.Drives.{Setting, same_step, same_way, same_leaf, is_turned, of_orientation, setting, set_along, left_in}
@@ -267,7 +267,7 @@ module _ (n : Numbering) (flip : Bool) (settable : List Bool) (picks : List Pick
       here None t = refl
       here (Some s) fit = each_shaped settable s.expr n.table (targets picks number) (λ t c. (
           target_shapes n.table picks number t indices c,
-          ap₂ some_same fit.shape (at 0 l t.leaf refl (subst (λ m. Contains (choices picks m) t.leaf) (sym (plus_none number)) (target_choice picks number t c))) ∙ same_itself (leaf_shape l),
+          ap₂ both_alike fit.shape (at 0 l t.leaf refl (subst (λ m. Contains (choices picks m) t.leaf) (sym (plus_none number)) (target_choice picks number t c))) ∙ same_itself (leaf_shape l),
         ))
 
 -- Certain, and live
@@ -343,13 +343,13 @@ module _ (n : Numbering) (one : IsOneToOne n) (region : Region) (spot : Sight �
   -- a leaf that is not behind it is left alone
   quiet_one : (j : ℕ) (l : TypeLeaf) (has : Sight → Value) (m : List Leaf) (f : Option Source) → slice_get (leaves typ) j ≡ Some l → FitAt n flip l has m f → may_be flip region z l ≡ false
       → LeavesAlone (set_one settable part.picks (part.first + j) f) x
-  quiet_one j l has m None e fit no = alone_none x
-  quiet_one j l has m (Some s) e fit no = each_alone settable s.expr x (targets part.picks (part.first + j)) (λ t c a. by t c (t.leaf == x) refl)
+  quiet_one j l has m None e fit nope = alone_none x
+  quiet_one j l has m (Some s) e fit nope = each_alone settable s.expr x (targets part.picks (part.first + j)) (λ t c a. by t c (t.leaf == x) refl)
     where
       by : (t : Target) → Contains (targets part.picks (part.first + j)) t → (b : Bool) → (t.leaf == x) ≡ b → (t.leaf == x) ≡ false
       by t c true q =
           let chosen : Contains (choices part.picks (part.first + j)) x = subst (Contains (choices part.picks (part.first + j))) (numbers_equal t.leaf x q) (target_choice part.picks (part.first + j) t c) in
-          absurd (true≢false (sym (ap₂ (λ a b. a && b) fit.turned (behind_named j l (chosen_behind j l e chosen))) ∙ no))
+          absurd (true≢false (sym (ap₂ (λ a b. a && b) fit.turned (behind_named j l (chosen_behind j l e chosen))) ∙ nope))
       by t c false q = q
 
   abbrev pub mentioned_for : TypeLeaf × List Leaf → Option Mentioned

@@ -13,7 +13,7 @@ use Rattle.ground_net.specs.declared.circuit.GroundStmt.TheVariants.{Connect}
 use Rattle.ground_net.specs.Grounds.{Sight, value, mentions}
 use Rattle.ground_net.specs.Statements.{in_turn, effect, driving, is_certain, live}
 use Rattle.net_meaning.specs.Shapes.{Shape, same_kind, same_shape, Table, shape}
-use Rattle.net_meaning.specs.StatementShapes.{some_same, is_shaped}
+use Rattle.net_meaning.specs.StatementShapes.{some_same as both_alike, is_shaped}
 use Rattle.fir_meaning.specs.WellTyped.{leaf_shape}
 use Rattle.ground_parts.proofs.Members.{none_some, some_same}
 use Rattle.ground_exprs.specs.declared.source.Source.{Source}
@@ -115,7 +115,7 @@ node_shaped (l ∷ ls) (s ∷ ss) first table h =
     by true t = refl
     by false t =
         let here = h 0 l s refl t refl in
-        ap (λ b. b && true) (shaped-Connect table first [] s.expr ∙ (ap₂ some_same here.0 (ap table.leaf (sym (plain first)) ∙ here.1) ∙ same_itself (leaf_shape l)))
+        ap (λ b. b && true) (shaped-Connect table first [] s.expr ∙ (ap₂ both_alike here.0 (ap table.leaf (sym (plain first)) ∙ here.1) ∙ same_itself (leaf_shape l)))
 
 pub node_is : (typ : FirType) (first : ℕ) (sources : List Source) (made : List GroundStmt) → made ≡ node_leaves first (leaves typ) sources → IsNode typ first sources made
 node_is typ first sources made is = subst (IsNode typ first sources) (sym is) (record {

@@ -19,8 +19,11 @@ range_from a zero = ap (λ m. m ∷ []) (plain a)
   where
     plain : (a : ℕ) → a ≡ a + 0
     plain a = omega arith
-range_from a (suc n) = ap (λ l. a ∷ l) (range_from (a + 1) n ∙ ap (λ m. range_with_len (a + 1) n ++ m ∷ []) (shift a n))
+range_from a (suc n) = ap (range_with_len a) (more n) ∙ ap (λ l. a ∷ l) (range_from (a + 1) n ∙ ap (λ m. range_with_len (a + 1) n ++ m ∷ []) (shift a n))
   where
+    more : (n : ℕ) → suc n + 1 ≡ suc (n + 1)
+    more n = omega arith
+
     shift : (a n : ℕ) → a + 1 + n ≡ a + suc n
     shift a n = omega arith
 
@@ -66,15 +69,15 @@ no_elements f (k ∷ ks) h = Rattle.std.proofs.lemmas.List.Concat.flat_map-cons 
 -- no leaf is there where a vector on the way has no elements
 pub nowhere_none : (picks : List Pick) (leaf : ℕ) → is_nowhere picks ≡ true → targets picks leaf ≡ []
 nowhere_none [] leaf h = absurd (Rattle.std.proofs.Common.true≢false (sym h))
-nowhere_none (pick ∷ picks) leaf h = by (pick.length == 0) refl h
+nowhere_none (pick ∷ picks) leaf h = by (λ q k. nowhere_none picks (leaf + k * pick.stride) q) (pick.length == 0) refl h
   where
-    by : (b : Bool) → (pick.length == 0) ≡ b → (b || is_nowhere picks) ≡ true → targets (pick ∷ picks) leaf ≡ []
-    by true e q =
+    by : (is_nowhere picks ≡ true → (k : ℕ) → targets picks (leaf + k * pick.stride) ≡ []) → (b : Bool) → (pick.length == 0) ≡ b → (b || is_nowhere picks) ≡ true → targets (pick ∷ picks) leaf ≡ []
+    by deep true e q =
         let none : pick.length ≡ 0 = grind (arith, common_steps, nat_tests, e) in
         ap (λ n. flat_map (λ k. map (under_condition (equals pick.index k)) (targets picks (leaf + k * pick.stride))) (range_with_len 0 n)) none
-    by false e q =
+    by deep false e q =
         no_elements (λ k. map (under_condition (equals pick.index k)) (targets picks (leaf + k * pick.stride))) (range_with_len 0 pick.length)
-        (λ k. ap (map (under_condition (equals pick.index k))) (nowhere_none picks (leaf + k * pick.stride) q))
+        (λ k. ap (map (under_condition (equals pick.index k))) (deep q k))
 
 -- Leaf by leaf
 
@@ -100,7 +103,10 @@ all_more settable picks first number fits fit made after n m a =
 pub drop_next : {A : Type 0} (xs : List A) (k : ℕ) (x : A) → k < length xs → x ≡ get_or xs k x → drop k xs ≡ x ∷ drop (k + 1) xs
 drop_next [] k x h e = absurd (omega (arith, h))
 drop_next (y ∷ ys) zero x h e = ap (λ z. z ∷ ys) (sym e)
-drop_next (y ∷ ys) (suc k) x h e = drop_next ys k x (omega (arith, h)) e
+drop_next (y ∷ ys) (suc k) x h e = drop_next ys k x (omega (arith, h)) e ∙ ap (λ n. x ∷ drop n (y ∷ ys)) (more k)
+  where
+    more : (k : ℕ) → suc (k + 1) ≡ suc k + 1
+    more k = omega arith
 
 pub drop_end : {A : Type 0} (xs : List A) (k : ℕ) → length xs ≤ k → drop k xs ≡ []
 drop_end [] zero h = refl
