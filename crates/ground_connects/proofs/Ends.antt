@@ -286,9 +286,10 @@ alike [] ys k a b h e f = absurd (none_some e)
 alike (x ∷ xs) [] k a b h e f = absurd (none_some f)
 alike (x ∷ xs) (y ∷ ys) zero a b h e f =
     let way = both_true (same_way x.path y.path) (is_turned x.flip y && same_leaves xs ys) h in
-    let turn = both_true (is_turned x.flip y) (same_leaves xs ys) way.1 in
-    (ap (λ (l : TypeLeaf). l.path) (sym (some_same e)) ∙ (ap (λ (l : Leaf). l.way) (leaf_equal (record { component = 0; way = x.path }) (record { component = 0; way = y.path }) way.0) ∙ ap (λ (l : TypeLeaf). l.path) (some_same f)),
-     ap (λ (l : TypeLeaf). l.flip) (sym (some_same e)) ∙ (flips x.flip y.flip turn.0 ∙ ap (λ (l : TypeLeaf). l.flip) (some_same f)))
+    let turn = both_true (is_turned x.flip y) (same_leaves xs ys) way.1 in (
+      ap (λ (l : TypeLeaf). l.path) (sym (some_same e)) ∙ (ap (λ (l : Leaf). l.way) (leaf_equal (record { component = 0; way = x.path }) (record { component = 0; way = y.path }) way.0) ∙ ap (λ (l : TypeLeaf). l.path) (some_same f)),
+      ap (λ (l : TypeLeaf). l.flip) (sym (some_same e)) ∙ (flips x.flip y.flip turn.0 ∙ ap (λ (l : TypeLeaf). l.flip) (some_same f)),
+    )
   where
     flips : (a b : Bool) → (if a then b else not b) ≡ true → a ≡ b
     flips true b e = sym e

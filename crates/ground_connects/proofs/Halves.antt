@@ -266,9 +266,9 @@ module _ (n : Numbering) (flip : Bool) (settable : List Bool) (picks : List Pick
       here : (o : Option Source) → FitAt n flip l (λ sight. head_or (lone []) (has sight)) (head_or [] ms) o → is_shaped n.table (set_one settable picks number o) ≡ true
       here None t = refl
       here (Some s) fit = each_shaped settable s.expr n.table (targets picks number) (λ t c. (
-          target_shapes n.table picks number t indices c,
-          ap₂ both_alike fit.shape (at 0 l t.leaf refl (subst (λ m. Contains (choices picks m) t.leaf) (sym (plus_none number)) (target_choice picks number t c))) ∙ same_itself (leaf_shape l),
-        ))
+        target_shapes n.table picks number t indices c,
+        ap₂ both_alike fit.shape (at 0 l t.leaf refl (subst (λ m. Contains (choices picks m) t.leaf) (sym (plus_none number)) (target_choice picks number t c))) ∙ same_itself (leaf_shape l),
+      ))
 
 -- Certain, and live
 
@@ -376,11 +376,12 @@ module _ (n : Numbering) (one : IsOneToOne n) (region : Region) (spot : Sight �
   quiet (l ∷ ls) has ms [] j all at = absurd all
   quiet (l ∷ ls) has ms (f ∷ fs) j all at =
       let here = at 0 l refl in
-      let rest = quiet ls (λ sight. tail (has sight)) (tail ms) fs (j + 1) all.1 (λ k leaf e. (subst (λ m. slice_get (leaves typ) m ≡ Some leaf) (suc_plus j k) (at (suc k) leaf e).0, (at (suc k) leaf e).1)) in
-      (alone_append (set_one settable part.picks (part.first + j) f) (set_leaves settable part.picks (part.first + j + 1) fs) x
-          (quiet_one j l (λ sight. head_or (lone []) (has sight)) (head_or [] ms) f (subst (λ m. slice_get (leaves typ) m ≡ Some l) (plus_none j) here.0) all.0 here.1)
-          (subst (λ m. LeavesAlone (set_leaves settable part.picks m fs) x) (plus_suc part.first j 0) rest.0),
-       mention_none l ls ms here.1 ∙ rest.1)
+      let rest = quiet ls (λ sight. tail (has sight)) (tail ms) fs (j + 1) all.1 (λ k leaf e. (subst (λ m. slice_get (leaves typ) m ≡ Some leaf) (suc_plus j k) (at (suc k) leaf e).0, (at (suc k) leaf e).1)) in (
+        alone_append (set_one settable part.picks (part.first + j) f) (set_leaves settable part.picks (part.first + j + 1) fs) x
+            (quiet_one j l (λ sight. head_or (lone []) (has sight)) (head_or [] ms) f (subst (λ m. slice_get (leaves typ) m ≡ Some l) (plus_none j) here.0) all.0 here.1)
+            (subst (λ m. LeavesAlone (set_leaves settable part.picks m fs) x) (plus_suc part.first j 0) rest.0),
+        mention_none l ls ms here.1 ∙ rest.1,
+      )
 
   -- the live connects of a leaf that is behind it
   leaf_lives : (j : ℕ) (m : List Leaf) (s : Source) → Contains (choices part.picks (part.first + j)) x → SameLeaves n m (mentions s.expr)

@@ -225,7 +225,6 @@ either false true v last = refl
 either false false v last = refl
 
 module _ (settable : List Bool) (source : Ground) (x : ℕ) where
-
   head_effect : is_allowed (slice_get settable x) ≡ true → (sight : Sight) (t : Target) (last : Option Value)
       → in_turn (map (effect sight x) (if is_allowed (slice_get settable t.leaf) then Connect t.leaf t.conditions source ∷ [] else [])) last
       ≡ if (t.leaf == x) && all_hold sight t.conditions then Some (value source sight) else last
@@ -367,11 +366,12 @@ pub choice_target : (picks : List Pick) (leaf x : ℕ) → Contains (choices pic
 choice_target [] leaf x c = (record { leaf = leaf; conditions = [] }, the_one (record { leaf = leaf; conditions = [] }), only_one leaf x c)
 choice_target (pick ∷ picks) leaf x c =
     let k = from_flat_map (λ k. choices picks (leaf + k * pick.stride)) (range_with_len 0 pick.length) x c in
-    let u = choice_target picks (leaf + k.0 * pick.stride) x k.2 in
-    (under_condition (equals pick.index k.0) u.0,
-     in_flat_map (λ k. map (under_condition (equals pick.index k)) (targets picks (leaf + k * pick.stride))) (range_with_len 0 pick.length) k.0 (under_condition (equals pick.index k.0) u.0) k.1
-         (in_map (under_condition (equals pick.index k.0)) (targets picks (leaf + k.0 * pick.stride)) u.0 u.1),
-     u.2)
+    let u = choice_target picks (leaf + k.0 * pick.stride) x k.2 in (
+      under_condition (equals pick.index k.0) u.0,
+      in_flat_map (λ k. map (under_condition (equals pick.index k)) (targets picks (leaf + k * pick.stride))) (range_with_len 0 pick.length) k.0 (under_condition (equals pick.index k.0) u.0) k.1
+          (in_map (under_condition (equals pick.index k.0)) (targets picks (leaf + k.0 * pick.stride)) u.0 u.1),
+      u.2,
+    )
 
 some_more : (cs : List Ground) (g : Ground) → has_none (cs ++ g ∷ []) ≡ false
 some_more [] g = refl

@@ -102,7 +102,7 @@ same_itself s = both s.kind s.width
 
 pub node_shaped : (ls : List TypeLeaf) (sources : List Source) (first : ℕ) (table : Table)
     → ((j : ℕ) (leaf : TypeLeaf) (s : Source) → slice_get ls j ≡ Some leaf → is_clock leaf ≡ false → slice_get sources j ≡ Some s
-        → (shape s.expr table ≡ Some (leaf_shape leaf)) × (table.leaf (first + j) ≡ Some (leaf_shape leaf)))
+    → (shape s.expr table ≡ Some (leaf_shape leaf)) × (table.leaf (first + j) ≡ Some (leaf_shape leaf)))
     → is_shaped table (node_leaves first ls sources) ≡ true
 node_shaped [] sources first table h = refl
 node_shaped (l ∷ ls) [] first table h = refl

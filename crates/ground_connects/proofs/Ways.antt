@@ -90,10 +90,11 @@ followed_each : (types : Scope) (c : ℕ) (typ inner : FirType) (steps : ℕ) (w
     → ((way : List PathStep) → Contains ways way → length way ≡ steps) → ((way : List PathStep) → Contains ways way → way_type way (types c) ≡ Some typ)
     → (way : List PathStep) → Contains (behind_each ways next) way → (length way ≡ steps + 1) × (way_type way (types c) ≡ Some inner)
 followed_each types c typ inner steps ways next e long leads way k =
-    let from = from_map (λ (w : List PathStep). w ++ next ∷ []) ways way k in
-    (subst (λ w. length w ≡ steps + 1) from.2 (longer from.0 next steps (long from.0 from.1)),
-     subst (λ w. way_type w (types c) ≡ Some inner) from.2
-         (way_behind from.0 (next ∷ []) (types c) ∙ (ap (option_and_then (way_type (next ∷ []))) (leads from.0 from.1) ∙ one_step next typ inner e)))
+    let from = from_map (λ (w : List PathStep). w ++ next ∷ []) ways way k in (
+      subst (λ w. length w ≡ steps + 1) from.2 (longer from.0 next steps (long from.0 from.1)),
+      subst (λ w. way_type w (types c) ≡ Some inner) from.2
+          (way_behind from.0 (next ∷ []) (types c) ∙ (ap (option_and_then (way_type (next ∷ []))) (leads from.0 from.1) ∙ one_step next typ inner e)),
+    )
 
 if_some : {A : Type 0} (b : Bool) (o : Option A) (y : A) → (if b then o else None) ≡ Some y → (b ≡ true) × (o ≡ Some y)
 if_some true o y e = (refl, e)
@@ -156,7 +157,7 @@ follow_on known types c (s ∷ ss) typ last steps region e f = by (λ inner q g.
     shift n k = omega arith
 
     by : ((inner : FirType) → type_behind known (map typed_step ss) (Some inner) ≡ Some last → Followed types c inner (steps + 1) (suffix_onward s types region)
-            → Followed types c last (steps + 1 + length ss) (fold (λ r go. go types r) (suffix_onward s types region) (map suffix_onward ss)))
+        → Followed types c last (steps + 1 + length ss) (fold (λ r go. go types r) (suffix_onward s types region) (map suffix_onward ss)))
         → (o : Option FirType) → typed_step s known typ ≡ o → type_behind known (map typed_step ss) o ≡ Some last
         → Followed types c last (steps + suc (length ss)) (fold (λ r go. go types r) (suffix_onward s types region) (map suffix_onward ss))
     by deep (Some inner) t q =
@@ -209,9 +210,11 @@ inside_step (step.Element k) typ inner e = by (out-Shape typ.shape) refl both.1
 
     by : (y : Shape-F Shape Field FirType) → out-Shape typ.shape ≡ y → element_of_shape y ≡ Some inner → (before : ℕ) × IsInside typ (step.Element k) inner before
     by (Shape-F.Vector element n) is h =
-        let same : typ.shape ≡ shape.Vector element n = grind (arith, common_steps, the_lemmas) in
-        (k * count inner, subst (λ t. IsInside typ (step.Element k) t (k * count t)) (some_same h)
-            (inside_element typ element n k (count element) same refl (less k (vector_length typ) n both.0 (length-of typ element n same))))
+        let same : typ.shape ≡ shape.Vector element n = grind (arith, common_steps, the_lemmas) in (
+          k * count inner,
+          subst (λ t. IsInside typ (step.Element k) t (k * count t)) (some_same h)
+              (inside_element typ element n k (count element) same refl (less k (vector_length typ) n both.0 (length-of typ element n same))),
+        )
     by (Shape-F.Unsigned w) is h = absurd (none_some h)
     by (Shape-F.Signed w) is h = absurd (none_some h)
     by Shape-F.Clock is h = absurd (none_some h)
@@ -234,11 +237,13 @@ lies_in (next ∷ way) typ inner e = by (λ mid h. lies_in way mid inner h) (ste
     by : ((mid : FirType) → way_type way mid ≡ Some inner → (before : ℕ) × LiesIn mid way inner before) → (o : Option FirType) → step_type next typ ≡ o → option_and_then (way_type way) o ≡ Some inner → (before : ℕ) × LiesIn typ (next ∷ way) inner before
     by deep (Some mid) t h =
         let first = inside_step next typ mid t in
-        let rest = deep mid h in
-        (first.0 + rest.0, λ j leaf at.
-            let d = rest.1 j leaf at in
-            let out = first.1.each (rest.0 + j) d.1 d.2 in
-            (out.0, under (next ∷ []) out.0 d.1, ap (slice_get (leaves typ)) (sym (further first.0 rest.0 j)) ∙ out.1, ap (λ p. next ∷ p) d.3))
+        let rest = deep mid h in (
+          first.0 + rest.0,
+          λ j leaf at.
+              let d = rest.1 j leaf at in
+              let out = first.1.each (rest.0 + j) d.1 d.2 in
+              (out.0, under (next ∷ []) out.0 d.1, ap (slice_get (leaves typ)) (sym (further first.0 rest.0 j)) ∙ out.1, ap (λ p. next ∷ p) d.3),
+        )
     by deep None t h = absurd (none_some h)
 
 -- Of two ways that lead to one leaf one goes on from the other.

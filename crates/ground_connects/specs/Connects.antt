@@ -96,5 +96,5 @@ pub record IsNode (typ : FirType) (first : ℕ) (sources : List Source) (made : 
   pub others : (x : ℕ) → ((j : ℕ) (leaf : TypeLeaf) → slice_get (leaves typ) j ≡ Some leaf → is_clock leaf ≡ false → x ≢ first + j) → LeavesAlone made x
   pub shaped : (table : Table)
       → ((j : ℕ) (leaf : TypeLeaf) (s : Source) → slice_get (leaves typ) j ≡ Some leaf → is_clock leaf ≡ false → slice_get sources j ≡ Some s
-          → (shape s.expr table ≡ Some (leaf_shape leaf)) × (table.leaf (first + j) ≡ Some (leaf_shape leaf)))
+      → (shape s.expr table ≡ Some (leaf_shape leaf)) × (table.leaf (first + j) ≡ Some (leaf_shape leaf)))
       → is_shaped table made ≡ true

@@ -94,11 +94,7 @@ fn equals(alloc: Global, index: &Ground, number: u32) -> Result<Ground, AllocErr
         },
     );
     let operands = vec![in alloc; copied(alloc, index)?, Ground::Const(number)]?;
-    Ok(Ground::Op(
-        Prim::Eq,
-        List::from_vec(operands),
-        List::new(alloc),
-    ))
+    Ok(Ground::Op(Prim::Eq, List::from_vec(operands), List::new(alloc)))
 }
 
 /// Adds a connect of each of these leaves that may be set.
