@@ -21,18 +21,17 @@ use Rattle.fir_tree.specs.declared.expr.Form.TheOpen.{Form-F}
 use Rattle.fir_tree.specs.declared.expr.Form.TheViews.{out-Form}
 use Rattle.cycle_values.specs.Values.{fitted, lone}
 use Rattle.ground_net.specs.declared.circuit.GroundStmt.{GroundStmt}
-use Rattle.ground_net.specs.declared.ground.Ground.TheVariants.{Const}
 use Rattle.ground_net.specs.Grounds as net
 use Rattle.ground_net.specs.Grounds.{Sight, value, mentions}
 use Rattle.ground_net.specs.Statements.{in_turn, effect, is_certain, live}
 use Rattle.ground_net.proofs.Layers.{value-Const, mentions-Const}
-use Rattle.net_meaning.specs.Shapes.{Shape, shaped, shape_of_value, HasShapes, shape}
+use Rattle.net_meaning.specs.Shapes.{shaped, HasShapes, shape}
 use Rattle.net_meaning.specs.StatementShapes.{is_shaped}
 use Rattle.net_meaning.proofs.Shaping.{shape-Const, both_true}
 use Rattle.fir_meaning.specs.Components.{Leaf, kind_of_leaf, width_of_leaf}
 use Rattle.fir_meaning.specs.Values.{Scene, Spot, beside, fitted_to, follow, suffix_step, spot_of, spot_of_form}
 use Rattle.fir_meaning.specs.Values as tree
-use Rattle.fir_meaning.specs.Drives.{Setting, same_leaf, same_way, is_turned, of_orientation, setting, set_along, set_at, left_in}
+use Rattle.fir_meaning.specs.Drives.{same_leaf, same_way, is_turned, of_orientation, setting, set_along, set_at, left_in}
 use Rattle.fir_meaning.specs.Mentions as tree_reads
 use Rattle.fir_meaning.specs.Mentions.{Scope, Region, leaves_at, region_of, region_of_form, follow_all, suffix_onward}
 use Rattle.fir_meaning.specs.Certain.{may_be, may_name, surely_names}
@@ -40,17 +39,17 @@ use Rattle.fir_meaning.specs.Loops.{driven_from}
 use Rattle.fir_meaning.specs.WellTyped.{Known, leaf_shape, named_type, named_in_form, both_match, same_leaves, type_behind, typed_step}
 use Rattle.fir_meaning.proofs.Sides.{left_in-append}
 use Rattle.ground_parts.specs.declared.part.Part.{Part}
-use Rattle.ground_parts.specs.Parts.{picked, choices, are_indices}
+use Rattle.ground_parts.specs.Parts.{picked, are_indices}
 use Rattle.ground_parts.specs.Numbers.{Numbering, StandsAt, Reaches, SameLeaves, IsPart, scene_seen}
-use Rattle.ground_parts.proofs.Members.{none_some, some_same, at_place, place_within, item_at, from_place, from_map}
+use Rattle.ground_parts.proofs.Members.{none_some, some_same, at_place, place_within, item_at, from_map}
 use Rattle.ground_parts.proofs.Narrow.{narrow}
 use Rattle.ground_parts.proofs.Onwards.{same_none, same_append, choice_back}
 use Rattle.ground_parts.proofs.Selections.{zero_fitted}
 use Rattle.ground_exprs.specs.declared.source.Source.{Source}
 use Rattle.ground_exprs.specs.declared.component.Component.{Component}
-use Rattle.ground_exprs.specs.Sources.{Entries, known_of, Knows, Leads, told, source_values, ReadEach, AreSources, IsLowered, IsFitted}
-use Rattle.ground_connects.specs.Connects.{IsOneToOne, IsSettable, has_none, SameLives, LeavesAlone, DoesTo, Does, IsConnect, IsInvalidate}
-use Rattle.ground_connects.specs.Targets.{is_allowed, set_leaves, FitsFrom, IsFit, FitsLeaf, AreFits, first_of, rest_of, IsSide}
+use Rattle.ground_exprs.specs.Sources.{Entries, known_of, Knows, Leads, told, source_values, ReadEach, AreSources, IsLowered}
+use Rattle.ground_connects.specs.Connects.{IsOneToOne, IsSettable, has_none, SameLives, LeavesAlone, Does, IsConnect, IsInvalidate}
+use Rattle.ground_connects.specs.Targets.{is_allowed, set_leaves, IsFit, FitsLeaf, AreFits, IsSide}
 use Rattle.ground_connects.specs.Sides.{IsSet, SetsForm, IsHalf}
 use Rattle.ground_connects.proofs.Statements.{effects-append, certain-append, shaped-append, live-append, alone_none, alone_append}
 use Rattle.ground_connects.proofs.Ways.{way_behind, way_type, Followed, followed, LiesIn, lies_in, Apart, onward, back, one_goes_on, nothing_behind}
@@ -89,9 +88,6 @@ module _ (n : Numbering) (flip : Bool) where
     shape = f.fits.shape n.table shaped_is ∙ ap₂ (λ k w. Some (shaped k w)) f.kind (f.width ∙ thin_is (width_of_leaf leaf) small);
     reads = subst (SameLeaves n m) (sym f.fits.mentions) reads;
   }
-
-  heads : {A : Type 0} (x : A) (xs : List A) (d : A) (ys : List A) → (x ∷ xs) ≡ ys → x ≡ head_or d ys
-  heads x xs d ys e = ap (head_or d) e
 
   head_shape : {A : Type 0} {x y : A} {xs ys : List A} → (x ∷ xs) ≡ (y ∷ ys) → x ≡ y
   head_shape e = cc

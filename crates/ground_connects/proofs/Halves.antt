@@ -1,7 +1,7 @@
 -- What the connects of the leaves of one orientation of a part do.
-use Rattle.std.proofs.Common.{◌≡◌, ◌≢◌, ℕ, zero, suc, ◌<◌, ◌≤◌, ◌+◌, ◌*◌, min, nat_le, Bool, true, false, not, List, [], ◌∷◌, ◌++◌, map, length, filter, refl, sym, ap, ap₂, ◌∙◌, subst, arith, ◌==◌, ◌&&◌, ◌||◌, if◌then◌else◌, cond, Some, None, Option, option_map, slice_get, filter_map, ℤ, pos, true≢false, append-nil, append_assoc, ◌⊎◌, inl, inr, ⊎_elim}
+use Rattle.std.proofs.Common.{◌≡◌, ◌≢◌, ℕ, zero, suc, ◌+◌, Bool, true, false, not, List, [], ◌∷◌, ◌++◌, map, length, refl, sym, ap, ap₂, ◌∙◌, subst, arith, ◌==◌, ◌&&◌, ◌||◌, if◌then◌else◌, cond, Some, None, Option, option_map, slice_get, filter_map, ℤ, true≢false, append-nil, inl, inr, ⊎_elim}
 use Rattle.std.specs.Prelude.{Contains}
-use Rattle.std.specs.List.{list_all, list_any, cons_option}
+use Rattle.std.specs.List.{list_any, cons_option}
 use Rattle.std.proofs.lemmas.Bool.Decides.{nat_tests}
 use Rattle.std.proofs.lemmas.Grind.{common_steps}
 use Rattle.std.proofs.lemmas.List.Elements.{Contains-append_left, Contains-append_right, Contains-append_cases}
@@ -14,33 +14,31 @@ use Rattle.fir_types.specs.declared.leaf.TypeLeaf.{TypeLeaf}
 use Rattle.fir_types.specs.declared.leaf.PathStep.{PathStep}
 use Rattle.fir_types.specs.declared.leaf.PathStep.TheVariants as step
 use Rattle.fir_types.specs.Leaves.{leaves}
-use Rattle.cycle_values.specs.Values.{fitted, lone}
-use Rattle.ground_net.specs.declared.ground.Ground.{Ground}
-use Rattle.ground_net.specs.declared.circuit.GroundStmt.{GroundStmt}
+use Rattle.cycle_values.specs.Values.{lone}
 use Rattle.ground_net.specs.Grounds as net
 use Rattle.ground_net.specs.Grounds.{Sight, value, mentions}
 use Rattle.ground_net.specs.Statements.{in_turn, effect, is_certain, live}
-use Rattle.net_meaning.specs.Shapes.{Shape, shaped, same_kind, same_shape, Table, HasShapes, shape}
-use Rattle.net_meaning.specs.StatementShapes.{some_same as both_alike, is_condition, is_source, is_shaped}
+use Rattle.net_meaning.specs.Shapes.{Shape, same_kind, same_shape, HasShapes, shape}
+use Rattle.net_meaning.specs.StatementShapes.{some_same as both_alike, is_shaped}
 use Rattle.fir_meaning.specs.Components.{Leaf}
-use Rattle.fir_meaning.specs.Values.{Scene, Spot, beside, fitted_to}
-use Rattle.fir_meaning.specs.Drives.{Setting, same_step, same_way, same_leaf, is_turned, of_orientation, setting, set_along, left_in}
+use Rattle.fir_meaning.specs.Values.{Spot, beside, fitted_to}
+use Rattle.fir_meaning.specs.Drives.{same_step, same_way, same_leaf, is_turned, of_orientation, setting, left_in}
 use Rattle.fir_meaning.specs.Mentions.{Region, joined, leaves_at}
-use Rattle.fir_meaning.specs.Certain.{may_be, may_name, is_static, surely_names}
-use Rattle.fir_meaning.specs.Loops.{Mentioned, driven_from}
+use Rattle.fir_meaning.specs.Certain.{may_be, surely_names}
+use Rattle.fir_meaning.specs.Loops.{Mentioned}
 use Rattle.fir_meaning.specs.WellTyped.{leaf_shape}
 use Rattle.ground_parts.specs.declared.part.Part.{Part}
 use Rattle.ground_parts.specs.declared.part.Pick.{Pick}
 use Rattle.ground_parts.specs.Parts.{picked, choices, index_mentions, are_indices}
-use Rattle.ground_parts.specs.Numbers.{Numbering, StandsAt, Reaches, SameLeaves, IsPart, is_dynamic, scene_seen}
-use Rattle.ground_parts.proofs.Members.{none_some, some_same, only_one, the_one, not_in_none, in_front, in_later, in_map, from_map}
-use Rattle.ground_parts.proofs.Onwards.{same_append, picked_moved, choice_moved, choice_back}
+use Rattle.ground_parts.specs.Numbers.{Numbering, StandsAt, SameLeaves, IsPart, is_dynamic}
+use Rattle.ground_parts.proofs.Members.{some_same, only_one, the_one, not_in_none, in_front, in_later, in_map, from_map}
+use Rattle.ground_parts.proofs.Onwards.{picked_moved, choice_moved, choice_back}
 use Rattle.ground_exprs.specs.declared.source.Source.{Source}
 use Rattle.ground_connects.specs.declared.targets.Target.{Target}
-use Rattle.ground_connects.specs.Connects.{IsOneToOne, has_none, SameLives, LeavesAlone}
+use Rattle.ground_connects.specs.Connects.{IsOneToOne, SameLives, LeavesAlone}
 use Rattle.ground_connects.specs.Targets.{targets, are_numbered, is_allowed, set_each, set_one, set_leaves}
 use Rattle.ground_connects.proofs.Statements.{effects-append, certain-append, shaped-append, live-append, alone_none, alone_append}
-use Rattle.ground_connects.proofs.Hits.{hits, picked_is, hits_targets, each_effect, each_alone, each_uncertain, one_certain, lives_of, each_live, one_live, lives_from, lives_in, lives_some, target_choice, choice_target, dynamic_targets, target_reads, reads_target, target_shapes, each_shaped}
+use Rattle.ground_connects.proofs.Hits.{picked_is, hits_targets, each_effect, each_alone, each_uncertain, one_certain, lives_of, each_live, one_live, lives_from, lives_in, lives_some, target_choice, choice_target, dynamic_targets, target_reads, reads_target, target_shapes, each_shaped}
 use Rattle.ground_connects.proofs.Ways.{same_front}
 
 -- Lists side by side
@@ -148,9 +146,6 @@ plus_suc a b k = omega arith
 pub plus_none : (a : ℕ) → a + 0 ≡ a
 plus_none a = omega arith
 
-allowed_of : (settable : List Bool) (x : ℕ) → slice_get settable x ≡ Some true → is_allowed (slice_get settable x) ≡ true
-allowed_of settable x e = ap is_allowed e
-
 pub not_allowed : (o : Option Bool) → o ≢ Some true → is_allowed o ≡ false
 not_allowed (Some true) d = absurd (d refl)
 not_allowed (Some false) d = refl
@@ -194,9 +189,6 @@ module _ (n : Numbering) (one : IsOneToOne n) (flip : Bool) (settable : List Boo
       (in_turn (map (effect sight x) (set_one settable picks number f)) last)
       ∙ (step_of f all.0 ∙ ap (λ ps. left_in z (option_map integer_of last) (map (setting c way) (of_orientation flip ps))) (sym (beside-cons (lone []) l ls (has sight)))))
     where
-      rest : List Setting
-      rest = map (setting c way) (of_orientation flip (beside (lone []) ls (tail (has sight))))
-
       later : (k : ℕ) (leaf : TypeLeaf) → slice_get ls k ≡ Some leaf → n.number (record { component = c; way = way ++ leaf.path }) ≡ Some (first + 1 + k)
       later k leaf g = at (suc k) leaf g ∙ ap Some (suc_plus first k)
 
@@ -323,9 +315,6 @@ module _ (n : Numbering) (one : IsOneToOne n) (region : Region) (spot : Sight �
 
   pub behind_chosen : (j : ℕ) (l : TypeLeaf) → Behind l j → Contains (choices part.picks (part.first + j)) x
   behind_chosen j l b = subst (Contains (choices part.picks (part.first + j))) b.number (choice_moved part.picks part.first j b.first b.choice)
-
-  way_of_leaf : Leaf → List PathStep
-  way_of_leaf a = a.way
 
   -- It is behind one of them only.
   pub behind_once : (j k : ℕ) (a b : TypeLeaf) → slice_get (leaves typ) j ≡ Some a → slice_get (leaves typ) k ≡ Some b → Behind a j → Behind b k → j ≡ k

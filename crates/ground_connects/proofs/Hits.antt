@@ -6,7 +6,6 @@ use Rattle.std.specs.List.{flat_map, list_all, list_any, range_with_len}
 use Rattle.std.proofs.Math.Nat.{mod-eq_of_lt}
 use Rattle.std.proofs.lemmas.Bool.Decides.{nat_tests}
 use Rattle.std.proofs.lemmas.Grind.{common_steps}
-use Rattle.std.proofs.lemmas.List.{map-append}
 use Rattle.std.proofs.lemmas.List.Concat.{flat_map-cons}
 use Rattle.std.proofs.lemmas.List.Folds.{list_all-append, list_any-append}
 use Rattle.std.proofs.lemmas.List.Elements.{Contains-append_left, Contains-append_right, Contains-append_cases}
@@ -20,18 +19,17 @@ use Rattle.prim_ops.specs.Widths.{width_number}
 use Rattle.prim_ops.specs.Results.{one_if}
 use Rattle.cycle_values.specs.Values.{fitted, is_one, kind_or_unsigned, operation}
 use Rattle.ground_net.specs.declared.ground.Ground.{Ground}
-use Rattle.ground_net.specs.declared.ground.Ground.TheVariants.{Op, Const}
-use Rattle.ground_net.specs.declared.circuit.GroundStmt.{GroundStmt}
+use Rattle.ground_net.specs.declared.ground.Ground.TheVariants.{Const}
 use Rattle.ground_net.specs.declared.circuit.GroundStmt.TheVariants.{Connect}
 use Rattle.ground_net.specs.Grounds.{Sight, value, mentions, joined}
 use Rattle.ground_net.specs.Statements.{in_turn, all_hold, effect, driving, is_certain, live}
 use Rattle.ground_net.proofs.Layers.{value-Op, value-Const, mentions-Op, mentions-Const}
-use Rattle.net_meaning.specs.Shapes.{Shape, shaped, same_kind, shape_of_value, shape_of_row, Table, shape, all_of, is_index}
-use Rattle.net_meaning.specs.StatementShapes.{some_unsigned, some_same, is_condition, is_source, is_shaped}
+use Rattle.net_meaning.specs.Shapes.{Shape, shaped, same_kind, shape_of_row, Table, shape, all_of}
+use Rattle.net_meaning.specs.StatementShapes.{some_unsigned, is_condition, is_source, is_shaped}
 use Rattle.net_meaning.proofs.Shaping.{shape-Op, shape-Const, both_true}
 use Rattle.ground_parts.specs.declared.part.Pick.{Pick}
 use Rattle.ground_parts.specs.Parts.{picked_from, picked, choices, index_mentions, is_index_shape, are_indices}
-use Rattle.ground_parts.proofs.Members.{only_one, the_one, not_in_none, in_front, in_later, in_map, from_map, in_flat_map, from_flat_map, from_range, below_range}
+use Rattle.ground_parts.proofs.Members.{only_one, the_one, not_in_none, in_front, in_later, in_map, from_map, in_flat_map, from_flat_map, from_range}
 use Rattle.ground_parts.proofs.Selections.{index_cases, index_here, index_later}
 use Rattle.ground_connects.specs.declared.targets.Target.{Target}
 use Rattle.ground_connects.specs.Connects.{has_none, LeavesAlone}

@@ -1,17 +1,16 @@
 -- What the statements of a node do.
-use Rattle.std.proofs.Common.{◌≡◌, ◌≢◌, ℕ, zero, suc, ◌+◌, Bool, true, false, List, [], ◌∷◌, ◌++◌, map, refl, sym, ap, ap₂, ◌∙◌, subst, arith, ◌==◌, ◌&&◌, ◌||◌, if◌then◌else◌, Some, None, Option, slice_get, true≢false, inl, inr}
+use Rattle.std.proofs.Common.{◌≡◌, ◌≢◌, ℕ, zero, suc, ◌+◌, Bool, true, false, List, [], ◌∷◌, ◌++◌, map, refl, sym, ap, ap₂, ◌∙◌, subst, arith, ◌==◌, ◌&&◌, ◌||◌, if◌then◌else◌, Some, slice_get, inl, inr}
 use Rattle.std.proofs.lemmas.Bool.Decides.{nat_tests}
 use Rattle.std.proofs.lemmas.Grind.{common_steps}
 use Rattle.bit_words.specs.declared.value.Kind.{Kind}
 use Rattle.bit_words.specs.declared.value.Kind.TheVariants.{Unsigned, Signed}
-use Rattle.bit_words.specs.declared.value.Value.{Value}
 use Rattle.fir_types.specs.declared.fir_type.FirType.{FirType}
 use Rattle.fir_types.specs.declared.leaf.TypeLeaf.{TypeLeaf}
 use Rattle.fir_types.specs.Leaves.{leaves, is_clock}
 use Rattle.ground_net.specs.declared.circuit.GroundStmt.{GroundStmt}
 use Rattle.ground_net.specs.declared.circuit.GroundStmt.TheVariants.{Connect}
-use Rattle.ground_net.specs.Grounds.{Sight, value, mentions}
-use Rattle.ground_net.specs.Statements.{in_turn, effect, driving, is_certain, live}
+use Rattle.ground_net.specs.Grounds.{value, mentions}
+use Rattle.ground_net.specs.Statements.{in_turn, effect}
 use Rattle.net_meaning.specs.Shapes.{Shape, same_kind, same_shape, Table, shape}
 use Rattle.net_meaning.specs.StatementShapes.{some_same as both_alike, is_shaped}
 use Rattle.fir_meaning.specs.WellTyped.{leaf_shape}

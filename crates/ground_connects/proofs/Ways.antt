@@ -1,7 +1,7 @@
 -- The ways that a reference may go: all have one length, and lead to parts of its type.
-use Rattle.std.proofs.Common.{◌≡◌, ℕ, zero, suc, ◌<◌, ◌≤◌, ◌+◌, ◌*◌, nat_lt, Bool, true, false, List, [], ◌∷◌, ◌++◌, map, length, fold, find, refl, sym, ap, ap₂, ◌∙◌, subst, arith, ◌==◌, ◌&&◌, if◌then◌else◌, Some, None, Option, option_map, option_and_then, slice_get, true≢false, append-nil, append_assoc, ◌⊎◌, inl, inr, ⊎_elim}
+use Rattle.std.proofs.Common.{◌≡◌, ℕ, suc, ◌<◌, ◌+◌, ◌*◌, nat_lt, Bool, true, false, List, [], ◌∷◌, ◌++◌, map, length, fold, find, refl, sym, ap, ap₂, ◌∙◌, subst, arith, ◌==◌, if◌then◌else◌, Some, None, Option, option_map, option_and_then, slice_get}
 use Rattle.std.specs.Prelude.{Contains}
-use Rattle.std.specs.List.{flat_map, range_with_len}
+use Rattle.std.specs.List.{range_with_len}
 use Rattle.std.proofs.lemmas.Bool.Decides.{nat_tests}
 use Rattle.std.proofs.lemmas.Grind.{common_steps}
 use Rattle.place_text.specs.declared.place.Place.{Place}
@@ -19,7 +19,7 @@ use Rattle.fir_types.specs.Leaves.{leaves, under, count}
 use Rattle.fir_tree.specs.declared.expr.Expr.{Expr, the_lemmas as expr_lemmas}
 use Rattle.fir_tree.specs.declared.expr.Form.{Form}
 use Rattle.fir_tree.specs.declared.expr.Suffix.{Suffix, ind-Suffix}
-use Rattle.fir_tree.specs.declared.expr.Form.TheOpen.{Form-F, Suffix-F, Expr-F}
+use Rattle.fir_tree.specs.declared.expr.Form.TheOpen.{Suffix-F}
 use Rattle.fir_tree.specs.declared.expr.Form.TheFolds.{map-Suffix}
 use Rattle.fir_tree.specs.declared.expr.Form.TheViews.{roll-Suffix}
 use Rattle.fir_meaning.specs.WellTyped as kinds
@@ -30,7 +30,7 @@ use Rattle.fir_meaning.specs.Mentions.{Scope, Region, mentions, behind_each, ele
 use Rattle.ground_parts.specs.Numbers.{IsInside}
 use Rattle.ground_parts.specs.Fields.{leaves_before}
 use Rattle.ground_parts.proofs.Members.{none_some, some_same, only_one, from_map, from_flat_map, from_range}
-use Rattle.ground_parts.proofs.Insides.{inside_field, inside_element, field-of, element-of, length-of}
+use Rattle.ground_parts.proofs.Insides.{inside_field, inside_element, length-of}
 
 -- The type behind a step, and behind a way.
 abbrev pub step_type : PathStep → FirType → Option FirType

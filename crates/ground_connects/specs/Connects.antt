@@ -1,6 +1,6 @@
 -- Connects, invalidates and nodes as ground statements, leaf by leaf (FIRRTL specification 3.0, "Connects", "Invalidates", "Nodes" and
 -- "Last Connect Semantics").
-use Rattle.std.specs.Prelude.{◌≡◌, ◌≢◌, ℕ, ◌+◌, ◌<◌, ◌||◌, Bool, true, false, List, [], ◌∷◌, ◌++◌, map, length, slice_get, ℤ, Option, Some, None, option_map}
+use Rattle.std.specs.Prelude.{◌≡◌, ◌≢◌, ℕ, ◌+◌, ◌||◌, Bool, true, false, List, [], ◌∷◌, ◌++◌, map, slice_get, ℤ, Option, Some, option_map}
 use Rattle.bit_words.specs.declared.value.Value.{Value}
 use Rattle.bit_words.specs.Values.{integer_of}
 use Rattle.fir_types.specs.declared.fir_type.FirType.{FirType}

@@ -1,4 +1,4 @@
-use Rattle.std.proofs.Common.{◌∙◌, ap, sym, subst}
+use Rattle.std.proofs.Common.{◌∙◌, ap}
 use Rattle.ground_connects.specs.Nodes.{node_leaves}
 use Rattle.ground_connects.proofs.NodeLeaves.{node_is}
 use Rattle.ground_connects.proofs.nodes.node.Goals as goal

@@ -1,4 +1,4 @@
-use Rattle.std.proofs.Common.{◌≡◌, ◌++◌, ◌+◌, ◌∙◌, sym, ap, length, arith, ◌∷◌, []}
+use Rattle.std.proofs.Common.{◌++◌, ◌∙◌, ap}
 use Rattle.ground_connects.specs.Targets.{set_one}
 use Rattle.ground_connects.proofs.Walks.{all_more, one_longer}
 use Rattle.ground_connects.proofs.sides.set_all.Goals as goal
