@@ -27,6 +27,7 @@ use Rattle.width_rules.specs.declared.rule.Formula.{Formula}
 use Rattle.width_rules.specs.Circuits.{memory_slots, WithPorts, modules_from, all_open, bodies_from, rules_in, open_ports}
 use Rattle.width_rules.proofs.Bounds.{Each}
 use Rattle.width_rules.proofs.Ports.{modules_open, module_places}
+use Rattle.width_fit.specs.Filling.{filled}
 use Rattle.width_fit.specs.Judging.{Solved, told_of, slot_width}
 use Rattle.fir_meaning.specs.Components.{Declaration, Component, TypedModule, declarations_of, with_types, modules_of}
 use Rattle.fir_meaning.specs.MemoryPorts.{memory_ports}
@@ -52,8 +53,10 @@ use Rattle.fitted_laws.proofs.Walking.{Begins, Solves, rule_of, NamedAs, Targets
 use Rattle.fitted_laws.proofs.Ruling.{free_marks, least_solves}
 use Rattle.fitted_laws.proofs.Stored.{HasGoodPorts, instance_there, instance_good}
 use Rattle.fitted_laws.proofs.Filling.{filled_equivalent}
-use Rattle.fitted_laws.proofs.Held.{unclocked, read_silent, port_itself}
-use Rattle.fitted_laws.proofs.Declared.{IsDeclared, straight_ways}
+use Rattle.fitted_laws.proofs.Held.{unclocked, read_silent, port_itself, element_passive}
+use Rattle.fitted_laws.proofs.Memories.{memory_filled}
+use Rattle.fitted_laws.proofs.Showing.{elements_straight}
+use Rattle.fitted_laws.proofs.Declared.{IsDeclared, straight_ways, filled_straight}
 use Rattle.fitted_laws.proofs.Statements.{Instances}
 use Rattle.fitted_laws.proofs.Modules.{ports_walk, IsFaultless, IsModule, ModulesCome, modules_come}
 
@@ -278,4 +281,10 @@ module _ (fitted : Fitted) (ok : IsAccepted fitted) where
             let q : Equivalent (memory_of memory) c.typ = subst (Equivalent (memory_of memory)) (sym is.2) (filled_equivalent (memory_of memory) (map (slot_width ws) (memory_slots memory is.0))) in
             read_silent memory c.typ ((each c among).stored memory s) q (same_ways q) leaf (In-contained (leaves c.typ) leaf i) f;
         port_names = λ c memory port among s i. port_itself memory ((each c among).stored memory s) port (In-contained (memory_ports memory) port i);
+        stored_passive = λ c memory element leaf among s at i.
+            let is = (each c among).memory memory s in
+            let faultless = (each c among).stored memory s in
+            let vs : List Width = map (slot_width ws) is.0 in
+            elements_straight memory faultless (filled (element_of memory) vs) element (filled_straight ws with_ports (element_of memory) vs (element_passive memory faultless))
+            (sym at.bundle ∙ ap leaves (is.2 ∙ memory_filled ws memory is.0 is.1)) at.unported leaf (In-contained (leaves element) leaf i);
       }

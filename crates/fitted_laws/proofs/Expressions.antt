@@ -1,6 +1,6 @@
 -- An expression without faults of types has a type, the rules measure the places of that type, and where its widths have no fault it is
 -- well typed with the type that its widths fill.
-use Rattle.std.proofs.Common.{◌≡◌, ℕ, suc, ◌+◌, ◌≤◌, Bool, true, false, not, cond, ◌&&◌, ◌||◌, if◌then◌else◌, List, [], ◌∷◌, ◌++◌, map, zip, length, Option, Some, None, refl, sym, ap, ap₂, ◌∙◌, subst, arith}
+use Rattle.std.proofs.Common.{◌≡◌, ℕ, suc, ◌+◌, ◌≤◌, Bool, true, false, not, cond, ◌&&◌, ◌||◌, if◌then◌else◌, List, [], ◌∷◌, ◌++◌, map, zip, length, Option, Some, None, refl, sym, ap, ap₂, ◌∙◌, subst, arith, ◌⊎◌, inl, inr}
 use Rattle.std.specs.Prelude.{⊤, option_map, option_and_then, is_some, nat_lt, nat_le, nat_eq, slice_index}
 use Rattle.std.specs.List.{flat_map, list_any}
 use Rattle.std.specs.Map.{lookup}
@@ -25,12 +25,12 @@ use Rattle.prim_ops.specs.Kinds.{row_kind}
 use Rattle.prim_ops.specs.Widths.{width_number, numbers_of, bounded, of_numbers, row_width}
 use Rattle.prim_ops.specs.declared.widths.Width.{Width}
 use Rattle.prim_ops.specs.declared.widths.Width.TheVariants.{Bits, Over}
-use Rattle.fir_tree.specs.declared.expr.Expr.{Expr, ind-Expr}
+use Rattle.fir_tree.specs.declared.expr.Expr.{Expr, ind-Expr, the_lemmas as expr_lemmas}
 use Rattle.fir_tree.specs.declared.expr.Form.{Form, fold-Form}
-use Rattle.fir_tree.specs.declared.expr.Suffix.{Suffix, fold-Suffix}
+use Rattle.fir_tree.specs.declared.expr.Suffix.{Suffix, fold-Suffix, ind-Suffix}
 use Rattle.fir_tree.specs.declared.expr.Form.TheOpen.{Form-F, Suffix-F, Expr-F}
 use Rattle.fir_tree.specs.declared.expr.Form.TheFolds.{map-Form, map-Suffix, map-Expr, fold-roll-Form, fold-roll-Suffix, fold-roll-Expr}
-use Rattle.fir_tree.specs.declared.expr.Form.TheViews.{roll-Form, roll-Suffix, roll-Expr}
+use Rattle.fir_tree.specs.declared.expr.Form.TheViews.{roll-Form, roll-Suffix, roll-Expr, out-Form}
 use Rattle.circuit_parts.specs.declared.part.Part.{Part}
 use Rattle.circuit_parts.specs.declared.part.Flow.{Flow}
 use Rattle.circuit_parts.specs.declared.part.Flow.TheVariants.{Source}
@@ -65,7 +65,7 @@ use Rattle.cycle_values.specs.Shapes.{Shape, shaped, all_of, is_row, params_fit,
 use Rattle.fir_meaning.specs.Values as meaning
 use Rattle.fir_meaning.specs.Values.{field_of_shape, element_of_shape, vector_length}
 use Rattle.fir_meaning.specs.WellTyped as typing
-use Rattle.fir_meaning.specs.WellTyped.{Known, InKnown, Onward, typed, type_behind, is_one_unsigned, chosen_shapes, literal_shape, wider_each}
+use Rattle.fir_meaning.specs.WellTyped.{Known, InKnown, Onward, typed, type_behind, named_type, named_in_form, is_one_unsigned, chosen_shapes, literal_shape, wider_each}
 use Rattle.fir_names.specs.Extents as extents
 use Rattle.fir_names.specs.Extents.{references}
 use Rattle.fir_names.proofs.Graphs.{some_same}
@@ -75,7 +75,8 @@ use Rattle.circuit_laws.proofs.Pieces.{mapped_some}
 use Rattle.fitted_laws.specs.Shaped as shaping
 use Rattle.fitted_laws.specs.Shaped.{is_shaped, all_are}
 use Rattle.fitted_laws.proofs.Filling.{leaf_shapes, first_width, filled_unsigned, filled_signed, IsNumber, bigger, wider_filled, size_alike, unsigned_size, signed_size}
-use Rattle.fitted_laws.proofs.Equivalence.{unsigned_is, IsNumberType, a_natural, an_integer, number_is, is_equivalent}
+use Rattle.type_check.proofs.Equivalence.{is_equivalent}
+use Rattle.fitted_laws.proofs.Signs.{unsigned_is, IsNumberType, a_natural, an_integer, number_is}
 use Rattle.fitted_laws.proofs.Steps.{left_empty, right_empty, Placed, IsGood, IsVector, field_step, vector_of}
 use Rattle.fitted_laws.proofs.Literals.{same_least}
 
@@ -153,6 +154,10 @@ fits_same op.Bits w a b h =
 fits_same op.Head w a b h = h
 fits_same op.Tail w a b h = h
 fits_same _ w a b h = refl
+
+-- An expression names nothing, or what it names has the type.
+abbrev pub NamesType : Option FirType → FirType → Type 0
+NamesType named typ = (named ≡ None) ⊎ (named ≡ Some typ)
 
 module _ (Q : Flow → Formula → Type 0) (allows : Allows Q) (ws : List Width) (tk : TKnown) (wk : WKnown) (knows : Knows Q tk wk) where
   -- what is found of an expression
@@ -835,3 +840,89 @@ module _ (Q : Flow → Formula → Type 0) (allows : Allows Q) (ws : List Width)
       (λ x y is. subst (λ z. FormIs (roll-Form z)) is (form_case y))
       (λ x y is. subst (λ z. SuffixIs (roll-Suffix z)) is (suffix_case y))
       (λ x y is. subst (λ z. ExprIs (roll-Expr z)) is (expr_case y))
+
+  -- What an expression names
+
+  suffix_found : (s : Suffix) → SuffixIs s
+  suffix_found = ind-Suffix FormIs SuffixIs ExprIs
+      (λ x y is. subst (λ z. FormIs (roll-Form z)) is (form_case y))
+      (λ x y is. subst (λ z. SuffixIs (roll-Suffix z)) is (suffix_case y))
+      (λ x y is. subst (λ z. ExprIs (roll-Expr z)) is (expr_case y))
+
+  abbrev found_suffixes : List Suffix → List ((s : Suffix) × SuffixIs s)
+  found_suffixes [] = []
+  found_suffixes (s ∷ ss) = (s, suffix_found s) ∷ found_suffixes ss
+
+  suffixes_same : (ss : List Suffix) → map (λ e. e.0) (found_suffixes ss) ≡ ss
+  suffixes_same [] = refl
+  suffixes_same (s ∷ ss) = ap (λ l. s ∷ l) (suffixes_same ss)
+
+  steps_there : (ss : List Suffix) (sized : Component) → IsGood Q sized → Every Name (IsIn tk) (flat_map (λ names. names) (map extents.suffix_references ss))
+      → all_are (map suffix_shaped ss) ≡ true → (along (map checking.suffix_step ss) tk (Some sized.part)).faults ≡ []
+      → (next : Part) × AreSteps ss sized next
+  steps_there ss = subst (λ (l : List Suffix). (sized : Component) → IsGood Q sized → Every Name (IsIn tk) (flat_map (λ names. names) (map extents.suffix_references l))
+      → all_are (map suffix_shaped l) ≡ true → (along (map checking.suffix_step l) tk (Some sized.part)).faults ≡ [] → (next : Part) × AreSteps l sized next)
+      (suffixes_same ss) (steps_found (found_suffixes ss))
+
+  reference_named : (name : Name) (place : Place) (ss : List Suffix) → Every Name (IsIn tk) (name ∷ flat_map (λ names. names) (map extents.suffix_references ss))
+      → (as_node place (along (map checking.suffix_step ss) tk (check.component tk name.id))).faults ≡ [] → all_are (map suffix_shaped ss) ≡ true
+      → (part : Part) → (as_node place (along (map checking.suffix_step ss) tk (check.component tk name.id))).part ≡ Some part
+      → (K : Known) → Filled ws wk K
+      → (surveyed ws place (measured_reference (named (steps_to ss) (component wk name.id))) [] (flat_map (λ (step : judging.Step). step.index wk) (map (judging.suffix_step ws) ss))).faults ≡ []
+      → type_behind K (map suffix_typed ss) (K name.id) ≡ Some (filled part.typ (widths_of ws (measured_reference (named (steps_to ss) (component wk name.id)))))
+  reference_named name place ss names e shape part is K fits none =
+      let there' = some_is (check.component tk name.id) names.0 in
+      let one = mapped_some (λ (sized : Component). sized.part) (lookup (nat_eq name.id) wk) there'.0 (sym (knows.same name.id) ∙ there'.1) in
+      let sized : Component = one.0 in
+      let known : check.component tk name.id ≡ Some sized.part = there'.1 ∙ ap Some (sym one.2) in
+      let known_w : component wk name.id ≡ sized = ap component_or_none one.1 in
+      let r = steps_there ss sized (knows.good name.id sized one.1) names.1 shape (ap (λ o. (along (map checking.suffix_step ss) tk o).faults) (sym known) ∙ e) in
+      let last : Component = named (steps_to ss) sized in
+      let surveys : List Survey = flat_map (λ (step : judging.Step). step.index wk) (map (judging.suffix_step ws) ss) in
+      let same : r.0 ≡ part = some_same (sym r.1.found ∙ ap (λ o. (along (map checking.suffix_step ss) tk o).part) (sym known) ∙ is) in
+      ap (type_behind K (map suffix_typed ss)) (fits name.id sized one.1)
+      ∙ r.1.typed_is K fits (left_empty (flat_map (λ (s : Survey). s.faults) surveys) _ none)
+      ∙ ap₂ (λ (p : Part) (vs : List Width). Some (filled p.typ vs)) same (sym (formulas_widths last.slots))
+      ∙ ap (λ (c : Component). Some (filled part.typ (widths_of ws (measured_reference (named (steps_to ss) c))))) (sym known_w)
+
+  abbrev judged_layer : Form-F Form Suffix Expr → Place → Judgement
+  judged_layer z place = checking.of_form (map-Form Form Suffix Expr (Place → TKnown → Judgement) checking.Step Judged form_judged checking.suffix_step judged z) place tk
+
+  abbrev survey_layer : Form-F Form Suffix Expr → Place → Survey
+  survey_layer z place = judging.of_form ws (map-Form Form Suffix Expr (Place → judging.Among) judging.Step judging.Among form_survey (judging.suffix_step ws) (survey ws) z) place wk
+
+  abbrev names_layer : Form-F Form Suffix Expr → List Name
+  names_layer z = extents.of_form (map-Form Form Suffix Expr (List Name) (List Name) (List Name) form_names extents.suffix_references references z)
+
+  abbrev shaped_layer : Form-F Form Suffix Expr → Bool
+  shaped_layer z = shaping.of_form (map-Form Form Suffix Expr Bool Bool Bool form_shaped suffix_shaped is_shaped z)
+
+  judged_out : (e : Expr) → found_of tk e ≡ judged_layer (out-Form e.form) e.place
+  judged_out e = grind (arith, common_steps, expr_lemmas)
+
+  survey_out : (e : Expr) → survey ws e wk ≡ survey_layer (out-Form e.form) e.place
+  survey_out e = grind (arith, common_steps, expr_lemmas)
+
+  names_out : (e : Expr) → references e ≡ names_layer (out-Form e.form)
+  names_out e = grind (arith, common_steps, expr_lemmas)
+
+  shaped_out : (e : Expr) → is_shaped e ≡ shaped_layer (out-Form e.form)
+  shaped_out e = grind (arith, common_steps, expr_lemmas)
+
+  form_named : (z : Form-F Form Suffix Expr) (place : Place) → Every Name (IsIn tk) (names_layer z) → (judged_layer z place).faults ≡ [] → shaped_layer z ≡ true
+      → (part : Part) → (judged_layer z place).part ≡ Some part → (K : Known) → Filled ws wk K → (survey_layer z place).faults ≡ []
+      → NamesType (named_in_form K z) (filled part.typ (widths_of ws (survey_layer z place).measured))
+  form_named (Form-F.Ref name ss) place names e shape part is K fits none = inr (reference_named name place ss names e shape part is K fits none)
+  form_named (Form-F.Literal kind width n) place names e shape part is K fits none = inl refl
+  form_named (Form-F.Prim prim es params) place names e shape part is K fits none = inl refl
+  form_named (Form-F.Mux es) place names e shape part is K fits none = inl refl
+
+  pub expr_named : (e : Expr) → Every Name (IsIn tk) (references e) → (found_of tk e).faults ≡ [] → is_shaped e ≡ true
+      → (part : Part) → (found_of tk e).part ≡ Some part → (K : Known) → Filled ws wk K → (survey ws e wk).faults ≡ []
+      → NamesType (named_type K e) (filled part.typ (widths_of ws (survey ws e wk).measured))
+  expr_named e names h shape part is K fits none =
+      let j : found_of tk e ≡ judged_layer (out-Form e.form) e.place = judged_out e in
+      let s : survey ws e wk ≡ survey_layer (out-Form e.form) e.place = survey_out e in
+      subst (λ (x : Survey). NamesType (named_type K e) (filled part.typ (widths_of ws x.measured))) (sym s)
+      (form_named (out-Form e.form) e.place (subst (Every Name (IsIn tk)) (names_out e) names) (ap (λ (x : Judgement). x.faults) (sym j) ∙ h) (sym (shaped_out e) ∙ shape)
+      part (ap (λ (x : Judgement). x.part) (sym j) ∙ is) K fits (ap (λ (x : Survey). x.faults) (sym s) ∙ none))

@@ -23,7 +23,7 @@ use Rattle.fir_types.specs.Memories.{element_of, element_in, depth_of, first_or}
 use Rattle.fir_types.specs.Bundles.{memory_of, port_field, port_type, fields_of_mode, mask_of, plain_field, flipped_field, uint_at, clock_at, address_bits, addr_name, en_name, clk_name, data_name, mask_name, rdata_name, wmode_name, wdata_name, wmask_name}
 use Rattle.fir_types.specs.Passivity.{has_flip}
 use Rattle.fir_types.specs.Equivalence.{Equivalent, IsUnsigned, IsSigned, SameFields, unsigned, signed, clocks, vectors, bundles, no_fields, same_field, a_uint, a_reset, a_sint}
-use Rattle.fir_types.proofs.Layers.{leaves-bundle, leaves-vector, leaves-field}
+use Rattle.fir_types.proofs.Layers.{leaves-bundle, leaves-vector, leaves-field, flip-bundle}
 use Rattle.fir_types.proofs.Masks.{masked}
 use Rattle.circuit_parts.proofs.Shapes.{ShapeCase, shape_uint, shape_sint, shape_clock, shape_reset, shape_bundle, shape_vector, case_of}
 use Rattle.type_check.specs.declared.fault.TypeFault.TheVariants.{MemoryField, OperandKind, NotPassive}
@@ -40,7 +40,7 @@ use Rattle.fitted_laws.proofs.Steps.{left_empty, right_empty}
 use Rattle.fitted_laws.proofs.Once.{false_when}
 use Rattle.fitted_laws.proofs.Expressions.{unless_true}
 
-every_in : (P : TypeLeaf → Type 0) (ls : List TypeLeaf) → Every TypeLeaf P ls → (l : TypeLeaf) → In l ls → P l
+pub every_in : (P : TypeLeaf → Type 0) (ls : List TypeLeaf) → Every TypeLeaf P ls → (l : TypeLeaf) → In l ls → P l
 every_in P [] h l i = elim i [ ]
 every_in P (x ∷ ls) h l i = ⊎_elim (λ a. subst P (sym (In-one a)) h.0) (λ b. every_in P ls h.1 l b) (In-either (x ∷ []) ls i)
 
@@ -241,6 +241,21 @@ element_silent other (line.Depth at n ∷ lines) o e = element_silent other line
 element_silent other (line.ReadLatency at n ∷ lines) o e = element_silent other lines o (right_empty (line_faults (line.ReadLatency at n)) _ e)
 element_silent other (line.WriteLatency at n ∷ lines) o e = element_silent other lines o (right_empty (line_faults (line.WriteLatency at n)) _ e)
 element_silent other (line.ReadUnder at u ∷ lines) o e = element_silent other lines o e
+
+empty_passive : has_flip (record { place = record { line = 1; column = 1 }; shape = shape.Bundle [] }) ≡ false
+empty_passive = flip-bundle (record { place = record { line = 1; column = 1 }; shape = shape.Bundle [] }) [] refl
+
+first_passive : (other : FirType) (lines : List MemLine) → has_flip other ≡ false → flat_map line_faults lines ≡ [] → has_flip (first_or other (filter_map element_in lines)) ≡ false
+first_passive other [] o e = o
+first_passive other (line.Element at typ ∷ lines) o e = (stored_holds typ (left_empty (stored_faults typ) _ e)).1
+first_passive other (line.MemPort at m name ∷ lines) o e = first_passive other lines o e
+first_passive other (line.Depth at n ∷ lines) o e = first_passive other lines o (right_empty (line_faults (line.Depth at n)) _ e)
+first_passive other (line.ReadLatency at n ∷ lines) o e = first_passive other lines o (right_empty (line_faults (line.ReadLatency at n)) _ e)
+first_passive other (line.WriteLatency at n ∷ lines) o e = first_passive other lines o (right_empty (line_faults (line.WriteLatency at n)) _ e)
+first_passive other (line.ReadUnder at u ∷ lines) o e = first_passive other lines o e
+
+pub element_passive : (memory : Memory) → memory_faults memory ≡ [] → has_flip (element_of memory) ≡ false
+element_passive memory e = first_passive _ memory.lines empty_passive (left_empty (flat_map line_faults memory.lines) _ e)
 
 quiet_ways : (ls ms : List TypeLeaf) → map way_of ls ≡ map way_of ms → SameClocks ls ms → Every TypeLeaf Quiet ls → Every TypeLeaf Quiet ms
 quiet_ways [] [] e c h = tt

@@ -1,5 +1,5 @@
 mod Filling
-mod Equivalence
+mod Signs
 mod Literals
 mod Steps
 mod Once
@@ -8,14 +8,15 @@ mod Held
 mod Spelled
 mod Known
 mod Walking
-mod Measured
 mod Ruling
 mod Stored
 mod Declared
 mod Flips
+mod Matching
 mod Statements
 mod Modules
-mod Circuits
 mod Bundles
 mod Memories
+mod Showing
+mod Circuits
 mod WellFormed

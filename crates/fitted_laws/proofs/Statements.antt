@@ -11,6 +11,8 @@ use Rattle.fir_types.specs.declared.memory.Memory.{Memory}
 use Rattle.fir_types.specs.Memories.{element_of}
 use Rattle.fir_types.specs.Bundles.{memory_of}
 use Rattle.fir_types.specs.Passivity.{has_flip}
+use Rattle.fir_types.specs.Equivalence.{Equivalent}
+use Rattle.fir_types.proofs.Equivalences.{turned_round, on_and_on}
 use Rattle.prim_ops.specs.declared.widths.Width.{Width}
 use Rattle.prim_ops.specs.declared.widths.Width.TheVariants.{Bits}
 use Rattle.fir_tree.specs.declared.circuit.Module.{Module}
@@ -48,7 +50,7 @@ use Rattle.width_fit.specs.Judging.{Solved, Survey, survey, slot_width, widths_o
 use Rattle.width_fit.specs.declared.fault.WidthFault.TheVariants.{WidthUnknown}
 use Rattle.fir_meaning.specs.Components.{Declaration, A_wire, A_register, A_reset_register, A_memory, An_instance, A_node, Told, ToldArm, told, of_told, of_told_arm, declared_from}
 use Rattle.fir_meaning.specs.WellTyped as typing
-use Rattle.fir_meaning.specs.WellTyped.{Known, typed, is_typed, is_condition, is_one_unsigned, is_narrow}
+use Rattle.fir_meaning.specs.WellTyped.{Known, typed, named_type, both_match, is_typed, is_condition, is_one_unsigned, is_narrow}
 use Rattle.fir_names.specs.Extents.{Seen, Use, references}
 use Rattle.fir_names.specs.Parts as parts
 use Rattle.fir_names.specs.Parts.{Part, stmt_part, arm_part}
@@ -58,18 +60,20 @@ use Rattle.circuit_laws.proofs.Alone.{every-left, every-right}
 use Rattle.circuit_laws.proofs.Scoping.{IsNamed, AllNamed, get-either}
 use Rattle.fitted_laws.specs.Shaped as shaping
 use Rattle.fitted_laws.specs.Shaped.{is_shaped, is_shaped_stmt, all_are}
-use Rattle.fitted_laws.proofs.Filling.{leaf_shapes, filled_unsigned}
-use Rattle.fitted_laws.proofs.Equivalence.{unsigned_is, is_equivalent}
+use Rattle.fitted_laws.proofs.Filling.{leaf_shapes, filled_unsigned, filled_equivalent}
+use Rattle.type_check.proofs.Equivalence.{is_equivalent}
+use Rattle.fitted_laws.proofs.Signs.{unsigned_is}
 use Rattle.fitted_laws.proofs.Steps.{left_empty, right_empty, Placed, IsGood}
-use Rattle.fitted_laws.proofs.Expressions.{TKnown, WKnown, Knows, Filled, expr_found, unless_true, where_false, some_is, and_left, and_right}
+use Rattle.fitted_laws.proofs.Expressions.{TKnown, WKnown, Knows, Filled, expr_found, NamesType, expr_named, unless_true, where_false, some_is, and_left, and_right}
 use Rattle.fitted_laws.proofs.Once.{memory_once}
 use Rattle.fitted_laws.proofs.Stored.{memory_good}
 use Rattle.fitted_laws.proofs.Known.{Marks, Marked, RuleMarked, marks_allow, more_knows, more_good, knows_with, filled_with, kept_found, with_itself}
 use Rattle.fitted_laws.proofs.Walking.{SeenIn, named_known, Begins, begins_more, Stands, Solves, rule_of, NamedAs, Walks, Comes, Comes_to, both, comes_both, comes_nothing, stands_still}
-use Rattle.fitted_laws.proofs.Measured.{same_measured}
+use Rattle.width_fit.proofs.Measured.{same_measured}
 use Rattle.fitted_laws.proofs.Ruling.{NoFlip, slots_free, length-slots, length-node_slots, free_marks, free_ruled, free_placed, node_marks, node_marked, node_ruled, node_widths, connected_marked, invalidated_marked, drivable}
 use Rattle.fitted_laws.proofs.Flips.{straight_spots, flips_alike, drivable_straight, source_placed, places_narrow}
 use Rattle.fitted_laws.proofs.Held.{stored_holds}
+use Rattle.fitted_laws.proofs.Matching.{match_by}
 use Rattle.fitted_laws.proofs.Declared.{IsDeclared, slots_narrow, filled_differ, filled_straight, plain_declared}
 
 abbrev told_arm : Arm → ToldArm
@@ -97,12 +101,22 @@ module _ (all : Solved) (modules : List Module) (with_ports : List WithPorts) (p
     pub once : twice_in part.typ ≡ []
     pub placed : Placed (Marked ms) part.flow (spots part.typ) (survey ws e wk).measured.formulas
     pub typed_is : (K : Known) → Filled ws wk K → (survey ws e wk).faults ≡ [] → typed e K ≡ Some (leaf_shapes (filled part.typ (widths_of ws (survey ws e wk).measured)))
+    pub named_is : (K : Known) → Filled ws wk K → (survey ws e wk).faults ≡ [] → NamesType (named_type K e) (filled part.typ (widths_of ws (survey ws e wk).measured))
 
   found_in : (tk : TKnown) (wk : WKnown) (n : ℕ) (ms : Marks) (seen : List Seen) → Stands ports tk wk n ms → SeenIn tk seen → (e : Expr)
       → AllNamed (map (λ name. record { name = name; seen = seen }) (references e)) → (found_of tk e).faults ≡ [] → is_shaped e ≡ true → IsFoundIn tk wk ms e
   found_in tk wk n ms seen st si e au f shape =
       let r = expr_found (Marked ms) (marks_allow ms) ws tk wk st.knows e (named_known tk seen si (references e) au) f shape in
-      record { part = r.0; part_is = r.1.found; measured_is = r.1.measured; counted = r.1.counted; once = r.1.once; placed = r.1.placed; typed_is = r.1.typed_is }
+      record {
+        part = r.0;
+        part_is = r.1.found;
+        measured_is = r.1.measured;
+        counted = r.1.counted;
+        once = r.1.once;
+        placed = r.1.placed;
+        typed_is = r.1.typed_is;
+        named_is = expr_named (Marked ms) (marks_allow ms) ws tk wk st.knows e (named_known tk seen si (references e) au) f shape r.0 r.1.found;
+      }
 
   -- the names of one expression and then of others
   names_left : (seen : List Seen) (xs ys : List Name) → AllNamed (map (λ name. record { name = name; seen = seen }) (xs ++ ys)) → AllNamed (map (λ name. record { name = name; seen = seen }) xs)
@@ -445,7 +459,15 @@ module _ (all : Solved) (modules : List Module) (with_ports : List WithPorts) (p
         marked = subst (λ (x : Measured). Each (RuleMarked ms) (connected (spots x.part.typ) x.formulas (measured right wk).formulas)) (sym ml)
             (subst (λ (x : Measured). Each (RuleMarked ms) (connected (spots (survey ws left wk).measured.part.typ) lf x.formulas)) (sym mr)
             (subst (λ (p : APart). Each (RuleMarked ms) (connected (spots p.typ) lf rf)) (sym fl.measured_is) own));
-        well = λ K fits none. ap₂ (λ a b. a && b) (typed_true tk wk ms left fl K fits (left_empty (survey ws left wk).faults _ none)) (typed_true tk wk ms right fr K fits (right_empty (survey ws left wk).faults _ none));
+        well = λ K fits none.
+            let nl = left_empty (survey ws left wk).faults _ none in
+            let nr = right_empty (survey ws left wk).faults _ none in
+            let lw : List Width = widths_of ws (survey ws left wk).measured in
+            let rw : List Width = widths_of ws (survey ws right wk).measured in
+            let alike : Equivalent (filled fl.part.typ lw) (filled fr.part.typ rw)
+            = on_and_on (turned_round (filled_equivalent fl.part.typ lw)) (on_and_on (is_equivalent fl.part.typ fr.part.typ c) (filled_equivalent fr.part.typ rw)) in
+            ap₂ (λ a b. a && b) (typed_true tk wk ms left fl K fits nl)
+            (ap₂ (λ a b. a && b) (typed_true tk wk ms right fr K fits nr) (match_by (named_type K left) (named_type K right) (filled fl.part.typ lw) (filled fr.part.typ rw) (fl.named_is K fits nl) (fr.named_is K fits nr) alike));
       })
 
   memory_comes : (memory : Memory) (block behind : List Stmt) → Comes_to all modules ports S (layer (Stmt-F.Mem memory) block behind)
