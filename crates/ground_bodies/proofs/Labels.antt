@@ -18,7 +18,7 @@ use Rattle.ground_bodies.specs.Declares.{Label, labels, arm_labels, all_labels, 
 abbrev told_arm : Arm → ToldArm
 told_arm = fold-Arm Told ToldArm of_told of_told_arm
 
-abbrev label_of : Declaration → Label
+abbrev pub label_of : Declaration → Label
 label_of d = (d.name, d.sort)
 
 pub record Labelled (s : Stmt) : Type 0 where
@@ -99,7 +99,7 @@ with_labelled_same : (ss : List Stmt) → map (λ e. e.0) (with_labelled ss) ≡
 with_labelled_same [] = refl
 with_labelled_same (s ∷ ss) = ap (λ l. s ∷ l) (with_labelled_same ss)
 
-declared_labels : (ss : List Stmt) (block : List Stmt) → map label_of (declared_from block (map told ss)) ≡ body_labels ss
+pub declared_labels : (ss : List Stmt) (block : List Stmt) → map label_of (declared_from block (map told ss)) ≡ body_labels ss
 declared_labels ss block = subst (λ l. map label_of (declared_from block (map told l)) ≡ body_labels l) (with_labelled_same ss) (block_same (with_labelled ss) block)
 
 -- components that have these declarations from one on

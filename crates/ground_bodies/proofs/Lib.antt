@@ -6,3 +6,7 @@ pub mod Labels
 pub mod Views
 pub mod Texts
 pub mod Nodes
+pub mod Blocks
+pub mod Statements
+pub mod Wholes
+pub mod Closing

@@ -69,7 +69,7 @@ leaf_itself a = ap₂ (λ u v. u && v) (number_itself a.component) (way_itself a
 
 -- Places
 
-got : {A : Type 0} (xs : List A) (k : ℕ) (o x : A) → slice_get xs k ≡ Some x → get_or xs k o ≡ x
+pub got : {A : Type 0} (xs : List A) (k : ℕ) (o x : A) → slice_get xs k ≡ Some x → get_or xs k o ≡ x
 got [] k o x e = absurd (none_some e)
 got (a ∷ xs) zero o x e = some_same e
 got (a ∷ xs) (suc k) o x e = got xs k o x e
