@@ -23,7 +23,7 @@ use Rattle.ground_exprs.specs.declared.component.Component.{Component}
 use Rattle.ground_exprs.specs.Sources.{Entries, IsLowered, known_of}
 use Rattle.ground_exprs.proofs.Closing.{take_whole}
 use Rattle.ground_connects.specs.Connects.{IsNode}
-use Rattle.ground_bodies.specs.Arms.{IsCondition, AreArms, IsNodeFor, IsNodeOf, IsNodeWhere, is_typed_arm, are_typed_arms, leaves_under, leaves_of_component}
+use Rattle.ground_bodies.specs.Arms.{IsCondition, AreArms, IsNodeOf, IsNodeWhere, is_typed_arm, are_typed_arms, leaves_under, leaves_of_component}
 use Rattle.ground_bodies.specs.Bodies.{IsBody}
 use Rattle.ground_bodies.proofs.Layers as layer
 use Rattle.ground_bodies.proofs.Blocks.{is_none, is_more, are_none, are_more, is_when}
@@ -128,31 +128,17 @@ with_none entries settable body before behind made e p = subst (IsBody entries s
 min_below : (a b c : ℕ) → c ≡ min a b → c < b → c ≡ a
 min_below a b c e lt = omega (arith, e, lt)
 
-pub counted_behind : (entries : Entries) (name before count_ behind : ℕ) (e : Component) → lookup (nat_eq name) entries ≡ Some e → count_ ≡ min (count e.typ) (2 ^ 128 - 1) → count_ < 2 ^ 32 → behind ≡ before + count_
+pub counted_behind : (entries : Entries) (name before all number behind : ℕ) (e : Component) → lookup (nat_eq name) entries ≡ Some e → all ≡ min (count e.typ) (2 ^ 128 - 1) → number ≡ all → number < 2 ^ 32 → behind ≡ before + number
     → behind ≡ before + leaves_under entries name
-counted_behind entries name before count_ behind e found is small sum =
-    let all : count_ ≡ count e.typ = min_below (count e.typ) (2 ^ 128 - 1) count_ is (omega (arith, small)) in
-    sum ∙ ap (λ i. before + i) (all ∙ (counted e.typ ∙ sym (ap leaves_of_component found)))
+counted_behind entries name before all number behind e found is same small sum =
+    let here : all ≡ count e.typ = min_below (count e.typ) (2 ^ 128 - 1) all is (omega (arith, same, small)) in
+    sum ∙ ap (λ i. before + i) (same ∙ (here ∙ (counted e.typ ∙ sym (ap leaves_of_component found))))
 
 pub none_behind : (entries : Entries) (name before : ℕ) → lookup (nat_eq name) entries ≡ None → before ≡ before + leaves_under entries name
 none_behind entries name before found = let z : before ≡ before + 0 = omega arith in z ∙ ap (λ i. before + i) (sym (ap leaves_of_component found))
 
-pub same_count : (typ : FirType) (n c : ℕ) → c ≡ min (count typ) (2 ^ 128 - 1) → n < 2 ^ 64 → c ≡ n → n ≡ length (leaves typ)
-same_count typ n c is small same = sym same ∙ (min_below (count typ) (2 ^ 128 - 1) c is (omega (arith, small, same)) ∙ counted typ)
-
-pub other_count : (typ : FirType) (n c : ℕ) → c ≡ min (count typ) (2 ^ 128 - 1) → n < 2 ^ 64 → (c ≡ n → ⊥) → n ≢ length (leaves typ)
-other_count typ n c is small differ same =
-    let l : count typ ≡ n = counted typ ∙ sym same in
-    differ (omega (arith, is, l, small))
-
-pub node_made : (entries : Entries) (name : ℕ) (sources : List Source) (made : List GroundStmt) (e : Component) → lookup (nat_eq name) entries ≡ Some e → length sources ≡ length (leaves e.typ) → IsNode e.typ e.first sources made
-    → IsNodeOf entries name sources made
-node_made entries name sources made e found same is =
-    subst (λ o. IsNodeWhere o sources made) (sym found) (record { sets = λ q. is; none = λ q. absurd (q same) })
-
-pub node_unmade : (entries : Entries) (name : ℕ) (sources : List Source) (made : List GroundStmt) (e : Component) → lookup (nat_eq name) entries ≡ Some e → length sources ≢ length (leaves e.typ) → made ≡ [] → IsNodeOf entries name sources made
-node_unmade entries name sources made e found differ none =
-    subst (λ o. IsNodeWhere o sources made) (sym found) (record { sets = λ q. absurd (differ q); none = λ q. none })
+pub node_made : (entries : Entries) (name : ℕ) (sources : List Source) (made : List GroundStmt) (e : Component) → lookup (nat_eq name) entries ≡ Some e → IsNode e.typ e.first sources made → IsNodeOf entries name sources made
+node_made entries name sources made e found is = subst (λ o. IsNodeWhere o sources made) (sym found) is
 
 pub node_nowhere : (entries : Entries) (name : ℕ) (sources : List Source) (made : List GroundStmt) → lookup (nat_eq name) entries ≡ None → made ≡ [] → IsNodeOf entries name sources made
 node_nowhere entries name sources made found none = subst (λ o. IsNodeWhere o sources made) (sym found) none

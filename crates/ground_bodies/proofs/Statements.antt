@@ -348,8 +348,7 @@ module _ (entries : Entries) (settable : List Bool) (name : Name) (e : Expr) (so
       is : IsNode v.0.typ v.0.first sources made
       is =
           let found : lookup (nat_eq name.id) entries ≡ Some v.0 = ap (λ i. lookup (nat_eq i) entries) (sym name_is) ∙ v.1 in
-          let here : IsNodeWhere (Some v.0) sources made = subst (λ o. IsNodeWhere o sources made) found node in
-          here.sets (counted ∙ ap (λ typ. length (leaves typ)) (sym v.2))
+          subst (λ o. IsNodeWhere o sources made) found node
 
       -- a leaf that statements may set is none of a node
       apart : (k : ℕ) (c : Component) (leaf : TypeLeaf) → slice_get m.components k ≡ Some c → is_set (c, leaf) ≡ true → Place n 1 k → (k < n) ⊎ (n < k)

@@ -1,5 +1,5 @@
 -- The arms of a `when`, and the declarations of a body, as ground statements.
-use Rattle.std.specs.Prelude.{◌≡◌, ◌≢◌, ℕ, ⊤, ◌+◌, nat_eq, Bool, true, List, [], ◌∷◌, map, length, Option, Some, None}
+use Rattle.std.specs.Prelude.{◌≡◌, ℕ, ⊤, ◌+◌, nat_eq, Bool, true, List, [], ◌∷◌, map, length, Option, Some, None}
 use Rattle.std.specs.List.{list_all}
 use Rattle.std.specs.Map.{lookup}
 use Rattle.fir_types.specs.Leaves.{leaves}
@@ -30,14 +30,10 @@ leaves_of_component (Some e) = length (leaves e.typ)
 abbrev pub leaves_under : Entries → ℕ → ℕ
 leaves_under entries name = leaves_of_component (lookup (nat_eq name) entries)
 
--- the statements of a node, where there is one with so many leaves
-pub record IsNodeFor (e : Component) (sources : List Source) (made : List GroundStmt) : Type 0 where
-  pub sets : length sources ≡ length (leaves e.typ) → IsNode e.typ e.first sources made
-  pub none : length sources ≢ length (leaves e.typ) → made ≡ []
-
+-- the statements of a node, where there is one
 abbrev pub IsNodeWhere : Option Component → List Source → List GroundStmt → Type 0
 IsNodeWhere None sources made = made ≡ []
-IsNodeWhere (Some e) sources made = IsNodeFor e sources made
+IsNodeWhere (Some e) sources made = IsNode e.typ e.first sources made
 
 -- The statements of the node of a name.
 abbrev pub IsNodeOf : Entries → ℕ → List Source → List GroundStmt → Type 0

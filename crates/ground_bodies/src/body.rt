@@ -175,7 +175,7 @@ fn behind_component(
     }
 }
 
-/// The node of a name gets these sources, one for each of its leaves.
+/// The node of a name gets these sources.
 fn lower_node(
     alloc: Global,
     known: &IndexMap<u32, Component>,
@@ -186,9 +186,6 @@ fn lower_node(
 {
     match known.get(&name) {
         Some(component) => {
-            if leaf_count(&component.typ) != sources.len() as u128 {
-                return Ok(List::new(alloc));
-            }
             let made = node(alloc, component, sources)?;
             Ok(made)
         }
