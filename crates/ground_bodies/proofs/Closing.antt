@@ -55,28 +55,16 @@ one_taken xs i x lt is = take_more xs i x lt ∙ ap (λ y. take i xs ++ y ∷ []
 pub stmt_typed : (known : Known) (body : List Stmt) (i : ℕ) (s : Stmt) → i < length body → s ≡ get_or body i s → are_typed known body ≡ true → is_typed_stmt known s ≡ true
 stmt_typed known body i s lt is all = passes_at (is_typed_stmt known) body i s lt is all
 
-pub body_begins : (entries : Entries) (settable : List Bool) (body : List Stmt) (before : ℕ) (made : List GroundStmt) → made ≡ [] → IsBody entries settable (take 0 body) before before made
-body_begins entries settable body before made e =
-    subst (IsBody entries settable (take 0 body) before before) (sym e) (subst (λ b. IsBody entries settable b before before []) (sym (none_taken body)) (is_none entries settable before))
-
 pub body_goes_on : (entries : Entries) (settable : List Bool) (body : List Stmt) (i : ℕ) (s : Stmt) (before mid behind : ℕ) (made more after : List GroundStmt) → i < length body → s ≡ get_or body i s
     → IsBody entries settable (take i body) before mid made → IsBody entries settable (s ∷ []) mid behind more → after ≡ made ++ more → IsBody entries settable (take (i + 1) body) before behind after
 body_goes_on entries settable body i s before mid behind made more after lt is p q e =
     subst (IsBody entries settable (take (i + 1) body) before behind) (sym e)
     (subst (λ b. IsBody entries settable b before behind (made ++ more)) (sym (one_taken body i s lt is)) (is_more entries settable (take i body) (s ∷ []) before mid behind made more p q))
 
-pub body_ends : (entries : Entries) (settable : List Bool) (body : List Stmt) (i : ℕ) (before behind : ℕ) (made : List GroundStmt) → length body ≤ i → IsBody entries settable (take i body) before behind made
-    → IsBody entries settable body before behind made
-body_ends entries settable body i before behind made ended p = subst (λ b. IsBody entries settable b before behind made) (take_whole body i ended) p
-
 -- Arms
 
 pub arm_typed : (known : Known) (arms : List Arm) (i : ℕ) (a : Arm) → i < length arms → a ≡ get_or arms i a → are_typed_arms known arms ≡ true → (is_condition known a.condition ≡ true) × (are_typed known a.body ≡ true)
 arm_typed known arms i a lt is all = both_true (is_condition known a.condition) (are_typed known a.body) (sym (layer.typed_arm-is known a) ∙ passes_at (is_typed_arm known) arms i a lt is all)
-
-pub arms_begin : (entries : Entries) (settable : List Bool) (arms : List Arm) (before : ℕ) (made : List GroundArm) → made ≡ [] → AreArms entries settable (take 0 arms) before before made
-arms_begin entries settable arms before made e =
-    subst (AreArms entries settable (take 0 arms) before before) (sym e) (subst (λ b. AreArms entries settable b before before []) (sym (none_taken arms)) (are_none entries settable before))
 
 pub arms_go_on : (entries : Entries) (settable : List Bool) (arms : List Arm) (i : ℕ) (a : Arm) (before mid behind : ℕ) (gs after : List GroundArm) (g : GroundArm) (source : Source) (sources : List Source)
     → i < length arms → a ≡ get_or arms i a → AreArms entries settable (take i arms) before mid gs → are_typed_arms (known_of entries) arms ≡ true → IsLowered entries a.condition sources → sources ≡ source ∷ [] → source.expr ≡ g.condition
@@ -87,30 +75,7 @@ arms_go_on entries settable arms i a before mid behind gs after g source sources
     (are_more entries settable (take i arms) a before mid behind gs g p
     (record { source = source; expr = expr; unsigned = (arm_typed (known_of entries) arms i a lt is all).0; lowered = subst (IsLowered entries a.condition) one low }) q))
 
-pub arms_end : (entries : Entries) (settable : List Bool) (arms : List Arm) (i : ℕ) (before behind : ℕ) (made : List GroundArm) → length arms ≤ i → AreArms entries settable (take i arms) before behind made
-    → AreArms entries settable arms before behind made
-arms_end entries settable arms i before behind made ended p = subst (λ b. AreArms entries settable b before behind made) (take_whole arms i ended) p
-
--- What statements ask
-
-some_there : {A : Type 0} (o : Option A) → is_some o ≡ true → IsSome o
-some_there o e = e
-
-pub node_typed : (known : Known) (s : Stmt) (name : Name) (e : Expr) → s ≡ stmt.Node name e → is_typed_stmt known s ≡ true → IsSome (typed e known)
-node_typed known s name e is h = some_there (typed e known) (sym (layer.typed-Node known name e) ∙ (ap (is_typed_stmt known) (sym is) ∙ h))
-
-pub connect_typed : (known : Known) (s : Stmt) (left right : Expr) → s ≡ stmt.Connect left right → is_typed_stmt known s ≡ true
-    → (is_typed known left ≡ true) × (is_typed known right ≡ true) × (both_match (named_type known left) (named_type known right) ≡ true)
-connect_typed known s left right is h =
-    let t = both_true (is_typed known left) (is_typed known right && both_match (named_type known left) (named_type known right)) (sym (layer.typed-Connect known left right) ∙ (ap (is_typed_stmt known) (sym is) ∙ h)) in
-    let r = both_true (is_typed known right) (both_match (named_type known left) (named_type known right)) t.1 in
-    (t.0, r.0, r.1)
-
-pub invalidate_typed : (known : Known) (s : Stmt) (target : Expr) → s ≡ stmt.Invalidate target → is_typed_stmt known s ≡ true → is_typed known target ≡ true
-invalidate_typed known s target is h = sym (layer.typed-Invalidate known target) ∙ (ap (is_typed_stmt known) (sym is) ∙ h)
-
-pub when_typed : (known : Known) (s : Stmt) (arms : List Arm) (other : List Stmt) → s ≡ stmt.When arms other → is_typed_stmt known s ≡ true → (are_typed_arms known arms ≡ true) × (are_typed known other ≡ true)
-when_typed known s arms other is h = both_true (are_typed_arms known arms) (are_typed known other) (sym (layer.typed-When known arms other) ∙ (ap (is_typed_stmt known) (sym is) ∙ h))
+-- A whole `when`
 
 pub when_made : (entries : Entries) (settable : List Bool) (s : Stmt) (arms : List Arm) (other : List Stmt) (before mid last behind : ℕ) (gs : List GroundArm) (made whole : List GroundStmt) → s ≡ stmt.When arms other
     → AreArms entries settable arms before mid gs → IsBody entries settable other mid last made → whole ≡ statement.When before gs made ∷ [] → behind ≡ last → IsBody entries settable (s ∷ []) before behind whole
@@ -134,11 +99,5 @@ counted_behind entries name before all number behind e found is same small sum =
     let here : all ≡ count e.typ = min_below (count e.typ) (2 ^ 128 - 1) all is (omega (arith, same, small)) in
     sum ∙ ap (λ i. before + i) (same ∙ (here ∙ (counted e.typ ∙ sym (ap leaves_of_component found))))
 
-pub none_behind : (entries : Entries) (name before : ℕ) → lookup (nat_eq name) entries ≡ None → before ≡ before + leaves_under entries name
-none_behind entries name before found = let z : before ≡ before + 0 = omega arith in z ∙ ap (λ i. before + i) (sym (ap leaves_of_component found))
-
 pub node_made : (entries : Entries) (name : ℕ) (sources : List Source) (made : List GroundStmt) (e : Component) → lookup (nat_eq name) entries ≡ Some e → IsNode e.typ e.first sources made → IsNodeOf entries name sources made
 node_made entries name sources made e found is = subst (λ o. IsNodeWhere o sources made) (sym found) is
-
-pub node_nowhere : (entries : Entries) (name : ℕ) (sources : List Source) (made : List GroundStmt) → lookup (nat_eq name) entries ≡ None → made ≡ [] → IsNodeOf entries name sources made
-node_nowhere entries name sources made found none = subst (λ o. IsNodeWhere o sources made) (sym found) none

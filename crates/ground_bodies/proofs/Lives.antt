@@ -25,16 +25,13 @@ covered_more p true a b c = if_either p
 covered_more true false a b c = refl
 covered_more false false a b c = sym (append_assoc a b c)
 
-any_append : (us bs : List Driving) → list_any (λ t. t.certain) (us ++ bs) ≡ (list_any (λ t. t.certain) us || list_any (λ t. t.certain) bs)
-any_append [] bs = refl
-any_append (a ∷ us) bs = ap (λ b. a.certain || b) (any_append us bs) ∙ either a.certain (list_any (λ t. t.certain) us) (list_any (λ t. t.certain) bs)
+pub certain_append : (us bs : List Driving) → list_any (λ t. t.certain) (us ++ bs) ≡ (list_any (λ t. t.certain) us || list_any (λ t. t.certain) bs)
+certain_append [] bs = refl
+certain_append (a ∷ us) bs = ap (λ b. a.certain || b) (certain_append us bs) ∙ either a.certain (list_any (λ t. t.certain) us) (list_any (λ t. t.certain) bs)
   where
     either : (a b c : Bool) → (a || (b || c)) ≡ ((a || b) || c)
     either true b c = refl
     either false b c = refl
-
-pub certain_append : (us bs : List Driving) → list_any (λ t. t.certain) (us ++ bs) ≡ (list_any (λ t. t.certain) us || list_any (λ t. t.certain) bs)
-certain_append = any_append
 
 nothing : (b : Bool) (l : List (List ℕ)) → l ≡ (if b then [] else []) ++ l
 nothing true l = refl
@@ -43,7 +40,7 @@ nothing false l = refl
 pub live_append : (us bs : List Driving) → live_from (us ++ bs) ≡ (if list_any (λ t. t.certain) bs then [] else live_from us) ++ live_from bs
 live_append [] bs = nothing (list_any (λ t. t.certain) bs) (live_from bs)
 live_append (a ∷ us) bs =
-    ap₂ (λ b l. (if b then [] else a.live) ++ l) (any_append us bs) (live_append us bs)
+    ap₂ (λ b l. (if b then [] else a.live) ++ l) (certain_append us bs) (live_append us bs)
     ∙ covered_more (list_any (λ t. t.certain) us) (list_any (λ t. t.certain) bs) a.live (live_from us) (live_from bs)
 
 tree_covered_more : (p q : Bool) (a b c : List (List Leaf)) → (if p || q then [] else a) ++ ((if q then [] else b) ++ c) ≡ (if q then [] else (if p then [] else a) ++ b) ++ c

@@ -51,7 +51,6 @@ port_is_no_node body (port ∷ ports) (suc k) d e at sort = port_is_no_node body
 module _ (circuit : Circuit) (scope : Scope) (scoped : IsScope circuit scope) (fine : HasNone (IsFault circuit)) (holder : Module) (within : In holder circuit.modules) (m : TypedModule) (has : HasTypes holder m)
     (entries : Entries) (settable : List Bool) (view : IsViewOf m entries settable) (listed : List GroundLeaf) (t : HasTable m (table_of listed)) (before behind : ℕ) (made : List GroundStmt)
     (at : before ≡ leaves_before m (length holder.ports)) (body : IsBody entries settable holder.body before behind made) where
-
   abbrev N : Numbering
   N = numbering m (table_of listed)
 
@@ -113,4 +112,3 @@ module _ (circuit : Circuit) (scope : Scope) (scoped : IsScope circuit scope) (f
         (node_of x y e k there sort clk here).live.leaves);
     shaped = does.shaped;
   }
-

@@ -4,7 +4,7 @@ use Rattle.fir_meaning.specs.WellTyped.{typed, are_typed}
 use Rattle.ground_exprs.specs.Sources.{known_of}
 use Rattle.ground_exprs.proofs.Lowered.{unsigned_some, unsigned_lone}
 use Rattle.ground_bodies.specs.Bodies.{IsBody}
-use Rattle.ground_bodies.proofs.Closing.{arm_typed, stmt_typed, body_goes_on, arms_go_on, node_typed, connect_typed, invalidate_typed, when_typed, when_made, with_none}
+use Rattle.ground_bodies.proofs.Closing.{arm_typed, stmt_typed, body_goes_on, arms_go_on, when_made, with_none}
 use Rattle.ground_bodies.proofs.Statements.{is_wire, is_register, is_reset_register, is_memory, is_instance, is_node, is_connect, is_invalidate, is_skip}
 use Rattle.ground_bodies.proofs.body.+body.Goals as goal
 

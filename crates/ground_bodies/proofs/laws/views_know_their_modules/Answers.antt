@@ -1,7 +1,4 @@
 use Rattle.ground_bodies.proofs.Views.{narrow_view, known_types, typed_view, knows_view, one_to_one, number_at}
-use Rattle.ground_bodies.proofs.Closing.{node_made}
-use Rattle.ground_bodies.proofs.Statements.{is_node}
-use Rattle.ground_bodies.proofs.Wholes.{whole_body}
 use Rattle.ground_bodies.proofs.laws.views_know_their_modules.Goals as goal
 
 pub returns-clause-narrow : goal.returns-clause-narrow
