@@ -1,5 +1,5 @@
 -- What is read of a part.
-use Rattle.std.proofs.Common.{◌≡◌, ℕ, zero, suc, ◌<◌, ◌≤◌, ◌+◌, ◌*◌, ◌^◌, min, true, false, List, [], ◌∷◌, ◌++◌, map, length, refl, sym, ap, ap₂, ◌∙◌, subst, arith, ◌==◌, ◌&&◌, ◌||◌, nat_lt, if◌then◌else◌, Some, None, Option, option_and_then, slice_get, ℤ, pos, negsuc, true≢false, ◌⊎◌, inl, inr, ⊎_elim}
+use Rattle.std.proofs.Common.{◌≡◌, ℕ, zero, suc, ◌<◌, ◌≤◌, ◌+◌, ◌*◌, ◌^◌, min, Bool, true, false, List, [], ◌∷◌, ◌++◌, map, length, refl, sym, ap, ap₂, ◌∙◌, subst, arith, ◌==◌, ◌&&◌, ◌||◌, nat_lt, if◌then◌else◌, Some, None, Option, option_and_then, slice_get, ℤ, pos, negsuc, true≢false, ◌⊎◌, inl, inr, ⊎_elim}
 use Rattle.std.specs.Prelude.{Contains}
 use Rattle.std.specs.List.{list_all, range_with_len}
 use Rattle.std.proofs.lemmas.Bool.Decides.{nat_tests}
@@ -248,6 +248,45 @@ read_nowhere pick rest leaf item none n =
 
     zero_is : (n : ℕ) → n ≡ 0 → (n == 0) ≡ true
     zero_is n e = grind (arith, common_steps, nat_tests, e)
+
+-- A vector without elements anywhere on the way
+
+picked_nothing : (length : ℕ) (element : ℕ → Option ℕ) (i : ℤ) → ((k : ℕ) → element k ≡ None) → picked_from length element i ≡ None
+picked_nothing n element (negsuc k) h = refl
+picked_nothing n element (pos k) h = by (nat_lt k n) (h k)
+  where
+    by : (b : Bool) → element k ≡ None → (if b then element k else None) ≡ None
+    by true e = e
+    by false e = refl
+
+nowhere_cases : (n : ℕ) (b : Bool) → ((n == 0) || b) ≡ true → (n ≡ 0) ⊎ (b ≡ true)
+nowhere_cases zero b e = inl refl
+nowhere_cases (suc n) b e = inr (ap (λ t. t || b) (sym (not_none (suc n) (omega arith))) ∙ e)
+
+nothing_picked : (sight : Sight) (picks : List Pick) (leaf : ℕ) → is_nowhere picks ≡ true → picked sight picks leaf ≡ None
+nothing_picked sight [] leaf h = absurd (true≢false (sym h))
+nothing_picked sight (pick ∷ rest) leaf h = ⊎_elim
+    (λ e. no_choice pick.length (λ k. picked sight rest (leaf + k * pick.stride)) (integer_of (value pick.index sight)) e)
+    (λ later. picked_nothing pick.length (λ k. picked sight rest (leaf + k * pick.stride)) (integer_of (value pick.index sight)) (λ k. nothing_picked sight rest (leaf + k * pick.stride) later))
+    (nowhere_cases pick.length (is_nowhere rest) h)
+
+nothing_chosen : (picks : List Pick) (leaf x : ℕ) → is_nowhere picks ≡ true → Contains (choices picks leaf) x → ⊥
+nothing_chosen [] leaf x h c = true≢false (sym h)
+nothing_chosen (pick ∷ rest) leaf x h c =
+    let from = from_flat_map (λ k. choices rest (leaf + k * pick.stride)) (range_with_len 0 pick.length) x c in
+    ⊎_elim (λ e. never pick.length from.0 e (from_range 0 pick.length from.0 from.1).1) (λ later. nothing_chosen rest (leaf + from.0 * pick.stride) x later from.2) (nowhere_cases pick.length (is_nowhere rest) h)
+  where
+    never : (n k : ℕ) → n ≡ 0 → k < 0 + n → ⊥
+    never n k e h = omega arith
+
+pub read_past : (picks : List Pick) (leaf : ℕ) (g : Ground) → is_nowhere picks ≡ true → IsNothing picks g → IsRead picks leaf g
+read_past picks leaf g h n = record {
+  value = λ sight. n.value sight ∙ ap (integer_at sight) (sym (nothing_picked sight picks leaf h));
+  only = λ x c. inl (n.only x c);
+  indices = n.indices;
+  leaves = λ x c. absurd (nothing_chosen picks leaf x h c);
+  shape = λ table s i t. n.shape table i ∙ ap (λ b. Some (if b then shaped Unsigned 0 else s)) (sym h);
+}
 
 -- Elements one after another
 

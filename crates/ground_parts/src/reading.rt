@@ -2,7 +2,7 @@
 
 ghost use Rattle.std.specs.Prelude.{◌≡◌, ◌+◌, ◌*◌, [], ◌∷◌, IfOk};
 ghost use Rattle.ground_net.specs.declared.ground.Ground.TheVariants.{Select};
-ghost use Rattle.ground_parts.specs.Parts.{IsRead, IsNothing};
+ghost use Rattle.ground_parts.specs.Parts.{IsRead, IsNothing, is_nowhere};
 
 use crate::part::Pick;
 use bit_words::{Kind, List, Value};
@@ -11,6 +11,25 @@ use std::alloc::{AllocError, Global};
 
 /// What the leaf of a part has, by its number in the elements with the number 0: a selection for each index.
 pub fn read(alloc: Global, picks: &[Pick], leaf: u32) -> Result<Ground, AllocError>
+    ensures { IfOk result (λ g. IsRead picks.now leaf g) }
+{
+    if lead_nowhere(picks) {
+        let past = nothing(alloc, picks)?;
+        return Ok(past);
+    }
+    let selected = read_each(alloc, picks, leaf)?;
+    Ok(selected)
+}
+
+/// A vector on the way has no elements. Without a look at all of them first, those before it would be walked for nothing.
+pub fn lead_nowhere(picks: &[Pick]) -> bool
+    ensures { result ≡ is_nowhere picks.now }
+{
+    picks.iter().any(|pick| pick.length == 0)
+}
+
+/// The same, element by element.
+fn read_each(alloc: Global, picks: &[Pick], leaf: u32) -> Result<Ground, AllocError>
     ensures { IfOk result (λ g. IsRead picks.now leaf g) }
 {
     let Some((pick, rest)) = picks.split_first() else {
@@ -23,7 +42,7 @@ pub fn read(alloc: Global, picks: &[Pick], leaf: u32) -> Result<Ground, AllocErr
     }
     let mut items = List::new(alloc);
     for number in 0..as_number(pick.length)? {
-        let item = read(alloc, rest, element_leaf(leaf, number, pick.stride)?)?;
+        let item = read_each(alloc, rest, element_leaf(leaf, number, pick.stride)?)?;
         items.push(item)?;
     }
     let selected = select(alloc, pick, items)?;

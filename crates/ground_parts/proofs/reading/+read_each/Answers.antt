@@ -3,7 +3,7 @@ use Rattle.ground_net.specs.declared.ground.Ground.TheVariants.{Select, Leaf}
 use Rattle.ground_parts.specs.Parts.{IsRead, AreReads}
 use Rattle.ground_parts.proofs.Members.{none_there}
 use Rattle.ground_parts.proofs.Selections.{read_leaf, read_elements, read_nowhere, reads_more}
-use Rattle.ground_parts.proofs.reading.+read.Goals as goal
+use Rattle.ground_parts.proofs.reading.+read_each.Goals as goal
 
 pub returns-in_default : goal.returns-in_default
 returns-in_default t c = subst (λ ps. IsRead ps c.args.leaf (Leaf c.args.leaf)) (sym (none_there c.args.picks.now c.in_default.ensures.cases)) (read_leaf c.args.leaf)
