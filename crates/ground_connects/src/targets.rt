@@ -1,14 +1,13 @@
 //! The leaves that a leaf of a part may be.
 
 ghost use Rattle.std.specs.Prelude.{◌≡◌, ◌++◌, [], ◌∷◌, map, slice_get, IfOk, OnOk};
-ghost use Rattle.ground_parts.specs.Parts.{is_nowhere};
 ghost use Rattle.ground_connects.specs.Targets.{equals, under_condition, targets, is_allowed, set_each};
 
 use bit_words::{Kind, List, Number};
 use ground_exprs::constants::constant;
 use ground_net::{Ground, GroundStmt, copied};
 use ground_parts::Pick;
-use ground_parts::reading::{as_number, element_leaf};
+use ground_parts::reading::{as_number, element_leaf, lead_nowhere};
 use prim_ops::Prim;
 use std::alloc::{AllocError, Global};
 
@@ -28,13 +27,6 @@ pub fn targets_of(alloc: Global, picks: &[Pick], leaf: u32) -> Result<List<Targe
     }
     let listed = every_target(alloc, picks, leaf)?;
     Ok(listed)
-}
-
-/// A vector on the way has no elements. Without a look at all of them first, those before it would be walked for nothing.
-fn lead_nowhere(picks: &[Pick]) -> bool
-    ensures { result ≡ is_nowhere picks.now }
-{
-    picks.iter().any(|pick| pick.length == 0)
 }
 
 fn every_target(alloc: Global, picks: &[Pick], leaf: u32) -> Result<List<Target>, AllocError>
