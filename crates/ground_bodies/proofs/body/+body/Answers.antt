@@ -1,11 +1,11 @@
-use Rattle.std.proofs.Common.{◌≡◌, true, [], ◌∷◌, sym, arith, rules, refl, ap, subst}
+use Rattle.std.proofs.Common.{◌≡◌, true, [], ◌∷◌, sym, rules, refl, subst}
 use Rattle.fir_tree.specs.declared.stmt.Stmt.{the_lemmas}
 use Rattle.fir_meaning.specs.WellTyped.{typed, are_typed}
 use Rattle.ground_exprs.specs.Sources.{known_of}
 use Rattle.ground_exprs.proofs.Lowered.{unsigned_some, unsigned_lone}
 use Rattle.ground_bodies.specs.Bodies.{IsBody}
 use Rattle.ground_bodies.proofs.Closing.{arm_typed, stmt_typed, body_goes_on, arms_go_on, when_made, with_none}
-use Rattle.ground_bodies.proofs.Statements.{is_wire, is_register, is_reset_register, is_memory, is_instance, is_node, is_connect, is_invalidate, is_skip}
+use Rattle.ground_bodies.proofs.Statements.{is_wire, is_register, is_reset_register, is_memory, is_instance, is_node, is_connect, is_invalidate}
 use Rattle.ground_bodies.proofs.body.+body.Goals as goal
 
 pub lower_arms-lower_expr-requires-clause-typed : goal.lower_arms-lower_expr-requires-clause-typed
