@@ -78,9 +78,10 @@ when_made entries settable s arms other before mid last behind gs made whole is 
     (subst (λ w. IsBody entries settable (stmt.When arms other ∷ []) before behind w) (sym e)
     (subst (λ i. IsBody entries settable (stmt.When arms other ∷ []) before i (statement.When before gs made ∷ [])) (sym b) (is_when entries settable arms other before mid last gs made p q)))
 
--- the same with nothing made
-pub with_none : (entries : Entries) (settable : List Bool) (body : List Stmt) (before behind : ℕ) (made : List GroundStmt) → made ≡ [] → IsBody entries settable body before behind [] → IsBody entries settable body before behind made
-with_none entries settable body before behind made e p = subst (IsBody entries settable body before behind) (sym e) p
+-- the same in other words
+pub with_told : (entries : Entries) (settable : List Bool) (body : List Stmt) (before behind other : ℕ) (made told : List GroundStmt) → told ≡ made → other ≡ behind → IsBody entries settable body before behind made
+    → IsBody entries settable body before other told
+with_told entries settable body before behind other made told e b p = subst (IsBody entries settable body before other) (sym e) (subst (λ i. IsBody entries settable body before i made) (sym b) p)
 
 -- Leaves of components
 
