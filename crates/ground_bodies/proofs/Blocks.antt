@@ -1,9 +1,8 @@
 -- Bodies statement by statement, and the arms of a `when`.
-use Rattle.std.proofs.Common.{◌≡◌, ℕ, ◌+◌, ◌&&◌, Bool, true, false, List, [], ◌∷◌, ◌++◌, map, length, slice_get, Some, option_map, refl, sym, ap, ap₂, ◌∙◌, subst, arith, nat_lt, append-nil, append_assoc}
+use Rattle.std.proofs.Common.{◌≡◌, ℕ, ◌+◌, ◌&&◌, Bool, true, false, List, [], ◌∷◌, ◌++◌, map, length, refl, sym, ap, ap₂, ◌∙◌, subst, arith, nat_lt, append-nil, append_assoc}
 use Rattle.std.specs.List.{list_all}
 use Rattle.std.proofs.lemmas.List.{map-append, length-append}
 use Rattle.std.proofs.lemmas.List.Folds.{list_all-append}
-use Rattle.bit_words.specs.Values.{integer_of}
 use Rattle.cycle_values.specs.Values.{is_one}
 use Rattle.fir_types.specs.declared.leaf.TypeLeaf.{TypeLeaf}
 use Rattle.fir_types.specs.Leaves.{leaves}
@@ -11,33 +10,31 @@ use Rattle.fir_tree.specs.declared.expr.Expr.{Expr}
 use Rattle.fir_tree.specs.declared.stmt.Stmt.{Stmt}
 use Rattle.fir_tree.specs.declared.stmt.Stmt.TheVariants as stmt
 use Rattle.fir_tree.specs.declared.stmt.Arm.{Arm}
-use Rattle.fir_meaning.specs.Components.{TypedModule, Component, Leaf, A_node, is_clock, type_in}
+use Rattle.fir_meaning.specs.Components.{TypedModule, Component, A_node, is_clock, type_in}
 use Rattle.fir_meaning.specs.Values as tree
 use Rattle.fir_meaning.specs.Mentions as tree_reads
 use Rattle.fir_meaning.specs.States.{leaf_of}
-use Rattle.fir_meaning.specs.WellTyped.{typed, is_one_unsigned}
+use Rattle.fir_meaning.specs.WellTyped.{is_one_unsigned}
 use Rattle.ground_net.specs.declared.ground.Ground.{Ground}
 use Rattle.ground_net.specs.declared.circuit.GroundStmt.{GroundStmt}
 use Rattle.ground_net.specs.declared.circuit.GroundStmt.TheVariants.{When}
 use Rattle.ground_net.specs.declared.circuit.GroundArm.{GroundArm}
-use Rattle.ground_net.specs.Grounds.{Sight, value, mentions}
+use Rattle.ground_net.specs.Grounds.{value, mentions}
 use Rattle.ground_net.specs.Statements.{is_certain}
-use Rattle.net_meaning.specs.Shapes.{Table, HasShapes, Shape, shape, is_unsigned}
+use Rattle.net_meaning.specs.Shapes.{Table, shape}
 use Rattle.net_meaning.specs.StatementShapes.{is_condition, some_unsigned, is_shaped, is_shaped_stmt, are_shaped}
 use Rattle.ground_of_circuit.specs.Numbers.{is_set, scene_at, leaves_before}
 use Rattle.ground_parts.specs.Numbers.{Numbering, SameLeaves}
 use Rattle.ground_parts.proofs.Members.{place_within}
-use Rattle.ground_exprs.specs.declared.source.Source.{Source}
-use Rattle.ground_exprs.specs.Sources.{Entries, Knows, AreSources, known_of, told}
+use Rattle.ground_exprs.specs.Sources.{Entries, Knows, AreSources}
 use Rattle.ground_exprs.proofs.Lowered.{joined_one, head_same}
 use Rattle.ground_bodies.specs.Declares.{Declares, all_labels, labels, arm_labels, body_labels}
 use Rattle.ground_bodies.specs.Arms.{IsCondition, ArmsDo, AreArms, arms_labels}
-use Rattle.ground_bodies.specs.Bodies.{Meant, IsMeant, IsViewOf, HasTable, BodyDoes, IsBody, Stands, numbering, meant_by, node_meant}
+use Rattle.ground_bodies.specs.Bodies.{Meant, IsMeant, BodyDoes, IsBody, Stands, numbering, meant_by, node_meant}
 use Rattle.ground_bodies.proofs.Layers.{labels-When, arm_labels-is, shaped-When, shaped_arm-is}
 use Rattle.ground_bodies.proofs.Lists.{plus_none, plus_more, declares-left, declares-right, same_side}
 use Rattle.ground_bodies.proofs.Lives.{lives_none}
-use Rattle.ground_bodies.proofs.Meanings as meaning
-use Rattle.ground_bodies.proofs.Meanings.{seq, means_none, means_seq, MeantArm, IsMeantArm, AreMeantArms, when_meant, means_when}
+use Rattle.ground_bodies.proofs.Meanings.{means_none, means_seq, MeantArm, IsMeantArm, AreMeantArms, when_meant, means_when}
 use Rattle.ground_bodies.proofs.Texts.{labels_append, counts_append, text_seq, text_arm, text_arms, text_when}
 use Rattle.ground_bodies.proofs.Nodes.{node_none, node_seq, node_arms, node_when}
 use Rattle.ground_bodies.proofs.Views.{knows_view}

@@ -1,32 +1,26 @@
 -- What the code does, statement by statement and arm by arm.
-use Rattle.std.proofs.Common.{◌≡◌, ◌≢◌, ℕ, zero, suc, ◌+◌, ◌<◌, ◌≤◌, ◌-◌, ◌^◌, min, ◌&&◌, Bool, true, false, List, [], ◌∷◌, ◌++◌, map, length, take, get_or, nat_eq, Option, Some, None, refl, sym, ap, ap₂, ◌∙◌, subst, arith, true≢false}
-use Rattle.std.specs.Prelude.{IsSome, is_some}
+use Rattle.std.proofs.Common.{◌≡◌, ℕ, zero, suc, ◌+◌, ◌<◌, ◌-◌, ◌^◌, min, ◌&&◌, Bool, true, false, List, [], ◌∷◌, ◌++◌, map, length, take, get_or, nat_eq, Some, refl, sym, ap, ◌∙◌, subst, arith, true≢false}
 use Rattle.std.specs.List.{list_all}
 use Rattle.std.specs.Map.{lookup}
 use Rattle.std.proofs.lemmas.Grind.{common_steps}
 use Rattle.std.proofs.lemmas.List.{take_more}
-use Rattle.fir_types.specs.declared.name.Name.{Name}
-use Rattle.fir_types.specs.declared.fir_type.FirType.{FirType}
-use Rattle.fir_types.specs.Leaves.{leaves, count}
+use Rattle.fir_types.specs.Leaves.{count}
 use Rattle.fir_types.proofs.Counts.{counted}
-use Rattle.fir_tree.specs.declared.expr.Expr.{Expr}
 use Rattle.fir_tree.specs.declared.stmt.Stmt.{Stmt}
 use Rattle.fir_tree.specs.declared.stmt.Stmt.TheVariants as stmt
 use Rattle.fir_tree.specs.declared.stmt.Arm.{Arm}
-use Rattle.fir_meaning.specs.WellTyped.{Known, typed, is_typed, is_condition, is_one_unsigned, both_match, named_type, is_typed_stmt, are_typed}
-use Rattle.ground_net.specs.declared.ground.Ground.{Ground}
+use Rattle.fir_meaning.specs.WellTyped.{Known, is_condition, is_typed_stmt, are_typed}
 use Rattle.ground_net.specs.declared.circuit.GroundStmt.{GroundStmt}
 use Rattle.ground_net.specs.declared.circuit.GroundStmt.TheVariants as statement
 use Rattle.ground_net.specs.declared.circuit.GroundArm.{GroundArm}
 use Rattle.ground_exprs.specs.declared.source.Source.{Source}
 use Rattle.ground_exprs.specs.declared.component.Component.{Component}
 use Rattle.ground_exprs.specs.Sources.{Entries, IsLowered, known_of}
-use Rattle.ground_exprs.proofs.Closing.{take_whole}
 use Rattle.ground_connects.specs.Connects.{IsNode}
-use Rattle.ground_bodies.specs.Arms.{IsCondition, AreArms, IsNodeOf, IsNodeWhere, is_typed_arm, are_typed_arms, leaves_under, leaves_of_component}
+use Rattle.ground_bodies.specs.Arms.{AreArms, IsNodeOf, IsNodeWhere, is_typed_arm, are_typed_arms, leaves_under, leaves_of_component}
 use Rattle.ground_bodies.specs.Bodies.{IsBody}
 use Rattle.ground_bodies.proofs.Layers as layer
-use Rattle.ground_bodies.proofs.Blocks.{is_none, is_more, are_none, are_more, is_when}
+use Rattle.ground_bodies.proofs.Blocks.{is_more, are_more, is_when}
 
 both_true : (a b : Bool) → (a && b) ≡ true → (a ≡ true) × (b ≡ true)
 both_true true b e = (refl, e)
@@ -84,9 +78,10 @@ when_made entries settable s arms other before mid last behind gs made whole is 
     (subst (λ w. IsBody entries settable (stmt.When arms other ∷ []) before behind w) (sym e)
     (subst (λ i. IsBody entries settable (stmt.When arms other ∷ []) before i (statement.When before gs made ∷ [])) (sym b) (is_when entries settable arms other before mid last gs made p q)))
 
--- the same with nothing made
-pub with_none : (entries : Entries) (settable : List Bool) (body : List Stmt) (before behind : ℕ) (made : List GroundStmt) → made ≡ [] → IsBody entries settable body before behind [] → IsBody entries settable body before behind made
-with_none entries settable body before behind made e p = subst (IsBody entries settable body before behind) (sym e) p
+-- the same in other words
+pub with_told : (entries : Entries) (settable : List Bool) (body : List Stmt) (before behind other : ℕ) (made told : List GroundStmt) → told ≡ made → other ≡ behind → IsBody entries settable body before behind made
+    → IsBody entries settable body before other told
+with_told entries settable body before behind other made told e b p = subst (IsBody entries settable body before other) (sym e) (subst (λ i. IsBody entries settable body before i made) (sym b) p)
 
 -- Leaves of components
 

@@ -1,18 +1,16 @@
 -- What is declared in statements: how many, and that they are the module's declarations.
-use Rattle.std.proofs.Common.{◌≡◌, ℕ, zero, suc, ◌+◌, List, [], ◌∷◌, ◌++◌, map, flat_map, length, slice_get, Some, refl, sym, ap, ap₂, ◌∙◌, subst, arith}
+use Rattle.std.proofs.Common.{◌≡◌, ℕ, suc, ◌+◌, List, [], ◌∷◌, ◌++◌, map, flat_map, length, slice_get, Some, refl, sym, ap, ap₂, ◌∙◌, subst, arith}
 use Rattle.std.proofs.lemmas.List.{map-append, length-append, length-map}
 use Rattle.std.proofs.lemmas.List.Concat.{flat_map-cons}
-use Rattle.fir_types.specs.declared.port.Port.{Port}
 use Rattle.fir_tree.specs.declared.circuit.Module.{Module}
 use Rattle.fir_tree.specs.declared.stmt.Stmt.{Stmt, ind-Stmt}
-use Rattle.fir_tree.specs.declared.stmt.Arm.{Arm, fold-Arm, ind-Arm}
+use Rattle.fir_tree.specs.declared.stmt.Arm.{Arm, fold-Arm}
 use Rattle.fir_tree.specs.declared.stmt.Stmt.TheOpen.{Stmt-F, Arm-F}
 use Rattle.fir_tree.specs.declared.stmt.Stmt.TheFolds.{map-Stmt, map-Arm, fold-roll-Stmt, fold-roll-Arm}
 use Rattle.fir_tree.specs.declared.stmt.Stmt.TheViews.{roll-Stmt, roll-Arm}
 use Rattle.fir_meaning.specs.Components.{TypedModule, Component, Declaration, Told, ToldArm, of_told, of_told_arm, told, declared_from, declared_in_block, declared_by_port, declarations_of}
 use Rattle.circuit_laws.specs.Standing as standing
 use Rattle.circuit_laws.specs.Standing.{total, count, arm_count}
-use Rattle.ground_parts.proofs.Members.{some_same, none_some}
 use Rattle.ground_bodies.specs.Declares.{Label, labels, arm_labels, all_labels, body_labels, of_stmt, of_arm, Declares}
 
 abbrev told_arm : Arm → ToldArm

@@ -1,5 +1,5 @@
 -- What the definitions give for each kind of statement.
-use Rattle.std.proofs.Common.{◌≡◌, ℕ, ◌+◌, ◌&&◌, ◌||◌, Bool, true, false, List, [], ◌∷◌, ◌++◌, map, flat_map, Option, ℤ, refl, sym, ap, ap₂, ◌∙◌, arith, if◌then◌else◌}
+use Rattle.std.proofs.Common.{◌≡◌, ℕ, ◌+◌, ◌&&◌, ◌||◌, Bool, true, false, List, [], ◌∷◌, ◌++◌, map, flat_map, Option, arith, if◌then◌else◌}
 use Rattle.std.specs.Prelude.{nat_lt}
 use Rattle.std.specs.List.{list_all, list_any}
 use Rattle.std.proofs.lemmas.Grind.{common_steps}
@@ -28,7 +28,6 @@ use Rattle.circuit_laws.specs.Open as open_text
 use Rattle.circuit_laws.specs.Open.{Opened, OpenedArm, opened, effects, arm_effects}
 use Rattle.circuit_laws.specs.OpenReads as open_reads
 use Rattle.circuit_laws.specs.OpenReads.{OpenDriving, OpenDrivingArm, open_driving, drivings, arm_drivings}
-use Rattle.ground_net.specs.declared.ground.Ground.{Ground}
 use Rattle.ground_net.specs.declared.circuit.GroundStmt.{GroundStmt, the_lemmas}
 use Rattle.ground_net.specs.declared.circuit.GroundStmt.TheVariants.{When}
 use Rattle.ground_net.specs.declared.circuit.GroundArm.{GroundArm, fold-GroundArm}

@@ -1,5 +1,5 @@
 -- Statements one after another, and a `when`.
-use Rattle.std.proofs.Common.{◌≡◌, ℕ, ◌+◌, ◌&&◌, ◌||◌, Bool, true, false, List, [], ◌∷◌, ◌++◌, map, flat_map, Option, ℤ, option_map, refl, sym, ap, ap₂, ◌∙◌, subst, if◌then◌else◌, append-nil, nat_lt}
+use Rattle.std.proofs.Common.{◌≡◌, ℕ, ◌&&◌, ◌||◌, Bool, true, false, List, [], ◌∷◌, ◌++◌, map, flat_map, Option, ℤ, option_map, refl, sym, ap, ap₂, ◌∙◌, subst, if◌then◌else◌, append-nil, nat_lt}
 use Rattle.std.specs.Bool.{⊤}
 use Rattle.std.specs.List.{list_any, list_all}
 use Rattle.std.proofs.lemmas.List.{map-append}
@@ -16,7 +16,7 @@ use Rattle.ground_net.specs.declared.circuit.GroundStmt.{GroundStmt}
 use Rattle.ground_net.specs.declared.circuit.GroundStmt.TheVariants.{When}
 use Rattle.ground_net.specs.declared.circuit.GroundArm.{GroundArm}
 use Rattle.ground_net.specs.Grounds.{Sight, value, mentions}
-use Rattle.ground_net.specs.Statements.{Effect, in_turn, first_holding, all_arms, effect, driving, live_from, live, is_certain, through_arms}
+use Rattle.ground_net.specs.Statements.{Effect, in_turn, first_holding, effect, driving, live_from, live, is_certain, through_arms}
 use Rattle.net_meaning.specs.Shapes.{HasShapes}
 use Rattle.ground_parts.specs.Numbers.{Numbering, SameLeaves}
 use Rattle.ground_parts.proofs.Onwards.{same_none, same_append}

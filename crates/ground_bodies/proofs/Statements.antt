@@ -1,9 +1,8 @@
 -- Statements that have no blocks in them.
-use Rattle.std.proofs.Common.{◌≡◌, ◌≢◌, ℕ, zero, suc, ◌+◌, ◌<◌, ◌≤◌, ◌&&◌, ◌||◌, not, Bool, true, false, List, [], ◌∷◌, ◌++◌, map, length, slice_get, get_or, nat_eq, Option, Some, None, ℤ, option_map, refl, sym, ap, ap₂, ◌∙◌, subst, arith, append-nil, true≢false, ◌⊎◌, inl, inr, nat_lt}
+use Rattle.std.proofs.Common.{◌≡◌, ◌≢◌, ℕ, zero, suc, ◌+◌, ◌<◌, ◌&&◌, ◌||◌, not, Bool, true, false, List, [], ◌∷◌, ◌++◌, map, length, slice_get, get_or, nat_eq, Option, Some, ℤ, option_map, refl, sym, ap, ap₂, ◌∙◌, subst, arith, append-nil, true≢false, ◌⊎◌, inl, inr}
 use Rattle.std.specs.Map.{lookup}
 use Rattle.std.proofs.lemmas.List.{length-map}
 use Rattle.place_text.specs.declared.place.Place.{Place as TextPlace}
-use Rattle.bit_words.specs.declared.value.Value.{Value}
 use Rattle.bit_words.specs.Values.{integer_of}
 use Rattle.fir_types.specs.declared.name.Name.{Name}
 use Rattle.fir_types.specs.declared.fir_type.FirType.{FirType}
@@ -17,7 +16,7 @@ use Rattle.fir_tree.specs.declared.circuit.Module.{Module}
 use Rattle.fir_tree.specs.declared.expr.Expr.{Expr}
 use Rattle.fir_tree.specs.declared.stmt.Stmt.{Stmt}
 use Rattle.fir_tree.specs.declared.stmt.Stmt.TheVariants as stmt
-use Rattle.fir_meaning.specs.Components.{TypedModule, Component, Leaf, Sort, A_wire, A_register, A_reset_register, A_memory, An_instance, A_node, Flow, flow_of, is_clock, is_clock_shape, type_in}
+use Rattle.fir_meaning.specs.Components.{TypedModule, Component, Leaf, A_wire, A_register, A_reset_register, A_memory, An_instance, A_node, flow_of, is_clock, is_clock_shape, type_in}
 use Rattle.fir_meaning.specs.Values as tree
 use Rattle.fir_meaning.specs.Values.{Scene}
 use Rattle.fir_meaning.specs.Mentions as tree_reads
@@ -35,22 +34,20 @@ use Rattle.circuit_laws.specs.OpenReads.{OpenDriving, open_driving}
 use Rattle.ground_net.specs.declared.circuit.GroundStmt.{GroundStmt}
 use Rattle.ground_net.specs.Grounds.{Sight, value, mentions}
 use Rattle.ground_net.specs.Statements.{is_certain}
-use Rattle.net_meaning.specs.Shapes.{Table, HasShapes, Shape, shape}
-use Rattle.net_meaning.specs.StatementShapes.{is_shaped}
+use Rattle.net_meaning.specs.Shapes.{Table, HasShapes, shape}
 use Rattle.ground_of_circuit.specs.Numbers.{is_set, scene_at, leaves_before}
 use Rattle.ground_parts.specs.Numbers.{Numbering, SameLeaves}
 use Rattle.ground_parts.proofs.Members.{some_same, none_some, from_place, place_within, item_at}
-use Rattle.ground_parts.proofs.Onwards.{same_none}
 use Rattle.ground_exprs.specs.declared.source.Source.{Source}
 use Rattle.ground_exprs.specs.declared.component.Component.{Component as Entry}
-use Rattle.ground_exprs.specs.Sources.{Entries, Knows, AreSources, IsLowered, ReadEach, source_values, told as said, known_of}
+use Rattle.ground_exprs.specs.Sources.{Entries, Knows, AreSources, IsLowered, ReadEach, source_values, told as said}
 use Rattle.ground_exprs.proofs.Lowered.{head_same}
 use Rattle.ground_connects.specs.Connects.{Does, LeavesAlone, IsOneToOne, SetsTo, IsNode, SameLives, IsConnect, IsInvalidate}
 use Rattle.ground_bodies.specs.Declares.{Label, Declares, labels, body_labels}
 use Rattle.ground_bodies.specs.Arms.{leaves_under, leaves_of_component, IsNodeOf, IsNodeWhere}
-use Rattle.ground_bodies.specs.Bodies.{Meant, IsMeant, IsViewOf, HasTable, BodyDoes, IsBody, Stands, numbering, meant_by, node_meant, left_alone, set_to, is_among}
+use Rattle.ground_bodies.specs.Bodies.{IsMeant, IsViewOf, HasTable, BodyDoes, IsBody, Stands, numbering, meant_by, node_meant, left_alone, set_to}
 use Rattle.ground_bodies.proofs.Layers as layer
-use Rattle.ground_bodies.proofs.Lists.{plus_none, Place, is_before, is_inside, is_behind, placed, among_before, among_inside, among_behind, leaves_more, leaf_there, other_leaf, map_at}
+use Rattle.ground_bodies.proofs.Lists.{plus_none, Place, is_before, is_inside, is_behind, placed, among_before, among_inside, among_behind, leaves_more, leaf_there, other_leaf}
 use Rattle.ground_bodies.proofs.Lives.{lives_none}
 use Rattle.ground_bodies.proofs.Meanings.{told, means_none}
 use Rattle.ground_bodies.proofs.Nodes.{node_none, node_alone, node_set}

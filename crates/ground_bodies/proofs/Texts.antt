@@ -1,7 +1,7 @@
 -- What the statements of a text mean for a leaf, one after another and in a `when`.
-use Rattle.std.proofs.Common.{◌≡◌, ℕ, ◌+◌, ◌&&◌, ◌||◌, Bool, true, false, List, [], ◌∷◌, ◌++◌, map, length, Option, ℤ, refl, sym, ap, ap₂, ◌∙◌, subst, arith, if◌then◌else◌, append-nil, append_assoc, nat_lt}
+use Rattle.std.proofs.Common.{◌≡◌, ℕ, ◌+◌, ◌&&◌, ◌||◌, Bool, true, false, List, [], ◌∷◌, ◌++◌, map, length, Option, ℤ, refl, sym, ap, ap₂, ◌∙◌, arith, if◌then◌else◌, append-nil, append_assoc, nat_lt}
 use Rattle.std.specs.List.{list_any, list_all}
-use Rattle.std.proofs.lemmas.List.{map-append, length-append}
+use Rattle.std.proofs.lemmas.List.{length-append}
 use Rattle.fir_tree.specs.declared.stmt.Stmt.{Stmt}
 use Rattle.fir_tree.specs.declared.stmt.Stmt.TheVariants as stmt
 use Rattle.fir_tree.specs.declared.stmt.Arm.{Arm}

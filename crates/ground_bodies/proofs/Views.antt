@@ -1,6 +1,5 @@
 -- What is known of a module's components by their names.
-use Rattle.std.proofs.Common.{◌≡◌, ℕ, zero, suc, ◌+◌, ◌<◌, ◌≤◌, ◌==◌, ◌&&◌, Bool, true, false, List, [], ◌∷◌, ◌++◌, map, length, slice_get, get_or, nat_eq, nat_lt, cond, Option, Some, None, option_map, refl, sym, ap, ap₂, ◌∙◌, subst, arith, true≢false}
-use Rattle.std.specs.Prelude.{Contains}
+use Rattle.std.proofs.Common.{◌≡◌, ℕ, zero, suc, ◌+◌, ◌<◌, ◌==◌, ◌&&◌, Bool, true, false, List, [], ◌∷◌, length, slice_get, get_or, nat_eq, nat_lt, cond, Option, Some, None, option_map, refl, sym, ap, ap₂, ◌∙◌, arith, true≢false}
 use Rattle.std.specs.List.{find, position, position_or_len}
 use Rattle.std.specs.Map.{lookup}
 use Rattle.std.proofs.lemmas.Grind.{common_steps}
@@ -14,7 +13,7 @@ use Rattle.fir_tree.specs.declared.circuit.Module.{Module}
 use Rattle.fir_meaning.specs.Components.{TypedModule, Component, Leaf, component_named, type_in, type_or_empty}
 use Rattle.fir_meaning.specs.Drives.{same_step, same_way, same_leaf}
 use Rattle.fir_meaning.specs.States.{leaf_of}
-use Rattle.fir_meaning.specs.WellTyped.{HasTypes, Known, known_in, are_typed, is_narrow, leaf_shape}
+use Rattle.fir_meaning.specs.WellTyped.{HasTypes, known_in, are_typed, is_narrow}
 use Rattle.fir_meaning.proofs.Ports.{component_found}
 use Rattle.circuit_laws.proofs.Opening.{below_true}
 use Rattle.net_meaning.specs.Shapes.{Table}

@@ -1,10 +1,9 @@
 -- The whole body of a module.
-use Rattle.std.proofs.Common.{◌≡◌, ℕ, zero, suc, ◌+◌, ◌<◌, ◌≤◌, Bool, true, false, List, [], ◌∷◌, ◌++◌, map, length, slice_get, get_or, Option, Some, None, option_map, refl, sym, ap, ap₂, ◌∙◌, subst, arith, append-nil, ◌⊎◌, inl, inr, if◌then◌else◌}
+use Rattle.std.proofs.Common.{◌≡◌, ℕ, zero, suc, ◌+◌, ◌<◌, ◌≤◌, Bool, true, false, List, [], ◌∷◌, map, length, slice_get, get_or, Some, None, option_map, refl, sym, ap, ◌∙◌, subst, arith, append-nil, ◌⊎◌, inl, inr, if◌then◌else◌}
 use Rattle.std.proofs.lemmas.List.{length-map}
 use Rattle.fault_order.specs.First.{HasNone}
 use Rattle.bit_words.specs.Values.{integer_of}
 use Rattle.fir_types.specs.declared.port.Port.{Port}
-use Rattle.fir_types.specs.declared.leaf.TypeLeaf.{TypeLeaf}
 use Rattle.fir_types.specs.Leaves.{leaves}
 use Rattle.fir_tree.specs.declared.circuit.Circuit.{Circuit}
 use Rattle.fir_tree.specs.declared.circuit.Module.{Module}
@@ -13,7 +12,7 @@ use Rattle.fir_tree.specs.declared.scope.Scope.{Scope}
 use Rattle.fir_tree.specs.declared.stmt.Stmt.{Stmt}
 use Rattle.fir_names.specs.Scopes.{In, IsScope}
 use Rattle.fir_names.specs.Faults.{IsFault}
-use Rattle.fir_meaning.specs.Components.{TypedModule, Component, Declaration, Leaf, Sort, An_input, An_output, A_node, is_clock, told, declared_in_block, declared_by_port, declarations_of, type_in}
+use Rattle.fir_meaning.specs.Components.{TypedModule, Component, Declaration, Leaf, An_input, An_output, A_node, is_clock, told, declared_in_block, declared_by_port, declarations_of, type_in}
 use Rattle.fir_meaning.specs.Loops as tree_loops
 use Rattle.fir_meaning.specs.Mentions as tree_reads
 use Rattle.fir_meaning.specs.States.{leaf_of}

@@ -1,6 +1,6 @@
 -- What it is to be the ground statements of a body, leaf by leaf (FIRRTL specification 3.0, "Statements", "Connects", "Nodes",
 -- "Conditionals" and "Last Connect Semantics").
-use Rattle.std.specs.Prelude.{◌≡◌, ℕ, ◌+◌, ◌&&◌, not, nat_eq, nat_lt, Bool, true, false, List, [], ◌∷◌, map, length, slice_get, get_or, ℤ, Option, Some, None, option_map, if◌then◌else◌}
+use Rattle.std.specs.Prelude.{◌≡◌, ℕ, ◌+◌, ◌&&◌, not, nat_eq, nat_lt, Bool, true, false, List, [], ◌∷◌, map, length, slice_get, get_or, ℤ, Option, Some, option_map, if◌then◌else◌}
 use Rattle.std.specs.List.{list_any}
 use Rattle.std.specs.Map.{lookup}
 use Rattle.bit_words.specs.declared.value.Value.{Value}

@@ -70,31 +70,11 @@ fn lower_statement(
     ensures { IfOk result (λ lowered. IsBody known.now.entries settable.now (statement.now ∷ []) before lowered.behind lowered.body) }
 {
     match statement {
-        Stmt::Wire(name, _) => {
-            let behind = behind_component(known, name.id, before)?;
-            let body = List::new(alloc);
-            Ok(Lowered { body, behind })
-        }
-        Stmt::Reg(name, _, _) => {
-            let behind = behind_component(known, name.id, before)?;
-            let body = List::new(alloc);
-            Ok(Lowered { body, behind })
-        }
-        Stmt::RegReset(name, _, _, _, _) => {
-            let behind = behind_component(known, name.id, before)?;
-            let body = List::new(alloc);
-            Ok(Lowered { body, behind })
-        }
-        Stmt::Mem(memory) => {
-            let behind = behind_component(known, memory.name.id, before)?;
-            let body = List::new(alloc);
-            Ok(Lowered { body, behind })
-        }
-        Stmt::Inst(name, _) => {
-            let behind = behind_component(known, name.id, before)?;
-            let body = List::new(alloc);
-            Ok(Lowered { body, behind })
-        }
+        Stmt::Wire(name, _) => declared(alloc, known, name.id, before),
+        Stmt::Reg(name, _, _) => declared(alloc, known, name.id, before),
+        Stmt::RegReset(name, _, _, _, _) => declared(alloc, known, name.id, before),
+        Stmt::Mem(memory) => declared(alloc, known, memory.name.id, before),
+        Stmt::Inst(name, _) => declared(alloc, known, name.id, before),
         Stmt::Node(name, expr) => {
             let behind = behind_component(known, name.id, before)?;
             let sources = lower_expr(alloc, known, expr)?;
@@ -103,17 +83,11 @@ fn lower_statement(
         }
         Stmt::Connect(left, right) => {
             let body = connect(alloc, known, settable, left, right)?;
-            Ok(Lowered {
-                body,
-                behind: before,
-            })
+            Ok(staying(body, before))
         }
         Stmt::Invalidate(target) => {
             let body = invalidate(alloc, known, settable, target)?;
-            Ok(Lowered {
-                body,
-                behind: before,
-            })
+            Ok(staying(body, before))
         }
         Stmt::When(arms, other) => {
             let arms = lower_arms(alloc, known, settable, arms.as_slice(), before)?;
@@ -121,13 +95,7 @@ fn lower_statement(
             let lowered = joined(alloc, before, arms, other)?;
             Ok(lowered)
         }
-        Stmt::Skip(_) => {
-            let body = List::new(alloc);
-            Ok(Lowered {
-                body,
-                behind: before,
-            })
-        }
+        Stmt::Skip(_) => Ok(staying(List::new(alloc), before)),
     }
 }
 
@@ -155,6 +123,28 @@ fn lower_arms(
         })?;
     }
     Ok(LoweredArms { arms: made, behind })
+}
+
+/// A declaration that sets nothing.
+fn declared(
+    alloc: Global,
+    known: &IndexMap<u32, Component>,
+    name: u32,
+    before: u32,
+) -> Result<Lowered, AllocError>
+    ensures { IfOk result (λ lowered. (lowered.body ≡ []) × (lowered.behind ≡ before + leaves_under known.now.entries name)) }
+{
+    let behind = behind_component(known, name, before)?;
+    let body = List::new(alloc);
+    Ok(Lowered { body, behind })
+}
+
+/// The ground statements of a statement that declares nothing.
+fn staying(body: List<GroundStmt>, behind: u32) -> Lowered
+    ensures body { result.body ≡ body }
+    ensures behind { result.behind ≡ behind }
+{
+    Lowered { body, behind }
 }
 
 /// The number of leaves behind the component of a name; a name that no component has stands before none.

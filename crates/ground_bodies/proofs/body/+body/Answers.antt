@@ -1,10 +1,11 @@
-use Rattle.std.proofs.Common.{◌≡◌, true, [], ◌∷◌, sym, arith, rules, refl, ap, subst}
+use Rattle.std.proofs.Common.{◌≡◌, true, [], ◌∷◌, sym, rules, refl, subst}
+use Rattle.std.proofs.lemmas.Result.{IfOk-weaker}
 use Rattle.fir_tree.specs.declared.stmt.Stmt.{the_lemmas}
 use Rattle.fir_meaning.specs.WellTyped.{typed, are_typed}
 use Rattle.ground_exprs.specs.Sources.{known_of}
 use Rattle.ground_exprs.proofs.Lowered.{unsigned_some, unsigned_lone}
 use Rattle.ground_bodies.specs.Bodies.{IsBody}
-use Rattle.ground_bodies.proofs.Closing.{arm_typed, stmt_typed, body_goes_on, arms_go_on, when_made, with_none}
+use Rattle.ground_bodies.proofs.Closing.{arm_typed, stmt_typed, body_goes_on, arms_go_on, when_made, with_told}
 use Rattle.ground_bodies.proofs.Statements.{is_wire, is_register, is_reset_register, is_memory, is_instance, is_node, is_connect, is_invalidate, is_skip}
 use Rattle.ground_bodies.proofs.body.+body.Goals as goal
 
@@ -49,31 +50,35 @@ lower_body-loop-statement-preserved t c =
     body_goes_on c.args.known.now.entries c.args.settable.now c.args.body.now c.loop-statement.statement-index c.statement-item.result c.args.before c.loop-statement.behind c.in_ok-lowered.lowered.behind c.loop-statement.made
     c.in_ok-lowered.lowered.body c.append.new.made c.loop-statement-test.true c.statement-item.is c.loop-statement.invariant c.in_ok-lowered.ensures c.in_ok-append.ensures
 
-pub lower_statement-returns-in_ok-behind-in-Wire : goal.lower_statement-returns-in_ok-behind-in-Wire
-lower_statement-returns-in_ok-behind-in-Wire t c =
-    with_none c.args.known.now.entries c.args.settable.now (c.args.statement.now ∷ []) c.args.before c.in_ok-behind-in-Wire.behind c.new-body.result c.new-body.ensures
-    (is_wire c.args.known.now.entries c.args.settable.now c.args.before c.in_ok-behind-in-Wire.behind c.args.statement.now c.in-Wire.name c.in-Wire.field-1 c.in-Wire.is c.in_ok-behind-in-Wire.ensures)
+pub lower_statement-returns-in-Wire : goal.lower_statement-returns-in-Wire
+lower_statement-returns-in-Wire t c =
+    IfOk-weaker c.declared.result _ _
+    (λ l h. with_told c.args.known.now.entries c.args.settable.now (c.args.statement.now ∷ []) c.args.before l.behind l.behind [] l.body h.0 refl
+    (is_wire c.args.known.now.entries c.args.settable.now c.args.before l.behind c.args.statement.now c.in-Wire.name c.in-Wire.field-1 c.in-Wire.is h.1)) c.declared.ensures
 
-pub lower_statement-returns-in_ok-behind-in-Reg : goal.lower_statement-returns-in_ok-behind-in-Reg
-lower_statement-returns-in_ok-behind-in-Reg t c =
-    with_none c.args.known.now.entries c.args.settable.now (c.args.statement.now ∷ []) c.args.before c.in_ok-behind-in-Reg.behind c.new-body-in-Reg.result c.new-body-in-Reg.ensures
-    (is_register c.args.known.now.entries c.args.settable.now c.args.before c.in_ok-behind-in-Reg.behind c.args.statement.now c.in-Reg.name c.in-Reg.field-1 c.in-Reg.field-2 c.in-Reg.is c.in_ok-behind-in-Reg.ensures)
+pub lower_statement-returns-in-Reg : goal.lower_statement-returns-in-Reg
+lower_statement-returns-in-Reg t c =
+    IfOk-weaker c.declared-in-Reg.result _ _
+    (λ l h. with_told c.args.known.now.entries c.args.settable.now (c.args.statement.now ∷ []) c.args.before l.behind l.behind [] l.body h.0 refl
+    (is_register c.args.known.now.entries c.args.settable.now c.args.before l.behind c.args.statement.now c.in-Reg.name c.in-Reg.field-1 c.in-Reg.field-2 c.in-Reg.is h.1)) c.declared-in-Reg.ensures
 
-pub lower_statement-returns-in_ok-behind-in-RegReset : goal.lower_statement-returns-in_ok-behind-in-RegReset
-lower_statement-returns-in_ok-behind-in-RegReset t c =
-    with_none c.args.known.now.entries c.args.settable.now (c.args.statement.now ∷ []) c.args.before c.in_ok-behind-in-RegReset.behind c.new-body-in-RegReset.result c.new-body-in-RegReset.ensures
-    (is_reset_register c.args.known.now.entries c.args.settable.now c.args.before c.in_ok-behind-in-RegReset.behind c.args.statement.now c.in-RegReset.name c.in-RegReset.field-1 c.in-RegReset.field-2
-    c.in-RegReset.field-3 c.in-RegReset.field-4 c.in-RegReset.is c.in_ok-behind-in-RegReset.ensures)
+pub lower_statement-returns-in-RegReset : goal.lower_statement-returns-in-RegReset
+lower_statement-returns-in-RegReset t c =
+    IfOk-weaker c.declared-in-RegReset.result _ _
+    (λ l h. with_told c.args.known.now.entries c.args.settable.now (c.args.statement.now ∷ []) c.args.before l.behind l.behind [] l.body h.0 refl
+    (is_reset_register c.args.known.now.entries c.args.settable.now c.args.before l.behind c.args.statement.now c.in-RegReset.name c.in-RegReset.field-1 c.in-RegReset.field-2 c.in-RegReset.field-3 c.in-RegReset.field-4 c.in-RegReset.is h.1)) c.declared-in-RegReset.ensures
 
-pub lower_statement-returns-in_ok-behind-in-Mem : goal.lower_statement-returns-in_ok-behind-in-Mem
-lower_statement-returns-in_ok-behind-in-Mem t c =
-    with_none c.args.known.now.entries c.args.settable.now (c.args.statement.now ∷ []) c.args.before c.in_ok-behind-in-Mem.behind c.new-body-in-Mem.result c.new-body-in-Mem.ensures
-    (is_memory c.args.known.now.entries c.args.settable.now c.args.before c.in_ok-behind-in-Mem.behind c.args.statement.now c.in-Mem.memory c.in-Mem.is c.in_ok-behind-in-Mem.ensures)
+pub lower_statement-returns-in-Mem : goal.lower_statement-returns-in-Mem
+lower_statement-returns-in-Mem t c =
+    IfOk-weaker c.declared-in-Mem.result _ _
+    (λ l h. with_told c.args.known.now.entries c.args.settable.now (c.args.statement.now ∷ []) c.args.before l.behind l.behind [] l.body h.0 refl
+    (is_memory c.args.known.now.entries c.args.settable.now c.args.before l.behind c.args.statement.now c.in-Mem.memory c.in-Mem.is h.1)) c.declared-in-Mem.ensures
 
-pub lower_statement-returns-in_ok-behind-in-Inst : goal.lower_statement-returns-in_ok-behind-in-Inst
-lower_statement-returns-in_ok-behind-in-Inst t c =
-    with_none c.args.known.now.entries c.args.settable.now (c.args.statement.now ∷ []) c.args.before c.in_ok-behind-in-Inst.behind c.new-body-in-Inst.result c.new-body-in-Inst.ensures
-    (is_instance c.args.known.now.entries c.args.settable.now c.args.before c.in_ok-behind-in-Inst.behind c.args.statement.now c.in-Inst.name c.in-Inst.field-1 c.in-Inst.is c.in_ok-behind-in-Inst.ensures)
+pub lower_statement-returns-in-Inst : goal.lower_statement-returns-in-Inst
+lower_statement-returns-in-Inst t c =
+    IfOk-weaker c.declared-in-Inst.result _ _
+    (λ l h. with_told c.args.known.now.entries c.args.settable.now (c.args.statement.now ∷ []) c.args.before l.behind l.behind [] l.body h.0 refl
+    (is_instance c.args.known.now.entries c.args.settable.now c.args.before l.behind c.args.statement.now c.in-Inst.name c.in-Inst.field-1 c.in-Inst.is h.1)) c.declared-in-Inst.ensures
 
 pub lower_statement-returns-in_ok-body-in-Node : goal.lower_statement-returns-in_ok-body-in-Node
 lower_statement-returns-in_ok-body-in-Node t c =
@@ -82,14 +87,21 @@ lower_statement-returns-in_ok-body-in-Node t c =
 
 pub lower_statement-returns-in_ok-body-in-Connect : goal.lower_statement-returns-in_ok-body-in-Connect
 lower_statement-returns-in_ok-body-in-Connect t c =
-    is_connect c.args.known.now.entries c.args.settable.now c.args.statement.now c.in-Connect.left c.in-Connect.right c.args.before c.in_ok-body-in-Connect.body c.in-Connect.is c.in_ok-body-in-Connect.ensures
+    with_told c.args.known.now.entries c.args.settable.now (c.args.statement.now ∷ []) c.args.before c.args.before c.staying.result.behind c.in_ok-body-in-Connect.body c.staying.result.body c.staying.ensures.body c.staying.ensures.behind
+    (is_connect c.args.known.now.entries c.args.settable.now c.args.statement.now c.in-Connect.left c.in-Connect.right c.args.before c.in_ok-body-in-Connect.body c.in-Connect.is c.in_ok-body-in-Connect.ensures)
 
 pub lower_statement-returns-in_ok-body-in-Invalidate : goal.lower_statement-returns-in_ok-body-in-Invalidate
 lower_statement-returns-in_ok-body-in-Invalidate t c =
-    is_invalidate c.args.known.now.entries c.args.settable.now c.args.statement.now c.in-Invalidate.target c.args.before c.in_ok-body-in-Invalidate.body c.in-Invalidate.is c.in_ok-body-in-Invalidate.ensures
+    with_told c.args.known.now.entries c.args.settable.now (c.args.statement.now ∷ []) c.args.before c.args.before c.staying-in-Invalidate.result.behind c.in_ok-body-in-Invalidate.body c.staying-in-Invalidate.result.body c.staying-in-Invalidate.ensures.body c.staying-in-Invalidate.ensures.behind
+    (is_invalidate c.args.known.now.entries c.args.settable.now c.args.statement.now c.in-Invalidate.target c.args.before c.in_ok-body-in-Invalidate.body c.in-Invalidate.is c.in_ok-body-in-Invalidate.ensures)
 
 pub lower_statement-returns-in_ok-lowered-in-When : goal.lower_statement-returns-in_ok-lowered-in-When
 lower_statement-returns-in_ok-lowered-in-When t c =
     when_made c.args.known.now.entries c.args.settable.now c.args.statement.now c.in-When.arms c.in-When.other c.args.before c.in_ok-arms-in-When.arms.behind c.in_ok-other-in-When.other.behind
     c.in_ok-lowered-in-When.lowered.behind c.in_ok-arms-in-When.arms.arms c.in_ok-other-in-When.other.body c.in_ok-lowered-in-When.lowered.body c.in-When.is
     (search rules) (search rules) c.in_ok-lowered-in-When.ensures.body c.in_ok-lowered-in-When.ensures.behind
+
+pub lower_statement-returns-in-Skip : goal.lower_statement-returns-in-Skip
+lower_statement-returns-in-Skip t c =
+    with_told c.args.known.now.entries c.args.settable.now (c.args.statement.now ∷ []) c.args.before c.args.before c.staying-in-Skip.result.behind [] c.staying-in-Skip.result.body (search rules) c.staying-in-Skip.ensures.behind
+    (is_skip c.args.known.now.entries c.args.settable.now c.args.statement.now c.in-Skip.field-0 c.args.before c.in-Skip.is)
