@@ -1,0 +1,3 @@
+mod Indexing
+mod Capping
+mod Weighing
