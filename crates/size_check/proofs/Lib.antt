@@ -1,3 +1,7 @@
 mod Indexing
 mod Capping
 mod Weighing
+mod Calling
+mod Noting
+mod Wording
+mod Lines

@@ -4,7 +4,7 @@
 -- The size of a statement is 1, its expression nodes and those of the conditions that it stands under, times the greatest number of
 -- leaves, at least 1, that its declaration or one of its own nodes has. A `when` has the conditions of all its arms as its own; an
 -- arm stands under the conditions before it as well. Ports count as statements.
-use Rattle.std.specs.Prelude.{ℕ, ◌+◌, ◌*◌, max, sum, length, nat_eq, List, [], ◌∷◌, map, if◌then◌else◌}
+use Rattle.std.specs.Prelude.{ℕ, ◌+◌, ◌*◌, max, sum, length, nat_eq, List, [], ◌∷◌, map, filter_map, if◌then◌else◌}
 use Rattle.fir_types.specs.declared.fir_type.FirType.{FirType}
 use Rattle.fir_types.specs.declared.fir_type.Shape.TheVariants as shape
 use Rattle.fir_types.specs.declared.memory.Memory.{Memory}
@@ -15,7 +15,7 @@ use Rattle.fir_types.specs.declared.memory.PortMode.TheVariants as mode
 use Rattle.fir_types.specs.declared.port.Port.{Port}
 use Rattle.fir_types.specs.Bundles.{nowhere}
 use Rattle.fir_types.specs.Leaves.{count, leaves}
-use Rattle.fir_types.specs.Memories.{element_of, depth_of, read_latency_of}
+use Rattle.fir_types.specs.Memories.{element_of, depth_of, read_latency_in, first_or}
 use Rattle.fir_tree.specs.declared.circuit.Module.{Module}
 use Rattle.fir_tree.specs.declared.expr.Expr.{Expr}
 use Rattle.fir_tree.specs.declared.stmt.Stmt.{Stmt, fold-Stmt}
@@ -44,8 +44,11 @@ abbrev pub stored : ℕ → Sums
 stored n = record nothing { words = 2 * n }
 
 -- The elements of a memory, as a vector of them: the names of its leaves are those of the elements' leaves.
+abbrev pub vector_of : FirType → ℕ → FirType
+vector_of element depth = record { place = nowhere; shape = shape.Vector element depth }
+
 abbrev pub cells : Memory → FirType
-cells memory = record { place = nowhere; shape = shape.Vector (element_of memory) (depth_of memory) }
+cells memory = vector_of (element_of memory) (depth_of memory)
 
 -- the names and words of a memory's elements
 abbrev pub celled : Texts → ℕ → FirType → Sums
@@ -61,8 +64,11 @@ abbrev pub reads_in : MemLine → ℕ
 reads_in (line.MemPort at m name) = reads_in_mode m
 reads_in _ = 0
 
+abbrev pub kept_leaves : List MemLine → FirType → ℕ
+kept_leaves lines element = if nat_eq (first_or 0 (filter_map read_latency_in lines)) 1 then sum (map reads_in lines) * count element else 0
+
 abbrev pub captured : Memory → ℕ
-captured memory = if nat_eq (read_latency_of memory) 1 then sum (map reads_in memory.lines) * count (element_of memory) else 0
+captured memory = kept_leaves memory.lines (element_of memory)
 
 -- What a statement has, where the conditions that it stands under have so many nodes.
 abbrev pub Own : Type 0

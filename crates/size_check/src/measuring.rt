@@ -10,9 +10,10 @@ ghost use Rattle.size_check.specs.Typings.{named};
 
 use crate::fault::SizeFault;
 use crate::measure::Measure;
+use crate::modules::Modules;
 use crate::rounds::measure;
 use crate::sums::Total;
-use fir_tree::{Checked, Module};
+use fir_tree::Checked;
 use fir_types::{Port, leaf_count};
 use std::alloc::Global;
 
@@ -23,8 +24,9 @@ pub fn flat_measure(alloc: Global, checked: &Checked) -> Result<Measure, SizeFau
     ensures { IsVerdict place_of rank_of (IsFault checked.now.circuit) (IsMeasure checked.now.circuit) result }
 {
     let circuit = &checked.circuit;
-    let total = measure(alloc, circuit)?;
-    let ports = main_ports(circuit.modules.as_slice(), circuit.main.id);
+    let modules = Modules::new(alloc, circuit.modules.as_slice())?;
+    let total = measure(alloc, circuit, &modules)?;
+    let ports = main_ports(&modules, circuit.main.id);
     match within_limits(total, ports) {
         Some(measure) => Ok(measure),
         None => Err(SizeFault::TooLarge(circuit.main.place)),
@@ -32,15 +34,13 @@ pub fn flat_measure(alloc: Global, checked: &Checked) -> Result<Measure, SizeFau
 }
 
 /// The leaves of the ports of the first module of a name.
-fn main_ports(modules: &[Module], name: u32) -> u128
-    ensures { result ≡ cap (ports_of (named modules.now name)) }
+fn main_ports(modules: &Modules<'_>, name: u32) -> u128
+    ensures { result ≡ cap (ports_of (named modules.now.all.now name)) }
 {
-    for holder in modules {
-        if holder.name.id == name {
-            return port_leaves(holder.ports.as_slice());
-        }
+    match modules.first(name) {
+        Some(holder) => port_leaves(holder.ports.as_slice()),
+        None => 0,
     }
-    0
 }
 
 fn port_leaves(ports: &[Port]) -> u128

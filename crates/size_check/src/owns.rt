@@ -2,19 +2,19 @@
 
 ghost use Rattle.std.specs.Prelude.{◌≡◌, map, filter_map, sum, IfOk};
 ghost use Rattle.fir_types.specs.Leaves.{count};
-ghost use Rattle.fir_types.specs.Memories.{element_in, read_latency_in, first_or};
-ghost use Rattle.size_check.specs.Weights.{nodes, weight, no_type};
+ghost use Rattle.fir_types.specs.Memories.{read_latency_in, first_or};
+ghost use Rattle.size_check.specs.Weights.{nodes, weight};
 ghost use Rattle.size_check.specs.Caps.{cap, capped};
 ghost use Rattle.size_check.specs.Measures.{plus, together, greatest};
 ghost use Rattle.size_check.specs.Reaching.{types_in};
-ghost use Rattle.size_check.specs.Owns.{sized, flat, stored, celled, cells, captured, reads_in, all_own, branches, stmt_own, arm_own, port_own, module_own, of_memory};
+ghost use Rattle.size_check.specs.Owns.{sized, flat, stored, celled, vector_of, kept_leaves, reads_in, all_own, branches, stmt_own, arm_own, port_own, module_own, of_memory};
 
 use crate::known::{Known, known_of};
 use crate::modules::Modules;
 use crate::names::name_bytes;
 use crate::sums::Sums;
 use crate::weights::{more, nodes, weigh};
-use bit_words::{List, Shared};
+use bit_words::Shared;
 use fir_tree::{Arm, Module, Names, Stmt};
 use fir_types::{
     FirType, MemLine, Memory, Name, Port, PortMode, Shape, copy, depth_of, element_of, leaf_count,
@@ -173,8 +173,11 @@ fn memory_own(
 {
     let typ = known.of(memory.name.id);
     let size = sized(0, leaf_count(typ), around)?;
-    let elements = celled(names, memory.name, &cells(alloc, memory)?);
-    let kept = stored(captured(memory));
+    let lines = memory.lines.as_slice();
+    let element = element_of(lines, &known.none);
+    let vector = vector_of(alloc, element, depth_of(lines))?;
+    let elements = celled(names, memory.name, &vector);
+    let kept = stored(captured(lines, element));
     Ok(size.plus(flat(names, memory.name, typ).plus(elements.plus(kept))))
 }
 
@@ -240,44 +243,24 @@ fn celled(names: &Names, name: Name, typ: &FirType) -> Sums
     }
 }
 
-/// The elements of a memory, as a vector of them.
-fn cells(alloc: Global, memory: &Memory) -> Result<FirType, AllocError>
-    ensures { IfOk result (λ typ. typ ≡ cells memory.now) }
+/// A vector of elements.
+fn vector_of(alloc: Global, element: &FirType, depth: u128) -> Result<FirType, AllocError>
+    ensures { IfOk result (λ typ. typ ≡ vector_of element.now depth) }
 {
-    let place = Place { line: 1, column: 1 };
-    let lines = memory.lines.as_slice();
-    let none = FirType {
-        place,
-        shape: Shape::Bundle(Shared::new(alloc, List::new(alloc))?),
-    };
-    let element = copy(element_of(lines, &none))?;
     Ok(FirType {
-        place,
-        shape: Shape::Vector(Shared::new(alloc, element)?, depth_of(lines)),
+        place: Place { line: 1, column: 1 },
+        shape: Shape::Vector(Shared::new(alloc, copy(element)?)?, depth),
     })
 }
 
-/// The leaves that the ports of a memory keep for the next cycle.
-fn captured(memory: &Memory) -> u128
-    ensures { result ≡ cap (captured memory.now) }
+/// The leaves that the ports of a memory of these lines keep for the next cycle, where its elements have this type.
+fn captured(lines: &[MemLine], element: &FirType) -> u128
+    ensures { result ≡ cap (kept_leaves lines.now element.now) }
 {
-    let lines = memory.lines.as_slice();
     if read_latency_of(lines) != 1 {
         return 0;
     }
-    reads_of(lines).saturating_mul(element_leaves(lines))
-}
-
-/// The leaves of a memory's element.
-fn element_leaves(lines: &[MemLine]) -> u128
-    ensures { result ≡ cap (count (first_or no_type (filter_map element_in lines.now))) }
-{
-    for line in lines {
-        if let MemLine::Element(_, typ) = line {
-            return leaf_count(typ);
-        }
-    }
-    0
+    reads_of(lines).saturating_mul(leaf_count(element))
 }
 
 /// The read latency of a memory, by the first line that gives it, or 0 where there is none.

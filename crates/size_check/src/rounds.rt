@@ -5,7 +5,9 @@ ghost use Rattle.std.specs.Prelude.{◌≡◌, ℕ, suc, map, flat_map, IfOk};
 ghost use Rattle.size_check.specs.Caps.{capped_total};
 ghost use Rattle.size_check.specs.declared.sums.Total.{Total as ATotal};
 ghost use Rattle.size_check.specs.Rounds.{owns_of, totals_at, deeper};
-ghost use Rattle.size_check.specs.Standings.{measured, add, total_of, of_call, standings};
+ghost use Rattle.size_check.specs.Standings.{measured, add, total_of, of_call, of_found, standings};
+ghost use Rattle.size_check.specs.Typings.{named};
+ghost use Rattle.leaf_names.specs.LeafNames.{Texts};
 
 use crate::calls::{Call, calls_of};
 use crate::modules::Modules;
@@ -19,16 +21,17 @@ use std::alloc::{AllocError, Global};
 const ROUNDS: u32 = 33;
 
 /// What stands at the instance paths of at most 33 names from the main module on.
-pub fn measure(alloc: Global, circuit: &Circuit) -> Result<Total, AllocError>
+pub fn measure(
+    alloc: Global,
+    circuit: &Circuit,
+    modules: &Modules<'_>,
+) -> Result<Total, AllocError>
+    requires { modules.now.all.now ≡ circuit.now.modules }
     ensures { IfOk result (λ total. total ≡ capped_total (measured circuit.now)) }
 {
-    let modules = Modules::new(alloc, circuit.modules.as_slice())?;
-    let owns = owns_of(alloc, &circuit.names, &modules)?;
-    let totals = all_rounds(alloc, &circuit.names, &modules, owns.as_slice())?;
-    match modules.number(circuit.main.id) {
-        Some(number) => Ok(totals[number]),
-        None => Ok(Total::none()),
-    }
+    let owns = owns_of(alloc, &circuit.names, modules)?;
+    let totals = all_rounds(alloc, &circuit.names, modules, owns.as_slice())?;
+    Ok(found(modules, totals.as_slice(), circuit.main.id))
 }
 
 /// What each module has of its own.
@@ -121,6 +124,19 @@ fn behind_call(names: &Names, modules: &Modules<'_>, totals: &[Total], call: Cal
     };
     match totals.get(number) {
         Some(total) => deeper(*total, name_length(names, call.name)),
+        None => Total::none(),
+    }
+}
+
+/// The total of the first module of a name.
+fn found(modules: &Modules<'_>, totals: &[Total], name: u32) -> Total
+    ensures { (texts : Texts) (d : ℕ) → totals.now ≡ totals_at texts modules.now.all.now d → result ≡ capped_total (total_of texts modules.now.all.now (of_found (standings modules.now.all.now d) (named modules.now.all.now name))) }
+{
+    let Some(number) = modules.number(name) else {
+        return Total::none();
+    };
+    match totals.get(number) {
+        Some(total) => *total,
         None => Total::none(),
     }
 }
