@@ -42,7 +42,7 @@ left_to m a b = omega arith
 right_to : (m a b : ℕ) → min (a + min b m) m ≡ min (a + b) m
 right_to m a b = omega arith
 
-sums_same : {a b : Sums} → a.size ≡ b.size → a.leaves ≡ b.leaves → a.names ≡ b.names → a.bytes ≡ b.bytes → a.words ≡ b.words → a ≡ b
+pub sums_same : {a b : Sums} → a.size ≡ b.size → a.leaves ≡ b.leaves → a.names ≡ b.names → a.bytes ≡ b.bytes → a.words ≡ b.words → a ≡ b
 sums_same p q r s t = λ i. record { size = p i; leaves = q i; names = r i; bytes = s i; words = t i }
 
 pub capped_left : (a b : Sums) → capped (plus (capped a) b) ≡ capped (plus a b)
@@ -71,7 +71,7 @@ sized_cap n most around = sums_same (most_to (2 ^ 128 - 1) (1 + n + around) most
 pub capped_plus : (a b : Sums) → capped (plus (capped a) (capped b)) ≡ capped (plus a b)
 capped_plus a b = capped_left a (capped b) ∙ capped_right a b
 
-total_same : {a b : Total} → a.sums ≡ b.sums → a.depth ≡ b.depth → a ≡ b
+pub total_same : {a b : Total} → a.sums ≡ b.sums → a.depth ≡ b.depth → a ≡ b
 total_same p q = λ i. record { sums = p i; depth = q i }
 
 depth_to : (m a b : ℕ) → min (max (min a m) (min b m)) m ≡ min (max a b) m

@@ -5,3 +5,7 @@ mod Calling
 mod Noting
 mod Wording
 mod Lines
+mod Owning
+mod Keeping
+mod Judging
+mod Summing

@@ -86,10 +86,13 @@ pub record OwnArm : Type 0 where
   pub most : ℕ
   pub body : Own
 
--- the arms in order, and then the `else`
-abbrev pub branches : List OwnArm → Own → Own
-branches [] other around = other around
-branches (arm ∷ arms) other around = plus (arm.body (around + arm.nodes)) (branches arms other (around + arm.nodes))
+-- The arms in order: each stands under its own condition and those of the arms before it.
+abbrev pub arms_own : List OwnArm → Own
+arms_own [] around = nothing
+arms_own (arm ∷ arms) around = plus (arm.body (around + arm.nodes)) (arms_own arms (around + arm.nodes))
+
+abbrev pub nodes_in : List OwnArm → ℕ
+nodes_in arms = sum (map (λ arm. arm.nodes) arms)
 
 -- a memory: the leaves of its ports, its elements, and what its ports keep
 abbrev pub of_memory : Texts → Typing → Memory → Own
@@ -111,7 +114,7 @@ of_stmt texts types (Stmt-F.Node name expr) around =
 of_stmt texts types (Stmt-F.Connect left right) around = sized (nodes left + nodes right) (max (weight left types).most (weight right types).most) around
 of_stmt texts types (Stmt-F.Invalidate target) around = sized (nodes target) (weight target types).most around
 of_stmt texts types (Stmt-F.When arms other) around =
-    plus (sized (sum (map (λ arm. arm.nodes) arms)) (greatest (map (λ arm. arm.most) arms)) around) (branches arms (all_own other) around)
+    plus (sized (nodes_in arms) (greatest (map (λ arm. arm.most) arms)) around) (plus (arms_own arms around) (all_own other (around + nodes_in arms)))
 of_stmt texts types (Stmt-F.Skip place) around = sized 0 0 around
 
 abbrev pub of_arm : Typing → Arm-F Own OwnArm → OwnArm

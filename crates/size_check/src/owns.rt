@@ -7,7 +7,7 @@ ghost use Rattle.size_check.specs.Weights.{nodes, weight};
 ghost use Rattle.size_check.specs.Caps.{cap, capped};
 ghost use Rattle.size_check.specs.Measures.{plus, together, greatest};
 ghost use Rattle.size_check.specs.Reaching.{types_in};
-ghost use Rattle.size_check.specs.Owns.{sized, flat, stored, celled, vector_of, kept_leaves, reads_in, all_own, branches, stmt_own, arm_own, port_own, module_own, of_memory};
+ghost use Rattle.size_check.specs.Owns.{sized, flat, stored, celled, vector_of, kept_leaves, reads_in, all_own, arms_own, stmt_own, arm_own, port_own, module_own, of_memory};
 
 use crate::known::{Known, known_of};
 use crate::modules::Modules;
@@ -109,27 +109,27 @@ fn statement_own(
         Stmt::Invalidate(target) => sized(nodes(target)?, weigh(known, target).most, around),
         Stmt::When(arms, other) => {
             let most = most_in_conditions(known, arms.as_slice());
-            let size = sized(nodes_of_conditions(arms.as_slice())?, most, around)?;
-            let blocks = (arms.as_slice(), other.as_slice());
-            let inside = branches_own(alloc, names, known, blocks, around)?;
-            Ok(size.plus(inside))
+            let own = nodes_of_conditions(arms.as_slice())?;
+            let size = sized(own, most, around)?;
+            let inside = arms_own(alloc, names, known, arms.as_slice(), around)?;
+            let last = block_own(alloc, names, known, other.as_slice(), more(around, own)?)?;
+            Ok(size.plus(inside.plus(last)))
         }
         Stmt::Skip(_) => sized(0, 0, around),
     }
 }
 
-/// What the arms of a `when` and its `else` have. An arm stands under its own condition and those of the arms before it.
+/// What the arms of a `when` have. An arm stands under its own condition and those of the arms before it.
 #[cycle(own)]
-fn branches_own(
+fn arms_own(
     alloc: Global,
     names: &Names,
     known: &Known,
-    blocks: (&[Arm], &[Stmt]),
+    arms: &[Arm],
     around: u128,
 ) -> Result<Sums, AllocError>
-    ensures { IfOk result (λ own. own ≡ capped (branches (map (arm_own names.now (types_in known.now)) blocks.entry.0.now) (all_own (map (stmt_own names.now (types_in known.now)) blocks.entry.1.now)) around)) }
+    ensures { IfOk result (λ own. own ≡ capped (arms_own (map (arm_own names.now (types_in known.now)) arms.now) around)) }
 {
-    let (arms, other) = blocks;
     let mut total = Sums::none();
     let mut conditions = around;
     for arm in arms {
@@ -137,8 +137,7 @@ fn branches_own(
         let own = block_own(alloc, names, known, arm.body.as_slice(), conditions)?;
         total = total.plus(own);
     }
-    let last = block_own(alloc, names, known, other, conditions)?;
-    Ok(total.plus(last))
+    Ok(total)
 }
 
 fn nodes_of_conditions(arms: &[Arm]) -> Result<u128, AllocError>

@@ -1,7 +1,7 @@
 //! What stands behind all instance paths of at most so many names, round by round: a module is summed once in a round, however
 //! often it stands.
 
-ghost use Rattle.std.specs.Prelude.{◌≡◌, ℕ, suc, map, flat_map, IfOk};
+ghost use Rattle.std.specs.Prelude.{◌≡◌, ℕ, suc, map, flat_map, slice_get, IfOk};
 ghost use Rattle.size_check.specs.Caps.{capped_total};
 ghost use Rattle.size_check.specs.declared.sums.Total.{Total as ATotal};
 ghost use Rattle.size_check.specs.Rounds.{owns_of, totals_at, deeper};
@@ -122,8 +122,8 @@ fn behind_call(names: &Names, modules: &Modules<'_>, totals: &[Total], call: Cal
     let Some(number) = modules.number(call.target) else {
         return Total::none();
     };
-    match totals.get(number) {
-        Some(total) => deeper(*total, name_length(names, call.name)),
+    match total_at(totals, number) {
+        Some(total) => deeper(total, name_length(names, call.name)),
         None => Total::none(),
     }
 }
@@ -135,10 +135,16 @@ fn found(modules: &Modules<'_>, totals: &[Total], name: u32) -> Total
     let Some(number) = modules.number(name) else {
         return Total::none();
     };
-    match totals.get(number) {
-        Some(total) => *total,
+    match total_at(totals, number) {
+        Some(total) => total,
         None => Total::none(),
     }
+}
+
+fn total_at(totals: &[Total], number: usize) -> Option<Total>
+    ensures { result ≡ slice_get totals.now number }
+{
+    totals.get(number).copied()
 }
 
 /// The same behind one more name, of so many bytes.
