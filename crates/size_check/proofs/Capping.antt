@@ -88,3 +88,6 @@ no_total_add a = total_same (nothing_plus a.sums) (omega arith)
 
 pub add_no_total : (a : Total) → add a no_total ≡ a
 add_no_total a = total_same (plus_nothing a.sums) (omega arith)
+
+pub capped_again : (a : Sums) → capped (capped a) ≡ capped a
+capped_again a = let m = 2 ^ 128 - 1 in sums_same (again_to m a.size) (again_to m a.leaves) (again_to m a.names) (again_to m a.bytes) (again_to m a.words)

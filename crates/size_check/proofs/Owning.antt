@@ -1,17 +1,22 @@
 -- Sums of statements, one more at a time.
-use Rattle.std.proofs.Common.{◌≡◌, ℕ, ◌+◌, ◌*◌, ◌<◌, ◌≤◌, max, List, [], ◌∷◌, ◌++◌, map, sum, take, drop, length, get_or, refl, sym, ap, ap₂, ◌∙◌, arith}
+use Rattle.std.proofs.Common.{◌≡◌, ℕ, zero, suc, ◌+◌, ◌*◌, ◌<◌, ◌≤◌, max, List, [], ◌∷◌, ◌++◌, map, sum, take, drop, length, get_or, refl, sym, ap, ap₂, ◌∙◌, arith}
 use Rattle.std.proofs.lemmas.Grind.{common_steps}
 use Rattle.std.proofs.lemmas.List.{map_more, drop_more, map-append}
 use Rattle.fir_tree.specs.declared.stmt.Stmt.{Stmt, the_lemmas as stmt_lemmas}
 use Rattle.fir_tree.specs.declared.stmt.Stmt.TheVariants as stmt
 use Rattle.fir_tree.specs.declared.stmt.Arm.{Arm}
+use Rattle.fir_tree.specs.declared.expr.Expr.{Expr}
+use Rattle.fir_types.specs.declared.name.Name.{Name}
+use Rattle.fir_types.specs.declared.memory.Memory.{Memory}
+use Rattle.fir_types.specs.declared.fir_type.FirType.{FirType}
+use Rattle.fir_types.specs.Leaves.{count}
 use Rattle.leaf_names.specs.LeafNames.{Texts}
 use Rattle.size_check.specs.declared.sums.Sums.{Sums}
 use Rattle.size_check.specs.Caps.{cap, capped}
 use Rattle.size_check.specs.Measures.{nothing, plus, together, greatest}
 use Rattle.size_check.specs.Weights.{Typing, nodes, weight}
-use Rattle.size_check.specs.Owns.{Own, OwnArm, sized, all_own, arms_own, nodes_in, stmt_own, arm_own}
-use Rattle.size_check.proofs.Capping.{capped_plus, capped_left, capped_right, plus_later, plus_nothing, nothing_plus, sized_cap}
+use Rattle.size_check.specs.Owns.{Own, OwnArm, sized, flat, stored, celled, cells, captured, of_memory, all_own, arms_own, nodes_in, stmt_own, arm_own}
+use Rattle.size_check.proofs.Capping.{capped_plus, capped_left, capped_right, plus_later, plus_nothing, nothing_plus, sized_cap, capped_again, cap_max}
 
 together-append : (xs : List Sums) (x : Sums) → together (xs ++ x ∷ []) ≡ plus (together xs) x
 together-append [] x = plus_nothing x ∙ sym (nothing_plus x)
@@ -54,14 +59,14 @@ arm_own-is texts types a = grind (arith, common_steps, stmt_lemmas)
 own_nodes : (texts : Texts) (types : Typing) (arms : List Arm) → nodes_in (map (arm_own texts types) arms) ≡ sum (map (λ arm. nodes arm.condition) arms)
 own_nodes texts types arms = ap sum (each arms)
   where
-    each : (as : List Arm) → map (λ (o : OwnArm). o.nodes) (map (arm_own texts types) as) ≡ map (λ arm. nodes arm.condition) as
+    each : (list : List Arm) → map (λ (o : OwnArm). o.nodes) (map (arm_own texts types) list) ≡ map (λ arm. nodes arm.condition) list
     each [] = refl
-    each (a ∷ as) = ap₂ (λ n l. n ∷ l) (ap (λ (o : OwnArm). o.nodes) (arm_own-is texts types a)) (each as)
+    each (a ∷ list) = ap₂ (λ n l. n ∷ l) (ap (λ (o : OwnArm). o.nodes) (arm_own-is texts types a)) (each list)
 
 own_most : (texts : Texts) (types : Typing) (arms : List Arm)
     → greatest (map (λ (o : OwnArm). o.most) (map (arm_own texts types) arms)) ≡ greatest (map (λ arm. (weight arm.condition types).most) arms)
 own_most texts types [] = refl
-own_most texts types (a ∷ as) = ap₂ (λ n m. max n m) (ap (λ (o : OwnArm). o.most) (arm_own-is texts types a)) (own_most texts types as)
+own_most texts types (a ∷ list) = ap₂ (λ n m. max n m) (ap (λ (o : OwnArm). o.most) (arm_own-is texts types a)) (own_most texts types list)
 
 pub arms_more : (texts : Texts) (types : Typing) (arms : List Arm) (i : ℕ) (arm : Arm) (whole total one after : Sums) (conditions own more : ℕ)
     → i < length arms → arm ≡ get_or arms i arm
@@ -80,10 +85,24 @@ arms_more texts types arms i arm whole total one after conditions own more lt is
     ∙ sym (capped_left (plus total (f.body more)) (arms_own rest more))
     ∙ ap (λ x. capped (plus x (arms_own rest more))) (sym (capped_right total (f.body more)) ∙ ap (λ x. capped (plus total x)) inside ∙ sym e)
 
-pub arms_end : (texts : Texts) (types : Typing) (arms : List Arm) (i : ℕ) (whole total : Sums) (conditions : ℕ) → drop i arms ≡ []
+drop_past : {X : Type 0} (xs : List X) (i : ℕ) → length xs ≤ i → drop i xs ≡ []
+drop_past [] zero h = refl
+drop_past [] (suc i) h = refl
+drop_past (x ∷ xs) zero h = absurd (omega arith)
+drop_past (x ∷ xs) (suc i) h = drop_past xs i (omega arith)
+
+pub arms_begin : (texts : Texts) (types : Typing) (arms : List Arm) (around : ℕ) (total : Sums) → total ≡ nothing
+    → capped (arms_own (map (arm_own texts types) arms) around) ≡ capped (plus total (arms_own (map (arm_own texts types) arms) around))
+arms_begin texts types arms around total e =
+    ap capped (sym (nothing_plus (arms_own (map (arm_own texts types) arms) around))) ∙ ap (λ t. capped (plus t (arms_own (map (arm_own texts types) arms) around))) (sym e)
+
+pub arms_end : (texts : Texts) (types : Typing) (arms : List Arm) (i : ℕ) (whole total : Sums) (conditions : ℕ) → length arms ≤ i
     → whole ≡ capped (plus total (arms_own (map (arm_own texts types) (drop i arms)) conditions)) → total ≡ capped total → total ≡ whole
-arms_end texts types arms i whole total conditions e h s =
-    s ∙ sym (h ∙ ap (λ l. capped (plus total (arms_own (map (arm_own texts types) l) conditions))) e ∙ ap capped (plus_nothing total))
+arms_end texts types arms i whole total conditions l h s =
+    s ∙ sym (h ∙ ap (λ r. capped (plus total (arms_own (map (arm_own texts types) r) conditions))) (drop_past arms i l) ∙ ap capped (plus_nothing total))
+
+pub small_more : (a b after : Sums) → after ≡ capped (plus a b) → after ≡ capped after
+small_more a b after e = e ∙ sym (capped_again (plus a b)) ∙ sym (ap capped e)
 
 when_own : (texts : Texts) (types : Typing) (s : Stmt) (arms : List Arm) (other : List Stmt) (around : ℕ) → s ≡ stmt.When arms other
     → stmt_own texts types s around ≡ plus (sized (nodes_in (map (arm_own texts types) arms)) (greatest (map (λ (o : OwnArm). o.most) (map (arm_own texts types) arms))) around)
@@ -105,3 +124,97 @@ when_sums texts types s arms other around most own later size inside last both a
     sized_plus (nodes_in (map (arm_own texts types) arms)) top around size both (plus blocks rest) after
     (z ∙ ap₂ (λ x y. capped (sized x y around)) count least) (two_plus blocks rest inside last both i ends b) a
     ∙ sym (ap capped (when_own texts types s arms other around is))
+
+-- The other statements
+
+own-wire : (texts : Texts) (types : Typing) (s : Stmt) (name : Name) (typ : FirType) (around : ℕ) → s ≡ stmt.Wire name typ
+    → stmt_own texts types s around ≡ plus (sized 0 (count typ) around) (flat texts name.id typ)
+own-wire texts types s name typ around e = grind (arith, common_steps, stmt_lemmas)
+
+own-reg : (texts : Texts) (types : Typing) (s : Stmt) (name : Name) (typ : FirType) (clock : Expr) (around : ℕ) → s ≡ stmt.Reg name typ clock
+    → stmt_own texts types s around ≡ plus (sized (nodes clock) (max (count typ) (weight clock types).most) around) (plus (flat texts name.id typ) (stored (count typ)))
+own-reg texts types s name typ clock around e = grind (arith, common_steps, stmt_lemmas)
+
+own-reg_reset : (texts : Texts) (types : Typing) (s : Stmt) (name : Name) (typ : FirType) (clock reset init : Expr) (around : ℕ) → s ≡ stmt.RegReset name typ clock reset init
+    → stmt_own texts types s around ≡ plus (sized (nodes clock + nodes reset + nodes init) (max (max (count typ) (weight clock types).most) (max (weight reset types).most (weight init types).most)) around)
+    (plus (flat texts name.id typ) (stored (count typ)))
+own-reg_reset texts types s name typ clock reset init around e = grind (arith, common_steps, stmt_lemmas)
+
+own-node : (texts : Texts) (types : Typing) (s : Stmt) (name : Name) (e : Expr) (around : ℕ) → s ≡ stmt.Node name e
+    → stmt_own texts types s around ≡ plus (sized (nodes e) (max (count (types name.id)) (weight e types).most) around) (flat texts name.id (types name.id))
+own-node texts types s name e around is = grind (arith, common_steps, stmt_lemmas)
+
+own-inst : (texts : Texts) (types : Typing) (s : Stmt) (name target : Name) (around : ℕ) → s ≡ stmt.Inst name target
+    → stmt_own texts types s around ≡ sized 0 (count (types name.id)) around
+own-inst texts types s name target around is = grind (arith, common_steps, stmt_lemmas)
+
+own-connect : (texts : Texts) (types : Typing) (s : Stmt) (left right : Expr) (around : ℕ) → s ≡ stmt.Connect left right
+    → stmt_own texts types s around ≡ sized (nodes left + nodes right) (max (weight left types).most (weight right types).most) around
+own-connect texts types s left right around is = grind (arith, common_steps, stmt_lemmas)
+
+own-invalidate : (texts : Texts) (types : Typing) (s : Stmt) (target : Expr) (around : ℕ) → s ≡ stmt.Invalidate target
+    → stmt_own texts types s around ≡ sized (nodes target) (weight target types).most around
+own-invalidate texts types s target around is = grind (arith, common_steps, stmt_lemmas)
+
+pub wire_sums : (texts : Texts) (types : Typing) (s : Stmt) (name : Name) (typ : FirType) (around most : ℕ) (size leaves after : Sums) → s ≡ stmt.Wire name typ
+    → most ≡ cap (count typ) → size ≡ capped (sized 0 most around) → leaves ≡ capped (flat texts name.id typ) → after ≡ capped (plus size leaves)
+    → after ≡ capped (stmt_own texts types s around)
+wire_sums texts types s name typ around most size leaves after is m z f a =
+    sized_plus 0 (count typ) around size leaves (flat texts name.id typ) after (z ∙ ap (λ x. capped (sized 0 x around)) m) f a ∙ sym (ap capped (own-wire texts types s name typ around is))
+
+pub reg_sums : (texts : Texts) (types : Typing) (s : Stmt) (name : Name) (typ : FirType) (clock : Expr) (around leaves most own : ℕ) (asked top : ℕ) (size kept after : Sums) → s ≡ stmt.Reg name typ clock
+    → leaves ≡ cap (count typ) → asked ≡ cap (weight clock types).most → top ≡ max leaves asked → own ≡ nodes clock → size ≡ capped (sized own top around)
+    → kept ≡ capped (plus (flat texts name.id typ) (stored (count typ))) → after ≡ capped (plus size kept) → after ≡ capped (stmt_own texts types s around)
+reg_sums texts types s name typ clock around leaves most own asked top size kept after is l w t n z k a =
+    let top' : top ≡ cap (max (count typ) (weight clock types).most) = t ∙ ap₂ (λ x y. max x y) l w ∙ cap_max (count typ) (weight clock types).most in
+    sized_plus (nodes clock) (max (count typ) (weight clock types).most) around size kept (plus (flat texts name.id typ) (stored (count typ))) after
+    (z ∙ ap₂ (λ x y. capped (sized x y around)) n top') k a ∙ sym (ap capped (own-reg texts types s name typ clock around is))
+
+pub reset_sums : (texts : Texts) (types : Typing) (s : Stmt) (name : Name) (typ : FirType) (clock reset init : Expr) (around leaves asked first third fourth second top own : ℕ) (size kept after : Sums)
+    → s ≡ stmt.RegReset name typ clock reset init
+    → leaves ≡ cap (count typ) → asked ≡ cap (weight clock types).most → first ≡ max leaves asked → third ≡ cap (weight reset types).most → fourth ≡ cap (weight init types).most
+    → second ≡ max third fourth → top ≡ max first second → own ≡ nodes clock + nodes reset + nodes init → size ≡ capped (sized own top around)
+    → kept ≡ capped (plus (flat texts name.id typ) (stored (count typ))) → after ≡ capped (plus size kept) → after ≡ capped (stmt_own texts types s around)
+reset_sums texts types s name typ clock reset init around leaves asked first third fourth second top own size kept after is l w f r i g t n z k a =
+    let one : first ≡ cap (max (count typ) (weight clock types).most) = f ∙ ap₂ (λ x y. max x y) l w ∙ cap_max (count typ) (weight clock types).most in
+    let two : second ≡ cap (max (weight reset types).most (weight init types).most) = g ∙ ap₂ (λ x y. max x y) r i ∙ cap_max (weight reset types).most (weight init types).most in
+    let whole = max (max (count typ) (weight clock types).most) (max (weight reset types).most (weight init types).most) in
+    let top' : top ≡ cap whole = t ∙ ap₂ (λ x y. max x y) one two ∙ cap_max (max (count typ) (weight clock types).most) (max (weight reset types).most (weight init types).most) in
+    sized_plus (nodes clock + nodes reset + nodes init) whole around size kept (plus (flat texts name.id typ) (stored (count typ))) after
+    (z ∙ ap₂ (λ x y. capped (sized x y around)) n top') k a ∙ sym (ap capped (own-reg_reset texts types s name typ clock reset init around is))
+
+pub node_sums : (texts : Texts) (types : Typing) (s : Stmt) (name : Name) (e : Expr) (around leaves asked top own : ℕ) (size kept after : Sums) → s ≡ stmt.Node name e
+    → leaves ≡ cap (count (types name.id)) → asked ≡ cap (weight e types).most → top ≡ max leaves asked → own ≡ nodes e → size ≡ capped (sized own top around)
+    → kept ≡ capped (flat texts name.id (types name.id)) → after ≡ capped (plus size kept) → after ≡ capped (stmt_own texts types s around)
+node_sums texts types s name e around leaves asked top own size kept after is l w t n z k a =
+    let top' : top ≡ cap (max (count (types name.id)) (weight e types).most) = t ∙ ap₂ (λ x y. max x y) l w ∙ cap_max (count (types name.id)) (weight e types).most in
+    sized_plus (nodes e) (max (count (types name.id)) (weight e types).most) around size kept (flat texts name.id (types name.id)) after
+    (z ∙ ap₂ (λ x y. capped (sized x y around)) n top') k a ∙ sym (ap capped (own-node texts types s name e around is))
+
+pub inst_sums : (texts : Texts) (types : Typing) (s : Stmt) (name target : Name) (around leaves : ℕ) (after : Sums) → s ≡ stmt.Inst name target
+    → leaves ≡ cap (count (types name.id)) → after ≡ capped (sized 0 leaves around) → after ≡ capped (stmt_own texts types s around)
+inst_sums texts types s name target around leaves after is l z =
+    z ∙ ap (λ x. capped (sized 0 x around)) l ∙ sized_cap 0 (count (types name.id)) around ∙ sym (ap capped (own-inst texts types s name target around is))
+
+pub connect_sums : (texts : Texts) (types : Typing) (s : Stmt) (left right : Expr) (around first second top own : ℕ) (after : Sums) → s ≡ stmt.Connect left right
+    → first ≡ cap (weight left types).most → second ≡ cap (weight right types).most → top ≡ max first second → own ≡ nodes left + nodes right → after ≡ capped (sized own top around)
+    → after ≡ capped (stmt_own texts types s around)
+connect_sums texts types s left right around first second top own after is f g t n z =
+    z ∙ ap₂ (λ x y. capped (sized x y around)) n (t ∙ ap₂ (λ x y. max x y) f g ∙ cap_max (weight left types).most (weight right types).most)
+    ∙ sized_cap (nodes left + nodes right) (max (weight left types).most (weight right types).most) around ∙ sym (ap capped (own-connect texts types s left right around is))
+
+pub invalidate_sums : (texts : Texts) (types : Typing) (s : Stmt) (target : Expr) (around most own : ℕ) (after : Sums) → s ≡ stmt.Invalidate target
+    → most ≡ cap (weight target types).most → own ≡ nodes target → after ≡ capped (sized own most around) → after ≡ capped (stmt_own texts types s around)
+invalidate_sums texts types s target around most own after is m n z =
+    z ∙ ap₂ (λ x y. capped (sized x y around)) n m ∙ sized_cap (nodes target) (weight target types).most around ∙ sym (ap capped (own-invalidate texts types s target around is))
+
+pub memory_sums : (texts : Texts) (types : Typing) (memory : Memory) (around leaves : ℕ) (size ports elements kept inner both after : Sums)
+    → leaves ≡ cap (count (types memory.name.id)) → size ≡ capped (sized 0 leaves around) → ports ≡ capped (flat texts memory.name.id (types memory.name.id))
+    → elements ≡ capped (celled texts memory.name.id (cells memory)) → kept ≡ capped (stored (captured memory)) → inner ≡ capped (plus elements kept) → both ≡ capped (plus ports inner)
+    → after ≡ capped (plus size both) → after ≡ capped (of_memory texts types memory around)
+memory_sums texts types memory around leaves size ports elements kept inner both after l z p c k i b a =
+    let cs = celled texts memory.name.id (cells memory) in
+    let ks = stored (captured memory) in
+    let fs = flat texts memory.name.id (types memory.name.id) in
+    sized_plus 0 (count (types memory.name.id)) around size both (plus fs (plus cs ks)) after (z ∙ ap (λ x. capped (sized 0 x around)) l)
+    (two_plus fs (plus cs ks) ports inner both p (two_plus cs ks elements kept inner c k i) b) a

@@ -5,7 +5,7 @@ use Rattle.std.proofs.lemmas.Grind.{common_steps}
 use Rattle.std.proofs.lemmas.List.{map_more, take_more}
 use Rattle.std.proofs.lemmas.List.Concat.{flat_map-append}
 use Rattle.std.proofs.lemmas.List.Sums.{sum_by-cons}
-use Rattle.std.proofs.lemmas.Option.{slice_get-map, none-some, same_Some}
+use Rattle.std.proofs.lemmas.Option.{slice_get-map, slice_get-get_or, none-some, same_Some}
 use Rattle.fir_tree.specs.declared.circuit.Module.{Module}
 use Rattle.leaf_names.specs.LeafNames.{Texts, text_of}
 use Rattle.size_check.specs.declared.sums.Sums.{Sums}
@@ -203,3 +203,21 @@ first_totals texts modules owns totals o t = t ∙ ap (map (λ (own : Sums). rec
     each : (ms : List Module) → map (λ (own : Sums). record { sums = own; depth = 0 }) (map (λ m. capped (module_own texts modules m)) ms) ≡ map (λ m. capped_total (total_of texts modules (standings modules 0 m))) ms
     each [] = refl
     each (m ∷ ms) = ap₂ (λ x l. x ∷ l) (sym (ap capped_total (first_of texts modules m))) (each ms)
+
+-- what a module has of its own, by its number
+pub own_is : (texts : Texts) (modules : List Module) (owns : List Sums) (i : ℕ) (m : Module) (own : Sums) → i < length modules → m ≡ get_or modules i m → owns ≡ owns_of texts modules
+    → slice_get owns i ≡ Some own → own ≡ capped (module_own texts modules m)
+own_is texts modules owns i m own lt is o g =
+    same_Some _ _ (sym g ∙ ap (λ l. slice_get l i) o ∙ slice_get-map (λ x. capped (module_own texts modules x)) modules i
+    ∙ ap (option_map (λ x. capped (module_own texts modules x))) (slice_get-get_or modules i m lt ∙ ap Some (sym is)))
+
+pub next_from : (texts : Texts) (modules : List Module) (d : ℕ) (owns : List Sums) (i : ℕ) (m : Module) (own : Sums) (calls : List Call) (total : Total) (done after : List Total)
+    → i < length modules → m ≡ get_or modules i m → owns ≡ owns_of texts modules → slice_get owns i ≡ Some own → calls ≡ calls_in m
+    → ((before : Total) → record { sums = own; depth = 0 } ≡ capped_total before → total ≡ capped_total (add before (total_of texts modules (flat_map (of_call modules (standings modules d)) calls))))
+    → done ≡ map (λ m. capped_total (total_of texts modules (standings modules (suc d) m))) (take i modules) → after ≡ done ++ total ∷ []
+    → after ≡ map (λ m. capped_total (total_of texts modules (standings modules (suc d) m))) (take (i + 1) modules)
+next_from texts modules d owns i m own calls total done after lt is o g cs t h a =
+    next_more texts modules d i m own calls total done after lt is (own_is texts modules owns i m own lt is o g) cs t h a
+
+pub same_number : (k n : ℕ) → n ≤ k → k ≤ n → k ≡ n
+same_number k n a b = omega arith

@@ -295,3 +295,29 @@ beyond_step k n power total less after l p t s e =
 
     later : (a b c : ℕ) → a + b + c ≡ a + (b + c)
     later a b c = omega arith
+
+pub power_plus : (k before after : ℕ) → before ≡ cap (10 ^ k) → after ≡ cap (before * 10) → after ≡ cap (10 ^ (k + 1))
+power_plus k before after h e = power_more k before after h e ∙ ap (λ x. cap (10 ^ x)) (sym (add-one k))
+
+pub beyond_plus : (k n power total less after : ℕ) → n < 2 ^ 128 → power ≡ cap (10 ^ (k + 1)) → total ≡ cap (n * 3 + beyond k n) → less ≡ n - power → after ≡ cap (total + less)
+    → after ≡ cap (n * 3 + beyond (k + 1) n)
+beyond_plus k n power total less after l p t s e =
+    beyond_step k n power total less after (below n l) (p ∙ ap (λ x. cap (10 ^ x)) (add-one k)) t s e ∙ ap (λ x. cap (n * 3 + beyond x n)) (sym (add-one k))
+  where
+    below : (x : ℕ) → x < 2 ^ 128 → x ≤ 2 ^ 128 - 1
+    below x h = omega arith
+
+pub beyond_begin : (n total : ℕ) → total ≡ cap (n * 3) → total ≡ cap (n * 3 + beyond 0 n)
+unfolding beyond
+beyond_begin n total e = e ∙ ap cap (none (n * 3))
+  where
+    none : (x : ℕ) → x ≡ x + 0
+    none x = omega arith
+
+pub beyond_end : (k n total : ℕ) → n < 2 ^ 128 → 38 ≤ k → k ≤ 38 → total ≡ cap (n * 3 + beyond k n) → total ≡ cap (index_bytes n)
+beyond_end k n total l a b e =
+    let s : k ≡ 38 = omega arith in
+    e ∙ ap (λ x. cap (n * 3 + beyond x n)) s ∙ sym (ap cap (all_bytes n (below n l)))
+  where
+    below : (x : ℕ) → x < 2 ^ 128 → x ≤ 2 ^ 128 - 1
+    below x h = omega arith

@@ -133,7 +133,8 @@ fn arms_own(
     let mut total = Sums::none();
     let mut conditions = around;
     for arm in arms {
-        conditions = more(conditions, nodes(&arm.condition)?)?;
+        let count = nodes(&arm.condition)?;
+        conditions = more(conditions, count)?;
         let own = block_own(alloc, names, known, arm.body.as_slice(), conditions)?;
         total = total.plus(own);
     }

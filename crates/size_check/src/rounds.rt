@@ -1,7 +1,7 @@
 //! What stands behind all instance paths of at most so many names, round by round: a module is summed once in a round, however
 //! often it stands.
 
-ghost use Rattle.std.specs.Prelude.{◌≡◌, ℕ, suc, map, flat_map, slice_get, IfOk};
+ghost use Rattle.std.specs.Prelude.{◌≡◌, ℕ, suc, map, flat_map, slice_get, length, Some, ◌<◌, IfOk};
 ghost use Rattle.size_check.specs.Caps.{capped_total};
 ghost use Rattle.size_check.specs.declared.sums.Total.{Total as ATotal};
 ghost use Rattle.size_check.specs.Rounds.{owns_of, totals_at, deeper};
@@ -90,7 +90,7 @@ fn next_round(
     for number in 0..modules.all.len() {
         let calls = calls_of(alloc, &modules.all[number])?;
         let own = Total {
-            sums: owns[number],
+            sums: own_at(owns, number),
             depth: 0,
         };
         next.push(with_calls(names, modules, totals, calls.as_slice(), own))?;
@@ -109,15 +109,15 @@ fn with_calls(
     ensures { (d : ℕ) (before : ATotal) → own ≡ capped_total before → totals.now ≡ totals_at names.now modules.now.all.now d → result ≡ capped_total (add before (total_of names.now modules.now.all.now (flat_map (of_call modules.now.all.now (standings modules.now.all.now d)) calls.now))) }
 {
     let mut total = own;
-    for call in calls {
-        total = total.plus(behind_call(names, modules, totals, *call));
+    for number in 0..calls.len() {
+        total = total.plus(behind_call(names, modules, totals, &calls[number]));
     }
     total
 }
 
 /// What stands behind an instance.
-fn behind_call(names: &Names, modules: &Modules<'_>, totals: &[Total], call: Call) -> Total
-    ensures { (d : ℕ) → totals.now ≡ totals_at names.now modules.now.all.now d → result ≡ capped_total (total_of names.now modules.now.all.now (of_call modules.now.all.now (standings modules.now.all.now d) call)) }
+fn behind_call(names: &Names, modules: &Modules<'_>, totals: &[Total], call: &Call) -> Total
+    ensures { (d : ℕ) → totals.now ≡ totals_at names.now modules.now.all.now d → result ≡ capped_total (total_of names.now modules.now.all.now (of_call modules.now.all.now (standings modules.now.all.now d) call.now)) }
 {
     let Some(number) = modules.number(call.target) else {
         return Total::none();
@@ -139,6 +139,13 @@ fn found(modules: &Modules<'_>, totals: &[Total], name: u32) -> Total
         Some(total) => total,
         None => Total::none(),
     }
+}
+
+fn own_at(owns: &[Sums], number: usize) -> Sums
+    requires { number < length owns.now }
+    ensures { slice_get owns.now number ≡ Some result }
+{
+    owns[number]
 }
 
 fn total_at(totals: &[Total], number: usize) -> Option<Total>

@@ -6,6 +6,6 @@ use Rattle.size_check.specs.Standings.{add, total_of, of_call, standings}
 use Rattle.size_check.specs.Rounds.{totals_at}
 use Rattle.size_check.proofs.rounds.with_calls.Given as goal
 
-abbrev pub invariant-loop-call : goal.invariant-loop-call
-invariant-loop-call l = (d : ℕ) (before : Total) → l.fn.own ≡ capped_total before → l.totals ≡ totals_at l.names l.modules.all.now d
-    → l.total ≡ capped_total (add before (total_of l.names l.modules.all.now (flat_map (of_call l.modules.all.now (standings l.modules.all.now d)) (take l.call-index l.calls))))
+abbrev pub invariant-loop-number : goal.invariant-loop-number
+invariant-loop-number l = (d : ℕ) (before : Total) → l.fn.own ≡ capped_total before → l.totals ≡ totals_at l.names l.modules.all.now d
+    → l.total ≡ capped_total (add before (total_of l.names l.modules.all.now (flat_map (of_call l.modules.all.now (standings l.modules.all.now d)) (take l.number l.calls))))
