@@ -1,5 +1,6 @@
 -- Sums of statements, one more at a time.
 use Rattle.std.proofs.Common.{◌≡◌, ℕ, zero, suc, ◌+◌, ◌*◌, ◌<◌, ◌≤◌, max, List, [], ◌∷◌, ◌++◌, map, sum, take, drop, length, get_or, refl, sym, ap, ap₂, ◌∙◌, arith}
+use Rattle.std.specs.Prelude.{Result, Ok, Err, IfOk}
 use Rattle.std.proofs.lemmas.Grind.{common_steps}
 use Rattle.std.proofs.lemmas.List.{map_more, drop_more, map-append}
 use Rattle.fir_tree.specs.declared.stmt.Stmt.{Stmt, the_lemmas as stmt_lemmas}
@@ -15,7 +16,9 @@ use Rattle.size_check.specs.declared.sums.Sums.{Sums}
 use Rattle.size_check.specs.Caps.{cap, capped}
 use Rattle.size_check.specs.Measures.{nothing, plus, together, greatest}
 use Rattle.size_check.specs.Weights.{Typing, nodes, weight}
-use Rattle.size_check.specs.Owns.{Own, OwnArm, sized, flat, stored, celled, cells, captured, of_memory, all_own, arms_own, nodes_in, stmt_own, arm_own}
+use Rattle.fir_tree.specs.declared.circuit.Module.{Module}
+use Rattle.size_check.specs.Typings.{Known, typing, typing_in, known_in}
+use Rattle.size_check.specs.Owns.{Own, port_own, module_own, OwnArm, sized, flat, stored, celled, cells, captured, of_memory, all_own, arms_own, nodes_in, stmt_own, arm_own}
 use Rattle.size_check.proofs.Capping.{capped_plus, capped_left, capped_right, plus_later, plus_nothing, nothing_plus, sized_cap, capped_again, cap_max}
 
 together-append : (xs : List Sums) (x : Sums) → together (xs ++ x ∷ []) ≡ plus (together xs) x
@@ -162,10 +165,10 @@ pub wire_sums : (texts : Texts) (types : Typing) (s : Stmt) (name : Name) (typ :
 wire_sums texts types s name typ around most size leaves after is m z f a =
     sized_plus 0 (count typ) around size leaves (flat texts name.id typ) after (z ∙ ap (λ x. capped (sized 0 x around)) m) f a ∙ sym (ap capped (own-wire texts types s name typ around is))
 
-pub reg_sums : (texts : Texts) (types : Typing) (s : Stmt) (name : Name) (typ : FirType) (clock : Expr) (around leaves most own : ℕ) (asked top : ℕ) (size kept after : Sums) → s ≡ stmt.Reg name typ clock
+pub reg_sums : (texts : Texts) (types : Typing) (s : Stmt) (name : Name) (typ : FirType) (clock : Expr) (around leaves own asked top : ℕ) (size kept after : Sums) → s ≡ stmt.Reg name typ clock
     → leaves ≡ cap (count typ) → asked ≡ cap (weight clock types).most → top ≡ max leaves asked → own ≡ nodes clock → size ≡ capped (sized own top around)
     → kept ≡ capped (plus (flat texts name.id typ) (stored (count typ))) → after ≡ capped (plus size kept) → after ≡ capped (stmt_own texts types s around)
-reg_sums texts types s name typ clock around leaves most own asked top size kept after is l w t n z k a =
+reg_sums texts types s name typ clock around leaves own asked top size kept after is l w t n z k a =
     let top' : top ≡ cap (max (count typ) (weight clock types).most) = t ∙ ap₂ (λ x y. max x y) l w ∙ cap_max (count typ) (weight clock types).most in
     sized_plus (nodes clock) (max (count typ) (weight clock types).most) around size kept (plus (flat texts name.id typ) (stored (count typ))) after
     (z ∙ ap₂ (λ x y. capped (sized x y around)) n top') k a ∙ sym (ap capped (own-reg texts types s name typ clock around is))
@@ -218,3 +221,14 @@ memory_sums texts types memory around leaves size ports elements kept inner both
     let fs = flat texts memory.name.id (types memory.name.id) in
     sized_plus 0 (count (types memory.name.id)) around size both (plus fs (plus cs ks)) after (z ∙ ap (λ x. capped (sized 0 x around)) l)
     (two_plus fs (plus cs ks) ports inner both p (two_plus cs ks elements kept inner c k i) b) a
+
+pub module_sums : (texts : Texts) (modules : List Module) (holder : Module) (entries : Known) (ports body after : Sums) → entries ≡ known_in modules holder
+    → ports ≡ capped (together (map (port_own texts) holder.ports)) → body ≡ capped (all_own (map (stmt_own texts (typing entries)) holder.body) 0)
+    → after ≡ capped (plus ports body) → after ≡ capped (module_own texts modules holder)
+module_sums texts modules holder entries ports body after e p b a =
+    two_plus (together (map (port_own texts) holder.ports)) (all_own (map (stmt_own texts (typing_in modules holder)) holder.body) 0) ports body after
+    p (b ∙ ap (λ k. capped (all_own (map (stmt_own texts (typing k)) holder.body) 0)) e) a
+
+pub ok_then : {T E : Type 0} {P Q : T → Type 0} (r : Result T E) → ((x : T) → P x → Q x) → IfOk r P → IfOk r Q
+ok_then (Ok x) f h = f x h
+ok_then (Err e) f h = h

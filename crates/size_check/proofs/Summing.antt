@@ -221,3 +221,19 @@ next_from texts modules d owns i m own calls total done after lt is o g cs t h a
 
 pub same_number : (k n : ℕ) → n ≤ k → k ≤ n → k ≡ n
 same_number k n a b = omega arith
+
+pub got : {X : Type 0} (xs : List X) (i : ℕ) (x : X) → slice_get xs i ≡ Some x → x ≡ get_or xs i x
+got [] i x h = absurd (none-some x h)
+got (y ∷ xs) zero x h = sym (same_Some y x h)
+got (y ∷ xs) (suc i) x h = got xs i x h
+
+pub owns_more : (texts : Texts) (modules : List Module) (i : ℕ) (m : Module) (own : Sums) (done after : List Sums) → i < length modules
+    → own ≡ capped (module_own texts modules (get_or modules i m)) → done ≡ map (λ m. capped (module_own texts modules m)) (take i modules) → after ≡ done ++ own ∷ []
+    → after ≡ map (λ m. capped (module_own texts modules m)) (take (i + 1) modules)
+owns_more texts modules i m own done after lt o h a =
+    a ∙ ap₂ (λ l x. l ++ x ∷ []) h o ∙ sym (map_more (λ m. capped (module_own texts modules m)) modules i m lt)
+
+pub main_total : (texts : Texts) (modules all : List Module) (id : ℕ) (total : Total) → all ≡ modules
+    → total ≡ capped_total (total_of texts all (of_found (standings all 33) (named all id)))
+    → total ≡ capped_total (total_of texts modules (of_found (standings modules 33) (named modules id)))
+main_total texts modules all id total e h = h ∙ ap (λ ms. capped_total (total_of texts ms (of_found (standings ms 33) (named ms id)))) e

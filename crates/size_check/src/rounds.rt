@@ -39,8 +39,9 @@ fn owns_of(alloc: Global, names: &Names, modules: &Modules<'_>) -> Result<Vec<Su
     ensures { IfOk result (λ owns. owns.items ≡ owns_of names.now modules.now.all.now) }
 {
     let mut owns = Vec::new(alloc);
-    for holder in modules.all {
-        owns.push(module_own(alloc, names, modules, holder)?)?;
+    for number in 0..modules.all.len() {
+        let own = module_own(alloc, names, modules, &modules.all[number])?;
+        owns.push(own)?;
     }
     Ok(owns)
 }
@@ -110,7 +111,7 @@ fn with_calls(
 {
     let mut total = own;
     for number in 0..calls.len() {
-        total = total.plus(behind_call(names, modules, totals, &calls[number]));
+        total = total.plus(behind_call(names, modules, totals, &call_at(calls, number)));
     }
     total
 }
@@ -139,6 +140,13 @@ fn found(modules: &Modules<'_>, totals: &[Total], name: u32) -> Total
         Some(total) => total,
         None => Total::none(),
     }
+}
+
+fn call_at(calls: &[Call], number: usize) -> Call
+    requires { number < length calls.now }
+    ensures { slice_get calls.now number ≡ Some result }
+{
+    calls[number]
 }
 
 fn own_at(owns: &[Sums], number: usize) -> Sums
