@@ -6,6 +6,8 @@ mod Noting
 mod Wording
 mod Lines
 mod Owning
+mod Ending
+mod Examples
 mod Keeping
 mod Judging
 mod Summing

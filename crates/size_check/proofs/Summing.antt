@@ -19,7 +19,7 @@ use Rattle.size_check.specs.Rounds.{totals_at, owns_of, deeper}
 use Rattle.size_check.specs.Standings.{Standing, standings, of_found, of_call, behind, before, at_path, total_of, add, no_total, calls_in}
 use Rattle.size_check.proofs.Capping.{sums_same, total_same, capped_add, add_later, no_total_add, add_no_total, cap_times}
 
-total-append : (texts : Texts) (modules : List Module) (xs ys : List Standing) → total_of texts modules (xs ++ ys) ≡ add (total_of texts modules xs) (total_of texts modules ys)
+pub total-append : (texts : Texts) (modules : List Module) (xs ys : List Standing) → total_of texts modules (xs ++ ys) ≡ add (total_of texts modules xs) (total_of texts modules ys)
 total-append texts modules [] ys = sym (no_total_add (total_of texts modules ys))
 total-append texts modules (x ∷ xs) ys =
     ap (add (at_path texts x.path (module_own texts modules x.holder))) (total-append texts modules xs ys)
@@ -58,7 +58,7 @@ unfolding standings
 stands_first modules zero m = (record { path = []; holder = m }, [], refl)
 stands_first modules (suc d) m = (record { path = []; holder = m }, flat_map (of_call modules (standings modules d)) (calls_in m), refl)
 
-behind_module : (texts : Texts) (modules : List Module) (name d : ℕ) (m : Module)
+pub behind_module : (texts : Texts) (modules : List Module) (name d : ℕ) (m : Module)
     → total_of texts modules (map (behind name) (standings modules d m)) ≡ deeper (total_of texts modules (standings modules d m)) (length (text_of texts name))
 behind_module texts modules name d m =
     let f = stands_first modules d m in
@@ -173,7 +173,7 @@ at_start texts modules m = total_same (sums_same refl refl refl (none (module_ow
     none : (b n : ℕ) → b + n * 0 ≡ b
     none b n = grind (arith, common_steps)
 
-next_of : (texts : Texts) (modules : List Module) (d : ℕ) (m : Module)
+pub next_of : (texts : Texts) (modules : List Module) (d : ℕ) (m : Module)
     → total_of texts modules (standings modules (suc d) m) ≡ add (record { sums = module_own texts modules m; depth = 0 }) (total_of texts modules (flat_map (of_call modules (standings modules d)) (calls_in m)))
 unfolding standings
 next_of texts modules d m = ap (λ t. add t (total_of texts modules (flat_map (of_call modules (standings modules d)) (calls_in m)))) (at_start texts modules m)

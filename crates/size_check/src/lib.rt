@@ -6,6 +6,7 @@
 mod calls;
 pub mod fault;
 mod known;
+pub mod laws;
 pub mod measure;
 mod measuring;
 mod modules;
