@@ -70,11 +70,7 @@ impl Known {
 }
 
 /// The components of a module, where these are all modules.
-pub fn known_of(
-    alloc: Global,
-    modules: &Modules<'_>,
-    holder: &Module,
-) -> Result<Known, AllocError>
+pub fn known_of(alloc: Global, modules: &Modules<'_>, holder: &Module) -> Result<Known, AllocError>
     ensures { IfOk result (λ known. known.types.entries ≡ known_in modules.now.all.now holder.now) }
 {
     let mut known = Known::new(alloc)?;

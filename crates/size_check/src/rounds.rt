@@ -21,11 +21,7 @@ use std::alloc::{AllocError, Global};
 const ROUNDS: u32 = 33;
 
 /// What stands at the instance paths of at most 33 names from the main module on.
-pub fn measure(
-    alloc: Global,
-    circuit: &Circuit,
-    modules: &Modules<'_>,
-) -> Result<Total, AllocError>
+pub fn measure(alloc: Global, circuit: &Circuit, modules: &Modules<'_>) -> Result<Total, AllocError>
     requires { modules.now.all.now ≡ circuit.now.modules }
     ensures { IfOk result (λ total. total ≡ capped_total (measured circuit.now)) }
 {
