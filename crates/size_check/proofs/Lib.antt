@@ -1,0 +1,13 @@
+mod Indexing
+mod Capping
+mod Weighing
+mod Calling
+mod Noting
+mod Wording
+mod Lines
+mod Owning
+mod Ending
+mod Examples
+mod Keeping
+mod Judging
+mod Summing

@@ -1,0 +1,74 @@
+-- What is said of expressions, one part more.
+use Rattle.std.proofs.Common.{◌≡◌, ℕ, ◌+◌, ◌-◌, ◌^◌, ◌<◌, ◌≤◌, List, [], ◌∷◌, ◌++◌, max, min, map, take, length, get_or, refl, sym, ap, ap₂, ◌∙◌, arith}
+use Rattle.std.specs.Prelude.{Option, option_map, find, ◌==◌}
+use Rattle.std.proofs.lemmas.Grind.{common_steps}
+use Rattle.std.proofs.lemmas.List.{map_more, map-append}
+use Rattle.fir_types.specs.declared.fir_type.FirType.{FirType}
+use Rattle.fir_types.specs.declared.fir_type.Field.{Field}
+use Rattle.fir_types.specs.declared.fir_type.Shape.TheVariants as shape
+use Rattle.fir_types.specs.declared.fir_type.Shape.TheVariants.{outs-Bundle}
+use Rattle.fir_types.specs.declared.fir_type.Shape.TheViews.{out-Shape}
+use Rattle.prim_ops.specs.declared.operation.PrimOp.{PrimOp}
+use Rattle.fir_tree.specs.declared.expr.Expr.{Expr, the_lemmas as expr_lemmas}
+use Rattle.fir_tree.specs.declared.expr.Form.TheVariants as form
+use Rattle.fir_meaning.specs.Values.{field_type, or_itself, field_of_shape}
+use Rattle.size_check.specs.Caps.{cap}
+use Rattle.size_check.specs.Measures.{greatest}
+use Rattle.size_check.specs.Reaching.{capped_weight}
+use Rattle.size_check.specs.Weights.{Typing, Weight, Weighs, weight, most_of, of_choice, one_bit}
+use Rattle.size_check.proofs.Capping.{cap_max, cap_one}
+
+greatest-append : (xs : List ℕ) (n : ℕ) → greatest (xs ++ n ∷ []) ≡ max (greatest xs) n
+greatest-append [] n = omega arith
+greatest-append (x ∷ xs) n = let r = greatest-append xs n in omega (arith, r)
+
+max_turned : (a b : ℕ) → max a b ≡ max b a
+max_turned a b = omega arith
+
+-- the greatest, with one more
+pub greatest_more : {X : Type 0} (f : X → ℕ) (xs : List X) (i : ℕ) (x : X) (before own after : ℕ) → i < length xs → x ≡ get_or xs i x
+    → before ≡ cap (greatest (map f (take i xs))) → own ≡ cap (f x) → after ≡ max own before → after ≡ cap (greatest (map f (take (i + 1) xs)))
+greatest_more f xs i x before own after lt is h w e =
+    e ∙ ap₂ (λ a b. max a b) w h ∙ max_turned (cap (f x)) (cap (greatest (map f (take i xs)))) ∙ cap_max (greatest (map f (take i xs))) (f x)
+    ∙ ap cap (ap (λ y. max (greatest (map f (take i xs))) (f y)) is
+    ∙ sym (ap greatest (map_more f xs i x lt) ∙ greatest-append (map f (take i xs)) (f (get_or xs i x))))
+
+each_most : {X : Type 0} (g : X → Weight) (xs : List X) → map (λ w. w.most) (map g xs) ≡ map (λ x. (g x).most) xs
+each_most g [] = refl
+each_most g (x ∷ xs) = ap (λ l. (g x).most ∷ l) (each_most g xs)
+
+pub most_more : {X : Type 0} (g : X → Weight) (xs : List X) (i : ℕ) (x : X) (before own after : ℕ) → i < length xs → x ≡ get_or xs i x
+    → before ≡ cap (most_of (map g (take i xs))) → own ≡ cap (g x).most → after ≡ max own before → after ≡ cap (most_of (map g (take (i + 1) xs)))
+most_more g xs i x before own after lt is h w e =
+    greatest_more (λ y. (g y).most) xs i x before own after lt is (h ∙ ap (λ l. cap (greatest l)) (each_most g (take i xs))) w e
+    ∙ sym (ap (λ l. cap (greatest l)) (each_most g (take (i + 1) xs)))
+
+all_weights : (types : Typing) (es : List Expr) → map (λ (w : Weighs). w types) (map weight es) ≡ map (λ e. weight e types) es
+all_weights types [] = refl
+all_weights types (e ∷ es) = ap (λ l. weight e types ∷ l) (all_weights types es)
+
+abbrev made : FirType → ℕ → Weight
+made typ most = record { typ = typ; most = most }
+
+weight-prim : (e : Expr) (op : PrimOp) (es : List Expr) (ps : List ℕ) (types : Typing) → e.form ≡ form.Prim op es ps
+    → weight e types ≡ made one_bit (max 1 (most_of (map (λ (w : Weighs). w types) (map weight es))))
+weight-prim e op es ps types is = grind (arith, common_steps, expr_lemmas)
+
+weight-mux : (e : Expr) (es : List Expr) (types : Typing) → e.form ≡ form.Mux es → weight e types ≡ of_choice (map (λ (w : Weighs). w types) (map weight es))
+weight-mux e es types is = grind (arith, common_steps, expr_lemmas)
+
+pub weigh_prim : (e : Expr) (op : PrimOp) (es : List Expr) (ps : List ℕ) (types : Typing) (typ : FirType) (m n : ℕ) → e.form ≡ form.Prim op es ps → typ ≡ one_bit
+    → m ≡ cap (most_of (map (λ e. weight e types) es)) → n ≡ max m 1 → made typ n ≡ capped_weight (weight e types)
+weigh_prim e op es ps types typ m n is t h q =
+    ap₂ made t (q ∙ ap (λ x. max x 1) h ∙ cap_one (most_of (map (λ e. weight e types) es)))
+    ∙ sym (ap capped_weight (weight-prim e op es ps types is ∙ ap (λ ws. made one_bit (max 1 (most_of ws))) (all_weights types es)))
+
+pub weigh_mux : (e : Expr) (es : List Expr) (types : Typing) (w : Weight) → e.form ≡ form.Mux es → w ≡ capped_weight (of_choice (map (λ e. weight e types) es))
+    → w ≡ capped_weight (weight e types)
+weigh_mux e es types w is h = h ∙ sym (ap capped_weight (weight-mux e es types is ∙ ap of_choice (all_weights types es)))
+
+pub field_found : (typ : FirType) (fields : List Field) (id : ℕ) (found : Option Field) → typ.shape ≡ shape.Bundle fields → find (λ f. f.name.id == id) fields ≡ found
+    → field_type id typ ≡ or_itself typ (option_map (λ f. f.typ) found)
+field_found typ fields id found e h =
+    ap (λ s. or_itself typ (field_of_shape id (out-Shape s))) e ∙ ap (λ l. or_itself typ (field_of_shape id l)) (outs-Bundle fields)
+    ∙ ap (λ (o : Option Field). or_itself typ (option_map (λ f. f.typ) o)) h

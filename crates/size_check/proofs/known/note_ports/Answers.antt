@@ -1,0 +1,9 @@
+use Rattle.std.proofs.Common.{rules, ◌∙◌, ap}
+use Rattle.size_check.specs.Typings.{port_notes, known_with}
+use Rattle.size_check.proofs.Noting.{notes_more}
+use Rattle.size_check.proofs.known.note_ports.Goals as goal
+
+pub loop-port-preserved : goal.loop-port-preserved
+loop-port-preserved c =
+    notes_more port_notes c.args.ports.now c.loop-port.port-index c.port-item.result c.args.known.now.types.entries c.loop-port.known.types.entries _
+    (search rules) (search rules) c.loop-port.invariant (search rules)

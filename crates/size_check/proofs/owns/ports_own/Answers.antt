@@ -1,0 +1,12 @@
+use Rattle.std.proofs.Common.{◌≡◌, ap, ap₂, ◌∙◌}
+use Rattle.fir_types.specs.Leaves.{count}
+use Rattle.size_check.specs.Owns.{port_own, sized, flat}
+use Rattle.size_check.proofs.Owning.{together_more, sized_plus}
+use Rattle.size_check.proofs.owns.ports_own.Goals as goal
+
+pub loop-port-preserved : goal.loop-port-preserved
+loop-port-preserved c =
+    let one = sized_plus 0 (count c.port-item.result.typ) 0 c.in_ok-size.size c.flat.result (flat c.args.names.now c.port-item.result.name.id c.port-item.result.typ) c.plus.result
+    (rw c.leaf_count.ensures at c.in_ok-size.ensures) c.flat.ensures c.plus.ensures in
+    together_more (port_own c.args.names.now) c.args.ports.now c.loop-port.port-index c.port-item.result c.loop-port.total c.plus.result c.plus-total.result
+    c.loop-port-test.true c.port-item.is c.loop-port.invariant one c.plus-total.ensures

@@ -1,0 +1,163 @@
+//! The types of a module's components.
+
+ghost use Rattle.std.specs.Prelude.{◌≡◌, [], map, IfOk, OnOk};
+ghost use Rattle.size_check.specs.Typings.{known_with, known_in, stmt_notes, arm_notes, port_notes, in_turn, named, instance_type as instance_type_of};
+ghost use Rattle.size_check.specs.Weights.{one_bit, no_type};
+
+use crate::modules::Modules;
+use crate::weights::weigh;
+use bit_words::{List, Shared};
+use fir_tree::{Arm, Expr, Module, Stmt};
+use fir_types::{FirType, Memory, Name, Port, Shape, copy, instance_type, memory_type};
+use indexmap::IndexMap;
+use place_text::Place;
+use std::alloc::{AllocError, Global};
+
+/// The components that are known, with their types.
+#[derive(Drop)]
+pub struct Known {
+    /// By the numbers of their names: of each name the first.
+    pub types: IndexMap<u32, FirType>,
+    /// The type of what is one leaf.
+    pub bit: FirType,
+    /// The type of what is nothing.
+    pub none: FirType,
+    ghost is_bit: { bit ≡ one_bit },
+    ghost is_none: { none ≡ no_type },
+}
+
+impl Known {
+    ghost use Rattle.size_check.specs.Reaching.{types_in};
+
+    /// No component.
+    pub fn new(alloc: Global) -> Result<Known, AllocError>
+        ensures { IfOk result (λ known. known.types.entries ≡ []) }
+    {
+        let place = Place { line: 1, column: 1 };
+        let none = FirType {
+            place,
+            shape: Shape::Bundle(Shared::new(alloc, List::new(alloc))?),
+        };
+        Ok(Known {
+            types: IndexMap::new(alloc),
+            bit: FirType {
+                place,
+                shape: Shape::Reset,
+            },
+            none,
+        })
+    }
+
+    /// The type of the component of a name, given by the number of its text.
+    pub fn of(&self, id: u32) -> &FirType
+        ensures { result.now ≡ types_in self.now id }
+    {
+        match self.types.get(&id) {
+            Some(typ) => typ,
+            None => &self.none,
+        }
+    }
+
+    /// Notes the type of a name, unless there is one.
+    fn insert_new(&mut self, name: Name, typ: FirType) -> Result<(), AllocError>
+        ensures { OnOk result (self.new.types.entries ≡ known_with self.old.types.entries name.id typ) }
+    {
+        if self.types.get(&name.id).is_none() {
+            self.types.insert(name.id, typ)?;
+        }
+        Ok(())
+    }
+}
+
+/// The components of a module, where these are all modules.
+pub fn known_of(alloc: Global, modules: &Modules<'_>, holder: &Module) -> Result<Known, AllocError>
+    ensures { IfOk result (λ known. known.types.entries ≡ known_in modules.now.all.now holder.now) }
+{
+    let mut known = Known::new(alloc)?;
+    note_ports(&mut known, holder.ports.as_slice())?;
+    note_statements(alloc, modules, &mut known, holder.body.as_slice())?;
+    Ok(known)
+}
+
+fn note_ports(known: &mut Known, ports: &[Port]) -> Result<(), AllocError>
+    ensures { OnOk result (known.new.types.entries ≡ in_turn (map port_notes ports.now) known.old.types.entries) }
+{
+    for port in ports {
+        known.insert_new(port.name, copy(&port.typ)?)?;
+    }
+    Ok(())
+}
+
+#[cycle(note)]
+fn note_statements(
+    alloc: Global,
+    modules: &Modules<'_>,
+    known: &mut Known,
+    statements: &[Stmt],
+) -> Result<(), AllocError>
+    ensures { OnOk result (known.new.types.entries ≡ in_turn (map (stmt_notes modules.now.all.now) statements.now) known.old.types.entries) }
+{
+    for statement in statements {
+        note_statement(alloc, modules, known, statement)?;
+    }
+    Ok(())
+}
+
+#[cycle(note)]
+fn note_statement(
+    alloc: Global,
+    modules: &Modules<'_>,
+    known: &mut Known,
+    statement: &Stmt,
+) -> Result<(), AllocError>
+    ensures { OnOk result (known.new.types.entries ≡ stmt_notes modules.now.all.now statement.now known.old.types.entries) }
+{
+    match statement {
+        Stmt::Wire(name, typ) | Stmt::Reg(name, typ, _) | Stmt::RegReset(name, typ, _, _, _) => {
+            known.insert_new(*name, copy(typ)?)
+        }
+        Stmt::Mem(memory) => known.insert_new(memory.name, memory_type(alloc, memory)?),
+        Stmt::Inst(name, target) => {
+            let typ = type_of_instance(alloc, modules, *target)?;
+            known.insert_new(*name, typ)
+        }
+        Stmt::Node(name, expr) => {
+            let typ = copy(weigh(known, expr).typ)?;
+            known.insert_new(*name, typ)
+        }
+        Stmt::When(arms, other) => {
+            note_arms(alloc, modules, known, arms.as_slice())?;
+            note_statements(alloc, modules, known, other.as_slice())
+        }
+        Stmt::Connect(_, _) | Stmt::Invalidate(_) | Stmt::Skip(_) => Ok(()),
+    }
+}
+
+#[cycle(note)]
+fn note_arms(
+    alloc: Global,
+    modules: &Modules<'_>,
+    known: &mut Known,
+    arms: &[Arm],
+) -> Result<(), AllocError>
+    ensures { OnOk result (known.new.types.entries ≡ in_turn (map (arm_notes modules.now.all.now) arms.now) known.old.types.entries) }
+{
+    for arm in arms {
+        note_statements(alloc, modules, known, arm.body.as_slice())?;
+    }
+    Ok(())
+}
+
+/// The type of an instance of the first module of a name, and that of nothing where there is none.
+fn type_of_instance(
+    alloc: Global,
+    modules: &Modules<'_>,
+    target: Name,
+) -> Result<FirType, AllocError>
+    ensures { IfOk result (λ typ. typ ≡ instance_type_of (named modules.now.all.now target.id)) }
+{
+    match modules.first(target.id) {
+        Some(holder) => instance_type(alloc, holder.ports.as_slice()),
+        None => instance_type(alloc, &[]),
+    }
+}

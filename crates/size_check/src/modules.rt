@@ -1,0 +1,68 @@
+//! The modules of a circuit, by name.
+
+ghost use Rattle.std.specs.Prelude.{◌≡◌, Some, option_map, slice_get, IfOk, OnOk};
+ghost use Rattle.std.specs.Option.{option_copied};
+ghost use Rattle.size_check.specs.Indexes.{IsIndex, with_new};
+ghost use Rattle.size_check.specs.Typings.{named};
+
+use fir_tree::Module;
+use indexmap::IndexMap;
+use std::alloc::{AllocError, Global};
+
+/// The modules of a circuit, with the number of the first of each name.
+#[derive(Drop)]
+pub struct Modules<'a> {
+    pub all: &'a [Module],
+    numbers: IndexMap<u32, usize>,
+    ghost indexed: { IsIndex all.now numbers.entries },
+}
+
+impl<'a> Modules<'a> {
+    /// These modules. Takes time and memory in proportion to their number.
+    pub fn new(alloc: Global, all: &'a [Module]) -> Result<Modules<'a>, AllocError>
+        ensures { IfOk result (λ modules. modules.all.now ≡ all.now) }
+    {
+        let numbers = numbers_of(alloc, all)?;
+        Ok(Modules { all, numbers })
+    }
+
+    /// The number of the first module of a name, given by the number of its text.
+    pub fn number(&self, name: u32) -> Option<usize>
+        ensures { option_map (slice_get self.now.all.now) result ≡ option_map Some (named self.now.all.now name) }
+    {
+        self.numbers.get(&name).copied()
+    }
+
+    /// The first module of a name, given by the number of its text.
+    pub fn first(&self, name: u32) -> Option<&Module>
+        ensures { option_copied result ≡ named self.now.all.now name }
+    {
+        let number = self.numbers.get(&name)?;
+        self.all.get(*number)
+    }
+}
+
+/// The numbers of modules by name, of each name the first.
+fn numbers_of(alloc: Global, modules: &[Module]) -> Result<IndexMap<u32, usize>, AllocError>
+    ensures { IfOk result (λ numbers. IsIndex modules.now numbers.entries) }
+{
+    let mut numbers = IndexMap::new(alloc);
+    for number in 0..modules.len() {
+        insert_new(&mut numbers, modules[number].name.id, number)?;
+    }
+    Ok(numbers)
+}
+
+/// Inserts an entry, unless there is one of its name.
+pub fn insert_new<V: Drop>(
+    entries: &mut IndexMap<u32, V>,
+    name: u32,
+    value: V,
+) -> Result<(), AllocError>
+    ensures { OnOk result (entries.new.entries ≡ with_new entries.old.entries name value) }
+{
+    if entries.get(&name).is_none() {
+        entries.insert(name, value)?;
+    }
+    Ok(())
+}
