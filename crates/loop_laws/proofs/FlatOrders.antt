@@ -1,5 +1,5 @@
 -- A circuit has one flat order, and so one first leaf that is on a loop.
-use Rattle.std.proofs.Common.{◌≡◌, ℕ, List, [], ◌∷◌, ◌++◌, Some, None, refl, sym, ap, ap₂, ◌∙◌, subst, arith, ⊎_elim}
+use Rattle.std.proofs.Common.{◌≡◌, ℕ, List, [], ◌∷◌, ◌++◌, Some, refl, sym, ap, ap₂, ◌∙◌, subst, arith, ⊎_elim}
 use Rattle.std.specs.List.{slice_get}
 use Rattle.std.proofs.lemmas.Bool.{cases_eq, cases_lt}
 use Rattle.place_text.specs.declared.place.Place.{Place}
@@ -7,7 +7,7 @@ use Rattle.fir_meaning.specs.Components.{Design, TypedModule, Component, module_
 use Rattle.fir_meaning.specs.Loops.{HasNoLoop}
 use Rattle.net_of_circuit.specs.FlatOrder.{Placed, InFlatOrder, no_more, one_more, an_instance, Standing, all_leaves, flat_of}
 use Rattle.net_laws.proofs.Numbers.{some_same, none_some}
-use Rattle.loop_laws.specs.FirstLoops.{IsOnLoop, IsFirstLoopOf}
+use Rattle.loop_laws.specs.FirstLoops.{IsFirstLoopOf}
 
 one_order : (design : Design) (path : List ℕ) (m : TypedModule) (cs : List Component) {a b : List Placed} → InFlatOrder design path m cs a → InFlatOrder design path m cs b → a ≡ b
 one_order design path m [] no_more no_more = refl

@@ -2,3 +2,4 @@ pub mod FlatOrders
 pub mod Loops
 pub mod Verdicts
 pub mod Searching
+mod ExampleOfALoop

@@ -1,5 +1,5 @@
 -- The verdict over a net that serves a circuit is one over the circuit.
-use Rattle.std.proofs.Common.{◌⊎◌, inl, inr, ⊎_elim}
+use Rattle.std.proofs.Common.{ℕ, List, ◌⊎◌, inl, inr, ⊎_elim}
 use Rattle.std.specs.Prelude.{Result, Ok, Err}
 use Rattle.fault_order.specs.First.{IsFirst}
 use Rattle.fault_order.specs.Verdicts.{IsVerdict}
@@ -10,12 +10,15 @@ use Rattle.fir_meaning.specs.Components.{Design}
 use Rattle.fir_meaning.specs.Loops.{HasNoLoop}
 use Rattle.ground_net.specs.declared.net.Net.{Net}
 use Rattle.ground_net.specs.declared.net.Ordered.{Ordered}
+use Rattle.ground_net.specs.Reads.{IsOrder}
+use Rattle.net_meaning.proofs.Mentioning.{mentions_leaves}
 use Rattle.net_laws.specs.Serves.{Serves}
 use Rattle.comb_order.specs.declared.fault.OrderFault.{OrderFault}
 use Rattle.comb_order.specs.declared.fault.OrderFault.TheVariants.{CombLoop, NoMemory}
 use Rattle.comb_order.specs.Faults.{IsFault, comb_loop, IsOrdered, place_of, rank_of}
+use Rattle.comb_order.proofs.Existing.{order_there}
 use Rattle.loop_laws.specs.FirstLoops.{IsFirstLoopOf, IsLoopFault, first_loop, IsOrderedFor}
-use Rattle.loop_laws.proofs.Loops.{none_of_net, first_of_net, first_of_circuit}
+use Rattle.loop_laws.proofs.Loops.{none_of_net, none_of_circuit, first_of_net, first_of_circuit}
 use Rattle.loop_laws.proofs.Searching.{none_or_first}
 
 module _ (texts : Texts) (design : Design) (net : Net) (serves : Serves texts design net) where
@@ -50,3 +53,6 @@ module _ (texts : Texts) (design : Design) (net : Net) (serves : Serves texts de
       (λ none. inl (none_of_net texts design net serves.of serves.lists serves.has serves.typed none))
       (λ found. inr (found.0, first_of_net texts design net serves.of serves.lists serves.has serves.typed found.0 found.1))
       (none_or_first net)
+
+  pub order_of : HasNoLoop design → (sequence : List ℕ) × IsOrder net sequence
+  order_of none = order_there net (mentions_leaves net serves.of.well_formed) (none_of_circuit texts design net serves.of serves.lists serves.has serves.typed none)

@@ -1,6 +1,6 @@
 //! Laws of the definitions. The functions do nothing.
 
-ghost use Rattle.std.specs.Prelude.{◌≡◌, ◌⊎◌, ℕ, Result, slice_get, Some};
+ghost use Rattle.std.specs.Prelude.{◌≡◌, ◌⊎◌, ℕ, List, Result, slice_get, Some};
 ghost use Rattle.place_text.specs.declared.place.Place.{Place as ThePlace};
 ghost use Rattle.fault_order.specs.Verdicts.{IsVerdict};
 ghost use Rattle.leaf_names.specs.LeafNames.{Texts};
@@ -42,6 +42,11 @@ pub fn first_loops_are_one()
 /// A circuit that a net serves has no loop, or a first one.
 pub fn circuits_have_no_loop_or_a_first_one()
     ensures { (texts : Texts) (design : Design) (net : TheNet) → Serves texts design net → HasNoLoop design ⊎ ((place : ThePlace) × IsFirstLoopOf design place) }
+{}
+
+/// Where no leaf of the circuit reads itself, the assignments of a net that serves it have an order.
+pub fn circuits_without_loops_have_orders()
+    ensures { (texts : Texts) (design : Design) (net : TheNet) → Serves texts design net → HasNoLoop design → (sequence : List ℕ) × net_reads.IsOrder net sequence }
 {}
 
 /// The fault of a net that serves a circuit is the circuit's.
