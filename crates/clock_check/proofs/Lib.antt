@@ -1,0 +1,6 @@
+mod Deciding
+mod Settings
+mod Reaching
+mod Lasting
+mod Walking
+mod Declaring

@@ -1,0 +1,7 @@
+-- what a reader must believe
+pub mod Faults
+pub mod Clocked
+-- what the bodies keep, and what proofs need
+pub mod Ranks
+pub mod Driving
+pub mod Edges
