@@ -4,3 +4,4 @@ mod Reaching
 mod Lasting
 mod Walking
 mod Declaring
+mod Getting

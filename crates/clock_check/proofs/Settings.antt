@@ -218,7 +218,7 @@ pub copied_map : (r : Option (Bor LeafKey)) → option_map (λ s. leaf_of_key s.
 copied_map None = refl
 copied_map (Some s) = refl
 
-zip_get : (parts : List TypeLeaf) (keys : List LeafKey) (i : ℕ) (x : TypeLeaf) (k : LeafKey) → i < length parts → i < length keys → x ≡ get_or parts i x → k ≡ get_or keys i k
+pub zip_get : (parts : List TypeLeaf) (keys : List LeafKey) (i : ℕ) (x : TypeLeaf) (k : LeafKey) → i < length parts → i < length keys → x ≡ get_or parts i x → k ≡ get_or keys i k
     → (i < length (zip parts (map leaf_of_key keys))) × ((x, leaf_of_key k) ≡ get_or (zip parts (map leaf_of_key keys)) i (x, leaf_of_key k))
 zip_get [] keys i x k lt below is at = absurd (omega (arith, lt))
 zip_get (p ∷ parts) [] i x k lt below is at = absurd (omega (arith, below))
@@ -236,10 +236,14 @@ link_next flip region parts keys i x k old now' new lt below is at h n =
     let both = zip_get parts keys i x k lt below is at in
     link_more flip region parts (map leaf_of_key keys) i x (leaf_of_key k) old now' new both.0 both.1 h n
 
+pub zip_whole : (parts : List TypeLeaf) (keys : List LeafKey) (i n : ℕ) → n ≡ min (length parts) (length keys) → n ≤ i → take i (zip parts (map leaf_of_key keys)) ≡ zip parts (map leaf_of_key keys)
+zip_whole parts keys i n m le =
+    let sources : List Leaf = map leaf_of_key keys in
+    let size : length (zip parts sources) ≡ n = length-zip parts sources ∙ ap (min (length parts)) (length-map keys leaf_of_key) ∙ sym m in
+    take_all i (zip parts sources) (omega (arith, size, le))
+
 pub link_whole : (flip : Bool) (region : Region) (parts : List TypeLeaf) (keys : List LeafKey) (i n : ℕ) (old now' : Leaf → Driver) → n ≡ min (length parts) (length keys) → n ≤ i
     → ((leaf : Leaf) → now' leaf ≡ linked flip region leaf (old leaf) (take i (zip parts (map leaf_of_key keys))))
     → (leaf : Leaf) → now' leaf ≡ linked flip region leaf (old leaf) (zip parts (map leaf_of_key keys))
 link_whole flip region parts keys i n old now' m le h leaf =
-    let sources : List Leaf = map leaf_of_key keys in
-    let size : length (zip parts sources) ≡ n = length-zip parts sources ∙ ap (min (length parts)) (length-map keys leaf_of_key) ∙ sym m in
-    h leaf ∙ ap (linked flip region leaf (old leaf)) (take_all i (zip parts sources) (omega (arith, size, le)))
+    h leaf ∙ ap (linked flip region leaf (old leaf)) (zip_whole parts keys i n m le)

@@ -2,11 +2,15 @@
 use Rattle.std.proofs.Common.{◌≡◌, ℕ, ◌+◌, ◌<◌, Bool, true, false, ◌&&◌, ◌||◌, not, List, [], ◌∷◌, ◌++◌, map, length, take, get_or, refl, sym, ap, ap₂, ◌∙◌, subst, arith, append_assoc, append-nil, if◌then◌else◌}
 use Rattle.std.specs.List.{list_any, flat_map}
 use Rattle.std.proofs.lemmas.Grind.{common_steps}
-use Rattle.std.proofs.lemmas.List.{map_more}
+use Rattle.std.proofs.lemmas.List.{map_more, take_more}
 use Rattle.std.proofs.lemmas.List.Concat.{flat_map-append, flat_map-cons}
 use Rattle.std.proofs.lemmas.List.Folds.{flat_map-map}
 use Rattle.fir_types.specs.declared.leaf.TypeLeaf.{TypeLeaf}
 use Rattle.fir_types.specs.Leaves.{leaves, is_clock}
+use Rattle.fir_types.specs.declared.port.Port.{Port}
+use Rattle.fir_types.specs.declared.name.Name.{Name}
+use Rattle.fir_tree.specs.declared.expr.Expr.{Expr}
+use Rattle.fir_tree.specs.declared.circuit.Module.{Module}
 use Rattle.fir_tree.specs.declared.stmt.Stmt.{Stmt, ind-Stmt}
 use Rattle.fir_tree.specs.declared.stmt.Stmt.TheVariants as stmt
 use Rattle.fir_tree.specs.declared.stmt.Arm.{Arm}
@@ -14,12 +18,12 @@ use Rattle.fir_tree.specs.declared.stmt.Stmt.TheOpen.{Stmt-F, Arm-F}
 use Rattle.fir_tree.specs.declared.stmt.Stmt.TheFolds.{map-Stmt, map-Arm, fold-roll-Stmt, fold-roll-Arm}
 use Rattle.fir_tree.specs.declared.stmt.Stmt.TheViews.{roll-Stmt, roll-Arm}
 use Rattle.fir_tree.specs.declared.stmt.Stmt.{the_lemmas as stmt_lemmas}
-use Rattle.fir_meaning.specs.Components.{Leaf, Sort, flow_of}
+use Rattle.fir_meaning.specs.Components.{Leaf, Sort, An_input, An_output, A_wire, A_register, A_reset_register, A_memory, An_instance, A_node, flow_of}
 use Rattle.fir_meaning.specs.Mentions.{Scope}
 use Rattle.fir_meaning.specs.States.{is_source}
 use Rattle.fir_meaning.specs.ClockRoot.{Driver, Undriven, in_branch, last_of, driven_by, driver_in}
 use Rattle.clock_check.specs.Driving.{clocked, arm_driven}
-use Rattle.clock_check.specs.Edges.{Edge, Walked, WalkedArm, edge_from, part_of, driven_edge, driven_edges, node_edges, own_edges, block_driver, edges_in, inner_of, own_of, of_stmt, of_arm, walked, walked_arm}
+use Rattle.clock_check.specs.Edges.{Edge, Walked, WalkedArm, edge_from, part_of, driven_edge, driven_edges, node_edges, own_edges, block_driver, edges_in, inner_of, own_of, of_stmt, of_arm, walked, walked_arm, port_edges, module_edges}
 use Rattle.clock_check.proofs.Lasting.{later, branch_branch, block_absorbs, arm_is, driven-when}
 
 -- The statements that are walked are those of the text.
@@ -120,12 +124,12 @@ own_at : (types : Scope) (z : Stmt-F Stmt Arm)
 own_at types z h d d' agree = ap (λ (w : Walked). w.own d) (walked_roll types z) ∙ h d d' agree ∙ ap (λ (w : Walked). w.own d') (sym (walked_roll types z))
 
 own_case : (types : Scope) (y : Stmt-F ((s : Stmt) × OwnSame types s) ((a : Arm) × ArmStands a)) → OwnSame types (roll-Stmt (map-Stmt _ _ Stmt Arm (λ e. e.0) (λ e. e.0) y))
-own_case types (Stmt-F.Wire name typ) = own_at types (Stmt-F.Wire name typ) (λ d d' agree. own_same types d d' agree name.id _)
-own_case types (Stmt-F.Reg name typ clock) = own_at types (Stmt-F.Reg name typ clock) (λ d d' agree. own_same types d d' agree name.id _)
-own_case types (Stmt-F.RegReset name typ clock reset init) = own_at types (Stmt-F.RegReset name typ clock reset init) (λ d d' agree. own_same types d d' agree name.id _)
-own_case types (Stmt-F.Mem memory) = own_at types (Stmt-F.Mem memory) (λ d d' agree. own_same types d d' agree memory.name.id _)
-own_case types (Stmt-F.Inst name target) = own_at types (Stmt-F.Inst name target) (λ d d' agree. own_same types d d' agree name.id _)
-own_case types (Stmt-F.Node name expr) = own_at types (Stmt-F.Node name expr) (λ d d' agree. own_same types d d' agree name.id _)
+own_case types (Stmt-F.Wire name typ) = own_at types (Stmt-F.Wire name typ) (λ d d' agree. own_same types d d' agree name.id A_wire)
+own_case types (Stmt-F.Reg name typ clock) = own_at types (Stmt-F.Reg name typ clock) (λ d d' agree. own_same types d d' agree name.id (A_register clock))
+own_case types (Stmt-F.RegReset name typ clock reset init) = own_at types (Stmt-F.RegReset name typ clock reset init) (λ d d' agree. own_same types d d' agree name.id (A_reset_register clock reset init))
+own_case types (Stmt-F.Mem memory) = own_at types (Stmt-F.Mem memory) (λ d d' agree. own_same types d d' agree memory.name.id (A_memory memory))
+own_case types (Stmt-F.Inst name target) = own_at types (Stmt-F.Inst name target) (λ d d' agree. own_same types d d' agree name.id (An_instance target.id))
+own_case types (Stmt-F.Node name expr) = own_at types (Stmt-F.Node name expr) (λ d d' agree. own_same types d d' agree name.id (A_node expr))
 own_case types (Stmt-F.Connect left right) = own_at types (Stmt-F.Connect left right) (λ d d' agree. refl)
 own_case types (Stmt-F.Invalidate target) = own_at types (Stmt-F.Invalidate target) (λ d d' agree. refl)
 own_case types (Stmt-F.Skip place) = own_at types (Stmt-F.Skip place) (λ d d' agree. refl)
@@ -209,3 +213,57 @@ when_last types leaf s arms other old mid branch new e h b k =
     let before : Driver = last_of (map (arm_driven types leaf) arms) Undriven in
     k ∙ ap₂ (λ p q. in_branch p q) h b ∙ branch_branch old before (driver_in types leaf other) ∙ ap (in_branch old) (sym (block_absorbs types leaf other before))
     ∙ sym (driven-when types leaf arms other old) ∙ ap (λ (x : Stmt). driven_by types leaf x old) (sym e)
+
+-- Steps of loops
+
+pub flat_more : {A B : Type 0} (f : A → List B) (xs : List A) (i : ℕ) (x : A) (old now' new : List B) → i < length xs → x ≡ get_or xs i x → now' ≡ old ++ flat_map f (take i xs) → new ≡ now' ++ f x
+    → new ≡ old ++ flat_map f (take (i + 1) xs)
+flat_more f xs i x old now' new lt is h k =
+    k ∙ ap₂ (λ a y. a ++ f y) h is ∙ append_assoc old (flat_map f (take i xs)) (f (get_or xs i x))
+    ∙ ap (λ l. old ++ l) (ap (λ l. flat_map f (take i xs) ++ l) (sym (append-nil (f (get_or xs i x)))) ∙ sym (flat_map-append f (take i xs) (get_or xs i x ∷ []))
+    ∙ ap (flat_map f) (sym (take_more xs i x lt)))
+
+pub arms_step : (types : Scope) (arms : List Arm) (i : ℕ) (x : Arm) (old now' branch new : Leaf → Driver) → i < length arms → x ≡ get_or arms i x
+    → ((leaf : Leaf) → clocked types leaf.component ≡ true → now' leaf ≡ in_branch (old leaf) (last_of (map (arm_driven types leaf) (take i arms)) Undriven))
+    → ((leaf : Leaf) → clocked types leaf.component ≡ true → branch leaf ≡ driver_in types leaf x.body) → ((leaf : Leaf) → new leaf ≡ in_branch (now' leaf) (branch leaf))
+    → (leaf : Leaf) → clocked types leaf.component ≡ true → new leaf ≡ in_branch (old leaf) (last_of (map (arm_driven types leaf) (take (i + 1) arms)) Undriven)
+arms_step types arms i x old now' branch new lt is h b k leaf has = arm_last types leaf arms i x (old leaf) (now' leaf) (branch leaf) (new leaf) lt is (h leaf has) (b leaf has) (k leaf)
+
+pub last_step : (types : Scope) (ss : List Stmt) (i : ℕ) (x : Stmt) (now' new : Leaf → Driver) → i < length ss → x ≡ get_or ss i x
+    → ((leaf : Leaf) → clocked types leaf.component ≡ true → now' leaf ≡ last_of (map (driven_by types leaf) (take i ss)) Undriven)
+    → ((leaf : Leaf) → clocked types leaf.component ≡ true → new leaf ≡ driven_by types leaf x (now' leaf))
+    → (leaf : Leaf) → clocked types leaf.component ≡ true → new leaf ≡ last_of (map (driven_by types leaf) (take (i + 1) ss)) Undriven
+last_step types ss i x now' new lt is h k leaf has = last_more types leaf ss i x (now' leaf) (new leaf) lt is (h leaf has) (k leaf has)
+
+pub when_step : (types : Scope) (s : Stmt) (arms : List Arm) (other : List Stmt) (old mid branch new : Leaf → Driver) → s ≡ stmt.When arms other
+    → ((leaf : Leaf) → clocked types leaf.component ≡ true → mid leaf ≡ in_branch (old leaf) (last_of (map (arm_driven types leaf) arms) Undriven))
+    → ((leaf : Leaf) → clocked types leaf.component ≡ true → branch leaf ≡ driver_in types leaf other) → ((leaf : Leaf) → new leaf ≡ in_branch (mid leaf) (branch leaf))
+    → (leaf : Leaf) → clocked types leaf.component ≡ true → new leaf ≡ driven_by types leaf s (old leaf)
+when_step types s arms other old mid branch new e h b k leaf has = when_last types leaf s arms other (old leaf) (mid leaf) (branch leaf) (new leaf) e (h leaf has) (b leaf has) (k leaf)
+
+ports_same : (types : Scope) (d d' : Leaf → Driver) → Agree types d d' → (ports : List Port) → flat_map (port_edges types d) ports ≡ flat_map (port_edges types d') ports
+ports_same types d d' agree [] = refl
+ports_same types d d' agree (x ∷ ports) =
+    flat_map-cons (port_edges types d) x ports ∙ ap₂ (λ a b. a ++ b) (own_same types d d' agree x.name.id (if x.output then An_output else An_input)) (ports_same types d d' agree ports) ∙ sym (flat_map-cons (port_edges types d') x ports)
+
+pub module_done : (types : Scope) (holder : Module) (d : Leaf → Driver) (got : List Edge) → ((leaf : Leaf) → clocked types leaf.component ≡ true → d leaf ≡ driver_in types leaf holder.body)
+    → got ≡ edges_in types (map (walked types) holder.body) ++ flat_map (port_edges types d) holder.ports → got ≡ module_edges types holder
+module_done types holder d got agree h =
+    let ws : List Walked = map (walked types) holder.body in
+    h ∙ ap (λ l. edges_in types ws ++ l) (ports_same types d (block_driver types ws) (λ leaf has. agree leaf has ∙ sym (block_driver_is types holder.body leaf)) holder.ports)
+
+-- Nodes
+
+quiet : (d : Leaf → Driver) (e : Expr) (name : ℕ) (ls : List TypeLeaf) → flat_map (driven_edge d (A_node e) name) ls ≡ []
+quiet d e name [] = refl
+quiet d e name (l ∷ ls) = flat_map-cons (driven_edge d (A_node e) name) l ls ∙ ap₂ (λ x y. x ++ y) (one (is_clock l)) (quiet d e name ls)
+  where
+    one : (b : Bool) → (if b && false then edge_from (part_of name l) (d (part_of name l)) else []) ≡ []
+    one true = refl
+    one false = refl
+
+pub own-node : (types : Scope) (s : Stmt) (name : Name) (expr : Expr) → s ≡ stmt.Node name expr → (d : Leaf → Driver) → (walked types s).own d ≡ node_edges types name.id (A_node expr)
+own-node types s name expr e d = ap (λ x. (walked types x).own d) e ∙ own ∙ ap (λ l. l ++ node_edges types name.id (A_node expr)) (quiet d expr name.id (leaves (types name.id)))
+  where
+    own : (walked types (stmt.Node name expr)).own d ≡ own_edges types d name.id (A_node expr)
+    own = grind (arith, common_steps, stmt_lemmas)

@@ -5,3 +5,4 @@ pub mod Clocked
 pub mod Ranks
 pub mod Driving
 pub mod Edges
+pub mod Gets

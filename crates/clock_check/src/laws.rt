@@ -1,12 +1,32 @@
 //! Laws of the definitions. The functions do nothing.
 
+ghost use Rattle.std.specs.Prelude.{◌≡◌, ◌↔◌, ℕ, List, Some, slice_get, Contains};
 ghost use Rattle.fault_order.specs.First.{HasNone};
 ghost use Rattle.fir_tree.specs.declared.scope.Fitted.{Fitted as FittedCircuit};
-ghost use Rattle.fir_meaning.specs.Components.{design_of};
-ghost use Rattle.fir_meaning.specs.ClockRoot.{HasOneClock};
+ghost use Rattle.fir_meaning.specs.Components.{Design as ADesign, TypedModule, Leaf, FlatLeaf, design_of, modules_of, module_at, type_in, flat};
+ghost use Rattle.fir_meaning.specs.ClockRoot.{ClockFrom, HasOneClock};
+ghost use Rattle.fir_tree.specs.declared.circuit.Module.{Module as AModule};
+ghost use Rattle.circuit_laws.specs.WellFormed.{IsWellFormed};
 ghost use Rattle.clock_check.specs.Clocked.{IsFault};
+ghost use Rattle.clock_check.specs.Edges.{module_edges};
+ghost use Rattle.clock_check.specs.Gets.{Gets, LinkAt};
+
+use circuit_laws::laws::names_are_declared_once;
 
 /// A circuit of one clock has no fault of clocks.
 pub fn one_clock_has_no_fault()
     ensures { (fitted : FittedCircuit) → HasOneClock (design_of fitted) → HasNone (IsFault fitted) }
+{}
+
+/// The links that the walk through a module finds are all links of chains of clocks that begin in it.
+pub fn edges_are_links()
+    ensures { (fitted : FittedCircuit) → IsWellFormed fitted → (k : ℕ) (holder : AModule) (m : TypedModule) → slice_get fitted.checked.circuit.modules k ≡ Some holder → slice_get (modules_of fitted) k ≡ Some m → (x y : Leaf) → Contains (module_edges (type_in m) holder) (x, y) ↔ Gets m x y }
+{
+    names_are_declared_once();
+}
+
+/// A Clock leaf of the run has its value from another one just where it does at the path of a module.
+pub fn links_stand_at_paths()
+    ensures at { (design : ADesign) (x y : FlatLeaf) → ClockFrom design x y → LinkAt design x y }
+    ensures from { (design : ADesign) (path : List ℕ) (m : TypedModule) (x y : Leaf) → module_at design path ≡ Some m → Gets m x y → ClockFrom design (flat m path x) (flat m path y) }
 {}

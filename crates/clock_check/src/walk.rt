@@ -184,7 +184,7 @@ fn push_driven(
     links: &mut Vec<Link>,
     component: (Name, Owner),
 ) -> Result<(), AllocError>
-    ensures { OnOk result (edges_of links.new.items ≡ edges_of links.old.items ++ driven_edges (types_in types.now) (driver_of drivers.now.known.entries) component.entry.0.id (sort_of component.entry.1)) }
+    ensures { OnOk result (edges_of links.new.items ≡ edges_of links.old.items ++ driven_edges (types_in types.now) (driver_of drivers.now.known.entries) component.0.id (sort_of component.1)) }
 {
     let leaves = list_leaves(alloc, types.of(component.0.id))?;
     for leaf in &leaves {
@@ -200,7 +200,7 @@ fn push_leaf(
     component: (Name, Owner),
     leaf: &TypeLeaf,
 ) -> Result<(), AllocError>
-    ensures { OnOk result (edges_of links.new.items ≡ edges_of links.old.items ++ driven_edge (driver_of drivers.now.known.entries) (sort_of component.entry.1) component.entry.0.id leaf.now) }
+    ensures { OnOk result (edges_of links.new.items ≡ edges_of links.old.items ++ driven_edge (driver_of drivers.now.known.entries) (sort_of component.1) component.0.id leaf.now) }
 {
     if !is_clock(leaf) || !may_drive(component.1, leaf.flip) {
         return Ok(());
@@ -222,7 +222,7 @@ fn is_clock(leaf: &TypeLeaf) -> bool
 
 /// Whether statements may drive a leaf of a component, flipped or not.
 fn may_drive(owner: Owner, flip: bool) -> bool
-    ensures { result ≡ not (is_source (flow_of (sort_of owner.entry) flip)) }
+    ensures { result ≡ not (is_source (flow_of (sort_of owner) flip)) }
 {
     match owner {
         Owner::Duplex => true,
@@ -243,9 +243,22 @@ fn push_node(
 {
     let leaves = list_leaves(alloc, types.of(name.id))?;
     let sources = named(alloc, types, expr)?;
-    let count = leaves.len().min(sources.len());
+    push_pairs(alloc, links, name, leaves.as_slice(), sources.as_slice())
+}
+
+/// Adds the links of these Clock leaves of a node, each with the source beside it.
+fn push_pairs(
+    alloc: Global,
+    links: &mut Vec<Link>,
+    name: Name,
+    parts: &[TypeLeaf],
+    sources: &[LeafKey],
+) -> Result<(), AllocError>
+    ensures { OnOk result (edges_of links.new.items ≡ edges_of links.old.items ++ flat_map (node_edge name.id) (zip parts.now (map leaf_of_key sources.now))) }
+{
+    let count = parts.len().min(sources.len());
     for at in 0..count {
-        push_beside(alloc, links, name, &leaves[at], &sources[at])?;
+        push_beside(alloc, links, name, &parts[at], &sources[at])?;
     }
     Ok(())
 }
