@@ -14,7 +14,7 @@ use Rattle.fir_types.proofs.Layers.{leaves-bundle}
 use Rattle.circuit_parts.proofs.Shapes.{ShapeCase, shape_uint, shape_sint, shape_clock, shape_reset, shape_bundle, shape_vector, case_of}
 use Rattle.std.proofs.lemmas.Bool.{eqb-true}
 use Rattle.fir_tree.specs.declared.scope.Fitted.{Fitted}
-use Rattle.fir_names.specs.Scopes.{In}
+use Rattle.fir_names.specs.Scopes.{In, here, there}
 use Rattle.circuit_laws.specs.WellFormed.{IsWellFormed}
 use Rattle.circuit_laws.specs.Designs.{component_of}
 use Rattle.fir_tree.specs.declared.circuit.Module.{Module}
@@ -27,7 +27,8 @@ use Rattle.fir_meaning.specs.States.{is_source}
 use Rattle.fir_meaning.specs.ClockRoot as clock
 use Rattle.fir_meaning.specs.ClockRoot.{Driver, Undriven, No_driver, From, driver_in, named_leaves, ClockFrom}
 use Rattle.fir_meaning.proofs.Ports.{from_flat_map}
-use Rattle.fir_meaning.proofs.Tracking.{Contains-flat_map, none_some, some_same}
+use Rattle.fir_meaning.proofs.Tracking.{Contains-flat_map, none_some}
+use Rattle.fir_names.proofs.Graphs.{some_same}
 use Rattle.drive_check.proofs.KeyTests.{leaf_equal}
 use Rattle.drive_check.proofs.Telling.{AreOnce, Placed, placed, get_contains, contains_get, none_in, find_in, zipped}
 use Rattle.clock_check.specs.Edges.{Edge, edge_from, part_of, driven_edge, driven_edges, node_edge, node_edges, edges_by, module_edges}
@@ -314,10 +315,15 @@ gets_edge m holder ts is x y (by_node c leaf e k source named l clock sort at gi
     declared_edge (type_in m) holder (part_of d.name leaf, source) d (declared_at m holder ts is c named)
     (has_edge (type_in m) d (part_of d.name leaf, source) (node e k leaf sort (ap (λ t. slice_get (leaves t) k) typ ∙ at) given (clock_same leaf ∙ clock) refl))
 
--- the same of a module that main reaches
+in_at : {A : Type 0} (xs : List A) (k : ℕ) (x : A) → slice_get xs k ≡ Some x → In x xs
+in_at [] k x e = absurd (none_some e)
+in_at (y ∷ xs) zero x e = subst (λ z. In z (y ∷ xs)) (some_same e) (here xs)
+in_at (y ∷ xs) (suc k) x e = there y xs (in_at xs k x e)
+
+-- the same of a module of a circuit
 pub edges_are_links : (fitted : Fitted) → IsWellFormed fitted → AreOnce fitted → (k : ℕ) (holder : Module) (m : TypedModule) → slice_get fitted.checked.circuit.modules k ≡ Some holder
     → slice_get (modules_of fitted) k ≡ Some m → (x y : Leaf) → Contains (module_edges (type_in m) holder) (x, y) ↔ Gets m x y
 edges_are_links fitted well once k holder m here' number x y =
     let its = placed fitted.checked.circuit.modules fitted.declared fitted.checked.scope.reached k holder m here' number in
-    let in' : In holder fitted.checked.circuit.modules = get_contains fitted.checked.circuit.modules k holder here' in
+    let in' : In holder fitted.checked.circuit.modules = in_at fitted.checked.circuit.modules k holder here' in
     (λ c. edge_gets m holder its.declared its.is (once holder in') x y c, λ g. gets_edge m holder its.declared its.is x y g)
