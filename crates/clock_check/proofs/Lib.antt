@@ -5,3 +5,4 @@ mod Lasting
 mod Walking
 mod Declaring
 mod Getting
+mod Rooting

@@ -6,3 +6,4 @@ pub mod Ranks
 pub mod Driving
 pub mod Edges
 pub mod Gets
+pub mod Rooted

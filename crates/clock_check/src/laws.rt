@@ -1,15 +1,16 @@
 //! Laws of the definitions. The functions do nothing.
 
-ghost use Rattle.std.specs.Prelude.{◌≡◌, ◌↔◌, ℕ, List, Some, slice_get, Contains};
+ghost use Rattle.std.specs.Prelude.{◌≡◌, ◌↔◌, ◌++◌, ℕ, Bool, true, List, Some, slice_get, Contains};
 ghost use Rattle.fault_order.specs.First.{HasNone};
 ghost use Rattle.fir_tree.specs.declared.scope.Fitted.{Fitted as FittedCircuit};
 ghost use Rattle.fir_meaning.specs.Components.{Design as ADesign, TypedModule, Leaf, FlatLeaf, design_of, modules_of, module_at, type_in, flat};
-ghost use Rattle.fir_meaning.specs.ClockRoot.{ClockFrom, HasOneClock};
+ghost use Rattle.fir_meaning.specs.ClockRoot.{ClockFrom, IsRooted, HasOneClock};
 ghost use Rattle.fir_tree.specs.declared.circuit.Module.{Module as AModule};
 ghost use Rattle.circuit_laws.specs.WellFormed.{IsWellFormed};
 ghost use Rattle.clock_check.specs.Clocked.{IsFault};
 ghost use Rattle.clock_check.specs.Edges.{module_edges};
 ghost use Rattle.clock_check.specs.Gets.{Gets, LinkAt};
+ghost use Rattle.clock_check.specs.Rooted.{HasRoot, IsClosed, IsSound};
 
 use circuit_laws::laws::names_are_declared_once;
 
@@ -29,4 +30,16 @@ pub fn edges_are_links()
 pub fn links_stand_at_paths()
     ensures at { (design : ADesign) (x y : FlatLeaf) → ClockFrom design x y → LinkAt design x y }
     ensures from { (design : ADesign) (path : List ℕ) (m : TypedModule) (x y : Leaf) → module_at design path ≡ Some m → Gets m x y → ClockFrom design (flat m path x) (flat m path y) }
+{}
+
+/// A set of leaves of the run that has main's first Clock input, and with a leaf those that have their value from it, and whose
+/// leaves all lead there, has just the leaves that do.
+pub fn closed_sets_have_what_is_rooted()
+    ensures { (design : ADesign) (set : FlatLeaf → Bool) → HasRoot design set → IsClosed design set → IsSound design set → (x : FlatLeaf) → (set x ≡ true) ↔ IsRooted design x }
+{}
+
+/// Where a leaf behind some instances leads to main's first Clock input, so does a leaf of the module just behind them. So where no
+/// leaf of the module at a path does, none behind it does.
+pub fn rooted_leaves_are_entered()
+    ensures { (design : ADesign) (x : FlatLeaf) → IsRooted design x → (q r : List ℕ) → x.path ≡ q ++ r → (w : FlatLeaf) × IsRooted design w × (w.path ≡ q) }
 {}
