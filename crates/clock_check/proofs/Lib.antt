@@ -6,3 +6,5 @@ mod Walking
 mod Declaring
 mod Getting
 mod Rooting
+mod Hanging
+mod Placing

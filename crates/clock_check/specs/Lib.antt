@@ -7,3 +7,4 @@ pub mod Driving
 pub mod Edges
 pub mod Gets
 pub mod Rooted
+pub mod Hung

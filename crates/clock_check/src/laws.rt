@@ -1,15 +1,17 @@
 //! Laws of the definitions. The functions do nothing.
 
-ghost use Rattle.std.specs.Prelude.{◌≡◌, ◌↔◌, ◌++◌, ℕ, Bool, true, List, Some, slice_get, Contains};
+ghost use Rattle.std.specs.Prelude.{◌≡◌, ◌↔◌, ◌++◌, flat_map, ℕ, Bool, true, List, Some, slice_get, Contains};
 ghost use Rattle.fault_order.specs.First.{HasNone};
 ghost use Rattle.fir_tree.specs.declared.scope.Fitted.{Fitted as FittedCircuit};
-ghost use Rattle.fir_meaning.specs.Components.{Design as ADesign, TypedModule, Leaf, FlatLeaf, design_of, modules_of, module_at, type_in, flat};
+ghost use Rattle.fir_meaning.specs.Components.{Design as ADesign, TypedModule, Leaf, FlatLeaf, declarations_of, design_of, modules_of, module_at, type_in, flat};
 ghost use Rattle.fir_meaning.specs.ClockRoot.{ClockFrom, IsRooted, HasOneClock};
 ghost use Rattle.fir_tree.specs.declared.circuit.Module.{Module as AModule};
 ghost use Rattle.circuit_laws.specs.WellFormed.{IsWellFormed};
 ghost use Rattle.clock_check.specs.Clocked.{IsFault};
 ghost use Rattle.clock_check.specs.Edges.{module_edges};
 ghost use Rattle.clock_check.specs.Gets.{Gets, LinkAt};
+ghost use Rattle.fir_meaning.specs.Mentions.{Scope};
+ghost use Rattle.clock_check.specs.Hung.{module_hung, hung_by};
 ghost use Rattle.clock_check.specs.Rooted.{HasRoot, IsClosed, IsSound};
 
 use circuit_laws::laws::names_are_declared_once;
@@ -42,4 +44,9 @@ pub fn closed_sets_have_what_is_rooted()
 /// leaf of the module at a path does, none behind it does.
 pub fn rooted_leaves_are_entered()
     ensures { (design : ADesign) (x : FlatLeaf) → IsRooted design x → (q r : List ℕ) → x.path ≡ q ++ r → (w : FlatLeaf) × IsRooted design w × (w.path ≡ q) }
+{}
+
+/// The registers and memory ports that are found in a module are those of its declarations, in their order.
+pub fn hung_are_those_of_declarations()
+    ensures { (types : Scope) (holder : AModule) → module_hung types holder ≡ flat_map (hung_by types) (declarations_of holder) }
 {}

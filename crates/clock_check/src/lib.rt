@@ -5,6 +5,7 @@
 mod drivers;
 mod driving;
 pub mod fault;
+pub mod hung;
 pub mod laws;
 mod reach;
 pub mod walk;
