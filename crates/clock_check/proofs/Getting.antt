@@ -119,7 +119,7 @@ from_cond false xs x c = absurd (none_in x c)
 to_cond : {A : Type 0} (b : Bool) (xs : List A) (x : A) → b ≡ true → Contains xs x → Contains (if b then xs else []) x
 to_cond b xs x e c = subst (λ q. Contains (if q then xs else []) x) (sym e) c
 
-one_in : {A : Type 0} (x y : A) → Contains (x ∷ []) y → x ≡ y
+pub one_in : {A : Type 0} (x y : A) → Contains (x ∷ []) y → x ≡ y
 one_in x y c = by (contains_get (x ∷ []) y c)
   where
     by : (k : ℕ) × (slice_get (x ∷ []) k ≡ Some y) → x ≡ y

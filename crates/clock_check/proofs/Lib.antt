@@ -8,3 +8,4 @@ mod Getting
 mod Rooting
 mod Hanging
 mod Placing
+mod Faulting

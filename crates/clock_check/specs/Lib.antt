@@ -8,3 +8,4 @@ pub mod Edges
 pub mod Gets
 pub mod Rooted
 pub mod Hung
+pub mod HangsOther

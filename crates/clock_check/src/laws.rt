@@ -7,14 +7,16 @@ ghost use Rattle.fir_meaning.specs.Components.{Design as ADesign, TypedModule, L
 ghost use Rattle.fir_meaning.specs.ClockRoot.{ClockFrom, IsRooted, HasOneClock};
 ghost use Rattle.fir_tree.specs.declared.circuit.Module.{Module as AModule};
 ghost use Rattle.circuit_laws.specs.WellFormed.{IsWellFormed};
-ghost use Rattle.clock_check.specs.Clocked.{IsFault};
+ghost use Rattle.clock_check.specs.Clocked.{IsFault, IsOther};
+ghost use Rattle.clock_check.specs.HangsOther.{HangsOther};
+ghost use Rattle.place_text.specs.declared.place.Place.{Place as APlace};
 ghost use Rattle.clock_check.specs.Edges.{module_edges};
 ghost use Rattle.clock_check.specs.Gets.{Gets, LinkAt};
 ghost use Rattle.fir_meaning.specs.Mentions.{Scope};
 ghost use Rattle.clock_check.specs.Hung.{module_hung, hung_by};
 ghost use Rattle.clock_check.specs.Rooted.{HasRoot, IsClosed, IsSound};
 
-use circuit_laws::laws::names_are_declared_once;
+use circuit_laws::laws::{components_are_named, names_are_declared_once, reached_modules_stand_at_paths};
 
 /// A circuit of one clock has no fault of clocks.
 pub fn one_clock_has_no_fault()
@@ -50,3 +52,11 @@ pub fn rooted_leaves_are_entered()
 pub fn hung_are_those_of_declarations()
     ensures { (types : Scope) (holder : AModule) → module_hung types holder ≡ flat_map (hung_by types) (declarations_of holder) }
 {}
+
+/// The faults of clocks are those of the registers and memory ports that are found in the modules that main reaches.
+pub fn faults_hang()
+    ensures { (fitted : FittedCircuit) → IsWellFormed fitted → (place : APlace) → IsOther (design_of fitted) place ↔ HangsOther fitted place }
+{
+    components_are_named();
+    reached_modules_stand_at_paths();
+}
