@@ -1,5 +1,4 @@
 -- A circuit of one clock has no fault.
-use Rattle.std.proofs.Common.{◌≡◌}
 use Rattle.place_text.specs.declared.place.Place.{Place}
 use Rattle.fault_order.specs.First.{HasNone}
 use Rattle.fir_tree.specs.declared.scope.Fitted.{Fitted}

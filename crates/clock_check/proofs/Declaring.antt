@@ -10,11 +10,11 @@ use Rattle.fir_tree.specs.declared.stmt.Arm.{Arm, fold-Arm}
 use Rattle.fir_tree.specs.declared.stmt.Stmt.TheOpen.{Stmt-F, Arm-F}
 use Rattle.fir_tree.specs.declared.stmt.Stmt.TheFolds.{map-Stmt, map-Arm, fold-roll-Stmt, fold-roll-Arm}
 use Rattle.fir_tree.specs.declared.stmt.Stmt.TheViews.{roll-Stmt, roll-Arm}
-use Rattle.fir_meaning.specs.Components.{Leaf, Declaration, Told, ToldArm, told, of_told, of_told_arm, declared_from, declared_in_block, declarations_of, declared_by_port}
+use Rattle.fir_meaning.specs.Components.{Declaration, Told, ToldArm, told, of_told, of_told_arm, declared_from, declared_in_block, declarations_of, declared_by_port}
 use Rattle.fir_meaning.specs.Mentions.{Scope}
 use Rattle.fir_meaning.specs.ClockRoot.{driver_in}
-use Rattle.clock_check.specs.Edges.{Edge, Walked, WalkedArm, own_edges, block_driver, edges_in, of_stmt, walked, walked_arm, port_edges, module_edges, edges_by}
-use Rattle.clock_check.proofs.Walking.{walked_roll, walked_arm_roll, all_itself, block_driver_is}
+use Rattle.clock_check.specs.Edges.{Edge, Walked, WalkedArm, block_driver, edges_in, of_stmt, walked, walked_arm, port_edges, module_edges, edges_by}
+use Rattle.clock_check.proofs.Walking.{walked_roll, walked_arm_roll, all_itself}
 
 -- The statements that declare are those of the text.
 

@@ -1,14 +1,13 @@
 -- Faults of clocks are those of the registers and memory ports that are found.
-use Rattle.std.proofs.Common.{◌≡◌, ◌==◌, ℕ, List, [], ◌∷◌, map, Option, Some, None, slice_get, refl, sym, ap, ◌∙◌, subst}
+use Rattle.std.proofs.Common.{◌≡◌, ◌==◌, [], ◌∷◌, map, Some, slice_get, refl, sym, ap, subst}
 use Rattle.std.specs.Prelude.{Contains}
 use Rattle.place_text.specs.declared.place.Place.{Place}
-use Rattle.fir_types.specs.declared.memory.Memory.{Memory}
 use Rattle.fir_tree.specs.declared.circuit.Module.{Module}
 use Rattle.fir_tree.specs.declared.expr.Expr.{Expr}
 use Rattle.fir_tree.specs.declared.scope.Fitted.{Fitted}
 use Rattle.fir_meaning.specs.Components.{Design, Declaration, Component, TypedModule, Leaf, Sort, An_input, An_output, A_wire, A_register, A_reset_register, A_memory, An_instance, A_node, declarations_of, design_of, modules_of, type_in, component_named, flat}
 use Rattle.fir_meaning.specs.Mentions.{Scope}
-use Rattle.fir_meaning.specs.MemoryPorts.{MemoryPort, memory_ports}
+use Rattle.fir_meaning.specs.MemoryPorts.{memory_ports}
 use Rattle.fir_meaning.specs.ClockRoot.{IsRooted, clock_of, named_leaves}
 use Rattle.fir_meaning.proofs.Ports.{from_flat_map, from_map}
 use Rattle.fir_meaning.proofs.Tracking.{Contains-flat_map, Contains-map, none_some}

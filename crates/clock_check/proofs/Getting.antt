@@ -1,7 +1,7 @@
 -- The edges that the walk finds are the links of chains of clocks.
-use Rattle.std.proofs.Common.{◌≡◌, ℕ, zero, suc, ◌==◌, Bool, true, false, ◌&&◌, ◌||◌, not, List, [], ◌∷◌, ◌++◌, map, zip, length, slice_get, Option, Some, None, if◌then◌else◌, refl, sym, ap, ap₂, ◌∙◌, subst, arith, ⊎_elim, true≢false, eq-eqb}
+use Rattle.std.proofs.Common.{◌≡◌, ℕ, zero, suc, ◌==◌, Bool, true, false, ◌&&◌, ◌||◌, not, List, [], ◌∷◌, map, zip, slice_get, Option, Some, None, if◌then◌else◌, refl, sym, ap, ap₂, ◌∙◌, subst, ⊎_elim, true≢false, eq-eqb}
 use Rattle.std.specs.Prelude.{Contains, ◌↔◌}
-use Rattle.std.specs.List.{list_any, flat_map}
+use Rattle.std.specs.List.{list_any}
 use Rattle.std.proofs.lemmas.List.Elements.{Contains-append_cases, Contains-append_left, Contains-append_right}
 use Rattle.fir_types.specs.declared.fir_type.FirType.{FirType}
 use Rattle.fir_types.specs.declared.leaf.TypeLeaf.{TypeLeaf}
@@ -30,7 +30,7 @@ use Rattle.fir_meaning.proofs.Ports.{from_flat_map}
 use Rattle.fir_meaning.proofs.Tracking.{Contains-flat_map, none_some}
 use Rattle.fir_names.proofs.Graphs.{some_same}
 use Rattle.drive_check.proofs.KeyTests.{leaf_equal}
-use Rattle.drive_check.proofs.Telling.{AreOnce, Placed, placed, get_contains, contains_get, none_in, find_in, zipped}
+use Rattle.drive_check.proofs.Telling.{AreOnce, placed, get_contains, contains_get, none_in, find_in, zipped}
 use Rattle.clock_check.specs.Edges.{Edge, edge_from, part_of, driven_edge, driven_edges, node_edge, node_edges, edges_by, module_edges}
 use Rattle.clock_check.specs.Gets.{Gets, LinkAt, by_connect, by_node}
 use Rattle.clock_check.proofs.Declaring.{module_finds}

@@ -1,18 +1,13 @@
 -- The registers and memory ports that are found are those of the declarations.
-use Rattle.std.proofs.Common.{◌≡◌, ℕ, ◌+◌, ◌<◌, List, [], ◌∷◌, ◌++◌, map, filter_map, length, take, get_or, Option, Some, None, option_map, slice_get, refl, sym, ap, ap₂, ◌∙◌, subst, arith, append_assoc, append-nil}
+use Rattle.std.proofs.Common.{◌≡◌, List, ◌++◌, map, ap, ap₂, ◌∙◌, arith}
 use Rattle.std.specs.List.{flat_map}
 use Rattle.std.proofs.lemmas.Grind.{common_steps}
-use Rattle.std.proofs.lemmas.List.Concat.{flat_map-append, flat_map-cons}
 use Rattle.std.proofs.lemmas.List.Folds.{flat_map-map}
-use Rattle.fir_types.specs.declared.memory.MemLine.{MemLine}
-use Rattle.fir_types.specs.declared.memory.MemLine.TheVariants as line
-use Rattle.fir_tree.specs.declared.circuit.Module.{Module}
-use Rattle.fir_tree.specs.declared.stmt.Stmt.{Stmt, ind-Stmt, the_lemmas as stmt_lemmas}
+use Rattle.fir_tree.specs.declared.stmt.Stmt.{Stmt, the_lemmas as stmt_lemmas}
 use Rattle.fir_tree.specs.declared.stmt.Stmt.TheVariants as stmt
 use Rattle.fir_tree.specs.declared.stmt.Arm.{Arm}
 use Rattle.fir_meaning.specs.Mentions.{Scope}
-use Rattle.fir_meaning.specs.MemoryPorts.{MemoryPort, port_in}
-use Rattle.clock_check.specs.Hung.{Hangs, line_hung, port_hung, all_hung, stmt_hung, arm_hung}
+use Rattle.clock_check.specs.Hung.{all_hung, stmt_hung, arm_hung}
 
 pub arm_hung_is : (types : Scope) (a : Arm) → arm_hung types a ≡ flat_map (stmt_hung types) a.body
 arm_hung_is types a = folded ∙ flat_map-map (λ hung. hung) (stmt_hung types) a.body

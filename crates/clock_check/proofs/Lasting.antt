@@ -1,14 +1,14 @@
 -- What a statement leaves of a driver depends on what was known before it only where it doesn't drive the leaf.
-use Rattle.std.proofs.Common.{◌≡◌, Bool, true, false, List, [], ◌∷◌, map, zip, fold, Option, Some, None, if◌then◌else◌, refl, sym, ap, ap₂, ◌∙◌, subst, arith}
+use Rattle.std.proofs.Common.{◌≡◌, Bool, true, false, List, [], ◌∷◌, map, zip, Option, Some, None, if◌then◌else◌, refl, sym, ap, ◌∙◌, subst, arith}
 use Rattle.std.specs.Prelude.{⊤}
 use Rattle.std.proofs.lemmas.Grind.{common_steps}
 use Rattle.fir_types.specs.declared.leaf.TypeLeaf.{TypeLeaf}
 use Rattle.fir_types.specs.Leaves.{leaves}
 use Rattle.fir_tree.specs.declared.expr.Expr.{Expr}
 use Rattle.fir_tree.specs.declared.stmt.Stmt.{Stmt, ind-Stmt, the_lemmas as stmt_lemmas}
-use Rattle.fir_tree.specs.declared.stmt.Stmt.TheOpen.{Stmt-F, Arm-F}
-use Rattle.fir_tree.specs.declared.stmt.Stmt.TheFolds.{map-Stmt, map-Arm, fold-roll-Stmt}
-use Rattle.fir_tree.specs.declared.stmt.Stmt.TheViews.{roll-Stmt, roll-Arm}
+use Rattle.fir_tree.specs.declared.stmt.Stmt.TheOpen.{Stmt-F}
+use Rattle.fir_tree.specs.declared.stmt.Stmt.TheFolds.{map-Stmt, fold-roll-Stmt}
+use Rattle.fir_tree.specs.declared.stmt.Stmt.TheViews.{roll-Stmt}
 use Rattle.fir_tree.specs.declared.stmt.Stmt.TheVariants as stmt
 use Rattle.fir_tree.specs.declared.stmt.Arm.{Arm}
 use Rattle.fir_meaning.specs.Components.{Leaf}

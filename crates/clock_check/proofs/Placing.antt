@@ -14,7 +14,7 @@ use Rattle.fir_tree.specs.declared.stmt.Stmt.TheFolds.{map-Stmt, map-Arm, fold-r
 use Rattle.fir_tree.specs.declared.stmt.Stmt.TheViews.{roll-Stmt, roll-Arm}
 use Rattle.fir_meaning.specs.Components.{Declaration, Told, ToldArm, told, of_told, of_told_arm, declared_from, declared_in_block, declarations_of, declared_by_port, Sort, An_input, An_output, A_wire, A_register, A_reset_register, A_memory, An_instance, A_node}
 use Rattle.fir_meaning.specs.Mentions.{Scope}
-use Rattle.fir_meaning.specs.MemoryPorts.{MemoryPort, port_in}
+use Rattle.fir_meaning.specs.MemoryPorts.{port_in}
 use Rattle.clock_check.specs.Clocked.{clock_leaf}
 use Rattle.clock_check.specs.Hung.{Hangs, line_hung, port_hung, all_hung, of_stmt, of_arm, stmt_hung, arm_hung, sort_hung, hung_by, module_hung}
 

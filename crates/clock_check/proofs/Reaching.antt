@@ -1,18 +1,17 @@
 -- What references may name, step by step.
-use Rattle.std.proofs.Common.{◌≡◌, ℕ, zero, suc, ◌+◌, ◌<◌, ◌==◌, Bool, true, false, ◌&&◌, ◌||◌, fold, Option, None, Some, subst, arith, append-nil, true≢false, List, [], ◌∷◌, ◌++◌, map, length, take, get_or, refl, sym, ap, ap₂, ◌∙◌}
+use Rattle.std.proofs.Common.{◌≡◌, ℕ, zero, suc, ◌+◌, ◌==◌, Bool, true, false, ◌&&◌, ◌||◌, fold, Option, None, Some, subst, arith, append-nil, true≢false, List, [], ◌∷◌, ◌++◌, map, refl, sym, ap, ◌∙◌}
 use Rattle.std.specs.Global.{Vec}
 use Rattle.std.specs.Prelude.{⊤}
 use Rattle.std.specs.List.{list_any, flat_map, range_with_len}
 use Rattle.std.proofs.lemmas.Bool.{eqb-true}
 use Rattle.std.proofs.lemmas.List.Concat.{flat_map-append}
-use Rattle.std.proofs.lemmas.List.{map-append}
 use Rattle.place_text.specs.declared.place.Place.{Place}
 use Rattle.fir_types.specs.declared.name.Name.{Name}
 use Rattle.fir_types.specs.declared.leaf.PathStep.{PathStep}
 use Rattle.fir_types.specs.declared.leaf.PathStep.TheVariants as step
 use Rattle.fir_tree.specs.declared.expr.Expr.{Expr}
 use Rattle.fir_tree.specs.declared.expr.Form.{Form, fold-Form}
-use Rattle.fir_tree.specs.declared.expr.Form.TheOpen.{Form-F, Suffix-F, Expr-F}
+use Rattle.fir_tree.specs.declared.expr.Form.TheOpen.{Suffix-F}
 use Rattle.fir_tree.specs.declared.expr.Form.TheFolds.{map-Suffix, fold-roll-Suffix}
 use Rattle.fir_tree.specs.declared.expr.Form.TheViews.{roll-Suffix, out-Form}
 use Rattle.fir_tree.specs.declared.expr.Form.TheVariants as form
@@ -21,13 +20,12 @@ use Rattle.fir_tree.specs.declared.expr.Suffix.{Suffix, ind-Suffix}
 use Rattle.fir_tree.specs.declared.expr.Suffix.TheVariants as suffix
 use Rattle.fir_meaning.specs.Components.{Leaf}
 use Rattle.fir_meaning.specs.Drives.{same_leaf, same_way, is_turned}
-use Rattle.fir_meaning.specs.Values.{field_type, element_type, vector_length}
-use Rattle.fir_meaning.specs.Mentions.{Scope, Region, InScope, Onward, suffix_onward, behind_each, elements_behind, leaves_at, follow_all, whole_region, region_of, region_of_form, of_form, of_suffix, of_expr, mentions}
+use Rattle.fir_meaning.specs.Values.{vector_length}
+use Rattle.fir_meaning.specs.Mentions.{Scope, Region, InScope, Onward, suffix_onward, behind_each, elements_behind, follow_all, whole_region, region_of, region_of_form, of_form, of_suffix, of_expr, mentions}
 use Rattle.fir_meaning.specs.Certain.{may_be, may_name}
 use Rattle.fir_types.specs.Leaves.{leaves}
 use Rattle.drive_check.specs.declared.leaf_set.Step.{Step}
-use Rattle.drive_check.specs.Keys.{step_of}
-use Rattle.drive_check.proofs.Following.{onward-field, onward-at, onward-index}
+use Rattle.drive_check.proofs.Following.{onward-index}
 use Rattle.clock_check.specs.declared.reach.Reach.{Reach}
 use Rattle.clock_check.specs.Driving.{bare, region_at, ways_of, front_at, is_behind, clocked, Reaches}
 

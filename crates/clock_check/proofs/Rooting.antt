@@ -1,12 +1,12 @@
 -- Sets of leaves that lead to main's first Clock input.
-use Rattle.std.proofs.Common.{◌≡◌, ◌⊎◌, inl, inr, ⊎_elim, ℕ, Bool, true, List, [], ◌∷◌, ◌++◌, length, drop, get_or, Option, Some, None, option_map, slice_get, refl, sym, ap, ap₂, ◌∙◌, subst, arith, append_assoc}
+use Rattle.std.proofs.Common.{◌≡◌, ◌⊎◌, inl, inr, ⊎_elim, ℕ, Bool, true, List, [], ◌∷◌, ◌++◌, length, drop, get_or, Option, Some, None, option_map, slice_get, refl, sym, ap, ap₂, ◌∙◌, arith, append_assoc}
 use Rattle.fir_types.specs.declared.leaf.PathStep.{PathStep}
 use Rattle.fir_types.specs.declared.leaf.PathStep.TheVariants as step
-use Rattle.fir_meaning.specs.Components.{Design, TypedModule, Leaf, FlatLeaf, flat, flat_through, target_of, module_at, module_named}
-use Rattle.fir_meaning.specs.ClockRoot.{IsRooted, at_root, onward, ClockFrom, clock_root, clock_inputs_of}
+use Rattle.fir_meaning.specs.Components.{Design, Leaf, FlatLeaf, flat_through, target_of, module_named}
+use Rattle.fir_meaning.specs.ClockRoot.{IsRooted, at_root, onward, clock_inputs_of}
 use Rattle.fir_meaning.proofs.Tracking.{none_some}
 use Rattle.fir_names.proofs.Graphs.{some_same}
-use Rattle.clock_check.specs.Gets.{Gets, LinkAt}
+use Rattle.clock_check.specs.Gets.{LinkAt}
 use Rattle.clock_check.specs.Rooted.{HasRoot, IsClosed}
 use Rattle.clock_check.proofs.Getting.{link_at}
 

@@ -1,5 +1,5 @@
 -- What is known of drivers behind a setting, and behind several.
-use Rattle.std.proofs.Common.{◌≡◌, ℕ, zero, suc, ◌+◌, ◌<◌, Bool, true, false, ◌&&◌, ◌||◌, not, List, [], ◌∷◌, ◌++◌, map, fold, zip, length, take, get_or, Option, Some, None, option_map, if◌then◌else◌, refl, sym, ap, ap₂, ◌∙◌, true≢false, arith, ◌≤◌, Bor}
+use Rattle.std.proofs.Common.{◌≡◌, ℕ, zero, suc, ◌+◌, ◌<◌, Bool, true, false, ◌||◌, List, [], ◌∷◌, map, zip, length, take, get_or, Option, Some, None, option_map, if◌then◌else◌, refl, sym, ap, ap₂, ◌∙◌, true≢false, arith, ◌≤◌, Bor}
 use Rattle.std.specs.Prelude.{min}
 use Rattle.std.specs.Option.{option_copied}
 use Rattle.std.proofs.lemmas.List.{take_all, length-map}
@@ -13,15 +13,15 @@ use Rattle.fir_types.specs.declared.leaf.TypeLeaf.{TypeLeaf}
 use Rattle.fir_types.specs.Leaves.{leaves}
 use Rattle.fir_tree.specs.declared.expr.Expr.{Expr}
 use Rattle.fir_meaning.specs.Components.{Leaf}
-use Rattle.fir_meaning.specs.Drives.{same_leaf, is_turned}
-use Rattle.fir_meaning.specs.Mentions.{Scope, Region, region_of, leaves_at}
+use Rattle.fir_meaning.specs.Drives.{same_leaf}
+use Rattle.fir_meaning.specs.Mentions.{Scope, Region, region_of}
 use Rattle.fir_meaning.specs.Certain.{may_be, may_name}
-use Rattle.fir_meaning.specs.ClockRoot.{Driver, Undriven, No_driver, From, in_branch, source_at, source_for, named_leaves}
+use Rattle.fir_meaning.specs.ClockRoot.{Driver, No_driver, From, in_branch, source_at, source_for, named_leaves}
 use Rattle.drive_check.specs.declared.leaf_set.LeafKey.{LeafKey}
 use Rattle.drive_check.specs.Keys.{leaf_of_key, is_among}
 use Rattle.drive_check.proofs.KeyTests.{key_eq, key_same, leaf_equal}
 use Rattle.clock_check.specs.declared.reach.Reach.{Reach}
-use Rattle.clock_check.specs.Driving.{driver_by, driver_of, source_in, bare, region_at, Reaches, connected, invalidated, linked}
+use Rattle.clock_check.specs.Driving.{driver_by, driver_of, source_in, region_at, Reaches, connected, invalidated, linked}
 
 abbrev Entries : Type 0
 Entries = List (LeafKey × Option LeafKey)
@@ -77,7 +77,6 @@ once_more p xs i x d old now' new lt is h k leaf =
     ∙ ap (λ b. if b then d else old leaf) (ap (λ y. list_any (p leaf) (take i xs) || p leaf y) is ∙ sym (list_any_more (p leaf) xs i x lt))
 
 -- A branch
-
 
 crossed_one : (v : Option Leaf) (last : Driver) → No_driver ≡ in_branch last (driver_by v)
 crossed_one None last = refl

@@ -23,8 +23,8 @@ use Rattle.fir_meaning.specs.Mentions.{Scope}
 use Rattle.fir_meaning.specs.States.{is_source}
 use Rattle.fir_meaning.specs.ClockRoot.{Driver, Undriven, in_branch, last_of, driven_by, driver_in}
 use Rattle.clock_check.specs.Driving.{clocked, arm_driven}
-use Rattle.clock_check.specs.Edges.{Edge, Walked, WalkedArm, edge_from, part_of, driven_edge, driven_edges, node_edges, own_edges, block_driver, edges_in, inner_of, own_of, of_stmt, of_arm, walked, walked_arm, port_edges, module_edges}
-use Rattle.clock_check.proofs.Lasting.{later, branch_branch, block_absorbs, arm_is, driven-when}
+use Rattle.clock_check.specs.Edges.{Edge, Walked, WalkedArm, edge_from, part_of, driven_edge, node_edges, own_edges, block_driver, edges_in, own_of, of_stmt, of_arm, walked, walked_arm, port_edges, module_edges}
+use Rattle.clock_check.proofs.Lasting.{branch_branch, block_absorbs, arm_is, driven-when}
 
 -- The statements that are walked are those of the text.
 

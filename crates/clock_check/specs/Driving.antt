@@ -1,5 +1,5 @@
 -- What the walk through a module knows of the drivers of leaves.
-use Rattle.std.specs.Prelude.{◌≡◌, ⊤, ℕ, Bool, true, false, List, [], ◌∷◌, ◌++◌, map, Option, Some, None, option_map, fold, zip, if◌then◌else◌}
+use Rattle.std.specs.Prelude.{◌≡◌, ⊤, ℕ, Bool, true, false, List, [], ◌∷◌, ◌++◌, map, Option, Some, None, option_map, fold, if◌then◌else◌}
 use Rattle.std.specs.Global.{Vec}
 use Rattle.fir_types.specs.declared.leaf.PathStep.{PathStep}
 use Rattle.std.specs.List.{list_any}

@@ -1,5 +1,5 @@
 -- Which Clock leaves of a module have their value from which leaves, by the statements of the module.
-use Rattle.std.specs.Prelude.{ℕ, ◌&&◌, ◌++◌, not, Bool, true, false, List, [], ◌∷◌, map, flat_map, zip, if◌then◌else◌}
+use Rattle.std.specs.Prelude.{ℕ, ◌&&◌, ◌++◌, not, List, [], ◌∷◌, map, flat_map, zip, if◌then◌else◌}
 use Rattle.fir_types.specs.declared.leaf.TypeLeaf.{TypeLeaf}
 use Rattle.fir_types.specs.declared.port.Port.{Port}
 use Rattle.fir_types.specs.Leaves.{leaves, is_clock}

@@ -172,10 +172,7 @@ fn set_all(
     Ok(())
 }
 
-fn copied_source(
-    alloc: Global,
-    source: Option<&LeafKey>,
-) -> Result<Option<LeafKey>, AllocError>
+fn copied_source(alloc: Global, source: Option<&LeafKey>) -> Result<Option<LeafKey>, AllocError>
     ensures { IfOk result (λ copy. option_map leaf_of_key copy ≡ option_map (λ key. leaf_of_key key.now) source.entry) }
 {
     match source {

@@ -16,7 +16,9 @@ ghost use Rattle.fir_meaning.specs.Mentions.{Scope};
 ghost use Rattle.clock_check.specs.Hung.{module_hung, hung_by};
 ghost use Rattle.clock_check.specs.Rooted.{HasRoot, IsClosed, IsSound};
 
-use circuit_laws::laws::{components_are_named, names_are_declared_once, reached_modules_stand_at_paths};
+use circuit_laws::laws::{
+    components_are_named, names_are_declared_once, reached_modules_stand_at_paths,
+};
 
 /// A circuit of one clock has no fault of clocks.
 pub fn one_clock_has_no_fault()

@@ -1,4 +1,4 @@
-use Rattle.std.proofs.Common.{◌∙◌, ap, take, option_map, if◌then◌else◌}
+use Rattle.std.proofs.Common.{◌∙◌, ap, option_map, if◌then◌else◌}
 use Rattle.std.specs.List.{list_any}
 use Rattle.std.proofs.lemmas.List.{take_all}
 use Rattle.drive_check.specs.Keys.{leaf_of_key}
