@@ -9,3 +9,4 @@ mod Rooting
 mod Hanging
 mod Placing
 mod Faulting
+mod FlatTests

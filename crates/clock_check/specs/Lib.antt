@@ -9,3 +9,4 @@ pub mod Gets
 pub mod Rooted
 pub mod Hung
 pub mod HangsOther
+pub mod Flats
