@@ -1,0 +1,12 @@
+mod Deciding
+mod Settings
+mod Reaching
+mod Lasting
+mod Walking
+mod Declaring
+mod Getting
+mod Rooting
+mod Hanging
+mod Placing
+mod Faulting
+mod FlatTests
