@@ -1,0 +1,42 @@
+-- What a cycle shows, from lists of values.
+use Rattle.std.specs.Prelude.{◌≡◌, ℕ, ◌+◌, ◌*◌, nat_lt, List, [], map, get_or, length, slice_get, unsigned_abs, pos, Option, Some, None, IsSome, option_and_then, if◌then◌else◌}
+use Rattle.bit_words.specs.declared.value.Value.{Value}
+use Rattle.bit_words.specs.Values.{integer_of}
+use Rattle.cycle_values.specs.Values.{fitted, lone}
+use Rattle.ground_net.specs.declared.ground.Ground.{Ground}
+use Rattle.ground_net.specs.declared.net.Net.{Net}
+use Rattle.ground_net.specs.declared.net.NetMemory.{NetMemory}
+use Rattle.ground_net.specs.declared.net.ElementLeaf.{ElementLeaf}
+use Rattle.ground_net.specs.Grounds.{Sight, value}
+use Rattle.net_meaning.specs.Shapes.{Table, Shape, HasShapes, shape, all_of}
+use Rattle.net_meaning.specs.Nets.{table_of}
+
+-- the value of a number, and 0 of no bits where there is none
+abbrev pub value_at : List Value → ℕ → Value
+value_at values x = get_or values x (lone [])
+
+-- 0 of a leaf of an element
+abbrev pub zero_of : Option ElementLeaf → Value
+zero_of (Some leaf) = fitted leaf.kind leaf.width (pos 0)
+zero_of None = lone []
+
+-- Leaf k of the element at an address of a memory that holds these values: 0 past its depth.
+abbrev pub held_by : Option NetMemory → List Value → ℕ → ℕ → Value
+held_by (Some memory) held k address = if nat_lt address memory.depth then value_at held (address * length memory.elements + k) else zero_of (slice_get memory.elements k)
+held_by None held k address = lone []
+
+-- What a cycle shows where the leaves have these values and the memories these contents.
+abbrev pub seen : Net → List Value → List (List Value) → Sight
+seen net values contents = record { leaf = value_at values; load = λ m k address. held_by (slice_get net.memories m) (get_or contents m []) k (unsigned_abs (integer_of address)) }
+
+-- All values are of the kinds and widths of their leaves.
+abbrev pub AreSeen : Net → List Value → List (List Value) → Type 0
+AreSeen net values contents = HasShapes (table_of net) (seen net values contents)
+
+-- the kinds and widths of expressions
+abbrev pub shapes_of : List Ground → Table → Option (List Shape)
+shapes_of items table = all_of (map (λ g. shape g table) items)
+
+-- the values of expressions
+abbrev pub values_of : List Ground → Sight → List Value
+values_of items sight = map (λ g. value g sight) items
