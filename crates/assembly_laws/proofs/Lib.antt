@@ -1,0 +1,9 @@
+pub mod PortLeaves
+pub mod Lists
+pub mod Naming
+pub mod Showing
+pub mod Roles
+pub mod Mains
+pub mod Loading
+pub mod Driving
+pub mod Assembly
