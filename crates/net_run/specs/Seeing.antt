@@ -1,5 +1,5 @@
 -- What a cycle shows, from lists of values.
-use Rattle.std.specs.Prelude.{◌≡◌, ℕ, ◌+◌, ◌*◌, nat_lt, List, [], map, get_or, length, slice_get, unsigned_abs, pos, Option, Some, None, IsSome, option_and_then, if◌then◌else◌}
+use Rattle.std.specs.Prelude.{◌≡◌, ℕ, ◌+◌, ◌*◌, ◌<◌, ◌≤◌, nat_lt, List, [], map, get_or, length, slice_get, unsigned_abs, pos, Option, Some, None, IsSome, All, if◌then◌else◌}
 use Rattle.bit_words.specs.declared.value.Value.{Value}
 use Rattle.bit_words.specs.Values.{integer_of}
 use Rattle.cycle_values.specs.Values.{fitted, lone}
@@ -8,7 +8,12 @@ use Rattle.ground_net.specs.declared.net.Net.{Net}
 use Rattle.ground_net.specs.declared.net.NetMemory.{NetMemory}
 use Rattle.ground_net.specs.declared.net.ElementLeaf.{ElementLeaf}
 use Rattle.ground_net.specs.Grounds.{Sight, value}
-use Rattle.net_meaning.specs.Shapes.{Table, Shape, HasShapes, shape, all_of}
+use Rattle.prim_ops.specs.declared.operation.PrimOp.{PrimOp}
+use Rattle.prim_ops.specs.Operations.{arity_of}
+use Rattle.prim_ops.specs.Kinds.{row_kind}
+use Rattle.prim_ops.specs.Widths.{width_number, ParamsFit}
+use Rattle.prim_ops.specs.Results.{kinds_of, widths_of}
+use Rattle.net_meaning.specs.Shapes.{Table, HasShapes, shape}
 use Rattle.net_meaning.specs.Nets.{table_of}
 
 -- the value of a number, and 0 of no bits where there is none
@@ -33,10 +38,20 @@ seen net values contents = record { leaf = value_at values; load = λ m k addres
 abbrev pub AreSeen : Net → List Value → List (List Value) → Type 0
 AreSeen net values contents = HasShapes (table_of net) (seen net values contents)
 
--- the kinds and widths of expressions
-abbrev pub shapes_of : List Ground → Table → Option (List Shape)
-shapes_of items table = all_of (map (λ g. shape g table) items)
+-- All expressions are in order.
+abbrev pub AreShaped : Table → List Ground → Type 0
+AreShaped table items = All (λ g. IsSome (shape g table)) items
 
 -- the values of expressions
 abbrev pub values_of : List Ground → Sight → List Value
 values_of items sight = map (λ g. value g sight) items
+
+-- Values that an operation of the table takes.
+pub record Applies (prim : PrimOp) (params : List ℕ) (values : List Value) : Type 0 where
+  pub some : 0 < length values
+  pub few : length values ≤ 2
+  pub operands : length values ≡ (arity_of prim).0
+  pub parameters : length params ≡ (arity_of prim).1
+  pub row : IsSome (row_kind prim (kinds_of values))
+  pub fit : ParamsFit prim (widths_of values) params
+  pub narrow : width_number prim (kinds_of values) (widths_of values) params ≤ 128
