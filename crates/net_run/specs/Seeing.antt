@@ -1,5 +1,5 @@
 -- What a cycle shows, from lists of values.
-use Rattle.std.specs.Prelude.{◌≡◌, ℕ, ◌+◌, ◌*◌, ◌<◌, ◌≤◌, nat_lt, List, [], map, get_or, length, slice_get, unsigned_abs, pos, Option, Some, None, IsSome, All, if◌then◌else◌}
+use Rattle.std.specs.Prelude.{◌≡◌, ℕ, ◌+◌, ◌*◌, ◌<◌, ◌≤◌, nat_lt, Bool, List, [], map, get_or, length, slice_get, unsigned_abs, pos, Option, Some, None, IsSome, All, if◌then◌else◌}
 use Rattle.bit_words.specs.declared.value.Value.{Value}
 use Rattle.bit_words.specs.Values.{integer_of}
 use Rattle.cycle_values.specs.Values.{fitted, lone}
@@ -20,14 +20,14 @@ use Rattle.net_meaning.specs.Nets.{table_of}
 abbrev pub value_at : List Value → ℕ → Value
 value_at values x = get_or values x (lone [])
 
--- 0 of a leaf of an element
-abbrev pub zero_of : Option ElementLeaf → Value
-zero_of (Some leaf) = fitted leaf.kind leaf.width (pos 0)
-zero_of None = lone []
+-- A leaf of an element at a place of what a memory holds, and 0 where the memory has no such element or no such leaf.
+abbrev pub held_leaf : Option ElementLeaf → Bool → List Value → ℕ → Value
+held_leaf (Some leaf) within held at = if within then value_at held at else fitted leaf.kind leaf.width (pos 0)
+held_leaf None within held at = lone []
 
--- Leaf k of the element at an address of a memory that holds these values: 0 past its depth.
+-- Leaf k of the element at an address of a memory that holds these values.
 abbrev pub held_by : Option NetMemory → List Value → ℕ → ℕ → Value
-held_by (Some memory) held k address = if nat_lt address memory.depth then value_at held (address * length memory.elements + k) else zero_of (slice_get memory.elements k)
+held_by (Some memory) held k address = held_leaf (slice_get memory.elements k) (nat_lt address memory.depth) held (address * length memory.elements + k)
 held_by None held k address = lone []
 
 -- What a cycle shows where the leaves have these values and the memories these contents.
