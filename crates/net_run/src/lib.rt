@@ -3,7 +3,11 @@
 #![tactic(auto)]
 
 pub mod evaluating;
+pub mod kept;
 pub mod seen;
+pub mod settling;
 
 pub use evaluating::evaluate;
+pub use kept::Kept;
 pub use seen::Seen;
+pub use settling::settle;
