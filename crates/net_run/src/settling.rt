@@ -35,7 +35,7 @@ pub fn settle(
     let mut values = before(alloc, &ordered.net, kept, inputs)?;
     let contents = kept.contents.as_slice();
     for leaf in ordered.sequence.as_slice() {
-        assign(&ordered.net, values.as_mut_slice(), contents, *leaf);
+        assign(&ordered.net, &mut values, contents, *leaf);
     }
     Ok(values)
 }
@@ -69,13 +69,13 @@ fn before_one(leaf: &Leaf, kept: &Kept, inputs: &[Value]) -> Value
 }
 
 /// Gives a leaf its driver's value.
-fn assign(net: &Net, values: &mut [Value], contents: &[List<Value>], leaf: u32)
-    requires long { leaf < length values.old }
-    requires seen { AreSeen net.now values.old contents.now }
+fn assign(net: &Net, values: &mut Vec<Value>, contents: &[List<Value>], leaf: u32)
+    requires long { leaf < length values.old.items }
+    requires seen { AreSeen net.now values.old.items contents.now }
     requires shaped { (driver : TheGround) → driver_of net.now leaf ≡ Some driver → IsSome (shape driver (table_of net.now)) }
-    ensures { values.new ≡ put_driven (option_map (λ driver. value driver (seen net.now values.old contents.now)) (driver_of net.now leaf)) leaf values.old }
+    ensures { values.new.items ≡ put_driven (option_map (λ driver. value driver (seen net.now values.old.items contents.now)) (driver_of net.now leaf)) leaf values.old.items }
 {
-    if let Some(value) = driven(net, values, contents, leaf) {
+    if let Some(value) = driven(net, values.as_slice(), contents, leaf) {
         values[leaf as usize] = value;
     }
 }
