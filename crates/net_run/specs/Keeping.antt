@@ -1,7 +1,7 @@
 -- What is kept from a cycle to the next, as lists of values.
-use Rattle.std.specs.Prelude.{◌≡◌, ℕ, ◌+◌, ◌*◌, ◌<◌, List, map, length, slice_get, slice_set, pos, Option, Some, None}
+use Rattle.std.specs.Prelude.{◌≡◌, ℕ, ◌+◌, ◌*◌, ◌<◌, List, [], map, flat_map, length, slice_get, slice_set, pos, Option, Some, None, if◌then◌else◌}
 use Rattle.bit_words.specs.declared.value.Value.{Value}
-use Rattle.cycle_values.specs.Values.{fitted}
+use Rattle.cycle_values.specs.Values.{fitted, lone}
 use Rattle.cycle_values.specs.Ports.{Held}
 use Rattle.ground_net.specs.declared.net.Net.{Net}
 use Rattle.ground_net.specs.declared.net.Leaf.{Leaf}
@@ -10,6 +10,8 @@ use Rattle.ground_net.specs.declared.net.Role.TheVariants as role
 use Rattle.ground_net.specs.declared.net.NetRegister.{NetRegister}
 use Rattle.ground_net.specs.declared.net.NetMemory.{NetMemory}
 use Rattle.ground_net.specs.declared.net.ElementLeaf.{ElementLeaf}
+use Rattle.ground_net.specs.declared.net.NetPort.{NetPort}
+use Rattle.ground_net.specs.declared.net.NetRead.{NetRead}
 use Rattle.net_meaning.specs.Cycles.{NetState, Inputs, Capture, captures, fitted_to}
 use Rattle.net_run.specs.declared.kept.Kept.{Kept}
 use Rattle.net_run.specs.Seeing.{value_at}
@@ -58,3 +60,43 @@ AreGiven net inputs = (given : Inputs) × AreInputValues net given inputs
 abbrev pub put_driven : Option Value → ℕ → List Value → List Value
 put_driven (Some v) x values = slice_set values x v
 put_driven None x values = values
+
+-- 0 of a leaf
+abbrev pub zero_of : Option Leaf → Value
+zero_of (Some leaf) = fitted_to leaf (pos 0)
+zero_of None = lone []
+
+-- 0 of leaves of these numbers
+abbrev pub zeros_at : Net → List ℕ → List Value
+zeros_at net leaves = map (λ x. zero_of (slice_get net.leaves x)) leaves
+
+-- what the registers hold at first
+abbrev pub first_registers : Net → List Value
+first_registers net = map (λ register. zero_of (slice_get net.leaves register.leaf)) net.registers
+
+-- the leaves of a captured read
+abbrev pub captured_of : Option NetRead → List ℕ
+captured_of (Some read) = if read.captured then read.leaves else []
+captured_of None = []
+
+abbrev pub zeros_of_ports : Net → List NetPort → List Value
+zeros_of_ports net ports = flat_map (λ port. zeros_at net (captured_of port.read)) ports
+
+-- what the captured reads show at first
+abbrev pub first_captured : Net → List Value
+first_captured net = flat_map (λ memory. zeros_of_ports net memory.ports) net.memories
+
+-- an element of 0
+abbrev pub zero_element : NetMemory → List Value
+zero_element memory = map (λ leaf. fitted leaf.kind leaf.width (pos 0)) memory.elements
+
+-- So many elements are 0.
+pub record AreZeros (memory : NetMemory) (elements : ℕ) (held : List Value) : Type 0 where
+  pub counted : length held ≡ elements * length memory.elements
+  pub each : (element k : ℕ) (leaf : ElementLeaf) → element < elements → slice_get memory.elements k ≡ Some leaf
+      → slice_get held (element * length memory.elements + k) ≡ Some (fitted leaf.kind leaf.width (pos 0))
+
+-- So many memories are 0.
+pub record AreZeroMemories (memories : List NetMemory) (count : ℕ) (contents : List (List Value)) : Type 0 where
+  pub counted : length contents ≡ count
+  pub each : (m : ℕ) (memory : NetMemory) (held : List Value) → slice_get memories m ≡ Some memory → slice_get contents m ≡ Some held → AreZeros memory memory.depth held

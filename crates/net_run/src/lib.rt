@@ -2,11 +2,13 @@
 //! settled and that what is kept stands for the next state.
 #![tactic(auto)]
 
+pub mod beginning;
 pub mod evaluating;
 pub mod kept;
 pub mod seen;
 pub mod settling;
 
+pub use beginning::begin;
 pub use evaluating::evaluate;
 pub use kept::Kept;
 pub use seen::Seen;
