@@ -1,3 +1,3 @@
 mod Forms
 mod Steps
-mod Zeros
+pub mod Zeros
