@@ -1,3 +1,4 @@
 mod Forms
 mod Steps
-pub mod Zeros
+mod Zeros
+mod Nexts

@@ -4,34 +4,58 @@ ghost use Rattle.std.specs.Prelude.{◌≡◌, IfOk, IsSome, Some, length};
 ghost use Rattle.ground_net.specs.declared.ground.Ground.{Ground as TheGround};
 ghost use Rattle.ground_net.specs.declared.net.NetReset.{NetReset as TheReset};
 ghost use Rattle.ground_net.specs.Reads.{driver_of};
+ghost use Rattle.net_meaning.specs.Cycles.{NetState, next, sight_of};
 ghost use Rattle.net_meaning.specs.Nets.{IsNet, table_of};
 ghost use Rattle.net_meaning.specs.Shapes.{shape};
-ghost use Rattle.net_run.specs.Seeing.{AreSeen, seen};
-ghost use Rattle.net_run.specs.Advancing.{AreNext, driven_value, next_value};
+ghost use Rattle.net_run.specs.Seeing.{AreSeen, seen, value_at as value_in};
+ghost use Rattle.net_run.specs.Keeping.{IsKept};
+ghost use Rattle.net_run.specs.Advancing.{AreNext, AreRegisters, driven_value, next_value};
 
 use crate::evaluating::{evaluate, holds};
-use crate::seen::{Seen, value_at};
+use crate::kept::Kept;
+use crate::seen::{Seen, zero};
 use crate::settling::driven;
-use bit_words::{List, Value};
-use ground_net::NetRegister;
+use bit_words::{Kind, List, Value};
+use ground_net::{Net, NetRegister};
 use std::alloc::{AllocError, Global};
 
+/// What the registers hold after a cycle that began with what is kept and in which these values settled.
+pub fn registers_after(
+    alloc: Global,
+    net: &Net,
+    kept: &Kept,
+    values: &[Value],
+) -> Result<List<Value>, AllocError>
+    requires net { IsNet net.now }
+    requires seen { AreSeen net.now values.now kept.now.contents }
+    ensures counted { IfOk result (λ registers. length registers ≡ length net.now.registers) }
+    ensures state { (s : NetState) → IsKept net.now s kept.now → IfOk result (λ registers. AreRegisters net.now (next net.now s (sight_of net.now s (value_in values.now))) registers) }
+{
+    let contents = kept.contents.as_slice();
+    let cycle = Seen {
+        net,
+        values,
+        contents,
+    };
+    let held = kept.registers.as_slice();
+    let registers = next_registers(alloc, held, &cycle)?;
+    Ok(registers)
+}
+
 /// What the registers hold after the cycle.
-pub fn next_registers(
+fn next_registers(
     alloc: Global,
     held: &[Value],
     cycle: &Seen<'_>,
 ) -> Result<List<Value>, AllocError>
     requires net { IsNet cycle.now.net.now }
     requires seen { AreSeen cycle.now.net.now cycle.now.values.now cycle.now.contents.now }
-    requires small { length cycle.now.net.now.registers < 2 ^ 32 }
     ensures { IfOk result (λ values. AreNext cycle.now.net.now (seen cycle.now.net.now cycle.now.values.now cycle.now.contents.now) held.now (length cycle.now.net.now.registers) values) }
 {
     let mut values = Vec::new(alloc);
-    let mut number = 0;
-    for register in cycle.net.registers.as_slice() {
-        values.push(next_held(register, value_at(held, number), cycle))?;
-        number += 1;
+    let registers = cycle.net.registers.as_slice();
+    for number in 0..registers.len() {
+        values.push(next_held(&registers[number], held_at(held, number), cycle))?;
     }
     Ok(List::from_vec(values))
 }
@@ -51,6 +75,16 @@ fn next_held(register: &NetRegister, held: Value, cycle: &Seen<'_>) -> Value
         evaluate(&reset.init, cycle)
     } else {
         driven_or(register.leaf, held, cycle)
+    }
+}
+
+/// The value at a place, and 0 of no bits where there is none.
+fn held_at(held: &[Value], number: usize) -> Value
+    ensures { result ≡ value_in held.now number }
+{
+    match held.get(number) {
+        Some(value) => *value,
+        None => zero(Kind::Unsigned, 0),
     }
 }
 

@@ -2,6 +2,7 @@
 //! settled and that what is kept stands for the next state.
 #![tactic(auto)]
 
+pub mod advancing;
 pub mod beginning;
 pub mod evaluating;
 pub mod kept;

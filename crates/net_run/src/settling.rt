@@ -81,7 +81,7 @@ fn assign(net: &Net, values: &mut Vec<Value>, contents: &[List<Value>], leaf: u3
 }
 
 /// The value of a leaf's driver.
-fn driven(net: &Net, values: &[Value], contents: &[List<Value>], leaf: u32) -> Option<Value>
+pub fn driven(net: &Net, values: &[Value], contents: &[List<Value>], leaf: u32) -> Option<Value>
     requires seen { AreSeen net.now values.now contents.now }
     requires shaped { (driver : TheGround) → driver_of net.now leaf ≡ Some driver → IsSome (shape driver (table_of net.now)) }
     ensures { result ≡ option_map (λ driver. value driver (seen net.now values.now contents.now)) (driver_of net.now leaf) }
