@@ -1,5 +1,5 @@
 -- What the registers hold next.
-use Rattle.std.proofs.Common.{◌≡◌, ℕ, ◌+◌, ◌<◌, ◌≤◌, ℤ, Bool, true, false, List, [], ◌∷◌, ◌++◌, refl, sym, ap, ◌∙◌, arith, subst, slice_get, length, if◌then◌else◌, Option, Some, None, IsSome, option_map, ⊎_elim}
+use Rattle.std.proofs.Common.{◌≡◌, ℕ, ◌+◌, ℤ, Bool, true, false, List, [], ◌∷◌, ◌++◌, refl, sym, ap, ◌∙◌, arith, subst, slice_get, length, if◌then◌else◌, Option, Some, None, IsSome, option_map, ⊎_elim}
 use Rattle.std.specs.Prelude.{unsigned_abs}
 use Rattle.std.proofs.lemmas.Bool.{cases_lt}
 use Rattle.std.proofs.lemmas.List.{length-append}
@@ -16,7 +16,7 @@ use Rattle.ground_net.specs.declared.ground.Ground.{Ground}
 use Rattle.ground_net.specs.Grounds.{Sight, value}
 use Rattle.ground_net.specs.Reads.{driver_of}
 use Rattle.ground_net.proofs.Layers.{value_agrees}
-use Rattle.net_meaning.specs.Shapes.{Shape, shape, shape_of_value}
+use Rattle.net_meaning.specs.Shapes.{Shape, shape}
 use Rattle.net_meaning.specs.Nets.{IsNet, table_of, leaf_shape}
 use Rattle.net_meaning.specs.Cycles.{NetState, sight_of, fitted_to, next, next_of_register, after_reset, driven_or}
 use Rattle.net_meaning.proofs.Shaping.{shapes_hold}
@@ -99,5 +99,5 @@ module _ (net : Net) (s : NetState) (kept : Kept) (k : IsKept net s kept) (fine 
       let held = get_or_from_slice_get kept.registers n (fitted_to leaf (s.registers n)) (lone []) (k.registers n register leaf at shows) in
       let drove = drives leaf (value_at kept.registers n) (s.registers n) held (driver_of net register.leaf) (λ g e. fine.shapes register.leaf leaf g shows e) in
       let reset = resets leaf (driven_value (value_at kept.registers n) here (driver_of net register.leaf)) (driven_or (s.registers n) there (driver_of net register.leaf)) drove register.reset
-          (λ r e. (fine.resets n register r at e).1 ∙ ap (λ (o : Option Leaf). option_map leaf_shape o) shows) in
+      (λ r e. (fine.resets n register r at e).1 ∙ ap (λ (o : Option Leaf). option_map leaf_shape o) shows) in
       d.each n register within at ∙ ap Some (reset ∙ ap (λ o. fitted_to leaf (next_of_register net there o (s.registers n))) (sym at))

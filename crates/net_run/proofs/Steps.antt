@@ -1,5 +1,5 @@
 -- The assignments settle one after the other.
-use Rattle.std.proofs.Common.{◌≡◌, ◌≢◌, ℕ, zero, suc, ◌+◌, ◌*◌, ◌^◌, ◌<◌, ◌≤◌, nat_lt, Bool, true, false, List, [], ◌∷◌, refl, sym, ap, ◌∙◌, arith, subst, slice_get, slice_set, slice_index, get_or, length, map, if◌then◌else◌, Option, Some, None, IsSome, option_map, option_and_then, ◌⊎◌, inl, inr, ⊎_elim, pos, negsuc, ℤ, min}
+use Rattle.std.proofs.Common.{◌≡◌, ◌≢◌, ℕ, suc, ◌+◌, ◌*◌, ◌^◌, ◌<◌, ◌≤◌, nat_lt, Bool, true, false, List, [], refl, sym, ap, ◌∙◌, arith, subst, slice_get, slice_set, slice_index, get_or, length, map, if◌then◌else◌, Option, Some, None, IsSome, option_map, option_and_then, ◌⊎◌, inl, inr, ⊎_elim, pos, ℤ}
 use Rattle.std.specs.Prelude.{Contains, unsigned_abs}
 use Rattle.std.proofs.lemmas.List.{get_or-set_same, get_or-set_other, length-set, length-map}
 use Rattle.std.proofs.lemmas.Bool.{cases_lt, ltb-true}
@@ -17,12 +17,12 @@ use Rattle.ground_net.specs.declared.net.Role.TheVariants as role
 use Rattle.ground_net.specs.declared.net.NetMemory.{NetMemory}
 use Rattle.ground_net.specs.declared.net.ElementLeaf.{ElementLeaf}
 use Rattle.ground_net.specs.declared.ground.Ground.{Ground}
-use Rattle.ground_net.specs.Grounds.{value, mentions}
+use Rattle.ground_net.specs.Grounds.{value}
 use Rattle.ground_net.specs.Reads.{IsAssigned, Reads, IsOrder, driver_of}
 use Rattle.ground_net.proofs.Layers.{value_agrees}
-use Rattle.net_meaning.specs.Shapes.{Shape, shape, shaped, shape_of_value, HasShapes}
-use Rattle.net_meaning.specs.Nets.{IsNet, HasRole, table_of, leaf_shape, element_shape}
-use Rattle.net_meaning.specs.Cycles.{NetState, Inputs, Settled, sight_of, fitted_to, fitted_to_element, element_leaf, depth_of, held_at, captures}
+use Rattle.net_meaning.specs.Shapes.{Shape, shape, shape_of_value}
+use Rattle.net_meaning.specs.Nets.{IsNet, table_of, leaf_shape, element_shape}
+use Rattle.net_meaning.specs.Cycles.{NetState, Inputs, Settled, sight_of, fitted_to, fitted_to_element, element_leaf, depth_of, held_at}
 use Rattle.net_meaning.proofs.Settling.{reads_mentions, le_split, get_there}
 use Rattle.net_meaning.proofs.Shaping.{fitted_shape, shapes_hold}
 use Rattle.net_run.specs.declared.kept.Kept.{Kept}

@@ -1,5 +1,5 @@
 -- What is kept at first.
-use Rattle.std.proofs.Common.{◌≡◌, ℕ, zero, suc, ◌+◌, ◌*◌, ◌<◌, ◌≤◌, Bool, true, false, List, [], ◌∷◌, ◌++◌, refl, sym, ap, ap₂, ◌∙◌, arith, subst, slice_get, length, map, if◌then◌else◌, Option, Some, None, option_map, ◌⊎◌, inl, inr, ⊎_elim, pos, zip}
+use Rattle.std.proofs.Common.{◌≡◌, ℕ, zero, suc, ◌+◌, ◌*◌, ◌<◌, Bool, true, false, List, [], ◌∷◌, ◌++◌, refl, sym, ap, ap₂, ◌∙◌, arith, subst, slice_get, length, map, if◌then◌else◌, Option, Some, None, option_map, ⊎_elim, pos, zip}
 use Rattle.std.specs.Prelude.{flat_map}
 use Rattle.std.specs.List.{range_with_len}
 use Rattle.std.proofs.lemmas.Grind.{common_steps}
@@ -9,7 +9,6 @@ use Rattle.std.proofs.lemmas.Option.{slice_get-map, slice_get_within}
 use Rattle.bit_words.specs.declared.value.Value.{Value}
 use Rattle.cycle_values.specs.Values.{fitted}
 use Rattle.ground_net.specs.declared.net.Net.{Net}
-use Rattle.ground_net.specs.declared.net.Leaf.{Leaf}
 use Rattle.ground_net.specs.declared.net.NetRegister.{NetRegister}
 use Rattle.ground_net.specs.declared.net.NetMemory.{NetMemory}
 use Rattle.ground_net.specs.declared.net.NetPort.{NetPort}
@@ -17,9 +16,9 @@ use Rattle.ground_net.specs.declared.net.NetRead.{NetRead}
 use Rattle.ground_net.specs.declared.net.ElementLeaf.{ElementLeaf}
 use Rattle.ground_net.specs.Cones.{numbered}
 use Rattle.ground_net.proofs.Layers.{maps}
-use Rattle.net_meaning.specs.Cycles.{Capture, captures, captured_by, first_state, fitted_to}
+use Rattle.net_meaning.specs.Cycles.{Capture, captures, captured_by, first_state}
 use Rattle.net_run.specs.declared.kept.Kept.{Kept}
-use Rattle.net_run.specs.Keeping.{IsKept, AreContents, AreZeros, AreZeroMemories, zero_of, zeros_at, captured_of, zeros_of_ports, first_registers, first_captured, zero_element}
+use Rattle.net_run.specs.Keeping.{IsKept, AreZeros, AreZeroMemories, zero_of, zeros_at, captured_of, zeros_of_ports, first_registers, first_captured, zero_element}
 
 map_flat_map : {A B C : Type 0} (f : B → C) (g : A → List B) (xs : List A) → map f (flat_map g xs) ≡ flat_map (λ x. map f (g x)) xs
 map_flat_map f g [] = refl

@@ -41,12 +41,7 @@ pub fn settle(
 }
 
 /// What the leaves have before the assignments are evaluated.
-fn before(
-    alloc: Global,
-    net: &Net,
-    kept: &Kept,
-    inputs: &[Value],
-) -> Result<Vec<Value>, AllocError>
+fn before(alloc: Global, net: &Net, kept: &Kept, inputs: &[Value]) -> Result<Vec<Value>, AllocError>
     ensures { IfOk result (λ values. values.items ≡ before_all net.now kept.now inputs.now) }
 {
     let mut values = Vec::new(alloc);

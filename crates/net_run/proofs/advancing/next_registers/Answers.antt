@@ -1,6 +1,6 @@
 use Rattle.std.proofs.Common.{◌≡◌, ◌<◌, length, slice_get, Some, sym, ap, ◌∙◌, arith}
 use Rattle.std.proofs.lemmas.Option.{slice_get-get_or}
-use Rattle.net_run.specs.Seeing.{seen, value_at}
+use Rattle.net_run.specs.Seeing.{seen}
 use Rattle.net_run.specs.Advancing.{next_value}
 use Rattle.net_run.proofs.Nexts.{next_more, driver_fine, reset_fine, init_fine}
 use Rattle.net_run.proofs.advancing.next_registers.Goals as goal

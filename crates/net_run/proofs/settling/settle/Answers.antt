@@ -1,4 +1,4 @@
-use Rattle.std.proofs.Common.{◌≡◌, ◌<◌, ◌≤◌, length, slice_index_or, option_map, sym, subst, ap, ap₂, ◌∙◌, arith}
+use Rattle.std.proofs.Common.{◌<◌, ◌≤◌, length, slice_index_or, option_map, sym, subst, ap, ap₂, ◌∙◌, arith}
 use Rattle.ground_net.specs.Grounds.{value}
 use Rattle.ground_net.specs.Reads.{driver_of}
 use Rattle.net_run.specs.Seeing.{seen}
