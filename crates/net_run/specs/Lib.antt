@@ -1,0 +1,3 @@
+pub mod Seeing
+pub mod Keeping
+pub mod Advancing
