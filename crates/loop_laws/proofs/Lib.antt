@@ -1,0 +1,4 @@
+pub mod FlatOrders
+pub mod Loops
+pub mod Verdicts
+pub mod Searching
