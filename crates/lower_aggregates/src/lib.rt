@@ -1,0 +1,6 @@
+//! Modules as ground statements over numbered leaves: their registers, memories and instances.
+#![tactic(auto)]
+
+pub mod instances;
+pub mod memories;
+pub mod registers;
