@@ -1,10 +1,14 @@
 -- Declarations with their types, one more at a time.
-use Rattle.std.proofs.Common.{◌≡◌, ℕ, zero, suc, ◌+◌, ◌<◌, List, [], ◌∷◌, ◌++◌, map, length, take, zip, get_or, refl, sym, ap, ap₂, ◌∙◌, arith}
+use Rattle.std.proofs.Common.{◌≡◌, ℕ, zero, suc, ◌+◌, ◌<◌, ◌≤◌, List, [], ◌∷◌, ◌++◌, map, length, take, zip, get_or, refl, sym, ap, ap₂, ◌∙◌, arith}
 use Rattle.std.proofs.lemmas.Grind.{common_steps}
+use Rattle.std.proofs.lemmas.List.{length-map, map-append}
 use Rattle.fir_types.specs.declared.fir_type.FirType.{FirType}
 use Rattle.fir_types.specs.Leaves.{leaves}
 use Rattle.fir_tree.specs.declared.circuit.Module.{Module}
 use Rattle.fir_meaning.specs.Components.{Declaration, Component, TypedModule, declarations_of}
+use Rattle.ground_tables.specs.declared.declarations.Declaration.{Declaration as Held}
+use Rattle.ground_tables.specs.declared.pieces.Piece.{Piece}
+use Rattle.ground_tables.specs.Held.{held_heading, held_part}
 use Rattle.ground_tables.specs.Headings.{Heading, heading_of}
 use Rattle.ground_tables.specs.Parts.{Part, part, parts_from, leaves_in, component_parts}
 
@@ -51,3 +55,19 @@ pub parts_are : (b : ℕ) (ds : List Declaration) (ts : List FirType) → parts_
 parts_are b [] ts = refl
 parts_are b (d ∷ ds) [] = refl
 parts_are b (d ∷ ds) (t ∷ ts) = ap (λ l. part b (heading_of d, t) ∷ l) (parts_are (b + length (leaves t)) ds ts)
+
+heading_at : (ds : List Held) (i : ℕ) (d : Held) → get_or (map held_heading ds) i (held_heading d) ≡ held_heading (get_or ds i d)
+heading_at [] i d = refl
+heading_at (x ∷ ds) zero d = refl
+heading_at (x ∷ ds) (suc i) d = heading_at ds i d
+
+-- one piece more
+pub pieces_more : (ds : List Held) (ts : List FirType) (i first after count : ℕ) (d : Held) (t : FirType) (held held' : List Piece) (p : Piece) → i < length ds → length ds ≤ length ts
+    → d ≡ get_or ds i d → t ≡ get_or ts i t → held_part p ≡ part first (held_heading d, t)
+    → map held_part held ≡ parts_from 0 (zip (take i (map held_heading ds)) ts) → first ≡ leaves_in (zip (take i (map held_heading ds)) ts) → held' ≡ held ++ p ∷ []
+    → count ≡ length (leaves t) → after ≡ first + count
+    → (map held_part held' ≡ parts_from 0 (zip (take (i + 1) (map held_heading ds)) ts)) × (after ≡ leaves_in (zip (take (i + 1) (map held_heading ds)) ts))
+pieces_more ds ts i first after count d t held held' p a b di ti pi e f g n s =
+    let many : length (map held_heading ds) ≡ length ds = length-map ds held_heading in
+    parts_more (map held_heading ds) ts i first after count (held_heading d) t (map held_part held) (map held_part held') (held_part p) (omega (arith, a, many)) (omega (arith, a, b))
+    (ap held_heading di ∙ sym (heading_at ds i d)) ti pi e f (ap (map held_part) g ∙ map-append held_part held (p ∷ [])) n s

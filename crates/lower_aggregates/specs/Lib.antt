@@ -1,3 +1,4 @@
 pub mod Registers
+pub mod Elements
 pub mod Memories
 pub mod Instances
