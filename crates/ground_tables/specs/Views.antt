@@ -1,6 +1,7 @@
 -- Where components stand, by their names.
-use Rattle.std.specs.Prelude.{◌≡◌, ℕ, ◌++◌, List, [], ◌∷◌, map, nat_eq, is_some, if◌then◌else◌}
+use Rattle.std.specs.Prelude.{◌≡◌, ℕ, ◌++◌, List, [], ◌∷◌, map, nat_eq, is_some, slice_get, Some, if◌then◌else◌}
 use Rattle.std.specs.Map.{lookup}
+use Rattle.fir_meaning.specs.Components.{Component as Declared}
 use Rattle.ground_exprs.specs.declared.component.Component.{Component}
 use Rattle.ground_exprs.specs.Sources.{Entries}
 use Rattle.ground_tables.specs.declared.pieces.Piece.{Piece}
@@ -18,3 +19,7 @@ KnowsPieces pieces entries = (name : ℕ) → lookup (nat_eq name) entries ≡ l
 -- one more, unless its name is known
 abbrev pub with_new : Entries → Piece → Entries
 with_new entries p = if is_some (lookup (nat_eq p.name.id) entries) then entries else entries ++ entry_of p ∷ []
+
+-- no two components have one name
+abbrev pub AreNamedOnce : List Declared → Type 0
+AreNamedOnce cs = (j k : ℕ) (c d : Declared) → slice_get cs j ≡ Some c → slice_get cs k ≡ Some d → c.declaration.name ≡ d.declaration.name → j ≡ k

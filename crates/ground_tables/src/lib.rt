@@ -3,6 +3,7 @@
 #![tactic(auto)]
 
 pub mod declarations;
+pub mod laws;
 pub mod pieces;
 pub mod table;
 pub mod view;

@@ -1,0 +1,4 @@
+pub mod Porting
+pub mod Registering
+pub mod Setting
+pub mod Resetting

@@ -18,10 +18,6 @@ abbrev pub IsInit : Option Source → TypeLeaf → Ground → Type 0
 IsInit (Some s) leaf init = (fit : Source) × (init ≡ fit.expr) × (fit.kind ≡ kind_of_leaf leaf) × (fit.width ≡ min (width_of_leaf leaf) 128) × IsFitted s fit
 IsInit None leaf init = init ≡ Const (fitted (kind_of_leaf leaf) (min (width_of_leaf leaf) 128) (pos 0))
 
--- what a leaf, by its place in its component, has for a reset
-abbrev pub Resets : Type 0
-Resets = ℕ → TypeLeaf → Option NetReset → Type 0
-
 abbrev pub PlainReset : ℕ → TypeLeaf → Option NetReset → Type 0
 PlainReset k leaf reset = reset ≡ None
 

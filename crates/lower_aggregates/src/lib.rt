@@ -2,5 +2,6 @@
 #![tactic(auto)]
 
 pub mod instances;
+pub mod laws;
 pub mod memories;
 pub mod registers;

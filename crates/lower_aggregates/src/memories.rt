@@ -29,9 +29,8 @@ fn numbers_from(alloc: Global, first: u32, count: u32) -> Result<List<u32>, Allo
     ensures { IfOk result (λ numbers. numbers ≡ range_with_len first count) }
 {
     let mut numbers = List::new(alloc);
-    let end = sum_of(first, count)?;
-    for number in first..end {
-        numbers.push(number)?;
+    for step in 0..count {
+        numbers.push(sum_of(first, step)?)?;
     }
     Ok(numbers)
 }
@@ -154,9 +153,10 @@ fn ports_of(
     ensures { IfOk result (λ ports. ports ≡ ports_from first count (reading_of memory.now) (memory_ports memory.now)) }
 {
     let how = how_read(memory);
+    let lines = memory.lines.as_slice();
     let mut ports = List::new(alloc);
     let mut number = first;
-    for line in memory.lines.as_slice() {
+    for line in lines {
         number = push_port(alloc, &mut ports, line, (number, count), how)?;
     }
     Ok(ports)

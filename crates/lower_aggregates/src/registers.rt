@@ -76,9 +76,10 @@ fn plain_registers(alloc: Global, piece: &Piece<'_>) -> Result<List<NetRegister>
     ensures { IfOk result (λ own. AreFirst (held_part piece.now) PlainReset (length (leaves piece.now.typ.now)) own) }
 {
     let listed = leaves_of(alloc, piece.typ)?;
+    let list = listed.as_slice();
     let mut own = List::new(alloc);
     let mut number = piece.first;
-    for _ in &listed {
+    for _at in 0..list.len() {
         own.push(NetRegister {
             leaf: number,
             reset: None,
@@ -98,10 +99,11 @@ fn reset_registers(
     ensures { IfOk result (λ own. AreFirst (held_part piece.now) (ResetTo reset.now inits.now) (length (leaves piece.now.typ.now)) own) }
 {
     let listed = leaves_of(alloc, piece.typ)?;
+    let list = listed.as_slice();
     let mut own = List::new(alloc);
     let mut number = piece.first;
-    for at in 0..listed.len() {
-        let init = init_of(alloc, &listed[at], inits.get(at))?;
+    for at in 0..list.len() {
+        let init = init_of(alloc, &list[at], inits.get(at))?;
         let reset = NetReset {
             reset: copied(alloc, reset)?,
             init,
@@ -121,7 +123,7 @@ fn init_of(
     leaf: &TypeLeaf,
     source: Option<&Source>,
 ) -> Result<Ground, AllocError>
-    ensures { IfOk result (λ init. IsInit (option_copied source) leaf.now init) }
+    ensures { IfOk result (λ init. IsInit (option_copied source.entry) leaf.now init) }
 {
     let kind = kind_of(&leaf.typ);
     let width = width_of(&leaf.typ);
