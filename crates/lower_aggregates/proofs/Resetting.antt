@@ -70,11 +70,14 @@ unsigned_kind Signed w e = absurd cc
 read_at : (n : Numbering) (ms : List (List Leaf)) (ss : List Source) → ReadEach n ms ss → (k : ℕ) (s : Source) → slice_get ss k ≡ Some s → (l : List Leaf) × (slice_get ms k ≡ Some l) × SameLeaves n l (mentions s.expr)
 read_at n [] [] r k s e = none_some e
 read_at n (m ∷ ms) [] r k s e = none_some e
+read_at n [] (t ∷ ss) r k s e = elim r [ ]
 read_at n (m ∷ ms) (t ∷ ss) r zero s e = (m, refl, subst (λ x. SameLeaves n m (mentions x.expr)) (some_same e) r.0)
 read_at n (m ∷ ms) (t ∷ ss) r (suc k) s e = read_at n ms ss r.1 k s e
 
 read_none : (n : Numbering) (ms : List (List Leaf)) (ss : List Source) → ReadEach n ms ss → (k : ℕ) → slice_get ss k ≡ None → slice_get ms k ≡ None
 read_none n [] [] r k e = refl
+read_none n [] (t ∷ ss) r k e = elim r [ ]
+read_none n (m ∷ ms) [] r k e = elim r [ ]
 read_none n (m ∷ ms) (t ∷ ss) r zero e = absurd cc
 read_none n (m ∷ ms) (t ∷ ss) r (suc k) e = read_none n ms ss r.1 k e
 
@@ -85,7 +88,7 @@ module _ (holder : Module) (m : TypedModule) (table : Table) (has : HasTypes hol
     (knows : Knows (record { number = number_of m; table = table }) (type_in m) entries)
     (c : Component) (among : Contains m.components c) (types : type_in m c.declaration.name ≡ c.typ) (register : is_register c.declaration.sort ≡ true)
     (j : ℕ) (leaf : TypeLeaf) (there : slice_get (leaves c.typ) j ≡ Some leaf) where
-  n : Numbering
+  abbrev n : Numbering
   n = record { number = number_of m; table = table }
 
   listed : Contains (leaves c.typ) leaf
@@ -131,6 +134,8 @@ module _ (holder : Module) (m : TypedModule) (table : Table) (has : HasTypes hol
     reads_is = by (tree_reads.mentions reset (type_in m)) of_reset.reads
       where
         by : (ms : List (List Leaf)) → ReadEach n ms (s ∷ []) → SameReads m (tree_reads.joined ms) (mentions made.reset)
+        by [] r = elim r [ ]
+        by (l ∷ (k ∷ ms)) r = elim r.1 [ ]
         by (l ∷ []) r =
             subst (λ z. SameReads m z (mentions made.reset)) (sym (append-nil l)) (subst (λ e. SameReads m l (mentions e)) (sym is) (record { only = r.0.only; all = r.0.all }))
 

@@ -12,7 +12,7 @@ use Rattle.fir_types.specs.declared.fir_type.FirType.{FirType}
 use Rattle.fir_types.specs.Leaves.{leaves}
 use Rattle.fir_meaning.specs.Components.{Leaf}
 use Rattle.fir_meaning.specs.Values.{fitted_to, beside}
-use Rattle.fir_meaning.specs.Drives.{same_step, same_way, same_leaf, setting, is_turned, of_orientation, left_in}
+use Rattle.fir_meaning.specs.Drives.{Setting, same_step, same_way, same_leaf, setting, is_turned, of_orientation, left_in}
 use Rattle.fir_meaning.specs.Mentions.{Region}
 use Rattle.fir_meaning.specs.Certain.{may_be}
 
@@ -79,7 +79,7 @@ IsNotAt {X} bs way = (j : ℕ) (b : TypeLeaf × X) → slice_get bs j ≡ Some b
 tail_not : {X : Type 0} (x : TypeLeaf × X) (bs : List (TypeLeaf × X)) (way : List PathStep) → IsOnlyAt (x ∷ bs) 0 way → IsNotAt bs way
 tail_not x bs way h j b e p = let r = h (suc j) b e p in absurd (omega (arith, r))
 
-abbrev settings : ℕ → List (TypeLeaf × Value) → List _
+abbrev settings : ℕ → List (TypeLeaf × Value) → List Setting
 settings c bs = map (setting c []) (of_orientation false bs)
 
 -- one item more, which isn't at this way
@@ -128,18 +128,18 @@ may_not c typ leaf way h = grind (arith, common_steps, other_way c leaf.path way
 
 none_picked : {X : Type 0} (c : ℕ) (typ : FirType) (way : List PathStep) (bs : List (TypeLeaf × X)) → IsNotAt bs way → picked c typ way bs ≡ []
 none_picked c typ way [] h = refl
-none_picked {X} c typ way (x ∷ bs) h =
-    ap (λ t. cons_option {A = X} (if t then Some x.1 else None) (picked c typ way bs)) (may_not c typ x.0 way (h 0 x refl)) ∙ none_picked c typ way bs (λ j b e. h (suc j) b e)
+none_picked c typ way (x ∷ bs) h =
+    ap (λ t. cons_option (if t then Some x.1 else None) (picked c typ way bs)) (may_not c typ x.0 way (h 0 x refl)) ∙ none_picked c typ way bs (λ j b e. h (suc j) b e)
 
 pub one_picked : {X : Type 0} (c : ℕ) (typ : FirType) (bs : List (TypeLeaf × X)) (k : ℕ) (b : TypeLeaf × X) → slice_get bs k ≡ Some b → b.0.flip ≡ false → IsOnlyAt bs k b.0.path
     → picked c typ b.0.path bs ≡ b.1 ∷ []
 one_picked c typ [] k b e f h = none_some e
 one_picked {X} c typ (x ∷ bs) zero b e f h =
     let same : x ≡ b = some_same e in
-    ap (λ (z : TypeLeaf × X). picked c typ b.0.path (z ∷ bs)) same ∙ ap (λ t. cons_option {A = X} (if t then Some b.1 else None) (picked c typ b.0.path bs)) (may_here c typ b.0 f)
+    ap (λ (z : TypeLeaf × X). picked c typ b.0.path (z ∷ bs)) same ∙ ap (λ t. cons_option (if t then Some b.1 else None) (picked c typ b.0.path bs)) (may_here c typ b.0 f)
     ∙ ap (λ l. b.1 ∷ l) (none_picked c typ b.0.path bs (tail_not x bs b.0.path h))
-one_picked {X} c typ (x ∷ bs) (suc k) b e f h =
-    ap (λ t. cons_option {A = X} (if t then Some x.1 else None) (picked c typ b.0.path bs)) (may_not c typ x.0 b.0.path (λ p. let r = h 0 x refl p in absurd (omega (arith, r))))
+one_picked c typ (x ∷ bs) (suc k) b e f h =
+    ap (λ t. cons_option (if t then Some x.1 else None) (picked c typ b.0.path bs)) (may_not c typ x.0 b.0.path (λ p. let r = h 0 x refl p in absurd (omega (arith, r))))
     ∙ one_picked c typ bs k b e f (tail_only x bs k b.0.path h)
 
 -- Lists beside one another.

@@ -2,3 +2,4 @@ pub mod Registers
 pub mod Elements
 pub mod Memories
 pub mod Instances
+pub mod Standing

@@ -1,9 +1,9 @@
 -- Registers as leaves with resets (FIRRTL specification 3.0, "Registers").
-use Rattle.std.specs.Prelude.{◌≡◌, ℕ, ◌+◌, ◌++◌, min, true, List, [], ◌∷◌, length, slice_get, pos, Option, Some, None}
+use Rattle.std.specs.Prelude.{◌≡◌, ℕ, ◌+◌, ◌++◌, min, true, List, [], ◌∷◌, length, take, slice_get, sum_by, pos, Option, Some, None}
 use Rattle.fir_types.specs.declared.leaf.TypeLeaf.{TypeLeaf}
 use Rattle.fir_types.specs.Leaves.{leaves}
 use Rattle.cycle_values.specs.Values.{fitted}
-use Rattle.fir_meaning.specs.Components.{Sort, A_register, A_reset_register, kind_of_leaf, width_of_leaf}
+use Rattle.fir_meaning.specs.Components.{Component, Sort, A_register, A_reset_register, kind_of_leaf, width_of_leaf}
 use Rattle.fir_meaning.specs.WellTyped.{is_condition, is_typed}
 use Rattle.ground_net.specs.declared.ground.Ground.{Ground}
 use Rattle.ground_net.specs.declared.ground.Ground.TheVariants.{Const}
@@ -48,3 +48,20 @@ AreRegisters entries (p ∷ ps) registers = (own : List NetRegister) × (rest : 
 abbrev pub IsTypedSort : Entries → Sort → Type 0
 IsTypedSort entries (A_reset_register clock reset init) = (is_condition (known_of entries) reset ≡ true) × (is_typed (known_of entries) init ≡ true)
 IsTypedSort entries _ = Unit {0}
+
+-- what a register's leaf of this place has for a reset
+abbrev pub HasResetBy : Entries → Sort → ℕ → TypeLeaf → Option NetReset → Type 0
+HasResetBy entries (A_register clock) j leaf r = r ≡ None
+HasResetBy entries (A_reset_register clock reset init) j leaf r = (s : Source) × (inits : List Source) × IsLowered entries reset (s ∷ []) × IsLowered entries init inits × ResetTo s.expr inits j leaf r
+HasResetBy entries _ j leaf r = ⊥
+
+-- The register is one of a leaf of these components, which stand behind so many leaves.
+pub record RegisterAt (entries : Entries) (before : ℕ) (cs : List Component) (r : NetRegister) : Type 0 where
+  pub k : ℕ
+  pub j : ℕ
+  pub c : Component
+  pub leaf : TypeLeaf
+  pub stands : slice_get cs k ≡ Some c
+  pub listed : slice_get (leaves c.typ) j ≡ Some leaf
+  pub number : r.leaf ≡ before + sum_by (λ d. length (leaves d.typ)) (take k cs) + j
+  pub has : HasResetBy entries c.declaration.sort j leaf r.reset

@@ -1,6 +1,8 @@
 //! Laws of the definitions. The functions do nothing.
 
-ghost use Rattle.std.specs.Prelude.{◌≡◌, ℕ, true, List, [], ◌∷◌, slice_get, Some, Contains};
+ghost use Rattle.std.specs.Prelude.{◌≡◌, ℕ, true, List, [], ◌∷◌, map, length, slice_get, Some, Contains};
+ghost use Rattle.leaf_names.specs.LeafNames.{Texts};
+ghost use Rattle.fir_types.specs.declared.memory.Memory.{Memory as AMemory};
 ghost use Rattle.fir_types.specs.declared.leaf.TypeLeaf.{TypeLeaf as TheLeaf};
 ghost use Rattle.fir_types.specs.Leaves.{leaves};
 ghost use Rattle.fir_tree.specs.declared.circuit.Module.{Module as AModule};
@@ -9,15 +11,34 @@ ghost use Rattle.fir_meaning.specs.Components.{TypedModule, Component as ACompon
 ghost use Rattle.fir_meaning.specs.States.{is_register};
 ghost use Rattle.fir_meaning.specs.WellTyped.{HasTypes, is_condition};
 ghost use Rattle.ground_net.specs.declared.net.NetReset.{NetReset as AReset};
+ghost use Rattle.ground_net.specs.declared.net.NetRegister.{NetRegister as ARegister};
 ghost use Rattle.net_meaning.specs.Shapes.{Table};
-ghost use Rattle.ground_of_circuit.specs.Numbers.{number_of};
+ghost use Rattle.ground_of_circuit.specs.Numbers.{number_of, register_numbers, memory_parts, instance_parts};
+ghost use Rattle.ground_tables.specs.Parts.{parts_of};
 ghost use Rattle.ground_of_circuit.specs.Lowering.{IsReset};
 ghost use Rattle.ground_exprs.specs.declared.source.Source.{Source as ASource};
 ghost use Rattle.ground_exprs.specs.Sources.{Entries, Knows, IsLowered, known_of};
-ghost use Rattle.lower_aggregates.specs.Registers.{IsInit};
+ghost use Rattle.lower_aggregates.specs.Registers.{IsInit, AreRegisters, RegisterAt};
+ghost use Rattle.lower_aggregates.specs.Memories.{MemoryRow, memories_in};
+ghost use Rattle.lower_aggregates.specs.Instances.{InstanceRow, Numbers, instances_from};
+ghost use Rattle.lower_aggregates.specs.Standing.{MemoryThere, InstanceThere};
 
 /// What a register's leaf has for a reset, made of the sources of its reset and of its `init`, is the register's: the k-th leaf takes the
 /// k-th source, fitted to the leaf's kind and width, and 0 where there is none.
 pub fn resets_are_those_of_registers()
     ensures { (holder : AModule) (m : TypedModule) (table : Table) → HasTypes holder m → (entries : Entries) → Knows (record { number = number_of m; table = table }) (type_in m) entries → (c : AComponent) → Contains m.components c → type_in m c.declaration.name ≡ c.typ → is_register c.declaration.sort ≡ true → (j : ℕ) (leaf : TheLeaf) → slice_get (leaves c.typ) j ≡ Some leaf → (reset init : TheExpr) → is_condition (known_of entries) reset ≡ true → (s : ASource) (inits : List ASource) → IsLowered entries reset (s ∷ []) → IsLowered entries init inits → (made : AReset) → made.reset ≡ s.expr → IsInit (slice_get inits j) leaf made.init → IsReset m table (c, leaf) reset init made }
+{}
+
+/// The registers of a module's components are those of its registers' leaves, in order.
+pub fn registers_are_numbered()
+    ensures leaves { (entries : Entries) (m : TypedModule) (registers : List ARegister) → AreRegisters entries (parts_of m) registers → map (λ r. r.leaf) registers ≡ register_numbers m }
+    ensures each { (entries : Entries) (m : TypedModule) (registers : List ARegister) → AreRegisters entries (parts_of m) registers → (i : ℕ) (r : ARegister) → slice_get registers i ≡ Some r → RegisterAt entries 0 m.components r }
+{}
+
+/// What is said of the memories of a module's components is said of its memories, in order, and of its instances likewise.
+pub fn memories_and_instances_stand_in_order()
+    ensures memories { (texts : Texts) (m : TypedModule) (k : ℕ) (part : ℕ × AComponent × AMemory) (row : MemoryRow) → slice_get (memory_parts m.components) k ≡ Some part → slice_get (memories_in texts (parts_of m)) k ≡ Some row → MemoryThere texts 0 0 m.components part row }
+    ensures all_memories { (texts : Texts) (m : TypedModule) → length (memories_in texts (parts_of m)) ≡ length (memory_parts m.components) }
+    ensures instances { (texts : Texts) (numbers : Numbers) (m : TypedModule) (i : ℕ) (part : ℕ × AComponent × ℕ) (row : InstanceRow) → slice_get (instance_parts m.components) i ≡ Some part → slice_get (instances_from texts numbers 0 (parts_of m)) i ≡ Some row → InstanceThere texts numbers 0 0 0 m.components part row }
+    ensures all_instances { (texts : Texts) (numbers : Numbers) (m : TypedModule) → length (instances_from texts numbers 0 (parts_of m)) ≡ length (instance_parts m.components) }
 {}

@@ -65,7 +65,7 @@ fn own_registers(
         Sort::ResetRegister(_, reset, init) => {
             let source = lone(lower_expr(alloc, known, reset)?);
             let inits = lower_expr(alloc, known, init)?;
-            let own = reset_registers(alloc, piece, &source.expr, inits.as_slice())?;
+            let own = reset_registers(alloc, piece, &source.expr, &inits)?;
             Ok(own)
         }
         _ => Ok(List::new(alloc)),
@@ -94,7 +94,7 @@ fn reset_registers(
     alloc: Global,
     piece: &Piece<'_>,
     reset: &Ground,
-    inits: &[Source],
+    inits: &List<Source>,
 ) -> Result<List<NetRegister>, AllocError>
     ensures { IfOk result (λ own. AreFirst (held_part piece.now) (ResetTo reset.now inits.now) (length (leaves piece.now.typ.now)) own) }
 {

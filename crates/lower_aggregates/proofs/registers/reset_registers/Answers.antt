@@ -22,7 +22,7 @@ loop-at-preserved c =
       so_far = first_more (held_part c.args.piece.now) (ResetTo c.args.reset.now c.args.inits.now) c.loop-at.at c.loop-at.number c.loop-at.own c.push.new.self (record { leaf = c.loop-at.number; reset = Some n })
           c.loop-at.invariant.so_far c.loop-at.invariant.number refl
           (λ leaf e. reset_there c.args.reset.now c.args.inits.now c.loop-at.at leaf c.index-list-at.result _ n (item_is (leaves c.args.piece.now.typ.now) c.loop-at.at c.index-list-at.result c.index-list-at.result leaf list e)
-          c.in_ok-copied.ensures c.get.ensures.lookup c.in_ok-init.ensures)
+          c.in_ok-copied.ensures c.get.ensures.value c.in_ok-init.ensures)
           c.in_ok-push.ensures.ok;
     }
 
