@@ -4,3 +4,6 @@ pub mod Setting
 pub mod Resetting
 pub mod RegisterLists
 pub mod PartLists
+pub mod TypedSorts
+pub mod PortLeaves
+pub mod PortNumbers

@@ -47,10 +47,7 @@ memory_there texts a b [] k part row e f = none_some e
 memory_there texts a b (c ∷ cs) k part row e f =
     by (λ k e f. memory_further texts a b c cs part row (memory_there texts (a + 1) (b + length (leaves c.typ)) cs k part row e f)) c.declaration.sort refl k e f
   where
-    abbrev Onward : Type 0
-    Onward = (k : ℕ) → slice_get (memory_parts_from (a + 1) cs) k ≡ Some part → slice_get (memories_in texts (component_parts (b + length (leaves c.typ)) cs)) k ≡ Some row → MemoryThere texts a b (c ∷ cs) part row
-
-    by : Onward → (sort : Sort) → c.declaration.sort ≡ sort → (k : ℕ) → slice_get (cons_option (as_memory a c sort) (memory_parts_from (a + 1) cs)) k ≡ Some part
+    by : ((k : ℕ) → slice_get (memory_parts_from (a + 1) cs) k ≡ Some part → slice_get (memories_in texts (component_parts (b + length (leaves c.typ)) cs)) k ≡ Some row → MemoryThere texts a b (c ∷ cs) part row) → (sort : Sort) → c.declaration.sort ≡ sort → (k : ℕ) → slice_get (cons_option (as_memory a c sort) (memory_parts_from (a + 1) cs)) k ≡ Some part
         → slice_get (cons_option (memory_where texts (component_part b c) sort) (memories_in texts (component_parts (b + length (leaves c.typ)) cs))) k ≡ Some row → MemoryThere texts a b (c ∷ cs) part row
     by plain (A_memory memory) s zero e f =
         let same : (a, c, memory) ≡ part = some_same {A = ℕ × Component × Memory} e in
@@ -123,11 +120,7 @@ instance_there texts numbers n a b [] i part row e f = none_some e
 instance_there texts numbers n a b (c ∷ cs) i part row e f =
     by (λ i e f. instance_further texts numbers n a b c cs part row (instance_there texts numbers (n + memories_by c.declaration.sort) (a + 1) (b + length (leaves c.typ)) cs i part row e f)) c.declaration.sort refl i e f
   where
-    abbrev Onward : Type 0
-    Onward = (i : ℕ) → slice_get (instance_parts_from (a + 1) cs) i ≡ Some part
-        → slice_get (instances_from texts numbers (n + memories_by c.declaration.sort) (component_parts (b + length (leaves c.typ)) cs)) i ≡ Some row → InstanceThere texts numbers n a b (c ∷ cs) part row
-
-    by : Onward → (sort : Sort) → c.declaration.sort ≡ sort → (i : ℕ) → slice_get (cons_option (option_map (λ target. (a, c, target)) (target_in sort)) (instance_parts_from (a + 1) cs)) i ≡ Some part
+    by : ((i : ℕ) → slice_get (instance_parts_from (a + 1) cs) i ≡ Some part → slice_get (instances_from texts numbers (n + memories_by c.declaration.sort) (component_parts (b + length (leaves c.typ)) cs)) i ≡ Some row → InstanceThere texts numbers n a b (c ∷ cs) part row) → (sort : Sort) → c.declaration.sort ≡ sort → (i : ℕ) → slice_get (cons_option (option_map (λ target. (a, c, target)) (target_in sort)) (instance_parts_from (a + 1) cs)) i ≡ Some part
         → slice_get (cons_option (instance_where texts numbers n (component_part b c) sort) (instances_from texts numbers (n + memories_by c.declaration.sort) (component_parts (b + length (leaves c.typ)) cs))) i ≡ Some row
         → InstanceThere texts numbers n a b (c ∷ cs) part row
     by plain (An_instance target) s zero e f =

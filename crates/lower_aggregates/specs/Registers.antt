@@ -1,10 +1,10 @@
 -- Registers as leaves with resets (FIRRTL specification 3.0, "Registers").
-use Rattle.std.specs.Prelude.{◌≡◌, ℕ, ◌+◌, ◌++◌, min, true, List, [], ◌∷◌, length, take, slice_get, sum_by, pos, Option, Some, None}
+use Rattle.std.specs.Prelude.{◌≡◌, ℕ, ◌+◌, ◌++◌, ◌&&◌, min, Bool, true, List, [], ◌∷◌, length, take, slice_get, sum_by, pos, Option, Some, None}
 use Rattle.fir_types.specs.declared.leaf.TypeLeaf.{TypeLeaf}
 use Rattle.fir_types.specs.Leaves.{leaves}
 use Rattle.cycle_values.specs.Values.{fitted}
 use Rattle.fir_meaning.specs.Components.{Component, Sort, A_register, A_reset_register, kind_of_leaf, width_of_leaf}
-use Rattle.fir_meaning.specs.WellTyped.{is_condition, is_typed}
+use Rattle.fir_meaning.specs.WellTyped.{Known, is_condition, is_typed}
 use Rattle.ground_net.specs.declared.ground.Ground.{Ground}
 use Rattle.ground_net.specs.declared.ground.Ground.TheVariants.{Const}
 use Rattle.ground_net.specs.declared.net.NetRegister.{NetRegister}
@@ -65,3 +65,8 @@ pub record RegisterAt (entries : Entries) (before : ℕ) (cs : List Component) (
   pub listed : slice_get (leaves c.typ) j ≡ Some leaf
   pub number : r.leaf ≡ before + sum_by (λ d. length (leaves d.typ)) (take k cs) + j
   pub has : HasResetBy entries c.declaration.sort j leaf r.reset
+
+-- The same as a test.
+abbrev pub is_typed_sort : Known → Sort → Bool
+is_typed_sort known (A_reset_register clock reset init) = is_condition known reset && is_typed known init
+is_typed_sort known _ = true

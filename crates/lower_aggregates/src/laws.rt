@@ -1,25 +1,30 @@
 //! Laws of the definitions. The functions do nothing.
 
-ghost use Rattle.std.specs.Prelude.{◌≡◌, ℕ, true, List, [], ◌∷◌, map, length, slice_get, Some, Contains};
+ghost use Rattle.std.specs.Prelude.{◌≡◌, ℕ, ◌+◌, true, List, [], ◌∷◌, map, length, slice_get, Some, Contains};
 ghost use Rattle.leaf_names.specs.LeafNames.{Texts};
 ghost use Rattle.fir_types.specs.declared.memory.Memory.{Memory as AMemory};
 ghost use Rattle.fir_types.specs.declared.leaf.TypeLeaf.{TypeLeaf as TheLeaf};
 ghost use Rattle.fir_types.specs.Leaves.{leaves};
 ghost use Rattle.fir_tree.specs.declared.circuit.Module.{Module as AModule};
 ghost use Rattle.fir_tree.specs.declared.expr.Expr.{Expr as TheExpr};
-ghost use Rattle.fir_meaning.specs.Components.{TypedModule, Component as AComponent, type_in};
-ghost use Rattle.fir_meaning.specs.States.{is_register};
-ghost use Rattle.fir_meaning.specs.WellTyped.{HasTypes, is_condition};
+ghost use Rattle.fir_meaning.specs.Components.{TypedModule, Component as AComponent, type_in, ports_bundle};
+ghost use Rattle.fir_meaning.specs.MemoryPorts.{MemoryPort, memory_ports};
+ghost use Rattle.fir_types.specs.declared.fir_type.FirType.{FirType as AType};
+ghost use Rattle.ground_net.specs.declared.net.NetPort.{NetPort as APort};
+ghost use Rattle.fir_meaning.specs.States.{is_register, leaf_of};
+ghost use Rattle.fir_meaning.specs.WellTyped.{HasTypes, is_condition, are_typed, Known as Types};
+ghost use Rattle.std.specs.List.{list_all};
+ghost use Rattle.ground_tables.specs.Headings.{headings_of};
 ghost use Rattle.ground_net.specs.declared.net.NetReset.{NetReset as AReset};
 ghost use Rattle.ground_net.specs.declared.net.NetRegister.{NetRegister as ARegister};
 ghost use Rattle.net_meaning.specs.Shapes.{Table};
 ghost use Rattle.ground_of_circuit.specs.Numbers.{number_of, register_numbers, memory_parts, instance_parts};
 ghost use Rattle.ground_tables.specs.Parts.{parts_of};
-ghost use Rattle.ground_of_circuit.specs.Lowering.{IsReset};
+ghost use Rattle.ground_of_circuit.specs.Lowering.{IsReset, IsGroundPort};
 ghost use Rattle.ground_exprs.specs.declared.source.Source.{Source as ASource};
 ghost use Rattle.ground_exprs.specs.Sources.{Entries, Knows, IsLowered, known_of};
-ghost use Rattle.lower_aggregates.specs.Registers.{IsInit, AreRegisters, RegisterAt};
-ghost use Rattle.lower_aggregates.specs.Memories.{MemoryRow, memories_in};
+ghost use Rattle.lower_aggregates.specs.Registers.{IsInit, AreRegisters, RegisterAt, is_typed_sort};
+ghost use Rattle.lower_aggregates.specs.Memories.{MemoryRow, memories_in, ports_from, reading_of};
 ghost use Rattle.lower_aggregates.specs.Instances.{InstanceRow, Numbers, instances_from};
 ghost use Rattle.lower_aggregates.specs.Standing.{MemoryThere, InstanceThere};
 
@@ -41,4 +46,14 @@ pub fn memories_and_instances_stand_in_order()
     ensures all_memories { (texts : Texts) (m : TypedModule) → length (memories_in texts (parts_of m)) ≡ length (memory_parts m.components) }
     ensures instances { (texts : Texts) (numbers : Numbers) (m : TypedModule) (i : ℕ) (part : ℕ × AComponent × ℕ) (row : InstanceRow) → slice_get (instance_parts m.components) i ≡ Some part → slice_get (instances_from texts numbers 0 (parts_of m)) i ≡ Some row → InstanceThere texts numbers 0 0 0 m.components part row }
     ensures all_instances { (texts : Texts) (numbers : Numbers) (m : TypedModule) → length (instances_from texts numbers 0 (parts_of m)) ≡ length (instance_parts m.components) }
+{}
+
+/// In a well typed body the reset and the `init` of each register are well typed.
+pub fn resets_are_typed()
+    ensures { (known : Types) (holder : AModule) → are_typed known holder.body ≡ true → list_all (λ h. is_typed_sort known h.sort) (headings_of holder) ≡ true }
+{}
+
+/// The ports of a memory have the numbers of their leaves, where an element has this type.
+pub fn ports_have_their_numbers()
+    ensures { (m : TypedModule) (c : AComponent) (memory : AMemory) (element : AType) (first : ℕ) → leaves c.typ ≡ leaves (ports_bundle memory element) → ((j : ℕ) (leaf : TheLeaf) → slice_get (leaves c.typ) j ≡ Some leaf → number_of m (leaf_of c leaf) ≡ Some (first + j)) → (q : ℕ) (port : MemoryPort) (np : APort) → slice_get (memory_ports memory) q ≡ Some port → slice_get (ports_from first (length (leaves element)) (reading_of memory) (memory_ports memory)) q ≡ Some np → IsGroundPort m c memory element port np }
 {}
