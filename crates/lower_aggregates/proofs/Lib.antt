@@ -7,3 +7,4 @@ pub mod PartLists
 pub mod TypedSorts
 pub mod PortLeaves
 pub mod PortNumbers
+pub mod Together

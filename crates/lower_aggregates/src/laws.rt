@@ -18,14 +18,19 @@ ghost use Rattle.ground_tables.specs.Headings.{headings_of};
 ghost use Rattle.ground_net.specs.declared.net.NetReset.{NetReset as AReset};
 ghost use Rattle.ground_net.specs.declared.net.NetRegister.{NetRegister as ARegister};
 ghost use Rattle.net_meaning.specs.Shapes.{Table};
-ghost use Rattle.ground_of_circuit.specs.Numbers.{number_of, register_numbers, memory_parts, instance_parts};
+ghost use Rattle.ground_of_circuit.specs.Numbers.{ModuleLeaf, module_leaves, number_of, register_numbers, memory_parts, instance_parts};
 ghost use Rattle.ground_tables.specs.Parts.{parts_of};
-ghost use Rattle.ground_of_circuit.specs.Lowering.{IsReset, IsGroundPort};
+ghost use Rattle.ground_of_circuit.specs.Lowering.{IsReset, IsGroundPort, HasReset, IsGroundInstance};
+ghost use Rattle.std.specs.Prelude.{nat_eq};
+ghost use Rattle.std.specs.Map.{lookup};
+ghost use Rattle.fir_tree.specs.declared.circuit.Circuit.{Circuit as ACircuit};
+ghost use Rattle.fir_names.specs.Scopes.{Means};
+ghost use Rattle.ground_net.specs.declared.circuit.GroundInstance.{GroundInstance as AnInstance};
 ghost use Rattle.ground_exprs.specs.declared.source.Source.{Source as ASource};
 ghost use Rattle.ground_exprs.specs.Sources.{Entries, Knows, IsLowered, known_of};
 ghost use Rattle.lower_aggregates.specs.Registers.{IsInit, AreRegisters, RegisterAt, is_typed_sort};
 ghost use Rattle.lower_aggregates.specs.Memories.{MemoryRow, memories_in, ports_from, reading_of};
-ghost use Rattle.lower_aggregates.specs.Instances.{InstanceRow, Numbers, instances_from};
+ghost use Rattle.lower_aggregates.specs.Instances.{InstanceRow, instance_row, Numbers, instances_from};
 ghost use Rattle.lower_aggregates.specs.Standing.{MemoryThere, InstanceThere};
 
 /// What a register's leaf has for a reset, made of the sources of its reset and of its `init`, is the register's: the k-th leaf takes the
@@ -56,4 +61,14 @@ pub fn resets_are_typed()
 /// The ports of a memory have the numbers of their leaves, where an element has this type.
 pub fn ports_have_their_numbers()
     ensures { (m : TypedModule) (c : AComponent) (memory : AMemory) (element : AType) (first : ℕ) → leaves c.typ ≡ leaves (ports_bundle memory element) → ((j : ℕ) (leaf : TheLeaf) → slice_get (leaves c.typ) j ≡ Some leaf → number_of m (leaf_of c leaf) ≡ Some (first + j)) → (q : ℕ) (port : MemoryPort) (np : APort) → slice_get (memory_ports memory) q ≡ Some port → slice_get (ports_from first (length (leaves element)) (reading_of memory) (memory_ports memory)) q ≡ Some np → IsGroundPort m c memory element port np }
+{}
+
+/// Each register of a module has the reset of its leaf.
+pub fn registers_have_their_resets()
+    ensures { (holder : AModule) (m : TypedModule) (table : Table) → HasTypes holder m → (entries : Entries) → Knows (record { number = number_of m; table = table }) (type_in m) entries → are_typed (known_of entries) holder.body ≡ true → ((k : ℕ) (c : AComponent) → slice_get m.components k ≡ Some c → type_in m c.declaration.name ≡ c.typ) → (registers : List ARegister) → AreRegisters entries (parts_of m) registers → (i : ℕ) (r : ARegister) (y : ModuleLeaf) → slice_get registers i ≡ Some r → slice_get (module_leaves m) r.leaf ≡ Some y → HasReset m table y y.0.declaration.sort r.reset }
+{}
+
+/// Each instance is one of the module's, where names have the numbers of their modules.
+pub fn instances_are_those_of_modules()
+    ensures { (texts : Texts) (circuit : ACircuit) (numbers : Numbers) (m : TypedModule) (made : List AnInstance) → ((name number : ℕ) → lookup (nat_eq name) numbers ≡ Some number → Means circuit name number) → map instance_row made ≡ instances_from texts numbers 0 (parts_of m) → (i : ℕ) (part : ℕ × AComponent × ℕ) (gi : AnInstance) → slice_get (instance_parts m.components) i ≡ Some part → slice_get made i ≡ Some gi → IsGroundInstance texts circuit m part.0 part.1 part.2 gi }
 {}
