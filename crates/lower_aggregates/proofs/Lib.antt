@@ -8,3 +8,4 @@ pub mod TypedSorts
 pub mod PortLeaves
 pub mod PortNumbers
 pub mod Together
+pub mod Stored

@@ -29,7 +29,9 @@ ghost use Rattle.ground_net.specs.declared.circuit.GroundInstance.{GroundInstanc
 ghost use Rattle.ground_exprs.specs.declared.source.Source.{Source as ASource};
 ghost use Rattle.ground_exprs.specs.Sources.{Entries, Knows, IsLowered, known_of};
 ghost use Rattle.lower_aggregates.specs.Registers.{IsInit, AreRegisters, RegisterAt, is_typed_sort};
-ghost use Rattle.lower_aggregates.specs.Memories.{MemoryRow, memories_in, ports_from, reading_of};
+ghost use Rattle.lower_aggregates.specs.Memories.{MemoryRow, memories_in, ports_from, reading_of, first_mode_of, stored};
+ghost use Rattle.lower_aggregates.specs.Elements.{own_row};
+ghost use Rattle.fir_types.specs.declared.memory.PortMode.{PortMode as AMode};
 ghost use Rattle.lower_aggregates.specs.Instances.{InstanceRow, instance_row, Numbers, instances_from};
 ghost use Rattle.lower_aggregates.specs.Standing.{MemoryThere, InstanceThere};
 
@@ -71,4 +73,9 @@ pub fn registers_have_their_resets()
 /// Each instance is one of the module's, where names have the numbers of their modules.
 pub fn instances_are_those_of_modules()
     ensures { (texts : Texts) (circuit : ACircuit) (numbers : Numbers) (m : TypedModule) (made : List AnInstance) → ((name number : ℕ) → lookup (nat_eq name) numbers ≡ Some number → Means circuit name number) → map instance_row made ≡ instances_from texts numbers 0 (parts_of m) → (i : ℕ) (part : ℕ × AComponent × ℕ) (gi : AnInstance) → slice_get (instance_parts m.components) i ≡ Some part → slice_get made i ≡ Some gi → IsGroundInstance texts circuit m part.0 part.1 part.2 gi }
+{}
+
+/// What the first port of a memory shows is the leaves of its elements.
+pub fn ports_show_their_elements()
+    ensures { (texts : Texts) (memory : AMemory) (element : AType) (listed : List TheLeaf) (m : AMode) → listed ≡ leaves (ports_bundle memory element) → first_mode_of memory.lines ≡ Some m → stored texts memory listed ≡ map (own_row texts) (leaves element) }
 {}
