@@ -79,10 +79,7 @@ fn push_statements<'a>(
 }
 
 #[cycle(walk)]
-fn push_statement<'a>(
-    all: &mut Vec<Declaration<'a>>,
-    statement: &'a Stmt,
-) -> Result<(), AllocError>
+fn push_statement<'a>(all: &mut Vec<Declaration<'a>>, statement: &'a Stmt) -> Result<(), AllocError>
     ensures { OnOk result (map held_heading all.new.items ≡ map held_heading all.old.items ++ stmt_headings statement.now) }
 {
     match statement {

@@ -9,3 +9,4 @@ pub mod PortLeaves
 pub mod PortNumbers
 pub mod Together
 pub mod Stored
+pub mod MemoryLists

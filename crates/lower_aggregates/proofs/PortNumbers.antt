@@ -197,8 +197,8 @@ module _ (m : TypedModule) (c : Component) (memory : Memory) (element : FirType)
           refl,
           many port before stands 3 data_name (first + before + 3) (λ k way w. at_three _ _ _ (whole ++ masks) k (step.Field data_name ∷ way) (first_of whole masks k (step.Field data_name ∷ way) (here (step.Field data_name) k way w))) refl,
           many port before stands (3 + count) mask_name (first + before + 3 + count) (λ k way w. moved (port_ways e mode.Writer) (3 + (count + k)) (3 + count + k) (step.Field mask_name ∷ way) (omega arith)
-          (at_three _ _ _ (whole ++ masks) (count + k) (step.Field mask_name ∷ way)
-          (second_of whole masks count k (step.Field mask_name ∷ way) (ways_counted e count (step.Field data_name) counted) (here (step.Field mask_name) k way w)))) (omega arith),
+              (at_three _ _ _ (whole ++ masks) (count + k) (step.Field mask_name ∷ way)
+              (second_of whole masks count k (step.Field mask_name ∷ way) (ways_counted e count (step.Field data_name) counted) (here (step.Field mask_name) k way w)))) (omega arith),
         );
         no_read = λ h. refl;
         read = λ h. absurd (true≢false (sym h));
@@ -218,20 +218,20 @@ module _ (m : TypedModule) (c : Component) (memory : Memory) (element : FirType)
           first + before + 3 + count,
           refl,
           one port before stands (3 + count) wmode_name (moved (port_ways e mode.ReadWriter) (3 + (count + 0)) (3 + count) (step.Field wmode_name ∷ []) (omega arith)
-          (at_three _ _ _ (rdata ++ rest) (count + 0) (step.Field wmode_name ∷ []) (second_of rdata rest count 0 (step.Field wmode_name ∷ []) length_is refl))) (first + before + 3 + count) (omega arith),
+              (at_three _ _ _ (rdata ++ rest) (count + 0) (step.Field wmode_name ∷ []) (second_of rdata rest count 0 (step.Field wmode_name ∷ []) length_is refl))) (first + before + 3 + count) (omega arith),
         );
         no_write = λ h. absurd (true≢false h);
         write = λ h. (
           record { leaves = range_with_len (first + before + 3 + count + 1) count; masks = range_with_len (first + before + 3 + count + 1 + count) count },
           refl,
           many port before stands (3 + count + 1) wdata_name (first + before + 3 + count + 1) (λ k way w. moved (port_ways e mode.ReadWriter) (3 + (count + suc k)) (3 + count + 1 + k) (step.Field wdata_name ∷ way) (omega arith)
-          (at_three _ _ _ (rdata ++ rest) (count + suc k) (step.Field wdata_name ∷ way)
-          (second_of rdata rest count (suc k) (step.Field wdata_name ∷ way) length_is (first_of wdata wmask k (step.Field wdata_name ∷ way) (here (step.Field wdata_name) k way w))))) (omega arith),
+              (at_three _ _ _ (rdata ++ rest) (count + suc k) (step.Field wdata_name ∷ way)
+              (second_of rdata rest count (suc k) (step.Field wdata_name ∷ way) length_is (first_of wdata wmask k (step.Field wdata_name ∷ way) (here (step.Field wdata_name) k way w))))) (omega arith),
           many port before stands (3 + count + 1 + count) wmask_name (first + before + 3 + count + 1 + count)
-          (λ k way w. moved (port_ways e mode.ReadWriter) (3 + (count + suc (count + k))) (3 + count + 1 + count + k) (step.Field wmask_name ∷ way) (omega arith)
-          (at_three _ _ _ (rdata ++ rest) (count + suc (count + k)) (step.Field wmask_name ∷ way)
-          (second_of rdata rest count (suc (count + k)) (step.Field wmask_name ∷ way) length_is
-          (second_of wdata wmask count k (step.Field wmask_name ∷ way) (ways_counted e count (step.Field wdata_name) counted) (here (step.Field wmask_name) k way w))))) (omega arith),
+              (λ k way w. moved (port_ways e mode.ReadWriter) (3 + (count + suc (count + k))) (3 + count + 1 + count + k) (step.Field wmask_name ∷ way) (omega arith)
+              (at_three _ _ _ (rdata ++ rest) (count + suc (count + k)) (step.Field wmask_name ∷ way)
+              (second_of rdata rest count (suc (count + k)) (step.Field wmask_name ∷ way) length_is
+              (second_of wdata wmask count k (step.Field wmask_name ∷ way) (ways_counted e count (step.Field wdata_name) counted) (here (step.Field wmask_name) k way w))))) (omega arith),
         );
         no_read = λ h. absurd (true≢false h);
         read = λ h. (

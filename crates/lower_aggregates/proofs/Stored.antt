@@ -1,5 +1,6 @@
 -- The leaves of a memory's elements, as its first port shows them.
 use Rattle.std.proofs.Common.{◌≡◌, ◌≢◌, ℕ, zero, suc, ◌==◌, Bool, true, false, List, [], ◌∷◌, ◌++◌, map, filter_map, drop, length, Option, Some, None, refl, sym, ap, ap₂, ◌∙◌, subst, arith, append_assoc, if◌then◌else◌}
+use Rattle.std.specs.Prelude.{Contains}
 use Rattle.std.specs.List.{flat_map, cons_option}
 use Rattle.std.proofs.lemmas.Grind.{common_steps}
 use Rattle.std.proofs.lemmas.List.{map-append}
@@ -21,7 +22,7 @@ use Rattle.fir_types.specs.Memories.{element_of, depth_of}
 use Rattle.fir_types.specs.Bundles.{address_bits, addr_name, en_name, clk_name, data_name, mask_name, rdata_name, wmode_name, wdata_name, wmask_name, plain_field, flipped_field, uint_at, clock_at, mask_of, fields_of_mode, port_type, port_field}
 use Rattle.fir_types.proofs.Layers.{leaves-bundle, leaves-field}
 use Rattle.leaf_names.specs.LeafNames.{Texts}
-use Rattle.fir_meaning.specs.Components.{ports_bundle}
+use Rattle.fir_meaning.specs.Components.{ports_bundle, width_of_leaf}
 use Rattle.fir_meaning.specs.MemoryPorts.{MemoryPort, port_in, memory_ports}
 use Rattle.lower_aggregates.specs.Elements.{ElementRow, own_row, row_at, row_before, rows_while, way_behind}
 use Rattle.lower_aggregates.specs.Memories.{shown_field, mode_of_first, first_mode_of, stored_by, stored}
@@ -209,3 +210,41 @@ stored_is texts memory element listed m e f =
     ap (λ o. stored_by texts memory o listed) f
     ∙ ap (λ ls. rows_while texts (shown_field m) (drop 3 ls)) (e ∙ leaves-bundle (ports_bundle memory element) (filter_map (port_field element (depth_of memory)) memory.lines) refl)
     ∙ first_rows texts element (depth_of memory) memory.lines m f
+
+-- the leaves of an element are those of the first port's field
+
+later : {A : Type 0} (z : A) (xs : List A) (x : A) → Contains xs x → Contains (z ∷ xs) x
+later z xs x (k, below, is) = (suc k, omega arith, is)
+
+in_map : {A B : Type 0} (f : A → B) (xs : List A) (x : A) → Contains xs x → Contains (map f xs) (f x)
+in_map f [] x (k, below, is) = absurd (omega (arith, below))
+in_map f (a ∷ xs) x (zero, below, is) = (0, omega arith, ap f is)
+in_map f (a ∷ xs) x (suc k, below, is) = later (f a) (map f xs) (f x) (in_map f xs x (k, omega arith, is))
+
+in_front : {A : Type 0} (xs ys : List A) (x : A) → Contains xs x → Contains (xs ++ ys) x
+in_front [] ys x (k, below, is) = absurd (omega (arith, below))
+in_front (a ∷ xs) ys x (zero, below, is) = (0, omega arith, is)
+in_front (a ∷ xs) ys x (suc k, below, is) = later a (xs ++ ys) x (in_front xs ys x (k, omega arith, is))
+
+among_first : (element : FirType) (depth : ℕ) (lines : List MemLine) (m : PortMode) → first_mode_of lines ≡ Some m → (leaf : TypeLeaf) → Contains (leaves element) leaf
+    → (l : TypeLeaf) × Contains (lines_leaves element depth lines) l × (width_of_leaf l ≡ width_of_leaf leaf)
+among_first element depth [] m e leaf h = absurd cc
+among_first element depth (line.MemPort at k name ∷ lines) m e leaf h =
+    let b = behind_of element depth k name lines in
+    let g : TypeLeaf → TypeLeaf = under (step.Field (shown_field k) ∷ []) b.turn in
+    let f : TypeLeaf → TypeLeaf = under (step.Field name.id ∷ []) true in
+    let own : List TypeLeaf = map f (map g (leaves element)) in
+    let there : Contains (b.a ∷ b.b ∷ b.d ∷ (own ++ b.rest)) (f (g leaf)) =
+    later b.a (b.b ∷ b.d ∷ (own ++ b.rest)) (f (g leaf)) (later b.b (b.d ∷ (own ++ b.rest)) (f (g leaf)) (later b.d (own ++ b.rest) (f (g leaf)) (in_front own b.rest (f (g leaf)) (in_map f (map g (leaves element)) (g leaf) (in_map g (leaves element) leaf h))))) in
+    (f (g leaf), subst (λ ls. Contains ls (f (g leaf))) (sym b.is) there, refl)
+among_first element depth (line.Element at t ∷ lines) m e leaf h = among_first element depth lines m e leaf h
+among_first element depth (line.Depth at n ∷ lines) m e leaf h = among_first element depth lines m e leaf h
+among_first element depth (line.ReadLatency at n ∷ lines) m e leaf h = among_first element depth lines m e leaf h
+among_first element depth (line.WriteLatency at n ∷ lines) m e leaf h = among_first element depth lines m e leaf h
+among_first element depth (line.ReadUnder at u ∷ lines) m e leaf h = among_first element depth lines m e leaf h
+
+pub stored_among : (memory : Memory) (element : FirType) (listed : List TypeLeaf) (m : PortMode) → listed ≡ leaves (ports_bundle memory element) → first_mode_of memory.lines ≡ Some m → (leaf : TypeLeaf)
+    → Contains (leaves element) leaf → (l : TypeLeaf) × Contains listed l × (width_of_leaf l ≡ width_of_leaf leaf)
+stored_among memory element listed m e f leaf h =
+    let r = among_first element (depth_of memory) memory.lines m f leaf h in
+    (r.0, subst (λ ls. Contains ls r.0) (sym (e ∙ leaves-bundle (ports_bundle memory element) (filter_map (port_field element (depth_of memory)) memory.lines) refl)) r.1, r.2)

@@ -33,16 +33,23 @@ port_leaves mode.ReadWriter count = 4 + (count + (count + count))
 -- A port with this first leaf: `addr`, `en` and `clk`, and then the fields of its mode in order.
 abbrev pub port_numbers : ℕ → ℕ → PortMode → HowRead → NetPort
 port_numbers first count mode.Reader how = record {
-  addr = first; en = first + 1; mode = None; write = None;
+  addr = first;
+  en = first + 1;
+  mode = None;
+  write = None;
   read = Some (record { leaves = range_with_len (first + 3) count; captured = how.captured; after = how.after });
 }
 port_numbers first count mode.Writer how = record {
-  addr = first; en = first + 1; mode = None;
+  addr = first;
+  en = first + 1;
+  mode = None;
   write = Some (record { leaves = range_with_len (first + 3) count; masks = range_with_len (first + 3 + count) count });
   read = None;
 }
 port_numbers first count mode.ReadWriter how = record {
-  addr = first; en = first + 1; mode = Some (first + 3 + count);
+  addr = first;
+  en = first + 1;
+  mode = Some (first + 3 + count);
   write = Some (record { leaves = range_with_len (first + 3 + count + 1) count; masks = range_with_len (first + 3 + count + 1 + count) count });
   read = Some (record { leaves = range_with_len (first + 3) count; captured = how.captured; after = how.after });
 }

@@ -7,7 +7,7 @@ ghost use Rattle.fir_types.specs.declared.leaf.TypeLeaf.{TypeLeaf as TheLeaf};
 ghost use Rattle.fir_types.specs.Leaves.{leaves};
 ghost use Rattle.fir_tree.specs.declared.circuit.Module.{Module as AModule};
 ghost use Rattle.fir_tree.specs.declared.expr.Expr.{Expr as TheExpr};
-ghost use Rattle.fir_meaning.specs.Components.{TypedModule, Component as AComponent, type_in, ports_bundle};
+ghost use Rattle.fir_meaning.specs.Components.{TypedModule, A_memory, Component as AComponent, type_in, ports_bundle};
 ghost use Rattle.fir_meaning.specs.MemoryPorts.{MemoryPort, memory_ports};
 ghost use Rattle.fir_types.specs.declared.fir_type.FirType.{FirType as AType};
 ghost use Rattle.ground_net.specs.declared.net.NetPort.{NetPort as APort};
@@ -18,9 +18,10 @@ ghost use Rattle.ground_tables.specs.Headings.{headings_of};
 ghost use Rattle.ground_net.specs.declared.net.NetReset.{NetReset as AReset};
 ghost use Rattle.ground_net.specs.declared.net.NetRegister.{NetRegister as ARegister};
 ghost use Rattle.net_meaning.specs.Shapes.{Table};
-ghost use Rattle.ground_of_circuit.specs.Numbers.{ModuleLeaf, module_leaves, number_of, register_numbers, memory_parts, instance_parts};
+ghost use Rattle.ground_of_circuit.specs.Numbers.{leaves_before, ModuleLeaf, module_leaves, number_of, register_numbers, memory_parts, instance_parts};
 ghost use Rattle.ground_tables.specs.Parts.{parts_of};
-ghost use Rattle.ground_of_circuit.specs.Lowering.{IsReset, IsGroundPort, HasReset, IsGroundInstance};
+ghost use Rattle.ground_of_circuit.specs.Lowering.{IsReset, IsGroundPort, HasReset, IsGroundInstance, IsGroundMemory};
+ghost use Rattle.ground_net.specs.declared.circuit.GroundMemory.{GroundMemory as AGroundMemory};
 ghost use Rattle.std.specs.Prelude.{nat_eq};
 ghost use Rattle.std.specs.Map.{lookup};
 ghost use Rattle.fir_tree.specs.declared.circuit.Circuit.{Circuit as ACircuit};
@@ -29,7 +30,7 @@ ghost use Rattle.ground_net.specs.declared.circuit.GroundInstance.{GroundInstanc
 ghost use Rattle.ground_exprs.specs.declared.source.Source.{Source as ASource};
 ghost use Rattle.ground_exprs.specs.Sources.{Entries, Knows, IsLowered, known_of};
 ghost use Rattle.lower_aggregates.specs.Registers.{IsInit, AreRegisters, RegisterAt, is_typed_sort};
-ghost use Rattle.lower_aggregates.specs.Memories.{MemoryRow, memories_in, ports_from, reading_of, first_mode_of, stored};
+ghost use Rattle.lower_aggregates.specs.Memories.{MemoryRow, memory_row, memories_in, ports_from, reading_of, first_mode_of, stored};
 ghost use Rattle.lower_aggregates.specs.Elements.{own_row};
 ghost use Rattle.fir_types.specs.declared.memory.PortMode.{PortMode as AMode};
 ghost use Rattle.lower_aggregates.specs.Instances.{InstanceRow, instance_row, Numbers, instances_from};
@@ -78,4 +79,9 @@ pub fn instances_are_those_of_modules()
 /// What the first port of a memory shows is the leaves of its elements.
 pub fn ports_show_their_elements()
     ensures { (texts : Texts) (memory : AMemory) (element : AType) (listed : List TheLeaf) (m : AMode) → listed ≡ leaves (ports_bundle memory element) → first_mode_of memory.lines ≡ Some m → stored texts memory listed ≡ map (own_row texts) (leaves element) }
+{}
+
+/// Each memory is one of the module's, where its leaves are those of its ports and have their numbers.
+pub fn memories_are_those_of_modules()
+    ensures { (texts : Texts) (holder : AModule) (m : TypedModule) → HasTypes holder m → ((c : AComponent) (memory : AMemory) → Contains m.components c → c.declaration.sort ≡ A_memory memory → (element : AType) × (leaves c.typ ≡ leaves (ports_bundle memory element))) → ((k j : ℕ) (c : AComponent) (leaf : TheLeaf) → slice_get m.components k ≡ Some c → slice_get (leaves c.typ) j ≡ Some leaf → number_of m (leaf_of c leaf) ≡ Some (leaves_before m k + j)) → (made : List AGroundMemory) → map memory_row made ≡ memories_in texts (parts_of m) → (k : ℕ) (part : ℕ × AComponent × AMemory) (g : AGroundMemory) → slice_get (memory_parts m.components) k ≡ Some part → slice_get made k ≡ Some g → IsGroundMemory texts m part.0 part.1 part.2 g }
 {}

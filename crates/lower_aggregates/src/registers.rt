@@ -118,11 +118,7 @@ fn reset_registers(
 }
 
 /// What a reset sets in a leaf: the source, fitted to the leaf's kind and width, and 0 where there is none.
-fn init_of(
-    alloc: Global,
-    leaf: &TypeLeaf,
-    source: Option<&Source>,
-) -> Result<Ground, AllocError>
+fn init_of(alloc: Global, leaf: &TypeLeaf, source: Option<&Source>) -> Result<Ground, AllocError>
     ensures { IfOk result (λ init. IsInit (option_copied source.entry) leaf.now init) }
 {
     let kind = kind_of(&leaf.typ);

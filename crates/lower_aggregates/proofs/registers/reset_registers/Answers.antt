@@ -14,7 +14,7 @@ loop-at-init c = record {
 }
 
 pub loop-at-preserved : goal.loop-at-preserved
-loop-at-preserved c = 
+loop-at-preserved c =
     let n : NetReset = record { reset = c.in_ok-copied.field-0; init = c.in_ok-init.init } in
     let list = c.index-list-at.is ∙ ap (λ (l : List TypeLeaf). get_or l c.loop-at.at c.index-list-at.result) (c.as_slice-list.ensures.value ∙ c.in_ok-listed.ensures) in
     record {
