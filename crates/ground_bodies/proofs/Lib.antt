@@ -1,0 +1,12 @@
+pub mod Layers
+pub mod Lists
+pub mod Lives
+pub mod Meanings
+pub mod Labels
+pub mod Views
+pub mod Texts
+pub mod Nodes
+pub mod Blocks
+pub mod Statements
+pub mod Wholes
+pub mod Closing

@@ -1,0 +1,3 @@
+pub mod Declares
+pub mod Bodies
+pub mod Arms

@@ -1,0 +1,4 @@
+pub mod Connects
+pub mod Targets
+pub mod Sides
+pub mod Nodes
