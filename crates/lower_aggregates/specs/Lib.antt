@@ -3,3 +3,4 @@ pub mod Elements
 pub mod Memories
 pub mod Instances
 pub mod Standing
+pub mod Modules

@@ -4,4 +4,5 @@
 pub mod instances;
 pub mod laws;
 pub mod memories;
+pub mod modules;
 pub mod registers;
