@@ -10,3 +10,5 @@ pub mod PortNumbers
 pub mod Together
 pub mod Stored
 pub mod MemoryLists
+pub mod Unported
+pub mod Assembling
