@@ -1,0 +1,8 @@
+//! Modules as ground statements over numbered leaves: their registers, memories and instances.
+#![tactic(auto)]
+
+pub mod instances;
+pub mod laws;
+pub mod memories;
+pub mod modules;
+pub mod registers;
