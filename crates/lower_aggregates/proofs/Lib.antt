@@ -10,3 +10,4 @@ pub mod PortNumbers
 pub mod Together
 pub mod Stored
 pub mod MemoryLists
+pub mod Circuits

@@ -3,6 +3,7 @@
 
 pub mod instances;
 pub mod laws;
+pub mod lowering;
 pub mod memories;
 pub mod modules;
 pub mod registers;
