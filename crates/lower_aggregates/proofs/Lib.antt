@@ -11,3 +11,5 @@ pub mod Together
 pub mod Stored
 pub mod MemoryLists
 pub mod Circuits
+pub mod Unported
+pub mod Assembling

@@ -1,7 +1,7 @@
 -- The memories of a module are those of its ground module.
-use Rattle.std.proofs.Common.{◌≡◌, ℕ, zero, suc, ◌+◌, ◌≤◌, min, Bool, List, [], ◌∷◌, ◌++◌, map, filter_map, take, length, Option, Some, None, refl, sym, ap, ap₂, ◌∙◌, subst, arith}
+use Rattle.std.proofs.Common.{◌≡◌, ℕ, zero, suc, ◌+◌, ◌≤◌, min, List, [], ◌∷◌, map, length, Option, Some, None, refl, sym, ap, ◌∙◌, subst, arith}
 use Rattle.std.specs.Prelude.{Contains}
-use Rattle.std.specs.List.{slice_get, sum_by}
+use Rattle.std.specs.List.{slice_get}
 use Rattle.std.proofs.lemmas.Grind.{common_steps}
 use Rattle.std.proofs.lemmas.List.{length-map}
 use Rattle.fir_types.specs.declared.fir_type.FirType.{FirType}
@@ -19,7 +19,6 @@ use Rattle.fir_meaning.specs.States.{leaf_of}
 use Rattle.fir_meaning.specs.WellTyped.{HasTypes}
 use Rattle.ground_net.specs.declared.circuit.GroundMemory.{GroundMemory}
 use Rattle.ground_net.specs.declared.net.ElementLeaf.{ElementLeaf}
-use Rattle.ground_net.specs.declared.net.NetPort.{NetPort}
 use Rattle.ground_of_circuit.specs.Numbers.{number_of, leaves_before, memory_parts}
 use Rattle.ground_of_circuit.specs.Lowering.{IsGroundMemory}
 use Rattle.ground_tables.specs.Parts.{component_part, parts_of}

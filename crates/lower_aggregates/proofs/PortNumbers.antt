@@ -1,5 +1,5 @@
 -- The numbers of a memory's ports are those of their leaves.
-use Rattle.std.proofs.Common.{◌≡◌, ℕ, zero, suc, ◌+◌, ◌<◌, Bool, true, false, List, [], ◌∷◌, ◌++◌, map, length, Option, Some, None, refl, sym, ap, ap₂, ◌∙◌, subst, arith, true≢false}
+use Rattle.std.proofs.Common.{◌≡◌, ℕ, zero, suc, ◌+◌, List, [], ◌∷◌, ◌++◌, map, length, Option, Some, None, refl, sym, ap, ap₂, ◌∙◌, subst, arith, true≢false}
 use Rattle.std.specs.List.{slice_get, range_with_len}
 use Rattle.std.proofs.lemmas.List.{length-map}
 use Rattle.place_text.specs.declared.place.Place.{Place}
@@ -11,7 +11,7 @@ use Rattle.fir_types.specs.declared.memory.Memory.{Memory}
 use Rattle.fir_types.specs.declared.memory.PortMode.{PortMode}
 use Rattle.fir_types.specs.declared.memory.PortMode.TheVariants as mode
 use Rattle.fir_types.specs.Leaves.{leaves}
-use Rattle.fir_types.specs.Bundles.{addr_name, en_name, clk_name, data_name, mask_name, rdata_name, wmode_name, wdata_name, wmask_name}
+use Rattle.fir_types.specs.Bundles.{addr_name, en_name, data_name, mask_name, rdata_name, wmode_name, wdata_name, wmask_name}
 use Rattle.fir_meaning.specs.Components.{TypedModule, Component, ports_bundle}
 use Rattle.fir_meaning.specs.MemoryPorts.{MemoryPort, memory_ports}
 use Rattle.fir_meaning.specs.States.{leaf_of}
@@ -20,7 +20,7 @@ use Rattle.ground_of_circuit.specs.Numbers.{number_of}
 use Rattle.ground_of_circuit.specs.Lowering.{AreOfField, IsGroundPort}
 use Rattle.lower_aggregates.specs.declared.memories.HowRead.{HowRead}
 use Rattle.lower_aggregates.specs.Memories.{reading_of, port_leaves, port_numbers, ports_from}
-use Rattle.lower_aggregates.proofs.PortLeaves.{ways, behind, mode_ways, port_ways, all_ways, memory_ways}
+use Rattle.lower_aggregates.proofs.PortLeaves.{ways, behind, port_ways, all_ways, memory_ways}
 
 some_same : {A : Type 0} {x y : A} → Some x ≡ Some y → x ≡ y
 some_same {A} {x} e = ap (or_first x) e

@@ -1,10 +1,9 @@
 -- The registers of a module, by their numbers.
-use Rattle.std.proofs.Common.{◌≡◌, ℕ, zero, suc, ◌+◌, ◌<◌, ◌≤◌, Bool, true, false, List, [], ◌∷◌, ◌++◌, map, filter_map, take, zip, length, Option, Some, None, refl, sym, ap, ap₂, ◌∙◌, subst, arith, true≢false, if◌then◌else◌, append_assoc, append-nil, ◌⊎◌, inl, inr, ⊎_elim}
+use Rattle.std.proofs.Common.{◌≡◌, ℕ, zero, suc, ◌+◌, ◌<◌, ◌≤◌, Bool, true, false, List, [], ◌∷◌, ◌++◌, map, filter_map, take, zip, length, Option, Some, None, refl, sym, ap, ap₂, ◌∙◌, subst, arith, if◌then◌else◌, ◌⊎◌, inl, inr, ⊎_elim}
 use Rattle.std.specs.List.{slice_get, flat_map, range_with_len, cons_option, sum_by}
 use Rattle.std.proofs.lemmas.Grind.{common_steps}
 use Rattle.std.proofs.lemmas.List.{map-append, length-map}
 use Rattle.std.proofs.lemmas.List.Concat.{flat_map-cons}
-use Rattle.std.proofs.lemmas.List.Elements.{filter_map-append}
 use Rattle.std.proofs.lemmas.List.Sums.{sum_by-cons}
 use Rattle.fir_types.specs.declared.leaf.TypeLeaf.{TypeLeaf}
 use Rattle.fir_types.specs.Leaves.{leaves}
@@ -15,7 +14,7 @@ use Rattle.ground_net.specs.declared.net.NetReset.{NetReset}
 use Rattle.ground_of_circuit.specs.Numbers.{ModuleLeaf, leaves_of}
 use Rattle.ground_exprs.specs.Sources.{Entries}
 use Rattle.ground_tables.specs.Parts.{Part, component_part, component_parts}
-use Rattle.lower_aggregates.specs.Registers.{AreFirst, AreOwnBy, AreOwn, AreRegisters, HasResetBy, RegisterAt, PlainReset, ResetTo}
+use Rattle.lower_aggregates.specs.Registers.{AreFirst, AreOwnBy, AreRegisters, HasResetBy, RegisterAt, PlainReset, ResetTo}
 
 some_same : {A : Type 0} {x y : A} → Some x ≡ Some y → x ≡ y
 some_same {A} {x} e = ap (or_first x) e

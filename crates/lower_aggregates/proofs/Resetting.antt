@@ -1,5 +1,5 @@
 -- The reset and the `init` of a register's leaf are those of the text.
-use Rattle.std.proofs.Common.{◌≡◌, ℕ, zero, suc, ◌≤◌, ◌&&◌, min, Bool, true, false, List, [], ◌∷◌, ◌++◌, map, length, ℤ, pos, Option, Some, None, refl, sym, ap, ap₂, ◌∙◌, subst, arith, true≢false, append-nil}
+use Rattle.std.proofs.Common.{◌≡◌, ℕ, zero, suc, min, true, false, List, [], ◌∷◌, map, pos, Option, Some, None, refl, sym, ap, ap₂, ◌∙◌, subst, arith, append-nil}
 use Rattle.std.specs.Prelude.{Contains}
 use Rattle.std.specs.List.{slice_get}
 use Rattle.std.proofs.lemmas.Grind.{common_steps}
@@ -14,7 +14,7 @@ use Rattle.fir_tree.specs.declared.circuit.Module.{Module}
 use Rattle.fir_tree.specs.declared.expr.Expr.{Expr}
 use Rattle.cycle_values.specs.Values.{fitted, lone}
 use Rattle.cycle_values.specs.Values.{is_one as is_one_value}
-use Rattle.fir_meaning.specs.Components.{TypedModule, Component, Leaf, A_reset_register, kind_of_leaf, width_of_leaf, type_in}
+use Rattle.fir_meaning.specs.Components.{TypedModule, Component, Leaf, kind_of_leaf, width_of_leaf, type_in}
 use Rattle.fir_meaning.specs.States.{is_register, leaf_of}
 use Rattle.fir_meaning.specs.Values as tree
 use Rattle.fir_meaning.specs.Values.{whole, beside, fitted_to}
@@ -22,19 +22,17 @@ use Rattle.fir_meaning.specs.Drives.{left_in, set_at, setting, of_orientation}
 use Rattle.fir_meaning.specs.Mentions as tree_reads
 use Rattle.fir_meaning.specs.Mentions.{whole_region}
 use Rattle.fir_meaning.specs.Loops.{driven_from}
-use Rattle.fir_meaning.specs.WellTyped.{HasTypes, leaf_shape, is_condition, is_one_unsigned, typed}
-use Rattle.ground_net.specs.declared.ground.Ground.{Ground}
-use Rattle.ground_net.specs.declared.ground.Ground.TheVariants.{Const}
+use Rattle.fir_meaning.specs.WellTyped.{HasTypes, leaf_shape, is_condition, is_one_unsigned}
 use Rattle.ground_net.specs.declared.net.NetReset.{NetReset}
 use Rattle.ground_net.specs.Grounds.{Sight, value, mentions}
 use Rattle.ground_net.proofs.Layers.{value-Const, mentions-Const}
-use Rattle.net_meaning.specs.Shapes.{Shape, shaped, Table, HasShapes, shape, shape_of_value, is_unsigned}
+use Rattle.net_meaning.specs.Shapes.{shaped, Table, HasShapes, shape, shape_of_value, is_unsigned}
 use Rattle.net_meaning.proofs.Shaping.{shape-Const}
 use Rattle.ground_of_circuit.specs.Numbers.{number_of, scene_at, SameReads}
 use Rattle.ground_of_circuit.specs.Lowering.{IsReset}
 use Rattle.ground_parts.specs.Numbers.{Numbering, SameLeaves}
 use Rattle.ground_exprs.specs.declared.source.Source.{Source}
-use Rattle.ground_exprs.specs.Sources.{Entries, Knows, AreSources, ReadEach, IsLowered, IsFitted, known_of, told, source_values}
+use Rattle.ground_exprs.specs.Sources.{Entries, Knows, AreSources, ReadEach, IsLowered, known_of, told}
 use Rattle.lower_aggregates.specs.Registers.{IsInit}
 use Rattle.lower_aggregates.proofs.Setting.{one_set, one_picked, beside_at, beside_leaf, or_other, picked, IsOnlyAt}
 

@@ -1,6 +1,6 @@
 -- What is set in one leaf of a component whose leaves stand at different ways: what stands beside it.
-use Rattle.std.proofs.Common.{◌≡◌, ◌≢◌, ℕ, zero, suc, ◌<◌, ◌==◌, ◌&&◌, not, Bool, true, false, List, [], ◌∷◌, ◌++◌, map, filter, filter_map, length, ℤ, Option, Some, None, refl, sym, ap, ap₂, ◌∙◌, subst, arith, true≢false, if◌then◌else◌, append-nil}
-use Rattle.std.specs.List.{slice_get, list_any, cons_option}
+use Rattle.std.proofs.Common.{◌≡◌, ◌≢◌, ℕ, zero, suc, ◌==◌, ◌&&◌, not, Bool, true, false, List, [], ◌∷◌, map, filter_map, ℤ, Option, Some, None, refl, sym, ap, ap₂, ◌∙◌, arith, true≢false, if◌then◌else◌}
+use Rattle.std.specs.List.{slice_get, cons_option}
 use Rattle.std.proofs.lemmas.Grind.{common_steps}
 use Rattle.std.proofs.lemmas.Bool.{eqb-true}
 use Rattle.bit_words.specs.declared.value.Value.{Value}
@@ -9,11 +9,9 @@ use Rattle.fir_types.specs.declared.leaf.TypeLeaf.{TypeLeaf}
 use Rattle.fir_types.specs.declared.leaf.PathStep.{PathStep}
 use Rattle.fir_types.specs.declared.leaf.PathStep.TheVariants as step
 use Rattle.fir_types.specs.declared.fir_type.FirType.{FirType}
-use Rattle.fir_types.specs.Leaves.{leaves}
 use Rattle.fir_meaning.specs.Components.{Leaf}
 use Rattle.fir_meaning.specs.Values.{fitted_to, beside}
-use Rattle.fir_meaning.specs.Drives.{Setting, same_step, same_way, same_leaf, setting, is_turned, of_orientation, left_in}
-use Rattle.fir_meaning.specs.Mentions.{Region}
+use Rattle.fir_meaning.specs.Drives.{Setting, same_step, same_way, same_leaf, setting, of_orientation, left_in}
 use Rattle.fir_meaning.specs.Certain.{may_be}
 
 some_same : {A : Type 0} {x y : A} → Some x ≡ Some y → x ≡ y

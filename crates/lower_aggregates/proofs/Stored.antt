@@ -1,7 +1,7 @@
 -- The leaves of a memory's elements, as its first port shows them.
-use Rattle.std.proofs.Common.{◌≡◌, ◌≢◌, ℕ, zero, suc, ◌==◌, Bool, true, false, List, [], ◌∷◌, ◌++◌, map, filter_map, drop, length, Option, Some, None, refl, sym, ap, ap₂, ◌∙◌, subst, arith, append_assoc, if◌then◌else◌}
+use Rattle.std.proofs.Common.{◌≡◌, ℕ, zero, suc, ◌==◌, Bool, true, false, List, [], ◌∷◌, ◌++◌, map, filter_map, drop, Some, None, refl, sym, ap, ap₂, ◌∙◌, subst, arith, append_assoc, if◌then◌else◌}
 use Rattle.std.specs.Prelude.{Contains}
-use Rattle.std.specs.List.{flat_map, cons_option}
+use Rattle.std.specs.List.{flat_map}
 use Rattle.std.proofs.lemmas.Grind.{common_steps}
 use Rattle.std.proofs.lemmas.List.{map-append}
 use Rattle.std.proofs.lemmas.List.Concat.{flat_map-cons}
@@ -10,7 +10,6 @@ use Rattle.fir_types.specs.declared.name.Name.{Name}
 use Rattle.fir_types.specs.declared.fir_type.FirType.{FirType, the_lemmas}
 use Rattle.fir_types.specs.declared.fir_type.Field.{Field}
 use Rattle.fir_types.specs.declared.leaf.TypeLeaf.{TypeLeaf}
-use Rattle.fir_types.specs.declared.leaf.PathStep.{PathStep}
 use Rattle.fir_types.specs.declared.leaf.PathStep.TheVariants as step
 use Rattle.fir_types.specs.declared.memory.Memory.{Memory}
 use Rattle.fir_types.specs.declared.memory.MemLine.{MemLine}
@@ -18,14 +17,13 @@ use Rattle.fir_types.specs.declared.memory.MemLine.TheVariants as line
 use Rattle.fir_types.specs.declared.memory.PortMode.{PortMode}
 use Rattle.fir_types.specs.declared.memory.PortMode.TheVariants as mode
 use Rattle.fir_types.specs.Leaves.{leaves, under, field_leaves}
-use Rattle.fir_types.specs.Memories.{element_of, depth_of}
+use Rattle.fir_types.specs.Memories.{depth_of}
 use Rattle.fir_types.specs.Bundles.{address_bits, addr_name, en_name, clk_name, data_name, mask_name, rdata_name, wmode_name, wdata_name, wmask_name, plain_field, flipped_field, uint_at, clock_at, mask_of, fields_of_mode, port_type, port_field}
 use Rattle.fir_types.proofs.Layers.{leaves-bundle, leaves-field}
 use Rattle.leaf_names.specs.LeafNames.{Texts}
 use Rattle.fir_meaning.specs.Components.{ports_bundle, width_of_leaf}
-use Rattle.fir_meaning.specs.MemoryPorts.{MemoryPort, port_in, memory_ports}
-use Rattle.lower_aggregates.specs.Elements.{ElementRow, own_row, row_at, row_before, rows_while, way_behind}
-use Rattle.lower_aggregates.specs.Memories.{shown_field, mode_of_first, first_mode_of, stored_by, stored}
+use Rattle.lower_aggregates.specs.Elements.{own_row, row_before, rows_while, way_behind}
+use Rattle.lower_aggregates.specs.Memories.{shown_field, first_mode_of, stored_by, stored}
 
 -- none of the leaves is of the field, up to the first one that begins another port
 abbrev Differs : ℕ → List TypeLeaf → Type 0

@@ -1,5 +1,5 @@
 -- The registers and instances of a module are those of its ground module.
-use Rattle.std.proofs.Common.{◌≡◌, ℕ, zero, suc, ◌+◌, ◌&&◌, Bool, true, false, List, [], ◌∷◌, ◌++◌, map, take, length, Option, Some, None, refl, sym, ap, ap₂, ◌∙◌, subst, arith, true≢false}
+use Rattle.std.proofs.Common.{◌≡◌, ℕ, zero, suc, ◌+◌, ◌&&◌, Bool, true, false, List, [], ◌∷◌, ◌++◌, map, take, length, Option, Some, None, refl, sym, ap, ◌∙◌, subst, arith, true≢false}
 use Rattle.std.specs.Prelude.{Contains, nat_eq}
 use Rattle.std.specs.Map.{lookup}
 use Rattle.std.specs.List.{slice_get, flat_map, sum_by, list_all}
@@ -11,10 +11,9 @@ use Rattle.fir_types.specs.declared.leaf.TypeLeaf.{TypeLeaf}
 use Rattle.fir_types.specs.Leaves.{leaves}
 use Rattle.fir_tree.specs.declared.circuit.Circuit.{Circuit}
 use Rattle.fir_tree.specs.declared.circuit.Module.{Module}
-use Rattle.fir_tree.specs.declared.expr.Expr.{Expr}
 use Rattle.leaf_names.specs.LeafNames.{Texts}
 use Rattle.fir_names.specs.Scopes.{Means}
-use Rattle.fir_meaning.specs.Components.{TypedModule, Component, Declaration, Sort, An_input, An_output, A_wire, A_register, A_reset_register, A_memory, An_instance, A_node, declarations_of, type_in}
+use Rattle.fir_meaning.specs.Components.{TypedModule, Component, Sort, An_input, An_output, A_wire, A_register, A_reset_register, A_memory, An_instance, A_node, type_in}
 use Rattle.fir_meaning.specs.States.{is_register}
 use Rattle.fir_meaning.specs.WellTyped.{HasTypes, are_typed, is_condition, is_typed}
 use Rattle.ground_net.specs.declared.circuit.GroundInstance.{GroundInstance}
@@ -26,7 +25,7 @@ use Rattle.ground_exprs.specs.Sources.{Entries, Knows, known_of}
 use Rattle.ground_tables.specs.Headings.{Heading, heading_of, headings_of}
 use Rattle.ground_tables.specs.Parts.{parts_of}
 use Rattle.ground_tables.proofs.Listing.{headings_are}
-use Rattle.lower_aggregates.specs.Registers.{AreRegisters, HasResetBy, RegisterAt, is_typed_sort}
+use Rattle.lower_aggregates.specs.Registers.{AreRegisters, HasResetBy, is_typed_sort}
 use Rattle.lower_aggregates.specs.Instances.{Numbers, instance_row, instances_from}
 use Rattle.lower_aggregates.proofs.RegisterLists.{register_at}
 use Rattle.lower_aggregates.proofs.Resetting.{reset_is}

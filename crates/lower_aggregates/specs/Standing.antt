@@ -1,5 +1,5 @@
 -- Where the memories and instances of a module stand among its components.
-use Rattle.std.specs.Prelude.{◌≡◌, ℕ, ◌+◌, List, filter_map, zip, take, length, slice_get, sum_by, nat_eq, Option, Some, option_map}
+use Rattle.std.specs.Prelude.{◌≡◌, ℕ, ◌+◌, List, filter_map, zip, take, length, slice_get, sum_by, nat_eq, Some, option_map}
 use Rattle.std.specs.Map.{lookup}
 use Rattle.std.specs.List.{range_with_len}
 use Rattle.fir_types.specs.declared.memory.Memory.{Memory}

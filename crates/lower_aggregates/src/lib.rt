@@ -1,4 +1,4 @@
-//! Modules as ground statements over numbered leaves: their registers, memories and instances.
+//! Circuits as ground statements over numbered leaves: modules with their registers, memories and instances.
 #![tactic(auto)]
 
 pub mod instances;

@@ -9,19 +9,12 @@ ghost use Rattle.ground_tables.specs.Headings.{headings_of};
 ghost use Rattle.lower_aggregates.specs.Modules.{IsLowerable};
 
 use crate::instances::instances_of;
-use crate::laws::{
-    instances_are_those_of_modules, memories_and_instances_stand_in_order, memories_are_those_of_modules,
-    registers_are_numbered, registers_have_their_resets, resets_are_typed,
-};
 use crate::memories::memories_of;
 use crate::registers::registers_of;
-use circuit_laws::laws::names_are_declared_once;
 use fir_tree::{Module, Names};
 use fir_types::FirType;
-use ground_bodies::laws::{views_know_their_modules, whole_bodies_are_those_of_modules};
 use ground_bodies::lower_body;
 use ground_net::GroundModule;
-use ground_tables::laws::{pieces_are_components, pieces_are_known_by_name, tables_list_leaves};
 use ground_tables::pieces_of;
 use ground_tables::table::{leaf_table, port_leaves, settable_leaves};
 use ground_tables::view::components_of;
@@ -40,18 +33,6 @@ pub fn lower_module(
     requires stands { (circuit : ACircuit) × (scope : AScope) × (m : TypedModule) × IsLowerable circuit scope numbers.now.entries holder.now types.now m }
     ensures { (circuit : ACircuit) (scope : AScope) (m : TypedModule) → IsLowerable circuit scope numbers.now.entries holder.now types.now m → IfOk result (λ made. IsGroundModule names.now circuit m made) }
 {
-    names_are_declared_once();
-    pieces_are_components();
-    pieces_are_known_by_name();
-    tables_list_leaves();
-    views_know_their_modules();
-    whole_bodies_are_those_of_modules();
-    resets_are_typed();
-    registers_are_numbered();
-    registers_have_their_resets();
-    memories_and_instances_stand_in_order();
-    memories_are_those_of_modules();
-    instances_are_those_of_modules();
     let pieces = pieces_of(alloc, holder, types)?;
     let known = components_of(alloc, pieces.as_slice())?;
     let settable = settable_leaves(alloc, pieces.as_slice())?;

@@ -1,5 +1,4 @@
 use Rattle.std.proofs.Common.{sym, ap}
-use Rattle.fir_types.specs.declared.memory.Under.TheVariants.{Undefined}
 use Rattle.fir_types.specs.Memories.{read_latency_in}
 use Rattle.fir_types.proofs.Lines.{first_line, none_more}
 use Rattle.lower_aggregates.proofs.Porting.{not_latency}

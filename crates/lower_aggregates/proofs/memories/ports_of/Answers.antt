@@ -1,4 +1,4 @@
-use Rattle.std.proofs.Common.{arith, rules, subst, sym}
+use Rattle.std.proofs.Common.{arith}
 use Rattle.std.proofs.lemmas.Grind.{common_steps}
 use Rattle.lower_aggregates.specs.Memories.{reading_of}
 use Rattle.lower_aggregates.proofs.Porting.{ports_more}

@@ -1,9 +1,8 @@
-use Rattle.std.proofs.Common.{◌≡◌, ◌∙◌, refl, ap, sym, subst, length, get_or, arith, List, Some}
-use Rattle.fir_types.specs.declared.leaf.TypeLeaf.{TypeLeaf}
+use Rattle.std.proofs.Common.{◌≡◌, ◌∙◌, refl, ap, sym, subst, length, arith}
 use Rattle.fir_types.specs.Leaves.{leaves}
 use Rattle.ground_tables.specs.Held.{held_part}
-use Rattle.lower_aggregates.specs.Registers.{AreFirst, PlainReset, ResetTo}
-use Rattle.lower_aggregates.proofs.Registering.{first_none, first_more, item_is, reset_there}
+use Rattle.lower_aggregates.specs.Registers.{AreFirst, PlainReset}
+use Rattle.lower_aggregates.proofs.Registering.{first_none, first_more}
 use Rattle.lower_aggregates.proofs.registers.plain_registers.Goals as goal
 
 pub loop-at-init : goal.loop-at-init
