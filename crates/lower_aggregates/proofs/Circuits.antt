@@ -1,6 +1,6 @@
 -- Modules and their numbers, one after another.
 use Rattle.std.proofs.Common.{◌≡◌, ◌≢◌, ℕ, zero, suc, ◌+◌, ◌-◌, ◌<◌, ◌≤◌, Bool, true, false, List, [], ◌∷◌, ◌++◌, map, zip, length, take, drop, get_or, slice_get, refl, sym, ap, ◌∙◌, subst, if◌then◌else◌, arith, true≢false}
-use Rattle.std.specs.Prelude.{is_some, cond, nat_eq, Option, Some, None, Contains, sum_by, ◌^◌, ◌↔◌, All}
+use Rattle.std.specs.Prelude.{is_some, cond, nat_eq, Option, Some, None, sum_by, ◌^◌, ◌↔◌, All}
 use Rattle.std.specs.Map.{lookup}
 use Rattle.std.proofs.lemmas.List.{take_more, length-take-le, drop_more, drop-drop, length-drop}
 use Rattle.std.proofs.lemmas.List.Sums.{sum_by-cons}
@@ -8,15 +8,13 @@ use Rattle.std.proofs.lemmas.Bool.{eqb-true, eqb-false}
 use Rattle.std.proofs.lemmas.Option.{slice_get-get_or}
 use Rattle.fir_types.specs.declared.name.Name.{Name}
 use Rattle.fir_types.specs.declared.fir_type.FirType.{FirType}
-use Rattle.fir_types.specs.declared.memory.Memory.{Memory}
-use Rattle.fir_types.specs.Leaves.{leaves}
 use Rattle.fir_tree.specs.declared.circuit.Module.{Module}
 use Rattle.fir_tree.specs.declared.circuit.Circuit.{Circuit}
 use Rattle.fir_tree.specs.declared.scope.Fitted.{Fitted}
 use Rattle.fir_names.specs.Scopes.{texts, module_names, FirstOf, Means}
 use Rattle.fir_names.specs.Finds.{numbered}
 use Rattle.fir_names.proofs.Graphs.{some_same, In-get}
-use Rattle.fir_meaning.specs.Components.{TypedModule, Component, A_memory, An_instance, declarations_of, with_types, modules_of, design_of, module_named, module_at, ports_bundle}
+use Rattle.fir_meaning.specs.Components.{TypedModule, declarations_of, with_types, modules_of, design_of, module_named, module_at}
 use Rattle.fir_meaning.proofs.Tracking.{none_some}
 use Rattle.circuit_laws.specs.WellFormed.{IsWellFormed}
 use Rattle.ground_net.specs.declared.circuit.GroundModule.{GroundModule}

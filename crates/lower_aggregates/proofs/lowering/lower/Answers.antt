@@ -1,4 +1,4 @@
-use Rattle.std.proofs.Common.{rules, map, subst}
+use Rattle.std.proofs.Common.{map, subst}
 use Rattle.lower_aggregates.specs.Circuits.{IsPlaced}
 use Rattle.lower_aggregates.proofs.Circuits.{placed_known, placed_means, all_short}
 use Rattle.lower_aggregates.proofs.lowering.lower.Goals as goal

@@ -1,4 +1,4 @@
-use Rattle.std.proofs.Common.{rules, ◌≡◌, ◌∙◌, ap, sym, subst, get_or, slice_get, Some, true, List, ℕ}
+use Rattle.std.proofs.Common.{rules, ◌≡◌, ◌∙◌, ap, subst, get_or, slice_get, Some, true, List}
 use Rattle.fir_tree.specs.declared.circuit.Module.{Module}
 use Rattle.lower_aggregates.proofs.Circuits.{lowerable, one_lowerable, enough}
 use Rattle.lower_aggregates.proofs.lowering.lower_at.Goals as goal

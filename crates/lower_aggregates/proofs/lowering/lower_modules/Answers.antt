@@ -1,4 +1,4 @@
-use Rattle.std.proofs.Common.{rules, ◌≡◌, ◌∙◌, ◌<◌, ap, sym, subst, get_or, length, List, ℕ}
+use Rattle.std.proofs.Common.{rules, ◌≡◌, ◌∙◌, ◌<◌, ap, sym, subst, get_or, length, List}
 use Rattle.fir_tree.specs.declared.circuit.Module.{Module}
 use Rattle.lower_aggregates.specs.Circuits.{AreMade}
 use Rattle.lower_aggregates.proofs.Circuits.{stands_next, made_more, long_more}
