@@ -10,5 +10,6 @@ pub mod PortNumbers
 pub mod Together
 pub mod Stored
 pub mod MemoryLists
+pub mod Circuits
 pub mod Unported
 pub mod Assembling

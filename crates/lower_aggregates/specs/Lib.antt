@@ -4,3 +4,4 @@ pub mod Memories
 pub mod Instances
 pub mod Standing
 pub mod Modules
+pub mod Circuits
