@@ -7,3 +7,5 @@ pub mod lowering;
 pub mod memories;
 pub mod modules;
 pub mod registers;
+
+pub use lowering::lower;
