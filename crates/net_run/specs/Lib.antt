@@ -1,3 +1,4 @@
 pub mod Seeing
 pub mod Keeping
 pub mod Advancing
+pub mod Writing

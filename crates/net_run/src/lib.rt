@@ -8,6 +8,7 @@ pub mod evaluating;
 pub mod kept;
 pub mod seen;
 pub mod settling;
+pub mod writing;
 
 pub use advancing::registers_after;
 pub use beginning::begin;
