@@ -2,3 +2,4 @@ mod Forms
 mod Steps
 mod Zeros
 mod Nexts
+mod Writes

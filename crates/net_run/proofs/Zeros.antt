@@ -96,7 +96,7 @@ get_before [] ys i less = absurd (omega (arith, less))
 get_before (x ∷ xs) ys zero less = refl
 get_before (x ∷ xs) ys (suc i) less = get_before xs ys i (omega (arith, less))
 
-one_row : (n l : ℕ) → n * l + l ≡ (n + 1) * l
+pub one_row : (n l : ℕ) → n * l + l ≡ (n + 1) * l
 one_row n l = grind (arith, common_steps)
 
 pub element_more : (memory : NetMemory) (n : ℕ) (held after : List Value) → AreZeros memory n held → after ≡ held ++ zero_element memory → AreZeros memory (n + 1) after

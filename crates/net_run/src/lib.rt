@@ -4,6 +4,7 @@
 
 pub mod advancing;
 pub mod beginning;
+pub mod capturing;
 pub mod evaluating;
 pub mod kept;
 pub mod seen;
