@@ -3,3 +3,5 @@ mod Steps
 mod Zeros
 mod Nexts
 mod Writes
+mod Captures
+mod Advances

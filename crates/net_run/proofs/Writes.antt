@@ -176,7 +176,7 @@ module _ (net : Net) (s : NetState) (values : List Value) (kept_contents : List 
         by_test false e = c
     written_by (Some write) h false address contents held c = c
 
-    address_is : (x : ℕ) → IsUnsigned net x → (value_at values x).bits ≡ unsigned_abs (integer_of (value_at values x))
+    pub address_is : (x : ℕ) → IsUnsigned net x → (value_at values x).bits ≡ unsigned_abs (integer_of (value_at values x))
     address_is x u =
         let v = value_at values x in
         let shape_is : shape_of_value v ≡ leaf_shape u.leaf = seen_here.leaf x (leaf_shape u.leaf) (ap (option_map leaf_shape) u.there) in

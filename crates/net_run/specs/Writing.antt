@@ -1,5 +1,5 @@
 -- What the ports of a memory write, as lists of values.
-use Rattle.std.specs.Prelude.{ℕ, zero, suc, ◌+◌, ◌*◌, ◌&&◌, nat_lt, Bool, List, fold, length, slice_get, Option, Some, None, option_map, if◌then◌else◌}
+use Rattle.std.specs.Prelude.{ℕ, zero, suc, ◌+◌, ◌*◌, ◌&&◌, nat_lt, Bool, List, fold, map, zip, length, slice_get, Option, Some, None, option_map, if◌then◌else◌}
 use Rattle.bit_words.specs.declared.value.Value.{Value}
 use Rattle.cycle_values.specs.Values.{is_one}
 use Rattle.cycle_values.specs.Ports.{set_to_write}
@@ -36,3 +36,10 @@ over_port memory values held port = put_element memory values port.write (is_set
 
 abbrev pub over_ports : NetMemory → List Value → List NetPort → List Value → List Value
 over_ports memory values ports held = fold (over_port memory values) held ports
+
+-- What the memories hold after all writes.
+abbrev pub memory_over : List Value → NetMemory × List Value → List Value
+memory_over values both = over_ports both.0 values both.0.ports both.1
+
+abbrev pub contents_over : List NetMemory → List Value → List (List Value) → List (List Value)
+contents_over memories values contents = map (memory_over values) (zip memories contents)

@@ -11,7 +11,7 @@ pub mod seen;
 pub mod settling;
 pub mod writing;
 
-pub use advancing::registers_after;
+pub use advancing::{advance, registers_after};
 pub use beginning::begin;
 pub use evaluating::evaluate;
 pub use kept::Kept;

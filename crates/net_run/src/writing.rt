@@ -1,16 +1,46 @@
 //! What the ports of memories write.
 
-ghost use Rattle.std.specs.Prelude.{◌≡◌, ◌+◌, ◌*◌, length, slice_get};
+ghost use Rattle.std.specs.Prelude.{◌≡◌, ◌+◌, ◌*◌, IfOk, length, slice_get};
 ghost use Rattle.net_run.specs.Keeping.{put_driven};
-ghost use Rattle.net_run.specs.Writing.{written_value, put_leaves, is_set_to_write as is_set, over_port, over_ports};
+ghost use Rattle.net_run.specs.Writing.{written_value, put_leaves, is_set_to_write as is_set, over_port, over_ports, contents_over};
 
 use crate::evaluating::holds;
 use crate::seen::value_at;
-use bit_words::Value;
-use ground_net::{NetMemory, NetPort, NetWrite};
+use bit_words::{List, Value};
+use ground_net::{Net, NetMemory, NetPort, NetWrite};
+use std::alloc::{AllocError, Global};
+
+/// What the memories hold after the writes.
+pub fn contents_after(
+    alloc: Global,
+    net: &Net,
+    values: &[Value],
+    contents: List<List<Value>>,
+) -> Result<List<List<Value>>, AllocError>
+    ensures { IfOk result (λ after. after ≡ contents_over net.now.memories values.now contents) }
+{
+    let mut after = Vec::new(alloc);
+    let mut rest = contents.into_vec().into_iter();
+    for memory in net.memories.as_slice() {
+        let Some(held) = rest.next() else {
+            break;
+        };
+        after.push(memory_after(memory, values, held))?;
+    }
+    Ok(List::from_vec(after))
+}
+
+/// What a memory holds after the writes.
+fn memory_after(memory: &NetMemory, values: &[Value], held: List<Value>) -> List<Value>
+    ensures { result ≡ over_ports memory.now values.now memory.now.ports held }
+{
+    let mut held = held.into_vec();
+    write_ports(memory, values, &mut held);
+    List::from_vec(held)
+}
 
 /// Writes what the ports of a memory write, in declared order.
-pub fn write_ports(memory: &NetMemory, values: &[Value], held: &mut Vec<Value>)
+fn write_ports(memory: &NetMemory, values: &[Value], held: &mut Vec<Value>)
     ensures { held.new.items ≡ over_ports memory.now values.now memory.now.ports held.old.items }
 {
     for port in memory.ports.as_slice() {
