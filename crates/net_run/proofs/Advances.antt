@@ -1,5 +1,5 @@
 -- What is kept after a cycle stands for the next state.
-use Rattle.std.proofs.Common.{◌≡◌, ℕ, zero, suc, ◌<◌, List, [], ◌∷◌, refl, sym, ap, ◌∙◌, arith, subst, slice_get, get_or, length, Some, None, true, false}
+use Rattle.std.proofs.Common.{◌≡◌, ℕ, zero, suc, List, [], ◌∷◌, refl, sym, ap, ◌∙◌, arith, subst, slice_get, get_or, length, Some, None, true, false}
 use Rattle.std.proofs.lemmas.Option.{get_or_from_slice_get, slice_get_within}
 use Rattle.bit_words.specs.declared.value.Value.{Value}
 use Rattle.ground_net.specs.declared.net.Net.{Net}

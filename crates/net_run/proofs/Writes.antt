@@ -18,7 +18,7 @@ use Rattle.ground_net.specs.declared.net.NetWrite.{NetWrite}
 use Rattle.ground_net.specs.declared.net.ElementLeaf.{ElementLeaf}
 use Rattle.ground_net.specs.Grounds.{Sight}
 use Rattle.net_meaning.specs.Shapes.{Shape, shape_of_value}
-use Rattle.net_meaning.specs.Nets.{IsPort, IsUnsigned, AreElements, table_of, leaf_shape, element_shape}
+use Rattle.net_meaning.specs.Nets.{IsPort, IsUnsigned, AreElements, leaf_shape, element_shape}
 use Rattle.net_meaning.specs.Cycles.{NetState, sight_of, is_set_at, integer_at, shown, where_it_writes, written_leaf, mask_leaf}
 use Rattle.net_meaning.proofs.Settling.{le_split, get_there}
 use Rattle.net_run.specs.Seeing.{AreSeen, value_at}
@@ -160,7 +160,7 @@ module _ (net : Net) (s : NetState) (values : List Value) (kept_contents : List 
     put_all : (held : List Value) → AreContents memory contents held → AreContents memory changed (put_leaves values write address many many held)
     put_all held c =
         let p = puts many (omega arith) held c in
-        record { counted = p.long; each = λ element k leaf less there. p.done element k leaf less there (slice_get_within memory.elements k leaf there); }
+        record { counted = p.long; each = λ element k leaf less there. p.done element k leaf less there (slice_get_within memory.elements k leaf there) }
 
   module _ (memory : NetMemory) where
     written_by : (o : Option NetWrite) → ((write : NetWrite) → o ≡ Some write → AreElements net memory write.leaves) → (set : Bool) (address : ℕ) (contents : Held ℕ) (held : List Value) → AreContents memory contents held

@@ -1,5 +1,5 @@
 -- What captured reads take, as lists of values.
-use Rattle.std.specs.Prelude.{ℕ, zero, suc, ◌+◌, ◌*◌, ◌&&◌, nat_lt, true, false, Bool, List, [], ◌∷◌, ◌++◌, flat_map, length, get_or, slice_get, Option, Some, None, option_map, if◌then◌else◌}
+use Rattle.std.specs.Prelude.{ℕ, zero, suc, ◌+◌, ◌*◌, ◌&&◌, nat_lt, Bool, List, [], ◌∷◌, ◌++◌, flat_map, length, get_or, slice_get, Option, Some, None, option_map, if◌then◌else◌}
 use Rattle.bit_words.specs.declared.value.Value.{Value}
 use Rattle.cycle_values.specs.Values.{is_one, lone}
 use Rattle.cycle_values.specs.Ports.{set_to_read}

@@ -22,12 +22,7 @@ use ground_net::{Net, NetRegister};
 use std::alloc::{AllocError, Global};
 
 /// What is kept after a cycle that began with what is kept and in which these values settled.
-pub fn advance(
-    alloc: Global,
-    net: &Net,
-    kept: Kept,
-    values: &[Value],
-) -> Result<Kept, AllocError>
+pub fn advance(alloc: Global, net: &Net, kept: Kept, values: &[Value]) -> Result<Kept, AllocError>
     requires net { IsNet net.now }
     requires seen { AreSeen net.now values.now kept.contents }
     ensures { (s : NetState) → IsKept net.now s kept → IfOk result (λ after. IsKept net.now (next net.now s (sight_of net.now s (value_in values.now))) after) }

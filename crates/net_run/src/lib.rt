@@ -1,5 +1,5 @@
-//! A plain run of a net: what is kept before the first cycle, the values that settle in a cycle, and what the registers hold after it.
-//! Keeps the contract that the values are settled, and that what is kept stands for a state.
+//! A plain run of a net: what is kept before the first cycle, the values that settle in a cycle, and what is kept after it.
+//! Keeps the contract that the values are settled, and that what is kept stands for the next state.
 #![tactic(auto)]
 
 pub mod advancing;
