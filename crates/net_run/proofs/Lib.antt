@@ -2,3 +2,6 @@ mod Forms
 mod Steps
 mod Zeros
 mod Nexts
+mod Writes
+mod Captures
+mod Advances

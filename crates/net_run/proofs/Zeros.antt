@@ -20,11 +20,11 @@ use Rattle.net_meaning.specs.Cycles.{Capture, captures, captured_by, first_state
 use Rattle.net_run.specs.declared.kept.Kept.{Kept}
 use Rattle.net_run.specs.Keeping.{IsKept, AreZeros, AreZeroMemories, zero_of, zeros_at, captured_of, zeros_of_ports, first_registers, first_captured, zero_element}
 
-map_flat_map : {A B C : Type 0} (f : B → C) (g : A → List B) (xs : List A) → map f (flat_map g xs) ≡ flat_map (λ x. map f (g x)) xs
+pub map_flat_map : {A B C : Type 0} (f : B → C) (g : A → List B) (xs : List A) → map f (flat_map g xs) ≡ flat_map (λ x. map f (g x)) xs
 map_flat_map f g [] = refl
 map_flat_map f g (x ∷ xs) = map-append f (g x) (flat_map g xs) ∙ ap (λ l. map f (g x) ++ l) (map_flat_map f g xs)
 
-same_flat_map : {A B : Type 0} (f g : A → List B) → ((x : A) → f x ≡ g x) → (xs : List A) → flat_map f xs ≡ flat_map g xs
+pub same_flat_map : {A B : Type 0} (f g : A → List B) → ((x : A) → f x ≡ g x) → (xs : List A) → flat_map f xs ≡ flat_map g xs
 same_flat_map f g h [] = refl
 same_flat_map f g h (x ∷ xs) = ap₂ (λ l m. l ++ m) (h x) (same_flat_map f g h xs)
 
@@ -96,7 +96,7 @@ get_before [] ys i less = absurd (omega (arith, less))
 get_before (x ∷ xs) ys zero less = refl
 get_before (x ∷ xs) ys (suc i) less = get_before xs ys i (omega (arith, less))
 
-one_row : (n l : ℕ) → n * l + l ≡ (n + 1) * l
+pub one_row : (n l : ℕ) → n * l + l ≡ (n + 1) * l
 one_row n l = grind (arith, common_steps)
 
 pub element_more : (memory : NetMemory) (n : ℕ) (held after : List Value) → AreZeros memory n held → after ≡ held ++ zero_element memory → AreZeros memory (n + 1) after

@@ -11,13 +11,34 @@ ghost use Rattle.net_run.specs.Seeing.{AreSeen, seen, value_at as value_in};
 ghost use Rattle.net_run.specs.Keeping.{IsKept};
 ghost use Rattle.net_run.specs.Advancing.{AreNext, AreRegisters, driven_value, next_value};
 
+use crate::capturing::{both_taken, taken};
 use crate::evaluating::{evaluate, holds};
 use crate::kept::Kept;
 use crate::seen::{Seen, zero};
 use crate::settling::driven;
+use crate::writing::contents_after;
 use bit_words::{Kind, List, Value};
 use ground_net::{Net, NetRegister};
 use std::alloc::{AllocError, Global};
+
+/// What is kept after a cycle that began with what is kept and in which these values settled.
+pub fn advance(alloc: Global, net: &Net, kept: Kept, values: &[Value]) -> Result<Kept, AllocError>
+    requires net { IsNet net.now }
+    requires seen { AreSeen net.now values.now kept.contents }
+    ensures { (s : NetState) → IsKept net.now s kept → IfOk result (λ after. IsKept net.now (next net.now s (sight_of net.now s (value_in values.now))) after) }
+{
+    let registers = registers_after(alloc, net, &kept, values)?;
+    let before = kept.contents;
+    let old = taken(alloc, net, values, before.as_slice(), false)?;
+    let contents = contents_after(alloc, net, values, before)?;
+    let new = taken(alloc, net, values, contents.as_slice(), true)?;
+    let captured = both_taken(alloc, old.as_slice(), new.as_slice())?;
+    Ok(Kept {
+        registers,
+        contents,
+        captured,
+    })
+}
 
 /// What the registers hold after a cycle that began with what is kept and in which these values settled.
 pub fn registers_after(
