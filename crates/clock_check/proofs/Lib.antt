@@ -10,3 +10,4 @@ mod Hanging
 mod Placing
 mod Faulting
 mod FlatTests
+mod Searching

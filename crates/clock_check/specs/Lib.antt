@@ -10,3 +10,4 @@ pub mod Rooted
 pub mod Hung
 pub mod HangsOther
 pub mod Flats
+pub mod Searched

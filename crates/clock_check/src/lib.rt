@@ -9,6 +9,7 @@ pub mod flat_set;
 pub mod hung;
 pub mod laws;
 mod reach;
+pub mod search;
 pub mod walk;
 
 pub use fault::ClockFault;
