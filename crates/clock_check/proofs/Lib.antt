@@ -11,3 +11,4 @@ mod Placing
 mod Faulting
 mod FlatTests
 mod Searching
+mod Making

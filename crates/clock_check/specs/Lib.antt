@@ -11,3 +11,4 @@ pub mod Hung
 pub mod HangsOther
 pub mod Flats
 pub mod Searched
+pub mod Makes

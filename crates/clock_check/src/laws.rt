@@ -1,12 +1,15 @@
 //! Laws of the definitions. The functions do nothing.
 
 ghost use Rattle.std.specs.Prelude.{◌≡◌, ◌↔◌, ◌++◌, flat_map, ℕ, Bool, true, List, Some, slice_get, Contains};
+ghost use Rattle.std.specs.Prelude.{nat_eq};
+ghost use Rattle.std.specs.Map.{lookup};
 ghost use Rattle.fault_order.specs.First.{HasNone};
 ghost use Rattle.fir_tree.specs.declared.scope.Fitted.{Fitted as FittedCircuit};
-ghost use Rattle.fir_meaning.specs.Components.{Design as ADesign, TypedModule, Leaf, FlatLeaf, declarations_of, design_of, modules_of, module_at, type_in, flat};
+ghost use Rattle.fir_meaning.specs.Components.{Design as ADesign, TypedModule, Leaf, FlatLeaf, declarations_of, design_of, modules_of, module_at, type_in, flat, target_of};
 ghost use Rattle.fir_meaning.specs.ClockRoot.{ClockFrom, IsRooted, HasOneClock};
 ghost use Rattle.fir_tree.specs.declared.circuit.Module.{Module as AModule};
-ghost use Rattle.circuit_laws.specs.WellFormed.{IsWellFormed};
+ghost use Rattle.circuit_laws.specs.WellFormed.{IsWellFormed, IsKnownModule};
+ghost use Rattle.clock_check.specs.Makes.{module_makes};
 ghost use Rattle.clock_check.specs.Clocked.{IsFault, IsOther};
 ghost use Rattle.clock_check.specs.HangsOther.{HangsOther};
 ghost use Rattle.place_text.specs.declared.place.Place.{Place as APlace};
@@ -61,4 +64,11 @@ pub fn faults_hang()
 {
     components_are_named();
     reached_modules_stand_at_paths();
+}
+
+/// The instances that are found in a module that main reaches are those of its components, each with its module.
+pub fn instances_are_those_of_components()
+    ensures { (fitted : FittedCircuit) → IsWellFormed fitted → (m : TypedModule) (its : IsKnownModule fitted m) (name : ℕ) → lookup (nat_eq name) (module_makes its.holder) ≡ target_of m name }
+{
+    components_are_named();
 }

@@ -7,6 +7,7 @@ mod driving;
 pub mod fault;
 pub mod flat_set;
 pub mod hung;
+pub mod instances;
 pub mod laws;
 mod reach;
 pub mod search;
