@@ -12,3 +12,4 @@ mod Faulting
 mod FlatTests
 mod Searching
 mod Making
+mod Entering

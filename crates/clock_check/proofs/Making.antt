@@ -190,7 +190,7 @@ target_is fitted named m its name = by (lookup (nat_eq name) (module_makes its.h
         let from = from_map (λ (x : Component). x.declaration) m.components found.0 (subst (λ l. Contains l found.0) (sym its.typed.components) found.1) in
         let is = is_instance found.0 found.0.sort (name, t) found.2 in
         let at : component_named m name ≡ Some from.0 = ap (component_named m) (sym is.1 ∙ ap (λ (d : Declaration). d.name) (sym from.2))
-            ∙ named m (get_contains (modules_of fitted) its.k m its.number) from.0 from.1 in
+        ∙ named m (get_contains (modules_of fitted) its.k m its.number) from.0 from.1 in
         ap (option_and_then (λ (c : Component). target_in c.declaration.sort)) at ∙ ap (λ (d : Declaration). target_in d.sort) from.2 ∙ is.0
 
     back : (o : Option Component) → component_named m name ≡ o → (u : Option ℕ) → option_and_then (λ (c : Component). target_in c.declaration.sort) o ≡ u

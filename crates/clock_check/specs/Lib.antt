@@ -12,3 +12,4 @@ pub mod HangsOther
 pub mod Flats
 pub mod Searched
 pub mod Makes
+pub mod Enters

@@ -5,6 +5,7 @@
 mod drivers;
 mod driving;
 pub mod fault;
+pub mod flat_key;
 pub mod flat_set;
 pub mod hung;
 pub mod instances;
