@@ -13,3 +13,4 @@ mod FlatTests
 mod Searching
 mod Making
 mod Entering
+mod Linked

@@ -63,11 +63,11 @@ pub record Adds (old leaves new : List FlatKey) : Type 0 where
   pub within : (x : FlatLeaf) → is_within new x ≡ (is_within old x || is_within leaves x)
   pub grows : Grows old new
 
-or_none : (b : Bool) → b ≡ (b || false)
+pub or_none : (b : Bool) → b ≡ (b || false)
 or_none true = refl
 or_none false = refl
 
-or_assoc : (a b c : Bool) → ((a || b) || c) ≡ (a || (b || c))
+pub or_assoc : (a b c : Bool) → ((a || b) || c) ≡ (a || (b || c))
 or_assoc true b c = refl
 or_assoc false b c = refl
 

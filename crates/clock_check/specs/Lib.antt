@@ -13,3 +13,4 @@ pub mod Flats
 pub mod Searched
 pub mod Makes
 pub mod Enters
+pub mod Joins

@@ -9,6 +9,7 @@ pub mod flat_key;
 pub mod flat_set;
 pub mod hung;
 pub mod instances;
+pub mod joining;
 pub mod laws;
 mod reach;
 pub mod search;
