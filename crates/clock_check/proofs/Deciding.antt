@@ -1,14 +1,11 @@
 -- A circuit of one clock has no fault.
 use Rattle.std.proofs.Common.{◌≡◌, ◌↔◌, ℕ, Bool, true, false, List, Option, Some, None, slice_get, refl, sym, ◌∙◌, subst, true≢false}
-use Rattle.std.specs.Prelude.{Contains}
 use Rattle.place_text.specs.declared.place.Place.{Place}
 use Rattle.fault_order.specs.First.{HasNone}
 use Rattle.fir_tree.specs.declared.scope.Fitted.{Fitted}
-use Rattle.fir_meaning.specs.Components.{Design, TypedModule, Component, Leaf, FlatLeaf, A_memory, design_of, flat, type_in}
-use Rattle.fir_meaning.specs.MemoryPorts.{MemoryPort, memory_ports}
+use Rattle.fir_meaning.specs.Components.{Design, TypedModule, Component, Leaf, FlatLeaf, design_of, flat, type_in}
 use Rattle.fir_meaning.proofs.Tracking.{none_some}
 use Rattle.fir_names.proofs.Graphs.{some_same}
-use Rattle.fir_types.specs.declared.memory.Memory.{Memory}
 use Rattle.fir_tree.specs.declared.expr.Expr.{Expr}
 use Rattle.fir_meaning.specs.ClockRoot.{IsRooted, HasOneClock, clock_of, named_leaves}
 use Rattle.clock_check.specs.declared.fault.ClockFault.{ClockFault}

@@ -1,9 +1,7 @@
 -- Leaves of the run, by the port that they are entered through.
-use Rattle.std.proofs.Common.{◌≡◌, ℕ, List, [], ◌∷◌, ◌++◌, map, drop, Option, Some, None, refl, ap, ap₂, sym, ◌∙◌}
+use Rattle.std.proofs.Common.{◌≡◌, ℕ, List, [], ◌∷◌, ◌++◌, map, drop, Option, Some, None, refl, ap, sym}
 use Rattle.std.specs.Prelude.{Result, Ok, Err, IfOk}
-use Rattle.fir_types.specs.declared.leaf.PathStep.{PathStep}
-use Rattle.fir_types.specs.declared.leaf.PathStep.TheVariants as step
-use Rattle.fir_meaning.specs.Components.{FlatLeaf, flat_through}
+use Rattle.fir_meaning.specs.Components.{flat_through}
 use Rattle.fir_meaning.proofs.Tracking.{none_some}
 use Rattle.fir_names.proofs.Graphs.{some_same}
 use Rattle.drive_check.specs.declared.leaf_set.Step.{Step}

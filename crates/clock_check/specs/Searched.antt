@@ -1,5 +1,5 @@
 -- Which leaves of the run have their value from which, and what leads to one of them.
-use Rattle.std.specs.Prelude.{◌≡◌, ℕ, true, List, [], ◌∷◌, ◌++◌, Option, Some, None, if◌then◌else◌}
+use Rattle.std.specs.Prelude.{◌≡◌, true, List, [], ◌∷◌, ◌++◌, Option, Some, None, if◌then◌else◌}
 use Rattle.std.specs.Global.{Vec}
 use Rattle.fir_meaning.specs.Components.{FlatLeaf}
 use Rattle.clock_check.specs.declared.flat_set.FlatKey.{FlatKey}

@@ -1,4 +1,3 @@
-use Rattle.fir_meaning.specs.Components.{FlatLeaf}
 use Rattle.drive_check.specs.Keys.{leaf_of_key}
 use Rattle.drive_check.proofs.Blocks.{on_ok}
 use Rattle.clock_check.specs.Joins.{flat_by}

@@ -1,4 +1,4 @@
-use Rattle.std.proofs.Common.{◌∙◌, ◌∷◌, ◌++◌, [], ap, sym, subst}
+use Rattle.std.proofs.Common.{◌∙◌, ◌∷◌, ◌++◌, [], ap}
 use Rattle.indexmap.specs.IndexMap.{insert_entry}
 use Rattle.clock_check.specs.Searched.{sinks_at}
 use Rattle.clock_check.proofs.FlatTests.{flat_eq}
