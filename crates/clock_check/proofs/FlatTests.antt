@@ -58,7 +58,7 @@ flat_equal a b e =
     let rest = and_true (eqb a.component b.component) (same_way a.way b.way) both.1 in
     λ i. record { path = path_equal a.path b.path both.0 i; component = eqb-true a.component b.component rest.0 i; way = way_equal a.way b.way rest.1 i }
 
-turned : (a b : FlatLeaf) → same_flat a b ≡ same_flat b a
+pub turned : (a b : FlatLeaf) → same_flat a b ≡ same_flat b a
 turned a b = by (same_flat a b) (same_flat b a) refl refl
   where
     by : (x y : Bool) → same_flat a b ≡ x → same_flat b a ≡ y → x ≡ y

@@ -10,3 +10,7 @@ mod Hanging
 mod Placing
 mod Faulting
 mod FlatTests
+mod Searching
+mod Making
+mod Entering
+mod Linked

@@ -1,12 +1,13 @@
 -- Sets of leaves that lead to main's first Clock input.
-use Rattle.std.proofs.Common.{◌≡◌, ◌⊎◌, inl, inr, ⊎_elim, ℕ, Bool, true, List, [], ◌∷◌, ◌++◌, length, drop, get_or, Option, Some, None, option_map, slice_get, refl, sym, ap, ap₂, ◌∙◌, arith, append_assoc}
+use Rattle.std.proofs.Common.{◌≡◌, ◌↔◌, subst, ◌⊎◌, inl, inr, ⊎_elim, ℕ, Bool, true, List, [], ◌∷◌, ◌++◌, length, drop, get_or, Option, Some, None, option_map, slice_get, refl, sym, ap, ap₂, ◌∙◌, arith, append_assoc}
 use Rattle.fir_types.specs.declared.leaf.PathStep.{PathStep}
 use Rattle.fir_types.specs.declared.leaf.PathStep.TheVariants as step
 use Rattle.fir_meaning.specs.Components.{Design, Leaf, FlatLeaf, flat_through, target_of, module_named}
-use Rattle.fir_meaning.specs.ClockRoot.{IsRooted, at_root, onward, clock_inputs_of}
+use Rattle.fir_meaning.specs.ClockRoot.{ClockFrom, IsRooted, at_root, onward, clock_root, clock_inputs_of}
 use Rattle.fir_meaning.proofs.Tracking.{none_some}
 use Rattle.fir_names.proofs.Graphs.{some_same}
 use Rattle.clock_check.specs.Gets.{LinkAt}
+use Rattle.clock_check.specs.Searched.{Sinks, IsSink, LeadsTo, there, onward as leads_on}
 use Rattle.clock_check.specs.Rooted.{HasRoot, IsClosed}
 use Rattle.clock_check.proofs.Getting.{link_at}
 
@@ -68,3 +69,15 @@ entered design x (onward {y = y} from rest) q r p = by (link_at design x y from)
         (λ more. inside l next more.0 more.1)
         (split l.path q r below.0 (sym below.1 ∙ sym (ap (λ (z : FlatLeaf). z.path) l.from) ∙ p)))
         (through_path l.path l.sink.component (target_of l.m l.sink.component) l.sink.way)
+
+-- A search along the links of chains of clocks finds what leads to the root.
+
+pub searched_rooted : (design : Design) (sinks : Sinks) (root : FlatLeaf) → clock_root design ≡ Some root → ((x y : FlatLeaf) → IsSink sinks x y ↔ ClockFrom design x y)
+    → (x : FlatLeaf) → LeadsTo sinks root x → IsRooted design x
+searched_rooted design sinks root e links x there = at_root e
+searched_rooted design sinks root e links x (leads_on z y is rest) = onward ((links z y).0 is) (searched_rooted design sinks root e links y rest)
+
+pub rooted_searched : (design : Design) (sinks : Sinks) (root : FlatLeaf) → clock_root design ≡ Some root → ((x y : FlatLeaf) → IsSink sinks x y ↔ ClockFrom design x y)
+    → (x : FlatLeaf) → IsRooted design x → LeadsTo sinks root x
+rooted_searched design sinks root e links x (at_root f) = subst (LeadsTo sinks root) (some_same (sym e ∙ f)) there
+rooted_searched design sinks root e links x (onward {y = y} from rest) = leads_on x y ((links x y).1 from) (rooted_searched design sinks root e links y rest)

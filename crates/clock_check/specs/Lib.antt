@@ -10,3 +10,7 @@ pub mod Rooted
 pub mod Hung
 pub mod HangsOther
 pub mod Flats
+pub mod Searched
+pub mod Makes
+pub mod Enters
+pub mod Joins

@@ -3,6 +3,7 @@
 ghost use Rattle.std.specs.Prelude.{◌≡◌, ◌||◌, false, OnOk};
 ghost use Rattle.fir_meaning.specs.Components.{FlatLeaf};
 ghost use Rattle.clock_check.specs.Flats.{leaf_of_flat, same_flat, is_within};
+ghost use Rattle.clock_check.specs.Searched.{Grows};
 
 use drive_check::leaf_set::Step;
 use indexmap::IndexSet;
@@ -41,7 +42,8 @@ impl FlatSet {
 
     /// Adds a leaf.
     pub fn insert(&mut self, key: FlatKey) -> Result<(), AllocError>
-        ensures { OnOk result ((x : FlatLeaf) → is_within self.new.keys.keys x ≡ (is_within self.old.keys.keys x || same_flat (leaf_of_flat key) x)) }
+        ensures within { OnOk result ((x : FlatLeaf) → is_within self.new.keys.keys x ≡ (is_within self.old.keys.keys x || same_flat (leaf_of_flat key) x)) }
+        ensures grows { OnOk result (Grows self.old.keys.keys self.new.keys.keys) }
     {
         self.keys.insert(key)?;
         Ok(())

@@ -5,10 +5,14 @@
 mod drivers;
 mod driving;
 pub mod fault;
+pub mod flat_key;
 pub mod flat_set;
 pub mod hung;
+pub mod instances;
+pub mod joining;
 pub mod laws;
 mod reach;
+pub mod search;
 pub mod walk;
 
 pub use fault::ClockFault;
