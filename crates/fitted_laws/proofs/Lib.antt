@@ -5,7 +5,7 @@ mod Steps
 mod Once
 mod Expressions
 mod Held
-mod Spelled
+pub mod Spelled
 mod Known
 mod Walking
 mod Ruling
@@ -19,4 +19,4 @@ mod Bundles
 mod Memories
 mod Showing
 mod Circuits
-mod WellFormed
+pub mod WellFormed
