@@ -24,15 +24,15 @@ use Rattle.drive_check.specs.declared.leaf_set.Step.TheVariants as own
 use Rattle.drive_check.specs.Keys.{step_of}
 use Rattle.drive_check.specs.Follows.{Follows}
 
-onward-field : (name : Name) (types : Scope) (region : Region)
+pub onward-field : (name : Name) (types : Scope) (region : Region)
     → suffix_onward (suffix.Field name) types region ≡ record region { typ = field_type name.id region.typ; ways = behind_each region.ways (step.Field name.id) }
 onward-field name types region = grind (arith, common_steps, expr_lemmas)
 
-onward-at : (bracket place : Place) (n : ℕ) (types : Scope) (region : Region)
+pub onward-at : (bracket place : Place) (n : ℕ) (types : Scope) (region : Region)
     → suffix_onward (suffix.At bracket place n) types region ≡ record region { typ = element_type region.typ; ways = behind_each region.ways (step.Element n) }
 onward-at bracket place n types region = grind (arith, common_steps, expr_lemmas)
 
-onward-index : (bracket : Place) (index : Expr) (types : Scope) (region : Region)
+pub onward-index : (bracket : Place) (index : Expr) (types : Scope) (region : Region)
     → suffix_onward (suffix.Index bracket index) types region
     ≡ record region { typ = element_type region.typ; ways = elements_behind region.ways (vector_length region.typ); dynamic = true; indices = region.indices ++ joined (mentions index types) }
 onward-index bracket index types region = grind (arith, common_steps, expr_lemmas)

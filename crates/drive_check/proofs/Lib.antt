@@ -1,9 +1,9 @@
-mod KeyTests
-mod Placing
-mod Following
-mod Driving
-mod Blocks
-mod Naming
-mod Linking
-mod Telling
-mod Deciding
+pub mod KeyTests
+pub mod Placing
+pub mod Following
+pub mod Driving
+pub mod Blocks
+pub mod Naming
+pub mod Linking
+pub mod Telling
+pub mod Deciding

@@ -5,11 +5,11 @@
 mod covering;
 pub mod fault;
 pub mod laws;
-mod leaf_set;
-mod listing;
-mod module_types;
-mod names;
-mod spot;
+pub mod leaf_set;
+pub mod listing;
+pub mod module_types;
+pub mod names;
+pub mod spot;
 mod undriven;
 mod walk;
 

@@ -73,7 +73,7 @@ fn follow<'a>(
 }
 
 /// The type of a bundle's first field of a name. What has no such field stays.
-fn field_type(typ: &FirType, id: u32) -> &FirType
+pub fn field_type(typ: &FirType, id: u32) -> &FirType
     ensures { result.now ≡ field_type id typ.now }
 {
     let Shape::Bundle(fields) = &typ.shape else {
@@ -86,7 +86,7 @@ fn field_type(typ: &FirType, id: u32) -> &FirType
 }
 
 /// The type of a vector's elements. What is no vector stays.
-fn element_type(typ: &FirType) -> &FirType
+pub fn element_type(typ: &FirType) -> &FirType
     ensures { result.now ≡ element_type typ.now }
 {
     match &typ.shape {

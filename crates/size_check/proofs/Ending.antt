@@ -1,13 +1,12 @@
 -- Where no path has as many names as are looked at, none is longer.
-use Rattle.std.proofs.Common.{◌≡◌, ℕ, zero, suc, ◌+◌, ◌<◌, ◌≤◌, max, List, [], ◌∷◌, ◌++◌, map, refl, sym, ap, ap₂, ◌∙◌, arith, subst, flat_map, add-one}
+use Rattle.std.proofs.Common.{◌≡◌, ℕ, zero, suc, ◌+◌, ◌<◌, ◌≤◌, max, List, [], ◌∷◌, ◌++◌, map, refl, ap, ap₂, ◌∙◌, arith, flat_map}
 use Rattle.std.specs.Prelude.{Option, None, Some}
 use Rattle.fir_tree.specs.declared.circuit.Circuit.{Circuit}
 use Rattle.fir_tree.specs.declared.circuit.Module.{Module}
 use Rattle.leaf_names.specs.LeafNames.{Texts}
 use Rattle.size_check.specs.declared.calls.Call.{Call}
-use Rattle.size_check.specs.Owns.{module_own}
 use Rattle.size_check.specs.Typings.{named}
-use Rattle.size_check.specs.Standings.{Standing, standings, standings_of, of_found, of_call, behind, total_of, add, calls_in, measured}
+use Rattle.size_check.specs.Standings.{Standing, standings, standings_of, of_found, of_call, behind, total_of, calls_in, measured}
 use Rattle.size_check.proofs.Summing.{total-append, behind_module, next_of}
 
 abbrev depth_of : Texts → List Module → List Standing → ℕ

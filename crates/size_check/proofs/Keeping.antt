@@ -1,5 +1,5 @@
 -- The leaves that a memory's ports keep.
-use Rattle.std.proofs.Common.{◌≡◌, ℕ, ◌*◌, ◌+◌, Bool, true, false, List, map, filter_map, sum, refl, sym, ap, ap₂, ◌∙◌, arith, if◌then◌else◌, nat_eq}
+use Rattle.std.proofs.Common.{◌≡◌, ℕ, ◌*◌, List, map, filter_map, sum, sym, ap, ap₂, ◌∙◌, if◌then◌else◌, nat_eq}
 use Rattle.fir_types.specs.declared.fir_type.FirType.{FirType}
 use Rattle.fir_types.specs.declared.memory.MemLine.{MemLine}
 use Rattle.fir_types.specs.Leaves.{count}

@@ -1,9 +1,8 @@
 -- What stands behind paths, summed module by module.
-use Rattle.std.proofs.Common.{◌≡◌, ℕ, zero, suc, ◌+◌, ◌*◌, ◌-◌, ◌^◌, ◌<◌, ◌≤◌, min, max, List, [], ◌∷◌, ◌++◌, map, sum, take, length, get_or, refl, sym, ap, ap₂, ◌∙◌, arith, subst, flat_map}
-use Rattle.std.specs.Prelude.{Option, None, Some, option_map, slice_get, is_some}
+use Rattle.std.proofs.Common.{◌≡◌, ℕ, zero, suc, ◌+◌, ◌*◌, ◌-◌, ◌^◌, ◌<◌, ◌≤◌, min, List, [], ◌∷◌, ◌++◌, map, take, length, get_or, refl, sym, ap, ap₂, ◌∙◌, arith, flat_map}
+use Rattle.std.specs.Prelude.{Option, None, Some, option_map, slice_get}
 use Rattle.std.proofs.lemmas.Grind.{common_steps}
-use Rattle.std.proofs.lemmas.List.{map_more, take_more}
-use Rattle.std.proofs.lemmas.List.Concat.{flat_map-append}
+use Rattle.std.proofs.lemmas.List.{map_more}
 use Rattle.std.proofs.lemmas.List.Sums.{sum_by-cons}
 use Rattle.std.proofs.lemmas.Option.{slice_get-map, slice_get-get_or, none-some, same_Some}
 use Rattle.fir_tree.specs.declared.circuit.Module.{Module}
@@ -12,7 +11,6 @@ use Rattle.size_check.specs.declared.sums.Sums.{Sums}
 use Rattle.size_check.specs.declared.sums.Total.{Total}
 use Rattle.size_check.specs.declared.calls.Call.{Call}
 use Rattle.size_check.specs.Caps.{cap, capped, capped_total}
-use Rattle.size_check.specs.Measures.{plus, nothing}
 use Rattle.size_check.specs.Owns.{module_own}
 use Rattle.size_check.specs.Typings.{named}
 use Rattle.size_check.specs.Rounds.{totals_at, owns_of, deeper}

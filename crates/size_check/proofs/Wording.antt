@@ -1,6 +1,6 @@
 -- The bytes of names.
-use Rattle.std.proofs.Common.{◌≡◌, ℕ, zero, suc, ◌+◌, ◌*◌, ◌-◌, ◌^◌, ◌/◌, ◌%◌, ◌<◌, ◌≤◌, min, Bool, true, false, List, [], ◌∷◌, ◌++◌, map, sum, take, length, get_or, refl, sym, ap, ap₂, ◌∙◌, subst, arith, decimal, codes, lit≤, lit<, add-one}
-use Rattle.std.specs.Prelude.{Option, None, Some, slice_get, option_copied, nat_le, if◌then◌else◌}
+use Rattle.std.proofs.Common.{◌≡◌, ℕ, zero, suc, ◌+◌, ◌*◌, ◌-◌, ◌^◌, ◌/◌, ◌%◌, ◌<◌, ◌≤◌, min, Bool, true, false, List, [], ◌∷◌, ◌++◌, map, sum, length, get_or, refl, sym, ap, ap₂, ◌∙◌, arith, decimal, codes, lit≤, add-one}
+use Rattle.std.specs.Prelude.{Option, None, slice_get, nat_le, if◌then◌else◌}
 use Rattle.std.specs.List.{flat_map}
 use Rattle.std.proofs.lemmas.Grind.{common_steps}
 use Rattle.std.proofs.lemmas.List.{map-append}

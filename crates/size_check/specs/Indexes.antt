@@ -1,5 +1,5 @@
 -- The modules of a circuit with their numbers, by the numbers of their names.
-use Rattle.std.specs.Prelude.{◌≡◌, ℕ, List, [], ◌∷◌, ◌++◌, nat_eq, slice_get, is_some, Option, Some, option_map, if◌then◌else◌}
+use Rattle.std.specs.Prelude.{◌≡◌, ℕ, List, [], ◌∷◌, ◌++◌, nat_eq, slice_get, is_some, Some, option_map, if◌then◌else◌}
 use Rattle.std.specs.Map.{lookup}
 use Rattle.fir_tree.specs.declared.circuit.Module.{Module}
 use Rattle.size_check.specs.Typings.{named}

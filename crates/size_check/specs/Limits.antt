@@ -1,5 +1,5 @@
 -- The limits of a circuit's size.
-use Rattle.std.specs.Prelude.{◌≡◌, ℕ, nat_lt, Bool, true, false, ◌||◌, sum, List, map, Option, Some, None}
+use Rattle.std.specs.Prelude.{◌≡◌, ℕ, nat_lt, Bool, true, false, ◌||◌, sum, map, Option, Some, None}
 use Rattle.fir_types.specs.Leaves.{count}
 use Rattle.fir_tree.specs.declared.circuit.Circuit.{Circuit}
 use Rattle.fir_tree.specs.declared.circuit.Module.{Module}

@@ -1,5 +1,5 @@
 -- What is counted of a part of a circuit, and sums of it.
-use Rattle.std.specs.Prelude.{ℕ, ◌+◌, ◌*◌, max, List, [], ◌∷◌}
+use Rattle.std.specs.Prelude.{ℕ, ◌+◌, max, List, [], ◌∷◌}
 use Rattle.size_check.specs.declared.sums.Sums.{Sums}
 
 abbrev pub nothing : Sums

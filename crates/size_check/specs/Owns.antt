@@ -17,7 +17,6 @@ use Rattle.fir_types.specs.Bundles.{nowhere}
 use Rattle.fir_types.specs.Leaves.{count, leaves}
 use Rattle.fir_types.specs.Memories.{element_of, depth_of, read_latency_in, first_or}
 use Rattle.fir_tree.specs.declared.circuit.Module.{Module}
-use Rattle.fir_tree.specs.declared.expr.Expr.{Expr}
 use Rattle.fir_tree.specs.declared.stmt.Stmt.{Stmt, fold-Stmt}
 use Rattle.fir_tree.specs.declared.stmt.Arm.{Arm, fold-Arm}
 use Rattle.fir_tree.specs.declared.stmt.Stmt.TheOpen.{Stmt-F, Arm-F}

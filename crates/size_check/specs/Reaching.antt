@@ -1,5 +1,4 @@
 -- What the walks through expressions keep.
-use Rattle.std.specs.Prelude.{ℕ}
 use Rattle.size_check.specs.declared.known.Known.{Known}
 use Rattle.size_check.specs.declared.weights.Reached.{Reached}
 use Rattle.size_check.specs.Caps.{cap}

@@ -1,6 +1,5 @@
 -- Instance paths, and what stands at them (FIRRTL specification 3.0, "Instances").
 use Rattle.std.specs.Prelude.{ℕ, zero, suc, ◌+◌, ◌*◌, max, sum, length, List, [], ◌∷◌, ◌++◌, map, flat_map, Option, Some, None}
-use Rattle.fir_types.specs.declared.name.Name.{Name}
 use Rattle.fir_tree.specs.declared.circuit.Circuit.{Circuit}
 use Rattle.fir_tree.specs.declared.circuit.Module.{Module}
 use Rattle.fir_tree.specs.declared.stmt.Stmt.{Stmt, fold-Stmt}

@@ -1,5 +1,5 @@
 -- The bytes of the ways to a type's leaves, without a list of them.
-use Rattle.std.specs.Prelude.{ℕ, zero, suc, ◌+◌, ◌*◌, sum, length, decimal, map, List}
+use Rattle.std.specs.Prelude.{ℕ, zero, suc, ◌+◌, sum, length, decimal, map, List}
 use Rattle.fir_types.specs.declared.fir_type.FirType.{FirType}
 use Rattle.fir_types.specs.declared.fir_type.Field.{Field}
 use Rattle.fir_types.specs.declared.leaf.TypeLeaf.{TypeLeaf}

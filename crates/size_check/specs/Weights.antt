@@ -1,7 +1,7 @@
 -- The nodes of expressions, and the leaves of their types (FIRRTL specification 3.0, "Expressions"). A reference is one node and one
 -- more for each suffix; each of them has a type, so `v[0]` brings in the leaves of the whole `v`. An index is an expression of its
 -- own.
-use Rattle.std.specs.Prelude.{ℕ, ◌+◌, max, sum, List, [], ◌∷◌, map, fold, Option, Some, None}
+use Rattle.std.specs.Prelude.{ℕ, ◌+◌, max, sum, List, [], ◌∷◌, map, fold}
 use Rattle.fir_types.specs.declared.fir_type.FirType.{FirType}
 use Rattle.fir_types.specs.declared.fir_type.Shape.TheVariants as shape
 use Rattle.fir_types.specs.Bundles.{nowhere}

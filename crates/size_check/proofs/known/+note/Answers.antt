@@ -1,5 +1,5 @@
-use Rattle.std.proofs.Common.{rules, ◌∙◌, sym, ap}
-use Rattle.size_check.specs.Typings.{stmt_notes, arm_notes, in_turn}
+use Rattle.std.proofs.Common.{rules, ◌∙◌, sym}
+use Rattle.size_check.specs.Typings.{stmt_notes, arm_notes}
 use Rattle.size_check.proofs.Noting.{notes_more, arm_notes_are}
 use Rattle.size_check.proofs.known.+note.Goals as goal
 

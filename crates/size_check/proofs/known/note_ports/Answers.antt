@@ -1,5 +1,5 @@
-use Rattle.std.proofs.Common.{rules, ◌∙◌, ap}
-use Rattle.size_check.specs.Typings.{port_notes, known_with}
+use Rattle.std.proofs.Common.{rules}
+use Rattle.size_check.specs.Typings.{port_notes}
 use Rattle.size_check.proofs.Noting.{notes_more}
 use Rattle.size_check.proofs.known.note_ports.Goals as goal
 

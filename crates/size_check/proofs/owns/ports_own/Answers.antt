@@ -1,6 +1,5 @@
-use Rattle.std.proofs.Common.{◌≡◌, ap, ap₂, ◌∙◌}
 use Rattle.fir_types.specs.Leaves.{count}
-use Rattle.size_check.specs.Owns.{port_own, sized, flat}
+use Rattle.size_check.specs.Owns.{port_own, flat}
 use Rattle.size_check.proofs.Owning.{together_more, sized_plus}
 use Rattle.size_check.proofs.owns.ports_own.Goals as goal
 

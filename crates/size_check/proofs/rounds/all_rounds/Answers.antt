@@ -1,4 +1,4 @@
-use Rattle.std.proofs.Common.{◌≡◌, ap, sym, ◌∙◌, arith, add-one}
+use Rattle.std.proofs.Common.{ap, sym, ◌∙◌, add-one}
 use Rattle.size_check.specs.Rounds.{totals_at}
 use Rattle.size_check.proofs.Summing.{first_totals, same_number}
 use Rattle.size_check.proofs.rounds.all_rounds.Goals as goal

@@ -1,4 +1,4 @@
-use Rattle.std.proofs.Common.{rules, sym, ◌∙◌}
+use Rattle.std.proofs.Common.{rules}
 use Rattle.size_check.proofs.Summing.{found_some, found_past}
 use Rattle.size_check.proofs.rounds.found.Goals as goal
 

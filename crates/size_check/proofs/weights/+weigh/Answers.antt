@@ -1,4 +1,4 @@
-use Rattle.std.proofs.Common.{rules, ap}
+use Rattle.std.proofs.Common.{ap}
 use Rattle.size_check.specs.Reaching.{types_in}
 use Rattle.size_check.specs.Weights.{weight}
 use Rattle.size_check.proofs.Weighing.{most_more, weigh_prim, weigh_mux}

@@ -1,0 +1,16 @@
+mod Deciding
+mod Settings
+mod Reaching
+mod Lasting
+mod Walking
+mod Declaring
+mod Getting
+mod Rooting
+mod Hanging
+mod Placing
+mod Faulting
+mod FlatTests
+mod Searching
+mod Making
+mod Entering
+mod Linked

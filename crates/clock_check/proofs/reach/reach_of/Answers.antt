@@ -1,0 +1,15 @@
+use Rattle.std.proofs.Common.{◌∙◌, ap, sym, map, arith, rules}
+use Rattle.std.proofs.lemmas.Grind.{common_steps}
+use Rattle.fir_types.specs.Leaves.{leaves}
+use Rattle.fir_types.proofs.Walks.{no_leaves}
+use Rattle.fir_meaning.specs.Mentions.{region_of, follow_all, suffix_onward}
+use Rattle.drive_check.specs.HeldTypes.{types_in}
+use Rattle.clock_check.proofs.Reaching.{region_is, reach_none}
+use Rattle.clock_check.proofs.reach.reach_of.Goals as goal
+
+pub returns-then-leaf_count-eq0 : goal.returns-then-leaf_count-eq0
+returns-then-leaf_count-eq0 c =
+    let types = types_in c.args.types.now in
+    let region = follow_all types c.in-Ref.name.id (map suffix_onward c.as_slice.result.now) in
+    reach_none (region_of types c.args.expr.now) region (region_is types c.args.expr.now c.in-Ref.name c.as_slice.result.now (search rules))
+    (ap leaves (c.type_behind.ensures types c.in-Ref.name.id (sym c.of.ensures)) ∙ no_leaves c.type_behind.result.now (grind (arith, common_steps)))

@@ -1,0 +1,5 @@
+pub mod Listing
+pub mod Knowing
+pub mod Zipping
+pub mod Modules
+pub mod Viewing

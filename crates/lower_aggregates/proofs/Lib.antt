@@ -1,0 +1,15 @@
+pub mod Porting
+pub mod Registering
+pub mod Setting
+pub mod Resetting
+pub mod RegisterLists
+pub mod PartLists
+pub mod TypedSorts
+pub mod PortLeaves
+pub mod PortNumbers
+pub mod Together
+pub mod Stored
+pub mod MemoryLists
+pub mod Circuits
+pub mod Unported
+pub mod Assembling

@@ -1,0 +1,7 @@
+mod Forms
+mod Steps
+mod Zeros
+mod Nexts
+mod Writes
+mod Captures
+mod Advances

@@ -1,0 +1,5 @@
+pub mod Seeing
+pub mod Keeping
+pub mod Advancing
+pub mod Writing
+pub mod Capturing
