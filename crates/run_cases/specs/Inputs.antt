@@ -7,9 +7,13 @@ use Rattle.ground_net.specs.declared.net.Role.TheVariants as role
 use Rattle.net_meaning.specs.Shapes.{shape_of_value}
 use Rattle.net_meaning.specs.Nets.{leaf_shape}
 
--- Where the leaf is an input, a value of its kind and width is added at the input's number; else nothing is.
+-- A value of the leaf's kind and width is added at its number.
+abbrev pub IsAdded : List Value → List Value → Leaf → ℕ → Type 0
+IsAdded old new leaf n = (n ≡ length old) × ((v : Value) × (new ≡ old ++ v ∷ []) × (shape_of_value v ≡ leaf_shape leaf))
+
+-- Where the leaf is an input, its value is added at its number; else nothing is.
 abbrev pub IsInputAdded : List Value → List Value → Leaf → Role → Type 0
-IsInputAdded old new leaf (role.Input n) = (n ≡ length old) × ((v : Value) × (new ≡ old ++ v ∷ []) × (shape_of_value v ≡ leaf_shape leaf))
+IsInputAdded old new leaf (role.Input n) = IsAdded old new leaf n
 IsInputAdded old new leaf role.Clock = new ≡ old
 IsInputAdded old new leaf role.Assigned = new ≡ old
 IsInputAdded old new leaf (role.Register n) = new ≡ old

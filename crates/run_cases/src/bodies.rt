@@ -229,15 +229,3 @@ circuit M :
     connect x, c.out
     connect y, d.out
 ";
-
-/// Two registers and an output that read one node.
-pub const SHARED: &str = "    input clock : Clock
-    input a : UInt<4>
-    output o : UInt<4>
-    reg r : UInt<4>, clock
-    reg s : UInt<4>, clock
-    node t = not(a)
-    connect r, t
-    connect s, t
-    connect o, t
-";

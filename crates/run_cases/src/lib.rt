@@ -4,8 +4,6 @@
 #[cfg(test)]
 mod bodies;
 #[cfg(test)]
-mod cutting;
-#[cfg(test)]
 mod loops;
 #[cfg(test)]
 mod passes;

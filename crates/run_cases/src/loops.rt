@@ -1,14 +1,13 @@
-//! Combinational loops, and cuts.
+//! Combinational loops.
 
-use crate::bodies::SHARED;
 use crate::passes::{Asked, told_text};
 use crate::telling::{expect, with_body};
 use std::alloc::Global;
 
 /// What is told of the module M with this body.
-fn told_body(alloc: Global, body: &str, asked: Asked) -> Option<String> {
+fn told_body(alloc: Global, body: &str) -> Option<String> {
     let text = with_body(alloc, body)?;
-    told_text(alloc, text.as_bytes(), asked)
+    told_text(alloc, text.as_bytes(), Asked::Check)
 }
 
 const BODIES: [(&str, &str); 5] = [
@@ -84,20 +83,9 @@ circuit M :
 #[test]
 fn the_first_leaf_on_a_loop_is_told(rt: HostRuntime) {
     for (body, wanted) in BODIES {
-        let told = told_body(rt.alloc(), body, Asked::Check);
+        let told = told_body(rt.alloc(), body);
         expect(&rt, told, body, wanted);
     }
     let told = told_text(rt.alloc(), INSTANCE.as_bytes(), Asked::Check);
     expect(&rt, told, INSTANCE, "CombLoop 4:11");
-}
-
-const PARTITIONS: &str = "partition 0 sinks 1 assignments 2
-partition 1 sinks 2 assignments 1
-needed 2 placed 3
-";
-
-#[test]
-fn sinks_are_placed_by_their_cones(rt: HostRuntime) {
-    let told = told_body(rt.alloc(), SHARED, Asked::Cut(2));
-    expect(&rt, told, SHARED, PARTITIONS);
 }

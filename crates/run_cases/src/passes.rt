@@ -4,11 +4,8 @@ ghost use Rattle.std.specs.Prelude.{◌≤◌, length, IfOk};
 ghost use Rattle.fir_meaning.specs.Components.{design_of};
 ghost use Rattle.fir_meaning.specs.Certain.{IsInitialized};
 ghost use Rattle.circuit_laws.specs.WellFormed.{IsWellFormed};
-ghost use Rattle.ground_net.specs.Reads.{IsOrder};
-ghost use Rattle.net_meaning.specs.Nets.{IsNet};
 ghost use Rattle.run_cases.specs.Ordering.{IsOrdered};
 
-use crate::cutting::told_cut;
 use crate::running::told_trace;
 use crate::telling::told_fault;
 use accepting_laws::laws::accepted_texts_are_well_formed;
@@ -27,8 +24,6 @@ use std::alloc::Global;
 pub enum Asked {
     /// That it has none.
     Check,
-    /// Its cut into so many partitions.
-    Cut(u32),
     /// The trace of a run with these integers of main's input leaves, cycle by cycle.
     Run(&'static [&'static [i128]]),
 }
@@ -99,7 +94,6 @@ fn told_ordered(alloc: Global, ordered: &Ordered, asked: Asked) -> Option<String
 {
     match asked {
         Asked::Check => String::from_str(alloc, "ok").ok(),
-        Asked::Cut(workers) => told_cut(alloc, ordered, workers),
         Asked::Run(rows) => told_trace(alloc, ordered, rows),
     }
 }
