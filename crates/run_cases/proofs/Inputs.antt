@@ -36,10 +36,11 @@ longer old new last (role.Register m) a k v e = subst (λ (s : List Value). slic
 longer old new last (role.Captured m) a k v e = subst (λ (s : List Value). slice_get s k ≡ Some v) (sym a) e
 
 of_input : (old new : List Value) (last : Leaf) (k : ℕ) → IsInputAdded old new last (role.Input k) → (v : Value) × (slice_get new k ≡ Some v) × (shape_of_value v ≡ leaf_shape last)
-of_input old new last k a =
-    (a.1.0,
-     subst (λ (s : List Value). slice_get s k ≡ Some a.1.0) (sym a.1.1.0) (subst (λ (m : ℕ). slice_get (old ++ a.1.0 ∷ []) m ≡ Some a.1.0) (sym a.0) (added old a.1.0)),
-     a.1.1.1)
+of_input old new last k a = (
+  a.1.0,
+  subst (λ (s : List Value). slice_get s k ≡ Some a.1.0) (sym a.1.1.0) (subst (λ (m : ℕ). slice_get (old ++ a.1.0 ∷ []) m ≡ Some a.1.0) (sym a.0) (added old a.1.0)),
+  a.1.1.1,
+)
 
 at_last : (old new : List Value) (last : Leaf) → IsInputAdded old new last last.role → (n : ℕ) (leaf : Leaf) → leaf ≡ last → leaf.role ≡ role.Input n
     → (v : Value) × (slice_get new n ≡ Some v) × (shape_of_value v ≡ leaf_shape leaf)
@@ -53,9 +54,9 @@ pub more : (leaves : List Leaf) (count : ℕ) (old new : List Value) (last : Lea
 more leaves count old new last is have add x n leaf lt there input = ⊎_elim
     (λ less. let v = have x n leaf less there input in (v.0, longer old new last last.role add n v.0 v.1.0, v.1.1))
     (λ past.
-      let e : x ≡ count = omega (arith, lt, past) in
-      let same : leaf ≡ last = same_Some leaf last (sym there ∙ (ap (λ k. slice_get leaves k) e ∙ is)) in
-      at_last old new last add n leaf same input)
+    let e : x ≡ count = omega (arith, lt, past) in
+    let same : leaf ≡ last = same_Some leaf last (sym there ∙ (ap (λ k. slice_get leaves k) e ∙ is)) in
+    at_last old new last add n leaf same input)
     (cases_lt x count)
 
 refit : (v : Value) (t : Shape) → shape_of_value v ≡ t → fitted t.kind t.width (integer_of v) ≡ v
@@ -63,11 +64,14 @@ refit v t e = subst (λ (s : Shape). fitted s.kind s.width (integer_of v) ≡ v)
 
 -- where all leaves that are inputs have values, integers are given
 pub given : (net : Net) (values : List Value) (count : ℕ) → length net.leaves ≤ count → HaveValues net.leaves count values → AreGiven net values
-given net values count le have = (integers, λ x n leaf there input.
-    let below = slice_get_within net.leaves x leaf there in
-    let v = have x n leaf (omega (arith, below, le)) there input in
-    let at : get_or values n (lone []) ≡ v.0 = get_or_from_slice_get values n v.0 (lone []) v.1.0 in
-    v.1.0 ∙ ap Some (sym (ap (λ w. fitted_to leaf (integer_of w)) at ∙ refit v.0 (leaf_shape leaf) v.1.1)))
+given net values count le have = (
+  integers,
+  λ x n leaf there input.
+      let below = slice_get_within net.leaves x leaf there in
+      let v = have x n leaf (omega (arith, below, le)) there input in
+      let at : get_or values n (lone []) ≡ v.0 = get_or_from_slice_get values n v.0 (lone []) v.1.0 in
+      v.1.0 ∙ ap Some (sym (ap (λ w. fitted_to leaf (integer_of w)) at ∙ refit v.0 (leaf_shape leaf) v.1.1)),
+)
   where
     integers : ℕ → ℤ
     integers n = integer_of (get_or values n (lone []))

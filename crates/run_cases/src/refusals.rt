@@ -144,6 +144,11 @@ circuit M :
 #[test]
 fn modules_are_judged_where_main_reaches_them(rt: HostRuntime) {
     for (text, wanted) in CIRCUITS {
-        expect(&rt, told_text(rt.alloc(), text.as_bytes(), Asked::Check), text, wanted);
+        expect(
+            &rt,
+            told_text(rt.alloc(), text.as_bytes(), Asked::Check),
+            text,
+            wanted,
+        );
     }
 }

@@ -62,12 +62,7 @@ fn first(alloc: Global, net: &Net) -> Option<Kept>
 }
 
 /// Adds the line of a cycle, and tells what is kept after it.
-fn after_cycle(
-    alloc: Global,
-    cycle: &Cycle<'_>,
-    kept: Kept,
-    text: &mut Vec<u8>,
-) -> Option<Kept>
+fn after_cycle(alloc: Global, cycle: &Cycle<'_>, kept: Kept, text: &mut Vec<u8>) -> Option<Kept>
     requires ordered { IsOrdered cycle.now.ordered.now }
     requires kept { StandsForState cycle.now.ordered.now.net kept }
     ensures { IfSome result (StandsForState cycle.now.ordered.now.net) }
@@ -99,12 +94,7 @@ fn advanced(alloc: Global, net: &Net, kept: Kept, values: &[Value]) -> Option<Ke
 }
 
 /// Adds the line of a cycle in which the leaves have these values.
-fn push_line(
-    alloc: Global,
-    text: &mut Vec<u8>,
-    cycle: &Cycle<'_>,
-    values: &[Value],
-) -> Option<()> {
+fn push_line(alloc: Global, text: &mut Vec<u8>, cycle: &Cycle<'_>, values: &[Value]) -> Option<()> {
     let mut row = List::new(alloc);
     for leaf in cycle.watched {
         row.push(*values.get(leaf.leaf as usize)?).ok()?;

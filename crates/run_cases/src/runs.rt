@@ -1,8 +1,8 @@
 //! The values of runs.
 
 use crate::bodies::{
-    BOTH_WAYS, COUNTER, DIVISOR, ENABLED, INDEXED, INDEXED_TWICE, INDEX_OF_INDEX, INVALID,
-    IN_BRANCH, LAST_CONNECT, MEMORY_FRONT, MEMORY_REST, NEVER, NODE_IN_BRANCH, PRODUCT, QUOTIENT,
+    BOTH_WAYS, COUNTER, DIVISOR, ENABLED, IN_BRANCH, INDEX_OF_INDEX, INDEXED, INDEXED_TWICE,
+    INVALID, LAST_CONNECT, MEMORY_FRONT, MEMORY_REST, NEVER, NODE_IN_BRANCH, PRODUCT, QUOTIENT,
     TWO_INSTANCES,
 };
 use crate::passes::{Asked, told_text};
@@ -36,11 +36,7 @@ const RUNS: [(&str, Rows, &str); 12] = [
         &[&[0], &[0], &[1], &[0]],
         "cycle o\n0 0\n1 0\n2 2\n3 0\n",
     ),
-    (
-        NODE_IN_BRANCH,
-        &[&[0, 5], &[1, 5]],
-        "cycle o\n0 5\n1 10\n",
-    ),
+    (NODE_IN_BRANCH, &[&[0, 5], &[1, 5]], "cycle o\n0 5\n1 10\n"),
     (
         PRODUCT,
         &[&[0xffff_ffff_ffff_ffff], &[0xffff_ffff_ffff_ffff]],
