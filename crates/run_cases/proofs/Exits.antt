@@ -1,7 +1,8 @@
 -- What is said of the value of an `Ok` holds of the value of its `Some`.
 use Rattle.std.proofs.Common.{◌≡◌, Option, Some, None, refl, sym, subst}
-use Rattle.std.specs.Result.{Result, Ok, Err, IfOk, result_ok}
-use Rattle.std.specs.Option.{IfSome}
+use Rattle.std.specs.Prelude.{Result, Ok, Err, IfOk, OnSome, is_ok, if◌then◌else◌}
+use Rattle.std.specs.Result.{result_ok}
+use Rattle.std.specs.Prelude.{IfSome}
 use Rattle.std.proofs.lemmas.Option.{MatchOption-from_none}
 
 ok_some : {A E : Type 0} (r : Result A E) (P Q : A → Type 0) → ((x : A) → P x → Q x) → IfOk r P → IfSome (result_ok r) Q
@@ -10,3 +11,11 @@ ok_some (Err e) P Q f p = MatchOption-from_none None Q refl
 
 pub told : {A E : Type 0} (r : Result A E) (o : Option A) (P Q : A → Type 0) → o ≡ result_ok r → ((x : A) → P x → Q x) → IfOk r P → IfSome o Q
 told r o P Q e f p = subst (λ o. IfSome o Q) (sym e) (ok_some r P Q f p)
+
+-- what holds where a list is changed holds of a `Some` that says that it is
+changed_some : {A E L : Type 0} (r : Result A E) (new yes no : L) (Q : Type 0) → (new ≡ yes → Q) → new ≡ (if is_ok r then yes else no) → OnSome (result_ok r) Q
+changed_some (Ok x) new yes no Q f e = f e
+changed_some (Err x) new yes no Q f e = MatchOption-from_none None (λ _. Q) refl
+
+pub changed : {A E L : Type 0} (r : Result A E) (o : Option A) (new yes no : L) (Q : Type 0) → o ≡ result_ok r → (new ≡ yes → Q) → new ≡ (if is_ok r then yes else no) → OnSome o Q
+changed r o new yes no Q s f e = subst (λ o. OnSome o Q) (sym s) (changed_some r new yes no Q f e)

@@ -29,7 +29,7 @@ added [] w = refl
 added (u ∷ us) w = added us w
 
 longer : (old new : List Value) (last : Leaf) (r : Role) → IsInputAdded old new last r → (k : ℕ) (v : Value) → slice_get old k ≡ Some v → slice_get new k ≡ Some v
-longer old new last (role.Input m) a k v e = subst (λ (s : List Value). slice_get s k ≡ Some v) (sym a.1.1.0) (stays old a.1.0 k v e)
+longer old new last (role.Input m) a k v e = subst (λ (s : List Value). slice_get s k ≡ Some v) (sym a.1.1) (stays old a.1.0 k v e)
 longer old new last role.Clock a k v e = subst (λ (s : List Value). slice_get s k ≡ Some v) (sym a) e
 longer old new last role.Assigned a k v e = subst (λ (s : List Value). slice_get s k ≡ Some v) (sym a) e
 longer old new last (role.Register m) a k v e = subst (λ (s : List Value). slice_get s k ≡ Some v) (sym a) e
@@ -38,8 +38,8 @@ longer old new last (role.Captured m) a k v e = subst (λ (s : List Value). slic
 of_input : (old new : List Value) (last : Leaf) (k : ℕ) → IsInputAdded old new last (role.Input k) → (v : Value) × (slice_get new k ≡ Some v) × (shape_of_value v ≡ leaf_shape last)
 of_input old new last k a = (
   a.1.0,
-  subst (λ (s : List Value). slice_get s k ≡ Some a.1.0) (sym a.1.1.0) (subst (λ (m : ℕ). slice_get (old ++ a.1.0 ∷ []) m ≡ Some a.1.0) (sym a.0) (added old a.1.0)),
-  a.1.1.1,
+  subst (λ (s : List Value). slice_get s k ≡ Some a.1.0) (sym a.1.1) (subst (λ (m : ℕ). slice_get (old ++ a.1.0 ∷ []) m ≡ Some a.1.0) (sym a.0) (added old a.1.0)),
+  a.1.2,
 )
 
 at_last : (old new : List Value) (last : Leaf) → IsInputAdded old new last last.role → (n : ℕ) (leaf : Leaf) → leaf ≡ last → leaf.role ≡ role.Input n
@@ -52,7 +52,7 @@ at_last old new last add n leaf e i =
 -- the leaf of the last place has its value, and those before it keep theirs
 pub more : (leaves : List Leaf) (count : ℕ) (old new : List Value) (last : Leaf) → slice_get leaves count ≡ Some last → HaveValues leaves count old → IsInputAdded old new last last.role → HaveValues leaves (count + 1) new
 more leaves count old new last is have add x n leaf lt there input = ⊎_elim
-    (λ less. let v = have x n leaf less there input in (v.0, longer old new last last.role add n v.0 v.1.0, v.1.1))
+    (λ less. let v = have x n leaf less there input in (v.0, longer old new last last.role add n v.0 v.1, v.2))
     (λ past.
     let e : x ≡ count = omega (arith, lt, past) in
     let same : leaf ≡ last = same_Some leaf last (sym there ∙ (ap (λ k. slice_get leaves k) e ∙ is)) in
@@ -69,8 +69,8 @@ given net values count le have = (
   λ x n leaf there input.
       let below = slice_get_within net.leaves x leaf there in
       let v = have x n leaf (omega (arith, below, le)) there input in
-      let at : get_or values n (lone []) ≡ v.0 = get_or_from_slice_get values n v.0 (lone []) v.1.0 in
-      v.1.0 ∙ ap Some (sym (ap (λ w. fitted_to leaf (integer_of w)) at ∙ refit v.0 (leaf_shape leaf) v.1.1)),
+      let at : get_or values n (lone []) ≡ v.0 = get_or_from_slice_get values n v.0 (lone []) v.1 in
+      v.1 ∙ ap Some (sym (ap (λ w. fitted_to leaf (integer_of w)) at ∙ refit v.0 (leaf_shape leaf) v.2)),
 )
   where
     integers : ℕ → ℤ
