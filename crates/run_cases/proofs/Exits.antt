@@ -13,9 +13,9 @@ pub told : {A E : Type 0} (r : Result A E) (o : Option A) (P Q : A → Type 0) �
 told r o P Q e f p = subst (λ o. IfSome o Q) (sym e) (ok_some r P Q f p)
 
 -- what holds where a list is changed holds of a `Some` that says that it is
-changed_some : {A E L : Type 0} (r : Result A E) (new yes no : L) (Q : Type 0) → (new ≡ yes → Q) → new ≡ (if is_ok r then yes else no) → OnSome (result_ok r) Q
-changed_some (Ok x) new yes no Q f e = f e
-changed_some (Err x) new yes no Q f e = MatchOption-from_none None (λ _. Q) refl
+changed_some : {A E L : Type 0} (r : Result A E) (new longer old : L) (Q : Type 0) → (new ≡ longer → Q) → new ≡ (if is_ok r then longer else old) → OnSome (result_ok r) Q
+changed_some (Ok x) new longer old Q f e = f e
+changed_some (Err x) new longer old Q f e = MatchOption-from_none None (λ _. Q) refl
 
-pub changed : {A E L : Type 0} (r : Result A E) (o : Option A) (new yes no : L) (Q : Type 0) → o ≡ result_ok r → (new ≡ yes → Q) → new ≡ (if is_ok r then yes else no) → OnSome o Q
-changed r o new yes no Q s f e = subst (λ o. OnSome o Q) (sym s) (changed_some r new yes no Q f e)
+pub changed : {A E L : Type 0} (r : Result A E) (o : Option A) (new longer old : L) (Q : Type 0) → o ≡ result_ok r → (new ≡ longer → Q) → new ≡ (if is_ok r then longer else old) → OnSome o Q
+changed r o new longer old Q s f e = subst (λ o. OnSome o Q) (sym s) (changed_some r new longer old Q f e)
