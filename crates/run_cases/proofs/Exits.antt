@@ -14,8 +14,8 @@ told r o P Q e f p = subst (λ o. IfSome o Q) (sym e) (ok_some r P Q f p)
 
 -- what holds where a list is changed holds of a `Some` that says that it is
 changed_some : {A E L : Type 0} (r : Result A E) (new longer old : L) (Q : Type 0) → (new ≡ longer → Q) → new ≡ (if is_ok r then longer else old) → OnSome (result_ok r) Q
-changed_some (Ok x) new longer old Q f e = f e
-changed_some (Err x) new longer old Q f e = MatchOption-from_none None (λ _. Q) refl
+changed_some {A} {E} {L} (Ok x) new longer old Q f e = f e
+changed_some {A} {E} {L} (Err x) new longer old Q f e = MatchOption-from_none {X = A} None (λ (x : A). Q) refl
 
 pub changed : {A E L : Type 0} (r : Result A E) (o : Option A) (new longer old : L) (Q : Type 0) → o ≡ result_ok r → (new ≡ longer → Q) → new ≡ (if is_ok r then longer else old) → OnSome o Q
 changed r o new longer old Q s f e = subst (λ o. OnSome o Q) (sym s) (changed_some r new longer old Q f e)
