@@ -1,14 +1,14 @@
 //! The first faults of circuits, up to leaves that nothing drives.
 
 use crate::bodies::{BOTH_WAYS, IN_BRANCH, LAST_CONNECT};
-use crate::passes::told_check;
+use crate::passes::{Asked, told_text};
 use crate::telling::{expect, with_body};
 use std::alloc::Global;
 
 /// The same of the module M with this body.
 fn told_body(alloc: Global, body: &str) -> Option<String> {
     let text = with_body(alloc, body)?;
-    told_check(alloc, text.as_bytes())
+    told_text(alloc, text.as_bytes(), Asked::Check)
 }
 
 const BODIES: [(&str, &str); 13] = [
@@ -144,6 +144,11 @@ circuit M :
 #[test]
 fn modules_are_judged_where_main_reaches_them(rt: HostRuntime) {
     for (text, wanted) in CIRCUITS {
-        expect(&rt, told_check(rt.alloc(), text.as_bytes()), text, wanted);
+        expect(
+            &rt,
+            told_text(rt.alloc(), text.as_bytes(), Asked::Check),
+            text,
+            wanted,
+        );
     }
 }
