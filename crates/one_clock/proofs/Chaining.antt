@@ -7,7 +7,7 @@ use Rattle.fir_tree.specs.declared.circuit.Module.{Module}
 use Rattle.fir_tree.specs.declared.scope.Fitted.{Fitted}
 use Rattle.fir_meaning.specs.Components.{Design, TypedModule, Leaf, FlatLeaf, design_of, modules_of, module_named, module_at, type_in, flat, flat_through, target_of}
 use Rattle.fir_meaning.specs.ClockRoot.{ClockFrom, IsRooted, at_root, onward, clock_root, clock_inputs_of}
-use Rattle.fir_meaning.proofs.Ports.{from_map}
+use Rattle.fir_meaning.proofs.Ports.{and_some, from_map}
 use Rattle.fir_meaning.proofs.Tracking.{Contains-map, none_some}
 use Rattle.circuit_laws.specs.WellFormed.{IsWellFormed, IsKnownModule}
 use Rattle.drive_check.specs.Keys.{leaf_of_key}
@@ -26,7 +26,7 @@ use Rattle.one_clock.specs.Stands.{Stand, stand_of, stands_of}
 use Rattle.one_clock.specs.Chains.{joins_in, joins_at, at_top, first_input, root_in, Finds}
 use Rattle.one_clock.proofs.Inputs.{inputs_are}
 use Rattle.one_clock.proofs.Lists.{any_in, in_any, and_parts, and_both, flat_itself, flat_equal}
-use Rattle.one_clock.proofs.Placing.{AreTargets, AreMeant, IsPlace, main_there, start_place}
+use Rattle.one_clock.proofs.Placing.{AreTargets, AreMeant, IsPlace, start_place}
 
 -- What the laws say
 
@@ -141,13 +141,12 @@ module _ (fitted : Fitted) (table : Table) (holds : IsTable fitted table) (known
 
   root_is : IsWellFormed fitted → AreNamed fitted → AreMeant fitted → root_in table design.main ≡ clock_root design
   root_is well named meant =
-      let m = main_there fitted well table holds known targets meant in
       let at = start_place fitted well table holds known targets meant in
       let its = known [] at.0 at.1 in
       let h : Holds table (type_in at.0) its.holder at.0.name = holds at.0 its in
       ap first_input (ap (λ n. lookup (nat_eq n) table) (sym at.2) ∙ h.at)
       ∙ ap (λ l. option_map at_top (slice_get l 0)) (h.has.inputs ∙ inputs_are fitted named at.0 its)
-      ∙ sym (ap (λ o. option_map at_top (slice_get (clock_inputs_of o) 0)) m.1)
+      ∙ ap (λ o. option_map at_top (slice_get (clock_inputs_of o) 0)) (sym at.1 ∙ and_some (module_named design design.main))
 
   unrooted : clock_root design ≡ None → {x : FlatLeaf} → IsRooted design x → ⊥
   unrooted none (at_root e) = none_some (sym none ∙ e)

@@ -4,4 +4,4 @@ mod Inputs
 mod Standing
 mod Placing
 mod Chaining
-mod Judging
+mod Faulting

@@ -1,11 +1,11 @@
 -- The places at which modules stand, as they are listed.
-use Rattle.std.proofs.Common.{◌≡◌, ◌↔◌, ℕ, ◌+◌, ◌<◌, ◌==◌, Bool, true, false, List, [], ◌∷◌, ◌++◌, Option, Some, None, slice_get, length, refl, sym, ap, ◌∙◌, subst, arith, ⊎_elim}
+use Rattle.std.proofs.Common.{◌≡◌, ◌↔◌, ℕ, ◌+◌, ◌<◌, ◌≤◌, ◌==◌, Bool, true, false, List, [], ◌∷◌, ◌++◌, Option, Some, None, slice_get, get_or, length, refl, sym, ap, ◌∙◌, subst, arith, ⊎_elim}
 use Rattle.std.specs.Prelude.{Contains, option_map}
 use Rattle.std.proofs.lemmas.Bool.{eqb-true, eqb-false}
 use Rattle.std.proofs.lemmas.List.Elements.{Contains-append_cases, Contains-append_left, Contains-append_right}
 use Rattle.std.specs.Global.{Vec}
 use Rattle.std.proofs.lemmas.List.{map-append}
-use Rattle.std.proofs.lemmas.Option.{slice_get_within, slice_get-map}
+use Rattle.std.proofs.lemmas.Option.{slice_get_within, slice_get_past, slice_get_read, slice_get-map}
 use Rattle.fir_names.proofs.Graphs.{some_same}
 use Rattle.drive_check.proofs.Telling.{get_contains, contains_get}
 use Rattle.one_clock.specs.Tables.{Table}
@@ -62,12 +62,14 @@ pub first_listed : (table : Table) (main : ℕ) (empty all : List Standing) (pat
 first_listed table main empty all path e f h =
     listed_first table ([], main) (stands_of all) (ap stands_of (h ∙ ap (λ l. l ++ record { path = path; name = main } ∷ []) e) ∙ ap (λ (p : List ℕ). (p, main) ∷ []) f)
 
-pub more_listed : (table : Table) (start : Stand) (places next after : List Standing) (at : ℕ) (x : Standing) → Listed table start (stands_of places) at → slice_get places at ≡ Some x
-    → stands_of next ≡ next_stands table (stand_of x) → after ≡ places ++ next → Listed table start (stands_of after) (at + 1)
-more_listed table start places next after at x h e n a =
-    listed_next table start (stands_of places) (stands_of next) (stands_of after) at (stand_of x) h (slice_get-map stand_of places at ∙ ap (option_map stand_of) e) n
+pub more_listed : (table : Table) (start : Stand) (places items next after : List Standing) (at : ℕ) (x : Standing) → Listed table start (stands_of places) at → items ≡ places → at < length items
+    → x ≡ get_or items at x → stands_of next ≡ next_stands table (stand_of x) → after ≡ places ++ next → Listed table start (stands_of after) (at + 1)
+more_listed table start places items next after at x h e below is n a =
+    let here' : slice_get places at ≡ Some x = ap (λ l. slice_get l at) (sym e) ∙ slice_get_read items (length items) at x refl below is in
+    listed_next table start (stands_of places) (stands_of next) (stands_of after) at (stand_of x) h (slice_get-map stand_of places at ∙ ap (option_map stand_of) here') n
     (ap stands_of a ∙ map-append stand_of places next)
 
-pub all_listed : (table : Table) (start : Stand) (places : List Standing) (at : ℕ) → Listed table start (stands_of places) at → slice_get places at ≡ None
+pub all_listed : (table : Table) (start : Stand) (places items : List Standing) (at : ℕ) → Listed table start (stands_of places) at → items ≡ places → length items ≤ at
     → (x : Stand) → Contains (stands_of places) x ↔ ComesFrom table start x
-all_listed table start places at h e = listed_all table start (stands_of places) at h (slice_get-map stand_of places at ∙ ap (option_map stand_of) e)
+all_listed table start places items at h e past =
+    listed_all table start (stands_of places) at h (slice_get-map stand_of places at ∙ ap (option_map stand_of) (ap (λ l. slice_get l at) (sym e) ∙ slice_get_past items at past))

@@ -5,7 +5,7 @@ use Rattle.fir_meaning.specs.Components.{design_of}
 use Rattle.clock_check.specs.Flats.{is_within}
 use Rattle.one_clock.specs.Chains.{root_in, Finds}
 use Rattle.one_clock.specs.Judged.{place_faults}
-use Rattle.one_clock.proofs.Judging.{Laws, judged}
+use Rattle.one_clock.proofs.Faulting.{Laws, judged}
 use Rattle.one_clock.proofs.checking.find.Goals as goal
 
 pub returns : goal.returns
