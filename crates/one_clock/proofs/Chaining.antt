@@ -1,5 +1,5 @@
 -- The links of all places are those of the chains of clocks.
-use Rattle.std.proofs.Common.{◌≡◌, ◌↔◌, ℕ, Bool, true, false, ◌&&◌, List, [], ◌∷◌, map, Option, Some, None, option_map, slice_get, refl, sym, ap, ap₂, ◌∙◌, subst, true≢false}
+use Rattle.std.proofs.Common.{◌≡◌, ◌↔◌, ℕ, true, List, [], Option, Some, None, option_map, slice_get, refl, sym, ap, ap₂, ◌∙◌, subst, true≢false}
 use Rattle.std.specs.Prelude.{Contains, nat_eq}
 use Rattle.std.specs.List.{list_any}
 use Rattle.std.specs.Map.{lookup}
@@ -19,7 +19,7 @@ use Rattle.clock_check.specs.Edges.{Edge, edges_of, module_edges}
 use Rattle.clock_check.specs.Flats.{same_flat, is_within}
 use Rattle.clock_check.specs.Gets.{Gets, LinkAt}
 use Rattle.clock_check.specs.Joins.{flat_by, joins}
-use Rattle.clock_check.specs.Searched.{Sinks, sinks_at, IsSink, LeadsTo}
+use Rattle.clock_check.specs.Searched.{Sinks, IsSink, LeadsTo}
 use Rattle.one_clock.specs.declared.places.Standing.{Standing}
 use Rattle.one_clock.specs.Tables.{Table, Holds, IsTable}
 use Rattle.one_clock.specs.Stands.{Stand, stand_of, stands_of}

@@ -1,12 +1,12 @@
 -- The faults that are found are those of clocks.
-use Rattle.std.proofs.Common.{◌≡◌, ◌↔◌, ℕ, Bool, true, false, List, [], ◌∷◌, Option, Some, None, option_map, refl, sym, ap, ap₂, ◌∙◌, subst, arith, true≢false}
+use Rattle.std.proofs.Common.{◌≡◌, ◌↔◌, ℕ, Bool, true, false, List, [], Option, Some, None, option_map, refl, sym, ap, ap₂, ◌∙◌, subst, arith, true≢false}
 use Rattle.std.specs.Prelude.{Contains, nat_eq}
 use Rattle.std.specs.List.{flat_map}
 use Rattle.std.specs.Map.{lookup}
 use Rattle.place_text.specs.declared.place.Place.{Place}
 use Rattle.fault_order.specs.First.{Tells}
 use Rattle.fir_tree.specs.declared.scope.Fitted.{Fitted}
-use Rattle.fir_meaning.specs.Components.{Design, TypedModule, Leaf, FlatLeaf, design_of, target_of, flat, type_in}
+use Rattle.fir_meaning.specs.Components.{TypedModule, Leaf, FlatLeaf, design_of, target_of, flat, type_in}
 use Rattle.fir_meaning.specs.ClockRoot.{IsRooted}
 use Rattle.fir_meaning.proofs.Ports.{from_map, from_flat_map}
 use Rattle.fir_meaning.proofs.Tracking.{Contains-map, Contains-flat_map, none_some}
@@ -21,7 +21,7 @@ use Rattle.clock_check.specs.declared.fault.ClockFault.{ClockFault}
 use Rattle.clock_check.specs.declared.fault.ClockFault.TheVariants.{ClockOther}
 use Rattle.clock_check.specs.declared.hung.Hung.{Hung}
 use Rattle.clock_check.specs.Clocked.{IsOther, IsFault, clock_other}
-use Rattle.clock_check.specs.Hung.{Hangs, hung_of, module_hung}
+use Rattle.clock_check.specs.Hung.{Hangs, module_hung}
 use Rattle.clock_check.specs.HangsOther.{HangsOther, LeadsHome}
 use Rattle.clock_check.specs.Joins.{flat_by}
 use Rattle.one_clock.specs.declared.places.Standing.{Standing}

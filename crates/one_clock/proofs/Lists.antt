@@ -1,5 +1,5 @@
 -- Elements of lists, and leaves of the run that are the same.
-use Rattle.std.proofs.Common.{◌≡◌, ℕ, zero, suc, ◌+◌, ◌<◌, ◌≤◌, ◌==◌, Bool, true, false, ◌&&◌, ◌||◌, List, [], ◌∷◌, ◌++◌, length, drop, Option, Some, None, slice_get, refl, sym, ap, ap₂, ◌∙◌, arith, true≢false, eq-eqb}
+use Rattle.std.proofs.Common.{◌≡◌, ℕ, zero, suc, ◌<◌, ◌==◌, Bool, true, false, ◌&&◌, ◌||◌, List, [], ◌∷◌, ◌++◌, length, drop, Some, None, slice_get, refl, sym, ap, ap₂, ◌∙◌, arith, true≢false, eq-eqb}
 use Rattle.std.specs.Prelude.{Contains}
 use Rattle.std.specs.List.{list_any, flat_map}
 use Rattle.std.proofs.lemmas.Bool.{eqb-true}
@@ -12,7 +12,7 @@ use Rattle.fir_meaning.proofs.Ports.{one_later}
 use Rattle.fir_meaning.proofs.Tracking.{none_some}
 use Rattle.fir_names.proofs.Graphs.{some_same}
 use Rattle.drive_check.proofs.KeyTests.{way_equal}
-use Rattle.drive_check.proofs.Telling.{get_contains, contains_get}
+use Rattle.drive_check.proofs.Telling.{contains_get}
 use Rattle.clock_check.specs.Flats.{same_path, same_flat}
 
 -- Places in lists

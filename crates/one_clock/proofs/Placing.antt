@@ -1,5 +1,5 @@
 -- What stands at the places that are listed are the modules at paths.
-use Rattle.std.proofs.Common.{◌≡◌, ℕ, zero, suc, Bool, true, false, cond, List, [], ◌∷◌, ◌++◌, map, Option, Some, None, slice_get, ◌==◌, refl, sym, ap, ap₂, ◌∙◌, subst, arith, append-nil, append_assoc}
+use Rattle.std.proofs.Common.{◌≡◌, ℕ, zero, suc, Bool, true, false, cond, List, [], ◌∷◌, ◌++◌, map, Option, Some, None, slice_get, ◌==◌, refl, sym, ap, ap₂, ◌∙◌, subst, append-nil, append_assoc}
 use Rattle.std.specs.Prelude.{Contains, nat_eq, option_and_then}
 use Rattle.std.specs.List.{flat_map}
 use Rattle.std.specs.Map.{lookup}
@@ -75,8 +75,7 @@ module _ (fitted : Fitted) (well : IsWellFormed fitted) (table : Table) (holds :
   entered path m i t at to =
       let c = and_then (λ (x : Component). target_in x.declaration.sort) (component_named m i) t to in
       let its = component_found m i c.0 c.1 in
-      let n = well.bundles.instances path m c.0 t at (ap (component_named m) its.0 ∙ c.1) (target_sort c.0.declaration.sort t c.2) in
-      (
+      let n = well.bundles.instances path m c.0 t at (ap (component_named m) its.0 ∙ c.1) (target_sort c.0.declaration.sort t c.2) in (
         n.0,
         at_snoc design path i ∙ ap (option_and_then (λ x. inside design x i)) at ∙ ap (option_and_then (module_named design)) to ∙ n.1,
         name_is design t n.0 n.1,

@@ -15,7 +15,7 @@ pub struct Standing {
     pub name: u32,
 }
 
-/// All places at which modules stand, from main's on, each once: what stands behind a place comes later. Takes time and memory in
+/// All places at which modules stand, from main's on: what stands behind a place comes later. Takes time and memory in
 /// proportion to their number and to the lengths of their paths.
 pub fn places_of(
     alloc: Global,

@@ -17,10 +17,7 @@ use std::alloc::{AllocError, Global};
 
 /// What is known of the clocks of the modules that main reaches, each under the number of its name. Takes time and memory in
 /// proportion to their statements and leaves.
-pub fn table_of(
-    alloc: Global,
-    fitted: &Fitted,
-) -> Result<IndexMap<u32, ModuleClocks>, AllocError>
+pub fn table_of(alloc: Global, fitted: &Fitted) -> Result<IndexMap<u32, ModuleClocks>, AllocError>
     requires { IsWellFormed fitted.now }
     ensures { IfOk result (λ table. IsTable fitted.now table.entries) }
 {
