@@ -17,7 +17,7 @@ use indexmap::IndexMap;
 use std::alloc::{AllocError, Global};
 
 /// The leaves that lead to main's first Clock input, by the links of all modules at all places; none where main has no such input.
-/// Takes time and memory in proportion to these links.
+/// Takes time and memory in proportion to these links, each with the length of its path.
 pub fn rooted_leaves(
     alloc: Global,
     table: &IndexMap<u32, ModuleClocks>,

@@ -26,7 +26,8 @@ use std::alloc::{AllocError, Global};
 /// Ok where the clock of each register and of each memory port leads to main's first Clock input, at every path (FIRRTL specification
 /// 3.0, "Clock" under "Ground Types"). Else the first fault by place.
 ///
-/// Takes time and memory in proportion to the flat leaves and statements: each path is visited once, and each Clock leaf at it.
+/// Takes time and memory in proportion to the Clock leaves, registers and memory ports of the run, each with the length of its path, and
+/// to the statements and leaves of each module.
 pub fn clocks(alloc: Global, fitted: &Fitted) -> Result<(), ClockFault>
     requires { IsWellFormed fitted.now }
     ensures { IsVerdict place_of rank_of (IsFault fitted.now) (λ passed. HasOneClock (design_of fitted.now)) result }
