@@ -1,5 +1,5 @@
 -- The fitted circuits of a text differ in nothing that the last stages judge.
-use Rattle.std.proofs.Common.{◌≡◌, List, sym, ap, ◌∙◌, subst, slice_get, Some, true, refl}
+use Rattle.std.proofs.Common.{◌≡◌, ℕ, List, Option, sym, ap, ◌∙◌, subst, slice_get, Some, true}
 use Rattle.std.specs.Prelude.{Bool}
 use Rattle.place_text.specs.declared.place.Place.{Place}
 use Rattle.fault_order.specs.First.{IsFirst, HasNone}
@@ -44,7 +44,7 @@ same_design first second same =
     ∙ ap (λ (modules : List TypedModule). record { main = second.checked.circuit.main.id; modules = modules }) (modules_alike first second same)
 
 -- a fault is the first among the same faults
-first_among : {F : Type 0} {place : F → _} {rank : F → _} {here there' : F → Type 0} → ((fault : F) → here fault → there' fault) → ((fault : F) → there' fault → here fault)
+first_among : {F : Type 0} {place : F → Option Place} {rank : F → ℕ} {here there' : F → Type 0} → ((fault : F) → here fault → there' fault) → ((fault : F) → there' fault → here fault)
     → (given : F) → IsFirst place rank here given → IsFirst place rank there' given
 first_among to from given f = record { is = to given f.is; first = λ other h. f.first other (from other h) }
 
@@ -73,10 +73,10 @@ same_undriven first second same place u = record {
 }
 
 same_drives : (first second : Fitted) → AreAlike first second → (fault : DriveFault) → IsDriveFault first fault → IsDriveFault second fault
-same_drives first second same _ (not_initialized place u) = not_initialized place (same_undriven first second same place u)
+same_drives first second same fault (not_initialized place u) = not_initialized place (same_undriven first second same place u)
 
 same_clocks : (first second : Fitted) → AreAlike first second → (fault : ClockFault) → IsClockFault first fault → IsClockFault second fault
-same_clocks first second same _ (clock_other place other) = clock_other place (subst (λ (d : Design). IsOther d place) (same_design first second same) other)
+same_clocks first second same fault (clock_other place other) = clock_other place (subst (λ (d : Design). IsOther d place) (same_design first second same) other)
 
 pub first_drives : (first second : Fitted) → AreAlike first second → (given : DriveFault) → IsFirstOfDrives first given → IsFirstOfDrives second given
 first_drives first second same given f = first_among (same_drives first second same) (same_drives second first (turned first second same)) given f
@@ -94,11 +94,11 @@ pub driven_has_none : (fitted : Fitted) → IsWellFormed fitted → IsInitialize
 driven_has_none fitted well = covered_has_none fitted (reached_is_standing fitted well) (named_itself fitted well.names)
 
 clocked_has_none : (design : Design) → HasOneClock design → (place : Place) → IsOther design place → ⊥
-clocked_has_none design one _ (register path m c clock at is not_clocked) = not_clocked (one.registers path m c clock at.reached at.declared is)
-clocked_has_none design one _ (port path m c memory p at is among not_rooted) = not_rooted (one.ports path m c memory p at.reached at.declared is among)
+clocked_has_none design one place (register path m c clock at is not_clocked) = not_clocked (one.registers path m c clock at.reached at.declared is)
+clocked_has_none design one place (port path m c memory p at is among not_rooted) = not_rooted (one.ports path m c memory p at.reached at.declared is among)
 
-pub one_clock_has_none : (fitted : Fitted) → HasOneClock (design_of fitted) → HasNone (IsClockFault fitted)
-one_clock_has_none fitted one _ (clock_other place other) = clocked_has_none (design_of fitted) one place other
+pub one_clock_has_none : (fitted : Fitted) → HasOneClock (design_of fitted) → (fault : ClockFault) → IsClockFault fitted fault → ⊥
+one_clock_has_none fitted one fault (clock_other place other) = clocked_has_none (design_of fitted) one place other
 
-pub no_loop_has_none : (design : Design) → HasNoLoop design → HasNone (IsLoopFault design)
-no_loop_has_none design none _ (first_loop place first) = no_first design place none first
+pub no_loop_has_none : (design : Design) → HasNoLoop design → (fault : OrderFault) → IsLoopFault design fault → ⊥
+no_loop_has_none design none fault (first_loop place first) = no_first design place none first
