@@ -36,6 +36,9 @@ use Rattle.width_fit.specs.Faults.{place_of as place_of_widths}
 use Rattle.width_fit.specs.Fitting.{IsFit}
 use Rattle.width_fit.specs.declared.fault.WidthFault.{WidthFault}
 use Rattle.fir_meaning.specs.Components.{design_of}
+use Rattle.fir_meaning.specs.Certain.{IsInitialized}
+use Rattle.fir_meaning.specs.ClockRoot.{HasOneClock}
+use Rattle.fir_meaning.specs.Loops.{HasNoLoop}
 use Rattle.drive_check.specs.Faults.{place_of as place_of_drives}
 use Rattle.drive_check.specs.declared.fault.DriveFault.{DriveFault}
 use Rattle.clock_check.specs.Faults.{place_of as place_of_clocks}
@@ -126,13 +129,22 @@ pub given_drives : (text : List ℕ) (fitted : Fitted) (given : DriveFault) → 
     → IsGiven text (unless_wanting (place_of_drives given) (fault.Drive given))
 given_drives text fitted given fits found = by_place text (fault.Drive given) (place_of_drives given) refl (⊎_elim (λ m. inl m) (λ f. inr (of_drives fitted given fits f)) found)
 
+pub driven_by : (text : List ℕ) (fitted : Fitted) → IsFitted text fitted → IsInitialized (design_of fitted) → IsDriven text fitted
+driven_by text fitted fits initialized = record { fits = fits; initialized = initialized }
+
 pub given_clocks : (text : List ℕ) (fitted : Fitted) (given : ClockFault) → IsDriven text fitted → (place_of_clocks given ≡ None) ⊎ IsFirstOfClocks fitted given
     → IsGiven text (unless_wanting (place_of_clocks given) (fault.Clock given))
 given_clocks text fitted given d found = by_place text (fault.Clock given) (place_of_clocks given) refl (⊎_elim (λ m. inl m) (λ f. inr (of_clocks fitted given d f)) found)
 
+pub clocked_by : (text : List ℕ) (fitted : Fitted) → IsDriven text fitted → HasOneClock (design_of fitted) → IsClocked text fitted
+clocked_by text fitted driven one_clock = record { driven = driven; one_clock = one_clock }
+
 pub given_order : (text : List ℕ) (fitted : Fitted) (given : OrderFault) → IsClocked text fitted → (place_of_order given ≡ None) ⊎ IsFirstOfLoops fitted given
     → IsGiven text (unless_wanting (place_of_order given) (fault.Order given))
 given_order text fitted given c found = by_place text (fault.Order given) (place_of_order given) refl (⊎_elim (λ m. inl m) (λ f. inr (of_order fitted given c f)) found)
+
+pub accepted_by : (text : List ℕ) (fitted : Fitted) → IsClocked text fitted → HasNoLoop (design_of fitted) → IsAccepted text fitted
+accepted_by text fitted clocked no_loop = record { clocked = clocked; no_loop = no_loop }
 
 -- the clauses that follow from the definitions
 pub fault_from : (text : List ℕ) (result : Result Built CircuitFault) → IfErr result (IsGiven text) → IfErr result (λ given. (given ≡ fault.NoMemory) ⊎ IsFirstFault text given)
