@@ -1,0 +1,6 @@
+pub mod Lists
+pub mod Fed
+pub mod Parts
+pub mod Matching
+pub mod NetRuns
+pub mod Traces
