@@ -53,8 +53,8 @@ input_same m n e = some_same (ap input_number e)
 told_as : (r : Role) (a : ℕ) (l : Leaf) → l.role ≡ r → told (a, l) ≡ (if is_given r then Some (port_leaf a l) else None)
 told_as r a l e = ap (λ s. if is_given s then Some (port_leaf a l) else None) e
 
-number_as : (r : Role) (a : ℕ) (l : Leaf) → l.role ≡ r → number (a, l) ≡ option_map {B = ℕ × ℕ} (λ n. (a, n)) (input_number r)
-number_as r a l e = ap (λ s. option_map {B = ℕ × ℕ} (λ n. (a, n)) (input_number s)) e
+number_as : (r : Role) (a : ℕ) (l : Leaf) → l.role ≡ r → number (a, l) ≡ option_map {U = ℕ × ℕ} (λ n. (a, n)) (input_number r)
+number_as r a l e = ap (λ s. option_map {U = ℕ × ℕ} (λ n. (a, n)) (input_number s)) e
 
 -- what is counted behind an input, and behind another leaf
 behind_input : (a k m : ℕ) (l : Leaf) (ls : List Leaf) → number (a, l) ≡ Some (a, m) → Counted a k (l ∷ ls) → (m ≡ k) × Counted (a + 1) (k + 1) ls
@@ -69,86 +69,82 @@ behind_other a k l ls e c = subst (λ o. map (λ both. both.1) (cons_option o (f
 abbrev Stands : ℕ → ℕ → List Leaf → ℕ → ℕ → Leaf → Type 0
 Stands a k ls x n leaf = (j : ℕ) × (n ≡ k + j) × (slice_get (filter_map told (from a ls)) j ≡ Some (port_leaf (a + x) leaf))
 
-at_number : (ls : List Leaf) (a k : ℕ) → Counted a k ls → (x n : ℕ) (leaf : Leaf) → slice_get ls x ≡ Some leaf → leaf.role ≡ role.Input n → Stands a k ls x n leaf
-at_number [] a k c x n leaf e is = none_some e
-at_number (l ∷ ls) a k c x n leaf e is = by l.role refl x e where
+module _ (l : Leaf) (ls : List Leaf) (a k : ℕ) (c : Counted a k (l ∷ ls)) where
   abbrev rest : List PortLeaf
   rest = filter_map told (from (a + 1) ls)
 
-  first : (m : ℕ) → l.role ≡ role.Input m → leaf ≡ l → Stands a k (l ∷ ls) 0 n leaf
-  first m r same =
-      let t : told (a, l) ≡ Some (port_leaf a l) = told_as (role.Input m) a l r in
-      let b = behind_input a k m l ls (number_as (role.Input m) a l r) c in
-      let inputs_are : m ≡ n = input_same m n (sym r ∙ (ap (λ (z : Leaf). z.role) (sym same) ∙ is)) in
-      let here : a ≡ a + 0 = omega arith in
-      let counted : n ≡ k + 0 = sym inputs_are ∙ (b.0 ∙ (omega arith)) in
-      (0, counted, ap (λ o. slice_get (cons_option o rest) 0) t ∙ (ap (λ z. Some (port_leaf a z)) (sym same) ∙ ap (λ z. Some (port_leaf z leaf)) here))
+  module _ (n : ℕ) (leaf : Leaf) (is : leaf.role ≡ role.Input n) (onward : (m : ℕ) → Counted (a + 1) m ls → (y : ℕ) → slice_get ls y ≡ Some leaf → Stands (a + 1) m ls y n leaf) where
+    first_at : (m : ℕ) → l.role ≡ role.Input m → leaf ≡ l → Stands a k (l ∷ ls) 0 n leaf
+    first_at m r same =
+        let t : told (a, l) ≡ Some (port_leaf a l) = told_as (role.Input m) a l r in
+        let b = behind_input a k m l ls (number_as (role.Input m) a l r) c in
+        let inputs_are : m ≡ n = input_same m n (sym r ∙ (ap (λ (z : Leaf). z.role) (sym same) ∙ is)) in
+        let here : a ≡ a + 0 = omega arith in
+        let plain : k ≡ k + 0 = omega arith in
+        (0, sym inputs_are ∙ (b.0 ∙ plain), ap (λ o. slice_get (cons_option o rest) 0) t ∙ (ap (λ z. Some (port_leaf a z)) (sym same) ∙ ap (λ z. Some (port_leaf z leaf)) here))
 
-  later_of_input : (m y : ℕ) → l.role ≡ role.Input m → slice_get ls y ≡ Some leaf → Stands a k (l ∷ ls) (suc y) n leaf
-  later_of_input m y r e =
-      let t : told (a, l) ≡ Some (port_leaf a l) = told_as (role.Input m) a l r in
-      let b = behind_input a k m l ls (number_as (role.Input m) a l r) c in
-      let h = at_number ls (a + 1) (k + 1) b.1 y n leaf e is in
-      let place : a + 1 + y ≡ a + suc y = omega arith in
-      let counted : n ≡ k + suc h.0 = h.1 ∙ omega arith in
-      (suc h.0, counted, ap (λ o. slice_get (cons_option o rest) (suc h.0)) t ∙ (h.2 ∙ ap (λ z. Some (port_leaf z leaf)) place))
+    later_at : (m j : ℕ) (o : Option PortLeaf) → told (a, l) ≡ o → Counted (a + 1) m ls → ((i : ℕ) → slice_get (cons_option o rest) (j + i) ≡ slice_get rest i) → m ≡ k + j → (y : ℕ) → slice_get ls y ≡ Some leaf → Stands a k (l ∷ ls) (suc y) n leaf
+    later_at m j o t d shift counted y e =
+        let h = onward m d y e in
+        let place : a + 1 + y ≡ a + suc y = omega arith in
+        let number_is : k + j + h.0 ≡ k + (j + h.0) = omega arith in
+        (j + h.0, h.1 ∙ (ap (λ z. z + h.0) counted ∙ number_is), ap (λ o. slice_get (cons_option o rest) (j + h.0)) t ∙ (shift h.0 ∙ (h.2 ∙ ap (λ z. Some (port_leaf z leaf)) place)))
 
-  later_of_other : (y : ℕ) → told (a, l) ≡ None → number (a, l) ≡ None → slice_get ls y ≡ Some leaf → Stands a k (l ∷ ls) (suc y) n leaf
-  later_of_other y t m e =
-      let h = at_number ls (a + 1) k (behind_other a k l ls m c) y n leaf e is in
-      let place : a + 1 + y ≡ a + suc y = omega arith in
-      (h.0, h.1, ap (λ o. slice_get (cons_option o rest) h.0) t ∙ (h.2 ∙ ap (λ z. Some (port_leaf z leaf)) place))
+    of_other : (r : Role) → l.role ≡ r → is_given r ≡ false → input_number r ≡ None → (x : ℕ) → slice_get (l ∷ ls) x ≡ Some leaf → Stands a k (l ∷ ls) x n leaf
+    of_other r q untold none zero e = none_some (sym none ∙ (ap input_number (sym q ∙ (ap (λ (z : Leaf). z.role) (some_same e) ∙ is))))
+    of_other r q untold none (suc y) e =
+        let plain : k ≡ k + 0 = omega arith in
+        later_at k 0 None (told_as r a l q ∙ ap (λ b. if b then Some (port_leaf a l) else None) untold) (behind_other a k l ls (number_as r a l q ∙ ap (option_map {U = ℕ × ℕ} (λ n. (a, n))) none) c)
+        (λ i. let z : 0 + i ≡ i = omega arith in ap (slice_get rest) z) plain y e
 
-  no_input : (r : Role) → l.role ≡ r → (input_number r ≡ None) → l ≡ leaf → Stands a k (l ∷ ls) 0 n leaf
-  no_input r q none same = none_some (sym none ∙ (ap input_number (sym q ∙ (ap (λ (z : Leaf). z.role) same ∙ is))))
+    by_role : (r : Role) → l.role ≡ r → (x : ℕ) → slice_get (l ∷ ls) x ≡ Some leaf → Stands a k (l ∷ ls) x n leaf
+    by_role (role.Input m) r zero e = first_at m r (sym (some_same e))
+    by_role (role.Input m) r (suc y) e =
+        later_at (k + 1) 1 (Some (port_leaf a l)) (told_as (role.Input m) a l r) (behind_input a k m l ls (number_as (role.Input m) a l r) c).1
+        (λ i. let z : 1 + i ≡ suc i = omega arith in ap (slice_get (port_leaf a l ∷ rest)) z) refl y e
+    by_role role.Clock r x e = of_other role.Clock r refl refl x e
+    by_role role.Assigned r x e = of_other role.Assigned r refl refl x e
+    by_role (role.Register m) r x e = of_other (role.Register m) r refl refl x e
+    by_role (role.Captured m) r x e = of_other (role.Captured m) r refl refl x e
 
-  by : (r : Role) → l.role ≡ r → (x : ℕ) → slice_get (l ∷ ls) x ≡ Some leaf → Stands a k (l ∷ ls) x n leaf
-  by (role.Input m) r zero e = first m r (sym (some_same e))
-  by (role.Input m) r (suc y) e = later_of_input m y r e
-  by role.Clock r zero e = no_input role.Clock r refl (some_same e)
-  by role.Clock r (suc y) e = later_of_other y (told_as role.Clock a l r) (number_as role.Clock a l r) e
-  by role.Assigned r zero e = no_input role.Assigned r refl (some_same e)
-  by role.Assigned r (suc y) e = later_of_other y (told_as role.Assigned a l r) (number_as role.Assigned a l r) e
-  by (role.Register m) r zero e = no_input (role.Register m) r refl (some_same e)
-  by (role.Register m) r (suc y) e = later_of_other y (told_as (role.Register m) a l r) (number_as (role.Register m) a l r) e
-  by (role.Captured m) r zero e = no_input (role.Captured m) r refl (some_same e)
-  by (role.Captured m) r (suc y) e = later_of_other y (told_as (role.Captured m) a l r) (number_as (role.Captured m) a l r) e
+at_number : (ls : List Leaf) (a k : ℕ) → Counted a k ls → (x n : ℕ) (leaf : Leaf) → slice_get ls x ≡ Some leaf → leaf.role ≡ role.Input n → Stands a k ls x n leaf
+at_number [] a k c x n leaf e is = none_some e
+at_number (l ∷ ls) a k c x n leaf e is = by_role l ls a k c n leaf is (λ m d y f. at_number ls (a + 1) m d y n leaf f is) l.role refl x e
 
 -- what is told is of an input, and at its number
 abbrev Tells : ℕ → List Leaf → ℕ → PortLeaf → Type 0
 Tells a ls n p = (x : ℕ) × (leaf : Leaf) × (slice_get ls x ≡ Some leaf) × (leaf.role ≡ role.Input n) × (p ≡ port_leaf (a + x) leaf)
 
-of_input : (ls : List Leaf) (a k : ℕ) → Counted a k ls → (j : ℕ) (p : PortLeaf) → slice_get (filter_map told (from a ls)) j ≡ Some p → Tells a ls (k + j) p
-of_input [] a k c j p e = none_some e
-of_input (l ∷ ls) a k c j p e = by l.role refl where
-  abbrev rest : List PortLeaf
-  rest = filter_map told (from (a + 1) ls)
-
-  later : (n m i : ℕ) → n + i ≡ m → Counted (a + 1) n ls → slice_get rest i ≡ Some p → Tells a (l ∷ ls) m p
-  later n m i same c e =
-      let h = of_input ls (a + 1) n c i p e in
+module _ (l : Leaf) (ls : List Leaf) (a k : ℕ) (c : Counted a k (l ∷ ls)) (p : PortLeaf) (onward : (m : ℕ) → Counted (a + 1) m ls → (i : ℕ) → slice_get (filter_map told (from (a + 1) ls)) i ≡ Some p → Tells (a + 1) ls (m + i) p) where
+  told_later : (n m i : ℕ) → n + i ≡ m → Counted (a + 1) n ls → slice_get (filter_map told (from (a + 1) ls)) i ≡ Some p → Tells a (l ∷ ls) m p
+  told_later n m i same d e =
+      let h = onward n d i e in
       let place : a + 1 + h.0 ≡ a + suc h.0 = omega arith in
       (suc h.0, h.1, h.2, h.3 ∙ ap role.Input same, h.4 ∙ ap (λ z. port_leaf z h.1) place)
 
-  first : (m : ℕ) → l.role ≡ role.Input m → (i : ℕ) → slice_get (port_leaf a l ∷ rest) i ≡ Some p → Tells a (l ∷ ls) (k + i) p
-  first m r zero e =
+  told_first : (m : ℕ) → l.role ≡ role.Input m → (i : ℕ) → slice_get (port_leaf a l ∷ filter_map told (from (a + 1) ls)) i ≡ Some p → Tells a (l ∷ ls) (k + i) p
+  told_first m r zero e =
       let b = behind_input a k m l ls (number_as (role.Input m) a l r) c in
       let place : a ≡ a + 0 = omega arith in
-      let counted : m ≡ k + 0 = b.0 ∙ omega arith in
-      (0, l, refl, r ∙ ap role.Input counted, sym (some_same e) ∙ ap (λ z. port_leaf z l) place)
-  first m r (suc i) e = later (k + 1) (k + suc i) i (omega arith) (behind_input a k m l ls (number_as (role.Input m) a l r) c).1 e
+      let plain : k ≡ k + 0 = omega arith in
+      (0, l, refl, r ∙ ap role.Input (b.0 ∙ plain), sym (some_same e) ∙ ap (λ z. port_leaf z l) place)
+  told_first m r (suc i) e = told_later (k + 1) (k + suc i) i (omega arith) (behind_input a k m l ls (number_as (role.Input m) a l r) c).1 e
 
-  other : (r : Role) → l.role ≡ r → is_given r ≡ false → input_number r ≡ None → Tells a (l ∷ ls) (k + j) p
-  other r q untold none =
-      later k (k + j) j refl (behind_other a k l ls (number_as r a l q ∙ ap (option_map {B = ℕ × ℕ} (λ n. (a, n))) none) c)
-      (ap (λ o. slice_get (cons_option o rest) j) (sym (told_as r a l q ∙ ap (λ b. if b then Some (port_leaf a l) else None) untold)) ∙ e)
+  told_other : (r : Role) → l.role ≡ r → is_given r ≡ false → input_number r ≡ None → (j : ℕ) → slice_get (filter_map told (from a (l ∷ ls))) j ≡ Some p → Tells a (l ∷ ls) (k + j) p
+  told_other r q untold none j e =
+      told_later k (k + j) j refl (behind_other a k l ls (number_as r a l q ∙ ap (option_map {U = ℕ × ℕ} (λ n. (a, n))) none) c)
+      (ap (λ o. slice_get (cons_option o (filter_map told (from (a + 1) ls))) j) (sym (told_as r a l q ∙ ap (λ b. if b then Some (port_leaf a l) else None) untold)) ∙ e)
 
-  by : (r : Role) → l.role ≡ r → Tells a (l ∷ ls) (k + j) p
-  by (role.Input m) r = first m r j (ap (λ o. slice_get (cons_option o rest) j) (sym (told_as (role.Input m) a l r)) ∙ e)
-  by role.Clock r = other role.Clock r refl refl
-  by role.Assigned r = other role.Assigned r refl refl
-  by (role.Register m) r = other (role.Register m) r refl refl
-  by (role.Captured m) r = other (role.Captured m) r refl refl
+  told_by : (r : Role) → l.role ≡ r → (j : ℕ) → slice_get (filter_map told (from a (l ∷ ls))) j ≡ Some p → Tells a (l ∷ ls) (k + j) p
+  told_by (role.Input m) r j e = told_first m r j (ap (λ o. slice_get (cons_option o (filter_map told (from (a + 1) ls))) j) (sym (told_as (role.Input m) a l r)) ∙ e)
+  told_by role.Clock r j e = told_other role.Clock r refl refl j e
+  told_by role.Assigned r j e = told_other role.Assigned r refl refl j e
+  told_by (role.Register m) r j e = told_other (role.Register m) r refl refl j e
+  told_by (role.Captured m) r j e = told_other (role.Captured m) r refl refl j e
+
+of_input : (ls : List Leaf) (a k : ℕ) → Counted a k ls → (j : ℕ) (p : PortLeaf) → slice_get (filter_map told (from a ls)) j ≡ Some p → Tells a ls (k + j) p
+of_input [] a k c j p e = none_some e
+of_input (l ∷ ls) a k c j p e = told_by l ls a k c p (λ m d i f. of_input ls (a + 1) m d i p f) l.role refl j e
 
 -- Behind the ports of main stands no input.
 module _ (net : Net) where
@@ -247,5 +243,5 @@ module _ (net : Net) (well : IsNet net) (ports : Ports) (fed : ports.inputs ≡ 
       let at : slice_get ports.inputs n ≡ Some (port_leaf x leaf) = ap (λ l. slice_get l n) fed ∙ input_at net well x n leaf there is in
       let zero_plus : 0 + n ≡ n = omega arith in
       slice_get-map (λ (e : ℕ × PortLeaf). value_in stimulus.settings cycle e.0 e.1) _ n
-      ∙ (ap (option_map (λ (e : ℕ × PortLeaf). value_in stimulus.settings cycle e.0 e.1)) (get_enumerate 0 ports.inputs n ∙ ap (option_map {B = ℕ × PortLeaf} (λ p. (0 + n, p))) at)
+      ∙ (ap (option_map (λ (e : ℕ × PortLeaf). value_in stimulus.settings cycle e.0 e.1)) (get_enumerate 0 ports.inputs n ∙ ap (option_map {U = ℕ × PortLeaf} (λ p. (0 + n, p))) at)
       ∙ (ap (λ m. Some (value_in stimulus.settings cycle m (port_leaf x leaf))) zero_plus ∙ ap Some (value_is x n leaf there is cycle)))

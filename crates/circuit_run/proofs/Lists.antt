@@ -30,10 +30,10 @@ enumerate_split {A} a (x ∷ xs) ys =
     let b : a + 1 + length xs ≡ a + suc (length xs) = omega arith in
     ap (λ (l : List (ℕ × A)). (a, x) ∷ l) (enumerate_split (a + 1) xs ys ∙ ap (λ c. enumerate_from (a + 1) xs ++ enumerate_from c ys) b)
 
-pub get_enumerate : {A : Type 0} (a : ℕ) (xs : List A) (k : ℕ) → slice_get (enumerate_from a xs) k ≡ option_map {B = ℕ × A} (λ x. (a + k, x)) (slice_get xs k)
+pub get_enumerate : {A : Type 0} (a : ℕ) (xs : List A) (k : ℕ) → slice_get (enumerate_from a xs) k ≡ option_map {U = ℕ × A} (λ x. (a + k, x)) (slice_get xs k)
 get_enumerate a [] k = refl
 get_enumerate {A} a (x ∷ xs) zero = let b : a ≡ a + 0 = omega arith in ap {B = Option (ℕ × A)} (λ c. Some (c, x)) b
-get_enumerate {A} a (x ∷ xs) (suc k) = let b : a + 1 + k ≡ a + suc k = omega arith in get_enumerate (a + 1) xs k ∙ ap (λ c. option_map {B = ℕ × A} (λ y. (c, y)) (slice_get xs k)) b
+get_enumerate {A} a (x ∷ xs) (suc k) = let b : a + 1 + k ≡ a + suc k = omega arith in get_enumerate (a + 1) xs k ∙ ap (λ c. option_map {U = ℕ × A} (λ y. (c, y)) (slice_get xs k)) b
 
 -- Items
 
@@ -55,14 +55,12 @@ get_item (a ∷ xs) (suc x) h = get_item xs x (omega arith)
 
 pub filter_in : {A : Type 0} (p : A → Bool) (xs : List A) (k : ℕ) (x : A) → slice_get (filter p xs) k ≡ Some x → (j : ℕ) × (slice_get xs j ≡ Some x)
 filter_in p [] k x e = none_some e
-filter_in {A} p (y ∷ xs) k x e = by (p y) k e where
-  later : (k : ℕ) → slice_get (filter p xs) k ≡ Some x → (j : ℕ) × (slice_get (y ∷ xs) j ≡ Some x)
-  later k e = let r = filter_in p xs k x e in (suc r.0, r.1)
-
-  by : (b : Bool) (k : ℕ) → slice_get (cond b (y ∷ filter p xs) (filter p xs)) k ≡ Some x → (j : ℕ) × (slice_get (y ∷ xs) j ≡ Some x)
-  by true zero e = (0, e)
-  by true (suc k) e = later k e
-  by false k e = later k e
+filter_in {A} p (y ∷ xs) k x e = by (p y) k e (λ k e. let r = filter_in p xs k x e in (suc r.0, r.1)) where
+  by : (b : Bool) (k : ℕ) → slice_get (cond b (y ∷ filter p xs) (filter p xs)) k ≡ Some x → ((k : ℕ) → slice_get (filter p xs) k ≡ Some x → (j : ℕ) × (slice_get (y ∷ xs) j ≡ Some x))
+      → (j : ℕ) × (slice_get (y ∷ xs) j ≡ Some x)
+  by true zero e later = (0, e)
+  by true (suc k) e later = later k e
+  by false k e later = later k e
 
 pub all_at : {A : Type 0} (P : A → Type 0) (xs : List A) → All P xs → (k : ℕ) (x : A) → slice_get xs k ≡ Some x → P x
 all_at P xs h k x e = subst P (get_or_from_slice_get xs k x x e) (h k x (slice_get_within xs k x e))
@@ -70,10 +68,10 @@ all_at P xs h k x e = subst P (get_or_from_slice_get xs k x x e) (h k x (slice_g
 -- what is found passes, and is an item
 pub find_at : {A : Type 0} (p : A → Bool) (xs : List A) (x : A) → find p xs ≡ Some x → (k : ℕ) × (slice_get xs k ≡ Some x) × (p x ≡ true)
 find_at p [] x e = none_some e
-find_at {A} p (y ∷ xs) x e = by (p y) refl e where
-  by : (b : Bool) → p y ≡ b → cond b (Some y) (find p xs) ≡ Some x → (k : ℕ) × (slice_get (y ∷ xs) k ≡ Some x) × (p x ≡ true)
-  by true q e = (0, e, ap p (sym (some_same e)) ∙ q)
-  by false q e = let r = find_at p xs x e in (suc r.0, r.1, r.2)
+find_at {A} p (y ∷ xs) x e = by (p y) refl e (λ e. find_at p xs x e) where
+  by : (b : Bool) → p y ≡ b → cond b (Some y) (find p xs) ≡ Some x → (find p xs ≡ Some x → (k : ℕ) × (slice_get xs k ≡ Some x) × (p x ≡ true)) → (k : ℕ) × (slice_get (y ∷ xs) k ≡ Some x) × (p x ≡ true)
+  by true q e later = (0, e, ap p (sym (some_same e)) ∙ q)
+  by false q e later = let r = later e in (suc r.0, r.1, r.2)
 
 pub reverse_at : {A : Type 0} (xs : List A) (k : ℕ) (x : A) → slice_get (reverse xs) k ≡ Some x → (j : ℕ) × (slice_get xs j ≡ Some x)
 reverse_at [] k x e = none_some e

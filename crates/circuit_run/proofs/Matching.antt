@@ -33,7 +33,7 @@ both_true : (a b : Bool) → (a && b) ≡ true → (a ≡ true) × (b ≡ true)
 both_true true b e = (refl, e)
 both_true false b e = absurd (true≢false (sym e))
 
-pair_is : (o : Option Standing) (k : ℕ) (e : ℕ × PortPart) → option_map {B = ℕ × PortPart} (λ x. (0 + k, x)) (option_map strip o) ≡ Some e → (y : Standing) × (o ≡ Some y) × (e.0 ≡ k) × (e.1 ≡ strip y)
+pair_is : (o : Option Standing) (k : ℕ) (e : ℕ × PortPart) → option_map {U = ℕ × PortPart} (λ x. (0 + k, x)) (option_map strip o) ≡ Some e → (y : Standing) × (o ≡ Some y) × (e.0 ≡ k) × (e.1 ≡ strip y)
 pair_is None k e h = none_some h
 pair_is (Some y) k e h =
     let zero_plus : 0 + k ≡ k = omega arith in
@@ -54,7 +54,7 @@ module _ (texts : Texts) (design : Design) (net : Net) (serves : Serves texts de
       let listed : slice_get (enumerate_from 0 (map strip ports_first)) j.0 ≡ Some e =
       ap (λ l. slice_get l j.0) (sym (parts_of_front texts design placed serves.of.elements net serves.of.is serves.lists serves.of.main serves.of.found serves.of.order first)) ∙ j.1 in
       let p = pair_is (slice_get ports_first j.0) j.0 e
-      (ap (option_map {B = ℕ × PortPart} (λ x. (0 + j.0, x))) (sym (slice_get-map strip ports_first j.0)) ∙ (sym (get_enumerate 0 (map strip ports_first) j.0) ∙ listed)) in
+      (ap (option_map {U = ℕ × PortPart} (λ x. (0 + j.0, x))) (sym (slice_get-map strip ports_first j.0)) ∙ (sym (get_enumerate 0 (map strip ports_first) j.0) ∙ listed)) in
       let at = front_at texts design placed serves.of.elements net serves.of.is serves.lists serves.of.main serves.of.found serves.of.order first j.0 p.0 p.1 in
       let main = front_main texts design placed serves.of.elements net serves.of.is serves.lists serves.of.main serves.of.found serves.of.order first j.0 p.0 p.1 in
       (p.0, ap (slice_get (all_leaves placed)) p.2 ∙ at, main.0, p.3)

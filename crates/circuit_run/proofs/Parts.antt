@@ -241,25 +241,28 @@ module _ (texts : Texts) (design : Design) (placed : List Placed) (elements : Li
     abbrev told_at : ℕ → Option PortLeaf
     told_at x = told_where among x (slice_get net.leaves x)
 
-    zip_from : (ys : List Standing) (a : ℕ) → Entries a ys → AllZip (IsPortLeaf texts) (filter (λ x. passes x.1) (enumerate_from a (map strip ys))) (filter_map told_at (range_with_len a (length ys)))
-    zip_from [] a h = tt
-    zip_from (y ∷ ys) a h = by (passes (strip y)) refl (zip_from ys (a + 1) (later_entries a y ys h)) where
-      abbrev rest : List (ℕ × PortPart)
-      rest = filter (λ x. passes x.1) (enumerate_from (a + 1) (map strip ys))
+    module _ (a : ℕ) (y : Standing) (ys : List Standing) (h : Entries a (y ∷ ys)) where
+      abbrev parts_behind : List (ℕ × PortPart)
+      parts_behind = filter (λ x. passes x.1) (enumerate_from (a + 1) (map strip ys))
 
-      abbrev told_rest : List PortLeaf
-      told_rest = filter_map told_at (range_with_len (a + 1) (length ys))
+      abbrev told_behind : List PortLeaf
+      told_behind = filter_map told_at (range_with_len (a + 1) (length ys))
 
       told_here : (b : Bool) → passes (strip y) ≡ b → told_at a ≡ (if b then Some (port_leaf a (net_leaf a y ys h).0) else None)
       told_here b e = ap (told_where among a) (net_leaf a y ys h).1 ∙ ap (λ b. if b then Some (port_leaf a (net_leaf a y ys h).0) else None) (alike a y ys h ∙ e)
 
-      by : (b : Bool) → passes (strip y) ≡ b → AllZip (IsPortLeaf texts) rest told_rest → AllZip (IsPortLeaf texts) (cond (passes (strip y)) ((a, strip y) ∷ rest) rest) (cons_option (told_at a) told_rest)
-      by true e r =
-          subst (λ b. AllZip (IsPortLeaf texts) (cond b ((a, strip y) ∷ rest) rest) (cons_option (told_at a) told_rest)) (sym e)
-          (subst (λ o. AllZip (IsPortLeaf texts) ((a, strip y) ∷ rest) (cons_option o told_rest)) (sym (told_here true e)) (port_leaf_here a y ys h, r))
-      by false e r =
-          subst (λ b. AllZip (IsPortLeaf texts) (cond b ((a, strip y) ∷ rest) rest) (cons_option (told_at a) told_rest)) (sym e)
-          (subst (λ o. AllZip (IsPortLeaf texts) rest (cons_option o told_rest)) (sym (told_here false e)) r)
+      zip_one : (b : Bool) → passes (strip y) ≡ b → AllZip (IsPortLeaf texts) parts_behind told_behind
+          → AllZip (IsPortLeaf texts) (cond (passes (strip y)) ((a, strip y) ∷ parts_behind) parts_behind) (cons_option (told_at a) told_behind)
+      zip_one true e r =
+          subst (λ b. AllZip (IsPortLeaf texts) (cond b ((a, strip y) ∷ parts_behind) parts_behind) (cons_option (told_at a) told_behind)) (sym e)
+          (subst (λ o. AllZip (IsPortLeaf texts) ((a, strip y) ∷ parts_behind) (cons_option o told_behind)) (sym (told_here true e)) (port_leaf_here a y ys h, r))
+      zip_one false e r =
+          subst (λ b. AllZip (IsPortLeaf texts) (cond b ((a, strip y) ∷ parts_behind) parts_behind) (cons_option (told_at a) told_behind)) (sym e)
+          (subst (λ o. AllZip (IsPortLeaf texts) parts_behind (cons_option o told_behind)) (sym (told_here false e)) r)
+
+    zip_from : (ys : List Standing) (a : ℕ) → Entries a ys → AllZip (IsPortLeaf texts) (filter (λ x. passes x.1) (enumerate_from a (map strip ys))) (filter_map told_at (range_with_len a (length ys)))
+    zip_from [] a h = tt
+    zip_from (y ∷ ys) a h = zip_one a y ys h (passes (strip y)) refl (zip_from ys (a + 1) (later_entries a y ys h))
 
     zip_all : AllZip (IsPortLeaf texts) (filter (λ x. passes x.1) (port_parts design)) (filter_map told_at (range_with_len 0 net.ports))
     zip_all =
