@@ -4,3 +4,5 @@ pub mod Parts
 pub mod Matching
 pub mod NetRuns
 pub mod Traces
+pub mod Takes
+pub mod Once

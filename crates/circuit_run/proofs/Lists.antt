@@ -1,7 +1,7 @@
 -- Lists.
 use Rattle.std.proofs.Common.{◌≡◌, ℕ, zero, suc, ◌+◌, ◌<◌, Bool, true, false, cond, List, [], ◌∷◌, ◌++◌, length, take, drop, map, filter, reverse, Option, Some, None, option_map, refl, sym, ap, ap₂, ◌∙◌, subst, arith, append_assoc, slice_get, ◌⊎◌, inl, inr, ⊎_elim}
-use Rattle.std.specs.Prelude.{find, All}
-use Rattle.std.specs.List.{AllZip, range_with_len, enumerate_from}
+use Rattle.std.specs.Prelude.{find, filter_map, All}
+use Rattle.std.specs.List.{AllZip, range_with_len, enumerate_from, cons_option}
 use Rattle.std.proofs.lemmas.List.{reverse-append, take-append-drop}
 use Rattle.std.proofs.lemmas.Option.{get_or_from_slice_get, slice_get_within}
 use Rattle.std.proofs.Math.Seq.{take-append_seam}
@@ -61,6 +61,15 @@ filter_in {A} p (y ∷ xs) k x e = by (p y) k e (λ k e. let r = filter_in p xs 
   by true zero e later = (0, e)
   by true (suc k) e later = later k e
   by false k e later = later k e
+
+-- what an item gives is among what all items give
+pub filter_map_at : {A B : Type 0} (h : A → Option B) (xs : List A) (j : ℕ) (x : A) (y : B) → slice_get xs j ≡ Some x → h x ≡ Some y → (k : ℕ) × (slice_get (filter_map h xs) k ≡ Some y)
+filter_map_at h [] j x y e f = none_some e
+filter_map_at h (z ∷ xs) zero x y e f = (0, ap (λ o. slice_get (cons_option o (filter_map h xs)) 0) (ap h (some_same e) ∙ f))
+filter_map_at {A} {B} h (z ∷ xs) (suc j) x y e f = by (h z) (filter_map_at h xs j x y e f) where
+  by : (o : Option B) → (k : ℕ) × (slice_get (filter_map h xs) k ≡ Some y) → (k : ℕ) × (slice_get (cons_option o (filter_map h xs)) k ≡ Some y)
+  by None r = r
+  by (Some w) r = (suc r.0, r.1)
 
 pub all_at : {A : Type 0} (P : A → Type 0) (xs : List A) → All P xs → (k : ℕ) (x : A) → slice_get xs k ≡ Some x → P x
 all_at P xs h k x e = subst P (get_or_from_slice_get xs k x x e) (h k x (slice_get_within xs k x e))

@@ -5,12 +5,15 @@ use Rattle.std.proofs.lemmas.Grind.{flat_map-append}
 use Rattle.std.proofs.lemmas.List.{map-append, length-append}
 use Rattle.bit_words.specs.declared.value.Value.{Value}
 use Rattle.ground_net.specs.declared.net.Net.{Net}
+use Rattle.ground_net.specs.declared.net.PortLeaf.{PortLeaf}
 use Rattle.ground_net.specs.Reads.{IsOrder}
+use Rattle.ground_net.specs.Watching.{watched}
 use Rattle.net_meaning.specs.Cycles.{NetState, Inputs, Valuation, Settled, sight_of, next, first_state}
 use Rattle.net_meaning.specs.Nets.{IsNet}
 use Rattle.net_meaning.proofs.Mentioning.{one_of_net}
 use Rattle.net_laws.specs.Runs.{Run, ended, cycle}
 use Rattle.net_run.specs.declared.kept.Kept.{Kept}
+use Rattle.net_run.specs.Seeing.{value_at}
 use Rattle.net_run.specs.Keeping.{IsKept}
 use Rattle.stimulus.specs.declared.stimulus.Stimulus.{Stimulus}
 use Rattle.trace_print.specs.Trace.{trace_line_of}
@@ -32,6 +35,16 @@ lines_split : (first : ℕ) (rows more : List (List Value)) → lines_from first
 lines_split first rows more =
     ap (flat_map (λ x. trace_line_of x.0 x.1)) (enumerate_split first rows more)
     ∙ flat_map-append (λ x. trace_line_of x.0 x.1) (enumerate_from first rows) (enumerate_from (first + length rows) more)
+
+map_map : {A B C : Type 0} (f : B → C) (g : A → B) (xs : List A) → map f (map g xs) ≡ map (λ x. f (g x)) xs
+map_map f g [] = refl
+map_map f g (x ∷ xs) = ap (λ l. f (g x) ∷ l) (map_map f g xs)
+
+-- the values of the watched leaves
+pub row_watched : (net : Net) (values seen : List Value) (ports leaves : List PortLeaf) (row : List Value) → ports ≡ watched net → leaves ≡ ports → seen ≡ values → row ≡ map (λ (p : PortLeaf). value_at seen p.leaf) leaves
+    → row ≡ map (value_at values) (watch net)
+row_watched net values seen ports leaves row watched_is ports_are seen_is row_is =
+    row_is ∙ (ap₂ (λ vs ls. map (λ (p : PortLeaf). value_at vs p.leaf) ls) seen_is (ports_are ∙ watched_is) ∙ sym (map_map (value_at values) (λ (p : PortLeaf). p.leaf) (watched net)))
 
 module _ (net : Net) (stimulus : Stimulus) where
   -- No cycle leads on yet.

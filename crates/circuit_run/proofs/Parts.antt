@@ -83,7 +83,7 @@ filter_append {A} test (x ∷ xs) ys = by (test x) (filter_append test xs ys) wh
   by false rest = rest
 
 -- an entry of the leaves of components is a leaf of one of them
-of_component : (ps : List Placed) (k : ℕ) (y : Standing) → slice_get (all_leaves ps) k ≡ Some y → (j : ℕ) × (slice_get ps j ≡ Some y.0)
+pub of_component : (ps : List Placed) (k : ℕ) (y : Standing) → slice_get (all_leaves ps) k ≡ Some y → (j : ℕ) × (slice_get ps j ≡ Some y.0)
 of_component [] k y e = none_some e
 of_component (p ∷ ps) k y e = ⊎_elim
     (λ here. (0, ap Some (of_leaves (leaves p.c.typ) here.0 here.1)))

@@ -53,8 +53,9 @@ fn run_cycle(
     requires kept { StandsForState plan.now.ordered.now.net kept }
     ensures { (s : NetState) → IsKept plan.now.ordered.now.net s kept → IfOk result (λ told. LeadsOn plan.now.ordered.now.net plan.now.stimulus.now s cycle 1 told.kept told.lines.items) }
 {
+    let watched = plan.ports.watched.as_slice();
     let values = settle(alloc, plan.ordered, &kept, inputs)?;
-    let row = row_of(alloc, plan.ports.watched.as_slice(), values.as_slice())?;
+    let row = row_of(alloc, watched, values.as_slice())?;
     let lines = trace_line(alloc, cycle, &row)?;
     let kept = advance(alloc, &plan.ordered.net, kept, values.as_slice())?;
     Ok(Told { kept, lines })
