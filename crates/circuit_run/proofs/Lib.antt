@@ -1,0 +1,10 @@
+pub mod Lists
+pub mod Fed
+pub mod Parts
+pub mod Matching
+pub mod NetRuns
+pub mod Traces
+pub mod Takes
+pub mod Once
+pub mod Writing
+pub mod States
