@@ -1,6 +1,7 @@
 use Rattle.std.proofs.Common.{◌≡◌, ◌∙◌, ap, sym, map, string_bytes, Some}
 use Rattle.clap.specs.Words.{app_of}
-use Rattle.command_words.proofs.Matching.{both, taken}
+use Rattle.clap.proofs.WalkLemmas.{both}
+use Rattle.command_words.proofs.Matching.{taken}
 use Rattle.command_words.proofs.reading.matched.Goals as goal
 
 pub returns-in-Ok-clause-rows : goal.returns-in-Ok-clause-rows
