@@ -11,9 +11,13 @@ pub enum Command<'a> {
         stimulus: Option<&'a str>,
     },
     /// Says whether a circuit has a fault.
-    Check { circuit: &'a str },
+    Check {
+        circuit: &'a str,
+    },
     /// Lists the widths of a circuit.
-    Widths { circuit: &'a str },
+    Widths {
+        circuit: &'a str,
+    },
     /// Lists the partitions of a circuit.
     Cut {
         /// From 1 to 64.

@@ -23,8 +23,7 @@ pub fn run<'a>(alloc: Global) -> Result<Command<'a>, AllocError>
 pub fn check<'a>(alloc: Global) -> Result<Command<'a>, AllocError>
     ensures { IfOk result (λ command. app_of command ≡ check_command) }
 {
-    let command = bare(alloc, "check")
-        .arg(circuit(alloc))?;
+    let command = bare(alloc, "check").arg(circuit(alloc))?;
     Ok(command)
 }
 
@@ -32,8 +31,7 @@ pub fn check<'a>(alloc: Global) -> Result<Command<'a>, AllocError>
 pub fn widths<'a>(alloc: Global) -> Result<Command<'a>, AllocError>
     ensures { IfOk result (λ command. app_of command ≡ widths_command) }
 {
-    let command = bare(alloc, "widths")
-        .arg(circuit(alloc))?;
+    let command = bare(alloc, "widths").arg(circuit(alloc))?;
     Ok(command)
 }
 
@@ -41,9 +39,7 @@ pub fn widths<'a>(alloc: Global) -> Result<Command<'a>, AllocError>
 pub fn cut<'a>(alloc: Global) -> Result<Command<'a>, AllocError>
     ensures { IfOk result (λ command. app_of command ≡ cut_command) }
 {
-    let command = bare(alloc, "cut")
-        .arg(workers(alloc))?
-        .arg(circuit(alloc))?;
+    let command = bare(alloc, "cut").arg(workers(alloc))?.arg(circuit(alloc))?;
     Ok(command)
 }
 

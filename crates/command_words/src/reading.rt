@@ -15,10 +15,7 @@ use std::alloc::{AllocError, Global};
 
 /// The command of some words, without the program's own name: the first word names it, and clap reads the others. Answers
 /// `None` exactly where there is no first word, it is no command, or clap refuses the others.
-pub fn read_words<'a>(
-    alloc: Global,
-    words: &'a [String],
-) -> Result<Option<Command<'a>>, AllocError>
+pub fn read_words<'a>(alloc: Global, words: &'a [String]) -> Result<Option<Command<'a>>, AllocError>
     ensures command { IfOk result (λ command. option_map request_of command ≡ command_of (map string_bytes words.now)) }
     ensures in_range { IfOk result (λ command. IfSome command (λ c. InRange (request_of c))) }
 {

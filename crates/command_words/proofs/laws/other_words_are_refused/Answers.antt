@@ -26,6 +26,10 @@ pub returns-clause-no_value : goal.returns-clause-no_value
 unfolding clap_on_literals
 returns-clause-no_value c = refl
 
+pub returns-clause-dashed_value : goal.returns-clause-dashed_value
+unfolding clap_on_literals
+returns-clause-dashed_value c = refl
+
 pub returns-clause-twice : goal.returns-clause-twice
 unfolding clap_on_literals
 returns-clause-twice c = refl
@@ -46,9 +50,21 @@ pub returns-clause-dash : goal.returns-clause-dash
 unfolding clap_on_literals
 returns-clause-dash c = refl
 
+pub returns-clause-three_texts : goal.returns-clause-three_texts
+unfolding clap_on_literals
+returns-clause-three_texts c = refl
+
 pub returns-clause-nothing_made : goal.returns-clause-nothing_made
 unfolding clap_on_literals
 returns-clause-nothing_made c = refl
+
+pub returns-clause-too_many_made : goal.returns-clause-too_many_made
+unfolding clap_on_literals
+returns-clause-too_many_made c = refl
+
+pub returns-clause-no_cycles : goal.returns-clause-no_cycles
+unfolding clap_on_literals
+returns-clause-no_cycles c = refl
 
 pub returns-clause-no_size : goal.returns-clause-no_size
 unfolding clap_on_literals

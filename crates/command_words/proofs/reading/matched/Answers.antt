@@ -1,4 +1,4 @@
-use Rattle.std.proofs.Common.{◌≡◌, ◌∙◌, ap, sym, map, string_bytes, Some}
+use Rattle.std.proofs.Common.{◌∙◌, ap, sym, map, string_bytes, Some}
 use Rattle.clap.specs.Words.{app_of}
 use Rattle.clap.proofs.WalkLemmas.{both}
 use Rattle.command_words.proofs.Matching.{taken}
