@@ -1,10 +1,8 @@
-use Rattle.std.proofs.Common.{◌≡◌, ◌∙◌, ap, ap₂, arith, inl, inr, refl, subst, sym, map, string_bytes, option_map, Some, codes}
+use Rattle.std.proofs.Common.{◌∙◌, ap, ap₂, arith, inr, refl, subst, sym, map, string_bytes, option_map, Some, codes}
 use Rattle.std.specs.Str.Parse.{ParsesUnsigned, ExplainsUnsignedError, HasUnsignedDigitsIfOk}
 use Rattle.clap.specs.Words.{app_of, found_of}
-use Rattle.clap.proofs.WalkLemmas.{first_value-rows}
 use Rattle.command_words.specs.Commands.{Cut, cut_command, cut_request}
-use Rattle.command_words.proofs.Given.{size_given}
-use Rattle.command_words.proofs.Matching.{ap₃, parsed_by, rows_by, text_or}
+use Rattle.command_words.proofs.Matching.{parsed_by, rows_by, text_or}
 use Rattle.command_words.proofs.Numbers.{IsIn, number_found}
 use Rattle.command_words.proofs.Ranges.{cut_workers}
 use Rattle.command_words.proofs.reading.read_cut.Goals as goal

@@ -1,10 +1,9 @@
-use Rattle.std.proofs.Common.{◌≡◌, ◌∙◌, ap, ap₂, arith, inl, inr, refl, subst, sym, map, string_bytes, option_map, Some, codes}
+use Rattle.std.proofs.Common.{◌∙◌, ap, arith, inl, inr, refl, subst, sym, map, string_bytes, option_map, Some, codes}
 use Rattle.std.specs.Str.Parse.{ParsesUnsigned, ExplainsUnsignedError, HasUnsignedDigitsIfOk}
-use Rattle.clap.specs.Words.{app_of, found_of}
-use Rattle.clap.proofs.WalkLemmas.{first_value-rows}
+use Rattle.clap.specs.Words.{app_of}
 use Rattle.command_words.specs.Commands.{Make, make_command, make_request}
 use Rattle.command_words.proofs.Given.{size_given}
-use Rattle.command_words.proofs.Matching.{ap₃, parsed_by, rows_by, text_or}
+use Rattle.command_words.proofs.Matching.{ap₃, parsed_by, rows_by}
 use Rattle.command_words.proofs.Numbers.{IsIn, number_found}
 use Rattle.command_words.proofs.Ranges.{make_workers, make_cycles, make_size}
 use Rattle.command_words.proofs.reading.read_make.Goals as goal

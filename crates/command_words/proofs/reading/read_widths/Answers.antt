@@ -1,5 +1,5 @@
-use Rattle.std.proofs.Common.{◌≡◌, ◌∙◌, ap, sym, refl, map, string_bytes, option_map, Some, codes}
-use Rattle.clap.specs.Words.{app_of, found_of, rows_of}
+use Rattle.std.proofs.Common.{◌∙◌, ap, refl, map, string_bytes, option_map, Some, codes}
+use Rattle.clap.specs.Words.{app_of, found_of}
 use Rattle.command_words.specs.Commands.{Widths, widths_command, widths_request}
 use Rattle.command_words.proofs.Matching.{rows_by, text_or}
 use Rattle.command_words.proofs.reading.read_widths.Goals as goal

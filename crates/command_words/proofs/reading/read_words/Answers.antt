@@ -1,4 +1,4 @@
-use Rattle.std.proofs.Common.{◌≡◌, ◌∙◌, ◌∷◌, ap, sym, string_bytes, map}
+use Rattle.std.proofs.Common.{◌∙◌, ◌∷◌, ap, sym, string_bytes, map}
 use Rattle.command_words.proofs.Matching.{head_is, no_command}
 use Rattle.command_words.proofs.reading.read_words.Goals as goal
 
