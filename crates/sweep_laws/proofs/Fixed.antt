@@ -110,10 +110,7 @@ module _ (design : Design) (sound : IsSound design) (s : State) (given : Inputs)
 
   nodes_seen : (path : List ℕ) (m : TypedModule) (c : Component) (e : Expr) → module_at design path ≡ Some m → component_named m c.declaration.name ≡ Some c
       → c.declaration.sort ≡ A_node e → map (seen m path rho c) (leaves c.typ) ≡ map integer_of (value e (scene_of m path rho))
-  nodes_seen path m c e reached declared sort = map_each (seen m path rho c) (leaves c.typ) values counted each where
-    values : List Value
-    values = value e (scene_of m path rho)
-
+  nodes_seen path m c e reached declared sort = map_each (seen m path rho c) (leaves c.typ) (value e (scene_of m path rho)) counted each where
     shapes : map shape_of_value (value e (scene_of m path rho)) ≡ map leaf_shape (leaves c.typ)
     shapes = sound.nodes path m c e rho reached declared sort
 
