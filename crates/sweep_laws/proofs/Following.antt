@@ -87,7 +87,26 @@ module _ (design : Design) (sound : IsSound design) (s : State) (given : Inputs)
       by_way (port, inner, way, is) =
           ap (of_read design s given rho memory path (m, c)) is ∙ (by_number port inner way is (read_latency_of memory) refl ∙ sym (ap (of_read design s given other memory path (m, c)) is))
 
-  -- a port's leaf that is a source inside
+  -- a port's leaf that is a source inside, by the leaf of the instance
+  above_same : (front : List ℕ) (i : ℕ) (n : TypedModule) (p : Component) (part : TypeLeaf) → Stands design (front ++ i ∷ []) n p part → is_port p.declaration.sort ≡ true
+      → is_source (flow_of p.declaration.sort part.flip) ≡ true → is_clock part ≡ false → Below (flat n (front ++ i ∷ []) (leaf_of p part))
+      → (m : TypedModule) (c : Component) (leaf : TypeLeaf) (target : ℕ) → Stands design front m c leaf → c.declaration.name ≡ i → c.declaration.sort ≡ An_instance target
+      → leaf.flip ≡ is_source (flow_of p.declaration.sort part.flip) → leaf.path ≡ step.Field p.declaration.name ∷ part.path → is_clock leaf ≡ is_clock part
+      → from_outside design given rho (front ++ i ∷ []) (leaf_of p part) ≡ from_outside design given other (front ++ i ∷ []) (leaf_of p part)
+  above_same front i n p part inside is source clock below m c leaf target stands name sort turned way clocks =
+      outside_left design given rho front i p part m c leaf stands name way
+      ∙ (left_same front m c leaf stands driven (subst Below (sym same) below)
+      ∙ sym (outside_left design given other front i p part m c leaf stands name way))
+    where
+      same : flat m front (leaf_of c leaf) ≡ flat n (front ++ i ∷ []) (leaf_of p part)
+      same = one_leaf front m n c p leaf part target stands.declared sort inside.declared is way ∙ ap (λ j. flat n (front ++ j ∷ []) (leaf_of p part)) name
+
+      flow : is_source (flow_of c.declaration.sort leaf.flip) ≡ false
+      flow = ap (λ x. is_source (flow_of x leaf.flip)) sort ∙ (instance_flip leaf.flip target ∙ ap not (turned ∙ source))
+
+      driven : is_driven c leaf ≡ true
+      driven = driven_by c leaf flow (ap is_register sort) (clocks ∙ clock)
+
   outside_same : (path : List ℕ) (m : TypedModule) (c : Component) (leaf : TypeLeaf) → Stands design path m c leaf → is_port c.declaration.sort ≡ true
       → is_source (flow_of c.declaration.sort leaf.flip) ≡ true → is_clock leaf ≡ false → Below (flat m path (leaf_of c leaf))
       → from_outside design given rho path (leaf_of c leaf) ≡ from_outside design given other path (leaf_of c leaf)
@@ -96,17 +115,8 @@ module _ (design : Design) (sound : IsSound design) (s : State) (given : Inputs)
       (λ above.
       let there : Stands design (above.0 ++ above.1 ∷ []) m c leaf = subst (λ p. Stands design p m c leaf) above.2 stands in
       let out = port_outside design sound.has above.0 above.1 m c leaf there is in
-      let same : flat out.0 above.0 (leaf_of out.1 out.2) ≡ flat m path (leaf_of c leaf) =
-      one_leaf above.0 out.0 m out.1 c out.2 leaf out.3 out.4.declared out.6 stands.declared is out.8
-      ∙ ap (λ p. flat m p (leaf_of c leaf)) (ap (λ i. above.0 ++ i ∷ []) out.5 ∙ sym above.2) in
-      let flow : is_source (flow_of out.1.declaration.sort out.2.flip) ≡ false =
-      ap (λ sort. is_source (flow_of sort out.2.flip)) out.6 ∙ (instance_flip out.2.flip out.3 ∙ ap not (out.7 ∙ source)) in
-      let driven : is_driven out.1 out.2 ≡ true = driven_by out.1 out.2 flow (ap is_register out.6) (out.9 ∙ clock) in
-      ap (λ p. from_outside design given rho p (leaf_of c leaf)) above.2
-      ∙ (outside_left design given rho above.0 above.1 c leaf out.0 out.1 out.2 out.4 out.5 out.8
-      ∙ (left_same above.0 out.0 out.1 out.2 out.4 driven (subst Below (sym same) below)
-      ∙ (sym (outside_left design given other above.0 above.1 c leaf out.0 out.1 out.2 out.4 out.5 out.8)
-      ∙ sym (ap (λ p. from_outside design given other p (leaf_of c leaf)) above.2)))))
+      subst (λ p. from_outside design given rho p (leaf_of c leaf) ≡ from_outside design given other p (leaf_of c leaf)) (sym above.2)
+      (above_same above.0 above.1 m c leaf there is source clock (subst (λ p. Below (flat m p (leaf_of c leaf))) above.2 below) out.0 out.1 out.2 out.3 out.4 out.5 out.6 out.7 out.8 out.9))
       (last_of_path path)
 
   port_same : (path : List ℕ) (m : TypedModule) (c : Component) (leaf : TypeLeaf) → Stands design path m c leaf → is_port c.declaration.sort ≡ true
