@@ -11,7 +11,7 @@
 --   connect v, w
 --   connect w, UInt<4>(5)
 -- needs two sweeps, whatever the order in its text. The names are 14 and 15, and 31 is the module.
-use Rattle.std.proofs.Common.{◌≡◌, ℕ, Bool, true, false, List, [], ◌∷◌, find, Some, arith, ℤ, pos, refl, ap, ◌∙◌, option_map, if◌then◌else◌}
+use Rattle.std.proofs.Common.{◌≡◌, ℕ, false, List, [], ◌∷◌, find, Some, arith, pos, refl, ap, ◌∙◌, option_map, if◌then◌else◌}
 use Rattle.std.proofs.lemmas.Grind.{common_steps}
 use Rattle.place_text.specs.declared.place.Place.{Place}
 use Rattle.bit_words.specs.declared.value.Kind.TheVariants.{Unsigned}
@@ -29,7 +29,7 @@ use Rattle.fir_meaning.specs.Components.{Design, TypedModule, Component, An_inpu
 use Rattle.fir_meaning.specs.Values.{Valuation, scene_of}
 use Rattle.fir_meaning.specs.Drives.{drives, same_way}
 use Rattle.fir_meaning.specs.States.{State, Inputs, or_else}
-use Rattle.sweep_laws.specs.Sweeps.{of_sort, asked, sweep, swept}
+use Rattle.sweep_laws.specs.Sweeps.{of_sort, asked, swept}
 
 abbrev place : Place
 place = record { line = 1; column = 1 }

@@ -1,9 +1,8 @@
 -- Well formed circuits settle by sweeps.
-use Rattle.std.proofs.Common.{◌≡◌, ℕ, Bool, true, false, List, map, length, Some, is_some, ap, sym, ◌∙◌, true≢false, refl}
+use Rattle.std.proofs.Common.{◌≡◌, ℕ, Bool, true, false, List, length, Some, true≢false, refl}
 use Rattle.std.specs.Prelude.{Contains}
-use Rattle.fir_types.specs.declared.leaf.TypeLeaf.{TypeLeaf}
 use Rattle.fir_tree.specs.declared.scope.Fitted.{Fitted}
-use Rattle.fir_meaning.specs.Components.{Design, TypedModule, Component, FlatLeaf, Sort, An_input, An_output, A_wire, A_register, A_reset_register, A_memory, An_instance, A_node, flow_of, is_clock, component_named, module_at, target_of, design_of}
+use Rattle.fir_meaning.specs.Components.{TypedModule, Component, FlatLeaf, Sort, An_input, An_output, A_wire, A_register, A_reset_register, A_memory, An_instance, A_node, flow_of, is_clock, component_named, module_at, target_of, design_of}
 use Rattle.fir_meaning.specs.Values.{Valuation, seen_through}
 use Rattle.fir_meaning.specs.Certain.{must_be_driven, IsInitialized}
 use Rattle.fir_meaning.specs.States.{State, Inputs, Settled, HasOneSettled, is_source, is_register, IsLeafOf}

@@ -1,7 +1,6 @@
 -- A valuation that a sweep leaves alone is settled.
-use Rattle.std.proofs.Common.{◌≡◌, ◌≢◌, ℕ, zero, suc, Bool, true, false, not, List, [], ◌∷◌, ◌++◌, map, length, slice_get, Option, Some, None, option_map, is_some, ℤ, pos, refl, sym, ap, ◌∙◌, subst, true≢false, if◌then◌else◌}
+use Rattle.std.proofs.Common.{◌≡◌, ◌≢◌, ℕ, zero, suc, Bool, true, false, not, List, [], ◌∷◌, ◌++◌, map, length, slice_get, Option, Some, None, option_map, is_some, ℤ, pos, refl, sym, ap, ◌∙◌, true≢false, if◌then◌else◌}
 use Rattle.std.proofs.lemmas.List.{length-map}
-use Rattle.bit_words.specs.declared.value.Value.{Value}
 use Rattle.bit_words.specs.Values.{integer_of}
 use Rattle.fir_types.specs.declared.leaf.TypeLeaf.{TypeLeaf}
 use Rattle.fir_types.specs.declared.leaf.PathStep.{PathStep}
@@ -18,9 +17,9 @@ use Rattle.fir_meaning.specs.Drives.{drives}
 use Rattle.fir_meaning.specs.States.{State, Inputs, Stands, Settled, seen, leaf_of, is_port, is_source, is_register, is_driven, or_else, IsLeafOf}
 use Rattle.fir_meaning.specs.WellTyped.{leaf_shape}
 use Rattle.fir_meaning.proofs.Tracking.{none_some}
-use Rattle.fir_meaning.proofs.Settling.{at, seen_at, get_there, get-map, port_target, instance_flip, one_leaf}
+use Rattle.fir_meaning.proofs.Settling.{at, seen_at, get-map, port_target, instance_flip, one_leaf}
 use Rattle.fir_meaning.proofs.Ports.{target_sort, instance_inside}
-use Rattle.sweep_laws.specs.Sweeps.{left_in_block, from_outside, by_latency, of_read, of_sort, asked, sweep}
+use Rattle.sweep_laws.specs.Sweeps.{left_in_block, by_latency, of_read, of_sort, asked, sweep}
 use Rattle.sweep_laws.proofs.Places.{beside_at, integer_or_zero, in_list, map_each, clock_width, nothing}
 use Rattle.sweep_laws.proofs.Sound.{IsSound, driven_parts, register_target, once_there, outside_left, at_own, asked_clock, asked_sort, asked_port, from_source, from_block}
 

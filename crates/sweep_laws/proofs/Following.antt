@@ -1,5 +1,5 @@
 -- What a leaf has after a sweep depends only on what it reads.
-use Rattle.std.proofs.Common.{◌≡◌, ℕ, zero, suc, ◌==◌, Bool, true, false, not, List, [], ◌∷◌, ◌++◌, slice_get, Option, Some, None, option_map, ℤ, pos, refl, sym, ap, ◌∙◌, subst, true≢false, if◌then◌else◌, ⊎_elim}
+use Rattle.std.proofs.Common.{◌≡◌, ℕ, zero, suc, ◌==◌, true, false, not, List, [], ◌∷◌, ◌++◌, slice_get, Option, Some, None, pos, refl, sym, ap, ◌∙◌, subst, if◌then◌else◌, ⊎_elim}
 use Rattle.std.specs.Prelude.{Contains}
 use Rattle.bit_words.specs.declared.value.Value.{Value}
 use Rattle.fir_types.specs.declared.leaf.TypeLeaf.{TypeLeaf}
@@ -9,7 +9,7 @@ use Rattle.fir_types.specs.declared.memory.Memory.{Memory}
 use Rattle.fir_types.specs.Leaves.{leaves}
 use Rattle.fir_types.specs.Memories.{read_latency_of}
 use Rattle.fir_tree.specs.declared.expr.Expr.{Expr}
-use Rattle.fir_meaning.specs.Components.{Design, TypedModule, Component, FlatLeaf, Leaf, Sort, An_input, An_output, A_wire, A_register, A_reset_register, A_memory, An_instance, A_node, flow_of, is_clock, flat, type_in, target_in}
+use Rattle.fir_meaning.specs.Components.{Design, TypedModule, Component, FlatLeaf, Leaf, Sort, An_input, An_output, A_wire, A_register, A_reset_register, A_memory, An_instance, A_node, flow_of, is_clock, flat, type_in}
 use Rattle.fir_meaning.specs.Values.{Integers, Valuation, scene_of, value}
 use Rattle.fir_meaning.specs.MemoryPorts.{memory_ports, port_named, read_by}
 use Rattle.fir_meaning.specs.States.{State, Inputs, Stands, leaf_of, is_port, is_source, is_register, is_driven, or_else, IsLeafOf}

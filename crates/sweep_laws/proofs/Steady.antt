@@ -3,7 +3,7 @@ use Rattle.std.proofs.Common.{◌≡◌, ℕ, zero, suc, ◌+◌, ◌<◌, ◌�
 use Rattle.std.specs.Prelude.{Contains}
 use Rattle.fir_meaning.specs.Components.{Design, FlatLeaf}
 use Rattle.fir_meaning.specs.States.{State, Inputs, IsLeafOf}
-use Rattle.fir_meaning.specs.Loops.{ReadsLeaf, ReadsThrough, directly, through, HasNoLoop, HasLeaves}
+use Rattle.fir_meaning.specs.Loops.{ReadsThrough, directly, through, HasNoLoop, HasLeaves}
 use Rattle.fir_meaning.proofs.Settling.{at}
 use Rattle.sweep_laws.specs.Sweeps.{swept}
 use Rattle.sweep_laws.proofs.Sound.{IsSound}
