@@ -220,3 +220,14 @@ pub unheld_unanswered : (words : List (List ℕ)) (texts : List ℕ → Option (
 unheld_unanswered words texts name _ _ needs none (no_command _ _ e) = let f : None ≡ Some needs.command = sym e ∙ needs.reads in cc
 unheld_unanswered words texts name s b needs none (judged _ _ command joined _ _ e t j) =
     let f : None ≡ Some joined = sym none ∙ ap texts needs.input ∙ t in cc
+
+-- how a run ended
+pub run_whole : (bytes : List ℕ) (old new : Option (List ℕ)) → Appends old new bytes → IsRun 0 bytes old new
+run_whole bytes old new a = record { status = inl refl; all = λ zero. a; part = λ n. absurd (n refl) }
+
+pub run_cut : (result : ℕ) (bytes : List ℕ) (old new : Option (List ℕ)) → (result ≡ 5) ⊎ (result ≡ 6) → (n : ℕ) × Appends old new (take n bytes) → IsRun result bytes old new
+run_cut result bytes old new status part = record {
+  status = inr status;
+  all = λ zero. absurd (⊎_elim (λ five. omega (arith, zero, five)) (λ six. omega (arith, zero, six)) status);
+  part = λ n. part;
+}

@@ -113,7 +113,7 @@ fn judge_built(
     stimulus: &[u8],
 ) -> Result<Decision, AllocError>
     requires { (text : List ℕ) × IsBuilt text built }
-    ensures settles { IfOk result (λ d. (text : List ℕ) → IsBuilt text built.entry → Gives (SettlesTexts command text stimulus.now) d) }
+    ensures settles { IfOk result (λ d. (text : List ℕ) → IsBuilt text built → Gives (SettlesTexts command text stimulus.now) d) }
     ensures runs { IfOk result CanRun }
 {
     match command {
@@ -154,7 +154,7 @@ fn list(alloc: Global, fitted: &Fitted) -> Result<Reply, AllocError>
 /// More watched leaves than a `u32` numbers are a want of memory.
 fn run(alloc: Global, built: Built, stimulus: &[u8]) -> Result<Decision, AllocError>
     requires { (text : List ℕ) × IsBuilt text built }
-    ensures settles { IfOk result (λ d. (text : List ℕ) → IsBuilt text built.entry → Gives (SettlesTexts Command.Run text stimulus.now) d) }
+    ensures settles { IfOk result (λ d. (text : List ℕ) → IsBuilt text built → Gives (SettlesTexts Command.Run text stimulus.now) d) }
     ensures runs { IfOk result CanRun }
 {
     if stimulus.len() > STIMULUS_LIMIT {
