@@ -1,4 +1,4 @@
-//! The run of an ordered net, told as a trace.
+//! The run of a compiled circuit, told as a trace.
 
 ghost use Rattle.std.specs.Prelude.{◌≡◌, ◌++◌, ◌∷◌, [], length, IfSome, OnSome};
 ghost use Rattle.bit_words.specs.declared.value.Value.{Value as TheValue};
@@ -10,8 +10,9 @@ ghost use Rattle.run_cases.specs.Inputs.{IsInputAdded, IsAdded};
 ghost use Rattle.run_cases.specs.Ordering.{IsOrdered};
 
 use bit_words::{Kind, List, Text, Value, fit};
-use ground_net::{Leaf, Net, Ordered, PortLeaf, Role, ports_of};
+use ground_net::{Leaf, Net, Ordered, PortLeaf, Role};
 use net_run::{Kept, advance, begin, settle};
+use sim_engine::Built;
 use std::alloc::Global;
 use trace_print::{header, trace_line};
 
@@ -25,11 +26,11 @@ struct Cycle<'a> {
 }
 
 /// The trace of a run with these integers of main's input leaves, cycle by cycle.
-pub fn told_trace(alloc: Global, ordered: &Ordered, rows: &[&[i128]]) -> Option<String>
-    requires { IsOrdered ordered.now }
+pub fn told_trace(alloc: Global, built: &Built, rows: &[&[i128]]) -> Option<String>
+    requires { IsOrdered built.now.ordered }
 {
-    let ports = ports_of(alloc, &ordered.net).ok()?;
-    let watched = ports.watched.as_slice();
+    let ordered = &built.ordered;
+    let watched = built.ports.watched.as_slice();
     let mut text = front(alloc, watched)?;
     let mut kept = first(alloc, &ordered.net)?;
     for number in 0..rows.len() {

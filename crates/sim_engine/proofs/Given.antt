@@ -29,17 +29,32 @@ use Rattle.fir_names.specs.declared.fault.NameFault.{NameFault}
 use Rattle.type_check.specs.Faults.{IsFault as IsTypeFault, IsFirst as IsFirstOfTypes, place_of as place_of_types}
 use Rattle.type_check.specs.Statements.{types_of}
 use Rattle.type_check.specs.declared.fault.TypeFault.{TypeFault}
+use Rattle.size_check.specs.Faults.{place_of as place_of_size}
+use Rattle.size_check.specs.Limits.{IsFault as IsSizeFault}
+use Rattle.size_check.specs.declared.fault.SizeFault.{SizeFault}
 use Rattle.width_fit.specs.Faults.{place_of as place_of_widths}
 use Rattle.width_fit.specs.Fitting.{IsFit}
 use Rattle.width_fit.specs.declared.fault.WidthFault.{WidthFault}
+use Rattle.fir_meaning.specs.Components.{design_of}
+use Rattle.fir_meaning.specs.Certain.{IsInitialized}
+use Rattle.fir_meaning.specs.ClockRoot.{HasOneClock}
+use Rattle.fir_meaning.specs.Loops.{HasNoLoop}
+use Rattle.drive_check.specs.Faults.{place_of as place_of_drives}
+use Rattle.drive_check.specs.declared.fault.DriveFault.{DriveFault}
+use Rattle.clock_check.specs.Faults.{place_of as place_of_clocks}
+use Rattle.clock_check.specs.declared.fault.ClockFault.{ClockFault}
+use Rattle.comb_order.specs.Faults.{place_of as place_of_order}
+use Rattle.comb_order.specs.declared.fault.OrderFault.{OrderFault}
 use Rattle.sim_engine.specs.Unfit.{IsUnfit}
-use Rattle.sim_engine.specs.Stages.{IsLaid, IsParsed, IsNamed, IsTyped, IsAccepted, IsFirstFault, of_tokens, of_layout, of_grammar, of_names, of_types, of_widths, IsGiven}
+use Rattle.sim_engine.specs.Building.{IsBuilt}
+use Rattle.sim_engine.specs.Stages.{IsLaid, IsParsed, IsNamed, IsTyped, IsSized, IsWidthed, IsFitted, IsDriven, IsClocked, IsAccepted, IsFirstOfSize, IsFirstOfDrives, IsFirstOfClocks, IsFirstOfLoops, IsGiven}
+use Rattle.sim_engine.specs.Stages.{IsFirstFault, of_tokens, of_layout, of_grammar, of_names, of_types, of_size, of_widths, of_drives, of_clocks, of_order}
 use Rattle.sim_engine.specs.Faults.{fault_place, unless_wanting}
-use Rattle.sim_engine.specs.declared.accept.Accepted.{Accepted}
+use Rattle.sim_engine.specs.declared.compile.Built.{Built}
 use Rattle.sim_engine.specs.declared.fault.CircuitFault.{CircuitFault}
 use Rattle.sim_engine.specs.declared.fault.CircuitFault.TheVariants as fault
 use Rattle.sim_engine.proofs.Once.{one_fault, no_fault, accepted_once}
-use Rattle.sim_engine.proofs.Solving.{solved_by}
+use Rattle.sim_engine.proofs.Solving.{solved_by, fitted_circuit}
 
 -- want of memory has no place, and a first fault has one
 by_place : (text : List ℕ) (given : CircuitFault) (there' : Option Place) → fault_place given ≡ there' → (there' ≡ None) ⊎ IsFirstFault text given
@@ -90,36 +105,67 @@ given_types text circuit given n found = by_place text (fault.Typing given) (pla
 pub typed_by : (text : List ℕ) (circuit : Circuit) → IsNamed text circuit → HasNone (IsTypeFault circuit) → IsTyped text circuit
 typed_by text circuit named none = record { named = named; none = none }
 
-pub given_widths : (text : List ℕ) (checked : Checked) (given : WidthFault) → IsTyped text checked.circuit → IsScope checked.circuit checked.scope → checked.types ≡ types_of checked.circuit
-    → (place_of_widths given ≡ None) ⊎ IsUnfit checked given → IsGiven text (unless_wanting (place_of_widths given) (fault.Width given))
-given_widths text checked given t scope types found = by_place text (fault.Width given) (place_of_widths given) refl (⊎_elim (λ m. inl m)
-    (λ (u : IsUnfit checked given). inr (of_widths checked.circuit checked u.widths given t (solved_by checked u.widths scope types u.least) u.first)) found)
+pub given_size : (text : List ℕ) (circuit : Circuit) (given : SizeFault) → IsTyped text circuit → (place_of_size given ≡ None) ⊎ IsFirstOfSize circuit given
+    → IsGiven text (unless_wanting (place_of_size given) (fault.Size given))
+given_size text circuit given t found = by_place text (fault.Size given) (place_of_size given) refl (⊎_elim (λ m. inl m) (λ f. inr (of_size circuit given t f)) found)
 
-pub accepted_by : (text : List ℕ) (checked : Checked) (fitted : Fitted) → IsTyped text checked.circuit → IsScope checked.circuit checked.scope → checked.types ≡ types_of checked.circuit
-    → IsFit checked fitted → IsAccepted text fitted.checked.circuit
-accepted_by text checked fitted t scope types fit = subst (λ (x : Checked). IsAccepted text x.circuit) (sym fit.fitted_is.checked_is)
-    (record { typed = t; checked = checked; widths = fit.widths; solved = solved_by checked fit.widths scope types fit.least; none = fit.none })
+pub sized_by : (text : List ℕ) (circuit : Circuit) → IsTyped text circuit → HasNone (IsSizeFault circuit) → IsSized text circuit
+sized_by text circuit typed none = record { typed = typed; none = none }
+
+pub given_widths : (text : List ℕ) (checked : Checked) (given : WidthFault) → IsSized text checked.circuit → IsScope checked.circuit checked.scope → checked.types ≡ types_of checked.circuit
+    → (place_of_widths given ≡ None) ⊎ IsUnfit checked given → IsGiven text (unless_wanting (place_of_widths given) (fault.Width given))
+given_widths text checked given s scope types found = by_place text (fault.Width given) (place_of_widths given) refl (⊎_elim (λ m. inl m)
+    (λ (u : IsUnfit checked given). inr (of_widths checked.circuit checked u.widths given s (solved_by checked u.widths scope types u.least) u.first)) found)
+
+pub fitted_by : (text : List ℕ) (checked : Checked) (fitted : Fitted) → IsSized text checked.circuit → IsScope checked.circuit checked.scope → checked.types ≡ types_of checked.circuit
+    → IsFit checked fitted → IsFitted text fitted
+fitted_by text checked fitted s scope types fit = record {
+  widthed = subst (λ (x : Checked). IsWidthed text x.circuit) (sym fit.fitted_is.checked_is)
+      (record { sized = s; checked = checked; widths = fit.widths; solved = solved_by checked fit.widths scope types fit.least; none = fit.none });
+  types = fitted_circuit checked fitted scope types fit;
+}
+
+pub given_drives : (text : List ℕ) (fitted : Fitted) (given : DriveFault) → IsFitted text fitted → (place_of_drives given ≡ None) ⊎ IsFirstOfDrives fitted given
+    → IsGiven text (unless_wanting (place_of_drives given) (fault.Drive given))
+given_drives text fitted given fits found = by_place text (fault.Drive given) (place_of_drives given) refl (⊎_elim (λ m. inl m) (λ f. inr (of_drives fitted given fits f)) found)
+
+pub driven_by : (text : List ℕ) (fitted : Fitted) → IsFitted text fitted → IsInitialized (design_of fitted) → IsDriven text fitted
+driven_by text fitted fits initialized = record { fits = fits; initialized = initialized }
+
+pub given_clocks : (text : List ℕ) (fitted : Fitted) (given : ClockFault) → IsDriven text fitted → (place_of_clocks given ≡ None) ⊎ IsFirstOfClocks fitted given
+    → IsGiven text (unless_wanting (place_of_clocks given) (fault.Clock given))
+given_clocks text fitted given d found = by_place text (fault.Clock given) (place_of_clocks given) refl (⊎_elim (λ m. inl m) (λ f. inr (of_clocks fitted given d f)) found)
+
+pub clocked_by : (text : List ℕ) (fitted : Fitted) → IsDriven text fitted → HasOneClock (design_of fitted) → IsClocked text fitted
+clocked_by text fitted driven one_clock = record { driven = driven; one_clock = one_clock }
+
+pub given_order : (text : List ℕ) (fitted : Fitted) (given : OrderFault) → IsClocked text fitted → (place_of_order given ≡ None) ⊎ IsFirstOfLoops fitted given
+    → IsGiven text (unless_wanting (place_of_order given) (fault.Order given))
+given_order text fitted given c found = by_place text (fault.Order given) (place_of_order given) refl (⊎_elim (λ m. inl m) (λ f. inr (of_order fitted given c f)) found)
+
+pub accepted_by : (text : List ℕ) (fitted : Fitted) → IsClocked text fitted → HasNoLoop (design_of fitted) → IsAccepted text fitted
+accepted_by text fitted clocked no_loop = record { clocked = clocked; no_loop = no_loop }
 
 -- the clauses that follow from the definitions
-pub fault_from : (text : List ℕ) (result : Result Accepted CircuitFault) → IfErr result (IsGiven text) → IfErr result (λ given. (given ≡ fault.NoMemory) ⊎ IsFirstFault text given)
-fault_from text (Ok accepted) found = tt
+pub fault_from : (text : List ℕ) (result : Result Built CircuitFault) → IfErr result (IsGiven text) → IfErr result (λ given. (given ≡ fault.NoMemory) ⊎ IsFirstFault text given)
+fault_from text (Ok built) found = tt
 fault_from text (Err given) found =
     ⊎_elim (λ m. inl m) (λ (f : IsFirstFault text given × ((p : Place) × (fault_place given ≡ Some p))). inr f.0) found
 
-pub placed_from : (text : List ℕ) (result : Result Accepted CircuitFault) → IfErr result (IsGiven text)
+pub placed_from : (text : List ℕ) (result : Result Built CircuitFault) → IfErr result (IsGiven text)
     → IfErr result (λ given. (given ≡ fault.NoMemory) ⊎ ((p : Place) × (fault_place given ≡ Some p)))
-placed_from text (Ok accepted) found = tt
+placed_from text (Ok built) found = tt
 placed_from text (Err given) found =
     ⊎_elim (λ m. inl m) (λ (f : IsFirstFault text given × ((p : Place) × (fault_place given ≡ Some p))). inr f.1) found
 
-pub accepts_from : (text : List ℕ) (result : Result Accepted CircuitFault) → IfOk result (λ a. IsAccepted text a.fitted.checked.circuit) → IfErr result (IsGiven text)
-    → (circuit : Circuit) → IsAccepted text circuit → MatchResult result (λ a. a.fitted.checked.circuit ≡ circuit) (λ given. given ≡ fault.NoMemory)
-accepts_from text (Ok a) is found circuit b = accepted_once text a.fitted.checked.circuit circuit is b
-accepts_from text (Err given) is found circuit b =
-    ⊎_elim (λ m. m) (λ (f : IsFirstFault text given × ((p : Place) × (fault_place given ≡ Some p))). absurd (no_fault text given circuit f.0 b)) found
+pub accepts_from : (text : List ℕ) (result : Result Built CircuitFault) → IfOk result (IsBuilt text) → IfErr result (IsGiven text)
+    → (fitted : Fitted) → IsAccepted text fitted → MatchResult result (λ built. design_of built.fitted ≡ design_of fitted) (λ given. given ≡ fault.NoMemory)
+accepts_from text (Ok built) is found fitted a = (accepted_once text built.fitted fitted is.accepted a).1
+accepts_from text (Err given) is found fitted a =
+    ⊎_elim (λ m. m) (λ (f : IsFirstFault text given × ((p : Place) × (fault_place given ≡ Some p))). absurd (no_fault text given fitted f.0 a)) found
 
-pub refuses_from : (text : List ℕ) (result : Result Accepted CircuitFault) → IfOk result (λ a. IsAccepted text a.fitted.checked.circuit) → IfErr result (IsGiven text)
-    → (first : CircuitFault) → IsFirstFault text first → MatchResult result (λ a. ⊥) (λ given. (given ≡ fault.NoMemory) ⊎ (given ≡ first))
-refuses_from text (Ok a) is found first f = no_fault text first a.fitted.checked.circuit f is
+pub refuses_from : (text : List ℕ) (result : Result Built CircuitFault) → IfOk result (IsBuilt text) → IfErr result (IsGiven text)
+    → (first : CircuitFault) → IsFirstFault text first → MatchResult result (λ built. ⊥) (λ given. (given ≡ fault.NoMemory) ⊎ (given ≡ first))
+refuses_from text (Ok built) is found first f = no_fault text first built.fitted f is.accepted
 refuses_from text (Err given) is found first f =
     ⊎_elim (λ m. inl m) (λ (g : IsFirstFault text given × ((p : Place) × (fault_place given ≡ Some p))). inr (one_fault text given first g.0 f)) found

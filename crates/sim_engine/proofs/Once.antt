@@ -1,15 +1,16 @@
 -- A text has at most one first fault, and none where it passes all stages: each stage is passed in one way or has one first
 -- fault, and what stops at a stage passes none behind it.
-use Rattle.std.proofs.Common.{◌≡◌, ℕ, zero, suc, ◌<◌, ◌≤◌, List, ⊎_elim, refl, sym, ap, ◌∙◌, subst, arith}
-use Rattle.std.proofs.lemmas.Bool.{cases_eq, cases_lt}
+use Rattle.std.proofs.Common.{◌≡◌, ◌⊎◌, inl, inr, ℕ, List, refl, sym, ap, ◌∙◌, subst}
+use Rattle.std.specs.Prelude.{⊤}
 use Rattle.place_text.specs.Places.{place}
 use Rattle.fault_order.proofs.Ordering.{one_first}
 use Rattle.fir_lexer.specs.declared.token.Token.{Token}
 use Rattle.fir_lexer.specs.declared.fault.LexFault.{LexFault}
 use Rattle.fir_lexer.specs.Tokens.{IsFault as IsTokenFault}
-use Rattle.fir_lexer.proofs.Readings.{no_tokens, one_tokens, one_fault as one_token_fault}
+use Rattle.fir_lexer.proofs.Readings.{no_tokens, one_fault as one_token_fault}
 use Rattle.fir_layout.specs.Layout.{IsBadIndent, tokens_in}
 use Rattle.fir_layout.specs.declared.laid.Laid.{Laid}
+use Rattle.fir_layout.specs.declared.fault.LayoutFault.{LayoutFault}
 use Rattle.fir_layout.specs.declared.fault.LayoutFault.TheVariants.{BadIndent}
 use Rattle.fir_layout.proofs.Layouts.{one_layout, no_layout, one_bad_indent}
 use Rattle.fir_grammar.specs.Grammar.{IsCircuit}
@@ -18,6 +19,7 @@ use Rattle.fir_grammar.proofs.Unique.{one_circuit}
 use Rattle.fir_grammar.proofs.OneFault.{one_fault as one_parse_fault, accepted}
 use Rattle.fir_tree.specs.declared.circuit.Circuit.{Circuit}
 use Rattle.fir_tree.specs.declared.scope.Checked.{Checked}
+use Rattle.fir_tree.specs.declared.scope.Fitted.{Fitted}
 use Rattle.fir_tree.specs.declared.fault.ParseFault.{ParseFault}
 use Rattle.fir_names.specs.Faults.{IsFault as IsNameFault, IsFirst as IsFirstOfNames, place_of as place_of_names, rank_of as rank_of_names}
 use Rattle.fir_names.specs.Ranks.{one_each as one_name_each}
@@ -25,21 +27,36 @@ use Rattle.fir_names.specs.declared.fault.NameFault.{NameFault}
 use Rattle.type_check.specs.Faults.{IsFault as IsTypeFault, IsFirst as IsFirstOfTypes, place_of as place_of_types, rank_of as rank_of_types}
 use Rattle.type_check.specs.Ranks.{one_each as one_type_each}
 use Rattle.type_check.specs.declared.fault.TypeFault.{TypeFault}
+use Rattle.size_check.specs.Faults.{place_of as place_of_size, rank_of as rank_of_size}
+use Rattle.size_check.specs.Limits.{IsFault as IsSizeFault}
+use Rattle.size_check.specs.Ranks.{one_each as one_size_each}
+use Rattle.size_check.specs.declared.fault.SizeFault.{SizeFault}
 use Rattle.width_fit.specs.Faults.{IsFirst as IsFirstOfWidths, place_of as place_of_widths, rank_of as rank_of_widths}
-use Rattle.width_fit.specs.Fitting.{IsSolved}
+use Rattle.width_fit.specs.Fitting.{IsSolved, IsFittedCircuit}
 use Rattle.width_fit.specs.Ranks.{one_each as one_width_each}
 use Rattle.width_fit.specs.declared.fault.WidthFault.{WidthFault}
 use Rattle.prim_ops.specs.declared.widths.Width.{Width}
+use Rattle.fir_meaning.specs.Components.{design_of}
+use Rattle.drive_check.specs.Faults.{place_of as place_of_drives, rank_of as rank_of_drives}
+use Rattle.drive_check.specs.Ranks.{one_each as one_drive_each}
+use Rattle.drive_check.specs.declared.fault.DriveFault.{DriveFault}
+use Rattle.clock_check.specs.Faults.{place_of as place_of_clocks, rank_of as rank_of_clocks}
+use Rattle.clock_check.specs.Ranks.{one_each as one_clock_each}
+use Rattle.clock_check.specs.declared.fault.ClockFault.{ClockFault}
+use Rattle.comb_order.specs.Faults.{place_of as place_of_order, rank_of as rank_of_order}
+use Rattle.comb_order.specs.Ranks.{one_each as one_order_each}
+use Rattle.comb_order.specs.declared.fault.OrderFault.{OrderFault}
 use Rattle.sim_engine.specs.Only.{IsOnly}
-use Rattle.sim_engine.specs.Stages.{IsLexed, IsLaid, IsParsed, IsNamed, IsTyped, IsWidthed, IsAccepted, IsFirstFault, of_tokens, of_layout, of_grammar, of_names, of_types, of_widths}
+use Rattle.sim_engine.specs.Stages.{IsLexed, IsLaid, IsParsed, IsNamed, IsTyped, IsSized, IsFitted, IsDriven, IsClocked, IsAccepted, IsFirstOfSize, IsFirstOfDrives, IsFirstOfClocks, IsFirstOfLoops}
+use Rattle.sim_engine.specs.Stages.{IsFirstFault, of_tokens, of_layout, of_grammar, of_names, of_types, of_size, of_widths, of_drives, of_clocks, of_order}
 use Rattle.sim_engine.specs.declared.fault.CircuitFault.{CircuitFault}
 use Rattle.sim_engine.specs.declared.fault.CircuitFault.TheVariants as fault
-use Rattle.sim_engine.proofs.Solving.{same_fault, same_first}
+use Rattle.sim_engine.proofs.Solving.{same_fault, same_first, same_declared, same_modules}
+use Rattle.sim_engine.proofs.Settling.{IsStage, As, Settles, begin, and_then}
+use Rattle.sim_engine.proofs.Accepting.{fitted_well_formed}
+use Rattle.sim_engine.proofs.Alike.{AreAlike, same_design, first_drives, first_clocks, first_loops, driven_has_none, one_clock_has_none, no_loop_has_none}
 
 -- a stage is passed in one way
-lexed_once : (text : List ℕ) (first second : List Token) → IsLexed text first → IsLexed text second → first ≡ second
-lexed_once text first second f s = one_tokens text first second f.tokens_are s.tokens_are
-
 pub laid_once : (text : List ℕ) (first second : List Laid) → IsLaid text first → IsLaid text second → first ≡ second
 laid_once text first second f s = one_layout text first second f.laid_out s.laid_out
 
@@ -47,161 +64,200 @@ pub parsed_once : (text : List ℕ) (first second : Circuit) → IsParsed text f
 parsed_once text first second f s =
     one_circuit text s.list first second (subst (λ x. IsCircuit text x first) (laid_once text f.list s.list f.laid s.laid) f.spelled) s.spelled
 
--- a stage that is passed has no fault
-laid_clean : (text : List ℕ) (laid : List Laid) (at : ℕ) → IsLaid text laid → IsBadIndent text at → ⊥
-laid_clean text laid at l b = no_layout text at laid b l.laid_out
+-- the parsed circuit of a fitted one
+parsed_in : (text : List ℕ) (fitted : Fitted) → IsFitted text fitted → IsParsed text fitted.checked.circuit
+parsed_in text fitted fits = fits.widthed.sized.typed.named.parsed
 
-parsed_clean : (text : List ℕ) (circuit : Circuit) (laid : List Laid) (given : ParseFault) → IsParsed text circuit → IsLaid text laid → FaultOf text laid given → ⊥
-parsed_clean text circuit laid given p l f =
-    accepted text p.list circuit given p.spelled p.shallow (subst (λ x. FaultOf text x given) (laid_once text laid p.list l p.laid) f)
+fitted_once : (text : List ℕ) (first second : Fitted) → IsFitted text first → IsFitted text second → AreAlike first second
+fitted_once text first second f s =
+    let same = parsed_once text first.checked.circuit second.checked.circuit (parsed_in text first f) (parsed_in text second s) in
+    let moved = subst (λ x. IsFittedCircuit x first) same f.types in record {
+      circuit = same;
+      declared = same_declared second.checked.circuit first second moved s.types;
+      reached = same_modules second.checked.circuit first second moved s.types;
+    }
 
-named_clean : (text : List ℕ) (circuit other : Circuit) (given : NameFault) → IsNamed text circuit → IsParsed text other → IsFirstOfNames other given → ⊥
-named_clean text circuit other given n p f = n.none given (subst (λ x. IsNameFault x given) (parsed_once text other circuit p n.parsed) f.is)
+pub accepted_once : (text : List ℕ) (first second : Fitted) → IsAccepted text first → IsAccepted text second
+    → (first.checked.circuit ≡ second.checked.circuit) × (design_of first ≡ design_of second)
+accepted_once text first second f s =
+    let same = fitted_once text first second f.clocked.driven.fits s.clocked.driven.fits in (same.circuit, same_design first second same)
 
-typed_clean : (text : List ℕ) (circuit other : Circuit) (given : TypeFault) → IsTyped text circuit → IsNamed text other → IsFirstOfTypes other given → ⊥
-typed_clean text circuit other given t n f = t.none given (subst (λ x. IsTypeFault x given) (parsed_once text other circuit n.parsed t.named.parsed) f.is)
+-- Each stage tells one fault, which excludes that it is passed.
+abbrev OfTokens : List ℕ → LexFault → Type 0
+OfTokens text given = (at : ℕ) × IsTokenFault text at given
 
-widthed_clean : (text : List ℕ) (circuit other : Circuit) (checked : Checked) (widths : List Width) (given : WidthFault) → IsWidthed text circuit → IsTyped text other
-    → IsSolved other checked widths → IsFirstOfWidths checked widths given → ⊥
-widthed_clean text circuit other checked widths given w t solved f =
-    let same = parsed_once text other circuit t.named.parsed w.typed.named.parsed in
-    w.none given (same_fault circuit checked w.checked widths w.widths given (subst (λ x. IsSolved x checked widths) same solved) w.solved f.is)
+tokens_stage : (text : List ℕ) → IsStage (OfTokens text) ⊤ ((tokens : List Token) × IsLexed text tokens)
+tokens_stage text = record {
+  once = λ first second p q. (one_token_fault text p.0 q.0 first second p.1 q.1).1;
+  came = λ given p. tt;
+  stops = λ given p a. no_tokens text p.0 given a.0 p.1 a.1.tokens_are;
+  down = λ a. tt;
+}
 
--- the first fault of a stage is one
-one_name_fault : (circuit : Circuit) (first second : NameFault) → IsFirstOfNames circuit first → IsFirstOfNames circuit second → first ≡ second
-one_name_fault circuit first second f s = one_first place_of_names rank_of_names one_name_each first second f s
+abbrev OfLayout : List ℕ → LayoutFault → Type 0
+OfLayout text given = (tokens : List Token) × (at : ℕ) × IsLexed text tokens × IsBadIndent text at × (given ≡ BadIndent (place text at))
 
-one_type_fault : (circuit : Circuit) (first second : TypeFault) → IsFirstOfTypes circuit first → IsFirstOfTypes circuit second → first ≡ second
-one_type_fault circuit first second f s = one_first place_of_types rank_of_types one_type_each first second f s
+layout_stage : (text : List ℕ) → IsStage (OfLayout text) ((tokens : List Token) × IsLexed text tokens) ((laid : List Laid) × IsLaid text laid)
+layout_stage text = record {
+  once = λ first second p q. p.4 ∙ ap (λ at. BadIndent (place text at)) (one_bad_indent text p.1 q.1 p.3 q.3) ∙ sym q.4;
+  came = λ given p. (p.0, p.2);
+  stops = λ given p a. no_layout text p.1 a.0 p.3 a.1.laid_out;
+  down = λ a. (tokens_in a.0, a.1.lexed);
+}
 
-one_width_fault : (circuit : Circuit) (checked others : Checked) (v w : List Width) (first second : WidthFault) → IsSolved circuit checked v → IsSolved circuit others w
-    → IsFirstOfWidths checked v first → IsFirstOfWidths others w second → first ≡ second
-one_width_fault circuit checked others v w first second p q f s =
-    one_first place_of_widths rank_of_widths one_width_each first second (same_first circuit checked others v w first p q f) s
+abbrev OfGrammar : List ℕ → ParseFault → Type 0
+OfGrammar text given = (laid : List Laid) × IsLaid text laid × FaultOf text laid given
 
--- The stages by number, from 0: what the text is where it passes those below a number,
-abbrev Passed : ℕ → List ℕ → Type 0
-Passed zero text = Unit {0}
-Passed (suc zero) text = (tokens : List Token) × IsLexed text tokens
-Passed (suc (suc zero)) text = (laid : List Laid) × IsLaid text laid
-Passed (suc (suc (suc zero))) text = (circuit : Circuit) × IsParsed text circuit
-Passed (suc (suc (suc (suc zero)))) text = (circuit : Circuit) × IsNamed text circuit
-Passed (suc (suc (suc (suc (suc zero))))) text = (circuit : Circuit) × IsTyped text circuit
-Passed (suc (suc (suc (suc (suc (suc n)))))) text = (circuit : Circuit) × IsWidthed text circuit
+grammar_stage : (text : List ℕ) → IsStage (OfGrammar text) ((laid : List Laid) × IsLaid text laid) ((circuit : Circuit) × IsParsed text circuit)
+grammar_stage text = record {
+  once = λ first second p q. one_parse_fault text q.0 first second (subst (λ x. FaultOf text x first) (laid_once text p.0 q.0 p.1 q.1) p.2) q.2;
+  came = λ given p. (p.0, p.1);
+  stops = λ given p a. accepted text a.1.list a.0 given a.1.spelled a.1.shallow (subst (λ x. FaultOf text x given) (laid_once text p.0 a.1.list p.1 a.1.laid) p.2);
+  down = λ a. (a.1.list, a.1.laid);
+}
 
--- the number of the stage that a fault names, and that the fault is the first one of the stage with a number
-abbrev stage_of : CircuitFault → ℕ
-stage_of (fault.Lex given) = 0
-stage_of (fault.Layout given) = 1
-stage_of (fault.Parse given) = 2
-stage_of (fault.Name given) = 3
-stage_of (fault.Typing given) = 4
-stage_of (fault.Width given) = 5
-stage_of fault.NoMemory = 6
+abbrev OfNames : List ℕ → NameFault → Type 0
+OfNames text given = (circuit : Circuit) × IsParsed text circuit × IsFirstOfNames circuit given
 
-abbrev First : ℕ → List ℕ → CircuitFault → Type 0
-First zero text f = (at : ℕ) × (given : LexFault) × IsTokenFault text at given × (f ≡ fault.Lex given)
-First (suc zero) text f = (tokens : List Token) × (at : ℕ) × IsLexed text tokens × IsBadIndent text at × (f ≡ fault.Layout (BadIndent (place text at)))
-First (suc (suc zero)) text f = (laid : List Laid) × (given : ParseFault) × IsLaid text laid × FaultOf text laid given × (f ≡ fault.Parse given)
-First (suc (suc (suc zero))) text f = (circuit : Circuit) × (given : NameFault) × IsParsed text circuit × IsFirstOfNames circuit given × (f ≡ fault.Name given)
-First (suc (suc (suc (suc zero)))) text f = (circuit : Circuit) × (given : TypeFault) × IsNamed text circuit × IsFirstOfTypes circuit given × (f ≡ fault.Typing given)
-First (suc (suc (suc (suc (suc zero))))) text f =
-    (circuit : Circuit) × (checked : Checked) × (widths : List Width) × (given : WidthFault) × IsTyped text circuit × IsSolved circuit checked widths
-    × IsFirstOfWidths checked widths given × (f ≡ fault.Width given)
-First (suc (suc (suc (suc (suc (suc n)))))) text f = ⊥
+names_stage : (text : List ℕ) → IsStage (OfNames text) ((circuit : Circuit) × IsParsed text circuit) ((circuit : Circuit) × IsNamed text circuit)
+names_stage text = record {
+  once = λ first second p q. one_first place_of_names rank_of_names one_name_each first second
+      (subst (λ x. IsFirstOfNames x first) (parsed_once text p.0 q.0 p.1 q.1) p.2) q.2;
+  came = λ given p. (p.0, p.1);
+  stops = λ given p a. a.1.none given (subst (λ x. IsNameFault x given) (parsed_once text p.0 a.0 p.1 a.1.parsed) p.2.is);
+  down = λ a. (a.0, a.1.parsed);
+}
 
-first : (text : List ℕ) (f : CircuitFault) → IsFirstFault text f → First (stage_of f) text f
-first text _ (of_tokens at kind f) = (at, kind, f, refl)
-first text _ (of_layout tokens at l b) = (tokens, at, l, b, refl)
-first text _ (of_grammar laid given l f) = (laid, given, l, f, refl)
-first text _ (of_names circuit given p f) = (circuit, given, p, f, refl)
-first text _ (of_types circuit given n f) = (circuit, given, n, f, refl)
-first text _ (of_widths circuit checked widths given t solved f) = (circuit, checked, widths, given, t, solved, f, refl)
+abbrev OfTypes : List ℕ → TypeFault → Type 0
+OfTypes text given = (circuit : Circuit) × IsNamed text circuit × IsFirstOfTypes circuit given
 
--- it is one
-once : (n : ℕ) (text : List ℕ) (f g : CircuitFault) → First n text f → First n text g → f ≡ g
-once zero text f g p q = p.3 ∙ ap fault.Lex (one_token_fault text p.0 q.0 p.1 q.1 p.2 q.2).1 ∙ sym q.3
-once (suc zero) text f g p q = p.4 ∙ ap (λ at. fault.Layout (BadIndent (place text at))) (one_bad_indent text p.1 q.1 p.3 q.3) ∙ sym q.4
-once (suc (suc zero)) text f g p q =
-    p.4 ∙ ap fault.Parse (one_parse_fault text q.0 p.1 q.1 (subst (λ x. FaultOf text x p.1) (laid_once text p.0 q.0 p.2 q.2) p.3) q.3) ∙ sym q.4
-once (suc (suc (suc zero))) text f g p q =
-    p.4 ∙ ap fault.Name (one_name_fault q.0 p.1 q.1 (subst (λ x. IsFirstOfNames x p.1) (parsed_once text p.0 q.0 p.2 q.2) p.3) q.3) ∙ sym q.4
-once (suc (suc (suc (suc zero)))) text f g p q =
-    p.4 ∙ ap fault.Typing (one_type_fault q.0 p.1 q.1 (subst (λ x. IsFirstOfTypes x p.1) (parsed_once text p.0 q.0 p.2.parsed q.2.parsed) p.3) q.3) ∙ sym q.4
-once (suc (suc (suc (suc (suc zero))))) text f g p q =
-    let same = parsed_once text p.0 q.0 p.4.named.parsed q.4.named.parsed in
-    p.7 ∙ ap fault.Width (one_width_fault q.0 p.1 q.1 p.2 q.2 p.3 q.3 (subst (λ x. IsSolved x p.1 p.2) same p.5) q.5 p.6 q.6) ∙ sym q.7
-once (suc (suc (suc (suc (suc (suc n)))))) text f g p q = absurd p
+types_stage : (text : List ℕ) → IsStage (OfTypes text) ((circuit : Circuit) × IsNamed text circuit) ((circuit : Circuit) × IsTyped text circuit)
+types_stage text = record {
+  once = λ first second p q. one_first place_of_types rank_of_types one_type_each first second
+      (subst (λ x. IsFirstOfTypes x first) (parsed_once text p.0 q.0 p.1.parsed q.1.parsed) p.2) q.2;
+  came = λ given p. (p.0, p.1);
+  stops = λ given p a. a.1.none given (subst (λ x. IsTypeFault x given) (parsed_once text p.0 a.0 p.1.parsed a.1.named.parsed) p.2.is);
+  down = λ a. (a.0, a.1.named);
+}
 
--- the stages before it are passed, and it is not
-came : (n : ℕ) (text : List ℕ) (f : CircuitFault) → First n text f → Passed n text
-came zero text f p = tt
-came (suc zero) text f p = (p.0, p.2)
-came (suc (suc zero)) text f p = (p.0, p.2)
-came (suc (suc (suc zero))) text f p = (p.0, p.2)
-came (suc (suc (suc (suc zero)))) text f p = (p.0, p.2)
-came (suc (suc (suc (suc (suc zero))))) text f p = (p.0, p.4)
-came (suc (suc (suc (suc (suc (suc n)))))) text f p = absurd p
+abbrev OfSize : List ℕ → SizeFault → Type 0
+OfSize text given = (circuit : Circuit) × IsTyped text circuit × IsFirstOfSize circuit given
 
-stops : (n : ℕ) (text : List ℕ) (f : CircuitFault) → First n text f → Passed (suc n) text → ⊥
-stops zero text f p q = no_tokens text p.0 p.1 q.0 p.2 q.1.tokens_are
-stops (suc zero) text f p q = laid_clean text q.0 p.1 q.1 p.3
-stops (suc (suc zero)) text f p q = parsed_clean text q.0 p.0 p.1 q.1 p.2 p.3
-stops (suc (suc (suc zero))) text f p q = named_clean text q.0 p.0 p.1 q.1 p.2 p.3
-stops (suc (suc (suc (suc zero)))) text f p q = typed_clean text q.0 p.0 p.1 q.1 p.2 p.3
-stops (suc (suc (suc (suc (suc zero))))) text f p q = widthed_clean text q.0 p.0 p.1 p.2 p.3 q.1 p.4 p.5 p.6
-stops (suc (suc (suc (suc (suc (suc n)))))) text f p q = p
+size_stage : (text : List ℕ) → IsStage (OfSize text) ((circuit : Circuit) × IsTyped text circuit) ((circuit : Circuit) × IsSized text circuit)
+size_stage text = record {
+  once = λ first second p q. one_first place_of_size rank_of_size one_size_each first second
+      (subst (λ x. IsFirstOfSize x first) (parsed_once text p.0 q.0 p.1.named.parsed q.1.named.parsed) p.2) q.2;
+  came = λ given p. (p.0, p.1);
+  stops = λ given p a. a.1.none given (subst (λ x. IsSizeFault x given) (parsed_once text p.0 a.0 p.1.named.parsed a.1.typed.named.parsed) p.2.is);
+  down = λ a. (a.0, a.1.typed);
+}
 
--- a text that passes stages passes those before them
-down : (n : ℕ) (text : List ℕ) → Passed (suc n) text → Passed n text
-down zero text p = tt
-down (suc zero) text p = (tokens_in p.0, p.1.lexed)
-down (suc (suc zero)) text p = (p.1.list, p.1.laid)
-down (suc (suc (suc zero))) text p = (p.0, p.1.parsed)
-down (suc (suc (suc (suc zero)))) text p = (p.0, p.1.named)
-down (suc (suc (suc (suc (suc zero))))) text p = (p.0, p.1.typed)
-down (suc (suc (suc (suc (suc (suc n)))))) text p = p
+abbrev OfWidths : List ℕ → WidthFault → Type 0
+OfWidths text given = (circuit : Circuit) × (checked : Checked) × (widths : List Width) × IsSized text circuit × IsSolved circuit checked widths × IsFirstOfWidths checked widths given
 
-lower : (n m : ℕ) (text : List ℕ) → m ≤ n → Passed n text → Passed m text
-lower zero m text le p = let none : 0 ≡ m = omega arith in subst (λ k. Passed k text) none p
-lower (suc n) m text le p = ⊎_elim (λ same. subst (λ k. Passed k text) (sym same) p)
-    (λ other. let below : m ≤ n = omega arith in lower n m text below (down n text p)) (cases_eq m (suc n))
+widths_stage : (text : List ℕ) → IsStage (OfWidths text) ((circuit : Circuit) × IsSized text circuit) ((fitted : Fitted) × IsFitted text fitted)
+widths_stage text = record {
+  once = λ first second p q.
+      let same = parsed_once text p.0 q.0 p.3.typed.named.parsed q.3.typed.named.parsed in
+      let solved = subst (λ x. IsSolved x p.1 p.2) same p.4 in
+      one_first place_of_widths rank_of_widths one_width_each first second (same_first q.0 p.1 q.1 p.2 q.2 first solved q.4 p.5) q.5;
+  came = λ given p. (p.0, p.3);
+  stops = λ given p a.
+      let widthed = a.1.widthed in
+      let same = parsed_once text p.0 a.0.checked.circuit p.3.typed.named.parsed (parsed_in text a.0 a.1) in
+      let solved = subst (λ x. IsSolved x p.1 p.2) same p.4 in
+      widthed.none given (same_fault a.0.checked.circuit p.1 widthed.checked p.2 widthed.widths given solved widthed.solved p.5.is);
+  down = λ a. (a.0.checked.circuit, a.1.widthed.sized);
+}
 
--- so the first fault is one
-earlier : (text : List ℕ) (n m : ℕ) (f g : CircuitFault) → First n text f → First m text g → n < m → ⊥
-earlier text n m f g p q lt = let le : suc n ≤ m = omega arith in stops n text f p (lower m (suc n) text le (came m text g q))
+abbrev OfDrives : List ℕ → DriveFault → Type 0
+OfDrives text given = (fitted : Fitted) × IsFitted text fitted × IsFirstOfDrives fitted given
 
-one_by_stage : (text : List ℕ) (n m : ℕ) (f g : CircuitFault) → First n text f → First m text g → f ≡ g
-one_by_stage text n m f g p q = ⊎_elim (λ same. once m text f g (subst (λ k. First k text f) same p) q)
-    (λ other. ⊎_elim (λ lt. absurd (earlier text n m f g p q lt)) (λ ge. let lt : m < n = omega arith in absurd (earlier text m n g f q p lt)) (cases_lt n m)) (cases_eq n m)
+drives_stage : (text : List ℕ) → IsStage (OfDrives text) ((fitted : Fitted) × IsFitted text fitted) ((fitted : Fitted) × IsDriven text fitted)
+drives_stage text = record {
+  once = λ first second p q. one_first place_of_drives rank_of_drives one_drive_each first second
+      (first_drives p.0 q.0 (fitted_once text p.0 q.0 p.1 q.1) first p.2) q.2;
+  came = λ given p. (p.0, p.1);
+  stops = λ given p a. driven_has_none a.0 (fitted_well_formed text a.0 a.1.fits) a.1.initialized given
+      (first_drives p.0 a.0 (fitted_once text p.0 a.0 p.1 a.1.fits) given p.2).is;
+  down = λ a. (a.0, a.1.fits);
+}
 
+abbrev OfClocks : List ℕ → ClockFault → Type 0
+OfClocks text given = (fitted : Fitted) × IsDriven text fitted × IsFirstOfClocks fitted given
+
+clocks_stage : (text : List ℕ) → IsStage (OfClocks text) ((fitted : Fitted) × IsDriven text fitted) ((fitted : Fitted) × IsClocked text fitted)
+clocks_stage text = record {
+  once = λ first second p q. one_first place_of_clocks rank_of_clocks one_clock_each first second
+      (first_clocks p.0 q.0 (fitted_once text p.0 q.0 p.1.fits q.1.fits) first p.2) q.2;
+  came = λ given p. (p.0, p.1);
+  stops = λ given p a. one_clock_has_none a.0 a.1.one_clock given (first_clocks p.0 a.0 (fitted_once text p.0 a.0 p.1.fits a.1.driven.fits) given p.2).is;
+  down = λ a. (a.0, a.1.driven);
+}
+
+abbrev OfOrder : List ℕ → OrderFault → Type 0
+OfOrder text given = (fitted : Fitted) × IsClocked text fitted × IsFirstOfLoops fitted given
+
+order_stage : (text : List ℕ) → IsStage (OfOrder text) ((fitted : Fitted) × IsClocked text fitted) ((fitted : Fitted) × IsAccepted text fitted)
+order_stage text = record {
+  once = λ first second p q. one_first place_of_order rank_of_order one_order_each first second
+      (first_loops p.0 q.0 (fitted_once text p.0 q.0 p.1.driven.fits q.1.driven.fits) first p.2) q.2;
+  came = λ given p. (p.0, p.1);
+  stops = λ given p a. no_loop_has_none (design_of a.0) a.1.no_loop given
+      (first_loops p.0 a.0 (fitted_once text p.0 a.0 p.1.driven.fits a.1.clocked.driven.fits) given p.2).is;
+  down = λ a. (a.0, a.1.clocked);
+}
+
+-- The faults of the stages up to one.
+abbrev UpToGrammar : List ℕ → CircuitFault → Type 0
+UpToGrammar text f = ((⊥ ⊎ As fault.Lex (OfTokens text) f) ⊎ As fault.Layout (OfLayout text) f) ⊎ As fault.Parse (OfGrammar text) f
+
+abbrev UpToSize : List ℕ → CircuitFault → Type 0
+UpToSize text f = ((UpToGrammar text f ⊎ As fault.Name (OfNames text) f) ⊎ As fault.Typing (OfTypes text) f) ⊎ As fault.Size (OfSize text) f
+
+abbrev UpToOrder : List ℕ → CircuitFault → Type 0
+UpToOrder text f =
+    (((UpToSize text f ⊎ As fault.Width (OfWidths text) f) ⊎ As fault.Drive (OfDrives text) f) ⊎ As fault.Clock (OfClocks text) f) ⊎ As fault.Order (OfOrder text) f
+
+up_to_grammar : (text : List ℕ) → Settles (UpToGrammar text) ((circuit : Circuit) × IsParsed text circuit)
+up_to_grammar text = and_then (and_then (and_then begin fault.Lex (tokens_stage text)) fault.Layout (layout_stage text)) fault.Parse (grammar_stage text)
+
+up_to_size : (text : List ℕ) → Settles (UpToSize text) ((circuit : Circuit) × IsSized text circuit)
+up_to_size text = and_then (and_then (and_then (up_to_grammar text) fault.Name (names_stage text)) fault.Typing (types_stage text)) fault.Size (size_stage text)
+
+settled : (text : List ℕ) → Settles (UpToOrder text) ((fitted : Fitted) × IsAccepted text fitted)
+settled text = and_then
+    (and_then (and_then (and_then (up_to_size text) fault.Width (widths_stage text)) fault.Drive (drives_stage text)) fault.Clock (clocks_stage text)) fault.Order (order_stage text)
+
+-- the first fault of a text is one of them
+sized : (text : List ℕ) (f : CircuitFault) → UpToSize text f → UpToOrder text f
+sized text f p = inl (inl (inl (inl p)))
+
+parsed : (text : List ℕ) (f : CircuitFault) → UpToGrammar text f → UpToOrder text f
+parsed text f p = sized text f (inl (inl (inl p)))
+
+told : (text : List ℕ) (f : CircuitFault) → IsFirstFault text f → UpToOrder text f
+told text f (of_tokens at given h) = parsed text f (inl (inl (inr (given, (at, h), refl))))
+told text f (of_layout tokens at l b) = parsed text f (inl (inr (BadIndent (place text at), (tokens, at, l, b, refl), refl)))
+told text f (of_grammar laid given l h) = parsed text f (inr (given, (laid, l, h), refl))
+told text f (of_names circuit given p h) = sized text f (inl (inl (inr (given, (circuit, p, h), refl))))
+told text f (of_types circuit given n h) = sized text f (inl (inr (given, (circuit, n, h), refl)))
+told text f (of_size circuit given t h) = sized text f (inr (given, (circuit, t, h), refl))
+told text f (of_widths circuit checked widths given s solved h) = inl (inl (inl (inr (given, (circuit, checked, widths, s, solved, h), refl))))
+told text f (of_drives fitted given fits h) = inl (inl (inr (given, (fitted, fits, h), refl)))
+told text f (of_clocks fitted given driven h) = inl (inr (given, (fitted, driven, h), refl))
+told text f (of_order fitted given clocked h) = inr (given, (fitted, clocked, h), refl)
+
+-- so the first fault is one, and there is none where all stages are passed
 pub one_fault : (text : List ℕ) (f g : CircuitFault) → IsFirstFault text f → IsFirstFault text g → f ≡ g
-one_fault text f g p q = one_by_stage text (stage_of f) (stage_of g) f g (first text f p) (first text g q)
+one_fault text f g p q = (settled text).one f g (told text f p) (told text g q)
 
--- and there is none where all stages are passed
-stage_below : (text : List ℕ) (f : CircuitFault) → IsFirstFault text f → stage_of f < 6
-stage_below text _ (of_tokens at kind f) = omega arith
-stage_below text _ (of_layout tokens at l b) = omega arith
-stage_below text _ (of_grammar laid given l f) = omega arith
-stage_below text _ (of_names circuit given p f) = omega arith
-stage_below text _ (of_types circuit given n f) = omega arith
-stage_below text _ (of_widths circuit checked widths given t solved f) = omega arith
-
-pub no_fault : (text : List ℕ) (f : CircuitFault) (circuit : Circuit) → IsFirstFault text f → ¬ (IsAccepted text circuit)
-no_fault text f circuit p a =
-    let lt = stage_below text f p in
-    let le : suc (stage_of f) ≤ 6 = omega arith in
-    stops (stage_of f) text f (first text f p) (lower 6 (suc (stage_of f)) text le (circuit, a))
-
-pub accepted_once : (text : List ℕ) (first second : Circuit) → IsAccepted text first → IsAccepted text second → first ≡ second
-accepted_once text first second f s = parsed_once text first second f.typed.named.parsed s.typed.named.parsed
+pub no_fault : (text : List ℕ) (f : CircuitFault) (fitted : Fitted) → IsFirstFault text f → ¬ (IsAccepted text fitted)
+no_fault text f fitted p a = (settled text).none f (told text f p) (fitted, a)
 
 -- only this, and nothing else
 pub only_fault : (text : List ℕ) (f : CircuitFault) → IsFirstFault text f → IsOnly (IsFirstFault text) f
 only_fault text f p = record { is = p; only = λ g q. one_fault text g f q p }
-
-pub only_circuit : (text : List ℕ) (circuit : Circuit) → IsAccepted text circuit → IsOnly (IsAccepted text) circuit
-only_circuit text circuit a = record { is = a; only = λ other b. accepted_once text other circuit b a }
 
 pub only_laid : (text : List ℕ) (laid : List Laid) → IsLaid text laid → IsOnly (IsLaid text) laid
 only_laid text laid l = record { is = l; only = λ other m. laid_once text other laid m l }

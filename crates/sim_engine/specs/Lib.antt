@@ -1,6 +1,7 @@
 -- what a reader must believe
 pub mod Stages
 pub mod Faults
+pub mod Building
 pub mod Only
 -- what the bodies keep, and what proofs need
 pub mod Unfit

@@ -6,16 +6,24 @@ ghost use Rattle.fir_layout.specs.Faults.{place_of as place_of_layout};
 ghost use Rattle.fir_tree.specs.Faults.{place_of as place_of_grammar};
 ghost use Rattle.fir_names.specs.Faults.{place_of as place_of_names};
 ghost use Rattle.type_check.specs.Faults.{place_of as place_of_types};
+ghost use Rattle.size_check.specs.Faults.{place_of as place_of_size};
 ghost use Rattle.width_fit.specs.Faults.{place_of as place_of_widths};
+ghost use Rattle.drive_check.specs.Faults.{place_of as place_of_drives};
+ghost use Rattle.clock_check.specs.Faults.{place_of as place_of_clocks};
+ghost use Rattle.comb_order.specs.Faults.{place_of as place_of_order};
 ghost use Rattle.sim_engine.specs.Faults.{kind_name, fault_place, unless_wanting};
-ghost use Rattle.sim_engine.specs.declared.fault.CircuitFault.TheVariants.{Lex as Of_tokens, Layout as Of_layout, Parse as Of_grammar, Name as Of_names, Typing as Of_types, Width as Of_widths, NoMemory as No_memory};
+ghost use Rattle.sim_engine.specs.declared.fault.CircuitFault.TheVariants.{Lex as Of_tokens, Layout as Of_layout, Parse as Of_grammar, Name as Of_names, Typing as Of_types, Size as Of_size, Width as Of_widths, Drive as Of_drives, Clock as Of_clocks, Order as Of_order, NoMemory as No_memory};
 
+use clock_check::ClockFault;
+use comb_order::OrderFault;
+use drive_check::DriveFault;
 use fault_order::Fault;
 use fir_layout::LayoutFault;
 use fir_lexer::LexFault;
 use fir_names::NameFault;
 use fir_tree::ParseFault;
 use place_text::Place;
+use size_check::SizeFault;
 use std::alloc::AllocError;
 use thiserror::Error;
 use type_check::TypeFault;
@@ -34,8 +42,16 @@ pub enum CircuitFault {
     Name(NameFault),
     #[error("a fault of the types")]
     Typing(TypeFault),
+    #[error("a circuit that is too large")]
+    Size(SizeFault),
     #[error("a fault of the widths")]
     Width(WidthFault),
+    #[error("a leaf that may be undriven")]
+    Drive(DriveFault),
+    #[error("a clock other than main's")]
+    Clock(ClockFault),
+    #[error("a combinational loop")]
+    Order(OrderFault),
     #[error("no memory")]
     NoMemory,
 }
@@ -51,7 +67,11 @@ impl CircuitFault {
             CircuitFault::Parse(fault) => fault.kind(),
             CircuitFault::Name(fault) => fault.kind(),
             CircuitFault::Typing(fault) => fault.kind(),
+            CircuitFault::Size(fault) => fault.kind(),
             CircuitFault::Width(fault) => fault.kind(),
+            CircuitFault::Drive(fault) => fault.kind(),
+            CircuitFault::Clock(fault) => fault.kind(),
+            CircuitFault::Order(fault) => fault.kind(),
             CircuitFault::NoMemory => "NoMemory",
         }
     }
@@ -66,7 +86,11 @@ impl CircuitFault {
             CircuitFault::Parse(fault) => fault.place(),
             CircuitFault::Name(fault) => fault.place(),
             CircuitFault::Typing(fault) => fault.place(),
+            CircuitFault::Size(fault) => fault.place(),
             CircuitFault::Width(fault) => fault.place(),
+            CircuitFault::Drive(fault) => fault.place(),
+            CircuitFault::Clock(fault) => fault.place(),
+            CircuitFault::Order(fault) => fault.place(),
             CircuitFault::NoMemory => None,
         }
     }
@@ -127,12 +151,56 @@ impl From<TypeFault> for CircuitFault {
     }
 }
 
+impl From<SizeFault> for CircuitFault {
+    ghost from_gives = { λ fault given. given ≡ unless_wanting (place_of_size fault) (Of_size fault) };
+
+    fn from(fault: SizeFault) -> CircuitFault {
+        match fault.place() {
+            Some(_) => CircuitFault::Size(fault),
+            None => CircuitFault::NoMemory,
+        }
+    }
+}
+
 impl From<WidthFault> for CircuitFault {
     ghost from_gives = { λ fault given. given ≡ unless_wanting (place_of_widths fault) (Of_widths fault) };
 
     fn from(fault: WidthFault) -> CircuitFault {
         match fault.place() {
             Some(_) => CircuitFault::Width(fault),
+            None => CircuitFault::NoMemory,
+        }
+    }
+}
+
+impl From<DriveFault> for CircuitFault {
+    ghost from_gives = { λ fault given. given ≡ unless_wanting (place_of_drives fault) (Of_drives fault) };
+
+    fn from(fault: DriveFault) -> CircuitFault {
+        match fault.place() {
+            Some(_) => CircuitFault::Drive(fault),
+            None => CircuitFault::NoMemory,
+        }
+    }
+}
+
+impl From<ClockFault> for CircuitFault {
+    ghost from_gives = { λ fault given. given ≡ unless_wanting (place_of_clocks fault) (Of_clocks fault) };
+
+    fn from(fault: ClockFault) -> CircuitFault {
+        match fault.place() {
+            Some(_) => CircuitFault::Clock(fault),
+            None => CircuitFault::NoMemory,
+        }
+    }
+}
+
+impl From<OrderFault> for CircuitFault {
+    ghost from_gives = { λ fault given. given ≡ unless_wanting (place_of_order fault) (Of_order fault) };
+
+    fn from(fault: OrderFault) -> CircuitFault {
+        match fault.place() {
+            Some(_) => CircuitFault::Order(fault),
             None => CircuitFault::NoMemory,
         }
     }

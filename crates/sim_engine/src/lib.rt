@@ -1,11 +1,13 @@
-//! The compiler: from the bytes of a circuit's text to the accepted circuit, through all stages that are built: tokens,
-//! layout, grammar, names, types and widths. Keeps the contract that `accept_text` answers the circuit that the text spells,
-//! with its scope, its types and its fitted types, or exactly the first fault of the text.
+//! The compiler: from the bytes of a circuit's text to the net that serves the circuit, through all stages: tokens, layout, grammar,
+//! names, types, size, widths, driven leaves, clocks and loops. Keeps the contract that `compile_text` answers the circuit that the
+//! text spells, with its fitted types and its net, whose assignments stand in an order, or exactly the first fault of the text.
 #![tactic(auto)]
 
-pub mod accept;
+pub mod compile;
 pub mod fault;
+pub mod fitting;
 pub mod laws;
 
-pub use accept::{Accepted, CIRCUIT_LIMIT, accept_text};
+pub use compile::{Built, CIRCUIT_LIMIT, compile_text};
 pub use fault::CircuitFault;
+pub use fitting::fit_text;

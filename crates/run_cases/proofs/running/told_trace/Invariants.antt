@@ -2,4 +2,4 @@ use Rattle.net_run.specs.Keeping.{StandsForState}
 use Rattle.run_cases.proofs.running.told_trace.Given as goal
 
 abbrev pub invariant-loop-number : goal.invariant-loop-number
-invariant-loop-number l = StandsForState l.ordered.net l.kept
+invariant-loop-number l = StandsForState l.built.ordered.net l.kept

@@ -1,5 +1,5 @@
 use Rattle.sim_engine.proofs.Solving.{fit_from, unfit_from}
-use Rattle.sim_engine.proofs.accept.fit_widths.Goals as goal
+use Rattle.sim_engine.proofs.fitting.fit_widths.Goals as goal
 
 pub returns-clause-ok : goal.returns-clause-ok
 returns-clause-ok c =

@@ -1,6 +1,6 @@
 use Rattle.std.proofs.lemmas.Result.{err_from_is_err_and}
-use Rattle.sim_engine.proofs.Given.{given_tokens, given_layout, laid_by, given_grammar, parsed_by, given_names, named_by, given_types, typed_by, given_widths, accepted_by}
-use Rattle.sim_engine.proofs.accept.pass_stages.Goals as goal
+use Rattle.sim_engine.proofs.Given.{given_tokens, given_layout, laid_by, given_grammar, parsed_by, given_names, named_by, given_types, typed_by, given_size, sized_by, given_widths, fitted_by}
+use Rattle.sim_engine.proofs.fitting.fit_text.Goals as goal
 
 pub returns-in_err-tokens-clause-fault : goal.returns-in_err-tokens-clause-fault
 returns-in_err-tokens-clause-fault c =
@@ -32,19 +32,30 @@ returns-in_err-types-clause-fault c =
     let p = err_from_is_err_and c.from_residual-in_err-types.result c.from_residual-in_err-types.ensures.1 in
     rw (p.1, p.2) (given_types c.args.bytes.now c.in_ok-circuit.circuit _ named c.in_err-types.ensures.fault)
 
+pub returns-in_err-flat_measure-clause-fault : goal.returns-in_err-flat_measure-clause-fault
+returns-in_err-flat_measure-clause-fault c =
+    let laid = laid_by c.args.bytes.now _ _ c.in_ok-laid.laid.items c.in_ok-tokens.ensures.ok c.in_ok-laid.ensures.ok c.in_ok-laid.ensures.items c.deref.ensures.value in
+    let parsed = parsed_by c.args.bytes.now c.in_ok-laid.laid.items _ c.in_ok-circuit.circuit laid c.deref-2.ensures.value c.in_ok-circuit.ensures.ok c.in_ok-circuit.ensures.shallow in
+    let named = named_by c.args.bytes.now c.in_ok-circuit.circuit parsed c.in_ok-scope.ensures.none in
+    let typed = typed_by c.args.bytes.now c.in_ok-circuit.circuit named c.in_ok-types.ensures.none in
+    let p = err_from_is_err_and c.from_residual-in_err-flat_measure.result c.from_residual-in_err-flat_measure.ensures.1 in
+    rw (p.1, p.2) (given_size c.args.bytes.now c.in_ok-circuit.circuit _ typed c.in_err-flat_measure.ensures.fault)
+
 pub returns-in_err-fitted-clause-fault : goal.returns-in_err-fitted-clause-fault
 returns-in_err-fitted-clause-fault c =
     let laid = laid_by c.args.bytes.now _ _ c.in_ok-laid.laid.items c.in_ok-tokens.ensures.ok c.in_ok-laid.ensures.ok c.in_ok-laid.ensures.items c.deref.ensures.value in
     let parsed = parsed_by c.args.bytes.now c.in_ok-laid.laid.items _ c.in_ok-circuit.circuit laid c.deref-2.ensures.value c.in_ok-circuit.ensures.ok c.in_ok-circuit.ensures.shallow in
     let named = named_by c.args.bytes.now c.in_ok-circuit.circuit parsed c.in_ok-scope.ensures.none in
     let typed = typed_by c.args.bytes.now c.in_ok-circuit.circuit named c.in_ok-types.ensures.none in
+    let sized = sized_by c.args.bytes.now c.in_ok-circuit.circuit typed c.in_ok-flat_measure.ensures.none in
     let p = err_from_is_err_and c.from_residual-in_err-fitted.result c.from_residual-in_err-fitted.ensures.1 in
-    rw (p.1, p.2) (given_widths c.args.bytes.now _ _ typed c.in_ok-scope.ensures.ok c.in_ok-types.ensures.ok c.in_err-fitted.ensures.fault)
+    rw (p.1, p.2) (given_widths c.args.bytes.now _ _ sized c.in_ok-scope.ensures.ok c.in_ok-types.ensures.ok c.in_err-fitted.ensures.fault)
 
-pub returns-clause-ok : goal.returns-clause-ok
-returns-clause-ok c =
+pub returns-clause-fits : goal.returns-clause-fits
+returns-clause-fits c =
     let laid = laid_by c.args.bytes.now _ _ c.in_ok-laid.laid.items c.in_ok-tokens.ensures.ok c.in_ok-laid.ensures.ok c.in_ok-laid.ensures.items c.deref.ensures.value in
     let parsed = parsed_by c.args.bytes.now c.in_ok-laid.laid.items _ c.in_ok-circuit.circuit laid c.deref-2.ensures.value c.in_ok-circuit.ensures.ok c.in_ok-circuit.ensures.shallow in
     let named = named_by c.args.bytes.now c.in_ok-circuit.circuit parsed c.in_ok-scope.ensures.none in
     let typed = typed_by c.args.bytes.now c.in_ok-circuit.circuit named c.in_ok-types.ensures.none in
-    accepted_by c.args.bytes.now _ c.in_ok-fitted.fitted typed c.in_ok-scope.ensures.ok c.in_ok-types.ensures.ok c.in_ok-fitted.ensures.ok
+    let sized = sized_by c.args.bytes.now c.in_ok-circuit.circuit typed c.in_ok-flat_measure.ensures.none in
+    fitted_by c.args.bytes.now _ c.in_ok-fitted.fitted sized c.in_ok-scope.ensures.ok c.in_ok-types.ensures.ok c.in_ok-fitted.ensures.ok

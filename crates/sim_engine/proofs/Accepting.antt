@@ -1,0 +1,30 @@
+-- What the stages up to the widths let pass is well formed: its least widths are those of the judgement, which have no fault.
+use Rattle.std.proofs.Common.{ℕ, List}
+use Rattle.fir_tree.specs.declared.scope.Fitted.{Fitted}
+use Rattle.circuit_laws.specs.WellFormed.{IsWellFormed}
+use Rattle.fitted_laws.specs.Accepted.{IsAccepted}
+use Rattle.fitted_laws.proofs.Spelled.{spelled_shaped}
+use Rattle.fitted_laws.proofs.WellFormed.{accepted_well_formed}
+use Rattle.sim_engine.specs.Stages.{IsFitted}
+use Rattle.sim_engine.proofs.Solving.{same_fault}
+
+accepted_circuit : (text : List ℕ) (fitted : Fitted) → IsFitted text fitted → IsAccepted fitted
+accepted_circuit text fitted fits =
+    let widthed = fits.widthed in
+    let typed = widthed.sized.typed in
+    record {
+      shaped = spelled_shaped text typed.named.parsed.list fitted.checked.circuit typed.named.parsed.spelled;
+      scope = fits.types.solved.scope;
+      names = typed.named.none;
+      types = typed.none;
+      fit = record {
+        widths = fits.types.widths;
+        least = fits.types.solved.least;
+        fitted_is = fits.types.fitted_is;
+        none = λ given h. widthed.none given
+            (same_fault fitted.checked.circuit fitted.checked widthed.checked fits.types.widths widthed.widths given fits.types.solved widthed.solved h);
+      };
+    }
+
+pub fitted_well_formed : (text : List ℕ) (fitted : Fitted) → IsFitted text fitted → IsWellFormed fitted
+fitted_well_formed text fitted fits = accepted_well_formed fitted (accepted_circuit text fitted fits)
