@@ -1,0 +1,5 @@
+-- what a reader must believe
+pub mod Ports
+pub mod Traces
+-- a run of a net, for the contracts of the functions here
+pub mod NetRuns

@@ -1,0 +1,62 @@
+-- A run of a net under a stimulus, from a cycle to a later one.
+use Rattle.std.specs.Prelude.{◌≡◌, ℕ, List, ◌++◌, map, flat_map, length}
+use Rattle.std.specs.List.{range_with_len, enumerate_from}
+use Rattle.bit_words.specs.declared.value.Value.{Value}
+use Rattle.ground_net.specs.declared.net.Net.{Net}
+use Rattle.ground_net.specs.declared.net.Ordered.{Ordered}
+use Rattle.ground_net.specs.declared.net.Ports.{Ports}
+use Rattle.ground_net.specs.Reads.{IsOrder}
+use Rattle.ground_net.specs.Watching.{inputs, watched}
+use Rattle.net_meaning.specs.Cycles.{NetState, Inputs, first_state}
+use Rattle.net_meaning.specs.Nets.{IsNet}
+use Rattle.net_laws.specs.Runs.{Run}
+use Rattle.net_run.specs.declared.kept.Kept.{Kept}
+use Rattle.net_run.specs.Keeping.{IsKept}
+use Rattle.stimulus.specs.declared.stimulus.Stimulus.{Stimulus}
+use Rattle.stimulus.specs.Stimuli.{IsFormed}
+use Rattle.stimulus.specs.Rows.{last_set}
+use Rattle.trace_print.specs.Trace.{trace_line_of}
+use Rattle.circuit_run.specs.Traces.{integer_set}
+
+-- The net is well formed and ordered, the ports are its own, and the stimulus is formed for them.
+pub record IsPlanned (ordered : Ordered) (ports : Ports) (stimulus : Stimulus) : Type 0 where
+  pub net : IsNet ordered.net
+  pub order : IsOrder ordered.net ordered.sequence
+  pub fed : ports.inputs ≡ inputs ordered.net
+  pub seen : ports.watched ≡ watched ordered.net
+  pub formed : IsFormed ports stimulus
+
+-- the numbers of the watched leaves
+abbrev pub watch : Net → List ℕ
+watch net = map (λ p. p.leaf) (watched net)
+
+-- What the inputs of a net are given in a cycle, by their numbers.
+abbrev pub given_in : Stimulus → ℕ → Inputs
+given_in stimulus cycle n = integer_set (last_set stimulus.settings cycle n)
+
+-- the same for so many cycles from a first one on
+abbrev pub given_from : Stimulus → ℕ → ℕ → List Inputs
+given_from stimulus first count = map (given_in stimulus) (range_with_len first count)
+
+-- Cycles with these inputs lead from a state to another one, with these rows: a run that goes on from there is one from here.
+abbrev pub Leads : Net → NetState → List Inputs → List (List Value) → NetState → Type 0
+Leads net s given rows t = (later : List Inputs) (more : List (List Value)) → Run net (watch net) t later more → Run net (watch net) s (given ++ later) (rows ++ more)
+
+-- the lines of rows from a cycle on
+abbrev pub lines_from : ℕ → List (List Value) → List ℕ
+lines_from first rows = flat_map (λ x. trace_line_of x.0 x.1) (enumerate_from first rows)
+
+-- From a state so many cycles from a first one on lead to what is kept behind them, and these are their lines.
+pub record LeadsOn (net : Net) (stimulus : Stimulus) (s : NetState) (first count : ℕ) (behind : Kept) (lines : List ℕ) : Type 0 where
+  pub state : NetState
+  pub rows : List (List Value)
+  pub leads : Leads net s (given_from stimulus first count) rows state
+  pub counted : length rows ≡ count
+  pub kept : IsKept net state behind
+  pub are : lines ≡ lines_from first rows
+
+-- The lines of a whole run.
+pub record AreLines (net : Net) (stimulus : Stimulus) (bytes : List ℕ) : Type 0 where
+  pub rows : List (List Value)
+  pub run : Run net (watch net) first_state (given_from stimulus 0 stimulus.cycles) rows
+  pub are : bytes ≡ lines_from 0 rows
