@@ -14,7 +14,7 @@ use Rattle.stimulus.specs.Faults.{IsFault, place_of, rank_of}
 use Rattle.stimulus.specs.Stimuli.{IsStimulus}
 use Rattle.circuit_run.specs.Ports.{ArePortsOf}
 use Rattle.circuit_run.specs.Traces.{IsTraceText}
-use Rattle.circuit_run.proofs.Once.{ports_of_circuit}
+use Rattle.circuit_run.proofs.Parts.{ports_of_circuit}
 use Rattle.trace_print.specs.Listing.{listing_of}
 use Rattle.sim_engine.specs.Stages.{circuit_limit, IsAccepted, IsFirstFault}
 use Rattle.sim_engine.specs.Building.{IsBuilt}
