@@ -6,3 +6,4 @@ pub mod NetRuns
 pub mod Traces
 pub mod Takes
 pub mod Once
+pub mod Writing

@@ -1,5 +1,5 @@
 -- The ports of a circuit are one, and so is its trace under a stimulus.
-use Rattle.std.proofs.Common.{◌≡◌, ℕ, ◌≤◌, List, [], ◌∷◌, ◌++◌, refl, sym, ap, ap₂, ◌∙◌, subst}
+use Rattle.std.proofs.Common.{◌≡◌, ℕ, ◌≤◌, List, [], ◌∷◌, ◌++◌, map, refl, sym, ap, ap₂, ◌∙◌, subst}
 use Rattle.std.specs.List.{flat_map, enumerate_from, AllZip}
 use native.Mathlib.Bridge.{le_prop}
 use Rattle.bit_words.specs.declared.value.Kind.{Kind}
@@ -13,8 +13,9 @@ use Rattle.ground_net.specs.declared.net.Net.{Net}
 use Rattle.ground_net.specs.declared.net.Ports.{Ports}
 use Rattle.ground_net.specs.declared.net.PortLeaf.{PortLeaf}
 use Rattle.ground_net.specs.Reads.{IsOrder}
+use Rattle.net_of_circuit.specs.FlatOrder.{all_leaves, flat_of}
 use Rattle.net_laws.specs.Serves.{Serves}
-use Rattle.net_laws.proofs.Traces.{no_loops, all_flat, has_leaves}
+use Rattle.net_laws.proofs.Traces.{no_loops, has_leaves}
 use Rattle.stimulus.specs.declared.stimulus.Stimulus.{Stimulus}
 use Rattle.trace_print.specs.Trace.{header_of}
 use Rattle.circuit_run.specs.Ports.{PortPart, IsPortLeaf, ArePortsOf}
@@ -56,7 +57,7 @@ ports_once texts design ports other a b =
 pub traces_once : (texts : Texts) (design : Design) (net : Net) (sequence : List ℕ) → Serves texts design net → IsOrder net sequence → (stimulus : Stimulus) (bytes other : List ℕ)
     → IsTraceText texts design stimulus bytes → IsTraceText texts design stimulus other → bytes ≡ other
 traces_once texts design net sequence serves order stimulus bytes other a b =
-    let rows = rows_same design (all_flat texts design net serves.of serves.lists serves.has serves.typed sequence order) serves.has
+    let rows = rows_same design (map flat_of (all_leaves serves.of.placed)) serves.has
     (no_loops texts design net serves.of serves.lists serves.has serves.typed sequence order)
     (has_leaves texts design net serves.of serves.lists serves.has serves.typed sequence order) (takes_leaves texts design net serves) (state_itself design first_state) a.trace b.trace in
     a.is ∙ (ap (λ rs. header_of (watched_names texts design) ++ flat_map line_of (enumerate_from 0 rs)) rows ∙ sym b.is)
