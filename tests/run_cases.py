@@ -52,18 +52,19 @@ def main():
     for path in sorted([*examples.glob("*.fir"), *examples.glob("*.txt")]):
         case = {"words": ["check"], "stdin": path.read_text("latin-1"), "status": 0, "stdout": "ok\n"}
         faults.append((f"check accepts {path.name}", fault_of(program, case)))
-    for name, below, status, line in (
-        ("32 modules over one another have no fault", "skip", 0, "ok\n"),
-        ("the last of 32 modules leads back to the first", "inst back of M0", 2, "circuit InstanceLoop 4:18\n"),
+    for name, depth, below, status, line in (
+        ("10 modules over one another have no fault", 10, "skip", 0, "ok\n"),
+        ("32 modules with two instances of the next one each are too large", 32, "skip", 2, "circuit TooLarge 2:9\n"),
+        ("the last of 32 modules leads back to the first", 32, "inst back of M0", 2, "circuit InstanceLoop 4:18\n"),
     ):
-        case = {"words": ["check"], "stdin": tower(32, below), "status": status, "stdout": line}
+        case = {"words": ["check"], "stdin": tower(depth, below), "status": status, "stdout": line}
         faults.append((name, fault_of(program, case)))
-    small = "FIRRTL version 3.0.0\ncircuit {0} :\n  module {0} :\n    input {1} : Clock\n%stimulus\ncycles 0\n"
-    for name, clock, status, line in (
-        ("a small circuit of 32,768 bytes is run", "c", 0, "cycle\n"),
-        ("a small circuit of 32,769 bytes is not run yet", "cc", 2, "circuit Unsupported 2:9\n"),
+    front = "FIRRTL version 3.0.0\ncircuit M :\n  module M :\n    input clock : Clock\n%stimulus\n"
+    for name, stimulus, status, line in (
+        ("a stimulus of 4,194,304 bytes is read", "cycles 0\n".ljust(4_194_304), 0, "cycle\n"),
+        ("a stimulus of one byte more is too long", "cycles 0\n".ljust(4_194_305), 3, "stimulus TooLong 1:1\n"),
     ):
-        case = {"words": ["run"], "stdin": small.format("a" * 16352, clock), "status": status, "stdout": line}
+        case = {"words": ["run"], "stdin": front + stimulus, "status": status, "stdout": line}
         faults.append((name, fault_of(program, case)))
     too_long = {"words": ["check"], "stdin": " " * 5_242_881, "status": 2, "stdout": "circuit TooLong 1:1\n"}
     faults.append(("a text over 5,242,880 bytes is too long", fault_of(program, too_long)))

@@ -66,6 +66,6 @@ at_front : fault_place (Parse (grammar.BadSyntax (place [] 0))) ≡ Some first_p
 at_front = ap Some begins
 
 pub empty_refused : Judges Check [] 2 (codes "circuit BadSyntax 1:1\n")
-empty_refused = rw line at (taken Check [] [] 2 (fault_bytes (Parse (grammar.BadSyntax (place [] 0))) first_place)
+empty_refused = rw line at (taken Check [] [] [] 2 (fault_bytes (Parse (grammar.BadSyntax (place [] 0))) first_place)
     (record { within = omega arith; part = all_of_it Check [] refl has_none; short = omega arith })
     (refused Check [] [] (Parse (grammar.BadSyntax (place [] 0))) first_place first_fault at_front))

@@ -1,48 +1,120 @@
 -- What a command answers, from what the text is.
-use Rattle.std.proofs.Common.{◌≡◌, ℕ, ◌<◌, ◌≤◌, min, List, ◌⊎◌, ⊎_elim, length, refl, sym, ap, ◌∙◌, arith}
-use Rattle.std.specs.Prelude.{Some, None}
+use Rattle.std.proofs.Common.{◌≡◌, ℕ, ◌<◌, ◌≤◌, List, ◌⊎◌, ⊎_elim, length, refl, sym, ap, ◌∙◌, subst, arith}
+use Rattle.std.specs.Prelude.{Some, None, Result, Ok, Err, codes}
 use Rattle.place_text.specs.declared.place.Place.{Place}
-use Rattle.fir_tree.specs.declared.circuit.Circuit.{Circuit}
+use Rattle.place_text.specs.Places.{first_place}
+use Rattle.fault_order.specs.First.{IsFirst, HasNone as HasNoFault}
+use Rattle.fault_order.specs.Verdicts.{IsVerdict}
+use Rattle.fir_tree.specs.declared.scope.Fitted.{Fitted}
+use Rattle.fir_meaning.specs.Components.{design_of}
+use Rattle.ground_net.specs.declared.net.Ports.{Ports}
+use Rattle.stimulus.specs.declared.stimulus.Stimulus.{Stimulus}
+use Rattle.stimulus.specs.declared.fault.StimFault.{StimFault}
+use Rattle.stimulus.specs.Faults.{IsFault, place_of, rank_of}
+use Rattle.stimulus.specs.Stimuli.{IsStimulus}
+use Rattle.circuit_run.specs.Ports.{ArePortsOf}
+use Rattle.circuit_run.specs.Traces.{IsTraceText}
+use Rattle.circuit_run.proofs.Parts.{ports_of_circuit}
+use Rattle.trace_print.specs.Listing.{listing_of}
 use Rattle.sim_engine.specs.Stages.{circuit_limit, IsAccepted, IsFirstFault}
+use Rattle.sim_engine.specs.Building.{IsBuilt}
 use Rattle.sim_engine.specs.Faults.{fault_place}
+use Rattle.sim_engine.specs.declared.compile.Built.{Built}
 use Rattle.sim_engine.specs.declared.fault.CircuitFault.{CircuitFault}
 use Rattle.sim_engine.specs.declared.fault.CircuitFault.TheVariants.{NoMemory}
+use Rattle.sim_engine.proofs.Once.{no_fault}
 use Rattle.sim_top.specs.declared.command.Command.{Command}
-use Rattle.sim_top.specs.declared.command.Command.TheVariants.{Check, Widths}
-use Rattle.sim_top.specs.StimulusLine.{IsSplit, HasNone}
-use Rattle.sim_top.specs.Answers.{fault_bytes, joined_limit, before_line, all_of_it, IsCut, JudgesTaken, refused, lists, Judges, taken, ListsCircuit}
+use Rattle.sim_top.specs.declared.command.Command.TheVariants.{Run, Check, Widths}
+use Rattle.sim_top.specs.declared.fault.WholeFault.TheVariants.{TooLong, NoStimulus}
+use Rattle.sim_top.specs.declared.judge.Decision.{Decision}
+use Rattle.sim_top.specs.declared.judge.Decision.TheVariants as decision
+use Rattle.sim_top.specs.StimulusLine.{HasNone}
+use Rattle.sim_top.specs.Answers.{fault_bytes, whole_bytes, stimulus_bytes, whole_stimulus_bytes, joined_limit, stimulus_limit, IsPart, IsTaken, Runs, stimulus_too_long, stimulus_refused, traced, JudgesTexts, refused, accepted, listed, ran, Judges, no_stimulus, circuit_too_long, taken}
+use Rattle.sim_top.specs.Serving.{IsServed, SettlesTexts, Settles}
+use Rattle.sim_top.specs.Decisions.{Gives}
+use Rattle.sim_top.proofs.Splitting.{part_once, run_has_line}
 
--- the part before the line, or all of it
-pub cut_before : (command : Command) (joined circuit stimulus : List ℕ) → length joined ≤ joined_limit → IsSplit joined circuit stimulus → IsCut command joined circuit stimulus
-cut_before command joined circuit stimulus w p = record { within = w; part = before_line command joined circuit stimulus p; behind = λ _. p }
+-- a net serves what was built, and nothing is to be served where there is a fault, or no run
+built_serves : (command : Command) (text : List ℕ) (built : Built) → IsBuilt text built → IsServed command text
+built_serves command text built b run fitted a = (built, b)
 
-pub cut_check : (joined stimulus : List ℕ) → length joined ≤ joined_limit → HasNone joined → IsCut Check joined joined stimulus
-cut_check joined stimulus w none = record { within = w; part = all_of_it Check joined refl none; behind = λ e. absurd (cc) }
+faulty_served : (command : Command) (text : List ℕ) (fault : CircuitFault) → IsFirstFault text fault → IsServed command text
+faulty_served command text fault f run fitted a = absurd (no_fault text fault fitted f a)
 
-pub cut_widths : (joined stimulus : List ℕ) → length joined ≤ joined_limit → HasNone joined → IsCut Widths joined joined stimulus
-cut_widths joined stimulus w none = record { within = w; part = all_of_it Widths joined refl none; behind = λ e. absurd (cc) }
+-- the parts of a joined text, the circuit's within its limit
+settled_part : (command : Command) (joined circuit stimulus : List ℕ) → length joined ≤ joined_limit → IsPart command joined circuit stimulus → length circuit ≤ circuit_limit
+    → (status : ℕ) (bytes : List ℕ) → SettlesTexts command circuit stimulus status bytes → Settles command joined status bytes
+settled_part command joined circuit stimulus within part short status bytes s = record {
+  judges = taken command joined circuit stimulus status bytes (record { within = within; part = part; short = short }) s.judges;
+  served = λ other more t. subst (λ x. IsServed command x) (part_once command joined circuit stimulus other more part t.part).0 s.served;
+}
 
--- the part is within its limit
-pub judged_part : (command : Command) (joined circuit stimulus : List ℕ) (status : ℕ) (bytes : List ℕ) → IsCut command joined circuit stimulus → length circuit ≤ circuit_limit
-    → JudgesTaken command joined circuit status bytes → Judges command joined status bytes
-judged_part command joined circuit stimulus status bytes cut short j =
-    taken command joined circuit status bytes (record { within = cut.within; part = cut.part; short = short }) j
+pub gives_part : (command : Command) (joined circuit stimulus : List ℕ) (d : Decision) → length joined ≤ joined_limit → IsPart command joined circuit stimulus
+    → length circuit ≤ circuit_limit → Gives (SettlesTexts command circuit stimulus) d → Gives (Settles command joined) d
+gives_part command joined circuit stimulus (decision.Say reply) within part short s = settled_part command joined circuit stimulus within part short _ _ s
+gives_part command joined circuit stimulus (decision.Run built settings) within part short s =
+    λ bytes t. settled_part command joined circuit stimulus within part short _ _ (s bytes t)
+
+pub long_part : (command : Command) (joined circuit stimulus : List ℕ) → length joined ≤ joined_limit → IsPart command joined circuit stimulus → circuit_limit < length circuit
+    → (status : ℕ) (bytes : List ℕ) → status ≡ 2 → bytes ≡ whole_bytes TooLong first_place → Settles command joined status bytes
+long_part command joined circuit stimulus within part long status bytes two e = rw (two, e) (record {
+  judges = circuit_too_long command joined circuit stimulus within part long;
+  served = λ other more t.
+      let same = (part_once command joined circuit stimulus other more part t.part).0 in
+      let short = t.short in
+      let counted : length circuit ≡ length other = ap length same in absurd (omega (arith, long, short, counted));
+})
+
+pub lacks_line : (joined : List ℕ) → length joined ≤ joined_limit → HasNone joined → (status : ℕ) (bytes : List ℕ) → status ≡ 2 → bytes ≡ whole_bytes NoStimulus first_place
+    → Settles Run joined status bytes
+lacks_line joined within none status bytes two e = rw (two, e) (record {
+  judges = no_stimulus joined within none;
+  served = λ other more t. absurd (run_has_line joined other more t.part none);
+})
 
 -- a fault that has a place isn't want of memory
-pub refused_from : (command : Command) (joined circuit stimulus : List ℕ) (fault : CircuitFault) (place : Place) (status : ℕ) (bytes : List ℕ) → IsCut command joined circuit stimulus
-    → length circuit ≤ circuit_limit → (fault ≡ NoMemory) ⊎ IsFirstFault circuit fault → fault_place fault ≡ Some place → status ≡ 2 → bytes ≡ fault_bytes fault place
-    → Judges command joined status bytes
-refused_from command joined circuit stimulus fault place status bytes cut short found at two e = rw (two, e)
+pub refused_from : (command : Command) (text stimulus : List ℕ) (fault : CircuitFault) (place : Place) (status : ℕ) (bytes : List ℕ) → (fault ≡ NoMemory) ⊎ IsFirstFault text fault
+    → fault_place fault ≡ Some place → status ≡ 2 → bytes ≡ fault_bytes fault place → SettlesTexts command text stimulus status bytes
+refused_from command text stimulus fault place status bytes found at two e = rw (two, e)
     (⊎_elim (λ m. absurd (let n : None ≡ Some place = sym (ap fault_place m) ∙ at in cc))
-    (λ f. judged_part command joined circuit stimulus 2 (fault_bytes fault place) cut short (refused command joined circuit fault place f at)) found)
+    (λ f. record { judges = refused command text stimulus fault place f at; served = faulty_served command text fault f }) found)
 
-pub listed : (joined text : List ℕ) (circuit : Circuit) (status : ℕ) (bytes : List ℕ) → IsAccepted text circuit → ListsCircuit circuit status bytes
-    → JudgesTaken Widths joined text status bytes
-listed joined text circuit status bytes a l = lists joined text circuit l.fitted status bytes a l.is_fitted l.lists
+-- what `check` and `widths` answer to what was built
+pub checked : (text stimulus : List ℕ) (built : Built) (status : ℕ) (bytes : List ℕ) → IsBuilt text built → status ≡ 0 → bytes ≡ codes "ok\n" → SettlesTexts Check text stimulus status bytes
+checked text stimulus built status bytes b zero e =
+    rw (zero, e) (record { judges = accepted text stimulus built.fitted b.accepted; served = built_serves Check text built b })
 
--- a count that stops at a greatest number tells whether it is within a limit below that
-pub counted_within : (total n most limit : ℕ) → total ≡ min n most → limit < most → total ≤ limit → n ≤ limit
-counted_within total n most limit e lt le = omega arith
+pub widths : (text stimulus : List ℕ) (built : Built) (status : ℕ) (bytes : List ℕ) → IsBuilt text built → status ≡ 0 → bytes ≡ listing_of built.fitted
+    → SettlesTexts Widths text stimulus status bytes
+widths text stimulus built status bytes b zero e =
+    rw (zero, e) (record { judges = listed text stimulus built.fitted b.accepted; served = built_serves Widths text built b })
 
-pub counted_over : (total n most limit : ℕ) → total ≡ min n most → limit < total → limit < n
-counted_over total n most limit e lt = omega arith
+-- a run of what was built
+ran_of : (text stimulus : List ℕ) (built : Built) (status : ℕ) (bytes : List ℕ) → IsBuilt text built
+    → Runs built.fitted.checked.circuit.names (design_of built.fitted) stimulus status bytes → SettlesTexts Run text stimulus status bytes
+ran_of text stimulus built status bytes b r = record { judges = ran text stimulus built.fitted status bytes b.accepted r; served = built_serves Run text built b }
+
+ports_are : (text : List ℕ) (built : Built) → IsBuilt text built → ArePortsOf built.fitted.checked.circuit.names (design_of built.fitted) built.ports
+ports_are text built b = ports_of_circuit built.fitted.checked.circuit.names (design_of built.fitted) built.ordered.net b.ordered.serves built.ports b.inputs b.watched b.names
+
+pub ran_long : (text stimulus : List ℕ) (built : Built) (status : ℕ) (bytes : List ℕ) → IsBuilt text built → stimulus_limit < length stimulus → status ≡ 3
+    → bytes ≡ whole_stimulus_bytes TooLong first_place → SettlesTexts Run text stimulus status bytes
+ran_long text stimulus built status bytes b long three e = rw (three, e) (ran_of text stimulus built _ _ b (stimulus_too_long long))
+
+-- what the reading of the stimulus answered
+abbrev pub IsRead : List ℕ → Built → ℕ → Result Stimulus StimFault → Type 0
+IsRead stimulus built watched result = IsVerdict place_of rank_of (IsFault stimulus built.ports watched) (IsStimulus stimulus built.ports) result
+
+pub ran_refused : (text stimulus : List ℕ) (built : Built) (watched : ℕ) (fault : StimFault) (place : Place) (status : ℕ) (bytes : List ℕ) → IsBuilt text built
+    → length stimulus ≤ stimulus_limit → watched ≡ length built.ports.watched → IsRead stimulus built watched (Err fault) → place_of fault ≡ Some place → status ≡ 3
+    → bytes ≡ stimulus_bytes fault place → SettlesTexts Run text stimulus status bytes
+ran_refused text stimulus built watched fault place status bytes b short counted v at three e = rw (three, e)
+    (⊎_elim (λ m. absurd (let n : None ≡ Some place = sym m ∙ at in cc))
+    (λ f. ran_of text stimulus built _ _ b (stimulus_refused built.ports fault place short (ports_are text built b)
+        (subst (λ n. IsFirst place_of rank_of (IsFault stimulus built.ports n) fault) counted f) at)) v.fault)
+
+pub ran_traced : (text stimulus : List ℕ) (built : Built) (watched : ℕ) (settings : Stimulus) → IsBuilt text built → length stimulus ≤ stimulus_limit
+    → watched ≡ length built.ports.watched → IsRead stimulus built watched (Ok settings) → Gives (SettlesTexts Run text stimulus) (decision.Run built settings)
+ran_traced text stimulus built watched settings b short counted v = λ bytes t.
+    ran_of text stimulus built 0 bytes b (traced built.ports settings bytes short (ports_are text built b)
+    (subst (λ n. HasNoFault (IsFault stimulus built.ports n)) counted v.none) v.ok t)

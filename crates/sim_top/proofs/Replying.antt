@@ -1,73 +1,105 @@
 -- What a reply is, and how a call ends that gives it.
-use Rattle.std.proofs.Common.{◌≡◌, ◌≢◌, ℕ, ◌≤◌, List, [], ◌++◌, ◌⊎◌, inl, inr, ⊎_elim, Option, refl, sym, ap, ◌∙◌, subst, arith}
+use Rattle.std.proofs.Common.{◌≡◌, ◌≢◌, ℕ, ◌<◌, ◌≤◌, length, List, [], ◌++◌, ◌⊎◌, inl, inr, ⊎_elim, Option, take, refl, sym, ap, ◌∙◌, subst, arith}
 use Rattle.std.specs.Prelude.{codes, Some, None}
 use Rattle.std.proofs.lemmas.Bool.{cases_eq}
 use Rattle.std.proofs.lemmas.Grind.{common_steps}
 use Rattle.place_text.specs.Places.{first_place}
-use Rattle.fir_tree.specs.declared.circuit.Circuit.{Circuit}
-use Rattle.fir_tree.specs.declared.scope.Fitted.{Fitted}
+use Rattle.place_text.specs.declared.place.Place.{Place}
+use Rattle.leaf_names.specs.LeafNames.{Texts}
+use Rattle.fir_meaning.specs.Components.{Design}
 use Rattle.shelf_io.specs.Outside.{Appends}
 use Rattle.sim_top.specs.declared.command.Command.{Command}
 use Rattle.sim_top.specs.declared.command.Command.TheVariants.{Run, Check, Widths}
-use Rattle.sim_top.specs.declared.circuit.SmallCircuit.{SmallCircuit}
-use Rattle.place_text.specs.declared.place.Place.{Place}
 use Rattle.sim_top.specs.declared.fault.WholeFault.{WholeFault}
-use Rattle.sim_top.specs.declared.fault.WholeFault.TheVariants.{TooLong, NoStimulus, Unsupported, TooLarge}
-use Rattle.sim_top.specs.declared.fault.StimulusFault.TheVariants.{BadLine}
-use Rattle.sim_top.specs.Answers.{whole_bytes, Needs, RunsSmall, traced, bad_stimulus, Lists, small_enough, over, JudgesTaken, refused, accepted, lists, runs, not_small, Judges, joined_too_long, no_stimulus, circuit_too_long, taken, Answers, no_command, judged}
-use Rattle.sim_top.specs.Endings.{Ends, IsSaid, IsFaultLine, of_circuit, of_whole, of_stimulus, IsReply}
-use Rattle.sim_top.proofs.AnswersOnce.{answers_once}
+use Rattle.sim_top.specs.declared.fault.WholeFault.TheVariants.{TooLong, NoStimulus}
+use Rattle.sim_top.specs.declared.judge.Decision.{Decision}
+use Rattle.sim_top.specs.declared.judge.Decision.TheVariants as decision
+use Rattle.sim_top.specs.Answers.{whole_bytes, command_of, joined_limit, input_name, Needs, Runs, stimulus_too_long, stimulus_refused, traced, JudgesTexts, refused, accepted, listed, ran, Judges, joined_too_long, no_stimulus, circuit_too_long, taken, Answers, no_command, judged}
+use Rattle.sim_top.specs.Endings.{Ends, IsSaid, IsRun, IsFaultLine, of_circuit, of_whole, of_stimulus, of_whole_stimulus, IsReply}
+use Rattle.sim_top.specs.Serving.{IsServedIn, AreServed, Settles, IsSettled}
+use Rattle.sim_top.specs.Decisions.{Gives, CanRun, IsReady, status_of}
+use Rattle.sim_top.proofs.AnswersOnce.{some_same, settled_once}
 
 -- what a command answers has the status 0, or is a line that names a fault
 abbrev Told : ℕ → List ℕ → Type 0
 Told status bytes = (status ≡ 0) ⊎ IsFaultLine status bytes
 
-ran_told : (c : SmallCircuit) (stimulus : List ℕ) (s : ℕ) (b : List ℕ) → RunsSmall c stimulus s b → Told s b
-ran_told c stimulus _ _ (traced t i) = inl refl
-ran_told c stimulus _ _ (bad_stimulus n) = inr (of_stimulus BadLine)
+ran_told : (texts : Texts) (design : Design) (stimulus : List ℕ) (s : ℕ) (b : List ℕ) → Runs texts design stimulus s b → Told s b
+ran_told texts design stimulus _ _ (stimulus_too_long l) = inr (of_whole_stimulus TooLong first_place)
+ran_told texts design stimulus _ _ (stimulus_refused ports fault place l p f at) = inr (of_stimulus fault place)
+ran_told texts design stimulus _ _ (traced ports settings bytes l p n i t) = inl refl
 
-listed_told : (circuit : Circuit) (fitted : Fitted) (s : ℕ) (b : List ℕ) → Lists circuit fitted s b → Told s b
-listed_told circuit fitted _ _ (small_enough l) = inl refl
-listed_told circuit fitted _ _ (over l) = inr (of_whole TooLarge circuit.main.place)
-
-taken_told : (command : Command) (joined text : List ℕ) (s : ℕ) (b : List ℕ) → JudgesTaken command joined text s b → Told s b
-taken_told command joined text _ _ (refused _ _ _ fault p f at) = inr (of_circuit fault p)
-taken_told Check joined text _ _ (accepted _ _ circuit a) = inl refl
-taken_told Widths joined text s b (lists _ _ circuit fitted _ _ a i l) = listed_told circuit fitted s b l
-taken_told Run joined text s b (runs _ _ stimulus circuit laid c _ _ cut a l i r) = ran_told c stimulus s b r
-taken_told Run joined text _ _ (not_small _ _ circuit laid a l n) = inr (of_whole Unsupported circuit.main.place)
+texts_told : (command : Command) (text stimulus : List ℕ) (s : ℕ) (b : List ℕ) → JudgesTexts command text stimulus s b → Told s b
+texts_told command text stimulus _ _ (refused _ _ _ fault p f at) = inr (of_circuit fault p)
+texts_told Check text stimulus _ _ (accepted _ _ fitted a) = inl refl
+texts_told Widths text stimulus _ _ (listed _ _ fitted a) = inl refl
+texts_told Run text stimulus s b (ran _ _ fitted _ _ a r) = ran_told fitted.checked.circuit.names _ stimulus s b r
 
 judged_told : (command : Command) (joined : List ℕ) (s : ℕ) (b : List ℕ) → Judges command joined s b → Told s b
 judged_told command joined _ _ (joined_too_long _ _ l) = inr (of_whole TooLong first_place)
 judged_told Run joined _ _ (no_stimulus _ w n) = inr (of_whole NoStimulus first_place)
-judged_told command joined _ _ (circuit_too_long _ _ text w p l) = inr (of_whole TooLong first_place)
-judged_told command joined s b (taken _ _ text _ _ t j) = taken_told command joined text s b j
+judged_told command joined _ _ (circuit_too_long _ _ text stimulus w p l) = inr (of_whole TooLong first_place)
+judged_told command joined s b (taken _ _ text stimulus _ _ t j) = texts_told command text stimulus s b j
 
 line_status : (s : ℕ) (b : List ℕ) → IsFaultLine s b → (2 ≤ s) × (s ≤ 3)
 line_status _ _ (of_circuit fault p) = (omega arith, omega arith)
 line_status _ _ (of_whole fault p) = (omega arith, omega arith)
-line_status _ _ (of_stimulus fault) = (omega arith, omega arith)
-
-told_few : (s : ℕ) (b : List ℕ) → Told s b → s ≤ 3
-told_few s b told = ⊎_elim (λ zero. omega arith) (λ line. (line_status s b line).1) told
+line_status _ _ (of_stimulus fault p) = (omega arith, omega arith)
+line_status _ _ (of_whole_stimulus fault p) = (omega arith, omega arith)
 
 told_usage : (s : ℕ) (b : List ℕ) → Told s b → s ≡ 1 → ⊥
 told_usage s b told one = ⊎_elim (λ zero. omega arith) (λ line. let two = (line_status s b line).0 in omega arith) told
 
-pub judged_reply : (command : Command) (joined : List ℕ) (s : ℕ) (b : List ℕ) → Judges command joined s b → IsReply s b
+judged_reply : (command : Command) (joined : List ℕ) (s : ℕ) (b : List ℕ) → Judges command joined s b → IsReply s b
 judged_reply command joined s b j = ⊎_elim (λ zero. inl zero) (λ line. inr (inr line)) (judged_told command joined s b j)
 
-pub judged_few : (command : Command) (joined : List ℕ) (s : ℕ) (b : List ℕ) → Judges command joined s b → s ≤ 3
-judged_few command joined s b j = told_few s b (judged_told command joined s b j)
+pub reply_few : (s : ℕ) (b : List ℕ) → IsReply s b → s ≤ 3
+reply_few s b reply = ⊎_elim (λ zero. omega arith)
+    (λ more. ⊎_elim (λ (u : (s ≡ 1) × (b ≡ codes "usage\n")). let one = u.0 in omega arith) (λ line. (line_status s b line).1) more) reply
 
-pub judged_usage : (command : Command) (joined : List ℕ) (s : ℕ) (b : List ℕ) → Judges command joined s b → s ≡ 1 → ⊥
-judged_usage command joined s b j = told_usage s b (judged_told command joined s b j)
+-- what is decided for a joined text
+pub ready_decision : (command : Command) (joined : List ℕ) (d : Decision) → Gives (Settles command joined) d → CanRun d → IsReady d
+ready_decision command joined (decision.Say reply) s run = judged_reply command joined _ _ s.judges
+ready_decision command joined (decision.Run built settings) s run = run
 
-pub usage_reply : (b : List ℕ) → b ≡ codes "usage\n" → IsReply 1 b
-usage_reply b e = inr (inl (refl, e))
+pub no_usage : (command : Command) (joined : List ℕ) (d : Decision) → Gives (Settles command joined) d → status_of d ≡ 1 → ⊥
+no_usage command joined (decision.Say reply) s one = told_usage _ _ (judged_told command joined _ _ s.judges) one
+no_usage command joined (decision.Run built settings) s one = cc
 
-pub whole_reply : (b : List ℕ) (s : ℕ) (fault : WholeFault) (place : Place) → s ≡ 2 → b ≡ whole_bytes fault place → IsReply s b
-whole_reply b s fault place two e = inr (inr (rw (two, e) (of_whole fault place)))
+pub usage_ready : (b : List ℕ) → b ≡ codes "usage\n" → IsReply 1 b
+usage_ready b e = inr (inl (refl, e))
+
+pub whole_ready : (b : List ℕ) (s : ℕ) (fault : WholeFault) → s ≡ 2 → b ≡ whole_bytes fault first_place → IsReply s b
+whole_ready b s fault two e = inr (inr (rw (two, e) (of_whole fault first_place)))
+
+-- and for words
+pub settled_usage : (words : List (List ℕ)) (texts : List ℕ → Option (List ℕ)) (b : List ℕ) → command_of words ≡ None → b ≡ codes "usage\n" → IsSettled words texts 1 b
+settled_usage words texts b none e = rw e (record {
+  answers = no_command words texts none;
+  served = λ command joined reads held. let f : None ≡ Some command = sym none ∙ reads in absurd (cc);
+})
+
+of_joined : (words : List (List ℕ)) (texts : List ℕ → Option (List ℕ)) (command : Command) (joined : List ℕ) → command_of words ≡ Some command → texts input_name ≡ Some joined
+    → (s : ℕ) (b : List ℕ) → Settles command joined s b → IsSettled words texts s b
+of_joined words texts command joined reads held s b settles = record {
+  answers = judged words texts command joined s b reads held settles.judges;
+  served = λ other text read told.
+      let c : command ≡ other = some_same command other (sym reads ∙ read) in
+      let x : joined ≡ text = some_same joined text (sym held ∙ told) in
+      subst (λ y. IsServedIn other y) x (subst (λ z. IsServedIn z joined) c settles.served);
+}
+
+pub settled_words : (words : List (List ℕ)) (texts : List ℕ → Option (List ℕ)) (command : Command) (joined : List ℕ) (d : Decision) → command_of words ≡ Some command
+    → texts input_name ≡ Some joined → Gives (Settles command joined) d → Gives (IsSettled words texts) d
+settled_words words texts command joined (decision.Say reply) reads held s = of_joined words texts command joined reads held _ _ s
+settled_words words texts command joined (decision.Run built settings) reads held s = λ bytes t. of_joined words texts command joined reads held _ _ (s bytes t)
+
+pub settled_long : (words : List (List ℕ)) (texts : List ℕ → Option (List ℕ)) (command : Command) (joined : List ℕ) (s : ℕ) (b : List ℕ) → command_of words ≡ Some command
+    → texts input_name ≡ Some joined → joined_limit < length joined → s ≡ 2 → b ≡ whole_bytes TooLong first_place → IsSettled words texts s b
+settled_long words texts command joined s b reads held long two e = rw (two, e) (of_joined words texts command joined reads held _ _ (record {
+  judges = joined_too_long command joined long;
+  served = λ circuit stimulus t. let within = t.within in absurd (omega (arith, long, within));
+}))
 
 -- what was appended
 appended : (old new : Option (List ℕ)) (before xs : List ℕ) → old ≡ Some before → Appends old new xs → new ≡ Some (before ++ xs)
@@ -75,18 +107,37 @@ appended old new before xs told a = rw (a, told) refl
 
 -- the reply was written, or a prefix of it
 pub ends_said : (words : List (List ℕ)) (texts : List ℕ → Option (List ℕ)) (status result : ℕ) (bytes before : List ℕ) (old new : Option (List ℕ))
-    → Answers words texts status bytes → status ≤ 3 → IsSaid result status bytes old new → old ≡ Some before → Ends words texts result before new
-ends_said words texts status result bytes before old new answers few said told =
+    → IsSettled words texts status bytes → status ≤ 3 → IsSaid result status bytes old new → old ≡ Some before → Ends words texts result before new
+ends_said words texts status result bytes before old new settled few said told =
     let same : result ≢ 5 → result ≡ status = λ n. (said.all n).0 in
     record {
-      answered = λ le. let n : result ≢ 5 = omega arith in (bytes, rw (same n) answers, appended old new before bytes told (said.all n).1);
-      only = λ le other others a. let n : result ≢ 5 = omega arith in let o = answers_once words texts status other bytes others answers a in
+      answered = λ le. let n : result ≢ 5 = omega arith in (bytes, rw (same n) settled.answers, appended old new before bytes told (said.all n).1);
+      only = λ le other others a. let n : result ≢ 5 = omega arith in let o = settled_once words texts status other bytes others settled a in
           (sym o.0 ∙ sym (same n), appended old new before bytes told (said.all n).1 ∙ ap (λ xs. Some (before ++ xs)) o.1);
       shelf_faulted = λ e. let n : result ≢ 5 = omega arith in let s = same n in absurd (omega arith);
-      sink_faulted = λ e. let p = said.part e in (status, bytes, p.0, answers, appended old new before _ told p.1);
+      sink_faulted = λ e. let p = said.part e in (status, bytes, p.0, settled.answers, appended old new before _ told p.1);
       memory_wanted = λ e. let n : result ≢ 5 = omega arith in let s = same n in absurd (omega arith);
       within = ⊎_elim (λ five. omega arith) (λ n. let s = same n in omega arith) (cases_eq result 5);
     }
+
+-- the trace was written, or a prefix of it
+pub ends_run : (words : List (List ℕ)) (texts : List ℕ → Option (List ℕ)) (result : ℕ) (bytes before : List ℕ) (old new : Option (List ℕ))
+    → IsSettled words texts 0 bytes → IsRun result bytes old new → old ≡ Some before → Ends words texts result before new
+ends_run words texts result bytes before old new settled run told = record {
+  answered = λ le. let z = zero le in (bytes, rw z settled.answers, appended old new before bytes told (run.all z));
+  only = λ le other others a. let z = zero le in let o = settled_once words texts 0 other bytes others settled a in
+      (sym o.0 ∙ sym z, appended old new before bytes told (run.all z) ∙ ap (λ xs. Some (before ++ xs)) o.1);
+  shelf_faulted = λ e. absurd (⊎_elim (λ z. omega (arith, e, z)) (λ more. ⊎_elim (λ five. omega (arith, e, five)) (λ six. omega (arith, e, six)) more) run.status);
+  sink_faulted = λ e. let n : result ≢ 0 = omega (arith, e) in let p = run.part n in (0, bytes, p.0, settled.answers, appended old new before _ told p.1);
+  memory_wanted = λ e. let n : result ≢ 0 = omega (arith, e) in let p = run.part n in
+      (p.0, take p.0 bytes, appended old new before _ told p.1,
+       (λ code others a. ap (take p.0) (settled_once words texts 0 code bytes others settled a).1),
+       (λ none. absurd (none 0 bytes settled.answers)));
+  within = ⊎_elim (λ z. omega (arith, z)) (λ more. ⊎_elim (λ five. omega (arith, five)) (λ six. omega (arith, six)) more) run.status;
+}
+  where
+    zero : result ≤ 3 → result ≡ 0
+    zero le = ⊎_elim (λ z. z) (λ more. ⊎_elim (λ five. absurd (omega (arith, le, five))) (λ six. absurd (omega (arith, le, six))) more) run.status
 
 pub said_few : (status result : ℕ) (bytes : List ℕ) (old new : Option (List ℕ)) → status ≤ 3 → IsSaid result status bytes old new → result ≤ 6
 said_few status result bytes old new few said = ⊎_elim (λ five. omega arith) (λ n. let s = (said.all n).0 in omega arith) (cases_eq result 5)
@@ -125,10 +176,29 @@ said_line status result bytes before old new reply said told fault =
     let s = (said.all n).0 in
     (bytes, subst (λ x. IsFaultLine x bytes) (sym s) (fault_bytes_line status bytes reply (subst (λ x. (x ≡ 2) ⊎ (x ≡ 3)) s fault)), appended old new before bytes told (said.all n).1)
 
-pub said_answered : (words : List (List ℕ)) (texts : List ℕ → Option (List ℕ)) (status result : ℕ) (bytes : List ℕ) (old new : Option (List ℕ)) → Answers words texts status bytes
+pub said_answered : (words : List (List ℕ)) (texts : List ℕ → Option (List ℕ)) (status result : ℕ) (bytes : List ℕ) (old new : Option (List ℕ)) → IsSettled words texts status bytes
     → IsSaid result status bytes old new → result ≤ 3 → (others : List ℕ) × Answers words texts result others
-said_answered words texts status result bytes old new answers said few =
-    let n : result ≢ 5 = omega arith in (bytes, subst (λ x. Answers words texts x bytes) (sym (said.all n).0) answers)
+said_answered words texts status result bytes old new settled said few =
+    let n : result ≢ 5 = omega arith in (bytes, subst (λ x. Answers words texts x bytes) (sym (said.all n).0) settled.answers)
+
+-- what a run's status can't be, and what it may be
+pub run_other : (result other : ℕ) (bytes : List ℕ) (old new : Option (List ℕ)) → IsRun result bytes old new → 1 ≤ other → other ≤ 4 → result ≡ other → ⊥
+run_other result other bytes old new run least most e =
+    ⊎_elim (λ z. omega (arith, e, least, z)) (λ more. ⊎_elim (λ five. omega (arith, e, most, five)) (λ six. omega (arith, e, most, six)) more) run.status
+
+pub run_few : (result : ℕ) (bytes : List ℕ) (old new : Option (List ℕ)) → IsRun result bytes old new → result ≤ 6
+run_few result bytes old new run = ⊎_elim (λ z. omega (arith, z)) (λ more. ⊎_elim (λ five. omega (arith, five)) (λ six. omega (arith, six)) more) run.status
+
+pub run_answered : (words : List (List ℕ)) (texts : List ℕ → Option (List ℕ)) (result : ℕ) (bytes : List ℕ) (old new : Option (List ℕ)) → IsSettled words texts 0 bytes
+    → IsRun result bytes old new → result ≤ 3 → (others : List ℕ) × Answers words texts result others
+run_answered words texts result bytes old new settled run few = (bytes, subst (λ x. Answers words texts x bytes) (sym zero) settled.answers)
+  where
+    zero : result ≡ 0
+    zero = ⊎_elim (λ z. z) (λ more. ⊎_elim (λ five. absurd (omega (arith, few, five))) (λ six. absurd (omega (arith, few, six))) more) run.status
+
+pub run_complete : (result : ℕ) (bytes : List ℕ) (old new : Option (List ℕ)) → IsRun result bytes old new → (result ≡ 5 → ⊥) → (result ≤ 3) ⊎ (result ≡ 6)
+run_complete result bytes old new run kept =
+    ⊎_elim (λ z. inl (omega (arith, z))) (λ more. ⊎_elim (λ five. absurd (kept five)) (λ six. inr six) more) run.status
 
 -- nothing was written
 nothing : (new : Option (List ℕ)) (before : List ℕ) → new ≡ Some before → new ≡ Some (before ++ [])
@@ -150,3 +220,14 @@ pub unheld_unanswered : (words : List (List ℕ)) (texts : List ℕ → Option (
 unheld_unanswered words texts name _ _ needs none (no_command _ _ e) = let f : None ≡ Some needs.command = sym e ∙ needs.reads in cc
 unheld_unanswered words texts name s b needs none (judged _ _ command joined _ _ e t j) =
     let f : None ≡ Some joined = sym none ∙ ap texts needs.input ∙ t in cc
+
+-- how a run ended
+pub run_whole : (bytes : List ℕ) (old new : Option (List ℕ)) → Appends old new bytes → IsRun 0 bytes old new
+run_whole bytes old new a = record { status = inl refl; all = λ zero. a; part = λ n. absurd (n refl) }
+
+pub run_cut : (result : ℕ) (bytes : List ℕ) (old new : Option (List ℕ)) → (result ≡ 5) ⊎ (result ≡ 6) → (n : ℕ) × Appends old new (take n bytes) → IsRun result bytes old new
+run_cut result bytes old new status part = record {
+  status = inr status;
+  all = λ zero. absurd (⊎_elim (λ five. omega (arith, zero, five)) (λ six. omega (arith, zero, six)) status);
+  part = λ n. part;
+}

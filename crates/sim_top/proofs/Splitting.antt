@@ -28,13 +28,13 @@ split_once text a b a' b' p q =
 pub split_or_none : (text a b : List ℕ) → IsSplit text a b → HasNone text → ⊥
 split_or_none text a b p none = none p.at b p.stands
 
-pub part_once : (command : Command) (text a b : List ℕ) → IsPart command text a → IsPart command text b → a ≡ b
-part_once command text a b (before_line _ _ _ s p) (before_line _ _ _ t q) = (split_once text a s b t p q).0
-part_once command text a _ (before_line _ _ _ s p) (all_of_it _ _ r n) = absurd (split_or_none text a s p n)
-part_once command text _ b (all_of_it _ _ r n) (before_line _ _ _ t q) = absurd (split_or_none text b t q n)
-part_once command text _ _ (all_of_it _ _ r n) (all_of_it _ _ s m) = refl
+pub part_once : (command : Command) (text a b a' b' : List ℕ) → IsPart command text a b → IsPart command text a' b' → (a ≡ a') × (b ≡ b')
+part_once command text a b a' b' (before_line _ _ _ _ p) (before_line _ _ _ _ q) = split_once text a b a' b' p q
+part_once command text a b _ _ (before_line _ _ _ _ p) (all_of_it _ _ r n) = absurd (split_or_none text a b p n)
+part_once command text _ _ a b (all_of_it _ _ r n) (before_line _ _ _ _ q) = absurd (split_or_none text a b q n)
+part_once command text _ _ _ _ (all_of_it _ _ r n) (all_of_it _ _ s m) = (refl, refl)
 
 -- `run` has no part where there is no line
-pub run_has_line : (text a : List ℕ) → IsPart Run text a → HasNone text → ⊥
-run_has_line text a (before_line _ _ _ s p) none = split_or_none text a s p none
-run_has_line text _ (all_of_it _ _ r n) none = let e : false ≡ true = r in cc
+pub run_has_line : (text a b : List ℕ) → IsPart Run text a b → HasNone text → ⊥
+run_has_line text a b (before_line _ _ _ _ p) none = split_or_none text a b p none
+run_has_line text _ _ (all_of_it _ _ r n) none = let e : false ≡ true = r in cc

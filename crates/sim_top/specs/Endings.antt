@@ -2,10 +2,10 @@
 use Rattle.std.specs.Prelude.{◌≡◌, ◌≢◌, ◌⊎◌, ℕ, ◌≤◌, List, [], ◌++◌, Option, Some, take, codes}
 use Rattle.place_text.specs.declared.place.Place.{Place}
 use Rattle.shelf_io.specs.Outside.{Appends}
+use Rattle.stimulus.specs.declared.fault.StimFault.{StimFault}
 use Rattle.sim_engine.specs.declared.fault.CircuitFault.{CircuitFault}
 use Rattle.sim_top.specs.declared.fault.WholeFault.{WholeFault}
-use Rattle.sim_top.specs.declared.fault.StimulusFault.{StimulusFault}
-use Rattle.sim_top.specs.Answers.{Answers, fault_bytes, whole_bytes, stimulus_bytes}
+use Rattle.sim_top.specs.Answers.{Answers, fault_bytes, whole_bytes, stimulus_bytes, whole_stimulus_bytes}
 
 -- Where the shelf tells its texts and the sink its bytes: `before` stood there, and now stands `after`.
 -- answered: the status and the bytes are the definition's, and the definition has no other.
@@ -27,11 +27,18 @@ pub record IsSaid (result status : ℕ) (bytes : List ℕ) (old new : Option (Li
   pub all : result ≢ 5 → (result ≡ status) × Appends old new bytes
   pub part : result ≡ 5 → (n : ℕ) × Appends old new (take n bytes)
 
--- The one line that names a fault: at status 2 one of the circuit or of its text as a whole, at 3 one of the stimulus.
+-- A trace was written: all of it at 0, and a prefix where the sink failed, at 5, or memory was wanted, at 6.
+pub record IsRun (result : ℕ) (bytes : List ℕ) (old new : Option (List ℕ)) : Type 0 where
+  pub status : (result ≡ 0) ⊎ (result ≡ 5) ⊎ (result ≡ 6)
+  pub all : result ≡ 0 → Appends old new bytes
+  pub part : result ≢ 0 → (n : ℕ) × Appends old new (take n bytes)
+
+-- The one line that names a fault: at status 2 one of the circuit or of its text as a whole, at 3 one of the stimulus or of its text as a whole.
 pub data IsFaultLine : ℕ → List ℕ → Type 0 where
   of_circuit : (fault : CircuitFault) (there' : Place) → IsFaultLine 2 (fault_bytes fault there')
   of_whole : (fault : WholeFault) (there' : Place) → IsFaultLine 2 (whole_bytes fault there')
-  of_stimulus : (fault : StimulusFault) → IsFaultLine 3 (stimulus_bytes fault)
+  of_stimulus : (fault : StimFault) (there' : Place) → IsFaultLine 3 (stimulus_bytes fault there')
+  of_whole_stimulus : (fault : WholeFault) (there' : Place) → IsFaultLine 3 (whole_stimulus_bytes fault there')
 
 -- what a status says of the bytes of a reply, whatever was asked
 abbrev pub IsReply : ℕ → List ℕ → Type 0

@@ -3,33 +3,38 @@
 ghost use Rattle.std.specs.Prelude.{◌≡◌, ℕ, List, ◌≤◌, length, IfOk, Some, codes};
 ghost use Rattle.place_text.specs.Places.{first_place};
 ghost use Rattle.place_text.specs.declared.place.Place.{Place as APlace};
-ghost use Rattle.fir_layout.specs.Pieces.{pieces_of};
-ghost use Rattle.width_fit.specs.Fitting.{IsFittedCircuit};
-ghost use Rattle.sim_engine.specs.Stages.{IsLaid, IsAccepted};
+ghost use Rattle.trace_print.specs.Listing.{listing_of};
+ghost use Rattle.sim_engine.specs.Stages.{circuit_limit};
+ghost use Rattle.sim_engine.specs.Building.{IsBuilt};
 ghost use Rattle.sim_engine.specs.Faults.{fault_place};
-ghost use Rattle.sim_top.specs.Answers.{fault_bytes, whole_bytes, stimulus_bytes, joined_limit, IsCut, Judges, JudgesTaken, RunsSmall, ListsCircuit};
-ghost use Rattle.sim_top.specs.SmallCircuits.{IsWellFormed};
-ghost use Rattle.sim_top.specs.SmallStimuli.{IsStimulusOf};
-ghost use Rattle.sim_top.specs.Cycles.{trace};
+ghost use Rattle.stimulus.specs.Faults.{place_of};
+ghost use Rattle.sim_top.specs.Answers.{fault_bytes, whole_bytes, stimulus_bytes, whole_stimulus_bytes, joined_limit, IsPart};
+ghost use Rattle.sim_top.specs.Serving.{SettlesTexts, Settles};
+ghost use Rattle.sim_top.specs.Decisions.{Gives, CanRun};
 
-use crate::circuit::SmallCircuit;
 use crate::command::Command;
-use crate::fault::{StimulusFault, WholeFault};
-use crate::small::{read_small, small_stimulus};
+use crate::fault::WholeFault;
 use crate::split::split;
-use crate::stimulus::SmallStimulus;
-use crate::trace::trace_of;
-use fir_tree::{Circuit, Fitted};
+use fault_order::Fault;
+use fir_tree::Fitted;
 use place_text::{Place, TextPart, fault_line};
-use sim_engine::{Accepted, CIRCUIT_LIMIT, CircuitFault, accept_text};
+use sim_engine::{Built, CIRCUIT_LIMIT, CircuitFault, compile_text};
 use std::alloc::{AllocError, Global};
-use trace_print::{listed_leaves, widths_text};
+use stimulus::{StimFault, Stimulus, read_stimulus};
+use trace_print::widths_text;
 
-/// The greatest number of leaves that a listing may have.
-const LEAF_LIMIT: u128 = 65_536;
+/// The greatest length of a stimulus's text in bytes.
+const STIMULUS_LIMIT: usize = 4_194_304;
 
 /// The place of a fault of a text as a whole.
 pub const FRONT: Place = Place { line: 1, column: 1 };
+
+/// What is to be done: a reply is said, or a circuit is run under a stimulus.
+#[derive(Drop)]
+pub enum Decision {
+    Say(Reply),
+    Run(Built, Stimulus),
+}
 
 /// A status and the bytes that are written.
 #[derive(Debug, Drop)]
@@ -39,12 +44,16 @@ pub struct Reply {
 }
 
 /// What the command answers to a text within the limit.
-pub fn judge(alloc: Global, command: Command, text: &[u8]) -> Result<Reply, AllocError>
+pub fn judge(alloc: Global, command: Command, text: &[u8]) -> Result<Decision, AllocError>
     requires { length text.now ≤ joined_limit }
-    ensures { IfOk result (λ r. Judges command text.now r.status r.bytes.items) }
+    ensures settles { IfOk result (Gives (Settles command text.now)) }
+    ensures runs { IfOk result CanRun }
 {
     match (command, split(text)) {
-        (Command::Run, None) => Ok(refuse_whole(alloc, WholeFault::NoStimulus, FRONT)?),
+        (Command::Run, None) => {
+            let reply = refuse_whole(alloc, WholeFault::NoStimulus)?;
+            Ok(Decision::Say(reply))
+        }
         (Command::Run, Some((circuit, stimulus))) => {
             Ok(judge_part(alloc, Command::Run, circuit, stimulus)?)
         }
@@ -59,41 +68,64 @@ pub fn judge(alloc: Global, command: Command, text: &[u8]) -> Result<Reply, Allo
     }
 }
 
-/// What the command answers to the circuit's part of a joined text, and to the stimulus behind it.
+/// What the command answers to the parts of a joined text.
 fn judge_part(
     alloc: Global,
     command: Command,
     circuit: &[u8],
     stimulus: &[u8],
-) -> Result<Reply, AllocError>
-    ensures { IfOk result (λ r. (joined : List ℕ) → IsCut command joined circuit.now stimulus.now → Judges command joined r.status r.bytes.items) }
+) -> Result<Decision, AllocError>
+    ensures settles { IfOk result (λ d. (joined : List ℕ) → length joined ≤ joined_limit → IsPart command joined circuit.now stimulus.now → Gives (Settles command joined) d) }
+    ensures runs { IfOk result CanRun }
 {
     if circuit.len() > CIRCUIT_LIMIT {
-        return Ok(refuse_whole(alloc, WholeFault::TooLong, FRONT)?);
+        let reply = refuse_whole(alloc, WholeFault::TooLong)?;
+        return Ok(Decision::Say(reply));
     }
-    match accept_text(alloc, circuit) {
-        Ok(accepted) => Ok(judge_accepted(alloc, command, circuit, &accepted, stimulus)?),
-        Err(fault) => Ok(refuse(alloc, &fault)?),
+    Ok(judge_texts(alloc, command, circuit, stimulus)?)
+}
+
+/// What the command answers to a circuit's text, within its limit, and to a stimulus's text.
+fn judge_texts(
+    alloc: Global,
+    command: Command,
+    circuit: &[u8],
+    stimulus: &[u8],
+) -> Result<Decision, AllocError>
+    requires { length circuit.now ≤ circuit_limit }
+    ensures settles { IfOk result (Gives (SettlesTexts command circuit.now stimulus.now)) }
+    ensures runs { IfOk result CanRun }
+{
+    match compile_text(alloc, circuit) {
+        Ok(built) => Ok(judge_built(alloc, command, built, stimulus)?),
+        Err(fault) => {
+            let reply = refuse(alloc, &fault)?;
+            Ok(Decision::Say(reply))
+        }
     }
 }
 
 /// What the command answers to a circuit without a fault.
-fn judge_accepted(
+fn judge_built(
     alloc: Global,
     command: Command,
-    text: &[u8],
-    accepted: &Accepted,
+    built: Built,
     stimulus: &[u8],
-) -> Result<Reply, AllocError>
-    requires accepted { IsAccepted text.now accepted.now.fitted.checked.circuit }
-    requires fitted { IsFittedCircuit accepted.now.fitted.checked.circuit accepted.now.fitted }
-    requires laid { IsLaid text.now accepted.now.laid.items }
-    ensures { IfOk result (λ r. (joined : List ℕ) → IsCut command joined text.now stimulus.now → JudgesTaken command joined text.now r.status r.bytes.items) }
+) -> Result<Decision, AllocError>
+    requires { (text : List ℕ) × IsBuilt text built }
+    ensures settles { IfOk result (λ d. (text : List ℕ) → IsBuilt text built → Gives (SettlesTexts command text stimulus.now) d) }
+    ensures runs { IfOk result CanRun }
 {
     match command {
-        Command::Run => Ok(run(alloc, text, accepted, stimulus)?),
-        Command::Check => Ok(accept(alloc)?),
-        Command::Widths => Ok(list(alloc, &accepted.fitted)?),
+        Command::Run => Ok(run(alloc, built, stimulus)?),
+        Command::Check => {
+            let reply = accept(alloc)?;
+            Ok(Decision::Say(reply))
+        }
+        Command::Widths => {
+            let reply = list(alloc, &built.fitted)?;
+            Ok(Decision::Say(reply))
+        }
     }
 }
 
@@ -107,65 +139,41 @@ fn accept(alloc: Global) -> Result<Reply, AllocError>
     })
 }
 
-/// Lists the widths of a circuit without a fault, where it isn't too large.
+/// The answer of `widths` to a text without a fault.
 fn list(alloc: Global, fitted: &Fitted) -> Result<Reply, AllocError>
-    requires { IsFittedCircuit fitted.now.checked.circuit fitted.now }
-    ensures { IfOk result (λ r. ListsCircuit fitted.now.checked.circuit r.status r.bytes.items) }
-{
-    let leaves = listed_leaves(alloc, fitted)?;
-    if leaves > LEAF_LIMIT {
-        return Ok(refuse_at_name(alloc, WholeFault::TooLarge, &fitted.checked.circuit)?);
-    }
-    let bytes = widths_text(alloc, fitted)?;
-    Ok(Reply { status: 0, bytes })
-}
-
-/// Runs a circuit without a fault, where it is a small one.
-fn run(
-    alloc: Global,
-    text: &[u8],
-    accepted: &Accepted,
-    stimulus: &[u8],
-) -> Result<Reply, AllocError>
-    requires accepted { IsAccepted text.now accepted.now.fitted.checked.circuit }
-    requires laid { IsLaid text.now accepted.now.laid.items }
-    ensures { IfOk result (λ r. (joined : List ℕ) → IsCut Command.Run joined text.now stimulus.now → JudgesTaken Command.Run joined text.now r.status r.bytes.items) }
-{
-    match read_small(alloc, text, &accepted.laid)? {
-        Some(small) => Ok(run_small(alloc, &small, stimulus)?),
-        None => Ok(refuse_at_name(
-            alloc,
-            WholeFault::Unsupported,
-            &accepted.fitted.checked.circuit,
-        )?),
-    }
-}
-
-/// Runs a small circuit, where the stimulus is a small one of it.
-fn run_small(alloc: Global, circuit: &SmallCircuit, stimulus: &[u8]) -> Result<Reply, AllocError>
-    requires { IsWellFormed circuit.now }
-    ensures { IfOk result (λ r. RunsSmall circuit.now stimulus.now r.status r.bytes.items) }
-{
-    match small_stimulus(alloc, circuit, stimulus)? {
-        Some(settings) => Ok(traced(alloc, circuit, &settings)?),
-        None => Ok(refuse_stimulus(alloc, StimulusFault::BadLine)?),
-    }
-}
-
-/// The trace of a small circuit.
-fn traced(
-    alloc: Global,
-    circuit: &SmallCircuit,
-    stimulus: &SmallStimulus,
-) -> Result<Reply, AllocError>
-    requires formed { IsWellFormed circuit.now }
-    requires stimulus { IsStimulusOf circuit.now stimulus.now }
-    ensures { IfOk result (λ r. (r.status ≡ 0) × (r.bytes.items ≡ trace circuit.now stimulus.now)) }
+    ensures { IfOk result (λ r. (r.status ≡ 0) × (r.bytes.items ≡ listing_of fitted.now)) }
 {
     Ok(Reply {
         status: 0,
-        bytes: trace_of(alloc, circuit, stimulus)?,
+        bytes: widths_text(alloc, fitted)?,
     })
+}
+
+/// What `run` answers to a circuit without a fault and to a stimulus's text.
+///
+/// More watched leaves than a `u32` numbers are a want of memory.
+fn run(alloc: Global, built: Built, stimulus: &[u8]) -> Result<Decision, AllocError>
+    requires { (text : List ℕ) × IsBuilt text built }
+    ensures settles { IfOk result (λ d. (text : List ℕ) → IsBuilt text built → Gives (SettlesTexts Command.Run text stimulus.now) d) }
+    ensures runs { IfOk result CanRun }
+{
+    if stimulus.len() > STIMULUS_LIMIT {
+        let reply = refuse_long_stimulus(alloc)?;
+        return Ok(Decision::Say(reply));
+    }
+    let Ok(_) = u32::try_from(built.ports.inputs.len()) else {
+        return Err(AllocError);
+    };
+    let Ok(watched) = u32::try_from(built.ports.watched.len()) else {
+        return Err(AllocError);
+    };
+    match read_stimulus(alloc, stimulus, &built.ports, watched) {
+        Ok(settings) => Ok(Decision::Run(built, settings)),
+        Err(fault) => {
+            let reply = refuse_stimulus(alloc, fault)?;
+            Ok(Decision::Say(reply))
+        }
+    }
 }
 
 /// The line of a fault of the circuit. Where memory was wanted there is none.
@@ -181,27 +189,34 @@ fn refuse(alloc: Global, fault: &CircuitFault) -> Result<Reply, AllocError>
     })
 }
 
-/// The line of a fault of the text as a whole.
-pub fn refuse_whole(alloc: Global, fault: WholeFault, place: Place) -> Result<Reply, AllocError>
-    ensures { IfOk result (λ r. (r.status ≡ 2) × (r.bytes.items ≡ whole_bytes fault place)) }
+/// The line of a fault of the circuit's text as a whole.
+pub fn refuse_whole(alloc: Global, fault: WholeFault) -> Result<Reply, AllocError>
+    ensures { IfOk result (λ r. (r.status ≡ 2) × (r.bytes.items ≡ whole_bytes fault first_place)) }
 {
     Ok(Reply {
         status: 2,
-        bytes: fault_line(alloc, TextPart::Circuit, fault.name(), place)?,
+        bytes: fault_line(alloc, TextPart::Circuit, fault.name(), FRONT)?,
     })
 }
 
-/// The line of a fault of the circuit as a whole, at its name.
-fn refuse_at_name(alloc: Global, fault: WholeFault, circuit: &Circuit) -> Result<Reply, AllocError>
-    ensures { IfOk result (λ r. (r.status ≡ 2) × (r.bytes.items ≡ whole_bytes fault circuit.now.main.place)) }
+/// The line of a fault of the stimulus. Where memory was wanted there is none.
+fn refuse_stimulus(alloc: Global, fault: StimFault) -> Result<Reply, AllocError>
+    ensures { IfOk result (λ r. (r.status ≡ 3) × ((there' : APlace) × (place_of fault ≡ Some there') × (r.bytes.items ≡ stimulus_bytes fault there'))) }
 {
-    Ok(refuse_whole(alloc, fault, circuit.main.place)?)
+    let Some(place) = fault.place() else {
+        return Err(AllocError);
+    };
+    Ok(Reply {
+        status: 3,
+        bytes: fault_line(alloc, TextPart::Stimulus, fault.kind(), place)?,
+    })
 }
 
-/// The line of a stimulus that is refused as a whole.
-fn refuse_stimulus(alloc: Global, fault: StimulusFault) -> Result<Reply, AllocError>
-    ensures { IfOk result (λ r. (r.status ≡ 3) × (r.bytes.items ≡ stimulus_bytes fault)) }
+/// The line of a stimulus's text that is too long.
+fn refuse_long_stimulus(alloc: Global) -> Result<Reply, AllocError>
+    ensures { IfOk result (λ r. (r.status ≡ 3) × (r.bytes.items ≡ whole_stimulus_bytes WholeFault.TooLong first_place)) }
 {
+    let fault = WholeFault::TooLong;
     Ok(Reply {
         status: 3,
         bytes: fault_line(alloc, TextPart::Stimulus, fault.name(), FRONT)?,

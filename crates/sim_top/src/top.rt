@@ -2,14 +2,21 @@
 
 ghost use Rattle.std.specs.Prelude.{◌≡◌, ◌≢◌, ℕ, ◌≤◌, ◌⊎◌, ◌++◌, List, Option, Some, None, map, string_bytes, IfOk, IfErr, Err, codes};
 ghost use Rattle.shelf_io.specs.Outside.{Rose};
+ghost use Rattle.fir_meaning.specs.Components.{design_of};
+ghost use Rattle.circuit_run.specs.Traces.{IsTraceText};
 ghost use Rattle.sim_top.specs.Answers.{command_of, Needs, Answers};
-ghost use Rattle.sim_top.specs.Endings.{Ends, IsSaid, IsReply, IsFaultLine};
+ghost use Rattle.sim_top.specs.Endings.{Ends, IsSaid, IsRun, IsFaultLine};
+ghost use Rattle.sim_top.specs.Serving.{IsSettled};
+ghost use Rattle.sim_top.specs.Decisions.{Gives, IsReady, IsRunnable, status_of};
 
 use crate::command::read_words;
 use crate::fault::WholeFault;
-use crate::judge::{FRONT, Reply, judge, refuse_whole};
+use crate::judge::{Decision, Reply, judge, refuse_whole};
+use circuit_run::{RunFault, simulate};
 use shelf_io::{Shelf, Sink, TakeFault, put_all, take_text};
+use sim_engine::Built;
 use std::alloc::{AllocError, Global};
+use stimulus::Stimulus;
 
 /// The greatest length of a joined text in bytes.
 pub const JOINED_LIMIT: usize = 5_242_880;
@@ -51,32 +58,37 @@ pub fn run_program<H: Shelf, K: Sink>(
         → (result ≡ 4) ⊎ (result ≡ 6) }
 {
     match decide(alloc, words, shelf) {
-        Ok(reply) => say(sink, &reply),
+        Ok(Decision::Say(reply)) => say(sink, &reply),
+        Ok(Decision::Run(built, stimulus)) => run(alloc, &built, &stimulus, sink),
         Err(TakeFault::NoMemory) => 6,
         Err(_) => 4,
     }
 }
 
-/// The answer to a command line.
-fn decide<H: Shelf>(alloc: Global, words: &[String], shelf: &mut H) -> Result<Reply, TakeFault>
-    ensures reply { IfOk result (λ r. (texts : List ℕ → Option (List ℕ)) → H.held shelf.old ≡ Some texts → Answers (map string_bytes words.now) texts r.status r.bytes.items) }
-    ensures line { IfOk result (λ r. IsReply r.status r.bytes.items) }
-    ensures few { IfOk result (λ r. r.status ≤ 3) }
-    ensures usage { IfOk result (λ r. r.status ≡ 1 → command_of (map string_bytes words.now) ≡ None) }
-    ensures no_command { command_of (map string_bytes words.now) ≡ None → IfOk result (λ r. r.status ≡ 1) }
+/// What is to be done for a command line.
+fn decide<H: Shelf>(
+    alloc: Global,
+    words: &[String],
+    shelf: &mut H,
+) -> Result<Decision, TakeFault>
+    ensures settled { IfOk result (λ d. (texts : List ℕ → Option (List ℕ)) → H.held shelf.old ≡ Some texts → Gives (IsSettled (map string_bytes words.now) texts) d) }
+    ensures ready { IfOk result IsReady }
+    ensures usage { IfOk result (λ d. status_of d ≡ 1 → command_of (map string_bytes words.now) ≡ None) }
+    ensures no_command { command_of (map string_bytes words.now) ≡ None → IfOk result (λ d. status_of d ≡ 1) }
     ensures no_fault { command_of (map string_bytes words.now) ≡ None → IfErr result (λ f. f ≡ TakeFault.NoMemory) }
     ensures fault { result ≡ Err TakeFault.ReadFault → (name : List ℕ) × Needs (map string_bytes words.now) name × Rose (H.faults shelf.old name) (H.faults shelf.new name) }
     ensures short { result ≢ Err TakeFault.TooLong }
 {
     let Some(command) = read_words(words) else {
-        return Ok(Reply {
-            status: 1,
-            bytes: Vec::from_slice(alloc, b"usage\n")?,
-        });
+        let bytes = Vec::from_slice(alloc, b"usage\n")?;
+        return Ok(Decision::Say(Reply { status: 1, bytes }));
     };
     match take_text(alloc, shelf, "-", JOINED_LIMIT) {
         Ok(text) => Ok(judge(alloc, command, &text)?),
-        Err(TakeFault::TooLong) => Ok(refuse_whole(alloc, WholeFault::TooLong, FRONT)?),
+        Err(TakeFault::TooLong) => {
+            let reply = refuse_whole(alloc, WholeFault::TooLong)?;
+            Ok(Decision::Say(reply))
+        }
         Err(fault) => Err(fault),
     }
 }
@@ -90,5 +102,19 @@ fn say<K: Sink>(sink: &mut K, reply: &Reply) -> u8
     match put_all(sink, &reply.bytes) {
         Ok(()) => reply.status,
         Err(_) => 5,
+    }
+}
+
+/// Runs a circuit and writes its trace, and gives 0; or 5 where the sink failed, or 6 where memory was wanted.
+fn run<K: Sink>(alloc: Global, built: &Built, stimulus: &Stimulus, sink: &mut K) -> u8
+    requires { IsRunnable built.now stimulus.now }
+    ensures ran { (bytes : List ℕ) × IsTraceText built.now.fitted.checked.circuit.names (design_of built.now.fitted) stimulus.now bytes
+        × IsRun result bytes (K.written sink.old) (K.written sink.new) }
+    ensures rose { result ≡ 5 → Rose (K.faults sink.old) (K.faults sink.new) }
+{
+    match simulate(alloc, &built.ordered, &built.ports, stimulus, sink) {
+        Ok(()) => 0,
+        Err(RunFault::WriteFault) => 5,
+        Err(RunFault::NoMemory) => 6,
     }
 }

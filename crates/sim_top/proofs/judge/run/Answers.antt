@@ -1,29 +1,18 @@
-use Rattle.std.proofs.Common.{Ok, Some, None, ◌≡◌, refl, ap, sym, ◌∙◌, subst}
-use Rattle.fir_layout.specs.Pieces.{pieces_of}
-use Rattle.sim_top.specs.declared.circuit.SmallCircuit.{SmallCircuit}
-use Rattle.sim_top.specs.SmallCircuits.{IsSmallCircuit}
-use Rattle.sim_top.specs.Answers.{runs, not_small}
-use Rattle.sim_top.proofs.Inside.{all_inside}
+use Rattle.std.proofs.Common.{◌≡◌, length, arith}
+use Rattle.sim_top.proofs.Judging.{ran_long, ran_refused, ran_traced}
 use Rattle.sim_top.proofs.judge.run.Goals as goal
 
-none_is : (x : SmallCircuit) → None ≡ Some x → ⊥
-none_is x e = cc
+pub returns-then-stimulus-gt-STIMULUS_LIMIT-clause-settles : goal.returns-then-stimulus-gt-STIMULUS_LIMIT-clause-settles
+returns-then-stimulus-gt-STIMULUS_LIMIT-clause-settles c = λ text b.
+    ran_long text _ c.args.built _ _ b c.if-stimulus-gt-STIMULUS_LIMIT.true c.in_ok-reply.ensures.0 c.in_ok-reply.ensures.1
 
-pub read_small-requires : goal.read_small-requires
-read_small-requires c = record { inside = all_inside c.args.text.now _ _ c.requires.laid c.deref.ensures.value }
+pub returns-in-Ok-read_stimulus-clause-settles : goal.returns-in-Ok-read_stimulus-clause-settles
+returns-in-Ok-read_stimulus-clause-settles c = λ text b.
+    let counted : c.in-Ok-try_from.watched ≡ length c.args.built.ports.watched = omega (arith, c.in-Ok-try_from.ensures, c.len-2.ensures) in
+    ran_traced text _ c.args.built _ _ b (omega (arith, c.if-stimulus-gt-STIMULUS_LIMIT.false)) counted c.in-Ok-read_stimulus.ensures.verdict
 
-pub run_small-requires : goal.run_small-requires
-run_small-requires c = (c.in_ok-small.ensures.some c.in-Some.small (ap Ok c.in-Some.is)).formed
-
-pub returns-in_ok-run_small-in-Some : goal.returns-in_ok-run_small-in-Some
-returns-in_ok-run_small-in-Some c = λ joined cut.
-    let text = c.args.text.now in
-    runs joined text c.args.stimulus.now _ _ c.in-Some.small _ _ (cut.behind refl) c.requires.accepted c.requires.laid
-    (subst (λ l. IsSmallCircuit (pieces_of text l) c.in-Some.small) c.deref.ensures.value (c.in_ok-small.ensures.some c.in-Some.small (ap Ok c.in-Some.is)))
-    c.in_ok-run_small-in-Some.ensures
-
-pub returns-in_ok-refuse_at_name-in-None : goal.returns-in_ok-refuse_at_name-in-None
-returns-in_ok-refuse_at_name-in-None c = λ joined cut.
-    rw (c.in_ok-refuse_at_name-in-None.ensures.0, c.in_ok-refuse_at_name-in-None.ensures.1)
-    (not_small joined c.args.text.now _ _ c.requires.accepted c.requires.laid
-    (λ d i. none_is d (sym c.in-None.is ∙ c.in_ok-small.ensures.only d (subst (λ l. IsSmallCircuit (pieces_of c.args.text.now l) d) (sym c.deref.ensures.value) i))))
+pub returns-in_ok-reply-in-Err-clause-settles : goal.returns-in_ok-reply-in-Err-clause-settles
+returns-in_ok-reply-in-Err-clause-settles c = λ text b.
+    let counted : c.in-Ok-try_from.watched ≡ length c.args.built.ports.watched = omega (arith, c.in-Ok-try_from.ensures, c.len-2.ensures) in
+    let told = c.in_ok-reply-in-Err.ensures in
+    ran_refused text _ c.args.built _ _ told.1.0 _ _ b (omega (arith, c.if-stimulus-gt-STIMULUS_LIMIT.false)) counted c.in-Err.ensures.verdict told.1.1 told.0 told.1.2
