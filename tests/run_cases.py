@@ -52,6 +52,10 @@ def main():
     for path in sorted([*examples.glob("*.fir"), *examples.glob("*.txt")]):
         case = {"words": ["check"], "stdin": path.read_text("latin-1"), "status": 0, "stdout": "ok\n"}
         faults.append((f"check accepts {path.name}", fault_of(program, case)))
+    for path in sorted([*(folder / "corpus").glob("*.fir")]):
+        text = path.read_text("latin-1") + "%stimulus\n" + path.with_suffix(".stim").read_text("latin-1")
+        case = {"words": ["run"], "stdin": text, "status": 0, "stdout": path.with_suffix(".expect").read_text("latin-1")}
+        faults.append((f"the trace of {path.stem}", fault_of(program, case)))
     for name, depth, below, status, line in (
         ("10 modules over one another have no fault", 10, "skip", 0, "ok\n"),
         ("32 modules with two instances of the next one each are too large", 32, "skip", 2, "circuit TooLarge 2:9\n"),
