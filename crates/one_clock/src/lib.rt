@@ -1,22 +1,12 @@
-//! Whether registers and memory ports have one clock. Keeps the contract that `clocks` refuses a circuit exactly where the clock of
-//! one of them doesn't lead to main's first Clock input, with the first such place.
+//! Whether a circuit has one clock. Keeps the contract that `clocks` refuses a circuit exactly where the clock of a register or of a
+//! memory's port doesn't lead to main's first Clock input at some path, with the first such place.
 #![tactic(auto)]
 
-ghost use Rattle.fault_order.specs.Verdicts.{IsVerdict};
-ghost use Rattle.fir_meaning.specs.ClockRoot.{HasOneClock};
-ghost use Rattle.fir_meaning.specs.Components.{design_of};
-ghost use Rattle.circuit_laws.specs.WellFormed.{IsWellFormed};
-ghost use Rattle.clock_check.specs.Clocked.{IsFault};
-ghost use Rattle.clock_check.specs.Faults.{place_of, rank_of};
+pub mod chains;
+mod checking;
+pub mod judging;
+pub mod module_clocks;
+pub mod places;
+pub mod table;
 
-use clock_check::ClockFault;
-use fir_tree::Fitted;
-use std::alloc::Global;
-
-/// Stands for the call that another clone builds: it always wants memory.
-pub fn clocks(alloc: Global, fitted: &Fitted) -> Result<(), ClockFault>
-    requires { IsWellFormed fitted.now }
-    ensures { IsVerdict place_of rank_of (IsFault fitted.now) (λ passed. HasOneClock (design_of fitted.now)) result }
-{
-    Err(ClockFault::NoMemory)
-}
+pub use checking::clocks;
