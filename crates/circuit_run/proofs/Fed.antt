@@ -1,14 +1,13 @@
 -- The inputs of a net by their numbers, and their values in a cycle.
-use Rattle.std.proofs.Common.{◌≡◌, ℕ, zero, suc, ◌+◌, ◌*◌, ◌-◌, ◌<◌, ◌≤◌, ◌^◌, ◌==◌, ◌&&◌, nat_lt, nat_le, Bool, true, false, List, [], ◌∷◌, length, map, reverse, Option, Some, None, option_map, refl, sym, ap, ap₂, ◌∙◌, subst, arith, slice_get, if◌then◌else◌, ℤ, pos, negsuc, zip, true≢false}
-use Rattle.std.specs.Prelude.{filter_map, find}
+use Rattle.std.proofs.Common.{◌≡◌, ℕ, zero, suc, ◌+◌, ◌*◌, ◌-◌, ◌<◌, ◌≤◌, ◌^◌, ◌==◌, ◌&&◌, nat_lt, nat_le, Bool, true, false, List, [], ◌∷◌, length, map, reverse, Option, Some, None, option_map, refl, sym, ap, ap₂, ◌∙◌, subst, arith, slice_get, if◌then◌else◌, pos, negsuc, zip, true≢false}
+use Rattle.std.specs.Prelude.{filter_map}
 use Rattle.std.specs.List.{range_with_len, cons_option}
 use Rattle.std.proofs.lemmas.Nat.{pow_pos}
 use Rattle.std.proofs.lemmas.Bool.Decides.{nat_tests}
 use Rattle.std.proofs.lemmas.Grind.{common_steps}
-use Rattle.std.proofs.lemmas.Option.{slice_get-map, slice_get_within}
+use Rattle.std.proofs.lemmas.Option.{slice_get-map}
 use Rattle.bit_words.specs.declared.value.Kind.{Kind}
 use Rattle.bit_words.specs.declared.value.Kind.TheVariants.{Unsigned, Signed}
-use Rattle.bit_words.specs.declared.value.Value.{Value}
 use Rattle.bit_words.specs.Values.{integer, integer_of, InRange}
 use Rattle.cycle_values.specs.Values.{fitted}
 use Rattle.cycle_values.proofs.Fittings.{refitted, value_in_range}
@@ -18,10 +17,9 @@ use Rattle.ground_net.specs.declared.net.Ports.{Ports}
 use Rattle.ground_net.specs.declared.net.PortLeaf.{PortLeaf}
 use Rattle.ground_net.specs.declared.net.Role.{Role}
 use Rattle.ground_net.specs.declared.net.Role.TheVariants as role
-use Rattle.ground_net.specs.Cones.{numbered}
 use Rattle.ground_net.specs.Watching.{is_given, port_leaf, told_where, inputs}
 use Rattle.net_meaning.specs.Cycles.{fitted_to}
-use Rattle.net_meaning.specs.Nets.{IsNet, AreInputs, input_number, numbers_in, leaf_shape}
+use Rattle.net_meaning.specs.Nets.{IsNet, AreInputs, input_number}
 use Rattle.net_run.specs.Keeping.{AreInputValues}
 use Rattle.net_laws.proofs.Integers.{zero_fits}
 use Rattle.stimulus.specs.declared.stimulus.Stimulus.{Stimulus}

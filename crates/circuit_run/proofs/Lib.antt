@@ -7,3 +7,4 @@ pub mod Traces
 pub mod Takes
 pub mod Once
 pub mod Writing
+pub mod States

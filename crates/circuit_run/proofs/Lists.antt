@@ -71,6 +71,20 @@ filter_map_at {A} {B} h (z ∷ xs) (suc j) x y e f = by (h z) (filter_map_at h x
   by None r = r
   by (Some w) r = (suc r.0, r.1)
 
+pub some_of : {A B : Type 0} (h : A → B) (o : Option A) (y : B) → option_map h o ≡ Some y → (x : A) × (o ≡ Some x) × (h x ≡ y)
+some_of h (Some x) y e = (x, refl, some_same e)
+some_of h None y e = none_some e
+
+-- what all items give is what one gives
+pub filter_map_from : {A B : Type 0} (h : A → Option B) (xs : List A) (k : ℕ) (y : B) → slice_get (filter_map h xs) k ≡ Some y → (j : ℕ) × (x : A) × (slice_get xs j ≡ Some x) × (h x ≡ Some y)
+filter_map_from h [] k y e = none_some e
+filter_map_from {A} {B} h (z ∷ xs) k y e = by (h z) refl k e (λ k e. filter_map_from h xs k y e) where
+  by : (o : Option B) → h z ≡ o → (k : ℕ) → slice_get (cons_option o (filter_map h xs)) k ≡ Some y → ((k : ℕ) → slice_get (filter_map h xs) k ≡ Some y → (j : ℕ) × (x : A) × (slice_get xs j ≡ Some x) × (h x ≡ Some y))
+      → (j : ℕ) × (x : A) × (slice_get (z ∷ xs) j ≡ Some x) × (h x ≡ Some y)
+  by None q k e later = let r = later k e in (suc r.0, r.1, r.2, r.3)
+  by (Some w) q zero e later = (0, z, refl, q ∙ e)
+  by (Some w) q (suc k) e later = let r = later k e in (suc r.0, r.1, r.2, r.3)
+
 pub all_at : {A : Type 0} (P : A → Type 0) (xs : List A) → All P xs → (k : ℕ) (x : A) → slice_get xs k ≡ Some x → P x
 all_at P xs h k x e = subst P (get_or_from_slice_get xs k x x e) (h k x (slice_get_within xs k x e))
 

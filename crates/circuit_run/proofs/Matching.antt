@@ -1,21 +1,18 @@
 -- What main's inputs are given is what the inputs of the net are given.
-use Rattle.std.proofs.Common.{◌≡◌, ℕ, ◌==◌, ◌&&◌, ◌<◌, ◌+◌, Bool, true, false, List, [], ◌∷◌, map, filter, Option, Some, None, option_map, refl, sym, ap, ap₂, ◌∙◌, subst, arith, slice_get, true≢false}
+use Rattle.std.proofs.Common.{◌≡◌, ℕ, ◌==◌, ◌&&◌, ◌+◌, Bool, true, false, List, [], ◌∷◌, map, Option, Some, None, option_map, refl, sym, ap, ap₂, ◌∙◌, arith, slice_get, true≢false}
 use Rattle.std.specs.List.{AllZip, enumerate_from}
 use Rattle.std.proofs.lemmas.Option.{slice_get-map}
-use Rattle.fir_types.specs.declared.fir_type.FirType.{FirType}
 use Rattle.fir_types.specs.declared.leaf.PathStep.{PathStep}
 use Rattle.leaf_names.specs.LeafNames.{Texts}
 use Rattle.fir_meaning.specs.Components.{Design}
 use Rattle.fir_meaning.specs.Drives.{same_way}
-use Rattle.fir_meaning.specs.States as tree
 use Rattle.ground_net.specs.declared.net.Leaf.{Leaf}
 use Rattle.ground_net.specs.declared.net.Net.{Net}
 use Rattle.ground_net.specs.declared.net.Ports.{Ports}
-use Rattle.ground_net.specs.declared.net.PortLeaf.{PortLeaf}
 use Rattle.ground_net.specs.declared.net.Role.TheVariants as role
 use Rattle.ground_net.specs.Watching.{port_leaf, inputs}
-use Rattle.net_meaning.specs.Nets.{HasRole, IsNet, input_number as number_of_role}
-use Rattle.net_of_circuit.specs.FlatOrder.{Placed, Standing, all_leaves, flat_of, same_flat, same_path}
+use Rattle.net_meaning.specs.Nets.{HasRole, input_number as number_of_role}
+use Rattle.net_of_circuit.specs.FlatOrder.{Placed, Standing, all_leaves, flat_of, same_path}
 use Rattle.net_of_circuit.specs.NetOf.{MatchingInputs}
 use Rattle.net_laws.specs.Runs.{AreGiven, no_more, one_more}
 use Rattle.net_laws.specs.Serves.{Serves}

@@ -1,5 +1,5 @@
 -- Runs of a net, piece by piece.
-use Rattle.std.proofs.Common.{◌≡◌, ℕ, zero, suc, ◌+◌, ◌-◌, ◌<◌, ◌≤◌, List, [], ◌∷◌, ◌++◌, map, length, refl, sym, ap, ap₂, ◌∙◌, subst, arith, append_assoc, append-nil}
+use Rattle.std.proofs.Common.{◌≡◌, ℕ, ◌+◌, ◌-◌, ◌≤◌, List, [], ◌∷◌, ◌++◌, map, length, refl, sym, ap, ap₂, ◌∙◌, subst, arith, append_assoc, append-nil}
 use Rattle.std.specs.List.{flat_map, range_with_len, enumerate_from}
 use Rattle.std.proofs.lemmas.Grind.{flat_map-append}
 use Rattle.std.proofs.lemmas.List.{map-append, length-append}
@@ -17,7 +17,7 @@ use Rattle.net_run.specs.Seeing.{value_at}
 use Rattle.net_run.specs.Keeping.{IsKept}
 use Rattle.stimulus.specs.declared.stimulus.Stimulus.{Stimulus}
 use Rattle.trace_print.specs.Trace.{trace_line_of}
-use Rattle.circuit_run.specs.NetRuns.{watch, given_in, given_from, Leads, lines_from, LeadsOn, AreLines}
+use Rattle.circuit_run.specs.NetRuns.{watch, given_in, given_from, lines_from, LeadsOn, AreLines}
 use Rattle.circuit_run.proofs.Lists.{range_split, enumerate_split}
 
 -- From each state there is a run.
@@ -97,8 +97,7 @@ module _ (net : Net) (stimulus : Stimulus) where
   extended sequence well order n behind lines few a =
       let later = given_from stimulus (0 + n) (stimulus.cycles - n) in
       let rest = run_on net sequence well order a.state later in
-      let all : n + (stimulus.cycles - n) ≡ stimulus.cycles = omega (arith, few) in
-      (
+      let all : n + (stimulus.cycles - n) ≡ stimulus.cycles = omega (arith, few) in (
         lines_from (0 + length a.rows) rest.0,
         record {
           rows = a.rows ++ rest.0;

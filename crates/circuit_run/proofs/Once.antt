@@ -6,7 +6,6 @@ use Rattle.bit_words.specs.declared.value.Kind.{Kind}
 use Rattle.leaf_names.specs.LeafNames.{Texts}
 use Rattle.fir_meaning.specs.Components.{Design}
 use Rattle.fir_meaning.specs.States.{first_state}
-use Rattle.fir_meaning.specs.Loops.{TakesLeaves}
 use Rattle.fir_meaning.proofs.Settling.{state_itself}
 use Rattle.fir_meaning.proofs.Nexts.{rows_same}
 use Rattle.ground_net.specs.declared.net.Net.{Net}

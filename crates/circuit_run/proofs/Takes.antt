@@ -1,7 +1,6 @@
 -- What the edge takes are leaves of the run.
-use Rattle.std.proofs.Common.{◌≡◌, ◌≢◌, ℕ, zero, suc, ◌<◌, ◌==◌, Bool, true, false, not, List, [], ◌∷◌, ◌++◌, map, length, Option, Some, None, option_and_then, refl, sym, ap, ap₂, ◌∙◌, subst, arith, true≢false, if◌then◌else◌, slice_get}
+use Rattle.std.proofs.Common.{◌≡◌, ℕ, zero, suc, ◌<◌, ◌==◌, Bool, true, false, not, List, [], ◌∷◌, map, length, Some, None, option_and_then, refl, sym, ap, ◌∙◌, subst, arith, true≢false, if◌then◌else◌, slice_get}
 use Rattle.std.specs.Prelude.{Contains, filter_map}
-use Rattle.std.specs.List.{flat_map, cons_option}
 use Rattle.std.proofs.lemmas.Grind.{common_steps}
 use Rattle.place_text.specs.declared.place.Place.{Place}
 use Rattle.fir_types.specs.declared.fir_type.FirType.{FirType, the_lemmas as type_lemmas}
@@ -15,11 +14,11 @@ use Rattle.fir_types.specs.declared.memory.MemLine.TheVariants as line
 use Rattle.fir_types.specs.declared.memory.PortMode.{PortMode}
 use Rattle.fir_types.specs.declared.memory.PortMode.TheVariants as mode
 use Rattle.fir_types.specs.Leaves.{leaves, under, way_of}
-use Rattle.fir_types.specs.Memories.{depth_of, read_latency_of}
-use Rattle.fir_types.specs.Bundles.{nowhere, addr_name, en_name, clk_name, data_name, mask_name, rdata_name, wmode_name, wdata_name, wmask_name, plain_field, flipped_field, uint_at, clock_at, address_bits, fields_of_mode, port_type, port_field, mask_of}
+use Rattle.fir_types.specs.Memories.{depth_of}
+use Rattle.fir_types.specs.Bundles.{nowhere, addr_name, en_name, clk_name, wmode_name, plain_field, uint_at, clock_at, address_bits, fields_of_mode, port_type, port_field, mask_of}
 use Rattle.fir_types.proofs.Masks.{masked}
 use Rattle.leaf_names.specs.LeafNames.{Texts}
-use Rattle.fir_meaning.specs.Components.{Design, TypedModule, Component, FlatLeaf, Leaf, A_memory, is_clock, flat, flat_through, target_in, target_of, component_named, ports_bundle}
+use Rattle.fir_meaning.specs.Components.{Design, TypedModule, Component, FlatLeaf, A_memory, flat, flat_through, target_in, ports_bundle}
 use Rattle.fir_meaning.specs.MemoryPorts.{MemoryPort, memory_ports, port_named, written_field, mask_field}
 use Rattle.fir_meaning.specs.States.{Stands, IsLeafOf, leaf_of, is_register}
 use Rattle.fir_meaning.specs.Loops.{TakesFrom, by_live_connect, by_reset, by_init, by_write, by_read, TakesLeaves, IsRead, read_goes_by, write_goes_by}
@@ -31,9 +30,8 @@ use Rattle.ground_net.specs.declared.net.NetMemory.{NetMemory}
 use Rattle.ground_net.specs.declared.net.NetPort.{NetPort}
 use Rattle.ground_net.specs.declared.net.Role.{Role}
 use Rattle.ground_net.specs.declared.net.Role.TheVariants as role
-use Rattle.net_meaning.specs.Nets.{HasRole}
 use Rattle.net_of_circuit.specs.FlatOrder.{Placed, Standing, all_leaves, all_memories, flat_of, memory_in}
-use Rattle.net_of_circuit.specs.NetOf.{Part, Held, part_of, part_of_role, is_input_of_main, is_late_read, Names, NameAll, IsPortOf, IsMemoryOf, has_mode, may_write}
+use Rattle.net_of_circuit.specs.NetOf.{Held, part_of, part_of_role, is_input_of_main, is_late_read, Names, NameAll, IsPortOf, IsMemoryOf, has_mode, may_write}
 use Rattle.net_laws.specs.Serves.{Serves}
 use Rattle.net_laws.proofs.Numbers.{below_length}
 use Rattle.net_laws.proofs.Seen.{part_is, own_flat, register_target}

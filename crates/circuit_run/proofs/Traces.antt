@@ -1,5 +1,5 @@
 -- The lines of a run of the net are those of a trace of the circuit.
-use Rattle.std.proofs.Common.{◌≡◌, ℕ, ◌+◌, List, [], ◌∷◌, ◌++◌, map, refl, sym, ap, ap₂, ◌∙◌, subst, codes, decimal, ℤ}
+use Rattle.std.proofs.Common.{◌≡◌, ℕ, ◌+◌, List, [], ◌∷◌, ◌++◌, map, refl, sym, ap, ap₂, ◌∙◌, codes, decimal}
 use Rattle.std.specs.List.{flat_map, range_with_len, enumerate_from}
 use Rattle.std.proofs.lemmas.List.Folds.{flat_map-map}
 use Rattle.bit_words.specs.declared.value.Value.{Value}
@@ -13,7 +13,7 @@ use Rattle.ground_net.specs.declared.net.Ports.{Ports}
 use Rattle.ground_net.specs.declared.net.PortLeaf.{PortLeaf}
 use Rattle.ground_net.specs.Reads.{IsOrder}
 use Rattle.ground_net.specs.Watching.{inputs, watched}
-use Rattle.net_meaning.specs.Cycles.{NetState, first_state}
+use Rattle.net_meaning.specs.Cycles.{first_state}
 use Rattle.net_meaning.specs.Nets.{IsWithin}
 use Rattle.net_laws.specs.Serves.{Serves, Matches}
 use Rattle.net_laws.proofs.Integers.{zero_fits}
@@ -23,7 +23,7 @@ use Rattle.stimulus.specs.Stimuli.{IsFormed}
 use Rattle.trace_print.specs.Trace.{header_of, trace_line_of}
 use Rattle.circuit_run.specs.Ports.{part_text, watched_parts, IsPortLeaf}
 use Rattle.circuit_run.specs.Traces.{all_inputs, watched_names, line_of, IsTraceText}
-use Rattle.circuit_run.specs.NetRuns.{watch, given_from, lines_from, AreLines}
+use Rattle.circuit_run.specs.NetRuns.{given_from, lines_from, AreLines}
 use Rattle.circuit_run.proofs.Lists.{zip_map}
 use Rattle.circuit_run.proofs.Parts.{watched_zip}
 use Rattle.circuit_run.proofs.Matching.{all_given}

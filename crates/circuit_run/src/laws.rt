@@ -6,6 +6,7 @@ ghost use Rattle.bit_words.specs.Values.{integer_of};
 ghost use Rattle.fir_types.specs.declared.leaf.PathStep.{PathStep as OneStep};
 ghost use Rattle.leaf_names.specs.LeafNames.{Texts};
 ghost use Rattle.fir_meaning.specs.Components.{Design};
+ghost use Rattle.fir_meaning.specs.States.{State, Inputs, HasOneSettled};
 ghost use Rattle.ground_net.specs.declared.net.Net.{Net as TheNet};
 ghost use Rattle.ground_net.specs.declared.net.Ports.{Ports as ThePorts};
 ghost use Rattle.ground_net.specs.Reads.{IsOrder};
@@ -14,6 +15,7 @@ ghost use Rattle.net_laws.specs.Serves.{Serves};
 ghost use Rattle.stimulus.specs.declared.stimulus.Stimulus.{Stimulus as TheStimulus};
 ghost use Rattle.stimulus.specs.Stimuli.{IsFormed};
 ghost use Rattle.circuit_run.specs.Ports.{ArePortsOf};
+ghost use Rattle.circuit_run.specs.Ranges.{IsInRange, AreInRange};
 ghost use Rattle.circuit_run.specs.Traces.{IsTraceText, line_of, input_number, inputs_in};
 
 /// The ports of the net of a circuit are those of the circuit.
@@ -36,6 +38,11 @@ pub fn traces_exist()
 pub fn traces_are_one()
     ensures { (texts : Texts) (design : Design) (net : TheNet) (sequence : List ℕ) → Serves texts design net → IsOrder net sequence → (stimulus : TheStimulus) (bytes other : List ℕ)
         → IsTraceText texts design stimulus bytes → IsTraceText texts design stimulus other → bytes ≡ other }
+{}
+
+/// For each state and inputs that are in range the circuit has exactly one settled valuation.
+pub fn states_in_range_settle_once()
+    ensures { (texts : Texts) (design : Design) (net : TheNet) (sequence : List ℕ) → Serves texts design net → IsOrder net sequence → (s : State) (given : Inputs) → IsInRange design s → AreInRange design given → HasOneSettled design s given }
 {}
 
 /// The line of cycle 0 in which the watched leaves have 5 and -1.

@@ -47,9 +47,16 @@ returns-in_err-put_all-clause-lines g c =
     let new = g.K.Sink.written c.put_all.new.sink in
     let front = c.in_err-put_all.ensures.prefix in
     let put = subst (λ l. Appends middle new (take front.0 l)) c.as_slice.ensures.value front.1 in
-    rw p.1
-    ((before.0 ++ told.lines.items) ++ more.0, more.1, tt, (length (before.0 ++ take front.0 told.lines.items), subst (Appends old new) (sym (front_of before.0 told.lines.items more.0 front.0))
-    (Appends-trans old middle new before.0 (take front.0 told.lines.items) before.2 put)))
+    rw p.1 (
+      (before.0 ++ told.lines.items) ++ more.0,
+      more.1,
+      tt,
+      (
+        length (before.0 ++ take front.0 told.lines.items),
+        subst (Appends old new) (sym (front_of before.0 told.lines.items more.0 front.0))
+            (Appends-trans old middle new before.0 (take front.0 told.lines.items) before.2 put),
+      ),
+    )
 
 pub loop-first-preserved : goal.loop-first-preserved
 loop-first-preserved g c =
