@@ -1,0 +1,115 @@
+-- What clap asks for is there.
+use Rattle.std.proofs.Common.{◌≡◌, ◌∙◌, ◌<◌, ◌≤◌, ℕ, zero, suc, true, false, List, [], ◌∷◌, length, map, Option, Some, None, refl, sym, ap, subst, inl, inr, arith, codes, true≢false}
+use Rattle.std.specs.Prelude.{is_some, option_map, slice_get}
+use Rattle.std.specs.List.{slice_index_or, list_all}
+use Rattle.std.specs.Str.{bytes_eq}
+use Rattle.std.specs.Borrow.{Bor}
+use Rattle.clap.specs.Built.{IsPlain}
+use Rattle.clap.specs.Facts.{least_values, unwrap_or_range}
+use Rattle.clap.specs.Simple.{has_simple_rules, is_ready, is_ready_leaf}
+use Rattle.clap.specs.Faults.{has_free_rules}
+use Rattle.clap.specs.Values.{read_as}
+use Rattle.clap.specs.Words.{App, IsParsedFrom, Rule, Text, app_of, args_of, first_value, found_of, matched_of, one_text, rule_of}
+use Rattle.clap.specs.declared.builder.arg.Arg.{Arg}
+use Rattle.clap.specs.declared.builder.command.Command.{Command}
+use Rattle.clap.specs.declared.builder.range.ValueRange.{ValueRange}
+use Rattle.clap.specs.declared.builder.value_parser.Reading.{Reading}
+use Rattle.clap.specs.declared.parser.matches.ArgMatches.{ArgMatches}
+use Rattle.clap.specs.declared.parser.matches.Found.{Found}
+use Rattle.clap.specs.declared.parser.matches.MatchedArg.{MatchedArg}
+use Rattle.clap.proofs.CallerLemmas.{required_has_value}
+use Rattle.clap.proofs.FaultLemmas.{free_args}
+use Rattle.clap.proofs.SimpleLemmas.{ready_simple, simple_groups}
+use Rattle.clap.proofs.WalkLemmas.{both}
+use Rattle.command_words.specs.Commands.{cycles_rule, make_command, size_rule, workers_rule}
+use Rattle.command_words.proofs.Numbers.{own_flag, own_name}
+
+-- the three arguments of three rules
+three : (xs : List Arg) (r s t : Rule) → map rule_of xs ≡ r ∷ s ∷ t ∷ []
+    → (a : Arg) × (b : Arg) × (c : Arg) × (xs ≡ a ∷ b ∷ c ∷ []) × (rule_of a ≡ r) × (rule_of b ≡ s) × (rule_of c ≡ t)
+three [] r s t e =
+    let bad : ◌≡◌ {A = ℕ} 0 3 = ap length e in
+    absurd (omega arith)
+three (a ∷ []) r s t e =
+    let bad : ◌≡◌ {A = ℕ} 1 3 = ap length e in
+    absurd (omega arith)
+three (a ∷ b ∷ []) r s t e =
+    let bad : ◌≡◌ {A = ℕ} 2 3 = ap length e in
+    absurd (omega arith)
+three (a ∷ b ∷ c ∷ []) r s t e =
+    (a, b, c, refl, ap (λ l. slice_index_or l 0 r) e, ap (λ l. slice_index_or l 1 r) e, ap (λ l. slice_index_or l 2 r) e)
+three (a ∷ b ∷ c ∷ d ∷ xs) r s t e =
+    let bad : ◌≡◌ {A = ℕ} (suc (suc (suc (suc (length (map rule_of xs)))))) 3 = ap length e in
+    absurd (omega arith)
+
+-- only the third of three has its id
+third_alone : (a b c : Arg) → bytes_eq a.id.now c.id.now ≡ false → bytes_eq b.id.now c.id.now ≡ false → (j : ℕ) (e : Arg) → j < 3
+    → bytes_eq (slice_index_or (a ∷ b ∷ c ∷ []) j e).id.now c.id.now ≡ true → j ≡ 2
+third_alone a b c first second zero e low same = absurd (true≢false (sym same ∙ first))
+third_alone a b c first second (suc zero) e low same = absurd (true≢false (sym same ∙ second))
+third_alone a b c first second (suc (suc zero)) e low same = refl
+third_alone a b c first second (suc (suc (suc j))) e low same = absurd (omega arith)
+
+-- the typed getters have a text where the plain one has
+read_some : (f : Found) (id : Text) → is_some (first_value f id) ≡ true → is_some (one_text f id) ≡ true
+read_some f id has = go (matched_of f id) refl
+  where
+    value : (how : Reading) (vs : List (Bor Text)) → is_some (option_map (λ s. s.now) (slice_get vs 0)) ≡ true → is_some (option_map (λ s. read_as how s.now) (slice_get vs 0)) ≡ true
+    value how [] e = absurd (true≢false (sym e))
+    value how (v ∷ vs) e = refl
+
+    go : (o : Option MatchedArg) → matched_of f id ≡ o → is_some (one_text f id) ≡ true
+    go None e =
+        let bad : false ≡ true = rw e at has in
+        absurd (true≢false (sym bad))
+    go (Some x) e =
+        let first : is_some (option_map (λ s. s.now) (slice_get x.vals.items 0)) ≡ true = rw e at has in
+        rw e (value x.reading x.vals.items first)
+
+-- a command excludes nothing where its rules are simple and free
+plain_command : (old : Command) → is_ready (app_of old).top ≡ true → list_all is_ready_leaf (app_of old).subs ≡ true → has_free_rules (app_of old).top ≡ true → IsPlain old
+plain_command old ready leaves free =
+    let rules = both (has_simple_rules (app_of old).top) _ ready in
+    let parts = both (app_of old).top.is_plain _ rules.0 in
+    let simple = ready_simple old ready leaves in
+    let frees = free_args old simple free in (
+      λ k d lt.
+          let f = frees k d lt in
+          (f.exclusive, f.conflicts, f.overrides, simple_groups old parts.1 k d lt),
+      simple.groups,
+    )
+
+-- `make` has its number
+pub size_given : (old : Command) (m : ArgMatches) → IsParsedFrom old m → app_of old ≡ make_command → is_some (one_text (found_of m) (codes "size")) ≡ true
+size_given old m p same =
+    let ready : is_ready (app_of old).top ≡ true = ap (λ (a : App). is_ready a.top) same in
+    let leaves : list_all is_ready_leaf (app_of old).subs ≡ true = ap (λ (a : App). list_all is_ready_leaf a.subs) same in
+    let free : has_free_rules (app_of old).top ≡ true = ap (λ (a : App). has_free_rules a.top) same in
+    let negates = ap (λ (a : App). a.top.subcommand_negates_reqs) same in
+    let plain = plain_command old ready leaves free in
+    let simple = ready_simple old ready leaves in
+    let xs = three (args_of old) workers_rule cycles_rule size_rule (ap (λ (a : App). a.top.rules) same) in
+    let a = xs.0 in
+    let b = xs.1 in
+    let c = xs.2 in
+    let list : args_of old ≡ a ∷ b ∷ c ∷ [] = xs.3 in
+    let elem : slice_index_or (args_of old) 2 c ≡ c = ap (λ l. slice_index_or l 2 c) list in
+    let lt : 2 < length (args_of old) = subst (λ l. 2 < length l) (sym list) (omega arith) in
+    let rule : rule_of (slice_index_or (args_of old) 2 c) ≡ size_rule = ap rule_of elem ∙ xs.6 in
+    let id : (slice_index_or (args_of old) 2 c).id.now ≡ codes "size" = ap (λ (r : Rule). r.id) rule in
+    let c_id : c.id.now ≡ codes "size" = ap (λ (r : Rule). r.id) xs.6 in
+    let first : bytes_eq a.id.now c.id.now ≡ false = rw (c_id, ap (λ (r : Rule). r.id) xs.4) refl in
+    let second : bytes_eq b.id.now c.id.now ≡ false = rw (c_id, ap (λ (r : Rule). r.id) xs.5) refl in
+    let least : 1 ≤ least_values (slice_index_or (args_of old) 2 c) =
+    subst (λ (o : Option ValueRange). 1 ≤ (unwrap_or_range o).start_inclusive) (sym (ap (λ (r : Rule). r.range) rule)) (omega arith) in
+    let alone : (j : ℕ) (e : Arg) → j < length (args_of old) → bytes_eq (slice_index_or (args_of old) j e).id.now (slice_index_or (args_of old) 2 c).id.now ≡ true → j ≡ 2 =
+    λ j e low hit.
+    let small : j < 3 = subst (λ l. j < length l) list low in
+    let there : bytes_eq (slice_index_or (a ∷ b ∷ c ∷ []) j e).id.now (slice_index_or (args_of old) 2 c).id.now ≡ true =
+    subst (λ l. bytes_eq (slice_index_or l j e).id.now (slice_index_or (args_of old) 2 c).id.now ≡ true) list hit in
+    third_alone a b c first second j e small (subst (λ (x : Arg). bytes_eq (slice_index_or (a ∷ b ∷ c ∷ []) j e).id.now x.id.now ≡ true) elem there) in
+    let has = required_has_value old m p plain (simple.globals) negates 2 c lt
+    (ap (λ (r : Rule). r.required) rule) (ap (λ (r : Rule). r.action) rule) (simple.args 2 c lt).delimiter least alone
+    (λ empty. own_name (codes "size") refl (sym id ∙ empty))
+    (λ auto. own_flag (codes "size") refl (elim auto [ inl h ↦ inl (sym id ∙ h) | inr h ↦ inr (sym id ∙ h) ])) in
+    read_some (found_of m) (codes "size") (subst (λ (w : Text). is_some (first_value (found_of m) w) ≡ true) id has)

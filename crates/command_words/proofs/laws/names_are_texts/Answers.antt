@@ -1,0 +1,11 @@
+use Rattle.std.proofs.Common.{refl}
+use Rattle.clap.proofs.OnLiterals.{clap_on_literals}
+use Rattle.command_words.proofs.laws.names_are_texts.Goals as goal
+
+pub returns-clause-behind : goal.returns-clause-behind
+unfolding clap_on_literals
+returns-clause-behind c = λ name. refl
+
+pub returns-clause-both : goal.returns-clause-both
+unfolding clap_on_literals
+returns-clause-both c = λ circuit stimulus. refl

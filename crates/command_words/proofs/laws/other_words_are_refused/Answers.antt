@@ -1,0 +1,71 @@
+use Rattle.std.proofs.Common.{refl}
+use Rattle.clap.proofs.OnLiterals.{clap_on_literals}
+use Rattle.command_words.proofs.laws.other_words_are_refused.Goals as goal
+
+pub returns-clause-no_words : goal.returns-clause-no_words
+unfolding clap_on_literals
+returns-clause-no_words c = refl
+
+pub returns-clause-no_command : goal.returns-clause-no_command
+unfolding clap_on_literals
+returns-clause-no_command c = refl
+
+pub returns-clause-no_name : goal.returns-clause-no_name
+unfolding clap_on_literals
+returns-clause-no_name c = refl
+
+pub returns-clause-many_workers : goal.returns-clause-many_workers
+unfolding clap_on_literals
+returns-clause-many_workers c = refl
+
+pub returns-clause-no_number : goal.returns-clause-no_number
+unfolding clap_on_literals
+returns-clause-no_number c = refl
+
+pub returns-clause-no_value : goal.returns-clause-no_value
+unfolding clap_on_literals
+returns-clause-no_value c = refl
+
+pub returns-clause-dashed_value : goal.returns-clause-dashed_value
+unfolding clap_on_literals
+returns-clause-dashed_value c = refl
+
+pub returns-clause-twice : goal.returns-clause-twice
+unfolding clap_on_literals
+returns-clause-twice c = refl
+
+pub returns-clause-two_names : goal.returns-clause-two_names
+unfolding clap_on_literals
+returns-clause-two_names c = refl
+
+pub returns-clause-help : goal.returns-clause-help
+unfolding clap_on_literals
+returns-clause-help c = refl
+
+pub returns-clause-option : goal.returns-clause-option
+unfolding clap_on_literals
+returns-clause-option c = refl
+
+pub returns-clause-dash : goal.returns-clause-dash
+unfolding clap_on_literals
+returns-clause-dash c = refl
+
+pub returns-clause-three_texts : goal.returns-clause-three_texts
+unfolding clap_on_literals
+returns-clause-three_texts c = refl
+
+pub returns-clause-nothing_made : goal.returns-clause-nothing_made
+unfolding clap_on_literals
+returns-clause-nothing_made c = refl
+
+pub returns-clause-too_many_made : goal.returns-clause-too_many_made
+unfolding clap_on_literals
+returns-clause-too_many_made c = refl
+
+pub returns-clause-no_cycles : goal.returns-clause-no_cycles
+unfolding clap_on_literals
+returns-clause-no_cycles c = refl
+
+pub returns-clause-no_size : goal.returns-clause-no_size
+unfolding clap_on_literals
+returns-clause-no_size c = refl

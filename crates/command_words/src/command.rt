@@ -1,0 +1,36 @@
+//! The commands.
+
+/// What a command line asks for. Names of texts are lent by the words; `-` is the name of standard input.
+#[derive(Clone, Copy, Debug, PartialEq, Eq)]
+pub enum Command<'a> {
+    /// Runs a circuit under a stimulus, which stands behind the circuit in its text where no name is given.
+    Run {
+        /// From 1 to 64.
+        workers: u32,
+        circuit: &'a str,
+        stimulus: Option<&'a str>,
+    },
+    /// Says whether a circuit has a fault.
+    Check {
+        circuit: &'a str,
+    },
+    /// Lists the widths of a circuit.
+    Widths {
+        circuit: &'a str,
+    },
+    /// Lists the partitions of a circuit.
+    Cut {
+        /// From 1 to 64.
+        workers: u32,
+        circuit: &'a str,
+    },
+    /// Makes a circuit and runs it.
+    Make {
+        /// From 1 to 64.
+        workers: u32,
+        /// From 1 to 4,096.
+        cycles: u32,
+        /// From 1 to 4,096.
+        size: u32,
+    },
+}

@@ -1,0 +1,54 @@
+//! Worked examples of the definition. The functions do nothing.
+
+ghost use Rattle.std.specs.Prelude.{◌≡◌, ℕ, List, Some, None, [], ◌∷◌, codes};
+ghost use Rattle.command_words.specs.Commands.{command_of, Run, Check, Widths, Cut, Make};
+
+/// What `run` asks for.
+pub fn runs_are_read()
+    ensures alone { command_of (codes "run" ∷ []) ≡ Some (Run 1 (codes "-") None) }
+    ensures two_texts { command_of (codes "run" ∷ codes "-" ∷ codes "s" ∷ []) ≡ Some (Run 1 (codes "-") (Some (codes "s"))) }
+    ensures workers { command_of (codes "run" ∷ codes "--workers" ∷ codes "2" ∷ codes "c" ∷ codes "s" ∷ []) ≡ Some (Run 2 (codes "c") (Some (codes "s"))) }
+    ensures attached { command_of (codes "run" ∷ codes "c" ∷ codes "--workers=+64" ∷ codes "s" ∷ []) ≡ Some (Run 64 (codes "c") (Some (codes "s"))) }
+    ensures behind { command_of (codes "run" ∷ codes "--" ∷ codes "-x" ∷ []) ≡ Some (Run 1 (codes "-x") None) }
+{}
+
+/// What `make` asks for.
+pub fn makes_are_read()
+    ensures alone { command_of (codes "make" ∷ codes "016" ∷ []) ≡ Some (Make 1 64 16) }
+    ensures all { command_of (codes "make" ∷ codes "4096" ∷ codes "--cycles" ∷ codes "10" ∷ codes "--workers" ∷ codes "4" ∷ []) ≡ Some (Make 4 10 4096) }
+{}
+
+/// What the other commands ask for.
+pub fn others_are_read()
+    ensures check { command_of (codes "check" ∷ []) ≡ Some (Check (codes "-")) }
+    ensures empty_name { command_of (codes "check" ∷ [] ∷ []) ≡ Some (Check []) }
+    ensures widths { command_of (codes "widths" ∷ codes "w" ∷ []) ≡ Some (Widths (codes "w")) }
+    ensures cut { command_of (codes "cut" ∷ codes "c" ∷ codes "--workers" ∷ codes "64" ∷ []) ≡ Some (Cut 64 (codes "c")) }
+{}
+
+/// Behind `--` each word is a name.
+pub fn names_are_texts()
+    ensures behind { (name : List ℕ) → command_of (codes "check" ∷ codes "--" ∷ name ∷ []) ≡ Some (Check name) }
+    ensures both { (circuit stimulus : List ℕ) → command_of (codes "run" ∷ codes "--" ∷ circuit ∷ stimulus ∷ []) ≡ Some (Run 1 circuit (Some stimulus)) }
+{}
+
+/// Words that are refused.
+pub fn other_words_are_refused()
+    ensures no_words { command_of [] ≡ None }
+    ensures no_command { command_of (codes "jump" ∷ []) ≡ None }
+    ensures no_name { command_of ([] ∷ []) ≡ None }
+    ensures many_workers { command_of (codes "run" ∷ codes "--workers" ∷ codes "65" ∷ []) ≡ None }
+    ensures no_number { command_of (codes "run" ∷ codes "--workers" ∷ [] ∷ []) ≡ None }
+    ensures no_value { command_of (codes "run" ∷ codes "--workers" ∷ []) ≡ None }
+    ensures dashed_value { command_of (codes "run" ∷ codes "--workers" ∷ codes "-2" ∷ []) ≡ None }
+    ensures twice { command_of (codes "run" ∷ codes "--workers" ∷ codes "2" ∷ codes "--workers" ∷ codes "3" ∷ []) ≡ None }
+    ensures two_names { command_of (codes "check" ∷ codes "a" ∷ codes "b" ∷ []) ≡ None }
+    ensures help { command_of (codes "check" ∷ codes "--help" ∷ []) ≡ None }
+    ensures option { command_of (codes "widths" ∷ codes "--workers" ∷ codes "2" ∷ []) ≡ None }
+    ensures dash { command_of (codes "cut" ∷ codes "-x" ∷ []) ≡ None }
+    ensures three_texts { command_of (codes "run" ∷ codes "a" ∷ codes "b" ∷ codes "c" ∷ []) ≡ None }
+    ensures nothing_made { command_of (codes "make" ∷ codes "0" ∷ []) ≡ None }
+    ensures too_many_made { command_of (codes "make" ∷ codes "4097" ∷ []) ≡ None }
+    ensures no_cycles { command_of (codes "make" ∷ codes "--cycles" ∷ codes "0" ∷ codes "1" ∷ []) ≡ None }
+    ensures no_size { command_of (codes "make" ∷ []) ≡ None }
+{}
