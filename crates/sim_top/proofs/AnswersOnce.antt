@@ -27,10 +27,11 @@ use Rattle.sim_engine.specs.declared.compile.Built.{Built}
 use Rattle.sim_engine.specs.declared.fault.CircuitFault.{CircuitFault}
 use Rattle.sim_engine.proofs.Once.{one_fault, no_fault, accepted_once}
 use Rattle.sim_engine.proofs.Solving.{same_at, same_declared, same_modules, flagged}
-use Rattle.sim_top.specs.declared.command.Command.{Command}
-use Rattle.sim_top.specs.declared.command.Command.TheVariants.{Run, Check, Widths}
-use Rattle.sim_top.specs.Answers.{command_of, fault_bytes, stimulus_bytes, joined_limit, stimulus_limit, IsPart, IsTaken, Runs, stimulus_too_long, stimulus_refused, traced, JudgesTexts, refused, accepted, listed, ran, Judges, joined_too_long, no_stimulus, circuit_too_long, taken, Answers, no_command, judged}
-use Rattle.sim_top.specs.Serving.{IsServed, IsServedIn, AreServed, IsSettled}
+use Rattle.sim_top.specs.declared.words.Command.{Command}
+use Rattle.sim_top.specs.declared.words.Command.TheVariants.{Run, Check, Widths}
+use Rattle.sim_top.specs.Questions.{Question, Of_joined, Of_two, asked_by}
+use Rattle.sim_top.specs.Answers.{fault_bytes, stimulus_bytes, joined_limit, stimulus_limit, IsPart, IsTaken, Runs, stimulus_too_long, stimulus_refused, traced, JudgesTexts, refused, accepted, listed, ran, Judges, joined_too_long, no_stimulus, circuit_too_long, taken, AnswersTo, of_joined, of_long_circuit, of_two, Answers, no_command, answered}
+use Rattle.sim_top.specs.Serving.{IsServed, IsServedIn, IsServedFor, AreServed, IsSettled}
 use Rattle.sim_top.proofs.Splitting.{part_once, run_has_line}
 
 pub some_same : {A : Type 0} (x y : A) → Some x ≡ Some y → x ≡ y
@@ -122,6 +123,11 @@ other_part command joined circuit stimulus p l other more t =
     let h = t.short in
     let k : length circuit ≡ length other = ap length e in omega (arith, l, h, k)
 
+too_long_here : (texts : List ℕ → Option (List ℕ)) (name text other : List ℕ) → texts name ≡ Some text → texts name ≡ Some other → circuit_limit < length text
+    → length other ≤ circuit_limit → ⊥
+too_long_here texts name text other h k l m =
+    let same : length text ≡ length other = ap length (some_same text other (sym h ∙ k)) in omega (arith, l, m, same)
+
 judged_once : (command : Command) (joined : List ℕ) (s t : ℕ) (b d : List ℕ) → Judges command joined s b → Judges command joined t d
     → (s ≡ t) × (IsServedIn command joined → b ≡ d)
 judged_once command joined _ _ _ _ (joined_too_long _ _ l) (joined_too_long _ _ m) = (refl, λ served. refl)
@@ -145,19 +151,34 @@ judged_once command joined s t b d (taken _ _ circuit stimulus _ _ k j) (taken _
     let both = texts_once command circuit stimulus s t b d j here in
     (both.0, λ served. both.1 (served circuit stimulus k))
 
-no_reading : (words : List (List ℕ)) (command : Command) → command_of words ≡ None → command_of words ≡ Some command → ⊥
-no_reading words command e f = let g : None ≡ Some command = sym e ∙ f in cc
+-- what is asked
+asked_once : (texts : List ℕ → Option (List ℕ)) (question : Question) (s t : ℕ) (b d : List ℕ) → AnswersTo texts question s b → AnswersTo texts question t d
+    → (s ≡ t) × (IsServedFor texts question → b ≡ d)
+asked_once texts (Of_joined command name) s t b d (of_joined _ _ joined _ _ h j) (of_joined _ _ text _ _ k i) =
+    let x : text ≡ joined = some_same text joined (sym k ∙ h) in
+    let both = judged_once command joined s t b d j (subst (λ y. Judges command y t d) x i) in
+    (both.0, λ served. both.1 (served joined h))
+asked_once texts (Of_two circuit stimulus) _ _ _ _ (of_long_circuit _ _ text h l) (of_long_circuit _ _ other k m) = (refl, λ served. refl)
+asked_once texts (Of_two circuit stimulus) _ _ _ _ (of_long_circuit _ _ text h l) (of_two _ _ other given _ _ k m g j) = absurd (too_long_here texts circuit text other h k l m)
+asked_once texts (Of_two circuit stimulus) _ _ _ _ (of_two _ _ other given _ _ k m g j) (of_long_circuit _ _ text h l) = absurd (too_long_here texts circuit text other h k l m)
+asked_once texts (Of_two circuit stimulus) s t b d (of_two _ _ text given _ _ h l g j) (of_two _ _ other more _ _ k m f i) =
+    let x : other ≡ text = some_same other text (sym k ∙ h) in
+    let y : more ≡ given = some_same more given (sym f ∙ g) in
+    let both = texts_once Run text given s t b d j (subst (λ z. JudgesTexts Run text z t d) y (subst (λ z. JudgesTexts Run z more t d) x i)) in
+    (both.0, λ served. both.1 (served text h l))
+
+pub no_reading : (words : List (List ℕ)) (question : Question) → asked_by words ≡ None → asked_by words ≡ Some question → ⊥
+no_reading words question e f = let g : None ≡ Some question = sym e ∙ f in cc
 
 pub answers_once : (words : List (List ℕ)) (texts : List ℕ → Option (List ℕ)) (s t : ℕ) (b d : List ℕ) → Answers words texts s b → Answers words texts t d
     → (s ≡ t) × (AreServed words texts → b ≡ d)
 answers_once words texts _ _ _ _ (no_command _ _ e) (no_command _ _ f) = (refl, λ served. refl)
-answers_once words texts _ _ _ _ (no_command _ _ e) (judged _ _ command joined _ _ f h j) = absurd (no_reading words command e f)
-answers_once words texts _ _ _ _ (judged _ _ command joined _ _ f h j) (no_command _ _ e) = absurd (no_reading words command e f)
-answers_once words texts s t b d (judged _ _ command joined _ _ e h j) (judged _ _ other text _ _ f k i) =
-    let c : other ≡ command = some_same other command (sym f ∙ e) in
-    let x : text ≡ joined = some_same text joined (sym k ∙ h) in
-    let both = judged_once command joined s t b d j (subst (λ y. Judges command y t d) x (subst (λ z. Judges z text t d) c i)) in
-    (both.0, λ served. both.1 (served command joined e h))
+answers_once words texts _ _ _ _ (no_command _ _ e) (answered _ _ question _ _ f a) = absurd (no_reading words question e f)
+answers_once words texts _ _ _ _ (answered _ _ question _ _ f a) (no_command _ _ e) = absurd (no_reading words question e f)
+answers_once words texts s t b d (answered _ _ question _ _ e a) (answered _ _ other _ _ f o) =
+    let q : other ≡ question = some_same other question (sym f ∙ e) in
+    let both = asked_once texts question s t b d a (subst (λ x. AnswersTo texts x t d) q o) in
+    (both.0, λ served. both.1 (served question e))
 
 pub answer_status : (words : List (List ℕ)) (texts : List ℕ → Option (List ℕ)) (s t : ℕ) (b d : List ℕ) → Answers words texts s b → Answers words texts t d → s ≡ t
 answer_status words texts s t b d f g = (answers_once words texts s t b d f g).0

@@ -23,8 +23,8 @@ use Rattle.sim_engine.specs.declared.compile.Built.{Built}
 use Rattle.sim_engine.specs.declared.fault.CircuitFault.{CircuitFault}
 use Rattle.sim_engine.specs.declared.fault.CircuitFault.TheVariants.{NoMemory}
 use Rattle.sim_engine.proofs.Once.{no_fault}
-use Rattle.sim_top.specs.declared.command.Command.{Command}
-use Rattle.sim_top.specs.declared.command.Command.TheVariants.{Run, Check, Widths}
+use Rattle.sim_top.specs.declared.words.Command.{Command}
+use Rattle.sim_top.specs.declared.words.Command.TheVariants.{Run, Check, Widths}
 use Rattle.sim_top.specs.declared.fault.WholeFault.TheVariants.{TooLong, NoStimulus}
 use Rattle.sim_top.specs.declared.judge.Decision.{Decision}
 use Rattle.sim_top.specs.declared.judge.Decision.TheVariants as decision

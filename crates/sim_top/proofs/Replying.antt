@@ -1,24 +1,26 @@
 -- What a reply is, and how a call ends that gives it.
 use Rattle.std.proofs.Common.{◌≡◌, ◌≢◌, ℕ, ◌<◌, ◌≤◌, length, List, [], ◌++◌, ◌⊎◌, inl, inr, ⊎_elim, Option, take, refl, sym, ap, ◌∙◌, subst, arith}
-use Rattle.std.specs.Prelude.{codes, Some, None}
+use Rattle.std.specs.Prelude.{codes, Some, None, Result, Err}
 use Rattle.std.proofs.lemmas.Bool.{cases_eq}
 use Rattle.std.proofs.lemmas.Grind.{common_steps}
 use Rattle.place_text.specs.Places.{first_place}
 use Rattle.place_text.specs.declared.place.Place.{Place}
 use Rattle.leaf_names.specs.LeafNames.{Texts}
 use Rattle.fir_meaning.specs.Components.{Design}
-use Rattle.shelf_io.specs.Outside.{Appends}
-use Rattle.sim_top.specs.declared.command.Command.{Command}
-use Rattle.sim_top.specs.declared.command.Command.TheVariants.{Run, Check, Widths}
+use Rattle.shelf_io.specs.Outside.{Appends, Rose}
+use Rattle.sim_engine.specs.Stages.{circuit_limit}
+use Rattle.sim_top.specs.declared.words.Command.{Command}
+use Rattle.sim_top.specs.declared.words.Command.TheVariants.{Run, Check, Widths}
 use Rattle.sim_top.specs.declared.fault.WholeFault.{WholeFault}
 use Rattle.sim_top.specs.declared.fault.WholeFault.TheVariants.{TooLong, NoStimulus}
 use Rattle.sim_top.specs.declared.judge.Decision.{Decision}
 use Rattle.sim_top.specs.declared.judge.Decision.TheVariants as decision
-use Rattle.sim_top.specs.Answers.{whole_bytes, command_of, joined_limit, input_name, Needs, Runs, stimulus_too_long, stimulus_refused, traced, JudgesTexts, refused, accepted, listed, ran, Judges, joined_too_long, no_stimulus, circuit_too_long, taken, Answers, no_command, judged}
+use Rattle.sim_top.specs.Questions.{Question, Of_joined, Of_two, asked_by, NeedsFor, the_joined, the_circuit, the_stimulus, Needs}
+use Rattle.sim_top.specs.Answers.{whole_bytes, joined_limit, Runs, stimulus_too_long, stimulus_refused, traced, JudgesTexts, refused, accepted, listed, ran, Judges, joined_too_long, no_stimulus, circuit_too_long, taken, AnswersTo, of_joined, of_long_circuit, of_two, Answers, no_command, answered}
 use Rattle.sim_top.specs.Endings.{Ends, IsSaid, IsRun, IsFaultLine, of_circuit, of_whole, of_stimulus, of_whole_stimulus, IsReply}
-use Rattle.sim_top.specs.Serving.{IsServedIn, AreServed, Settles, IsSettled}
+use Rattle.sim_top.specs.Serving.{IsServed, IsServedIn, IsServedFor, SettlesTexts, Settles, SettlesAsked, IsSettled}
 use Rattle.sim_top.specs.Decisions.{Gives, CanRun, IsReady, status_of}
-use Rattle.sim_top.proofs.AnswersOnce.{some_same, settled_once}
+use Rattle.sim_top.proofs.AnswersOnce.{some_same, no_reading, settled_once}
 
 -- what a command answers has the status 0, or is a line that names a fault
 abbrev Told : ℕ → List ℕ → Type 0
@@ -47,6 +49,9 @@ line_status _ _ (of_whole fault p) = (omega arith, omega arith)
 line_status _ _ (of_stimulus fault p) = (omega arith, omega arith)
 line_status _ _ (of_whole_stimulus fault p) = (omega arith, omega arith)
 
+pub line_usage : (s : ℕ) (b : List ℕ) → IsFaultLine s b → s ≡ 1 → ⊥
+line_usage s b line one = let two = (line_status s b line).0 in omega (arith, one, two)
+
 told_usage : (s : ℕ) (b : List ℕ) → Told s b → s ≡ 1 → ⊥
 told_usage s b told one = ⊎_elim (λ zero. omega arith) (λ line. let two = (line_status s b line).0 in omega arith) told
 
@@ -66,40 +71,80 @@ pub no_usage : (command : Command) (joined : List ℕ) (d : Decision) → Gives 
 no_usage command joined (decision.Say reply) s one = told_usage _ _ (judged_told command joined _ _ s.judges) one
 no_usage command joined (decision.Run built settings) s one = cc
 
+texts_ready : (text stimulus : List ℕ) (s : ℕ) (b : List ℕ) → JudgesTexts Run text stimulus s b → IsReply s b
+texts_ready text stimulus s b j = ⊎_elim (λ zero. inl zero) (λ line. inr (inr line)) (texts_told Run text stimulus s b j)
+
+pub ready_texts : (text stimulus : List ℕ) (d : Decision) → Gives (SettlesTexts Run text stimulus) d → CanRun d → IsReady d
+ready_texts text stimulus (decision.Say reply) s run = texts_ready text stimulus _ _ s.judges
+ready_texts text stimulus (decision.Run built settings) s run = run
+
+pub no_usage_texts : (text stimulus : List ℕ) (d : Decision) → Gives (SettlesTexts Run text stimulus) d → status_of d ≡ 1 → ⊥
+no_usage_texts text stimulus (decision.Say reply) s one = told_usage _ _ (texts_told Run text stimulus _ _ s.judges) one
+no_usage_texts text stimulus (decision.Run built settings) s one = cc
+
 pub usage_ready : (b : List ℕ) → b ≡ codes "usage\n" → IsReply 1 b
 usage_ready b e = inr (inl (refl, e))
 
 pub whole_ready : (b : List ℕ) (s : ℕ) (fault : WholeFault) → s ≡ 2 → b ≡ whole_bytes fault first_place → IsReply s b
 whole_ready b s fault two e = inr (inr (rw (two, e) (of_whole fault first_place)))
 
--- and for words
-pub settled_usage : (words : List (List ℕ)) (texts : List ℕ → Option (List ℕ)) (b : List ℕ) → command_of words ≡ None → b ≡ codes "usage\n" → IsSettled words texts 1 b
-settled_usage words texts b none e = rw e (record {
-  answers = no_command words texts none;
-  served = λ command joined reads held. let f : None ≡ Some command = sym none ∙ reads in absurd (cc);
-})
-
-of_joined : (words : List (List ℕ)) (texts : List ℕ → Option (List ℕ)) (command : Command) (joined : List ℕ) → command_of words ≡ Some command → texts input_name ≡ Some joined
-    → (s : ℕ) (b : List ℕ) → Settles command joined s b → IsSettled words texts s b
-of_joined words texts command joined reads held s b settles = record {
-  answers = judged words texts command joined s b reads held settles.judges;
-  served = λ other text read told.
-      let c : command ≡ other = some_same command other (sym reads ∙ read) in
-      let x : joined ≡ text = some_same joined text (sym held ∙ told) in
-      subst (λ y. IsServedIn other y) x (subst (λ z. IsServedIn z joined) c settles.served);
+-- for what is asked
+of_name : (texts : List ℕ → Option (List ℕ)) (command : Command) (name joined : List ℕ) → texts name ≡ Some joined → (s : ℕ) (b : List ℕ) → Settles command joined s b
+    → SettlesAsked texts (Of_joined command name) s b
+of_name texts command name joined held s b settles = record {
+  answers = of_joined command name joined s b held settles.judges;
+  served = λ text told. subst (λ y. IsServedIn command y) (some_same joined text (sym held ∙ told)) settles.served;
 }
 
-pub settled_words : (words : List (List ℕ)) (texts : List ℕ → Option (List ℕ)) (command : Command) (joined : List ℕ) (d : Decision) → command_of words ≡ Some command
-    → texts input_name ≡ Some joined → Gives (Settles command joined) d → Gives (IsSettled words texts) d
-settled_words words texts command joined (decision.Say reply) reads held s = of_joined words texts command joined reads held _ _ s
-settled_words words texts command joined (decision.Run built settings) reads held s = λ bytes t. of_joined words texts command joined reads held _ _ (s bytes t)
+pub settled_name : (texts : List ℕ → Option (List ℕ)) (command : Command) (name joined : List ℕ) (d : Decision) → texts name ≡ Some joined → Gives (Settles command joined) d
+    → Gives (SettlesAsked texts (Of_joined command name)) d
+settled_name texts command name joined (decision.Say reply) held s = of_name texts command name joined held _ _ s
+settled_name texts command name joined (decision.Run built settings) held s = λ bytes t. of_name texts command name joined held _ _ (s bytes t)
 
-pub settled_long : (words : List (List ℕ)) (texts : List ℕ → Option (List ℕ)) (command : Command) (joined : List ℕ) (s : ℕ) (b : List ℕ) → command_of words ≡ Some command
-    → texts input_name ≡ Some joined → joined_limit < length joined → s ≡ 2 → b ≡ whole_bytes TooLong first_place → IsSettled words texts s b
-settled_long words texts command joined s b reads held long two e = rw (two, e) (of_joined words texts command joined reads held _ _ (record {
+pub settled_long : (texts : List ℕ → Option (List ℕ)) (command : Command) (name joined : List ℕ) (s : ℕ) (b : List ℕ) → texts name ≡ Some joined → joined_limit < length joined
+    → s ≡ 2 → b ≡ whole_bytes TooLong first_place → SettlesAsked texts (Of_joined command name) s b
+settled_long texts command name joined s b held long two e = rw (two, e) (of_name texts command name joined held _ _ (record {
   judges = joined_too_long command joined long;
   served = λ circuit stimulus t. let within = t.within in absurd (omega (arith, long, within));
 }))
+
+of_texts : (texts : List ℕ → Option (List ℕ)) (circuit stimulus text given : List ℕ) → texts circuit ≡ Some text → length text ≤ circuit_limit → texts stimulus ≡ Some given
+    → (s : ℕ) (b : List ℕ) → SettlesTexts Run text given s b → SettlesAsked texts (Of_two circuit stimulus) s b
+of_texts texts circuit stimulus text given held short told s b settles = record {
+  answers = of_two circuit stimulus text given s b held short told settles.judges;
+  served = λ other k m. subst (λ y. IsServed Run y) (some_same text other (sym held ∙ k)) settles.served;
+}
+
+pub settled_texts : (texts : List ℕ → Option (List ℕ)) (circuit stimulus text given : List ℕ) (d : Decision) → texts circuit ≡ Some text → length text ≤ circuit_limit
+    → texts stimulus ≡ Some given → Gives (SettlesTexts Run text given) d → Gives (SettlesAsked texts (Of_two circuit stimulus)) d
+settled_texts texts circuit stimulus text given (decision.Say reply) held short told s = of_texts texts circuit stimulus text given held short told _ _ s
+settled_texts texts circuit stimulus text given (decision.Run built settings) held short told s = λ bytes t. of_texts texts circuit stimulus text given held short told _ _ (s bytes t)
+
+pub settled_circuit : (texts : List ℕ → Option (List ℕ)) (circuit stimulus text : List ℕ) (s : ℕ) (b : List ℕ) → texts circuit ≡ Some text → circuit_limit < length text → s ≡ 2
+    → b ≡ whole_bytes TooLong first_place → SettlesAsked texts (Of_two circuit stimulus) s b
+settled_circuit texts circuit stimulus text s b held long two e = rw (two, e) (record {
+  answers = of_long_circuit circuit stimulus text held long;
+  served = λ other k m. let same : length text ≡ length other = ap length (some_same text other (sym held ∙ k)) in absurd (omega (arith, long, m, same));
+})
+
+-- and for words
+pub settled_usage : (words : List (List ℕ)) (texts : List ℕ → Option (List ℕ)) (b : List ℕ) → asked_by words ≡ None → b ≡ codes "usage\n" → IsSettled words texts 1 b
+settled_usage words texts b none e = rw e (record {
+  answers = no_command words texts none;
+  served = λ question asked. absurd (no_reading words question none asked);
+})
+
+of_words : (words : List (List ℕ)) (texts : List ℕ → Option (List ℕ)) (question : Question) → asked_by words ≡ Some question → (s : ℕ) (b : List ℕ) → SettlesAsked texts question s b
+    → IsSettled words texts s b
+of_words words texts question asked s b settles = record {
+  answers = answered words texts question s b asked settles.answers;
+  served = λ other read. subst (λ q. IsServedFor texts q) (some_same question other (sym asked ∙ read)) settles.served;
+}
+
+pub settled_words : (words : List (List ℕ)) (texts : List ℕ → Option (List ℕ)) (question : Question) (d : Decision) → asked_by words ≡ Some question
+    → Gives (SettlesAsked texts question) d → Gives (IsSettled words texts) d
+settled_words words texts question (decision.Say reply) asked s = of_words words texts question asked _ _ s
+settled_words words texts question (decision.Run built settings) asked s = λ bytes t. of_words words texts question asked _ _ (s bytes t)
 
 -- what was appended
 appended : (old new : Option (List ℕ)) (before xs : List ℕ) → old ≡ Some before → Appends old new xs → new ≡ Some (before ++ xs)
@@ -215,11 +260,24 @@ ends_wanting words texts before new e = record {
 }
 
 -- where the text isn't held there is no answer
-pub unheld_unanswered : (words : List (List ℕ)) (texts : List ℕ → Option (List ℕ)) (name : List ℕ) (s : ℕ) (b : List ℕ) → Needs words name → texts name ≡ None
-    → Answers words texts s b → ⊥
-unheld_unanswered words texts name _ _ needs none (no_command _ _ e) = let f : None ≡ Some needs.command = sym e ∙ needs.reads in cc
-unheld_unanswered words texts name s b needs none (judged _ _ command joined _ _ e t j) =
-    let f : None ≡ Some joined = sym none ∙ ap texts needs.input ∙ t in cc
+unheld_asked : (texts : List ℕ → Option (List ℕ)) (held : Option (List ℕ → Option (List ℕ))) (question : Question) (name : List ℕ) (s : ℕ) (b : List ℕ) → held ≡ Some texts
+    → NeedsFor held question name → texts name ≡ None → AnswersTo texts question s b → ⊥
+unheld_asked texts held (Of_joined command name) _ s b told (the_joined _ _) none (of_joined _ _ joined _ _ h j) = let f : None ≡ Some joined = sym none ∙ h in cc
+unheld_asked texts held (Of_two circuit stimulus) _ _ _ told (the_circuit _ _) none (of_long_circuit _ _ text h l) = let f : None ≡ Some text = sym none ∙ h in cc
+unheld_asked texts held (Of_two circuit stimulus) _ s b told (the_circuit _ _) none (of_two _ _ text given _ _ h l g j) = let f : None ≡ Some text = sym none ∙ h in cc
+unheld_asked texts held (Of_two circuit stimulus) _ _ _ told (the_stimulus _ _ short) none (of_long_circuit _ _ text h l) =
+    let le = short texts text told h in omega (arith, l, le)
+unheld_asked texts held (Of_two circuit stimulus) _ s b told (the_stimulus _ _ short) none (of_two _ _ text given _ _ h l g j) = let f : None ≡ Some given = sym none ∙ g in cc
+
+pub unheld_unanswered : (words : List (List ℕ)) (texts : List ℕ → Option (List ℕ)) (held : Option (List ℕ → Option (List ℕ))) (name : List ℕ) (s : ℕ) (b : List ℕ) → held ≡ Some texts
+    → Needs words held name → texts name ≡ None → Answers words texts s b → ⊥
+unheld_unanswered words texts held name _ _ told needs none (no_command _ _ e) = no_reading words needs.question e needs.asked
+unheld_unanswered words texts held name s b told needs none (answered _ _ question _ _ e a) =
+    unheld_asked texts held question name s b told (subst (λ q. NeedsFor held q name) (some_same needs.question question (sym needs.asked ∙ e)) needs.needs) none a
+
+-- a count that rose behind another call rose
+pub rose_behind : (old between new : ℕ) → old ≤ between → Rose between new → Rose old new
+rose_behind old between new le rose = ⊎_elim (λ lt. inl (omega (arith, le, lt))) (λ last. inr last) rose
 
 -- how a run ended
 pub run_whole : (bytes : List ℕ) (old new : Option (List ℕ)) → Appends old new bytes → IsRun 0 bytes old new
@@ -231,3 +289,10 @@ run_cut result bytes old new status part = record {
   all = λ zero. absurd (⊎_elim (λ five. omega (arith, zero, five)) (λ six. omega (arith, zero, six)) status);
   part = λ n. part;
 }
+
+-- where the sink didn't fail, a reply was written
+pub said_complete : (status result : ℕ) (Failed : Type 0) → status ≤ 3 → (result ≢ status → Failed) → (Failed → ⊥) → (result ≤ 3) ⊎ (result ≡ 6)
+said_complete status result Failed few rose kept = ⊎_elim (λ same. inl (omega (arith, few, same))) (λ n. absurd (kept (rose n))) (cases_eq result status)
+
+pub err_same : {A E : Type 0} (x y : E) → ◌≡◌ {A = Result A E} (Err x) (Err y) → x ≡ y
+err_same x y e = cc e

@@ -1,8 +1,8 @@
 -- A joined text is split in one way.
 use Rattle.std.proofs.Common.{◌≡◌, ℕ, ◌≤◌, false, true, List, ⊎_elim, drop, take, refl, sym, ap, ◌∙◌, subst, arith, lt_of_not-le}
 use native.Mathlib.Decide.{dec_le}
-use Rattle.sim_top.specs.declared.command.Command.TheVariants.{Run}
-use Rattle.sim_top.specs.declared.command.Command.{Command}
+use Rattle.sim_top.specs.declared.words.Command.TheVariants.{Run}
+use Rattle.sim_top.specs.declared.words.Command.{Command}
 use Rattle.sim_top.specs.StimulusLine.{IsStimulusLine, StandsAt, NoneBefore, HasNone, IsSplit}
 use Rattle.sim_top.specs.Answers.{IsPart, before_line, all_of_it}
 

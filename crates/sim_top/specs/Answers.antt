@@ -1,6 +1,5 @@
 -- What the program is to answer: a status and the bytes that are written.
-use Rattle.std.specs.Prelude.{◌≡◌, ℕ, ◌<◌, ◌≤◌, Bool, true, false, List, [], ◌∷◌, length, Option, Some, None, if◌then◌else◌, codes}
-use Rattle.std.specs.Str.{bytes_eq}
+use Rattle.std.specs.Prelude.{◌≡◌, ℕ, ◌<◌, ◌≤◌, Bool, true, false, List, [], length, Option, Some, None, codes}
 use Rattle.place_text.specs.Places.{fault_line_bytes, first_place}
 use Rattle.place_text.specs.declared.place.Place.{Place}
 use Rattle.place_text.specs.declared.place.TextPart.TheVariants.{Circuit as Circuit_part, Stimulus as Stimulus_part}
@@ -19,27 +18,12 @@ use Rattle.trace_print.specs.Listing.{listing_of}
 use Rattle.sim_engine.specs.Stages.{circuit_limit, IsAccepted, IsFirstFault}
 use Rattle.sim_engine.specs.Faults.{kind_name, fault_place}
 use Rattle.sim_engine.specs.declared.fault.CircuitFault.{CircuitFault}
-use Rattle.sim_top.specs.declared.command.Command.{Command}
-use Rattle.sim_top.specs.declared.command.Command.TheVariants.{Run, Check, Widths}
+use Rattle.sim_top.specs.declared.words.Command.{Command}
+use Rattle.sim_top.specs.declared.words.Command.TheVariants.{Run, Check, Widths}
 use Rattle.sim_top.specs.declared.fault.WholeFault.{WholeFault}
 use Rattle.sim_top.specs.declared.fault.WholeFault.TheVariants.{TooLong, NoStimulus}
+use Rattle.sim_top.specs.Questions.{Question, Of_joined, Of_two, asked_by}
 use Rattle.sim_top.specs.StimulusLine.{IsSplit, HasNone}
-
--- The words: a command by itself, or a command and `-`, which is standard input.
-abbrev pub named_command : List ℕ → Option Command
-named_command word =
-    if bytes_eq word (codes "run") then Some Run
-    else (if bytes_eq word (codes "check") then Some Check else (if bytes_eq word (codes "widths") then Some Widths else None))
-
-abbrev pub command_of : List (List ℕ) → Option Command
-command_of [] = None
-command_of (word ∷ []) = named_command word
-command_of (word ∷ name ∷ []) = if bytes_eq name (codes "-") then named_command word else None
-command_of (word ∷ name ∷ more ∷ rest) = None
-
--- standard input's name
-abbrev pub input_name : List ℕ
-input_name = codes "-"
 
 -- the names of faults of a text as a whole
 abbrev pub whole_name : WholeFault → List ℕ
@@ -112,14 +96,17 @@ pub data Judges : Command → List ℕ → ℕ → List ℕ → Type 0 where
   taken : (command : Command) (joined circuit stimulus : List ℕ) (status : ℕ) (bytes : List ℕ) → IsTaken command joined circuit stimulus
       → JudgesTexts command circuit stimulus status bytes → Judges command joined status bytes
 
--- The answer to a command line, where the texts that it needs are held.
-pub data Answers : List (List ℕ) → (List ℕ → Option (List ℕ)) → ℕ → List ℕ → Type 0 where
-  no_command : (words : List (List ℕ)) (texts : List ℕ → Option (List ℕ)) → command_of words ≡ None → Answers words texts 1 (codes "usage\n")
-  judged : (words : List (List ℕ)) (texts : List ℕ → Option (List ℕ)) (command : Command) (joined : List ℕ) (status : ℕ) (bytes : List ℕ)
-      → command_of words ≡ Some command → texts input_name ≡ Some joined → Judges command joined status bytes → Answers words texts status bytes
+-- The answer to a question, where the texts that it needs are held. Of two texts the circuit's is judged as a whole: no line is looked for in it.
+pub data AnswersTo (texts : List ℕ → Option (List ℕ)) : Question → ℕ → List ℕ → Type 0 where
+  of_joined : (command : Command) (name joined : List ℕ) (status : ℕ) (bytes : List ℕ) → texts name ≡ Some joined → Judges command joined status bytes
+      → AnswersTo texts (Of_joined command name) status bytes
+  of_long_circuit : (circuit stimulus text : List ℕ) → texts circuit ≡ Some text → circuit_limit < length text
+      → AnswersTo texts (Of_two circuit stimulus) 2 (whole_bytes TooLong first_place)
+  of_two : (circuit stimulus text given : List ℕ) (status : ℕ) (bytes : List ℕ) → texts circuit ≡ Some text → length text ≤ circuit_limit
+      → texts stimulus ≡ Some given → JudgesTexts Run text given status bytes → AnswersTo texts (Of_two circuit stimulus) status bytes
 
--- whether the answer needs the text of this name
-pub record Needs (words : List (List ℕ)) (name : List ℕ) : Type 0 where
-  pub command : Command
-  pub reads : command_of words ≡ Some command
-  pub input : name ≡ input_name
+-- The answer to a command line.
+pub data Answers : List (List ℕ) → (List ℕ → Option (List ℕ)) → ℕ → List ℕ → Type 0 where
+  no_command : (words : List (List ℕ)) (texts : List ℕ → Option (List ℕ)) → asked_by words ≡ None → Answers words texts 1 (codes "usage\n")
+  answered : (words : List (List ℕ)) (texts : List ℕ → Option (List ℕ)) (question : Question) (status : ℕ) (bytes : List ℕ)
+      → asked_by words ≡ Some question → AnswersTo texts question status bytes → Answers words texts status bytes

@@ -1,6 +1,6 @@
-//! What a command answers to the text of standard input.
+//! What a command answers to texts.
 
-ghost use Rattle.std.specs.Prelude.{◌≡◌, ℕ, List, ◌≤◌, length, IfOk, Some, codes};
+ghost use Rattle.std.specs.Prelude.{◌≡◌, ℕ, List, ◌<◌, ◌≤◌, length, IfOk, Some, codes};
 ghost use Rattle.place_text.specs.Places.{first_place};
 ghost use Rattle.place_text.specs.declared.place.Place.{Place as APlace};
 ghost use Rattle.trace_print.specs.Listing.{listing_of};
@@ -8,13 +8,14 @@ ghost use Rattle.sim_engine.specs.Stages.{circuit_limit};
 ghost use Rattle.sim_engine.specs.Building.{IsBuilt};
 ghost use Rattle.sim_engine.specs.Faults.{fault_place};
 ghost use Rattle.stimulus.specs.Faults.{place_of};
-ghost use Rattle.sim_top.specs.Answers.{fault_bytes, whole_bytes, stimulus_bytes, whole_stimulus_bytes, joined_limit, IsPart};
+ghost use Rattle.sim_top.specs.Answers.{fault_bytes, whole_bytes, stimulus_bytes, whole_stimulus_bytes, joined_limit, stimulus_limit, IsPart};
+ghost use Rattle.sim_top.specs.Endings.{IsFaultLine};
 ghost use Rattle.sim_top.specs.Serving.{SettlesTexts, Settles};
 ghost use Rattle.sim_top.specs.Decisions.{Gives, CanRun};
 
-use crate::command::Command;
 use crate::fault::WholeFault;
 use crate::split::split;
+use crate::words::Command;
 use fault_order::Fault;
 use fir_tree::Fitted;
 use place_text::{Place, TextPart, fault_line};
@@ -24,10 +25,10 @@ use stimulus::{StimFault, Stimulus, read_stimulus};
 use trace_print::widths_text;
 
 /// The greatest length of a stimulus's text in bytes.
-const STIMULUS_LIMIT: usize = 4_194_304;
+pub const STIMULUS_LIMIT: usize = 4_194_304;
 
 /// The place of a fault of a text as a whole.
-pub const FRONT: Place = Place { line: 1, column: 1 };
+const FRONT: Place = Place { line: 1, column: 1 };
 
 /// What is to be done: a reply is said, or a circuit is run under a stimulus.
 #[derive(Drop)]
@@ -43,7 +44,7 @@ pub struct Reply {
     pub bytes: Vec<u8>,
 }
 
-/// What the command answers to a text within the limit.
+/// What the command answers to a joined text within its limit.
 pub fn judge(alloc: Global, command: Command, text: &[u8]) -> Result<Decision, AllocError>
     requires { length text.now ≤ joined_limit }
     ensures settles { IfOk result (Gives (Settles command text.now)) }
@@ -86,7 +87,7 @@ fn judge_part(
 }
 
 /// What the command answers to a circuit's text, within its limit, and to a stimulus's text.
-fn judge_texts(
+pub fn judge_texts(
     alloc: Global,
     command: Command,
     circuit: &[u8],
@@ -102,6 +103,18 @@ fn judge_texts(
             let reply = refuse(alloc, &fault)?;
             Ok(Decision::Say(reply))
         }
+    }
+}
+
+/// What `run` answers to a circuit's text, within its limit, under a stimulus's text that is longer than its own.
+pub fn judge_under_long(alloc: Global, circuit: &[u8]) -> Result<Reply, AllocError>
+    requires { length circuit.now ≤ circuit_limit }
+    ensures settles { IfOk result (λ r. (stimulus : List ℕ) → stimulus_limit < length stimulus → SettlesTexts Command.Run circuit.now stimulus r.status r.bytes.items) }
+    ensures line { IfOk result (λ r. IsFaultLine r.status r.bytes.items) }
+{
+    match compile_text(alloc, circuit) {
+        Ok(_built) => Ok(refuse_long_stimulus(alloc)?),
+        Err(fault) => Ok(refuse(alloc, &fault)?),
     }
 }
 

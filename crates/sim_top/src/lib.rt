@@ -4,12 +4,13 @@
 //! to be run under which stimulus, is decided before anything is written.
 #![tactic(auto)]
 
-mod command;
 pub mod example;
 mod fault;
 mod judge;
 pub mod laws;
 mod split;
+mod texts;
 mod top;
+mod words;
 
 pub use top::run_program;

@@ -4,22 +4,20 @@ ghost use Rattle.std.specs.Prelude.{◌≡◌, ◌≢◌, ℕ, ◌≤◌, ◌⊎
 ghost use Rattle.shelf_io.specs.Outside.{Rose};
 ghost use Rattle.fir_meaning.specs.Components.{design_of};
 ghost use Rattle.circuit_run.specs.Traces.{IsTraceText};
-ghost use Rattle.sim_top.specs.Answers.{command_of, Needs, Answers};
+ghost use Rattle.sim_top.specs.Questions.{asked_by, Needs};
+ghost use Rattle.sim_top.specs.Answers.{Answers};
 ghost use Rattle.sim_top.specs.Endings.{Ends, IsSaid, IsRun, IsFaultLine};
 ghost use Rattle.sim_top.specs.Serving.{IsSettled};
 ghost use Rattle.sim_top.specs.Decisions.{Gives, IsReady, IsRunnable, status_of};
 
-use crate::command::read_words;
-use crate::fault::WholeFault;
-use crate::judge::{Decision, Reply, judge, refuse_whole};
+use crate::judge::{Decision, Reply};
+use crate::texts::{decide_joined, decide_two};
+use crate::words::{Asked, read_question};
 use circuit_run::{RunFault, simulate};
-use shelf_io::{Shelf, Sink, TakeFault, put_all, take_text};
+use shelf_io::{Shelf, Sink, TakeFault, put_all};
 use sim_engine::Built;
 use std::alloc::{AllocError, Global};
 use stimulus::Stimulus;
-
-/// The greatest length of a joined text in bytes.
-pub const JOINED_LIMIT: usize = 5_242_880;
 
 /// Reads the texts that the words name from the shelf, writes the answer to the sink, and gives the status: 0 where the
 /// texts are accepted, 1 where the words are no command, 2 where the circuit has a fault, 3 where the stimulus has one,
@@ -35,9 +33,9 @@ pub fn run_program<H: Shelf, K: Sink>(
         → Ends (map string_bytes words.now) texts result before (K.written sink.new) }
 
     // Over every shelf and sink:
-    ensures usage { result ≡ 1 → command_of (map string_bytes words.now) ≡ None }
-    ensures no_command { command_of (map string_bytes words.now) ≡ None → (result ≡ 1) ⊎ (result ≡ 5) ⊎ (result ≡ 6) }
-    ensures shelf_fault { result ≡ 4 → (name : List ℕ) × Needs (map string_bytes words.now) name × Rose (H.faults shelf.old name) (H.faults shelf.new name) }
+    ensures usage { result ≡ 1 → asked_by (map string_bytes words.now) ≡ None }
+    ensures no_command { asked_by (map string_bytes words.now) ≡ None → (result ≡ 1) ⊎ (result ≡ 5) ⊎ (result ≡ 6) }
+    ensures shelf_fault { result ≡ 4 → (name : List ℕ) × Needs (map string_bytes words.now) (H.held shelf.old) name × Rose (H.faults shelf.old name) (H.faults shelf.new name) }
     ensures sink_fault { result ≡ 5 → Rose (K.faults sink.old) (K.faults sink.new) }
     ensures few { result ≤ 6 }
     // Where the shelf failed, the sink was left alone.
@@ -51,10 +49,10 @@ pub fn run_program<H: Shelf, K: Sink>(
     ensures answered { (texts : List ℕ → Option (List ℕ)) → H.held shelf.old ≡ Some texts → result ≤ 3 → (bytes : List ℕ) × Answers (map string_bytes words.now) texts result bytes }
 
     // Where no count of a needed name and not the sink's rose, the answer is the definition's, or memory was wanted.
-    ensures complete { ((name : List ℕ) → Needs (map string_bytes words.now) name → Rose (H.faults shelf.old name) (H.faults shelf.new name) → ⊥)
+    ensures complete { ((name : List ℕ) → Needs (map string_bytes words.now) (H.held shelf.old) name → Rose (H.faults shelf.old name) (H.faults shelf.new name) → ⊥)
         → (Rose (K.faults sink.old) (K.faults sink.new) → ⊥) → (result ≤ 3) ⊎ (result ≡ 6) }
     // Where a needed text isn't held, the shelf failed or memory was wanted.
-    ensures unheld { (texts : List ℕ → Option (List ℕ)) (name : List ℕ) → H.held shelf.old ≡ Some texts → Needs (map string_bytes words.now) name → texts name ≡ None
+    ensures unheld { (texts : List ℕ → Option (List ℕ)) (name : List ℕ) → H.held shelf.old ≡ Some texts → Needs (map string_bytes words.now) (H.held shelf.old) name → texts name ≡ None
         → (result ≡ 4) ⊎ (result ≡ 6) }
 {
     match decide(alloc, words, shelf) {
@@ -73,23 +71,19 @@ fn decide<H: Shelf>(
 ) -> Result<Decision, TakeFault>
     ensures settled { IfOk result (λ d. (texts : List ℕ → Option (List ℕ)) → H.held shelf.old ≡ Some texts → Gives (IsSettled (map string_bytes words.now) texts) d) }
     ensures ready { IfOk result IsReady }
-    ensures usage { IfOk result (λ d. status_of d ≡ 1 → command_of (map string_bytes words.now) ≡ None) }
-    ensures no_command { command_of (map string_bytes words.now) ≡ None → IfOk result (λ d. status_of d ≡ 1) }
-    ensures no_fault { command_of (map string_bytes words.now) ≡ None → IfErr result (λ f. f ≡ TakeFault.NoMemory) }
-    ensures fault { result ≡ Err TakeFault.ReadFault → (name : List ℕ) × Needs (map string_bytes words.now) name × Rose (H.faults shelf.old name) (H.faults shelf.new name) }
+    ensures usage { IfOk result (λ d. status_of d ≡ 1 → asked_by (map string_bytes words.now) ≡ None) }
+    ensures no_command { asked_by (map string_bytes words.now) ≡ None → IfOk result (λ d. status_of d ≡ 1) }
+    ensures no_fault { asked_by (map string_bytes words.now) ≡ None → IfErr result (λ f. f ≡ TakeFault.NoMemory) }
+    ensures fault { result ≡ Err TakeFault.ReadFault → (name : List ℕ) × Needs (map string_bytes words.now) (H.held shelf.old) name × Rose (H.faults shelf.old name) (H.faults shelf.new name) }
     ensures short { result ≢ Err TakeFault.TooLong }
 {
-    let Some(command) = read_words(words) else {
+    let Some(asked) = read_question(alloc, words)? else {
         let bytes = Vec::from_slice(alloc, b"usage\n")?;
         return Ok(Decision::Say(Reply { status: 1, bytes }));
     };
-    match take_text(alloc, shelf, "-", JOINED_LIMIT) {
-        Ok(text) => Ok(judge(alloc, command, &text)?),
-        Err(TakeFault::TooLong) => {
-            let reply = refuse_whole(alloc, WholeFault::TooLong)?;
-            Ok(Decision::Say(reply))
-        }
-        Err(fault) => Err(fault),
+    match asked {
+        Asked::Joined(command, name) => decide_joined(alloc, command, name, shelf),
+        Asked::Two(circuit, stimulus) => decide_two(alloc, circuit, stimulus, shelf),
     }
 }
 

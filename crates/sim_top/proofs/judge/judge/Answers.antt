@@ -1,5 +1,5 @@
 use Rattle.std.proofs.Common.{refl}
-use Rattle.sim_top.specs.declared.command.Command.TheVariants.{Run, Check, Widths}
+use Rattle.sim_top.specs.declared.words.Command.TheVariants.{Run, Check, Widths}
 use Rattle.sim_top.specs.Answers.{before_line, all_of_it}
 use Rattle.sim_top.proofs.Judging.{lacks_line}
 use Rattle.sim_top.proofs.judge.judge.Goals as goal

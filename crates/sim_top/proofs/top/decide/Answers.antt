@@ -1,28 +1,31 @@
-use Rattle.std.proofs.Common.{ap, sym, ◌∙◌, Err}
-use Rattle.sim_top.specs.declared.fault.WholeFault.TheVariants.{TooLong}
-use Rattle.sim_top.proofs.Replying.{ready_decision, no_usage, whole_ready, settled_usage, settled_words, settled_long}
+use Rattle.std.proofs.Common.{ap, sym, ◌∙◌, Some, option_map}
+use Rattle.std.proofs.lemmas.Result.{IfOk-weaker}
+use Rattle.sim_top.specs.Asking.{question}
+use Rattle.sim_top.specs.Questions.{the_joined}
+use Rattle.sim_top.proofs.Replying.{settled_usage, settled_words}
 use Rattle.sim_top.proofs.top.decide.Goals as goal
 
 pub returns-in_default-clause-settled : goal.returns-in_default-clause-settled
-returns-in_default-clause-settled g c = λ texts held. settled_usage _ texts _ (sym c.read_words.ensures ∙ c.in_default.is) c.in_ok-bytes.ensures.items
+returns-in_default-clause-settled g c = λ texts held.
+    settled_usage _ texts _ (sym c.in_ok-asked.ensures ∙ ap (option_map question) c.in_default.is) c.in_ok-bytes.ensures.items
 
-pub returns-in_ok-judge-in-Ok-clause-settled : goal.returns-in_ok-judge-in-Ok-clause-settled
-returns-in_ok-judge-in-Ok-clause-settled g c = λ texts held.
-    settled_words _ texts c.in-Some.command c.in-Ok.text.items _ (sym c.read_words.ensures ∙ c.in-Some.is) (c.in-Ok.ensures.text texts held)
-    (rw c.deref.ensures.value at c.in_ok-judge-in-Ok.ensures.settles)
+pub returns-in-Joined-clause-settled : goal.returns-in-Joined-clause-settled
+returns-in-Joined-clause-settled g c =
+    let asked = sym c.in_ok-asked.ensures ∙ ap (option_map question) (c.in-Some.is ∙ ap Some c.in-Joined.is) in
+    IfOk-weaker c.decide_joined.result _ _ (λ d h. λ texts held. settled_words _ texts _ d asked (h texts held)) c.decide_joined.ensures.settled
 
-pub returns-in_ok-judge-in-Ok-clause-ready : goal.returns-in_ok-judge-in-Ok-clause-ready
-returns-in_ok-judge-in-Ok-clause-ready g c = ready_decision _ _ _ c.in_ok-judge-in-Ok.ensures.settles c.in_ok-judge-in-Ok.ensures.runs
+pub returns-in-Joined-clause-fault : goal.returns-in-Joined-clause-fault
+returns-in-Joined-clause-fault g c = λ e.
+    let asked = sym c.in_ok-asked.ensures ∙ ap (option_map question) (c.in-Some.is ∙ ap Some c.in-Joined.is) in
+    (_, record { question = _; asked = asked; needs = the_joined _ _ }, c.decide_joined.ensures.fault e)
 
-pub returns-in_ok-judge-in-Ok-clause-usage : goal.returns-in_ok-judge-in-Ok-clause-usage
-returns-in_ok-judge-in-Ok-clause-usage g c = λ one. absurd (no_usage _ _ _ c.in_ok-judge-in-Ok.ensures.settles one)
+pub returns-in-Two-clause-settled : goal.returns-in-Two-clause-settled
+returns-in-Two-clause-settled g c =
+    let asked = sym c.in_ok-asked.ensures ∙ ap (option_map question) (c.in-Some.is ∙ ap Some c.in-Two.is) in
+    IfOk-weaker c.decide_two.result _ _ (λ d h. λ texts held. settled_words _ texts _ d asked (h texts held)) c.decide_two.ensures.settled
 
-pub returns-in_ok-reply-in-Err-TooLong-clause-settled : goal.returns-in_ok-reply-in-Err-TooLong-clause-settled
-returns-in_ok-reply-in-Err-TooLong-clause-settled g c = λ texts held.
-    let long = c.in-Err-TooLong.ensures.too_long (ap Err c.in-Err-TooLong.field-0-is) texts held in
-    settled_long _ texts c.in-Some.command long.0 _ _ (sym c.read_words.ensures ∙ c.in-Some.is) long.1 long.2
-    c.in_ok-reply-in-Err-TooLong.ensures.0 c.in_ok-reply-in-Err-TooLong.ensures.1
-
-pub returns-in_ok-reply-in-Err-TooLong-clause-ready : goal.returns-in_ok-reply-in-Err-TooLong-clause-ready
-returns-in_ok-reply-in-Err-TooLong-clause-ready g c =
-    whole_ready _ _ TooLong c.in_ok-reply-in-Err-TooLong.ensures.0 c.in_ok-reply-in-Err-TooLong.ensures.1
+pub returns-in-Two-clause-fault : goal.returns-in-Two-clause-fault
+returns-in-Two-clause-fault g c = λ e.
+    let asked = sym c.in_ok-asked.ensures ∙ ap (option_map question) (c.in-Some.is ∙ ap Some c.in-Two.is) in
+    let told = c.decide_two.ensures.fault e in
+    (told.0, record { question = _; asked = asked; needs = told.1 }, told.2)

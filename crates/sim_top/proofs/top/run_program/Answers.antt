@@ -1,4 +1,4 @@
-use Rattle.sim_top.proofs.Replying.{ends_said, ends_run, ends_wanting, reply_few, run_answered, unheld_unanswered}
+use Rattle.sim_top.proofs.Replying.{ends_said, ends_run, ends_wanting, reply_few, run_answered, unheld_unanswered, said_untouched, said_complete}
 use Rattle.sim_top.proofs.top.run_program.Goals as goal
 
 pub returns-in-Ok-Say-clause-ends : goal.returns-in-Ok-Say-clause-ends
@@ -19,7 +19,20 @@ pub returns-in-Ok-Run-clause-unheld : goal.returns-in-Ok-Run-clause-unheld
 returns-in-Ok-Run-clause-unheld g c = λ texts name held needs none.
     let ran = c.run.ensures.ran in
     let settled = (rw c.in-Ok-Run.field-0-is at c.in-Ok-Run.ensures.settled texts held) ran.0 ran.1 in
-    absurd (unheld_unanswered _ texts name _ _ needs none settled.answers)
+    absurd (unheld_unanswered _ texts _ name _ _ held needs none settled.answers)
 
 pub returns-in-Err-NoMemory-clause-ends : goal.returns-in-Err-NoMemory-clause-ends
 returns-in-Err-NoMemory-clause-ends g c = λ texts before held written. ends_wanting _ texts before _ written
+
+pub returns-in-Ok-Say-clause-unheld : goal.returns-in-Ok-Say-clause-unheld
+returns-in-Ok-Say-clause-unheld g c = λ texts name held needs none.
+    let settled = rw c.in-Ok-Say.field-0-is at c.in-Ok-Say.ensures.settled texts held in
+    absurd (unheld_unanswered _ texts _ name _ _ held needs none settled.answers)
+
+pub returns-in-Ok-Say-clause-shelf_fault : goal.returns-in-Ok-Say-clause-shelf_fault
+returns-in-Ok-Say-clause-shelf_fault g c = λ four.
+    absurd (said_untouched _ _ _ _ _ (reply_few _ _ (rw c.in-Ok-Say.field-0-is at c.in-Ok-Say.ensures.ready)) c.say.ensures.said four)
+
+pub returns-in-Ok-Say-clause-complete : goal.returns-in-Ok-Say-clause-complete
+returns-in-Ok-Say-clause-complete g c = λ held kept.
+    said_complete _ _ _ (reply_few _ _ (rw c.in-Ok-Say.field-0-is at c.in-Ok-Say.ensures.ready)) c.say.ensures.rose kept

@@ -1,0 +1,43 @@
+-- What a command line asks for.
+use Rattle.std.specs.Prelude.{◌≡◌, ℕ, ◌≤◌, List, length, Option, Some, None}
+use Rattle.command_words.specs.Commands.{Request, Run as Run_asked, Check as Check_asked, Widths as Widths_asked, Cut as Cut_asked, Make as Make_asked, command_of}
+use Rattle.sim_engine.specs.Stages.{circuit_limit}
+use Rattle.sim_top.specs.declared.words.Command.{Command}
+use Rattle.sim_top.specs.declared.words.Command.TheVariants.{Run, Check, Widths}
+
+-- A command on a joined text of a name, or a run of two texts.
+pub data Question : Type 0 where
+  Of_joined : (command : Command) (name : List ℕ) → Question
+  Of_two : (circuit stimulus : List ℕ) → Question
+
+-- A run of a name alone is one of a joined text.
+abbrev pub run_question : List ℕ → Option (List ℕ) → Option Question
+run_question circuit None = Some (Of_joined Run circuit)
+run_question circuit (Some stimulus) = Some (Of_two circuit stimulus)
+
+-- The question of a request. `cut` and `make` are no commands yet.
+abbrev pub question_of : Option Request → Option Question
+question_of (Some (Run_asked workers circuit stimulus)) = run_question circuit stimulus
+question_of (Some (Check_asked circuit)) = Some (Of_joined Check circuit)
+question_of (Some (Widths_asked circuit)) = Some (Of_joined Widths circuit)
+question_of (Some (Cut_asked workers circuit)) = None
+question_of (Some (Make_asked workers cycles size)) = None
+question_of None = None
+
+abbrev pub asked_by : List (List ℕ) → Option Question
+asked_by words = question_of (command_of words)
+
+-- The texts that the answer to a question needs, where these texts are held, or it isn't told what is held: all that it names. The stimulus isn't
+-- needed where the circuit's text is told and too long.
+pub data NeedsFor (held : Option (List ℕ → Option (List ℕ))) : Question → List ℕ → Type 0 where
+  the_joined : (command : Command) (name : List ℕ) → NeedsFor held (Of_joined command name) name
+  the_circuit : (circuit stimulus : List ℕ) → NeedsFor held (Of_two circuit stimulus) circuit
+  the_stimulus : (circuit stimulus : List ℕ)
+      → ((texts : List ℕ → Option (List ℕ)) (text : List ℕ) → held ≡ Some texts → texts circuit ≡ Some text → length text ≤ circuit_limit)
+      → NeedsFor held (Of_two circuit stimulus) stimulus
+
+-- whether the answer to a command line needs the text of this name
+pub record Needs (words : List (List ℕ)) (held : Option (List ℕ → Option (List ℕ))) (name : List ℕ) : Type 0 where
+  pub question : Question
+  pub asked : asked_by words ≡ Some question
+  pub needs : NeedsFor held question name
