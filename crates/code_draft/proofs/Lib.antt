@@ -1,0 +1,4 @@
+pub mod Growing
+pub mod Cuts
+pub mod Fetches
+pub mod Widened
