@@ -2,3 +2,5 @@ pub mod Growing
 pub mod Cuts
 pub mod Fetches
 pub mod Widened
+pub mod Alone
+pub mod Held

@@ -1,6 +1,6 @@
 //! Single steps of growing.
 
-ghost use Rattle.std.specs.Prelude.{◌≡◌, ◌×◌, ◌≤◌, ◌<◌, ◌+◌, ◌++◌, [], ◌∷◌, ◌^◌, length, IfOk, OnOk};
+ghost use Rattle.std.specs.Prelude.{◌≡◌, ◌≤◌, ◌<◌, ◌+◌, ◌++◌, [], ◌∷◌, ◌^◌, length, IfOk, OnOk};
 ghost use Rattle.flat_code.specs.Fine.{further_words};
 ghost use Rattle.code_draft.specs.Drafts.{with_instr, with_wide, with_slots, spot_from};
 

@@ -1,0 +1,3 @@
+pub mod Rowing
+pub mod Shaped
+pub mod Emitting
