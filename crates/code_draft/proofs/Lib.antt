@@ -4,3 +4,4 @@ pub mod Fetches
 pub mod Widened
 pub mod Alone
 pub mod Held
+pub mod Running

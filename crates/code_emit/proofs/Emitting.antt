@@ -1,9 +1,10 @@
 -- Emitted code has the values of its expressions.
-use Rattle.std.proofs.Common.{◌≡◌, ℕ, zero, suc, ◌+◌, ◌*◌, ◌<◌, ◌≤◌, Bool, true, false, min, nat_lt, List, [], ◌∷◌, ◌++◌, map, length, get_or, slice_get, slice_index, ◌^◌, Option, Some, None, option_map, option_and_then, refl, sym, subst, ap, ap₂, ◌∙◌, arith, All, pos, if◌then◌else◌}
+use Rattle.std.proofs.Common.{◌≡◌, ℕ, zero, suc, ◌+◌, ◌*◌, ◌<◌, ◌≤◌, Bool, true, false, min, nat_lt, List, [], ◌∷◌, ◌++◌, map, length, get_or, slice_get, slice_index, ◌^◌, Option, Some, None, option_map, option_and_then, refl, sym, subst, ap, ap₂, ◌∙◌, arith, All, pos, if◌then◌else◌, ◌&&◌, true≢false}
 use Rattle.std.specs.Prelude.{IsSome}
 use Rattle.std.proofs.lemmas.List.{map-append, length-append}
 use Rattle.std.proofs.lemmas.List.Elements.{All-push, All-append}
 use Rattle.bit_words.specs.declared.value.Kind.{Kind}
+use Rattle.bit_words.specs.declared.value.Kind.TheVariants.{Unsigned, Signed}
 use Rattle.bit_words.specs.declared.value.Value.{Value}
 use Rattle.bit_words.specs.Values.{integer_of}
 use Rattle.cycle_values.specs.Values.{fitted, lone, operation, is_one}
@@ -12,9 +13,9 @@ use Rattle.ground_net.specs.declared.ground.Ground.TheVariants.{Const, Leaf, Op,
 use Rattle.ground_net.specs.Grounds.{Sight, value, chosen, selected, loaded}
 use Rattle.ground_net.proofs.Layers.{value-Const, value-Leaf, value-Op, value-Mux, value-Select, value-Load, value-Fit}
 use Rattle.prim_ops.specs.declared.operation.PrimOp.{PrimOp}
-use Rattle.net_meaning.specs.Shapes.{Shape, shaped, shape_of_value, Table, HasShapes, shape, all_of}
+use Rattle.net_meaning.specs.Shapes.{Shape, shaped, shape_of_value, Table, HasShapes, shape, all_of, is_unsigned, shape_of_load}
 use Rattle.net_meaning.specs.Words.{value_at}
-use Rattle.net_meaning.proofs.Shaping.{fitted_shape, shapes_hold, shape-Const, shape-Leaf}
+use Rattle.net_meaning.proofs.Shaping.{fitted_shape, shapes_hold, if_some, both_true}
 use Rattle.flat_code.specs.declared.instr.Form.{Form}
 use Rattle.flat_code.specs.declared.instr.Form.TheVariants as form
 use Rattle.flat_code.specs.declared.instr.Region.{Region}
@@ -39,17 +40,11 @@ source_shaped : (src : Source) (words : List ℕ) (inputs : List Value) (F : Lis
 source_shaped (source.Word k) words inputs F v e = ap shape_of_value e ∙ fitted_shape k.kind k.width _ k.narrow
 source_shaped (source.Input k) words inputs F v e = ap shape_of_value e ∙ fitted_shape k.kind k.width _ k.narrow
 source_shaped (source.Frame s) words inputs F v h = h.shape
+source_shaped (source.Constant c) words inputs F v e = ap shape_of_value e
 
 mapped : {A B : Type 0} (f : A → B) (o : Option A) (y : B) → option_map f o ≡ Some y → (x : A) × (o ≡ Some x) × (f x ≡ y)
 mapped f (Some x) y e = (x, refl, some_same e)
 mapped f None y e = absurd (none_some e)
-
-element_shaped : (e : Elements) (words : List ℕ) (address : Value) → shape_of_value (element_value e words address) ≡ elements_shape e
-element_shaped e words address = by_test (nat_lt address.bits e.region.depth)
-  where
-    by_test : (b : Bool) → shape_of_value (if b then value_at (elements_shape e) words (e.region.base + address.bits * e.region.stride) else fitted e.kind e.width (pos 0)) ≡ elements_shape e
-    by_test true = fitted_shape e.kind e.width _ e.narrow
-    by_test false = fitted_shape e.kind e.width (pos 0) e.narrow
 
 pub seen_shapes : (S : Sources) (words : List ℕ) (inputs : List Value) (F : List ℕ) (sight : Sight) → Sees S words inputs F sight → HasShapes (sources_table S) sight
 seen_shapes S words inputs F sight sees = record {
@@ -58,7 +53,7 @@ seen_shapes S words inputs F sight sees = record {
       source_shaped src.0 words inputs F (sight.leaf x) (sees.leaf x src.0 src.1) ∙ src.2;
   load = λ m k s address e.
       let el = mapped elements_shape (element_source S m k) s e in
-      ap shape_of_value (sees.load m k el.0 address el.1) ∙ (element_shaped el.0 words address ∙ el.2);
+      sees.shapes m k el.0 address el.1 ∙ el.2;
 }
 
 -- Sources stay where they are
@@ -67,6 +62,7 @@ fits_on : (a b : Draft) (src : Source) → Grows a b → Fits a src → Fits b s
 fits_on a b (source.Word k) g h = let e = g.words in omega (arith, h, e)
 fits_on a b (source.Input k) g h = tt
 fits_on a b (source.Frame s) g h = stands_on a b s g h
+fits_on a b (source.Constant c) g h = tt
 
 pub sources_on : (S : Sources) (a b : Draft) → Grows a b → AreSources S a → AreSources S b
 sources_on S a b g h = record {
@@ -116,7 +112,7 @@ both_emitted S gs hs a b c ss ts front back is srcs =
 pub formed : (S : Sources) (g : Ground) (gs : List Ground) (a b c : Draft) (ss : List Spot) (s : Spot) (f : Form) (t : Shape) → EmitsAll S gs a b ss
     → (IsDraft b → All (Stands b) ss → form_shape f s (spot_shapes ss) ≡ Some t → InRegion b.words t.width (region_of f) → Makes b c s (IsForm f s ss t))
     → form_shape f s (spot_shapes ss) ≡ Some t → (AreSources S a → InRegion a.words t.width (region_of f)) → shape g (sources_table S) ≡ Some t
-    → ((words : List ℕ) (inputs : List Value) (F : List ℕ) (sight : Sight) → Sees S words inputs F sight → value g sight ≡ form_value f s words (map (λ h. value h sight) gs))
+    → ((words : List ℕ) (inputs : List Value) (F : List ℕ) (sight : Sight) → Sees S words inputs F sight → spot_values F ss ≡ map (λ h. value h sight) gs → value g sight ≡ form_value f s words (spot_values F ss))
     → Emits S g a c s
 formed S g gs a b c ss s f t all last is_shape region at is_value is srcs =
     let first = all is srcs in
@@ -129,7 +125,7 @@ formed S g gs a b c ss s f t all last is_shape region at is_value is srcs =
           let sees = wanted.1 in
           let parts = first.holds words inputs F sight (m.grows.back words inputs F sol) sees in
           m.holds words inputs F v sol (
-            wanted.2 ∙ (is_value words inputs F sight sees ∙ ap (form_value f s words) (sym parts)),
+            wanted.2 ∙ is_value words inputs F sight sees parts,
             ap shape_of_value wanted.2 ∙ shapes_hold (sources_table S) sight (seen_shapes S words inputs F sight sees) g t at,
           );
     }
@@ -152,35 +148,48 @@ pub op_emits : (S : Sources) (g : Ground) (prim : PrimOp) (gs : List Ground) (pa
     → form_shape (form.Apply prim params) s (spot_shapes ss) ≡ Some t → shape g (sources_table S) ≡ Some t → Emits S g a c s
 op_emits S g prim gs params a b c ss s t e all last is_shape at =
     formed S g gs a b c ss s (form.Apply prim params) t all last is_shape (λ srcs. no_region a.words t.width) at
-    (λ words inputs F sight sees. ap (λ h. value h sight) e ∙ value-Op prim gs params sight)
+    (λ words inputs F sight sees parts. ap (λ h. value h sight) e ∙ (value-Op prim gs params sight ∙ ap (λ vs. operation prim vs params) (sym parts)))
 
 pub mux_emits : (S : Sources) (g : Ground) (gs : List Ground) (a b c : Draft) (ss : List Spot) (s : Spot) (t : Shape) → g ≡ Mux gs → EmitsAll S gs a b ss
     → (IsDraft b → All (Stands b) ss → form_shape form.Choose s (spot_shapes ss) ≡ Some t → InRegion b.words t.width (region_of form.Choose) → Makes b c s (IsForm form.Choose s ss t))
     → form_shape form.Choose s (spot_shapes ss) ≡ Some t → shape g (sources_table S) ≡ Some t → Emits S g a c s
 mux_emits S g gs a b c ss s t e all last is_shape at =
-    formed S g gs a b c ss s form.Choose t all last is_shape (λ srcs. no_region a.words t.width) at (λ words inputs F sight sees. ap (λ h. value h sight) e ∙ value-Mux gs sight)
+    formed S g gs a b c ss s form.Choose t all last is_shape (λ srcs. no_region a.words t.width) at (λ words inputs F sight sees parts. ap (λ h. value h sight) e ∙ (value-Mux gs sight ∙ ap chosen (sym parts)))
 
 pub fit_emits : (S : Sources) (g : Ground) (kind : Kind) (width : ℕ) (gs : List Ground) (a b c : Draft) (ss : List Spot) (s : Spot) (t : Shape) → g ≡ Fit kind width gs → spot_shape s ≡ shaped kind width
     → EmitsAll S gs a b ss → (IsDraft b → All (Stands b) ss → form_shape form.Fit s (spot_shapes ss) ≡ Some t → InRegion b.words t.width (region_of form.Fit) → Makes b c s (IsForm form.Fit s ss t))
     → form_shape form.Fit s (spot_shapes ss) ≡ Some t → shape g (sources_table S) ≡ Some t → Emits S g a c s
 fit_emits S g kind width gs a b c ss s t e same all last is_shape at =
     formed S g gs a b c ss s form.Fit t all last is_shape (λ srcs. no_region a.words t.width) at
-    (λ words inputs F sight sees.
-    ap (λ h. value h sight) e ∙ (value-Fit kind width gs sight ∙ ap (λ (u : Shape). fitted u.kind u.width (integer_of (lone (map (λ h. value h sight) gs)))) (sym same)))
+    (λ words inputs F sight sees parts.
+    ap (λ h. value h sight) e ∙ (value-Fit kind width gs sight ∙ ap₂ (λ (u : Shape) vs. fitted u.kind u.width (integer_of (lone vs))) (sym same) (sym parts)))
 
 pub select_emits : (S : Sources) (g : Ground) (is gs : List Ground) (i : Ground) (a b c : Draft) (ss : List Spot) (s : Spot) (t : Shape) → g ≡ Select is gs → is ≡ i ∷ [] → EmitsAll S (is ++ gs) a b ss
     → (IsDraft b → All (Stands b) ss → form_shape form.Select s (spot_shapes ss) ≡ Some t → InRegion b.words t.width (region_of form.Select) → Makes b c s (IsForm form.Select s ss t))
     → form_shape form.Select s (spot_shapes ss) ≡ Some t → shape g (sources_table S) ≡ Some t → Emits S g a c s
 select_emits S g is gs i a b c ss s t e one all last is_shape at =
     formed S g (is ++ gs) a b c ss s form.Select t all last is_shape (λ srcs. no_region a.words t.width) at
-    (λ words inputs F sight sees.
+    (λ words inputs F sight sees parts.
     ap (λ h. value h sight) e ∙ (value-Select is gs sight
-    ∙ (ap (λ xs. selected (integer_of (lone (map (λ h. value h sight) xs))) (map (λ h. value h sight) gs)) one ∙ ap (λ xs. picked (map (λ h. value h sight) (xs ++ gs))) (sym one))))
+    ∙ (ap (λ xs. selected (integer_of (lone (map (λ h. value h sight) xs))) (map (λ h. value h sight) gs)) one ∙ (ap (λ xs. picked (map (λ h. value h sight) (xs ++ gs))) (sym one) ∙ ap picked (sym parts)))))
 
-loaded_same : (f g : Value → Value) (vs : List Value) → ((v : Value) → f v ≡ g v) → loaded f vs ≡ loaded g vs
-loaded_same f g [] h = refl
-loaded_same f g (a ∷ []) h = refl
-loaded_same f g (a ∷ c ∷ vs) h = ap (λ x. if is_one c then x else fitted x.kind x.width (pos 0)) (h a)
+unsigned_kind : (s : Shape) → is_unsigned s ≡ true → s.kind ≡ Unsigned
+unsigned_kind s e = by_kind s.kind e
+  where
+    by_kind : (k : Kind) → is_unsigned (shaped k 0) ≡ true → k ≡ Unsigned
+    by_kind Unsigned e = refl
+    by_kind Signed e = absurd (true≢false (sym e))
+
+-- what is loaded at a UInt
+loaded_same : (f g : Value → Value) (o : Option Shape) (t : Shape) (F : List ℕ) (ss : List Spot) → shape_of_load o (spot_shapes ss) ≡ Some t → ((v : Value) → v.kind ≡ Unsigned → f v ≡ g v)
+    → loaded f (spot_values F ss) ≡ loaded g (spot_values F ss)
+loaded_same f g o t F [] e h = refl
+loaded_same f g o t F (a ∷ []) e h = refl
+loaded_same f g o t F (a ∷ c ∷ []) e h =
+    let test = if_some (is_unsigned (spot_shape a) && is_unsigned (spot_shape c)) o t e in
+    let kind = unsigned_kind (spot_shape a) ((both_true (is_unsigned (spot_shape a)) (is_unsigned (spot_shape c)) test.0).0) in
+    ap (λ x. if is_one (spot_value F c) then x else fitted x.kind x.width (pos 0)) (h (spot_value F a) kind)
+loaded_same f g o t F (a ∷ c ∷ d ∷ ss) e h = absurd (none_some e)
 
 pub load_emits : (S : Sources) (g : Ground) (m k : ℕ) (gs : List Ground) (el : Elements) (a b c : Draft) (ss : List Spot) (s : Spot) (t : Shape) → g ≡ Load m k gs → element_source S m k ≡ Some el
     → t ≡ elements_shape el → spot_shape s ≡ t → EmitsAll S gs a b ss
@@ -189,9 +198,9 @@ pub load_emits : (S : Sources) (g : Ground) (m k : ℕ) (gs : List Ground) (el :
 load_emits S g m k gs el a b c ss s t e found of_element same all last is_shape at =
     formed S g gs a b c ss s (form.Load el.region) t all last is_shape
     (λ srcs. subst (λ (u : Shape). InRegion a.words u.width el.region) (sym of_element) (srcs.regions m k el found)) at
-    (λ words inputs F sight sees.
-    let vs = map (λ h. value h sight) gs in
+    (λ words inputs F sight sees parts.
     ap (λ h. value h sight) e ∙ (value-Load m k gs sight
-    ∙ loaded_same (sight.load m k) (element_at el.region s words) vs (λ address.
-        sees.load m k el address found
-        ∙ ap (λ (u : Shape). if nat_lt address.bits el.region.depth then value_at u words (el.region.base + address.bits * el.region.stride) else fitted u.kind u.width (pos 0)) (sym (same ∙ of_element)))))
+    ∙ (ap (loaded (sight.load m k)) (sym parts)
+    ∙ loaded_same (sight.load m k) (element_at el.region s words) (Some (spot_shape s)) t F ss is_shape (λ address kind.
+        sees.load m k el address found kind
+        ∙ ap (λ (u : Shape). if nat_lt address.bits el.region.depth then value_at u words (el.region.base + address.bits * el.region.stride) else fitted u.kind u.width (pos 0)) (sym (same ∙ of_element))))))

@@ -1,10 +1,11 @@
 -- Where the values of leaves and of memories are found, and code that computes the value of an expression.
 use Rattle.std.specs.Prelude.{◌≡◌, ℕ, ◌+◌, ◌*◌, ◌<◌, List, [], map, slice_get, Option, Some, None, option_map, option_and_then, nat_lt, if◌then◌else◌, pos, All, IsSome}
+use Rattle.bit_words.specs.declared.value.Kind.TheVariants.{Unsigned}
 use Rattle.bit_words.specs.declared.value.Value.{Value}
 use Rattle.cycle_values.specs.Values.{fitted}
 use Rattle.ground_net.specs.declared.ground.Ground.{Ground}
 use Rattle.ground_net.specs.Grounds.{Sight, value}
-use Rattle.net_meaning.specs.Shapes.{Shape, shaped, Table, shape}
+use Rattle.net_meaning.specs.Shapes.{Shape, shaped, shape_of_value, Table, shape}
 use Rattle.net_meaning.specs.Words.{value_at}
 use Rattle.flat_code.specs.declared.instr.Spot.{Spot}
 use Rattle.flat_code.specs.Meaning.{spot_shape, spot_values}
@@ -32,6 +33,7 @@ abbrev pub source_shape : Source → Shape
 source_shape (source.Word k) = kept_shape k
 source_shape (source.Input k) = kept_shape k
 source_shape (source.Frame s) = spot_shape s
+source_shape (source.Constant c) = shape_of_value c
 
 abbrev pub elements_shape : Elements → Shape
 elements_shape e = shaped e.kind e.width
@@ -44,6 +46,7 @@ abbrev pub IsOf : Source → Wanted
 IsOf (source.Word k) words inputs F v = v ≡ value_at (kept_shape k) words k.number
 IsOf (source.Input k) words inputs F v = v ≡ input_value (kept_shape k) inputs k.number
 IsOf (source.Frame s) words inputs F v = Holds F s v
+IsOf (source.Constant c) words inputs F v = v ≡ c
 
 -- the leaf of the element at an address, 0 past the depth
 abbrev pub element_value : Elements → List ℕ → Value → Value
@@ -53,13 +56,15 @@ element_value e words address =
 -- A sight shows what the sources show.
 pub record Sees (S : Sources) (words : List ℕ) (inputs : List Value) (F : List ℕ) (sight : Sight) : Type 0 where
   pub leaf : (x : ℕ) (src : Source) → leaf_source S x ≡ Some src → IsOf src words inputs F (sight.leaf x)
-  pub load : (m k : ℕ) (e : Elements) (address : Value) → element_source S m k ≡ Some e → sight.load m k address ≡ element_value e words address
+  pub load : (m k : ℕ) (e : Elements) (address : Value) → element_source S m k ≡ Some e → address.kind ≡ Unsigned → sight.load m k address ≡ element_value e words address
+  pub shapes : (m k : ℕ) (e : Elements) (address : Value) → element_source S m k ≡ Some e → shape_of_value (sight.load m k address) ≡ elements_shape e
 
 -- The words and the slots of the sources are there.
 abbrev pub Fits : Draft → Source → Type 0
 Fits d (source.Word k) = k.number + further_words k.width < d.words
 Fits d (source.Input k) = Unit {0}
 Fits d (source.Frame s) = Stands d s
+Fits d (source.Constant c) = Unit {0}
 
 pub record AreSources (S : Sources) (d : Draft) : Type 0 where
   pub leaves : (x : ℕ) (src : Source) → leaf_source S x ≡ Some src → Fits d src

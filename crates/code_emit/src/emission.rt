@@ -88,6 +88,7 @@ fn fetch(draft: &mut Draft, source: Source) -> Result<Spot, AllocError>
         Source::Word(kept) => load(draft, kept.kind, kept.width, kept.number),
         Source::Input(kept) => input(draft, kept.kind, kept.width, kept.number),
         Source::Frame(spot) => Ok(spot),
+        Source::Constant(value) => constant(draft, value),
     }
 }
 

@@ -2,7 +2,7 @@
 
 ghost use Rattle.std.specs.Prelude.{◌≤◌};
 
-use bit_words::{Kind, List};
+use bit_words::{Kind, List, Value};
 use flat_code::{Region, Spot};
 
 /// A value that is kept outside the frame, under a number.
@@ -25,6 +25,8 @@ pub enum Source {
     Input(Kept),
     /// In the frame.
     Frame(Spot),
+    /// It is always this.
+    Constant(Value),
 }
 
 /// Where a leaf of the elements of a memory is found.
