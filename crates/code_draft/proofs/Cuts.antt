@@ -40,12 +40,15 @@ pub high_wide : (x y w : ℕ) → 64 ≤ w → x < 2 ^ 64 → (x + y * 2 ^ 64) %
 high_wide x y w h small =
     let n = x + y * 2 ^ 64 in
     let e : (w - 64) + 64 ≡ w = omega (arith, h) in
-    let high : n / 2 ^ 64 ≡ y = add-mul-div_right x y (pow_pos 64) ∙ ap (λ q. q + y) (div-eq_of_lt small) in
+    let high : n / 2 ^ 64 ≡ y = add-mul-div_right x y (pow_pos 64) ∙ (ap (λ q. q + y) (div-eq_of_lt small) ∙ zero_plus y) in
     ap (λ k. n % 2 ^ k / 2 ^ 64) (sym e)
     ∙ (ap (λ m. m / 2 ^ 64) (mod-pow-add n (w - 64) 64)
     ∙ (mul-add-div_right (pow_pos 64) (n / 2 ^ 64 % 2 ^ (w - 64)) (n % 2 ^ 64)
     ∙ (ap (λ q. n / 2 ^ 64 % 2 ^ (w - 64) + q) (div-eq_of_lt (mod-lt n (pow_pos 64))) ∙ (plus_zero (n / 2 ^ 64 % 2 ^ (w - 64)) ∙ ap (λ m. m % 2 ^ (w - 64)) high))))
   where
+    zero_plus : (m : ℕ) → 0 + m ≡ m
+    zero_plus m = omega arith
+
     plus_zero : (m : ℕ) → m + 0 ≡ m
     plus_zero m = omega arith
 

@@ -1,5 +1,5 @@
 -- Instructions that read no slot: what they leave at a spot.
-use Rattle.std.proofs.Common.{◌≡◌, ℕ, zero, suc, ◌+◌, ◌-◌, ◌*◌, ◌/◌, ◌%◌, ◌^◌, ◌<◌, ◌≤◌, true, false, nat_lt, if◌then◌else◌, List, [], ◌∷◌, ◌++◌, length, slice_index, slice_set, pos, bit_and, refl, sym, subst, ap, ap₂, ◌∙◌, arith, ⊎_elim, pow_pos, mod-lt, All, get_or}
+use Rattle.std.proofs.Common.{◌≡◌, ℕ, zero, suc, ◌+◌, ◌-◌, ◌*◌, ◌/◌, ◌%◌, ◌^◌, ◌<◌, ◌≤◌, true, false, nat_lt, if◌then◌else◌, List, [], ◌∷◌, ◌++◌, length, slice_index, slice_set, pos, bit_and, slice_get, Option, Some, None, refl, sym, subst, ap, ap₂, ◌∙◌, arith, ⊎_elim, pow_pos, mod-lt, All, get_or}
 use Rattle.std.proofs.lemmas.Bool.{lt-ltb, le-ltb}
 use Rattle.std.proofs.lemmas.List.{get_or-set_same}
 use Rattle.bit_words.specs.declared.value.Kind.{Kind}
@@ -179,3 +179,67 @@ cut_wide kind width x y mask upper v many most small m u e =
       masked x 64 mask m ∙ sym (ap (λ b. b % 2 ^ 64) bits ∙ low_wide x y width le),
       masked y (width - 64) upper u ∙ sym (ap (λ b. b / 2 ^ 64) bits ∙ high_wide x y width le small),
     )
+
+-- Whole fetches
+
+-- the value that stands at a word, of two words
+word_value : (kind : Kind) (width at : ℕ) (words : List ℕ) → 64 < width → value_at (shaped kind width) words at ≡ fitted kind width (pos (slice_index words at + slice_index words (at + 1) * 2 ^ 64))
+word_value kind width at words many = ap (λ b. fitted kind width (pos (slice_index words at + (if b then slice_index words (at + 1) else 0) * 2 ^ 64))) (lt-ltb 64 width many)
+
+module _ (d : Draft) (s : Spot) (kind : Kind) (width : ℕ) (is : IsDraft d) (at : spot_from d.slots kind width s) (most : width ≤ 128) where
+  abbrev One : Instr → Draft
+  One i = with_instr (with_slots d (further_words width + 1)) i
+
+  abbrev Two : Instr → Instr → Draft
+  Two i j = with_instr (One i) j
+
+  pub loaded_narrow : (i : Instr) (word : ℕ) → width ≤ 64 → word + further_words width < d.words → i.op ≡ op.Load → i.first ≡ word → i.target ≡ s.low → i.mask ≡ 2 ^ width - 1
+      → Makes d (One i) s (IsWord (shaped kind width) word)
+  loaded_narrow i word few room o first to m =
+      fetched_narrow d s kind width i (λ words inputs. bit_and (slice_index words i.first) i.mask) (IsWord (shaped kind width) word) is at to few (load_fetches d.words i o (omega (arith, first, room)))
+      (λ words inputs F v wanted.
+      let cut = cut_narrow kind width (slice_index words word) (high_at (shaped kind width) words word) i.mask v few m wanted in
+      (cut.0, ap (λ k. bit_and (slice_index words k) i.mask) first ∙ cut.1))
+
+  pub loaded_wide : (i j : Instr) (word : ℕ) → 64 < width → word + further_words width < d.words → i.op ≡ op.Load → j.op ≡ op.Load → i.first ≡ word → j.first ≡ word + 1 → i.target ≡ s.low → j.target ≡ s.high
+      → i.mask ≡ 2 ^ 64 - 1 → j.mask ≡ 2 ^ (width - 64) - 1 → Makes d (Two i j) s (IsWord (shaped kind width) word)
+  loaded_wide i j word many room o p first next to up m n =
+      let one : further_words width ≡ 1 = ap (λ b. if b then 1 else 0) (lt-ltb 64 width many) in
+      fetched_wide d s kind width i j (λ words inputs. bit_and (slice_index words i.first) i.mask) (λ words inputs. bit_and (slice_index words j.first) j.mask) (IsWord (shaped kind width) word) is at to up many
+      (load_fetches d.words i o (omega (arith, first, room, one))) (load_fetches d.words j p (omega (arith, next, room, one)))
+      (λ words inputs F v plain wanted.
+      let cut = cut_wide kind width (slice_index words word) (slice_index words (word + 1)) i.mask j.mask v many most (plain word) m n (wanted ∙ word_value kind width word words many) in
+      (cut.0, ap (λ k. bit_and (slice_index words k) i.mask) first ∙ cut.1, ap (λ k. bit_and (slice_index words k) j.mask) next ∙ cut.2))
+
+  pub input_narrow : (i : Instr) (number : ℕ) → width ≤ 64 → i.op ≡ op.Input → i.first ≡ number → i.target ≡ s.low → i.mask ≡ 2 ^ width - 1 → Makes d (One i) s (IsInput (shaped kind width) number)
+  input_narrow i number few o first to m =
+      fetched_narrow d s kind width i (λ words inputs. bit_and (input_word inputs i.first) i.mask) (IsInput (shaped kind width) number) is at to few (input_fetches d.words i o)
+      (λ words inputs F v wanted.
+      let cut = cut_narrow kind width (input_word inputs number) (input_high inputs number) i.mask v few m wanted in
+      (cut.0, ap (λ k. bit_and (input_word inputs k) i.mask) first ∙ cut.1))
+
+  pub input_wide : (i j : Instr) (number : ℕ) → 64 < width → i.op ≡ op.Input → j.op ≡ op.InputHigh → i.first ≡ number → j.first ≡ number → i.target ≡ s.low → j.target ≡ s.high → i.mask ≡ 2 ^ 64 - 1
+      → j.mask ≡ 2 ^ (width - 64) - 1 → Makes d (Two i j) s (IsInput (shaped kind width) number)
+  input_wide i j number many o p first next to up m n =
+      fetched_wide d s kind width i j (λ words inputs. bit_and (input_word inputs i.first) i.mask) (λ words inputs. bit_and (input_high inputs j.first) j.mask) (IsInput (shaped kind width) number) is at to up many
+      (input_fetches d.words i o) (high_fetches d.words j p)
+      (λ words inputs F v plain wanted.
+      let cut = cut_wide kind width (input_word inputs number) (input_high inputs number) i.mask j.mask v many most (input_small (slice_get inputs number)) m n wanted in
+      (cut.0, ap (λ k. bit_and (input_word inputs k) i.mask) first ∙ cut.1, ap (λ k. bit_and (input_high inputs k) j.mask) next ∙ cut.2))
+    where
+      input_small : (o : Option Value) → low_of o < 2 ^ 64
+      input_small (Some v) = mod-lt v.bits (pow_pos 64)
+      input_small None = pow_pos 64
+
+pub constant_narrow : (d : Draft) (s : Spot) (c : Value) (i : Instr) → IsDraft d → spot_from d.slots c.kind c.width s → c.width ≤ 64 → i.op ≡ op.Constant → i.target ≡ s.low → i.mask ≡ c.bits % 2 ^ 64
+    → Makes d (with_instr (with_slots d (further_words c.width + 1)) i) s (IsConstant c)
+constant_narrow d s c i is at few o to m =
+    fetched_narrow d s c.kind c.width i (λ words inputs. i.mask) (IsConstant c) is at to few (constant_fetches d.words i o) (λ words inputs F v wanted. constant_value c v i.mask m wanted)
+
+pub constant_wide : (d : Draft) (s : Spot) (c : Value) (i j : Instr) → IsDraft d → spot_from d.slots c.kind c.width s → 64 < c.width → i.op ≡ op.Constant → j.op ≡ op.Constant → i.target ≡ s.low → j.target ≡ s.high
+    → i.mask ≡ c.bits % 2 ^ 64 → j.mask ≡ c.bits / 2 ^ 64 → Makes d (with_instr (with_instr (with_slots d (further_words c.width + 1)) i) j) s (IsConstant c)
+constant_wide d s c i j is at many o p to up m n =
+    fetched_wide d s c.kind c.width i j (λ words inputs. i.mask) (λ words inputs. j.mask) (IsConstant c) is at to up many (constant_fetches d.words i o) (constant_fetches d.words j p)
+    (λ words inputs F v plain wanted.
+    let parts = constant_value c v i.mask m wanted in
+    (parts.0, parts.1, n ∙ ap (λ (x : Value). x.bits / 2 ^ 64) (sym wanted)))

@@ -20,7 +20,8 @@ bits_there F s v h =
     ap₂ (λ x y. x + y * 2 ^ 64) h.low (ap (λ b. if b then slice_index F s.high else 0) (lt-ltb 64 s.width many) ∙ h.high many) ∙ turned (v.bits % 2 ^ 64) (v.bits / 2 ^ 64 * 2 ^ 64) v.bits split)
     (λ few.
     let within : v.bits < 2 ^ v.width = v.within in
-    let room : 2 ^ v.width ≤ 2 ^ 64 = pow_mono (omega (arith, few, width)) in
+    let le : v.width ≤ 64 = omega (arith, few, width) in
+    let room : 2 ^ v.width ≤ 2 ^ 64 = pow_mono le in
     ap₂ (λ x y. x + y * 2 ^ 64) (h.low ∙ mod-eq_of_lt (below v.bits (2 ^ v.width) (2 ^ 64) within room)) (ap (λ b. if b then slice_index F s.high else 0) (le-ltb 64 s.width few)) ∙ no_more v.bits)
     (cases_lt 64 s.width)
   where

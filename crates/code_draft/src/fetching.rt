@@ -18,10 +18,14 @@ pub fn constant(draft: &mut Draft, value: Value) -> Result<Spot, AllocError>
     ensures makes { IfOk result (λ s. IsDraft draft.old → Makes draft.old draft.new s (IsConstant value)) }
 {
     let spot = new_spot(draft, value.kind, value.width)?;
-    add_instr(draft, fetch(Op::Constant, 0, spot.low, low_word(value)))?;
-    if spot.width > 64 {
-        add_instr(draft, fetch(Op::Constant, 0, spot.high, high_word(value)))?;
+    let low = fetch(Op::Constant, 0, spot.low, low_word(value));
+    if value.width <= 64 {
+        add_instr(draft, low)?;
+        return Ok(spot);
     }
+    let high = fetch(Op::Constant, 0, spot.high, high_word(value));
+    add_instr(draft, low)?;
+    add_instr(draft, high)?;
     Ok(spot)
 }
 
@@ -33,13 +37,17 @@ pub fn load(draft: &mut Draft, kind: Kind, width: u8, word: u32) -> Result<Spot,
     ensures makes { IfOk result (λ s. IsDraft draft.old → word + further_words width < draft.old.words → Makes draft.old draft.new s (IsWord (shaped kind width) word)) }
 {
     let spot = new_spot(draft, kind, width)?;
-    add_instr(draft, fetch(Op::Load, word, spot.low, low_mask(width)))?;
-    if width > 64 {
-        let Some(next) = word.checked_add(1) else {
-            return Err(AllocError);
-        };
-        add_instr(draft, fetch(Op::Load, next, spot.high, high_mask(width)))?;
+    let low = fetch(Op::Load, word, spot.low, low_mask(width));
+    if width <= 64 {
+        add_instr(draft, low)?;
+        return Ok(spot);
     }
+    let Some(next) = word.checked_add(1) else {
+        return Err(AllocError);
+    };
+    let high = fetch(Op::Load, next, spot.high, high_mask(width));
+    add_instr(draft, low)?;
+    add_instr(draft, high)?;
     Ok(spot)
 }
 
@@ -51,10 +59,14 @@ pub fn input(draft: &mut Draft, kind: Kind, width: u8, number: u32) -> Result<Sp
     ensures makes { IfOk result (λ s. IsDraft draft.old → Makes draft.old draft.new s (IsInput (shaped kind width) number)) }
 {
     let spot = new_spot(draft, kind, width)?;
-    add_instr(draft, fetch(Op::Input, number, spot.low, low_mask(width)))?;
-    if width > 64 {
-        add_instr(draft, fetch(Op::InputHigh, number, spot.high, high_mask(width)))?;
+    let low = fetch(Op::Input, number, spot.low, low_mask(width));
+    if width <= 64 {
+        add_instr(draft, low)?;
+        return Ok(spot);
     }
+    let high = fetch(Op::InputHigh, number, spot.high, high_mask(width));
+    add_instr(draft, low)?;
+    add_instr(draft, high)?;
     Ok(spot)
 }
 

@@ -1,0 +1,52 @@
+//! Assignments.
+
+ghost use Rattle.std.specs.Prelude.{◌≡◌, ◌<◌, [], ◌∷◌, All, length, Some, IsSome, OnOk};
+ghost use Rattle.net_meaning.specs.Shapes.{shape};
+ghost use Rattle.code_emit.specs.Emits.{sources_table, source_shape, leaf_source, Emits};
+ghost use Rattle.code_sequence.specs.Sequences.{driver_in, with_leaf, InTurn, Assigns};
+
+use bit_words::List;
+use code_draft::Draft;
+use code_emit::{Source, Sources, emit};
+use ground_net::Ground;
+use std::alloc::{AllocError, Global};
+
+/// Adds the code of assignments, in order, and keeps the spots of their values as the sources of their leaves.
+pub fn assign_all(
+    alloc: Global,
+    draft: &mut Draft,
+    sources: &mut Sources,
+    drivers: &[Option<Ground>],
+    sequence: &[u32],
+) -> Result<(), AllocError>
+    requires within { All (λ x. x < length sources.old.leaves) sequence.now }
+    requires in_turn { InTurn (sources_table sources.old) drivers.now sequence.now }
+    ensures { OnOk result (Assigns drivers.now sequence.now sources.old draft.old sources.new draft.new) }
+{
+    for leaf in sequence {
+        assign(alloc, draft, sources, drivers, *leaf)?;
+    }
+    Ok(())
+}
+
+/// Adds the code of an assignment.
+fn assign(
+    alloc: Global,
+    draft: &mut Draft,
+    sources: &mut Sources,
+    drivers: &[Option<Ground>],
+    leaf: u32,
+) -> Result<(), AllocError>
+    requires within { leaf < length sources.old.leaves }
+    requires in_turn { InTurn (sources_table sources.old) drivers.now (leaf ∷ []) }
+    ensures leaves { OnOk result (length sources.new.leaves ≡ length sources.old.leaves) }
+    ensures table { OnOk result (TurnsInto drivers.now leaf sources.old sources.new) }
+    ensures assigns { OnOk result (Assigns drivers.now (leaf ∷ []) sources.old draft.old sources.new draft.new) }
+{
+    let spot = match drivers.get(leaf as usize) {
+        Some(Some(driver)) => emit(alloc, draft, sources, driver)?,
+        _ => unreachable!(),
+    };
+    sources.leaves.set(leaf as usize, Some(Source::Frame(spot)));
+    Ok(())
+}
