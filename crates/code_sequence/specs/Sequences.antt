@@ -26,6 +26,10 @@ InTurn table drivers (x ∷ xs) = (g : Ground) × (driver_in drivers x ≡ Some 
 abbrev pub AreAssigned : List (Option Ground) → List ℕ → Sight → Type 0
 AreAssigned drivers xs sight = (x : ℕ) (g : Ground) → Contains xs x → driver_in drivers x ≡ Some g → sight.leaf x ≡ value g sight
 
+-- The kinds and widths that are known once the leaf has its driver's.
+abbrev pub Turned : List (Option Ground) → ℕ → Sources → Sources → Type 0
+Turned drivers x S T = (g : Ground) (s : Shape) → driver_in drivers x ≡ Some g → shape g (sources_table S) ≡ Some s → sources_table T ≡ with_leaf (sources_table S) x s
+
 -- Code that goes on from sources to more sources: a sight that shows what the old ones show, and in which these leaves have their
 -- drivers' values, shows what the new ones show.
 pub record Goes (drivers : List (Option Ground)) (xs : List ℕ) (S : Sources) (old : Draft) (T : Sources) (new : Draft) : Type 0 where

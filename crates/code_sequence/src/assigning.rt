@@ -1,11 +1,9 @@
 //! Assignments.
 
-ghost use Rattle.std.specs.Prelude.{◌≡◌, ◌<◌, [], ◌∷◌, All, length, Some, IsSome, OnOk};
-ghost use Rattle.net_meaning.specs.Shapes.{shape};
-ghost use Rattle.code_emit.specs.Emits.{sources_table, source_shape, leaf_source, Emits};
-ghost use Rattle.code_sequence.specs.Sequences.{driver_in, with_leaf, InTurn, Assigns};
+ghost use Rattle.std.specs.Prelude.{◌≡◌, ◌<◌, [], ◌∷◌, All, length, OnOk};
+ghost use Rattle.code_emit.specs.Emits.{sources_table};
+ghost use Rattle.code_sequence.specs.Sequences.{InTurn, Turned, Assigns};
 
-use bit_words::List;
 use code_draft::Draft;
 use code_emit::{Source, Sources, emit};
 use ground_net::Ground;
@@ -40,7 +38,7 @@ fn assign(
     requires within { leaf < length sources.old.leaves }
     requires in_turn { InTurn (sources_table sources.old) drivers.now (leaf ∷ []) }
     ensures leaves { OnOk result (length sources.new.leaves ≡ length sources.old.leaves) }
-    ensures table { OnOk result (TurnsInto drivers.now leaf sources.old sources.new) }
+    ensures table { OnOk result (Turned drivers.now leaf sources.old sources.new) }
     ensures assigns { OnOk result (Assigns drivers.now (leaf ∷ []) sources.old draft.old sources.new draft.new) }
 {
     let spot = match drivers.get(leaf as usize) {
