@@ -14,13 +14,13 @@ use Rattle.ground_net.specs.Grounds.{Sight, value, chosen, selected, loaded}
 use Rattle.ground_net.proofs.Layers.{value-Const, value-Leaf, value-Op, value-Mux, value-Select, value-Load, value-Fit}
 use Rattle.prim_ops.specs.declared.operation.PrimOp.{PrimOp}
 use Rattle.net_meaning.specs.Shapes.{Shape, shaped, shape_of_value, Table, HasShapes, shape, all_of, is_unsigned, shape_of_load}
-use Rattle.net_meaning.specs.Words.{value_at}
+use Rattle.net_meaning.specs.Words.{value_at, high_at}
 use Rattle.net_meaning.proofs.Shaping.{fitted_shape, shapes_hold, if_some, both_true}
 use Rattle.flat_code.specs.declared.instr.Form.{Form}
 use Rattle.flat_code.specs.declared.instr.Form.TheVariants as form
 use Rattle.flat_code.specs.declared.instr.Region.{Region}
 use Rattle.flat_code.specs.declared.instr.Spot.{Spot}
-use Rattle.flat_code.specs.Meaning.{spot_shape, spot_value, spot_high, spot_values, form_value, element_at, picked}
+use Rattle.flat_code.specs.Meaning.{spot_shape, spot_value, spot_high, spot_values, form_value, element_at, picked, input_word, input_high}
 use Rattle.flat_code.specs.Fine.{spot_shapes, form_shape, InRegion, region_of}
 use Rattle.code_draft.specs.declared.draft.Draft.{Draft}
 use Rattle.code_draft.specs.Drafts.{IsDraft, Solved, Grows, Stands, Makes, Wanted, Holds, IsConstant, IsForm, input_value}
@@ -37,8 +37,8 @@ use Rattle.code_emit.proofs.Shaped.{some_same, none_some}
 -- What is seen has its kinds and widths
 
 source_shaped : (src : Source) (words : List ℕ) (inputs : List Value) (F : List ℕ) (v : Value) → IsOf src words inputs F v → shape_of_value v ≡ source_shape src
-source_shaped (source.Word k) words inputs F v e = ap shape_of_value e ∙ fitted_shape k.kind k.width _ k.narrow
-source_shaped (source.Input k) words inputs F v e = ap shape_of_value e ∙ fitted_shape k.kind k.width _ k.narrow
+source_shaped (source.Word k) words inputs F v e = ap shape_of_value e ∙ fitted_shape k.kind k.width (pos (slice_index words k.number + high_at (shaped k.kind k.width) words k.number * 2 ^ 64)) k.narrow
+source_shaped (source.Input k) words inputs F v e = ap shape_of_value e ∙ fitted_shape k.kind k.width (pos (input_word inputs k.number + input_high inputs k.number * 2 ^ 64)) k.narrow
 source_shaped (source.Frame s) words inputs F v h = h.shape
 source_shaped (source.Constant c) words inputs F v e = ap shape_of_value e
 

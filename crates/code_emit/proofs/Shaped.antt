@@ -1,6 +1,7 @@
 -- Kinds and widths of spots and of expressions.
 use Rattle.std.proofs.Common.{◌≡◌, ℕ, zero, suc, ◌+◌, ◌-◌, ◌<◌, ◌≤◌, Bool, true, false, ◌&&◌, nat_le, List, [], ◌∷◌, ◌++◌, map, length, get_or, Option, Some, None, option_and_then, option_map, refl, sym, subst, ap, ap₂, ◌∙◌, arith, All, if◌then◌else◌, true≢false}
-use Rattle.std.specs.Prelude.{IsSome}
+use Rattle.std.specs.Prelude.{IsSome, Result, Ok, Err, IfOk}
+use Rattle.std.proofs.lemmas.List.{length-map}
 use Rattle.std.proofs.lemmas.Bool.Decides.{nat_tests}
 use Rattle.bit_words.specs.declared.value.Kind.{Kind}
 use Rattle.bit_words.specs.declared.value.Kind.TheVariants.{Unsigned}
@@ -122,9 +123,38 @@ choice_last (c ∷ v ∷ w ∷ ss) d h =
     let more = and_then (λ s. if is_unsigned c && same_shape v s then Some s else None) (shape_of_choice (w ∷ ss)) whole.0 whole.1 in
     let test = if_some (is_unsigned c && same_shape v more.0) (Some more.0) whole.0 more.2 in
     let rest = choice_last (w ∷ ss) d (some_is (shape_of_choice (w ∷ ss)) more.0 more.1) in
-    whole.1 ∙ (sym test.1 ∙ (sym more.1 ∙ rest))
+    let long : length (c ∷ v ∷ w ∷ ss) - 1 ≡ suc (suc (length ss)) = omega arith in
+    let short : length ss ≡ length (w ∷ ss) - 1 = omega arith in
+    let same : get_or (c ∷ v ∷ w ∷ ss) (length (c ∷ v ∷ w ∷ ss) - 1) d ≡ get_or (w ∷ ss) (length (w ∷ ss) - 1) d = ap (λ n. get_or (c ∷ v ∷ w ∷ ss) n d) long ∙ ap (λ n. get_or (w ∷ ss) n d) short in
+    whole.1 ∙ (sym test.1 ∙ (sym more.1 ∙ (rest ∙ ap Some (sym same))))
 
 pub index_one : (is : List Spot) → is_index (spot_shapes is) ≡ true → (i : Spot) × (is ≡ i ∷ [])
 index_one [] e = absurd (true≢false (sym e))
 index_one (i ∷ []) e = (i, refl)
 index_one (i ∷ j ∷ is) e = absurd (true≢false (sym e))
+
+pub one_item : (ss : List Spot) (x : Spot) → 1 ≤ length ss → length ss < 2 → x ≡ get_or ss 0 x → ss ≡ x ∷ []
+one_item [] x some few e = absurd (omega (arith, some))
+one_item (s ∷ []) x some few e = ap (λ y. y ∷ []) (sym e)
+one_item (s ∷ t ∷ ss) x some few e = absurd (omega (arith, few))
+
+pub two_items : (ss : List Spot) (x y : Spot) → 2 ≤ length ss → length ss < 3 → x ≡ get_or ss 0 x → y ≡ get_or ss 1 y → ss ≡ x ∷ y ∷ []
+two_items [] x y some few e f = absurd (omega (arith, some))
+two_items (s ∷ []) x y some few e f = absurd (omega (arith, some))
+two_items (s ∷ t ∷ []) x y some few e f = ap₂ (λ a b. a ∷ b ∷ []) (sym e) (sym f)
+two_items (s ∷ t ∷ u ∷ ss) x y some few e f = absurd (omega (arith, few))
+
+-- the last spot has a choice's kind and width
+pub last_spot : (ss : List Spot) (x : Spot) → IsSome (shape_of_choice (spot_shapes ss)) → x ≡ get_or ss (length ss - 1) x → shape_of_choice (spot_shapes ss) ≡ Some (spot_shape x)
+last_spot ss x h e =
+    let long = length-map ss spot_shape in
+    choice_last (spot_shapes ss) (spot_shape x) h ∙ ap Some (ap (λ n. get_or (spot_shapes ss) (n - 1) (spot_shape x)) long ∙ (mapped ss (length ss - 1) ∙ ap spot_shape (sym e)))
+  where
+    mapped : (ts : List Spot) (n : ℕ) → get_or (spot_shapes ts) n (spot_shape x) ≡ spot_shape (get_or ts n x)
+    mapped [] n = refl
+    mapped (t ∷ ts) zero = refl
+    mapped (t ∷ ts) (suc n) = mapped ts n
+
+pub ok_so : {A E : Type 0} {P Q : A → Type 0} (r : Result A E) → IfOk r P → ((s : A) → P s → Q s) → IfOk r Q
+ok_so (Ok s) h f = f s h
+ok_so (Err e) h f = tt

@@ -97,9 +97,12 @@ fn source_of(sources: &Sources, leaf: u32) -> Source
     requires { IsSome (leaf_source sources.now leaf) }
     ensures { leaf_source sources.now leaf ≡ Some result }
 {
-    match sources.leaves.get(leaf as usize) {
-        Some(Some(source)) => *source,
-        _ => unreachable!(),
+    let Some(there) = sources.leaves.get(leaf as usize) else {
+        unreachable!();
+    };
+    match *there {
+        Some(source) => source,
+        None => unreachable!(),
     }
 }
 
