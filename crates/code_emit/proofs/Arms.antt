@@ -1,6 +1,7 @@
 -- What the variants of expressions give, on spots of their parts.
 use Rattle.std.proofs.Common.{◌≡◌, ℕ, ◌≤◌, Bool, true, false, List, [], ◌∷◌, ◌++◌, map, Option, Some, None, option_and_then, option_map, refl, sym, subst, ap, ap₂, ◌∙◌, if◌then◌else◌, true≢false}
 use Rattle.std.specs.Prelude.{IsSome, Result, Ok, Err, IfOk}
+use Rattle.std.proofs.lemmas.List.{map-append}
 use Rattle.bit_words.specs.declared.value.Kind.{Kind}
 use Rattle.prim_ops.specs.declared.operation.PrimOp.{PrimOp}
 use Rattle.ground_net.specs.declared.ground.Ground.{Ground}
@@ -15,11 +16,16 @@ use Rattle.code_emit.specs.declared.sources.Elements.{Elements}
 use Rattle.code_emit.specs.declared.sources.Sources.{Sources}
 use Rattle.code_emit.specs.Emits.{AreShaped, shapes_in, sources_table, leaf_source, element_source, source_shape, elements_shape}
 use Rattle.code_emit.proofs.Rowing.{some_of}
-use Rattle.code_emit.proofs.Shaped.{some_is, some_same, none_some, all_shaped, op_parts, mux_parts, select_parts, load_parts, fit_parts, spots_are, load_shape, fit_shape_is, index_one}
+use Rattle.code_emit.proofs.Shaped.{some_is, some_same, all_of_push, none_some, all_shaped, op_parts, mux_parts, select_parts, load_parts, fit_parts, spots_are, load_shape, fit_shape_is, index_one}
 
-pub ok_both : {A E : Type 0} {P Q : A → Type 0} (r : Result A E) → IfOk r P → IfOk r Q → IfOk r (λ s. P s × Q s)
-ok_both (Ok s) h k = (h, k)
-ok_both (Err e) h k = tt
+pub ok_both : {A E : Type 0} (P Q : A → Type 0) (r : Result A E) → IfOk r P → IfOk r Q → IfOk r (λ s. P s × Q s)
+ok_both P Q (Ok s) h k = (h, k)
+ok_both P Q (Err e) h k = tt
+
+pub one_more_shape : (table : Table) (gs : List Ground) (g : Ground) (ss : List Spot) (s : Spot) → all_of (shapes_in table gs) ≡ Some (spot_shapes ss) → shape g table ≡ Some (spot_shape s)
+    → all_of (shapes_in table (gs ++ g ∷ [])) ≡ Some (spot_shapes (ss ++ s ∷ []))
+one_more_shape table gs g ss s all one =
+    ap all_of (map-append (λ h. shape h table) gs (g ∷ [])) ∙ (all_of_push (shapes_in table gs) (spot_shapes ss) (shape g table) (spot_shape s) all one ∙ ap Some (sym (map-append spot_shape ss (s ∷ []))))
 
 pub spot_shape_by : (s : Spot) (kind : Kind) (width : ℕ) → s.kind ≡ kind → s.width ≡ width → spot_shape s ≡ shaped kind width
 spot_shape_by s kind width e f = ap₂ (λ k w. shaped k w) e f
