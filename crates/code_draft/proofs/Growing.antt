@@ -21,11 +21,11 @@ use Rattle.code_draft.specs.Drafts.{IsDraft, Solved, Grows, Stands, written_in, 
 
 -- One instruction more
 
-written_last : (known : Known) (wides : List Wide) (is : List Instr) (i : Instr) (k : ℕ) → written known wides (is ++ i ∷ []) k ≡ (among (writes_of wides i) k || written known wides is k)
+pub written_last : (known : Known) (wides : List Wide) (is : List Instr) (i : Instr) (k : ℕ) → written known wides (is ++ i ∷ []) k ≡ (among (writes_of wides i) k || written known wides is k)
 written_last known wides [] i k = refl
 written_last known wides (j ∷ js) i k = written_last (more (writes_of wides j) known) wides js i k
 
-single_last : (known : Known) (ports : List Port) (wides : List Wide) (is : List Instr) (i : Instr) → Single known ports wides is → AreKnown (written known wides is) (reads_of ports wides i)
+pub single_last : (known : Known) (ports : List Port) (wides : List Wide) (is : List Instr) (i : Instr) → Single known ports wides is → AreKnown (written known wides is) (reads_of ports wides i)
     → AreNew (written known wides is) (writes_of wides i) → Single known ports wides (is ++ i ∷ [])
 single_last known ports wides [] i s reads new = (reads, new, tt)
 single_last known ports wides (j ∷ js) i s reads new = (s.0, s.1, single_last (more (writes_of wides j) known) ports wides js i s.2 reads new)

@@ -41,10 +41,10 @@ fn assign(
     ensures table { OnOk result (Turned drivers.now leaf sources.old sources.new) }
     ensures assigns { OnOk result (Assigns drivers.now (leaf ∷ []) sources.old draft.old sources.new draft.new) }
 {
-    let spot = match drivers.get(leaf as usize) {
-        Some(Some(driver)) => emit(alloc, draft, sources, driver)?,
-        _ => unreachable!(),
+    let Some(Some(driver)) = drivers.get(leaf as usize) else {
+        unreachable!();
     };
+    let spot = emit(alloc, draft, sources, driver)?;
     sources.leaves.set(leaf as usize, Some(Source::Frame(spot)));
     Ok(())
 }
