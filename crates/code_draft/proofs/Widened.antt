@@ -145,7 +145,7 @@ evaluated d t kind width form operands i is at there shaped_so region e first =
     let long = length-append d.wides (w ∷ []) in
     let writes : writes_on op.Wide d2.wides i ≡ spot_slots t = ap wide_writes entry in
     let fresh : (k : ℕ) → d.slots ≤ k → written_in d2 k ≡ false = λ k le.
-        written_wider d.ports d.wides d2.wides d1.slots d.words (length d.ports) (same_before d.wides w) nothing d.instrs k g1.is.fine ∙ unwritten d k is le in
+    written_wider d.ports d.wides d2.wides d1.slots d.words (length d.ports) (same_before d.wides w) nothing d.instrs k g1.is.fine ∙ unwritten d k is le in
     let follows : Follows d2 op.Wide i = record {
       fine = omega (arith, first, long);
       reads = subst (AreKnown (written_in d2)) (sym (ap wide_reads entry)) (slots_known d2 operands there2);
@@ -155,7 +155,7 @@ evaluated d t kind width form operands i is at there shaped_so region e first =
     } in
     let g3 = grows_instr d2 i g2.is (subst (λ o. Follows d2 o i) (sym e) follows) in
     let is_written : (k : ℕ) → among (spot_slots t) k ≡ true → written_in d3 k ≡ true = λ k h.
-        written_here d2 i k (subst (λ ks. among ks k ≡ true) (sym (ap (λ o. writes_on o d2.wides i) e ∙ writes)) h) in
+    written_here d2 i k (subst (λ ks. among ks k ≡ true) (sym (ap (λ o. writes_on o d2.wides i) e ∙ writes)) h) in
     record {
       grows = grows_then d d1 d3 g1 (grows_then d1 d2 d3 g2 g3);
       stands = record { within = within; written = slots_written (written_in d3) t is_written };
@@ -163,7 +163,7 @@ evaluated d t kind width form operands i is at there shaped_so region e first =
           let last = all_last (Solves d2.wides words inputs F) d.instrs i sol.each in
           let act : acted d2.wides i words inputs F ≡ put_value t (wide_value w words F) F = ap (λ o. acted_on o d2.wides i words inputs F) e ∙ ap (λ o. wide_acted o words F) entry in
           let same : (k : ℕ) → slice_index (put_value t v F) k ≡ slice_index F k = λ k.
-              ap (λ u. slice_index (put_value t u F) k) wanted.0 ∙ (ap (λ G. slice_index G k) (sym act) ∙ last.same k) in
+          ap (λ u. slice_index (put_value t u F) k) wanted.0 ∙ (ap (λ G. slice_index G k) (sym act) ∙ last.same k) in
           let fits = sol.long in
           let width_is : t.width ≡ width = ap (λ (s : Shape). s.width) at.0 in
           record {

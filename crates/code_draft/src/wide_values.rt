@@ -6,7 +6,6 @@ ghost use Rattle.flat_code.specs.Fine.{form_shape, spot_shapes, InRegion, region
 ghost use Rattle.net_meaning.specs.Shapes.{shaped};
 ghost use Rattle.code_draft.specs.Drafts.{IsDraft, Makes, Stands, IsForm};
 
-
 use crate::draft::Draft;
 use crate::steps::{add_instr, add_wide, new_spot};
 use bit_words::{Kind, List};

@@ -141,7 +141,7 @@ const_emits S g v a b s e m is srcs = makes_for a b s (IsConstant v) (ValueOf S 
 pub leaf_emits : (S : Sources) (g : Ground) (x : ℕ) (src : Source) (a b : Draft) (s : Spot) → g ≡ Leaf x → leaf_source S x ≡ Some src → (IsDraft a → Fits a src → Makes a b s (IsOf src)) → Emits S g a b s
 leaf_emits S g x src a b s e at m is srcs =
     makes_for a b s (IsOf src) (ValueOf S g) (m is (srcs.leaves x src at)) (λ words inputs F u sol wanted.
-        subst (IsOf src words inputs F) (sym (wanted.2 ∙ (ap (λ h. value h wanted.0) e ∙ value-Leaf x wanted.0))) (wanted.1.leaf x src at))
+    subst (IsOf src words inputs F) (sym (wanted.2 ∙ (ap (λ h. value h wanted.0) e ∙ value-Leaf x wanted.0))) (wanted.1.leaf x src at))
 
 pub op_emits : (S : Sources) (g : Ground) (prim : PrimOp) (gs : List Ground) (params : List ℕ) (a b c : Draft) (ss : List Spot) (s : Spot) (t : Shape) → g ≡ Op prim gs params → EmitsAll S gs a b ss
     → (IsDraft b → All (Stands b) ss → form_shape (form.Apply prim params) s (spot_shapes ss) ≡ Some t → InRegion b.words t.width (region_of (form.Apply prim params)) → Makes b c s (IsForm (form.Apply prim params) s ss t))
@@ -202,5 +202,5 @@ load_emits S g m k gs el a b c ss s t e found of_element same all last is_shape 
     ap (λ h. value h sight) e ∙ (value-Load m k gs sight
     ∙ (ap (loaded (sight.load m k)) (sym parts)
     ∙ loaded_same (sight.load m k) (element_at el.region s words) (Some (spot_shape s)) t F ss is_shape (λ address kind.
-        sees.load m k el address found kind
-        ∙ ap (λ (u : Shape). if nat_lt address.bits el.region.depth then value_at u words (el.region.base + address.bits * el.region.stride) else fitted u.kind u.width (pos 0)) (sym (same ∙ of_element))))))
+    sees.load m k el address found kind
+    ∙ ap (λ (u : Shape). if nat_lt address.bits el.region.depth then value_at u words (el.region.base + address.bits * el.region.stride) else fitted u.kind u.width (pos 0)) (sym (same ∙ of_element))))))

@@ -34,7 +34,13 @@ pub fn emit(
             let spots = emit_all(alloc, draft, sources, operands.as_slice())?;
             let measure = row_measure(*prim, spots.as_slice(), params.as_slice());
             let params = List::from_slice(alloc, params.as_slice())?;
-            wide_value(draft, Form::Apply(*prim, params), spots, measure.kind, measure.width)
+            wide_value(
+                draft,
+                Form::Apply(*prim, params),
+                spots,
+                measure.kind,
+                measure.width,
+            )
         }
         Ground::Mux(items) => {
             let spots = emit_all(alloc, draft, sources, items.as_slice())?;
@@ -51,7 +57,13 @@ pub fn emit(
         Ground::Load(memory, leaf, items) => {
             let spots = emit_all(alloc, draft, sources, items.as_slice())?;
             let elements = elements_of(sources, *memory, *leaf);
-            wide_value(draft, Form::Load(elements.region), spots, elements.kind, elements.width)
+            wide_value(
+                draft,
+                Form::Load(elements.region),
+                spots,
+                elements.kind,
+                elements.width,
+            )
         }
         Ground::Fit(kind, width, items) => {
             let spots = emit_all(alloc, draft, sources, items.as_slice())?;

@@ -28,12 +28,7 @@ pub(crate) fn row_measure(prim: Prim, operands: &[Spot], params: &[u128]) -> Mea
     ensures { shape_of_row prim params.now (spot_shapes operands.now) ≡ Some (shaped result.kind result.width) }
 {
     match operands {
-        [first] => measured(
-            prim,
-            &[first.kind],
-            &[Width::Bits(first.width)],
-            params,
-        ),
+        [first] => measured(prim, &[first.kind], &[Width::Bits(first.width)], params),
         [first, second] => measured(
             prim,
             &[first.kind, second.kind],

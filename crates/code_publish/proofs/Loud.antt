@@ -97,8 +97,8 @@ tells_two d s i j word many e f first next second third is there room =
           let a : Publication = record { word = word; value = v.bits % 2 ^ 64 } in
           let b : Publication = record { word = word + 1; value = v.bits / 2 ^ 64 } in
           m.tells F ∙ (ap₂ (λ ps x. ps ++ (x ∷ []))
-              (l.tells F ∙ ap₂ (λ w x. pushed_in d F ++ (record { word = w; value = x } ∷ [])) second (ap (slice_index F) first ∙ h.low))
-              (ap₂ (λ w x. record { word = w; value = x }) third (ap (slice_index F) next ∙ h.high many))
+          (l.tells F ∙ ap₂ (λ w x. pushed_in d F ++ (record { word = w; value = x } ∷ [])) second (ap (slice_index F) first ∙ h.low))
+          (ap₂ (λ w x. record { word = w; value = x }) third (ap (slice_index F) next ∙ h.high many))
           ∙ (append_assoc (pushed_in d F) (a ∷ []) (b ∷ [])
           ∙ ap (λ t. pushed_in d F ++ (if t then a ∷ b ∷ [] else a ∷ [])) (sym (ap (nat_lt 64) width ∙ wide))));
     }

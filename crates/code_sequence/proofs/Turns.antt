@@ -91,7 +91,7 @@ assigned drivers x S old new s g lt at emits is srcs =
       sees = λ words inputs F sight sol sees all. record {
         leaf = λ y src e. ⊎_elim
             (λ q. subst (λ r. IsOf r words inputs F (sight.leaf y)) (some_same (sym (set_source S x s lt) ∙ (ap (leaf_source (with_frame S x s)) (sym q) ∙ e)))
-                (m.holds words inputs F (sight.leaf y) sol (sight, sees, ap sight.leaf q ∙ all x g (contains_one x) at)))
+            (m.holds words inputs F (sight.leaf y) sol (sight, sees, ap sight.leaf q ∙ all x g (contains_one x) at)))
             (λ ne. sees.leaf y src (sym (other_source S x y s ne) ∙ e))
             (cases_eq y x);
         load = sees.load;

@@ -14,11 +14,7 @@ use ground_net::{Ground, Net, NetRegister, copied};
 use std::alloc::{AllocError, Global};
 
 /// The expression of what a register holds next: `init` where its reset is 1, else what its driver leaves, else what it shows.
-pub fn next_ground(
-    alloc: Global,
-    net: &Net,
-    register: &NetRegister,
-) -> Result<Ground, AllocError>
+pub fn next_ground(alloc: Global, net: &Net, register: &NetRegister) -> Result<Ground, AllocError>
     ensures itself { IfOk result (λ g. g ≡ next_of register.now (driver_of net.now register.now.leaf)) }
     ensures value { IfOk result (λ g. (sight : Sight) (held : ℤ) → integer_of (sight.leaf register.now.leaf) ≡ held → integer_of (value g sight) ≡ next_of_register net.now sight (Some register.now) held) }
     ensures shape { IfOk result (λ g. (n : ℕ) → IsNet net.now → slice_get net.now.registers n ≡ Some register.now → shape g (table_of net.now) ≡ (table_of net.now).leaf register.now.leaf) }

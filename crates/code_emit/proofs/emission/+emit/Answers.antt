@@ -116,7 +116,7 @@ emit-returns-in_ok-params-in-Op-clause-emits t c =
     ∙ c.row_measure-measure.ensures in
     let at : shape g table ≡ Some (shaped kind width) = sym (op_row table g c.requires prim gs ps ss e c.in_ok-spots-in-Op.ensures.shapes) ∙ row in
     ok_so c.wide_value.result c.wide_value.ensures.makes (λ s m.
-        op_emits S g prim gs ps c.args.draft.now c.emit_all.new.draft c.wide_value.new.draft ss s (shaped kind width) e c.in_ok-spots-in-Op.ensures.emits m row at)
+    op_emits S g prim gs ps c.args.draft.now c.emit_all.new.draft c.wide_value.new.draft ss s (shaped kind width) e c.in_ok-spots-in-Op.ensures.emits m row at)
 
 pub emit-returns-in_ok-spots-in-Mux-clause-shape : goal.emit-returns-in_ok-spots-in-Mux-clause-shape
 emit-returns-in_ok-spots-in-Mux-clause-shape t c =
@@ -144,7 +144,7 @@ emit-returns-in_ok-spots-in-Mux-clause-emits t c =
     let row : shape_of_choice (spot_shapes ss) ≡ Some (shaped kind width) = ap (λ xs. shape_of_choice (spot_shapes xs)) (sym c.as_slice-in-Mux-2.ensures) ∙ c.choice_measure-measure.ensures in
     let at : shape g table ≡ Some (shaped kind width) = sym (mux_row table g c.requires gs ss e c.in_ok-spots-in-Mux.ensures.shapes) ∙ row in
     ok_so c.wide_value-in-Mux.result c.wide_value-in-Mux.ensures.makes (λ s m.
-        mux_emits S g gs c.args.draft.now c.emit_all-in-Mux.new.draft c.wide_value-in-Mux.new.draft ss s (shaped kind width) e c.in_ok-spots-in-Mux.ensures.emits m row at)
+    mux_emits S g gs c.args.draft.now c.emit_all-in-Mux.new.draft c.wide_value-in-Mux.new.draft ss s (shaped kind width) e c.in_ok-spots-in-Mux.ensures.emits m row at)
 
 pub emit-returns-in_ok-spots-in-Select-clause-shape : goal.emit-returns-in_ok-spots-in-Select-clause-shape
 emit-returns-in_ok-spots-in-Select-clause-shape t c =
@@ -181,8 +181,8 @@ emit-returns-in_ok-spots-in-Select-clause-emits t c =
     let both = both_emitted S is gs c.args.draft.now c.emit_all-in-Select.new.draft c.emit_all-in-Select-2.new.draft front back c.in_ok-front-in-Select.ensures.emits c.in_ok-back-in-Select.ensures.emits in
     let whole = ap (λ xs. shape_of_picked (spot_shapes xs)) same ∙ (picked_shape front back index ∙ row) in
     ok_so c.wide_value-in-Select.result c.wide_value-in-Select.ensures.makes (λ s m.
-        select_emits S g is gs one.0 c.args.draft.now c.emit_all-in-Select-2.new.draft c.wide_value-in-Select.new.draft ss s (shaped kind width) e one.1
-        (subst (EmitsAll S (is ++ gs) c.args.draft.now c.emit_all-in-Select-2.new.draft) (sym same) both) m whole at)
+    select_emits S g is gs one.0 c.args.draft.now c.emit_all-in-Select-2.new.draft c.wide_value-in-Select.new.draft ss s (shaped kind width) e one.1
+    (subst (EmitsAll S (is ++ gs) c.args.draft.now c.emit_all-in-Select-2.new.draft) (sym same) both) m whole at)
 
 pub emit-returns-in_ok-spots-in-Load-clause-emits : goal.emit-returns-in_ok-spots-in-Load-clause-emits
 emit-returns-in_ok-spots-in-Load-clause-emits t c =
@@ -199,9 +199,9 @@ emit-returns-in_ok-spots-in-Load-clause-emits t c =
     let at : shape g table ≡ Some (elements_shape el) = sym (load_element table g c.requires m k gs e) ∙ known in
     let row : shape_of_load (table.element m k) (spot_shapes ss) ≡ shape g table = load_row table g c.requires m k gs ss e c.in_ok-spots-in-Load.ensures.shapes in
     ok_so c.wide_value-in-Load.result (ok_both _ _ c.wide_value-in-Load.result (ok_both _ _ c.wide_value-in-Load.result c.wide_value-in-Load.ensures.shape c.wide_value-in-Load.ensures.width) c.wide_value-in-Load.ensures.makes) (λ s h.
-        let same : spot_shape s ≡ elements_shape el = spot_shape_by s el.kind el.width h.0.0 h.0.1 in
-        load_emits S g m k gs el c.args.draft.now c.emit_all-in-Load.new.draft c.wide_value-in-Load.new.draft ss s (elements_shape el) e c.elements_of-elements.ensures refl same c.in_ok-spots-in-Load.ensures.emits h.1
-        (ap (λ (u : Shape). shape_of_load (Some u) (spot_shapes ss)) same ∙ (ap (λ o. shape_of_load o (spot_shapes ss)) (sym known) ∙ (row ∙ at))) at)
+    let same : spot_shape s ≡ elements_shape el = spot_shape_by s el.kind el.width h.0.0 h.0.1 in
+    load_emits S g m k gs el c.args.draft.now c.emit_all-in-Load.new.draft c.wide_value-in-Load.new.draft ss s (elements_shape el) e c.elements_of-elements.ensures refl same c.in_ok-spots-in-Load.ensures.emits h.1
+    (ap (λ (u : Shape). shape_of_load (Some u) (spot_shapes ss)) same ∙ (ap (λ o. shape_of_load o (spot_shapes ss)) (sym known) ∙ (row ∙ at))) at)
 
 pub emit-returns-in_ok-spots-in-Fit-clause-emits : goal.emit-returns-in_ok-spots-in-Fit-clause-emits
 emit-returns-in_ok-spots-in-Fit-clause-emits t c =
@@ -216,9 +216,9 @@ emit-returns-in_ok-spots-in-Fit-clause-emits t c =
     let at : shape g table ≡ Some (shaped kind width) = (fit_is table g c.requires kind width gs e).1 in
     let row = fit_row table g c.requires kind width gs ss e c.in_ok-spots-in-Fit.ensures.shapes in
     ok_so c.wide_value-in-Fit.result (ok_both _ _ c.wide_value-in-Fit.result (ok_both _ _ c.wide_value-in-Fit.result c.wide_value-in-Fit.ensures.shape c.wide_value-in-Fit.ensures.width) c.wide_value-in-Fit.ensures.makes) (λ s h.
-        let same : spot_shape s ≡ shaped kind width = spot_shape_by s kind width h.0.0 h.0.1 in
-        fit_emits S g kind width gs c.args.draft.now c.emit_all-in-Fit.new.draft c.wide_value-in-Fit.new.draft ss s (shaped kind width) e same c.in_ok-spots-in-Fit.ensures.emits h.1
-        (ap (λ (u : Shape). shape_of_fit u.kind u.width (spot_shapes ss)) same ∙ (row ∙ at)) at)
+    let same : spot_shape s ≡ shaped kind width = spot_shape_by s kind width h.0.0 h.0.1 in
+    fit_emits S g kind width gs c.args.draft.now c.emit_all-in-Fit.new.draft c.wide_value-in-Fit.new.draft ss s (shaped kind width) e same c.in_ok-spots-in-Fit.ensures.emits h.1
+    (ap (λ (u : Shape). shape_of_fit u.kind u.width (spot_shapes ss)) same ∙ (row ∙ at)) at)
 
 pub emit_all-loop-ground-preserved : goal.emit_all-loop-ground-preserved
 emit_all-loop-ground-preserved t c =

@@ -3,7 +3,7 @@ use Rattle.bit_words.specs.Values.{integer_of}
 use Rattle.ground_net.specs.Grounds.{value}
 use Rattle.net_meaning.specs.Shapes.{shape}
 use Rattle.net_meaning.specs.Nets.{table_of}
-use Rattle.next_grounds.proofs.Registers.{next_value, next_shape}
+use Rattle.next_grounds.proofs.NextValues.{next_value, next_shape}
 use Rattle.next_grounds.proofs.registers.next_ground.Goals as goal
 
 pub returns-clause-value : goal.returns-clause-value
