@@ -118,6 +118,3 @@ one_more_assigned drivers xs x S T U a b c first next is srcs =
 -- what stands in turn stands so behind its first
 pub in_turn_next : (S T : Sources) (drivers : List (Option Ground)) (x : ℕ) (xs : List ℕ) → InTurn (sources_table S) drivers (x ∷ xs) → Turned drivers x S T → InTurn (sources_table T) drivers xs
 in_turn_next S T drivers x xs h turned = subst (λ t. InTurn t drivers xs) (sym (turned h.0 h.2 h.1 h.3)) h.4
-
-pub in_turn_one : (table : Table) (drivers : List (Option Ground)) (x : ℕ) (xs : List ℕ) → InTurn table drivers (x ∷ xs) → InTurn table drivers (x ∷ [])
-in_turn_one table drivers x xs h = (h.0, h.1, h.2, h.3, tt)
