@@ -1,5 +1,6 @@
 -- Instructions that publish a slot.
 use Rattle.std.proofs.Common.{◌≡◌, ℕ, zero, suc, ◌+◌, ◌/◌, ◌%◌, ◌^◌, ◌<◌, ◌≤◌, Bool, true, false, ◌||◌, nat_lt, if◌then◌else◌, List, [], ◌∷◌, ◌++◌, length, slice_index, All, refl, sym, subst, ap, ap₂, ◌∙◌, arith}
+use Rattle.std.specs.Prelude.{Result, Ok, Err, OnOk}
 use Rattle.std.proofs.lemmas.Bool.{lt-ltb, le-ltb}
 use Rattle.std.proofs.lemmas.List.{append_assoc, append-nil}
 use Rattle.std.proofs.lemmas.List.Elements.{All-push}
@@ -102,3 +103,7 @@ tells_two d s i j word many e f first next second third is there room =
           ∙ (append_assoc (pushed_in d F) (a ∷ []) (b ∷ [])
           ∙ ap (λ t. pushed_in d F ++ (if t then a ∷ b ∷ [] else a ∷ [])) (sym (ap (nat_lt 64) width ∙ wide))));
     }
+
+pub on_ok_so : {A E : Type 0} (P Q : Type 0) (r : Result A E) → OnOk r P → (P → Q) → OnOk r Q
+on_ok_so P Q (Ok x) h f = f h
+on_ok_so P Q (Err e) h f = tt
