@@ -23,8 +23,8 @@ pub fn publish_registers(
     requires words { All (λ both. both.1 ≡ register_word net.now both.0) registers.now }
     ensures { OnOk result (PublishesNext net.now sources.now (map (λ both. both.0) registers.now) draft.old draft.new) }
 {
-    for (number, word) in registers {
-        publish_register(alloc, draft, sources, net, (*number, *word))?;
+    for both in registers {
+        publish_register(alloc, draft, sources, net, *both)?;
     }
     Ok(())
 }

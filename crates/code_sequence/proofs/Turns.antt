@@ -123,9 +123,9 @@ in_turn_next S T drivers x xs h turned = subst (λ t. InTurn t drivers xs) (sym 
 pub driver_is : (drivers : List (Option Ground)) (x : ℕ) (o : Option Ground) (g : Ground) (table : Table) → get_or drivers x o ≡ Some g → InTurn table drivers (x ∷ []) → driver_in drivers x ≡ Some g
 driver_is drivers x o g table at turn = by_option (slice_get drivers x) refl turn.1
   where
+    none_some : {A : Type 0} {z : A} → None ≡ Some z → ⊥
+    none_some e = cc
+
     by_option : (p : Option (Option Ground)) → slice_get drivers x ≡ p → option_and_then (λ d. d) p ≡ Some turn.0 → driver_in drivers x ≡ Some g
     by_option (Some y) e f = ap (option_and_then (λ d. d)) e ∙ (sym (get_or_from_slice_get drivers x y o e) ∙ at)
     by_option None e f = absurd (none_some f)
-
-    none_some : {A : Type 0} {z : A} → None ≡ Some z → ⊥
-    none_some e = cc

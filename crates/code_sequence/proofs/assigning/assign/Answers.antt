@@ -1,5 +1,4 @@
-use Rattle.std.proofs.Common.{◌≡◌, Some, [], ◌∷◌, get_or, sym, subst, ◌∙◌, arith}
-use Rattle.std.proofs.lemmas.Grind.{common_steps}
+use Rattle.std.proofs.Common.{◌≡◌, Some, [], ◌∷◌, get_or, sym, subst, ◌∙◌}
 use Rattle.code_emit.specs.Emits.{sources_table}
 use Rattle.code_sequence.specs.Sequences.{driver_in, Turned, Assigns}
 use Rattle.code_sequence.proofs.Turns.{turned, assigned, driver_is}
@@ -10,7 +9,7 @@ returns-clause-table c =
     let S = c.args.sources.now in
     let drivers = c.args.drivers.now in
     let x = c.args.leaf in
-    let got : get_or drivers x c.in-Some-Some.field-0.now ≡ Some c.in-Some-Some.driver = grind (arith, common_steps, c.get.ensures, c.in-Some-Some.ensures, c.in-Some-Some.is, c.in-Some-Some.field-0-is, c.in-Some-Some.driver-is) in
+    let got : get_or drivers x c.in-Some-Some.field-0.now ≡ Some c.in-Some-Some.driver = sym c.in-Some-Some.ensures.lookup.1 ∙ c.in-Some-Some.driver-is in
     let at : driver_in drivers x ≡ Some c.in-Some-Some.driver = driver_is drivers x c.in-Some-Some.field-0.now c.in-Some-Some.driver (sources_table S) got c.requires.in_turn in
     subst (λ ls. Turned drivers x S (record { leaves = ls; memories = S.memories })) (sym c.set.ensures) (turned drivers x S c.in_ok-spot.spot c.in-Some-Some.driver c.requires.within at c.in_ok-spot.ensures.shape)
 
@@ -21,7 +20,7 @@ returns-clause-assigns c =
     let x = c.args.leaf in
     let old = c.args.draft.now in
     let new = c.emit.new.draft in
-    let got : get_or drivers x c.in-Some-Some.field-0.now ≡ Some c.in-Some-Some.driver = sym c.in-Some-Some.ensures.lookup ∙ c.in-Some-Some.driver-is in
+    let got : get_or drivers x c.in-Some-Some.field-0.now ≡ Some c.in-Some-Some.driver = sym c.in-Some-Some.ensures.lookup.1 ∙ c.in-Some-Some.driver-is in
     let at : driver_in drivers x ≡ Some c.in-Some-Some.driver = driver_is drivers x c.in-Some-Some.field-0.now c.in-Some-Some.driver (sources_table S) got c.requires.in_turn in
     subst (λ ls. Assigns drivers (x ∷ []) S old (record { leaves = ls; memories = S.memories }) new) (sym c.set.ensures)
     (assigned drivers x S old new c.in_ok-spot.spot c.in-Some-Some.driver c.requires.within at c.in_ok-spot.ensures.emits)
