@@ -81,7 +81,7 @@ one_register net S n register g old mid new s word there shaped next_is at emits
           let integer : integer_of v ≡ (next net st sight).registers n = next_is sight (st.registers n) (shows n register there) ∙ ap (λ o. next_of_register net sight o (st.registers n)) (sym there) in
           let is_value : v ≡ fitted (register_shape net register).kind (register_shape net register).width ((next net st sight).registers n) = sym (refitted v)
           ∙ ap₂ (λ (u : Shape) i. fitted u.kind u.width i) shape_is integer in
-          t.tells F v h ∙ (ap₂ (λ ps qs. ps ++ qs) (m.grows.quiet F) (ap₂ (λ w u. stored w u) is_word is_value ∙ sym (append-nil (stored (register_word net n) _)))
+          t.tells F v h ∙ (ap₂ (λ ps qs. ps ++ qs) (m.grows.quiet F) (ap₂ (λ w u. stored w u) is_word is_value ∙ sym (append-nil (stored (register_word net n) (fitted (register_shape net register).kind (register_shape net register).width ((next net st sight).registers n)))))
           ∙ ap (λ o. pushed_in old F ++ (register_told net st sight n o ++ [])) (sym there));
     }
 
