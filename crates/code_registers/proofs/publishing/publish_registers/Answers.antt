@@ -1,4 +1,4 @@
-use Rattle.std.proofs.Common.{◌≡◌, ℕ, ◌+◌, map, take, get_or, sym, subst, arith}
+use Rattle.std.proofs.Common.{◌≡◌, ℕ, ◌+◌, map, take, get_or, sym, subst}
 use Rattle.std.proofs.lemmas.List.{take_all}
 use Rattle.code_registers.specs.Telling.{PublishesNext}
 use Rattle.code_registers.proofs.NextWords.{numbers_more, one_more_register}
@@ -18,4 +18,4 @@ returns c =
     let net = c.args.net.now in
     let S = c.args.sources.now in
     let xs = c.args.registers.now in
-    subst (λ ys. PublishesNext net S (map (λ (both : ℕ × ℕ). both.0) ys) c.args.draft.now c.loop-both.draft) (take_all xs c.loop-both.both-index (omega (arith, c.loop-both-test.false))) c.loop-both.invariant
+    subst (λ ys. PublishesNext net S (map (λ (both : ℕ × ℕ). both.0) ys) c.args.draft.now c.loop-both.draft) (take_all c.loop-both.both-index xs c.loop-both-test.false) c.loop-both.invariant
