@@ -20,7 +20,7 @@ use Rattle.code_emit.specs.declared.sources.Source.TheVariants as source
 use Rattle.code_emit.specs.declared.sources.Sources.{Sources}
 use Rattle.code_emit.specs.Emits.{leaf_source, element_source, source_shape, sources_table, IsOf, Sees, Fits, AreSources, ValueOf, Emits}
 use Rattle.code_emit.proofs.Emitting.{sources_on}
-use Rattle.code_sequence.specs.Sequences.{driver_in, with_leaf, InTurn, AreAssigned, Turned, Goes, Assigns}
+use Rattle.code_sequence.specs.Sequences.{driver_in, with_leaf, with_shape, turned_table, InTurn, AreAssigned, Turned, Goes, Assigns}
 
 some_same : {A : Type 0} {x y : A} → Some x ≡ Some y → x ≡ y
 some_same e = cc
@@ -118,6 +118,14 @@ one_more_assigned drivers xs x S T U a b c first next is srcs =
 -- what stands in turn stands so behind its first
 pub in_turn_next : (S T : Sources) (drivers : List (Option Ground)) (x : ℕ) (xs : List ℕ) → InTurn (sources_table S) drivers (x ∷ xs) → Turned drivers x S T → InTurn (sources_table T) drivers xs
 in_turn_next S T drivers x xs h turned = subst (λ t. InTurn t drivers xs) (sym (turned h.0 h.2 h.1 h.3)) h.4
+
+-- and the kinds and widths that are known behind all are the same
+pub next_table : (S T : Sources) (drivers : List (Option Ground)) (x : ℕ) (xs : List ℕ) → InTurn (sources_table S) drivers (x ∷ xs) → Turned drivers x S T
+    → turned_table (sources_table T) drivers xs ≡ turned_table (sources_table S) drivers (x ∷ xs)
+next_table S T drivers x xs h turned =
+    let table = sources_table S in
+    let known : option_and_then (λ g. shape g table) (driver_in drivers x) ≡ Some h.2 = ap (option_and_then (λ g. shape g table)) h.1 ∙ h.3 in
+    ap (λ t. turned_table t drivers xs) (turned h.0 h.2 h.1 h.3 ∙ ap (with_shape table x) (sym known))
 
 -- the driver that was found
 pub driver_is : (drivers : List (Option Ground)) (x : ℕ) (o : Option Ground) (g : Ground) (table : Table) → get_or drivers x o ≡ Some g → InTurn table drivers (x ∷ []) → driver_in drivers x ≡ Some g

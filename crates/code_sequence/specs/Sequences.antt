@@ -17,6 +17,15 @@ driver_in drivers x = option_and_then (λ d. d) (slice_get drivers x)
 abbrev pub with_leaf : Table → ℕ → Shape → Table
 with_leaf table x s = record { leaf = λ y. if y == x then Some s else table.leaf y; element = table.element }
 
+-- with that of a leaf, where it has any
+abbrev pub with_shape : Table → ℕ → Option Shape → Table
+with_shape table x o = record { leaf = λ y. if y == x then o else table.leaf y; element = table.element }
+
+-- The kinds and widths that are known behind assignments: each leaf has its driver's.
+abbrev pub turned_table : Table → List (Option Ground) → List ℕ → Table
+turned_table table drivers [] = table
+turned_table table drivers (x ∷ xs) = turned_table (with_shape table x (option_and_then (λ g. shape g table) (driver_in drivers x))) drivers xs
+
 -- Assignments stand in turn: each has a driver, which reads only what has a kind and a width, or stands before.
 abbrev pub InTurn : Table → List (Option Ground) → List ℕ → Type 0
 InTurn table drivers [] = Unit {0}

@@ -2,7 +2,7 @@
 
 ghost use Rattle.std.specs.Prelude.{◌≡◌, ◌<◌, [], ◌∷◌, All, length, OnOk};
 ghost use Rattle.code_emit.specs.Emits.{sources_table};
-ghost use Rattle.code_sequence.specs.Sequences.{InTurn, Turned, Assigns};
+ghost use Rattle.code_sequence.specs.Sequences.{InTurn, Turned, Assigns, turned_table};
 
 use code_draft::Draft;
 use code_emit::{Source, Sources, emit};
@@ -19,7 +19,9 @@ pub fn assign_all(
 ) -> Result<(), AllocError>
     requires within { All (λ x. x < length sources.old.leaves) sequence.now }
     requires in_turn { InTurn (sources_table sources.old) drivers.now sequence.now }
-    ensures { OnOk result (Assigns drivers.now sequence.now sources.old draft.old sources.new draft.new) }
+    ensures assigns { OnOk result (Assigns drivers.now sequence.now sources.old draft.old sources.new draft.new) }
+    ensures table { OnOk result (sources_table sources.new ≡ turned_table (sources_table sources.old) drivers.now sequence.now) }
+    ensures leaves { OnOk result (length sources.new.leaves ≡ length sources.old.leaves) }
 {
     for leaf in sequence {
         assign(alloc, draft, sources, drivers, *leaf)?;
