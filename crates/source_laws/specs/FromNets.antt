@@ -20,7 +20,7 @@ use Rattle.code_emit.specs.Emits.{leaf_source, element_source, kept_shape, eleme
 -- A source of a leaf by its role: a register's word, or that of a captured read; an input; and 0 of a Clock. None is in a frame.
 abbrev pub IsFrom : Net → Leaf → Source → Type 0
 IsFrom net leaf (source.Word k) =
-    (kept_shape k ≡ leaf_shape leaf) × (n : ℕ) × ((leaf.role ≡ role.Register n) × (k.number ≡ register_word net n)) ⊎ ((leaf.role ≡ role.Captured n) × (k.number ≡ captured_word net n))
+    (kept_shape k ≡ leaf_shape leaf) × (n : ℕ) × (((leaf.role ≡ role.Register n) × (k.number ≡ register_word net n)) ⊎ ((leaf.role ≡ role.Captured n) × (k.number ≡ captured_word net n)))
 IsFrom net leaf (source.Input k) = (kept_shape k ≡ leaf_shape leaf) × (leaf.role ≡ role.Input k.number)
 IsFrom net leaf (source.Constant c) = (leaf.role ≡ role.Clock) × (c ≡ fitted_to leaf (pos 0))
 IsFrom net leaf (source.Frame s) = ⊥

@@ -26,4 +26,4 @@ returns c =
     = subst (λ r. shape (next_ground r (driver_of net r.leaf)) table ≡ Some (register_shape net r)) same c.requires.shaped.shaped in
     let shaped : shape next table ≡ Some (register_shape net register) = ap (λ g. shape g table) c.in_ok-next.ensures.itself ∙ known in
     on_ok_so (Publishes mid new c.args.numbers.1 s) (PublishesNext net S (n ∷ []) old new) c.publish.result c.publish.ensures (λ publishes.
-        one_register net S n register next old mid new s c.args.numbers.1 found shaped c.in_ok-next.ensures.value c.in_ok-spot.ensures.shape c.in_ok-spot.ensures.emits publishes c.requires.word)
+    one_register net S n register next old mid new s c.args.numbers.1 found shaped c.in_ok-next.ensures.value c.in_ok-spot.ensures.shape c.in_ok-spot.ensures.emits publishes c.requires.word)
