@@ -1,13 +1,12 @@
 -- Slots that code doesn't write.
-use Rattle.std.proofs.Common.{◌≡◌, ◌==◌, ℕ, ◌/◌, ◌%◌, ◌^◌, Bool, true, false, ◌||◌, List, [], ◌∷◌, slice_index, slice_set, slice_get, Option, Some, None, nat_lt, if◌then◌else◌, refl, sym, ap, ◌∙◌, ⊎_elim, true≢false}
-use Rattle.std.proofs.lemmas.Bool.{cases_eq}
+use Rattle.std.proofs.Common.{◌≡◌, ◌==◌, ℕ, Bool, true, false, ◌||◌, List, [], ◌∷◌, slice_index, slice_set, slice_get, Option, Some, None, nat_lt, if◌then◌else◌, refl, sym, ap, ◌∙◌, true≢false}
 use Rattle.std.proofs.lemmas.List.{get_or-set_other}
 use Rattle.bit_words.specs.declared.value.Value.{Value}
 use Rattle.flat_code.specs.declared.instr.Op.{Op}
 use Rattle.flat_code.specs.declared.instr.Op.TheVariants as op
 use Rattle.flat_code.specs.declared.instr.Instr.{Instr}
 use Rattle.flat_code.specs.declared.instr.Wide.{Wide}
-use Rattle.flat_code.specs.Meaning.{acted, acted_on, wide_acted, wide_value, ran}
+use Rattle.flat_code.specs.Meaning.{acted, acted_on, wide_acted, ran}
 use Rattle.flat_code.specs.Fine.{Known, more, among, written, writes_of, writes_on, wide_writes}
 use Rattle.code_draft.proofs.Growing.{among_first}
 

@@ -1,11 +1,9 @@
 -- The words of values that are cut to a width.
-use Rattle.std.proofs.Common.{◌≡◌, ℕ, ◌+◌, ◌-◌, ◌*◌, ◌/◌, ◌%◌, ◌^◌, ◌<◌, ◌≤◌, true, false, nat_lt, if◌then◌else◌, min, pos, bit_and, refl, sym, ap, ap₂, ◌∙◌, arith, pow_pos, pow_mono, pow-add, mod-lt, mod-eq_of_lt}
+use Rattle.std.proofs.Common.{◌≡◌, ℕ, ◌+◌, ◌-◌, ◌*◌, ◌/◌, ◌%◌, ◌^◌, ◌<◌, ◌≤◌, min, pos, bit_and, sym, ap, ◌∙◌, arith, pow_pos, pow_mono, pow-add, mod-lt, mod-eq_of_lt}
 use Rattle.std.proofs.Math.Pow.{mod-mod-pow}
 use Rattle.std.proofs.Math.Nat.{add-mul-mod_self_right, add-mul-div_right, mul-add-div_right, div-eq_of_lt}
 use Rattle.std.proofs.lemmas.Nat.{mod-pow-add, and_mask}
-use Rattle.std.proofs.lemmas.Bool.{lt-ltb, le-ltb}
 use Rattle.bit_words.specs.declared.value.Kind.{Kind}
-use Rattle.bit_words.specs.declared.value.Value.{Value}
 use Rattle.cycle_values.specs.Values.{fitted}
 
 pub fitted_bits : (kind : Kind) (width n : ℕ) → width ≤ 128 → (fitted kind width (pos n)).bits ≡ n % 2 ^ width

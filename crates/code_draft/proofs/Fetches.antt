@@ -1,11 +1,11 @@
 -- Instructions that read no slot: what they leave at a spot.
-use Rattle.std.proofs.Common.{◌≡◌, ℕ, zero, suc, ◌+◌, ◌-◌, ◌*◌, ◌/◌, ◌%◌, ◌^◌, ◌<◌, ◌≤◌, true, false, nat_lt, if◌then◌else◌, List, [], ◌∷◌, ◌++◌, length, slice_index, slice_set, pos, bit_and, slice_get, Option, Some, None, refl, sym, subst, ap, ap₂, ◌∙◌, arith, ⊎_elim, pow_pos, mod-lt, All, get_or}
+use Rattle.std.proofs.Common.{◌≡◌, ℕ, ◌+◌, ◌-◌, ◌*◌, ◌/◌, ◌%◌, ◌^◌, ◌<◌, ◌≤◌, true, false, nat_lt, if◌then◌else◌, List, [], ◌∷◌, length, slice_index, slice_set, pos, bit_and, slice_get, Option, Some, None, refl, sym, subst, ap, ◌∙◌, arith, pow_pos, mod-lt}
 use Rattle.std.proofs.lemmas.Bool.{lt-ltb, le-ltb}
 use Rattle.std.proofs.lemmas.List.{get_or-set_same}
 use Rattle.bit_words.specs.declared.value.Kind.{Kind}
 use Rattle.bit_words.specs.declared.value.Value.{Value}
 use Rattle.cycle_values.specs.Values.{fitted}
-use Rattle.net_meaning.specs.Shapes.{Shape, shaped, shape_of_value}
+use Rattle.net_meaning.specs.Shapes.{shaped, shape_of_value}
 use Rattle.net_meaning.specs.Words.{value_at, high_at}
 use Rattle.net_meaning.proofs.Shaping.{fitted_shape}
 use Rattle.flat_code.specs.declared.instr.Op.{Op}
@@ -13,11 +13,11 @@ use Rattle.flat_code.specs.declared.instr.Op.TheVariants as op
 use Rattle.flat_code.specs.declared.instr.Instr.{Instr}
 use Rattle.flat_code.specs.declared.instr.Spot.{Spot}
 use Rattle.flat_code.specs.declared.instr.Wide.{Wide}
-use Rattle.flat_code.specs.Meaning.{acted, acted_on, pushed_on, spot_shape, input_word, input_high, low_of, high_of}
-use Rattle.flat_code.specs.Fine.{FineOn, IsSpot, AreKnown, Known, among, reads_on, writes_on, writes_of, spot_slots, further_words}
+use Rattle.flat_code.specs.Meaning.{acted, acted_on, pushed_on, input_word, input_high, low_of}
+use Rattle.flat_code.specs.Fine.{FineOn, AreKnown, among, reads_on, writes_on, writes_of, spot_slots, further_words}
 use Rattle.flat_code.specs.Orders.{Solves, AreNew}
 use Rattle.code_draft.specs.declared.draft.Draft.{Draft}
-use Rattle.code_draft.specs.Drafts.{IsDraft, Solved, Grows, Stands, Makes, Wanted, Holds, written_in, with_instr, with_slots, spot_from, IsConstant, IsWord, IsInput, input_value}
+use Rattle.code_draft.specs.Drafts.{IsDraft, Solved, Makes, Wanted, written_in, with_instr, with_slots, spot_from, IsConstant, IsWord, IsInput}
 use Rattle.code_draft.proofs.Growing.{Follows, grows_instr, grows_slots, grows_then, all_last, one_new, one_known, two_known, one_among, unwritten, written_here, among_first, other, still}
 use Rattle.code_draft.proofs.Cuts.{fitted_bits, low_cut, low_whole, low_wide, high_wide, masked}
 

@@ -1,23 +1,20 @@
 -- Steps of growing keep a draft in order.
-use Rattle.std.proofs.Common.{◌≡◌, ◌==◌, ℕ, zero, suc, ◌+◌, ◌<◌, ◌≤◌, Bool, true, false, ◌||◌, List, [], ◌∷◌, ◌++◌, length, slice_get, slice_index, Option, Some, None, All, get_or, refl, sym, subst, ap, ap₂, ◌∙◌, arith, ⊎_elim, ◌⊎◌, inl, inr}
+use Rattle.std.proofs.Common.{◌≡◌, ◌==◌, ℕ, zero, suc, ◌+◌, ◌<◌, ◌≤◌, Bool, true, false, ◌||◌, List, [], ◌∷◌, ◌++◌, length, Some, All, get_or, refl, sym, ap, ap₂, ◌∙◌, arith, ⊎_elim, ◌⊎◌, inl, inr}
 use Rattle.std.proofs.lemmas.Bool.{cases_eq, cases_Bool, false≢true}
 use Rattle.std.proofs.lemmas.Grind.{common_steps}
-use Rattle.std.proofs.lemmas.List.{append-nil, length-append}
 use Rattle.std.proofs.lemmas.List.Elements.{All-push, All-pop}
-use Rattle.bit_words.specs.declared.value.Value.{Value}
 use Rattle.phase_core.specs.declared.model.Publication.{Publication}
 use Rattle.flat_code.specs.declared.instr.Op.{Op}
-use Rattle.flat_code.specs.declared.instr.Op.TheVariants as op
 use Rattle.flat_code.specs.declared.instr.Instr.{Instr}
 use Rattle.flat_code.specs.declared.instr.Port.{Port}
 use Rattle.flat_code.specs.declared.instr.Spot.{Spot}
 use Rattle.flat_code.specs.declared.instr.Wide.{Wide}
-use Rattle.flat_code.specs.Meaning.{acted, acted_on, wide_acted, pushed, pushed_on}
-use Rattle.flat_code.specs.Fine.{FineOn, IsFine, AreFine, IsWide, IsPort, IsSpot, Known, nothing, more, among, written, AreKnown, reads_on, reads_of, writes_on, writes_of, wide_reads, wide_writes, spot_slots, slots_of}
+use Rattle.flat_code.specs.Meaning.{pushed, pushed_on}
+use Rattle.flat_code.specs.Fine.{FineOn, IsFine, IsWide, IsPort, IsSpot, Known, nothing, more, among, written, AreKnown, reads_on, reads_of, writes_on, writes_of, spot_slots}
 use Rattle.flat_code.specs.Orders.{AreNew, Single, Solves, pushed_all}
 use Rattle.flat_code.proofs.Frames.{fine_more, spot_more}
 use Rattle.code_draft.specs.declared.draft.Draft.{Draft}
-use Rattle.code_draft.specs.Drafts.{IsDraft, Solved, Grows, Stands, written_in, pushed_in, with_instr, with_wide, with_slots}
+use Rattle.code_draft.specs.Drafts.{IsDraft, Grows, Stands, written_in, with_instr, with_slots}
 
 -- One instruction more
 

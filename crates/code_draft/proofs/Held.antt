@@ -1,12 +1,11 @@
 -- The value that stands at a spot.
-use Rattle.std.proofs.Common.{◌≡◌, ℕ, ◌+◌, ◌*◌, ◌/◌, ◌%◌, ◌^◌, ◌<◌, ◌≤◌, Bool, true, false, nat_lt, if◌then◌else◌, List, slice_index, pos, min, refl, sym, ap, ap₂, ◌∙◌, arith, ⊎_elim, mod-eq_of_lt, pow_mono, div-add-mod'}
+use Rattle.std.proofs.Common.{◌≡◌, ℕ, ◌+◌, ◌*◌, ◌/◌, ◌%◌, ◌^◌, ◌<◌, ◌≤◌, if◌then◌else◌, List, slice_index, min, sym, ap, ap₂, ◌∙◌, arith, ⊎_elim, mod-eq_of_lt, pow_mono, div-add-mod'}
 use Rattle.std.proofs.lemmas.Bool.{lt-ltb, le-ltb, cases_lt}
 use Rattle.bit_words.specs.declared.value.Value.{Value}
-use Rattle.cycle_values.specs.Values.{fitted}
 use Rattle.cycle_values.proofs.Fittings.{same_value}
-use Rattle.net_meaning.specs.Shapes.{Shape, shape_of_value}
+use Rattle.net_meaning.specs.Shapes.{Shape}
 use Rattle.flat_code.specs.declared.instr.Spot.{Spot}
-use Rattle.flat_code.specs.Meaning.{spot_value, spot_high, spot_shape}
+use Rattle.flat_code.specs.Meaning.{spot_value, spot_high}
 use Rattle.code_draft.specs.Drafts.{Holds}
 use Rattle.code_draft.proofs.Cuts.{fitted_bits}
 

@@ -1,5 +1,5 @@
 -- A run leaves a frame that solves the code.
-use Rattle.std.proofs.Common.{◌≡◌, ℕ, ◌^◌, ◌<◌, ◌≤◌, List, length, slice_index, arith}
+use Rattle.std.proofs.Common.{ℕ, ◌^◌, ◌<◌, ◌≤◌, List, length, slice_index, arith}
 use Rattle.bit_words.specs.declared.value.Value.{Value}
 use Rattle.flat_code.specs.Meaning.{ran}
 use Rattle.flat_code.specs.Fine.{nothing}

@@ -1,5 +1,5 @@
 -- Wide values: a longer table of them, and what stands at their targets.
-use Rattle.std.proofs.Common.{◌≡◌, ◌≢◌, Bool, ℕ, zero, suc, ◌+◌, ◌*◌, ◌/◌, ◌%◌, ◌^◌, ◌<◌, ◌≤◌, true, false, ◌||◌, nat_lt, if◌then◌else◌, List, [], ◌∷◌, ◌++◌, length, slice_get, slice_index, slice_set, Option, Some, None, All, get_or, refl, sym, subst, ap, ap₂, ◌∙◌, arith, ⊎_elim}
+use Rattle.std.proofs.Common.{◌≡◌, ◌≢◌, Bool, ℕ, suc, ◌+◌, ◌/◌, ◌%◌, ◌^◌, ◌<◌, ◌≤◌, true, false, nat_lt, if◌then◌else◌, List, [], ◌∷◌, ◌++◌, length, slice_get, slice_index, slice_set, Some, All, get_or, refl, sym, subst, ap, ◌∙◌, arith, ⊎_elim}
 use Rattle.std.proofs.lemmas.Bool.{lt-ltb, le-ltb, cases_lt}
 use Rattle.std.proofs.lemmas.List.{get_or-set_same, get_or-set_other, get_or_append_left, length-append, length-set}
 use Rattle.std.proofs.Math.Seq.{get_or-append_seam}
@@ -7,7 +7,7 @@ use Rattle.std.proofs.lemmas.Option.{slice_get-get_or}
 use Rattle.std.proofs.lemmas.List.Elements.{All-push, All-append}
 use Rattle.bit_words.specs.declared.value.Kind.{Kind}
 use Rattle.bit_words.specs.declared.value.Value.{Value}
-use Rattle.net_meaning.specs.Shapes.{Shape, shaped, shape_of_value}
+use Rattle.net_meaning.specs.Shapes.{Shape, shaped}
 use Rattle.flat_code.specs.declared.instr.Op.{Op}
 use Rattle.flat_code.specs.declared.instr.Op.TheVariants as op
 use Rattle.flat_code.specs.declared.instr.Instr.{Instr}
@@ -15,12 +15,12 @@ use Rattle.flat_code.specs.declared.instr.Form.{Form}
 use Rattle.flat_code.specs.declared.instr.Port.{Port}
 use Rattle.flat_code.specs.declared.instr.Spot.{Spot}
 use Rattle.flat_code.specs.declared.instr.Wide.{Wide}
-use Rattle.flat_code.specs.Meaning.{acted, acted_on, wide_acted, put_value, wide_value, form_value, pushed_on, spot_shape, spot_values}
-use Rattle.flat_code.specs.Fine.{FineOn, IsFine, AreFine, IsWide, IsSpot, InRegion, region_of, form_shape, spot_shapes, Known, nothing, more, among, written, AreKnown, reads_on, reads_of, writes_on, writes_of, wide_reads, wide_writes, slots_of, spot_slots, further_words}
+use Rattle.flat_code.specs.Meaning.{acted, acted_on, wide_acted, put_value, wide_value}
+use Rattle.flat_code.specs.Fine.{FineOn, AreFine, IsWide, IsSpot, InRegion, region_of, form_shape, spot_shapes, Known, nothing, more, among, written, AreKnown, reads_on, writes_on, writes_of, wide_reads, wide_writes, slots_of, spot_slots, further_words}
 use Rattle.flat_code.specs.Orders.{Solves, Single, AreNew}
 use Rattle.flat_code.proofs.Frames.{fine_more}
 use Rattle.code_draft.specs.declared.draft.Draft.{Draft}
-use Rattle.code_draft.specs.Drafts.{IsDraft, Solved, Grows, Stands, Makes, Holds, written_in, with_instr, with_wide, with_slots, spot_from, IsForm}
+use Rattle.code_draft.specs.Drafts.{IsDraft, Grows, Stands, Makes, written_in, with_instr, with_wide, with_slots, spot_from, IsForm}
 use Rattle.code_draft.proofs.Growing.{Follows, grows_instr, grows_slots, grows_then, all_last, all_stand_on, two_new, two_known, one_new, one_known, one_among, two_among, unwritten, written_here, among_first, among_second}
 use Rattle.code_draft.proofs.Fetches.{put_there}
 

@@ -1,5 +1,5 @@
 -- Code that grows: each instruction writes slots that no earlier one writes, and reads what was written before.
-use Rattle.std.specs.Prelude.{◌≡◌, ℕ, ◌+◌, ◌*◌, ◌/◌, ◌%◌, ◌^◌, ◌<◌, ◌≤◌, true, false, List, [], ◌∷◌, ◌++◌, length, slice_get, slice_index, nat_lt, if◌then◌else◌, pos, All}
+use Rattle.std.specs.Prelude.{◌≡◌, ℕ, ◌+◌, ◌*◌, ◌/◌, ◌%◌, ◌^◌, ◌<◌, ◌≤◌, true, List, [], ◌∷◌, ◌++◌, length, slice_index, pos, All}
 use Rattle.bit_words.specs.declared.value.Kind.{Kind}
 use Rattle.bit_words.specs.declared.value.Value.{Value}
 use Rattle.phase_core.specs.declared.model.Publication.{Publication}
@@ -7,14 +7,12 @@ use Rattle.cycle_values.specs.Values.{fitted}
 use Rattle.net_meaning.specs.Shapes.{Shape, shaped, shape_of_value}
 use Rattle.net_meaning.specs.Words.{value_at}
 use Rattle.flat_code.specs.declared.instr.Instr.{Instr}
-use Rattle.flat_code.specs.declared.instr.Op.TheVariants as op
-use Rattle.flat_code.specs.declared.instr.Port.{Port}
 use Rattle.flat_code.specs.declared.instr.Spot.{Spot}
 use Rattle.flat_code.specs.declared.instr.Wide.{Wide}
 use Rattle.flat_code.specs.declared.instr.Form.{Form}
-use Rattle.flat_code.specs.Meaning.{spot_shape, spot_value, spot_values, form_value, input_word, input_high, pushed, ran}
-use Rattle.flat_code.specs.Fine.{AreFine, IsFine, IsSpot, IsWide, IsPort, Known, nothing, written, AreKnown, reads_of, writes_of, spot_slots, further_words}
-use Rattle.flat_code.specs.Orders.{Single, Solves, AreNew, pushed_all}
+use Rattle.flat_code.specs.Meaning.{spot_shape, spot_values, form_value, input_word, input_high}
+use Rattle.flat_code.specs.Fine.{AreFine, IsSpot, IsWide, IsPort, Known, nothing, written, AreKnown, spot_slots, further_words}
+use Rattle.flat_code.specs.Orders.{Single, Solves, pushed_all}
 use Rattle.code_draft.specs.declared.draft.Draft.{Draft}
 
 -- the slots that the instructions write

@@ -40,7 +40,7 @@ value_at_shape : (kind : Kind) (width : ℕ) (words : List ℕ) (at : ℕ) → w
 value_at_shape kind width words at h = fitted_shape kind width (pos (slice_index words at + high_at (shaped kind width) words at * 2 ^ 64)) h
 
 -- what is kept at a word, fitted to the leaf that keeps it
-kept_value : (leaf : Leaf) (words : List ℕ) (at : ℕ) (o : Option Shape) → o ≡ Some (leaf_shape leaf) → fitted_to leaf (integer_at_word words at o) ≡ value_at (leaf_shape leaf) words at
+pub kept_value : (leaf : Leaf) (words : List ℕ) (at : ℕ) (o : Option Shape) → o ≡ Some (leaf_shape leaf) → fitted_to leaf (integer_at_word words at o) ≡ value_at (leaf_shape leaf) words at
 kept_value leaf words at o e =
     ap (λ p. fitted_to leaf (integer_at_word words at p)) e ∙ fitted_back (leaf_shape leaf) (value_at (leaf_shape leaf) words at) (value_at_shape leaf.kind leaf.width words at leaf.narrow)
 
@@ -59,7 +59,7 @@ input_is s inputs n v at same most =
     turned x y z e = omega (arith, e)
 
 module _ (net : Net) (w : IsNet net) (words : List ℕ) (inputs : List Value) (F : List ℕ) (given : Inputs) (rho : Valuation) (match : MatchInputs net inputs given) (settled : Settled net (state_of net words) given rho) where
-  register_shape_there : (x n : ℕ) (leaf : Leaf) → slice_get net.leaves x ≡ Some leaf → leaf.role ≡ role.Register n → slice_get (register_shapes net) n ≡ Some (leaf_shape leaf)
+  pub register_shape_there : (x n : ℕ) (leaf : Leaf) → slice_get net.leaves x ≡ Some leaf → leaf.role ≡ role.Register n → slice_get (register_shapes net) n ≡ Some (leaf_shape leaf)
   register_shape_there x n leaf there is =
       let r = w.registers x n (record { leaf = leaf; there = there; is = is }) in
       slice_get-map (λ (register : NetRegister). shape_or_none (slice_get net.leaves register.leaf)) net.registers n

@@ -1,4 +1,4 @@
-use Rattle.std.proofs.Common.{◌≡◌, ◌∙◌, sym, subst, ap, arith}
+use Rattle.std.proofs.Common.{◌∙◌, sym, subst, ap, arith}
 use Rattle.code_draft.specs.Drafts.{Makes, IsConstant, with_instr}
 use Rattle.code_draft.proofs.Fetches.{constant_narrow, constant_wide}
 use Rattle.code_draft.proofs.fetching.constant.Goals as goal

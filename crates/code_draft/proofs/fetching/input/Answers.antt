@@ -1,4 +1,4 @@
-use Rattle.std.proofs.Common.{◌≡◌, ◌≤◌, ◌<◌, ◌∙◌, sym, subst, ap, arith}
+use Rattle.std.proofs.Common.{◌≤◌, ◌<◌, ◌∙◌, sym, subst, ap, arith}
 use Rattle.net_meaning.specs.Shapes.{shaped}
 use Rattle.code_draft.specs.Drafts.{Makes, IsInput, with_instr}
 use Rattle.code_draft.proofs.Fetches.{input_narrow, input_wide}

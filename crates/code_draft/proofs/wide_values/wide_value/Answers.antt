@@ -1,4 +1,4 @@
-use Rattle.std.proofs.Common.{◌≡◌, ◌∙◌, sym, subst, ap, length}
+use Rattle.std.proofs.Common.{◌∙◌, sym, subst, ap, length}
 use Rattle.flat_code.specs.declared.instr.Wide.{Wide}
 use Rattle.net_meaning.specs.Shapes.{shaped}
 use Rattle.code_draft.specs.Drafts.{Makes, IsForm, with_instr, with_wide}
