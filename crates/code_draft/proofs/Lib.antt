@@ -1,0 +1,7 @@
+pub mod Growing
+pub mod Cuts
+pub mod Fetches
+pub mod Widened
+pub mod Alone
+pub mod Held
+pub mod Running

@@ -1,0 +1,23 @@
+use Rattle.std.proofs.Common.{◌∙◌, sym, subst, ap, arith}
+use Rattle.code_draft.specs.Drafts.{Makes, IsConstant, with_instr}
+use Rattle.code_draft.proofs.Fetches.{constant_narrow, constant_wide}
+use Rattle.code_draft.proofs.fetching.constant.Goals as goal
+
+pub returns-then-value-le64-clause-makes : goal.returns-then-value-le64-clause-makes
+returns-then-value-le64-clause-makes c = λ is.
+    let d = c.args.draft.now in
+    let s = c.in_ok-spot.spot in
+    let e = c.in_ok-add_instr.ensures ∙ ap (λ x. with_instr x c.fetch-low.result) c.in_ok-spot.ensures.draft in
+    subst (λ x. Makes d x s (IsConstant c.args.value)) (sym e)
+    (constant_narrow d s c.args.value c.fetch-low.result is c.in_ok-spot.ensures.spot (omega (arith, c.if-value-le64.true)) c.fetch-low.ensures.op c.fetch-low.ensures.target
+    (c.fetch-low.ensures.mask ∙ c.low_word.ensures))
+
+pub returns-clause-makes : goal.returns-clause-makes
+returns-clause-makes c = λ is.
+    let d = c.args.draft.now in
+    let s = c.in_ok-spot.spot in
+    let e = c.in_ok-add_instr-3.ensures ∙ (ap (λ x. with_instr x c.fetch-high.result) c.in_ok-add_instr-2.ensures
+    ∙ ap (λ x. with_instr (with_instr x c.fetch-low.result) c.fetch-high.result) c.in_ok-spot.ensures.draft) in
+    subst (λ x. Makes d x s (IsConstant c.args.value)) (sym e)
+    (constant_wide d s c.args.value c.fetch-low.result c.fetch-high.result is c.in_ok-spot.ensures.spot (omega (arith, c.if-value-le64.false)) c.fetch-low.ensures.op c.fetch-high.ensures.op
+    c.fetch-low.ensures.target c.fetch-high.ensures.target (c.fetch-low.ensures.mask ∙ c.low_word.ensures) (c.fetch-high.ensures.mask ∙ c.high_word.ensures))

@@ -1,0 +1,102 @@
+-- Code that grows: each instruction writes slots that no earlier one writes, and reads what was written before.
+use Rattle.std.specs.Prelude.{◌≡◌, ℕ, ◌+◌, ◌*◌, ◌/◌, ◌%◌, ◌^◌, ◌<◌, ◌≤◌, true, List, [], ◌∷◌, ◌++◌, length, slice_index, pos, All}
+use Rattle.bit_words.specs.declared.value.Kind.{Kind}
+use Rattle.bit_words.specs.declared.value.Value.{Value}
+use Rattle.phase_core.specs.declared.model.Publication.{Publication}
+use Rattle.cycle_values.specs.Values.{fitted}
+use Rattle.net_meaning.specs.Shapes.{Shape, shaped, shape_of_value}
+use Rattle.net_meaning.specs.Words.{value_at}
+use Rattle.flat_code.specs.declared.instr.Instr.{Instr}
+use Rattle.flat_code.specs.declared.instr.Spot.{Spot}
+use Rattle.flat_code.specs.declared.instr.Wide.{Wide}
+use Rattle.flat_code.specs.declared.instr.Form.{Form}
+use Rattle.flat_code.specs.Meaning.{spot_shape, spot_values, form_value, input_word, input_high}
+use Rattle.flat_code.specs.Fine.{AreFine, IsSpot, IsWide, IsPort, Known, nothing, written, AreKnown, spot_slots, further_words}
+use Rattle.flat_code.specs.Orders.{Single, Solves, pushed_all}
+use Rattle.code_draft.specs.declared.draft.Draft.{Draft}
+
+-- the slots that the instructions write
+abbrev pub written_in : Draft → Known
+written_in d = written nothing d.wides d.instrs
+
+-- what the instructions publish at a frame
+abbrev pub pushed_in : Draft → List ℕ → List Publication
+pushed_in d F = pushed_all d.ports d.instrs F
+
+-- Code in order: every number is that of a slot, a shared word or an entry of its table; each slot is written once, and before it is read.
+pub record IsDraft (d : Draft) : Type 0 where
+  pub fine : AreFine d.slots d.words (length d.ports) (length d.wides) d.instrs
+  pub single : Single nothing d.ports d.wides d.instrs
+  pub below : (k : ℕ) → written_in d k ≡ true → k < d.slots
+  pub ports : All (IsPort d.slots d.words) d.ports
+  pub wides : All (IsWide d.slots d.words) d.wides
+
+-- The frame stays as it is under each instruction, where the shared words are words.
+pub record Solved (d : Draft) (words : List ℕ) (inputs : List Value) (F : List ℕ) : Type 0 where
+  pub long : d.slots ≤ length F
+  pub plain : (k : ℕ) → slice_index words k < 2 ^ 64
+  pub each : All (Solves d.wides words inputs F) d.instrs
+
+-- Code that goes on from other code, and publishes what that publishes and no more.
+pub record Grows (old new : Draft) : Type 0 where
+  pub is : IsDraft new
+  pub words : new.words ≡ old.words
+  pub slots : old.slots ≤ new.slots
+  pub stays : (k : ℕ) → written_in old k ≡ true → written_in new k ≡ true
+  pub back : (words : List ℕ) (inputs : List Value) (F : List ℕ) → Solved new words inputs F → Solved old words inputs F
+  pub quiet : (F : List ℕ) → pushed_in new F ≡ pushed_in old F
+
+-- The words of a value stand at a spot of its kind and width.
+pub record Holds (F : List ℕ) (s : Spot) (v : Value) : Type 0 where
+  pub shape : shape_of_value v ≡ spot_shape s
+  pub low : slice_index F s.low ≡ v.bits % 2 ^ 64
+  pub high : 64 < s.width → slice_index F s.high ≡ v.bits / 2 ^ 64
+
+-- A spot whose slots are written.
+pub record Stands (d : Draft) (s : Spot) : Type 0 where
+  pub within : IsSpot d.slots s
+  pub written : AreKnown (written_in d) (spot_slots s)
+
+-- What is wanted at a spot, of the shared words, the inputs and the frame.
+abbrev pub Wanted : Type 1
+Wanted = List ℕ → List Value → List ℕ → Value → Type 0
+
+-- Code that goes on, with a spot where the wanted value stands.
+pub record Makes (old new : Draft) (s : Spot) (V : Wanted) : Type 0 where
+  pub grows : Grows old new
+  pub stands : Stands new s
+  pub holds : (words : List ℕ) (inputs : List Value) (F : List ℕ) (v : Value) → Solved new words inputs F → V words inputs F v → Holds F s v
+
+-- The code with one thing more
+
+abbrev pub with_instr : Draft → Instr → Draft
+with_instr d i = record { instrs = d.instrs ++ i ∷ []; ports = d.ports; wides = d.wides; slots = d.slots; words = d.words }
+
+abbrev pub with_wide : Draft → Wide → Draft
+with_wide d w = record { instrs = d.instrs; ports = d.ports; wides = d.wides ++ w ∷ []; slots = d.slots; words = d.words }
+
+abbrev pub with_slots : Draft → ℕ → Draft
+with_slots d n = record { instrs = d.instrs; ports = d.ports; wides = d.wides; slots = d.slots + n; words = d.words }
+
+-- the spot of a kind and a width from a slot on
+abbrev pub spot_from : ℕ → Kind → ℕ → Spot → Type 0
+spot_from slot kind width s = (spot_shape s ≡ shaped kind width) × (s.low ≡ slot) × (s.high ≡ slot + further_words width)
+
+-- What can be fetched
+
+-- the value of the input of this number, fitted to a kind and width, 0 where there is none
+abbrev pub input_value : Shape → List Value → ℕ → Value
+input_value s inputs n = fitted s.kind s.width (pos (input_word inputs n + input_high inputs n * 2 ^ 64))
+
+abbrev pub IsConstant : Value → Wanted
+IsConstant c words inputs F v = v ≡ c
+
+abbrev pub IsWord : Shape → ℕ → Wanted
+IsWord s at words inputs F v = v ≡ value_at s words at
+
+abbrev pub IsInput : Shape → ℕ → Wanted
+IsInput s n words inputs F v = v ≡ input_value s inputs n
+
+-- the value of a form on what stands at spots, where it has this shape
+abbrev pub IsForm : Form → Spot → List Spot → Shape → Wanted
+IsForm form t operands s words inputs F v = (v ≡ form_value form t words (spot_values F operands)) × (shape_of_value v ≡ s)

@@ -1,0 +1,109 @@
+//! Values that are fetched: constants, shared words and inputs.
+
+ghost use Rattle.std.specs.Prelude.{◌≡◌, ◌≤◌, ◌<◌, ◌+◌, ◌^◌, ◌-◌, IfOk, OnOk};
+ghost use Rattle.flat_code.specs.Fine.{further_words};
+ghost use Rattle.net_meaning.specs.Shapes.{shaped};
+ghost use Rattle.code_draft.specs.Drafts.{IsDraft, Makes, IsConstant, IsWord, IsInput, with_instr};
+
+use crate::draft::Draft;
+use crate::steps::{add_instr, new_spot};
+use bit_words::{Kind, Value, high_word, low_word};
+use flat_code::{Instr, Op, Spot};
+use std::alloc::AllocError;
+
+/// A constant.
+pub fn constant(draft: &mut Draft, value: Value) -> Result<Spot, AllocError>
+    ensures shape { IfOk result (λ s. s.kind ≡ value.kind) }
+    ensures width { IfOk result (λ s. s.width ≡ value.width) }
+    ensures makes { IfOk result (λ s. IsDraft draft.old → Makes draft.old draft.new s (IsConstant value)) }
+{
+    let spot = new_spot(draft, value.kind, value.width)?;
+    let low = fetch(Op::Constant, 0, spot.low, low_word(value));
+    if value.width <= 64 {
+        add_instr(draft, low)?;
+        return Ok(spot);
+    }
+    let high = fetch(Op::Constant, 0, spot.high, high_word(value));
+    add_instr(draft, low)?;
+    add_instr(draft, high)?;
+    Ok(spot)
+}
+
+/// The value of a kind and a width, at most 128, that stands in the shared words from this one on.
+pub fn load(draft: &mut Draft, kind: Kind, width: u8, word: u32) -> Result<Spot, AllocError>
+    requires { width ≤ 128 }
+    ensures shape { IfOk result (λ s. s.kind ≡ kind) }
+    ensures width { IfOk result (λ s. s.width ≡ width) }
+    ensures makes { IfOk result (λ s. IsDraft draft.old → word + further_words width < draft.old.words → Makes draft.old draft.new s (IsWord (shaped kind width) word)) }
+{
+    let spot = new_spot(draft, kind, width)?;
+    let low = fetch(Op::Load, word, spot.low, low_mask(width));
+    if width <= 64 {
+        add_instr(draft, low)?;
+        return Ok(spot);
+    }
+    let Some(next) = word.checked_add(1) else {
+        return Err(AllocError);
+    };
+    let high = fetch(Op::Load, next, spot.high, high_mask(width));
+    add_instr(draft, low)?;
+    add_instr(draft, high)?;
+    Ok(spot)
+}
+
+/// The input of this number, fitted to a kind and a width of at most 128.
+pub fn input(draft: &mut Draft, kind: Kind, width: u8, number: u32) -> Result<Spot, AllocError>
+    requires { width ≤ 128 }
+    ensures shape { IfOk result (λ s. s.kind ≡ kind) }
+    ensures width { IfOk result (λ s. s.width ≡ width) }
+    ensures makes { IfOk result (λ s. IsDraft draft.old → Makes draft.old draft.new s (IsInput (shaped kind width) number)) }
+{
+    let spot = new_spot(draft, kind, width)?;
+    let low = fetch(Op::Input, number, spot.low, low_mask(width));
+    if width <= 64 {
+        add_instr(draft, low)?;
+        return Ok(spot);
+    }
+    let high = fetch(Op::InputHigh, number, spot.high, high_mask(width));
+    add_instr(draft, low)?;
+    add_instr(draft, high)?;
+    Ok(spot)
+}
+
+/// An instruction that reads no slot.
+fn fetch(op: Op, first: u32, target: u32, mask: u64) -> Instr
+    ensures op { result.op ≡ op }
+    ensures first { result.first ≡ first }
+    ensures target { result.target ≡ target }
+    ensures mask { result.mask ≡ mask }
+{
+    Instr {
+        op,
+        shift: 0,
+        first,
+        second: 0,
+        third: 0,
+        target,
+        mask,
+    }
+}
+
+/// The bits of the low word of a width.
+fn low_mask(width: u8) -> u64
+    ensures wide { 64 ≤ width → result ≡ 2 ^ 64 - 1 }
+    ensures narrow { width ≤ 64 → result ≡ 2 ^ width - 1 }
+{
+    if width >= 64 {
+        u64::MAX
+    } else {
+        (1 << width) - 1
+    }
+}
+
+/// The bits of the high word of a width above 64.
+fn high_mask(width: u8) -> u64
+    requires { 64 < width }
+    ensures { width ≤ 128 → result ≡ 2 ^ (width - 64) - 1 }
+{
+    low_mask(width - 64)
+}

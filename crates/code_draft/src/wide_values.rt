@@ -1,0 +1,55 @@
+//! Wide values.
+
+ghost use Rattle.std.specs.Prelude.{◌≡◌, ◌≤◌, ◌<◌, ◌+◌, Some, All, IfOk, OnOk};
+ghost use Rattle.flat_code.specs.declared.instr.Op.TheVariants.{Wide as Wide_op};
+ghost use Rattle.flat_code.specs.Fine.{form_shape, spot_shapes, InRegion, region_of};
+ghost use Rattle.net_meaning.specs.Shapes.{shaped};
+ghost use Rattle.code_draft.specs.Drafts.{IsDraft, Makes, Stands, IsForm};
+
+use crate::draft::Draft;
+use crate::steps::{add_instr, add_wide, new_spot};
+use bit_words::{Kind, List};
+use flat_code::{Form, Instr, Op, Spot, Wide};
+use std::alloc::AllocError;
+
+/// The value of a form on what stands at these spots, where it has this kind and this width of at most 128.
+pub fn wide_value(
+    draft: &mut Draft,
+    form: Form,
+    operands: List<Spot>,
+    kind: Kind,
+    width: u8,
+) -> Result<Spot, AllocError>
+    requires { width ≤ 128 }
+    ensures shape { IfOk result (λ s. s.kind ≡ kind) }
+    ensures width { IfOk result (λ s. s.width ≡ width) }
+    ensures makes { IfOk result (λ s. IsDraft draft.old → All (Stands draft.old) operands → form_shape form s (spot_shapes operands) ≡ Some (shaped kind width) → InRegion draft.old.words width (region_of form) → Makes draft.old draft.new s (IsForm form s operands (shaped kind width))) }
+{
+    let target = new_spot(draft, kind, width)?;
+    let number = add_wide(
+        draft,
+        Wide {
+            form,
+            operands,
+            target,
+        },
+    )?;
+    add_instr(draft, evaluation(number))?;
+    Ok(target)
+}
+
+/// The instruction that evaluates the wide value of this number.
+fn evaluation(number: u32) -> Instr
+    ensures op { result.op ≡ Wide_op }
+    ensures first { result.first ≡ number }
+{
+    Instr {
+        op: Op::Wide,
+        shift: 0,
+        first: number,
+        second: 0,
+        third: 0,
+        target: 0,
+        mask: 0,
+    }
+}

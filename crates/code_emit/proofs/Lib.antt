@@ -1,0 +1,4 @@
+pub mod Rowing
+pub mod Shaped
+pub mod Emitting
+pub mod Arms

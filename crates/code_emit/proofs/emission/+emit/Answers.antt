@@ -1,0 +1,239 @@
+use Rattle.std.proofs.Common.{rules, ◌≡◌, Some, IsSome, true, List, [], ◌∷◌, ◌++◌, ◌+◌, take, option_map, refl, sym, subst, ap, ap₂, ◌∙◌}
+use Rattle.std.proofs.lemmas.List.{take_more}
+use Rattle.ground_net.specs.declared.ground.Ground.{Ground, the_lemmas}
+use Rattle.ground_net.specs.declared.ground.Ground.TheVariants.{Const, Leaf, Op, Mux, Select, Load, Fit}
+use Rattle.net_meaning.specs.Shapes.{Shape, shaped, shape, shape_of_row, shape_of_choice, shape_of_items, shape_of_load, shape_of_fit, is_index, all_of}
+use Rattle.flat_code.specs.Meaning.{spot_shape}
+use Rattle.flat_code.specs.Fine.{spot_shapes, shape_of_picked}
+use Rattle.code_emit.specs.Emits.{sources_table, AreShaped, EmitsAll, elements_shape, shapes_in}
+use Rattle.code_emit.proofs.Shaped.{ok_so}
+use Rattle.code_emit.proofs.Arms.{ok_both, spot_shape_by, op_shaped, op_row, mux_shaped, mux_row, index_shaped, items_shaped, items_row, index_row, load_row, load_element, fit_shaped, fit_row, fit_is, picked_shape, one_ground, one_more_shape}
+use Rattle.code_emit.proofs.Emitting.{const_emits, leaf_emits, op_emits, mux_emits, fit_emits, select_emits, load_emits, both_emitted, one_more_emitted}
+use Rattle.code_emit.proofs.emission.+emit.Goals as goal
+
+pub emit-emit_all-requires : goal.emit-emit_all-requires
+emit-emit_all-requires t c =
+    let table = sources_table c.args.sources.now in (
+      search (rules, the_lemmas, c.in-Op.is),
+      subst (AreShaped table) (sym c.as_slice.ensures) (op_shaped table c.args.ground.now c.requires c.in-Op.prim c.in-Op.operands c.in-Op.params c.in-Op.is),
+    )
+
+pub emit-row_measure-measure-requires : goal.emit-row_measure-measure-requires
+emit-row_measure-measure-requires t c =
+    let table = sources_table c.args.sources.now in
+    let g = c.args.ground.now in
+    let prim = c.in-Op.prim in
+    let gs = c.as_slice.result.now in
+    let ps = c.as_slice-in-Op-2.result.now in
+    let e : g ≡ Op prim gs ps = c.in-Op.is ∙ ap₂ (λ os qs. Op prim os qs) (sym c.as_slice.ensures) (sym c.as_slice-in-Op-2.ensures) in
+    subst (λ ss. IsSome (shape_of_row prim ps (spot_shapes ss))) (sym c.as_slice-in-Op.ensures)
+    (subst (λ o. IsSome o) (sym (op_row table g c.requires prim gs ps c.in_ok-spots-in-Op.spots e c.in_ok-spots-in-Op.ensures.shapes)) c.requires)
+
+pub emit-emit_all-requires-in-Mux : goal.emit-emit_all-requires-in-Mux
+emit-emit_all-requires-in-Mux t c =
+    let table = sources_table c.args.sources.now in (
+      search (rules, the_lemmas, c.in-Mux.is),
+      subst (AreShaped table) (sym c.as_slice-in-Mux.ensures) (mux_shaped table c.args.ground.now c.requires c.in-Mux.items c.in-Mux.is),
+    )
+
+pub emit-choice_measure-measure-requires : goal.emit-choice_measure-measure-requires
+emit-choice_measure-measure-requires t c =
+    let table = sources_table c.args.sources.now in
+    let g = c.args.ground.now in
+    let gs = c.as_slice-in-Mux.result.now in
+    let e : g ≡ Mux gs = c.in-Mux.is ∙ ap Mux (sym c.as_slice-in-Mux.ensures) in
+    subst (λ ss. IsSome (shape_of_choice (spot_shapes ss))) (sym c.as_slice-in-Mux-2.ensures)
+    (subst (λ o. IsSome o) (sym (mux_row table g c.requires gs c.in_ok-spots-in-Mux.spots e c.in_ok-spots-in-Mux.ensures.shapes)) c.requires)
+
+pub emit-emit_all-requires-in-Select : goal.emit-emit_all-requires-in-Select
+emit-emit_all-requires-in-Select t c =
+    let table = sources_table c.args.sources.now in (
+      search (rules, the_lemmas, c.in-Select.is),
+      subst (AreShaped table) (sym c.as_slice-in-Select.ensures) (index_shaped table c.args.ground.now c.requires c.in-Select.index c.in-Select.items c.in-Select.is),
+    )
+
+pub emit-emit_all-requires-in-Select-2 : goal.emit-emit_all-requires-in-Select-2
+emit-emit_all-requires-in-Select-2 t c =
+    let table = sources_table c.args.sources.now in (
+      search (rules, the_lemmas, c.in-Select.is),
+      subst (AreShaped table) (sym c.as_slice-in-Select-2.ensures) (items_shaped table c.args.ground.now c.requires c.in-Select.index c.in-Select.items c.in-Select.is),
+    )
+
+pub emit-items_measure-measure-requires : goal.emit-items_measure-measure-requires
+emit-items_measure-measure-requires t c =
+    let table = sources_table c.args.sources.now in
+    let g = c.args.ground.now in
+    let is = c.as_slice-in-Select.result.now in
+    let gs = c.as_slice-in-Select-2.result.now in
+    let e : g ≡ Select is gs = c.in-Select.is ∙ ap₂ (λ os qs. Select os qs) (sym c.as_slice-in-Select.ensures) (sym c.as_slice-in-Select-2.ensures) in
+    subst (λ ss. IsSome (shape_of_items (spot_shapes ss))) (sym c.as_slice-in-Select-3.ensures)
+    (subst (λ o. IsSome o) (sym (items_row table g c.requires is gs c.in_ok-back-in-Select.back e c.in_ok-back-in-Select.ensures.shapes)) c.requires)
+
+pub emit-emit_all-requires-in-Fit : goal.emit-emit_all-requires-in-Fit
+emit-emit_all-requires-in-Fit t c =
+    let table = sources_table c.args.sources.now in (
+      search (rules, the_lemmas, c.in-Fit.is),
+      subst (AreShaped table) (sym c.as_slice-in-Fit.ensures) (fit_shaped table c.args.ground.now c.requires c.in-Fit.kind c.in-Fit.width c.in-Fit.items c.in-Fit.is),
+    )
+
+pub emit-returns-in-Const-clause-emits : goal.emit-returns-in-Const-clause-emits
+emit-returns-in-Const-clause-emits t c =
+    ok_so c.constant.result c.constant.ensures.makes (λ s m. const_emits c.args.sources.now c.args.ground.now c.in-Const.value c.args.draft.now c.constant.new.draft s c.in-Const.is m)
+
+pub emit-returns-in-Leaf-clause-emits : goal.emit-returns-in-Leaf-clause-emits
+emit-returns-in-Leaf-clause-emits t c =
+    ok_so c.fetch.result c.fetch.ensures.makes (λ s m. leaf_emits c.args.sources.now c.args.ground.now c.in-Leaf.leaf c.source_of.result c.args.draft.now c.fetch.new.draft s c.in-Leaf.is c.source_of.ensures m)
+
+pub emit-returns-in_ok-params-in-Op-clause-shape : goal.emit-returns-in_ok-params-in-Op-clause-shape
+emit-returns-in_ok-params-in-Op-clause-shape t c =
+    let table = sources_table c.args.sources.now in
+    let g = c.args.ground.now in
+    let prim = c.in-Op.prim in
+    let gs = c.as_slice.result.now in
+    let ps = c.as_slice-in-Op-2.result.now in
+    let ss = c.in_ok-spots-in-Op.spots in
+    let kind = c.row_measure-measure.result.kind in
+    let width = c.row_measure-measure.result.width in
+    let e : g ≡ Op prim gs ps = c.in-Op.is ∙ ap₂ (λ os qs. Op prim os qs) (sym c.as_slice.ensures) (sym c.as_slice-in-Op-2.ensures) in
+    let row : shape_of_row prim ps (spot_shapes ss) ≡ Some (shaped kind width) = ap (λ xs. shape_of_row prim ps (spot_shapes xs)) (sym c.as_slice-in-Op.ensures) ∙ c.row_measure-measure.ensures in
+    let at : shape g table ≡ Some (shaped kind width) = sym (op_row table g c.requires prim gs ps ss e c.in_ok-spots-in-Op.ensures.shapes) ∙ row in
+    ok_so c.wide_value.result (ok_both _ _ c.wide_value.result c.wide_value.ensures.shape c.wide_value.ensures.width) (λ s h. at ∙ ap Some (sym (spot_shape_by s kind width h.0 h.1)))
+
+pub emit-returns-in_ok-params-in-Op-clause-emits : goal.emit-returns-in_ok-params-in-Op-clause-emits
+emit-returns-in_ok-params-in-Op-clause-emits t c =
+    let S = c.args.sources.now in
+    let table = sources_table S in
+    let g = c.args.ground.now in
+    let prim = c.in-Op.prim in
+    let gs = c.as_slice.result.now in
+    let ps = c.in_ok-params-in-Op.params in
+    let ss = c.in_ok-spots-in-Op.spots in
+    let kind = c.row_measure-measure.result.kind in
+    let width = c.row_measure-measure.result.width in
+    let same : ps ≡ c.in-Op.params = c.in_ok-params-in-Op.ensures ∙ c.as_slice-in-Op-3.ensures in
+    let e : g ≡ Op prim gs ps = c.in-Op.is ∙ ap₂ (λ os qs. Op prim os qs) (sym c.as_slice.ensures) (sym same) in
+    let row : shape_of_row prim ps (spot_shapes ss) ≡ Some (shaped kind width) = ap₂ (λ qs xs. shape_of_row prim qs (spot_shapes xs)) (same ∙ sym c.as_slice-in-Op-2.ensures) (sym c.as_slice-in-Op.ensures)
+    ∙ c.row_measure-measure.ensures in
+    let at : shape g table ≡ Some (shaped kind width) = sym (op_row table g c.requires prim gs ps ss e c.in_ok-spots-in-Op.ensures.shapes) ∙ row in
+    ok_so c.wide_value.result c.wide_value.ensures.makes (λ s m.
+    op_emits S g prim gs ps c.args.draft.now c.emit_all.new.draft c.wide_value.new.draft ss s (shaped kind width) e c.in_ok-spots-in-Op.ensures.emits m row at)
+
+pub emit-returns-in_ok-spots-in-Mux-clause-shape : goal.emit-returns-in_ok-spots-in-Mux-clause-shape
+emit-returns-in_ok-spots-in-Mux-clause-shape t c =
+    let table = sources_table c.args.sources.now in
+    let g = c.args.ground.now in
+    let gs = c.as_slice-in-Mux.result.now in
+    let ss = c.in_ok-spots-in-Mux.spots in
+    let kind = c.choice_measure-measure.result.kind in
+    let width = c.choice_measure-measure.result.width in
+    let e : g ≡ Mux gs = c.in-Mux.is ∙ ap Mux (sym c.as_slice-in-Mux.ensures) in
+    let row : shape_of_choice (spot_shapes ss) ≡ Some (shaped kind width) = ap (λ xs. shape_of_choice (spot_shapes xs)) (sym c.as_slice-in-Mux-2.ensures) ∙ c.choice_measure-measure.ensures in
+    let at : shape g table ≡ Some (shaped kind width) = sym (mux_row table g c.requires gs ss e c.in_ok-spots-in-Mux.ensures.shapes) ∙ row in
+    ok_so c.wide_value-in-Mux.result (ok_both _ _ c.wide_value-in-Mux.result c.wide_value-in-Mux.ensures.shape c.wide_value-in-Mux.ensures.width) (λ s h. at ∙ ap Some (sym (spot_shape_by s kind width h.0 h.1)))
+
+pub emit-returns-in_ok-spots-in-Mux-clause-emits : goal.emit-returns-in_ok-spots-in-Mux-clause-emits
+emit-returns-in_ok-spots-in-Mux-clause-emits t c =
+    let S = c.args.sources.now in
+    let table = sources_table S in
+    let g = c.args.ground.now in
+    let gs = c.as_slice-in-Mux.result.now in
+    let ss = c.in_ok-spots-in-Mux.spots in
+    let kind = c.choice_measure-measure.result.kind in
+    let width = c.choice_measure-measure.result.width in
+    let e : g ≡ Mux gs = c.in-Mux.is ∙ ap Mux (sym c.as_slice-in-Mux.ensures) in
+    let row : shape_of_choice (spot_shapes ss) ≡ Some (shaped kind width) = ap (λ xs. shape_of_choice (spot_shapes xs)) (sym c.as_slice-in-Mux-2.ensures) ∙ c.choice_measure-measure.ensures in
+    let at : shape g table ≡ Some (shaped kind width) = sym (mux_row table g c.requires gs ss e c.in_ok-spots-in-Mux.ensures.shapes) ∙ row in
+    ok_so c.wide_value-in-Mux.result c.wide_value-in-Mux.ensures.makes (λ s m.
+    mux_emits S g gs c.args.draft.now c.emit_all-in-Mux.new.draft c.wide_value-in-Mux.new.draft ss s (shaped kind width) e c.in_ok-spots-in-Mux.ensures.emits m row at)
+
+pub emit-returns-in_ok-spots-in-Select-clause-shape : goal.emit-returns-in_ok-spots-in-Select-clause-shape
+emit-returns-in_ok-spots-in-Select-clause-shape t c =
+    let table = sources_table c.args.sources.now in
+    let g = c.args.ground.now in
+    let is = c.as_slice-in-Select.result.now in
+    let gs = c.as_slice-in-Select-2.result.now in
+    let back = c.in_ok-back-in-Select.back in
+    let kind = c.items_measure-measure.result.kind in
+    let width = c.items_measure-measure.result.width in
+    let e : g ≡ Select is gs = c.in-Select.is ∙ ap₂ (λ os qs. Select os qs) (sym c.as_slice-in-Select.ensures) (sym c.as_slice-in-Select-2.ensures) in
+    let row : shape_of_items (spot_shapes back) ≡ Some (shaped kind width) = ap (λ xs. shape_of_items (spot_shapes xs)) (sym c.as_slice-in-Select-3.ensures) ∙ c.items_measure-measure.ensures in
+    let at : shape g table ≡ Some (shaped kind width) = sym (items_row table g c.requires is gs back e c.in_ok-back-in-Select.ensures.shapes) ∙ row in
+    ok_so c.wide_value-in-Select.result (ok_both _ _ c.wide_value-in-Select.result c.wide_value-in-Select.ensures.shape c.wide_value-in-Select.ensures.width) (λ s h. at ∙ ap Some (sym (spot_shape_by s kind width h.0 h.1)))
+
+pub emit-returns-in_ok-spots-in-Select-clause-emits : goal.emit-returns-in_ok-spots-in-Select-clause-emits
+emit-returns-in_ok-spots-in-Select-clause-emits t c =
+    let S = c.args.sources.now in
+    let table = sources_table S in
+    let g = c.args.ground.now in
+    let is = c.as_slice-in-Select.result.now in
+    let gs = c.as_slice-in-Select-2.result.now in
+    let front = c.in_ok-front-in-Select.front in
+    let back = c.in_ok-back-in-Select.back in
+    let ss = c.in_ok-spots-in-Select.spots in
+    let kind = c.items_measure-measure.result.kind in
+    let width = c.items_measure-measure.result.width in
+    let e : g ≡ Select is gs = c.in-Select.is ∙ ap₂ (λ os qs. Select os qs) (sym c.as_slice-in-Select.ensures) (sym c.as_slice-in-Select-2.ensures) in
+    let same : ss ≡ front ++ back = c.in_ok-spots-in-Select.ensures ∙ ap (λ xs. front ++ xs) c.as_slice-in-Select-4.ensures in
+    let row : shape_of_items (spot_shapes back) ≡ Some (shaped kind width) = ap (λ xs. shape_of_items (spot_shapes xs)) (sym c.as_slice-in-Select-3.ensures) ∙ c.items_measure-measure.ensures in
+    let at : shape g table ≡ Some (shaped kind width) = sym (items_row table g c.requires is gs back e c.in_ok-back-in-Select.ensures.shapes) ∙ row in
+    let index : is_index (spot_shapes front) ≡ true = index_row table g c.requires is gs front e c.in_ok-front-in-Select.ensures.shapes in
+    let one = one_ground table is (spot_shapes front) c.in_ok-front-in-Select.ensures.shapes index in
+    let both = both_emitted S is gs c.args.draft.now c.emit_all-in-Select.new.draft c.emit_all-in-Select-2.new.draft front back c.in_ok-front-in-Select.ensures.emits c.in_ok-back-in-Select.ensures.emits in
+    let whole = ap (λ xs. shape_of_picked (spot_shapes xs)) same ∙ (picked_shape front back index ∙ row) in
+    ok_so c.wide_value-in-Select.result c.wide_value-in-Select.ensures.makes (λ s m.
+    select_emits S g is gs one.0 c.args.draft.now c.emit_all-in-Select-2.new.draft c.wide_value-in-Select.new.draft ss s (shaped kind width) e one.1
+    (subst (EmitsAll S (is ++ gs) c.args.draft.now c.emit_all-in-Select-2.new.draft) (sym same) both) m whole at)
+
+pub emit-returns-in_ok-spots-in-Load-clause-emits : goal.emit-returns-in_ok-spots-in-Load-clause-emits
+emit-returns-in_ok-spots-in-Load-clause-emits t c =
+    let S = c.args.sources.now in
+    let table = sources_table S in
+    let g = c.args.ground.now in
+    let m = c.in-Load.memory in
+    let k = c.in-Load.leaf in
+    let gs = c.as_slice-in-Load.result.now in
+    let ss = c.in_ok-spots-in-Load.spots in
+    let el = c.elements_of-elements.result in
+    let e : g ≡ Load m k gs = c.in-Load.is ∙ ap (λ xs. Load m k xs) (sym c.as_slice-in-Load.ensures) in
+    let known : table.element m k ≡ Some (elements_shape el) = ap (option_map elements_shape) c.elements_of-elements.ensures in
+    let at : shape g table ≡ Some (elements_shape el) = sym (load_element table g c.requires m k gs e) ∙ known in
+    let row : shape_of_load (table.element m k) (spot_shapes ss) ≡ shape g table = load_row table g c.requires m k gs ss e c.in_ok-spots-in-Load.ensures.shapes in
+    ok_so c.wide_value-in-Load.result (ok_both _ _ c.wide_value-in-Load.result (ok_both _ _ c.wide_value-in-Load.result c.wide_value-in-Load.ensures.shape c.wide_value-in-Load.ensures.width) c.wide_value-in-Load.ensures.makes) (λ s h.
+    let same : spot_shape s ≡ elements_shape el = spot_shape_by s el.kind el.width h.0.0 h.0.1 in
+    load_emits S g m k gs el c.args.draft.now c.emit_all-in-Load.new.draft c.wide_value-in-Load.new.draft ss s (elements_shape el) e c.elements_of-elements.ensures refl same c.in_ok-spots-in-Load.ensures.emits h.1
+    (ap (λ (u : Shape). shape_of_load (Some u) (spot_shapes ss)) same ∙ (ap (λ o. shape_of_load o (spot_shapes ss)) (sym known) ∙ (row ∙ at))) at)
+
+pub emit-returns-in_ok-spots-in-Fit-clause-emits : goal.emit-returns-in_ok-spots-in-Fit-clause-emits
+emit-returns-in_ok-spots-in-Fit-clause-emits t c =
+    let S = c.args.sources.now in
+    let table = sources_table S in
+    let g = c.args.ground.now in
+    let kind = c.in-Fit.kind in
+    let width = c.in-Fit.width in
+    let gs = c.as_slice-in-Fit.result.now in
+    let ss = c.in_ok-spots-in-Fit.spots in
+    let e : g ≡ Fit kind width gs = c.in-Fit.is ∙ ap (λ xs. Fit kind width xs) (sym c.as_slice-in-Fit.ensures) in
+    let at : shape g table ≡ Some (shaped kind width) = (fit_is table g c.requires kind width gs e).1 in
+    let row = fit_row table g c.requires kind width gs ss e c.in_ok-spots-in-Fit.ensures.shapes in
+    ok_so c.wide_value-in-Fit.result (ok_both _ _ c.wide_value-in-Fit.result (ok_both _ _ c.wide_value-in-Fit.result c.wide_value-in-Fit.ensures.shape c.wide_value-in-Fit.ensures.width) c.wide_value-in-Fit.ensures.makes) (λ s h.
+    let same : spot_shape s ≡ shaped kind width = spot_shape_by s kind width h.0.0 h.0.1 in
+    fit_emits S g kind width gs c.args.draft.now c.emit_all-in-Fit.new.draft c.wide_value-in-Fit.new.draft ss s (shaped kind width) e same c.in_ok-spots-in-Fit.ensures.emits h.1
+    (ap (λ (u : Shape). shape_of_fit u.kind u.width (spot_shapes ss)) same ∙ (row ∙ at)) at)
+
+pub emit_all-loop-ground-preserved : goal.emit_all-loop-ground-preserved
+emit_all-loop-ground-preserved t c =
+    let S = c.args.sources.now in
+    let gs = c.args.grounds.now in
+    let g = c.ground-item.result in
+    let k = c.loop-ground.ground-index in
+    let ss = c.loop-ground.spots in
+    let s = c.in_ok-emit.field-0 in
+    let longer : take (k + 1) gs ≡ take k gs ++ g ∷ [] = take_more gs k g c.loop-ground-test.true ∙ ap (λ h. take k gs ++ h ∷ []) (sym c.ground-item.is) in
+    let spots = c.in_ok-push.ensures.ok in
+    record {
+      shapes = ap (λ hs. all_of (shapes_in (sources_table S) hs)) longer ∙ (one_more_shape (sources_table S) (take k gs) g ss s c.loop-ground.invariant.shapes c.in_ok-emit.ensures.shape
+          ∙ ap (λ xs. Some (spot_shapes xs)) (sym spots));
+      emits = subst (λ hs. EmitsAll S hs c.args.draft.now c.emit.new.draft c.push.new.self) (sym longer)
+          (subst (λ xs. EmitsAll S (take k gs ++ g ∷ []) c.args.draft.now c.emit.new.draft xs) (sym spots)
+          (one_more_emitted S (take k gs) g c.args.draft.now c.loop-ground.draft c.emit.new.draft ss s c.loop-ground.invariant.emits c.in_ok-emit.ensures.emits));
+    }

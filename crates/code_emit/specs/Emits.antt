@@ -1,0 +1,96 @@
+-- Where the values of leaves and of memories are found, and code that computes the value of an expression.
+use Rattle.std.specs.Prelude.{◌≡◌, ℕ, ◌+◌, ◌*◌, ◌<◌, List, [], map, slice_get, Option, Some, None, option_map, option_and_then, nat_lt, if◌then◌else◌, pos, All, IsSome}
+use Rattle.bit_words.specs.declared.value.Kind.TheVariants.{Unsigned}
+use Rattle.bit_words.specs.declared.value.Value.{Value}
+use Rattle.cycle_values.specs.Values.{fitted}
+use Rattle.ground_net.specs.declared.ground.Ground.{Ground}
+use Rattle.ground_net.specs.Grounds.{Sight, value}
+use Rattle.net_meaning.specs.Shapes.{Shape, shaped, shape_of_value, Table, shape}
+use Rattle.net_meaning.specs.Words.{value_at}
+use Rattle.flat_code.specs.declared.instr.Spot.{Spot}
+use Rattle.flat_code.specs.Meaning.{spot_shape, spot_values}
+use Rattle.flat_code.specs.Fine.{InRegion, further_words}
+use Rattle.code_draft.specs.declared.draft.Draft.{Draft}
+use Rattle.code_draft.specs.Drafts.{IsDraft, Solved, Grows, Stands, Makes, Wanted, Holds, input_value}
+use Rattle.code_emit.specs.declared.sources.Kept.{Kept}
+use Rattle.code_emit.specs.declared.sources.Source.{Source}
+use Rattle.code_emit.specs.declared.sources.Source.TheVariants as source
+use Rattle.code_emit.specs.declared.sources.Elements.{Elements}
+use Rattle.code_emit.specs.declared.sources.Sources.{Sources}
+
+-- the source of a leaf, and of a leaf of the elements of a memory
+abbrev pub leaf_source : Sources → ℕ → Option Source
+leaf_source S x = option_and_then (λ o. o) (slice_get S.leaves x)
+
+abbrev pub element_source : Sources → ℕ → ℕ → Option Elements
+element_source S m k = option_and_then (λ es. slice_get es k) (slice_get S.memories m)
+
+-- Their kinds and widths.
+abbrev pub kept_shape : Kept → Shape
+kept_shape k = shaped k.kind k.width
+
+abbrev pub source_shape : Source → Shape
+source_shape (source.Word k) = kept_shape k
+source_shape (source.Input k) = kept_shape k
+source_shape (source.Frame s) = spot_shape s
+source_shape (source.Constant c) = shape_of_value c
+
+abbrev pub elements_shape : Elements → Shape
+elements_shape e = shaped e.kind e.width
+
+abbrev pub sources_table : Sources → Table
+sources_table S = record { leaf = λ x. option_map source_shape (leaf_source S x); element = λ m k. option_map elements_shape (element_source S m k) }
+
+-- Which value a source shows.
+abbrev pub IsOf : Source → Wanted
+IsOf (source.Word k) words inputs F v = v ≡ value_at (kept_shape k) words k.number
+IsOf (source.Input k) words inputs F v = v ≡ input_value (kept_shape k) inputs k.number
+IsOf (source.Frame s) words inputs F v = Holds F s v
+IsOf (source.Constant c) words inputs F v = v ≡ c
+
+-- the leaf of the element at an address, 0 past the depth
+abbrev pub element_value : Elements → List ℕ → Value → Value
+element_value e words address =
+    if nat_lt address.bits e.region.depth then value_at (elements_shape e) words (e.region.base + address.bits * e.region.stride) else fitted e.kind e.width (pos 0)
+
+-- A sight shows what the sources show.
+pub record Sees (S : Sources) (words : List ℕ) (inputs : List Value) (F : List ℕ) (sight : Sight) : Type 0 where
+  pub leaf : (x : ℕ) (src : Source) → leaf_source S x ≡ Some src → IsOf src words inputs F (sight.leaf x)
+  pub load : (m k : ℕ) (e : Elements) (address : Value) → element_source S m k ≡ Some e → address.kind ≡ Unsigned → sight.load m k address ≡ element_value e words address
+  pub shapes : (m k : ℕ) (e : Elements) (address : Value) → element_source S m k ≡ Some e → shape_of_value (sight.load m k address) ≡ elements_shape e
+
+-- The words and the slots of the sources are there.
+abbrev pub Fits : Draft → Source → Type 0
+Fits d (source.Word k) = k.number + further_words k.width < d.words
+Fits d (source.Input k) = Unit {0}
+Fits d (source.Frame s) = Stands d s
+Fits d (source.Constant c) = Unit {0}
+
+pub record AreSources (S : Sources) (d : Draft) : Type 0 where
+  pub leaves : (x : ℕ) (src : Source) → leaf_source S x ≡ Some src → Fits d src
+  pub regions : (m k : ℕ) (e : Elements) → element_source S m k ≡ Some e → InRegion d.words e.width e.region
+
+-- The value of an expression at a sight.
+abbrev pub ValueOf : Sources → Ground → Wanted
+ValueOf S g words inputs F v = (sight : Sight) × Sees S words inputs F sight × (v ≡ value g sight)
+
+-- Code that goes on to the value of an expression.
+abbrev pub Emits : Sources → Ground → Draft → Draft → Spot → Type 0
+Emits S g old new s = IsDraft old → AreSources S old → Makes old new s (ValueOf S g)
+
+-- Code that goes on to the values of expressions, in order.
+pub record MakesAll (S : Sources) (gs : List Ground) (old new : Draft) (ss : List Spot) : Type 0 where
+  pub grows : Grows old new
+  pub stand : All (Stands new) ss
+  pub holds : (words : List ℕ) (inputs : List Value) (F : List ℕ) (sight : Sight) → Solved new words inputs F → Sees S words inputs F sight → spot_values F ss ≡ map (λ g. value g sight) gs
+
+abbrev pub EmitsAll : Sources → List Ground → Draft → Draft → List Spot → Type 0
+EmitsAll S gs old new ss = IsDraft old → AreSources S old → MakesAll S gs old new ss
+
+-- expressions that are in order
+abbrev pub AreShaped : Table → List Ground → Type 0
+AreShaped table gs = All (λ g. IsSome (shape g table)) gs
+
+-- the kinds and widths of expressions
+abbrev pub shapes_in : Table → List Ground → List (Option Shape)
+shapes_in table gs = map (λ g. shape g table) gs

@@ -1,0 +1,99 @@
+//! Forms on spots: which kind and width they have, and their values.
+
+ghost use Rattle.std.specs.Prelude.{◌≡◌, ◌≤◌, ◌++◌, [], ◌∷◌, Some, IsSome, IfOk, All, length};
+ghost use Rattle.flat_code.specs.Meaning.{spot_shape};
+ghost use Rattle.flat_code.specs.Fine.{spot_shapes};
+ghost use Rattle.net_meaning.specs.Shapes.{shaped, shape_of_row, shape_of_choice, shape_of_items};
+ghost use Rattle.prim_ops.specs.declared.widths.Width.TheVariants.{Bits};
+ghost use Rattle.prim_ops.specs.Kinds.{row_kind};
+ghost use Rattle.prim_ops.specs.Widths.{row_width};
+ghost use Rattle.code_emit.specs.Rows.{IsRow};
+
+use bit_words::{Kind, List};
+use flat_code::Spot;
+use prim_ops::{Prim, Width, kind_of, width_of};
+use std::alloc::AllocError;
+
+/// A kind and a width of at most 128.
+#[derive(Clone, Copy)]
+pub(crate) struct Measure {
+    pub(crate) kind: Kind,
+    pub(crate) width: u8,
+    ghost narrow: { width ≤ 128 },
+}
+
+/// The kind and the width of an operation.
+pub(crate) fn row_measure(prim: Prim, operands: &[Spot], params: &[u128]) -> Measure
+    requires { IsSome (shape_of_row prim params.now (spot_shapes operands.now)) }
+    ensures { shape_of_row prim params.now (spot_shapes operands.now) ≡ Some (shaped result.kind result.width) }
+{
+    match operands {
+        [first] => measured(prim, &[first.kind], &[Width::Bits(first.width)], params),
+        [first, second] => measured(
+            prim,
+            &[first.kind, second.kind],
+            &[Width::Bits(first.width), Width::Bits(second.width)],
+            params,
+        ),
+        _ => unreachable!(),
+    }
+}
+
+/// The kind and the width of an operation on these kinds and widths.
+fn measured(prim: Prim, kinds: &[Kind], widths: &[Width], params: &[u128]) -> Measure
+    requires { IsRow prim kinds.now widths.now params.now }
+    ensures kind { row_kind prim kinds.now ≡ Some result.kind }
+    ensures width { row_width prim kinds.now widths.now params.now ≡ Bits result.width }
+{
+    let Some(kind) = kind_of(prim, kinds) else {
+        unreachable!();
+    };
+    let Width::Bits(width) = width_of(prim, kinds, widths, params) else {
+        unreachable!();
+    };
+    Measure { kind, width }
+}
+
+/// The kind and the width of the last spot.
+pub(crate) fn choice_measure(operands: &[Spot]) -> Measure
+    requires { IsSome (shape_of_choice (spot_shapes operands.now)) }
+    ensures { shape_of_choice (spot_shapes operands.now) ≡ Some (shaped result.kind result.width) }
+{
+    if operands.is_empty() {
+        unreachable!();
+    }
+    let last = operands[operands.len() - 1];
+    Measure {
+        kind: last.kind,
+        width: last.width,
+    }
+}
+
+/// The kind and the width of the first spot, and of no bits where there is none.
+pub(crate) fn items_measure(items: &[Spot]) -> Measure
+    requires { IsSome (shape_of_items (spot_shapes items.now)) }
+    ensures { shape_of_items (spot_shapes items.now) ≡ Some (shaped result.kind result.width) }
+{
+    if items.is_empty() {
+        return Measure {
+            kind: Kind::Unsigned,
+            width: 0,
+        };
+    }
+    let first = items[0];
+    Measure {
+        kind: first.kind,
+        width: first.width,
+    }
+}
+
+/// The spots of a list and those of a slice behind them.
+pub(crate) fn joined(front: List<Spot>, back: &[Spot]) -> Result<List<Spot>, AllocError>
+    ensures { IfOk result (λ all. all ≡ front ++ back.now) }
+{
+    let mut all = front;
+    for spot in back {
+        all.push(*spot)?;
+    }
+    Ok(all)
+}

@@ -1,0 +1,12 @@
+//! The code of expressions: flat instructions for the value of an expression, with slots of its own for each value on the way.
+//! Keeps the contract that in every frame that solves the code the spot has the value of the expression at every sight that shows
+//! what the sources show (FIRRTL specification 3.0, "Expressions" and "Primitive Operations").
+#![tactic(auto)]
+
+pub mod emission;
+pub mod forms;
+pub mod laws;
+pub mod sources;
+
+pub use emission::emit;
+pub use sources::{Elements, Kept, Source, Sources};

@@ -1,0 +1,59 @@
+//! Whole codes.
+
+ghost use Rattle.std.specs.Prelude.{◌≡◌, All, length, IfOk};
+ghost use Rattle.flat_code.specs.Meaning.{push_of as most_of, pushes};
+ghost use Rattle.code_draft.specs.Drafts.{IsDraft, Stands};
+ghost use Rattle.code_finish.specs.Finishing.{IsCodeOf};
+
+use bit_words::List;
+use code_draft::Draft;
+use flat_code::{Code, Instr, Op, Spot};
+use std::alloc::AllocError;
+
+/// The code of a draft, which puts out what stands at these spots, as the outputs at these positions of the watch list.
+pub fn finish(draft: Draft, shown: List<Spot>, positions: List<u32>) -> Result<Code, AllocError>
+    requires draft { IsDraft draft }
+    requires shown { All (Stands draft) shown }
+    requires positions { length positions ≡ length shown }
+    ensures effects { IfOk result (λ code. IsCodeOf code draft shown) }
+    ensures positions { IfOk result (λ code. code.positions ≡ positions) }
+    ensures words { IfOk result (λ code. code.words ≡ draft.words) }
+    ensures slots { IfOk result (λ code. code.slots ≡ draft.slots) }
+{
+    let most = publications(draft.instrs.as_slice())?;
+    Ok(Code {
+        instrs: draft.instrs,
+        ports: draft.ports,
+        wides: draft.wides,
+        shown,
+        positions,
+        slots: draft.slots,
+        words: draft.words,
+        most,
+    })
+}
+
+/// How many publications instructions make at most. A number that a machine can't count is want of memory.
+fn publications(instrs: &[Instr]) -> Result<usize, AllocError>
+    ensures { IfOk result (λ n. n ≡ pushes instrs.now) }
+{
+    let mut most: usize = 0;
+    for instr in instrs {
+        let Some(more) = most.checked_add(push_of(instr.op)) else {
+            return Err(AllocError);
+        };
+        most = more;
+    }
+    Ok(most)
+}
+
+/// How many publications an instruction makes at most.
+fn push_of(op: Op) -> usize
+    ensures { result ≡ most_of op }
+{
+    match op {
+        Op::Publish => 1,
+        Op::PublishAt => 2,
+        _ => 0,
+    }
+}

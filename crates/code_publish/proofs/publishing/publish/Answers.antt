@@ -1,0 +1,26 @@
+use Rattle.std.proofs.Common.{rules, ◌≡◌, ◌+◌, ◌<◌, ◌≤◌, ◌∙◌, sym, subst, ap, arith}
+use Rattle.code_draft.specs.Drafts.{with_instr}
+use Rattle.code_publish.specs.Publishing.{Publishes}
+use Rattle.code_publish.proofs.Loud.{on_ok_so, tells_one, tells_two}
+use Rattle.code_publish.proofs.publishing.publish.Goals as goal
+
+pub returns-then-spot-le64 : goal.returns-then-spot-le64
+returns-then-spot-le64 c =
+    let d = c.args.draft.now in
+    let s = c.args.spot in
+    let low = c.publication-low in
+    let few : s.width ≤ 64 = omega (arith, c.if-spot-le64.true) in
+    on_ok_so (c.add_instr.new.draft ≡ with_instr d low.result) (Publishes d c.add_instr.new.draft c.args.word s) c.add_instr.result c.add_instr.ensures (λ e.
+    subst (λ x. Publishes d x c.args.word s) (sym e) (tells_one d s low.result c.args.word few low.ensures.op low.ensures.first low.ensures.second))
+
+pub returns : goal.returns
+returns c =
+    let d = c.args.draft.now in
+    let s = c.args.spot in
+    let low = c.publication-low in
+    let high = c.publication-high in
+    let many : 64 < s.width = omega (arith, c.if-spot-le64.false) in
+    let next : c.in-Some.next ≡ c.args.word + 1 = search (rules, c.checked_add.ensures, c.in-Some.is, c.in-Some.ensures) in
+    on_ok_so (c.add_instr-3.new.draft ≡ with_instr c.add_instr-2.new.draft high.result) (Publishes d c.add_instr-3.new.draft c.args.word s) c.add_instr-3.result c.add_instr-3.ensures (λ e.
+    subst (λ x. Publishes d x c.args.word s) (sym (e ∙ ap (λ x. with_instr x high.result) c.in_ok-add_instr.ensures))
+    (tells_two d s low.result high.result c.args.word many low.ensures.op high.ensures.op low.ensures.first high.ensures.first low.ensures.second (high.ensures.second ∙ next)))

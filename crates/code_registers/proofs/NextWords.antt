@@ -1,0 +1,123 @@
+-- The words of a register's next integer are published.
+use Rattle.std.proofs.Common.{◌≡◌, ℕ, ◌+◌, ◌<◌, ◌≤◌, Bool, true, false, List, [], ◌∷◌, ◌++◌, map, flat_map, take, get_or, length, slice_get, Option, Some, None, ℤ, refl, sym, subst, ap, ap₂, ◌∙◌, arith}
+use Rattle.std.specs.Prelude.{Contains, IsSome, Result, Ok, Err, OnOk}
+use Rattle.std.proofs.lemmas.List.{append_assoc, append-nil, map-append, take_more}
+use Rattle.std.proofs.lemmas.Grind.{flat_map-append}
+use Rattle.std.proofs.lemmas.List.Elements.{Contains-append_left, Contains-append_right}
+use Rattle.bit_words.specs.declared.value.Value.{Value}
+use Rattle.bit_words.specs.Values.{integer_of}
+use Rattle.phase_core.specs.declared.model.Publication.{Publication}
+use Rattle.cycle_values.specs.Values.{fitted}
+use Rattle.cycle_values.proofs.Fittings.{refitted}
+use Rattle.ground_net.specs.declared.ground.Ground.{Ground}
+use Rattle.ground_net.specs.declared.net.Net.{Net}
+use Rattle.ground_net.specs.declared.net.NetRegister.{NetRegister}
+use Rattle.ground_net.specs.Grounds.{Sight, value}
+use Rattle.net_meaning.specs.Shapes.{Shape, shape, shape_of_value}
+use Rattle.net_meaning.specs.Cycles.{NetState, next, next_of_register}
+use Rattle.net_meaning.specs.Words.{register_word}
+use Rattle.flat_code.specs.declared.instr.Spot.{Spot}
+use Rattle.flat_code.specs.Meaning.{stored, spot_shape}
+use Rattle.flat_code.specs.Fine.{further_words, spot_slots, InRegion}
+use Rattle.flat_code.proofs.Frames.{spot_more}
+use Rattle.code_draft.specs.declared.draft.Draft.{Draft}
+use Rattle.code_draft.specs.Drafts.{IsDraft, Stands, pushed_in}
+use Rattle.code_emit.specs.declared.sources.Source.{Source}
+use Rattle.code_emit.specs.declared.sources.Source.TheVariants as source
+use Rattle.code_emit.specs.declared.sources.Sources.{Sources}
+use Rattle.code_emit.specs.Emits.{sources_table, Fits, AreSources, Emits}
+use Rattle.code_emit.proofs.Emitting.{sources_on}
+use Rattle.code_publish.specs.Publishing.{Tells, Publishes}
+use Rattle.code_registers.specs.Telling.{register_shape, register_told, registers_told, PublishesNext}
+
+pub some_same : {A : Type 0} {x y : A} → Some x ≡ Some y → x ≡ y
+some_same e = cc
+
+pub on_ok_so : {A E : Type 0} (P Q : Type 0) (r : Result A E) → OnOk r P → (P → Q) → OnOk r Q
+on_ok_so P Q (Ok x) h f = f h
+on_ok_so P Q (Err e) h f = tt
+
+-- sources stay where they are
+fits_told : (a b : Draft) (word : ℕ) (s : Spot) (src : Source) → Tells a b word s → Fits a src → Fits b src
+fits_told a b word s (source.Word k) t h = let e = t.words in omega (arith, h, e)
+fits_told a b word s (source.Input k) t h = tt
+fits_told a b word s (source.Frame u) t h = record { within = spot_more a.slots b.slots u t.slots h.within; written = λ k d lt. t.stays (get_or (spot_slots u) k d) (h.written k d lt) }
+fits_told a b word s (source.Constant c) t h = tt
+
+sources_told : (S : Sources) (a b : Draft) (word : ℕ) (s : Spot) → Tells a b word s → AreSources S a → AreSources S b
+sources_told S a b word s t h = record {
+  leaves = λ x src e. fits_told a b word s src t (h.leaves x src e);
+  regions = λ m k e at. subst (λ n. InRegion n e.width e.region) (sym t.words) (h.regions m k e at);
+}
+
+contains_one : (x : ℕ) → Contains (x ∷ []) x
+contains_one x = (0, omega arith, refl)
+
+-- one register
+pub one_register : (net : Net) (S : Sources) (n : ℕ) (register : NetRegister) (g : Ground) (old mid new : Draft) (s : Spot) (word : ℕ) → slice_get net.registers n ≡ Some register
+    → shape g (sources_table S) ≡ Some (register_shape net register)
+    → ((sight : Sight) (held : ℤ) → integer_of (sight.leaf register.leaf) ≡ held → integer_of (value g sight) ≡ next_of_register net sight (Some register) held)
+    → shape g (sources_table S) ≡ Some (spot_shape s) → Emits S g old mid s → Publishes mid new word s → word ≡ register_word net n → PublishesNext net S (n ∷ []) old new
+one_register net S n register g old mid new s word there shaped next_is at emits publishes is_word is srcs have =
+    let m = emits is srcs in
+    let same : spot_shape s ≡ register_shape net register = some_same (sym at ∙ shaped) in
+    let widths : further_words s.width ≡ further_words (register_shape net register).width = ap (λ (t : Shape). further_words t.width) same in
+    let room = have n register (contains_one n) there in
+    let kept = m.grows.words in
+    let t = publishes m.grows.is m.stands (omega (arith, widths, room, is_word, kept)) in
+    let first = m.grows.slots in
+    let second = t.slots in
+    record {
+      is = t.is;
+      are = sources_told S mid new word s t (sources_on S old mid m.grows srcs);
+      words = t.words ∙ m.grows.words;
+      slots = omega (arith, first, second);
+      stays = λ k h. t.stays k (m.grows.stays k h);
+      back = λ words inputs F sol. m.grows.back words inputs F (t.back words inputs F sol);
+      tells = λ words inputs F sight st sol sees shows.
+          let v = value g sight in
+          let h = m.holds words inputs F v (t.back words inputs F sol) (sight, sees, refl) in
+          let shape_is : shape_of_value v ≡ register_shape net register = h.shape ∙ same in
+          let integer : integer_of v ≡ (next net st sight).registers n = next_is sight (st.registers n) (shows n register there) ∙ ap (λ o. next_of_register net sight o (st.registers n)) (sym there) in
+          let is_value : v ≡ fitted (register_shape net register).kind (register_shape net register).width ((next net st sight).registers n) = sym (refitted v)
+          ∙ ap₂ (λ (u : Shape) i. fitted u.kind u.width i) shape_is integer in
+          t.tells F v h ∙ (ap₂ (λ ps qs. ps ++ qs) (m.grows.quiet F) (ap₂ (λ w u. stored w u) is_word is_value ∙ sym (append-nil (stored (register_word net n) (fitted (register_shape net register).kind (register_shape net register).width ((next net st sight).registers n)))))
+          ∙ ap (λ o. pushed_in old F ++ (register_told net st sight n o ++ [])) (sym there));
+    }
+
+-- none, and one more
+pub no_registers : (net : Net) (S : Sources) (d : Draft) → PublishesNext net S [] d d
+no_registers net S d is srcs have = record {
+  is = is;
+  are = srcs;
+  words = refl;
+  slots = omega arith;
+  stays = λ k h. h;
+  back = λ words inputs F sol. sol;
+  tells = λ words inputs F sight st sol sees shows. sym (append-nil (pushed_in d F));
+}
+
+pub one_more_register : (net : Net) (S : Sources) (ns : List ℕ) (n : ℕ) (a b c : Draft) → PublishesNext net S ns a b → PublishesNext net S (n ∷ []) b c → PublishesNext net S (ns ++ n ∷ []) a c
+one_more_register net S ns n a b c first then_one is srcs have =
+    let f = first is srcs (λ k r there e. have k r (Contains-append_left ns (n ∷ []) k there) e) in
+    let kept = f.words in
+    let g = then_one f.is f.are (λ k r there e. let room = have k r (Contains-append_right ns (n ∷ []) k there) e in omega (arith, room, kept)) in
+    let one = f.slots in
+    let two = g.slots in
+    record {
+      is = g.is;
+      are = g.are;
+      words = g.words ∙ f.words;
+      slots = omega (arith, one, two);
+      stays = λ k h. g.stays k (f.stays k h);
+      back = λ words inputs F sol. f.back words inputs F (g.back words inputs F sol);
+      tells = λ words inputs F sight st sol sees shows.
+          g.tells words inputs F sight st sol sees shows
+          ∙ (ap (λ ps. ps ++ registers_told net st sight (n ∷ [])) (f.tells words inputs F sight st (g.back words inputs F sol) sees shows)
+          ∙ (append_assoc (pushed_in a F) (registers_told net st sight ns) (registers_told net st sight (n ∷ []))
+          ∙ ap (λ ps. pushed_in a F ++ ps) (sym (flat_map-append (λ k. register_told net st sight k (slice_get net.registers k)) ns (n ∷ [])))));
+    }
+
+-- the numbers of one pair more
+pub numbers_more : (xs : List (ℕ × ℕ)) (k : ℕ) (d : ℕ × ℕ) → k < length xs → map (λ (both : ℕ × ℕ). both.0) (take (k + 1) xs) ≡ map (λ (both : ℕ × ℕ). both.0) (take k xs) ++ (get_or xs k d).0 ∷ []
+numbers_more xs k d lt = ap (map (λ (both : ℕ × ℕ). both.0)) (take_more xs k d lt) ∙ map-append (λ (both : ℕ × ℕ). both.0) (take k xs) (get_or xs k d ∷ [])

@@ -1,0 +1,29 @@
+use Rattle.std.proofs.Common.{◌≡◌, Some, slice_get, [], ◌∷◌, sym, subst, ap, ◌∙◌}
+use Rattle.ground_net.specs.Reads.{driver_of}
+use Rattle.net_meaning.specs.Shapes.{shape}
+use Rattle.next_grounds.specs.Nexts.{next_ground}
+use Rattle.code_emit.specs.Emits.{sources_table}
+use Rattle.code_publish.specs.Publishing.{Publishes}
+use Rattle.code_registers.specs.Telling.{register_shape, PublishesNext}
+use Rattle.code_registers.proofs.NextWords.{some_same, on_ok_so, one_register}
+use Rattle.code_registers.proofs.publishing.publish_register.Goals as goal
+
+pub returns : goal.returns
+returns c =
+    let net = c.args.net.now in
+    let S = c.args.sources.now in
+    let table = sources_table S in
+    let n = c.args.numbers.0 in
+    let register = c.in-Some.register.now in
+    let next = c.in_ok-next.next in
+    let s = c.in_ok-spot.spot in
+    let old = c.args.draft.now in
+    let mid = c.emit.new.draft in
+    let new = c.publish.new.draft in
+    let found : slice_get net.registers n ≡ Some register = sym c.in-Some.ensures.value in
+    let same = some_same (sym c.requires.shaped.there ∙ found) in
+    let known : shape (next_ground register (driver_of net register.leaf)) table ≡ Some (register_shape net register)
+    = subst (λ r. shape (next_ground r (driver_of net r.leaf)) table ≡ Some (register_shape net r)) same c.requires.shaped.shaped in
+    let shaped : shape next table ≡ Some (register_shape net register) = ap (λ g. shape g table) c.in_ok-next.ensures.itself ∙ known in
+    on_ok_so (Publishes mid new c.args.numbers.1 s) (PublishesNext net S (n ∷ []) old new) c.publish.result c.publish.ensures (λ publishes.
+    one_register net S n register next old mid new s c.args.numbers.1 found shaped c.in_ok-next.ensures.value c.in_ok-spot.ensures.shape c.in_ok-spot.ensures.emits publishes c.requires.word)

@@ -1,0 +1,51 @@
+//! Registers.
+
+ghost use Rattle.std.specs.Prelude.{◌≡◌, [], ◌∷◌, All, map, length, OnOk};
+ghost use Rattle.net_meaning.specs.Words.{register_word};
+ghost use Rattle.code_registers.specs.Telling.{IsNextShaped, PublishesNext};
+
+use code_draft::Draft;
+use code_emit::{Sources, emit};
+use code_publish::publish;
+use ground_net::Net;
+use next_grounds::next_ground;
+use std::alloc::{AllocError, Global};
+
+/// Adds code that publishes what the registers of these numbers hold next, in order, each from its word on.
+pub fn publish_registers(
+    alloc: Global,
+    draft: &mut Draft,
+    sources: &Sources,
+    net: &Net,
+    registers: &[(u32, u32)],
+) -> Result<(), AllocError>
+    requires shaped { All (λ both. IsNextShaped net.now sources.now both.0) registers.now }
+    requires words { All (λ both. both.1 ≡ register_word net.now both.0) registers.now }
+    ensures { OnOk result (PublishesNext net.now sources.now (map (λ both. both.0) registers.now) draft.old draft.new) }
+{
+    for both in registers {
+        publish_register(alloc, draft, sources, net, *both)?;
+    }
+    Ok(())
+}
+
+/// Adds code that publishes what a register holds next.
+fn publish_register(
+    alloc: Global,
+    draft: &mut Draft,
+    sources: &Sources,
+    net: &Net,
+    numbers: (u32, u32),
+) -> Result<(), AllocError>
+    requires shaped { IsNextShaped net.now sources.now numbers.0 }
+    requires word { numbers.1 ≡ register_word net.now numbers.0 }
+    ensures { OnOk result (PublishesNext net.now sources.now (numbers.0 ∷ []) draft.old draft.new) }
+{
+    let (number, word) = numbers;
+    let Some(register) = net.registers.get(number as usize) else {
+        unreachable!();
+    };
+    let next = next_ground(alloc, net, register)?;
+    let spot = emit(alloc, draft, sources, &next)?;
+    publish(draft, spot, word)
+}

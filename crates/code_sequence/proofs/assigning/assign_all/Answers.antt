@@ -1,0 +1,29 @@
+use Rattle.std.proofs.Common.{◌≡◌, ◌+◌, slice_index, take, drop, sym, subst, ap, ◌∙◌}
+use Rattle.std.proofs.lemmas.List.{take_more, drop_more, drop_all}
+use Rattle.code_emit.specs.Emits.{sources_table}
+use Rattle.code_sequence.specs.Sequences.{InTurn, Assigns, turned_table}
+use Rattle.code_sequence.proofs.Turns.{in_turn_next, next_table, one_more_assigned}
+use Rattle.code_sequence.proofs.assigning.assign_all.Goals as goal
+
+pub loop-leaf-preserved : goal.loop-leaf-preserved
+loop-leaf-preserved c =
+    let drivers = c.args.drivers.now in
+    let xs = c.args.sequence.now in
+    let k = c.loop-leaf.leaf-index in
+    let x = slice_index xs k in
+    let S = c.loop-leaf.sources in
+    let T = c.assign.new.sources in
+    let lt = c.loop-leaf-test.true in
+    let turn = subst (InTurn (sources_table S) drivers) (drop_more xs k 0 lt) c.loop-leaf.invariant.turn in
+    record {
+      long = c.in_ok-assign.ensures.leaves ∙ c.loop-leaf.invariant.long;
+      turn = in_turn_next S T drivers x (drop (k + 1) xs) turn c.in_ok-assign.ensures.table;
+      table = next_table S T drivers x (drop (k + 1) xs) turn c.in_ok-assign.ensures.table ∙ (ap (turned_table (sources_table S) drivers) (sym (drop_more xs k 0 lt)) ∙ c.loop-leaf.invariant.table);
+      assigns = subst (λ ys. Assigns drivers ys c.args.sources.now c.args.draft.now T c.assign.new.draft) (sym (take_more xs k 0 lt))
+          (one_more_assigned drivers (take k xs) x c.args.sources.now S T c.args.draft.now c.loop-leaf.draft c.assign.new.draft c.loop-leaf.invariant.assigns c.in_ok-assign.ensures.assigns);
+    }
+
+pub returns-clause-table : goal.returns-clause-table
+returns-clause-table c =
+    let none = drop_all c.loop-leaf.leaf-index c.args.sequence.now c.loop-leaf-test.false in
+    sym (ap (turned_table (sources_table c.loop-leaf.sources) c.args.drivers.now) none) ∙ c.loop-leaf.invariant.table

@@ -1,0 +1,2 @@
+-- what the bodies give
+pub mod Nexts

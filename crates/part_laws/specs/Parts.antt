@@ -1,0 +1,30 @@
+-- A code that is put together by layers: the sources of a net, its assignments in turn, what its registers hold next, and the whole.
+use Rattle.std.specs.Prelude.{◌≡◌, ℕ, List, [], map, Some, Contains}
+use Rattle.ground_net.specs.declared.net.Net.{Net}
+use Rattle.ground_net.specs.Reads.{IsAssigned}
+use Rattle.flat_code.specs.declared.code.Code.{Code}
+use Rattle.flat_code.specs.declared.instr.Spot.{Spot}
+use Rattle.code_draft.specs.declared.draft.Draft.{Draft}
+use Rattle.code_emit.specs.declared.sources.Source.TheVariants as source
+use Rattle.code_emit.specs.declared.sources.Sources.{Sources}
+use Rattle.code_emit.specs.Emits.{leaf_source}
+use Rattle.code_sequence.specs.Sequences.{Goes}
+use Rattle.code_registers.specs.Telling.{TellsNext}
+use Rattle.code_finish.specs.Finishing.{IsCodeOf}
+use Rattle.source_laws.specs.FromNets.{AreOf}
+
+-- A code of these assignments, which publishes what these registers hold next and puts out these leaves.
+pub record IsPart (net : Net) (assignments registers shown : List ℕ) (code : Code) : Type 0 where
+  pub first : Sources
+  pub of : AreOf net first
+  pub later : Sources
+  pub empty : Draft
+  pub none : empty.instrs ≡ []
+  pub assigned : Draft
+  pub goes : Goes net.drivers assignments first empty later assigned
+  pub are : (x : ℕ) → Contains assignments x → IsAssigned net.leaves x
+  pub told : Draft
+  pub tells : TellsNext net later registers assigned told
+  pub spots : List Spot
+  pub whole : IsCodeOf code told spots
+  pub stand : map (leaf_source later) shown ≡ map (λ s. Some (source.Frame s)) spots
