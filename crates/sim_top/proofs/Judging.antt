@@ -1,22 +1,19 @@
 -- What a command answers, from what the text is.
-use Rattle.std.proofs.Common.{◌≡◌, ℕ, ◌<◌, ◌≤◌, List, ◌⊎◌, ⊎_elim, length, refl, sym, ap, ◌∙◌, subst, arith}
+use Rattle.std.proofs.Common.{◌≡◌, ℕ, ◌<◌, ◌≤◌, List, ◌⊎◌, ⊎_elim, length, sym, ap, ◌∙◌, subst, arith}
 use Rattle.std.specs.Prelude.{Some, None, Result, Ok, Err, codes}
 use Rattle.place_text.specs.declared.place.Place.{Place}
 use Rattle.place_text.specs.Places.{first_place}
 use Rattle.fault_order.specs.First.{IsFirst, HasNone as HasNoFault}
 use Rattle.fault_order.specs.Verdicts.{IsVerdict}
-use Rattle.fir_tree.specs.declared.scope.Fitted.{Fitted}
 use Rattle.fir_meaning.specs.Components.{design_of}
-use Rattle.ground_net.specs.declared.net.Ports.{Ports}
 use Rattle.stimulus.specs.declared.stimulus.Stimulus.{Stimulus}
 use Rattle.stimulus.specs.declared.fault.StimFault.{StimFault}
 use Rattle.stimulus.specs.Faults.{IsFault, place_of, rank_of}
 use Rattle.stimulus.specs.Stimuli.{IsStimulus}
 use Rattle.circuit_run.specs.Ports.{ArePortsOf}
-use Rattle.circuit_run.specs.Traces.{IsTraceText}
 use Rattle.circuit_run.proofs.Parts.{ports_of_circuit}
 use Rattle.trace_print.specs.Listing.{listing_of}
-use Rattle.sim_engine.specs.Stages.{circuit_limit, IsAccepted, IsFirstFault}
+use Rattle.sim_engine.specs.Stages.{circuit_limit, IsFirstFault}
 use Rattle.sim_engine.specs.Building.{IsBuilt}
 use Rattle.sim_engine.specs.Faults.{fault_place}
 use Rattle.sim_engine.specs.declared.compile.Built.{Built}
@@ -29,7 +26,7 @@ use Rattle.sim_top.specs.declared.fault.WholeFault.TheVariants.{TooLong, NoStimu
 use Rattle.sim_top.specs.declared.judge.Decision.{Decision}
 use Rattle.sim_top.specs.declared.judge.Decision.TheVariants as decision
 use Rattle.sim_top.specs.StimulusLine.{HasNone}
-use Rattle.sim_top.specs.Answers.{fault_bytes, whole_bytes, stimulus_bytes, whole_stimulus_bytes, joined_limit, stimulus_limit, IsPart, IsTaken, Runs, stimulus_too_long, stimulus_refused, traced, JudgesTexts, refused, accepted, listed, ran, Judges, no_stimulus, circuit_too_long, taken}
+use Rattle.sim_top.specs.Answers.{fault_bytes, whole_bytes, stimulus_bytes, whole_stimulus_bytes, joined_limit, stimulus_limit, IsPart, Runs, stimulus_too_long, stimulus_refused, traced, refused, accepted, listed, ran, no_stimulus, circuit_too_long, taken}
 use Rattle.sim_top.specs.Serving.{IsServed, SettlesTexts, Settles}
 use Rattle.sim_top.specs.Decisions.{Gives}
 use Rattle.sim_top.proofs.Splitting.{part_once, run_has_line}

@@ -4,7 +4,6 @@ use Rattle.std.specs.Prelude.{codes, Some, None, Result, Err}
 use Rattle.std.proofs.lemmas.Bool.{cases_eq}
 use Rattle.std.proofs.lemmas.Grind.{common_steps}
 use Rattle.place_text.specs.Places.{first_place}
-use Rattle.place_text.specs.declared.place.Place.{Place}
 use Rattle.leaf_names.specs.LeafNames.{Texts}
 use Rattle.fir_meaning.specs.Components.{Design}
 use Rattle.shelf_io.specs.Outside.{Appends, Rose}

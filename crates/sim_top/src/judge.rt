@@ -107,12 +107,12 @@ pub fn judge_texts(
 }
 
 /// What `run` answers to a circuit's text, within its limit, under a stimulus's text that is longer than its own.
-pub fn judge_under_long(alloc: Global, circuit: &[u8]) -> Result<Reply, AllocError>
-    requires { length circuit.now ≤ circuit_limit }
-    ensures settles { IfOk result (λ r. (stimulus : List ℕ) → stimulus_limit < length stimulus → SettlesTexts Command.Run circuit.now stimulus r.status r.bytes.items) }
+pub fn judge_under_long(alloc: Global, text: &[u8]) -> Result<Reply, AllocError>
+    requires { length text.now ≤ circuit_limit }
+    ensures settles { IfOk result (λ r. (stimulus : List ℕ) → stimulus_limit < length stimulus → SettlesTexts Command.Run text.now stimulus r.status r.bytes.items) }
     ensures line { IfOk result (λ r. IsFaultLine r.status r.bytes.items) }
 {
-    match compile_text(alloc, circuit) {
+    match compile_text(alloc, text) {
         Ok(_built) => Ok(refuse_long_stimulus(alloc)?),
         Err(fault) => Ok(refuse(alloc, &fault)?),
     }

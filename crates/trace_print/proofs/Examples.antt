@@ -1,5 +1,5 @@
 -- The lines of a trace, and the listing of a small circuit.
-use Rattle.std.proofs.Common.{◌≡◌, ℕ, Bool, true, false, [], ◌∷◌, map, sum, zip, codes, Some, refl, ap, ◌∙◌, arith, lit≤, lit<}
+use Rattle.std.proofs.Common.{◌≡◌, ℕ, Bool, true, false, [], ◌∷◌, zip, codes, Some, refl, ap, ◌∙◌, arith, lit≤, lit<}
 use Rattle.std.specs.Fmt.{digits}
 use Rattle.std.specs.List.{flat_map}
 use Rattle.std.proofs.lemmas.Grind.{common_steps}
@@ -13,7 +13,7 @@ use Rattle.fir_types.specs.declared.fir_type.Shape.TheVariants as shape
 use Rattle.fir_types.specs.declared.fir_type.Field.{Field}
 use Rattle.fir_types.specs.declared.leaf.PathStep.TheVariants as step
 use Rattle.fir_types.specs.declared.port.Port.{Port}
-use Rattle.fir_types.specs.Leaves.{leaves, count}
+use Rattle.fir_types.specs.Leaves.{leaves}
 use Rattle.fir_tree.specs.declared.circuit.Module.{Module}
 use Rattle.fir_tree.specs.declared.expr.Expr.{Expr}
 use Rattle.fir_tree.specs.declared.scope.Fitted.{Fitted}
@@ -23,7 +23,7 @@ use Rattle.trace_print.specs.declared.component.Component.{Component}
 use Rattle.trace_print.specs.Trace.{header_of, trace_line_of}
 use Rattle.trace_print.specs.Components.{stmt_declared, components_of}
 use Rattle.leaf_names.specs.LeafNames.{Texts}
-use Rattle.trace_print.specs.Listing.{component_lines, listing_of, leaves_where, leaves_listed}
+use Rattle.trace_print.specs.Listing.{component_lines, listing_of}
 
 -- a header
 
@@ -125,13 +125,10 @@ bundle_leaves = grind (arith, type_lemmas)
 wire_leaves : leaves (typ (shape.Signed (Some 4))) ≡ record { path = []; flip = false; typ = typ (shape.Signed (Some 4)) } ∷ []
 wire_leaves = grind (arith, type_lemmas)
 
--- The clock has no line, and is counted.
+-- The clock has no line.
 three_lines : listing_of fitted ≡ codes "C io.v[0].x UInt 3\nC io.v[1].x UInt 3\nM w SInt 4\n"
 unfolding digits
 three_lines = ap (λ all. flat_map (component_lines texts) (zip all fitted.declared)) five_components ∙ rw (clock_leaves, bundle_leaves, wire_leaves)
-
-four_leaves : leaves_listed fitted ≡ 4
-four_leaves = ap (λ all. sum (map (λ (one : Component × FirType). leaves_where one.0.listed (count one.1)) (zip all fitted.declared))) five_components ∙ simp type_lemmas
 
 -- a wire in an arm of a `when`, and a node in its `else`
 both_branches : (e : Expr) → stmt_declared (stmt.When (record { condition = e; body = stmt.Wire (name 8) (typ shape.Reset) ∷ [] } ∷ []) (stmt.Node (name 6) e ∷ [])) (name 1) true

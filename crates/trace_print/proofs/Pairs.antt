@@ -1,5 +1,5 @@
 -- A walk over two lists side by side.
-use Rattle.std.proofs.Common.{◌≡◌, ℕ, ◌+◌, ◌<◌, List, [], ◌∷◌, ◌++◌, length, take, get_or, map, sum, min, zip, sym, ap, ap₂, ◌∙◌, arith, append-nil}
+use Rattle.std.proofs.Common.{◌≡◌, ℕ, ◌+◌, ◌<◌, List, [], ◌∷◌, ◌++◌, length, take, get_or, min, zip, sym, ap, ap₂, ◌∙◌, arith, append-nil}
 use Rattle.std.specs.List.{flat_map}
 use Rattle.std.proofs.lemmas.Grind.{common_steps, flat_map-append}
 use Rattle.std.proofs.lemmas.List.{take_more, length-append}
@@ -23,17 +23,6 @@ pub lines_more : {A B Y : Type 0} (f : A × B → List ℕ) (ks : List A) (vs : 
 lines_more f ks vs yielded y k v text after below_ks below_vs is_k is_v h a =
     let pairs = take (length yielded) (zip ks vs) in
     a ∙ ap₂ (λ s t. s ++ t) h (sym (append-nil (f (k, v)))) ∙ sym (flat_map-append f pairs ((k, v) ∷ [])) ∙ ap (flat_map f) (sym (pair_more ks vs yielded y k v below_ks below_vs is_k is_v))
-
--- the total with one pair more, up to a greatest number
-pub total_more : {A B Y : Type 0} (f : A × B → ℕ) (ks : List A) (vs : List B) (yielded : List Y) (y : Y) (k : A) (v : B) (top total n after : ℕ) → length yielded < length ks
-    → length yielded < length vs → ((d : A) → k ≡ get_or ks (length yielded) d) → ((d : B) → v ≡ get_or vs (length yielded) d)
-    → total ≡ min (sum (map f (take (length yielded) (zip ks vs)))) top → n ≡ min (f (k, v)) top → after ≡ min (total + n) top
-    → after ≡ min (sum (map f (take (length (yielded ++ y ∷ [])) (zip ks vs)))) top
-total_more f ks vs yielded y k v top total n after below_ks below_vs is_k is_v h m a =
-    let pairs = take (length yielded) (zip ks vs) in
-    let split : sum (map f (pairs ++ (k, v) ∷ [])) ≡ sum (map f pairs) + f (k, v) = grind (arith, common_steps) in
-    let whole = ap (λ ps. sum (map f ps)) (pair_more ks vs yielded y k v below_ks below_vs is_k is_v) in
-    omega (arith, split, whole)
 
 -- all pairs
 pub all_pairs : {A B : Type 0} (ks : List A) (vs : List B) (n : ℕ) → n ≡ min (length ks) (length vs) → take n (zip ks vs) ≡ zip ks vs

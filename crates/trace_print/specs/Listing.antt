@@ -1,11 +1,11 @@
 -- The listing of a circuit's widths: `MODULE LEAF KIND WIDTH` for each leaf with a width of what is listed, in text order. A leaf is
 -- written as in an expression, such as `io.v[2].x`.
-use Rattle.std.specs.Prelude.{ℕ, Bool, true, false, List, [], ◌++◌, map, flat_map, zip, sum, Option, Some, None, codes, decimal}
+use Rattle.std.specs.Prelude.{ℕ, Bool, true, false, List, [], ◌++◌, flat_map, zip, Option, Some, None, codes, decimal}
 use Rattle.fir_types.specs.declared.fir_type.FirType.{FirType}
 use Rattle.fir_types.specs.declared.fir_type.Shape.{Shape}
 use Rattle.fir_types.specs.declared.fir_type.Shape.TheVariants as shape
 use Rattle.fir_types.specs.declared.leaf.TypeLeaf.{TypeLeaf}
-use Rattle.fir_types.specs.Leaves.{leaves, count}
+use Rattle.fir_types.specs.Leaves.{leaves}
 use Rattle.fir_tree.specs.declared.scope.Fitted.{Fitted}
 use Rattle.leaf_names.specs.LeafNames.{Texts, text_of, way_text}
 use Rattle.trace_print.specs.declared.component.Component.{Component}
@@ -43,11 +43,3 @@ typed_components fitted = zip (components_of fitted.checked.circuit.modules fitt
 -- the whole listing
 abbrev pub listing_of : Fitted → List ℕ
 listing_of fitted = flat_map (component_lines fitted.checked.circuit.names) (typed_components fitted)
-
--- how many leaves the listed components have, clocks among them
-abbrev pub leaves_where : Bool → ℕ → ℕ
-leaves_where true n = n
-leaves_where false n = 0
-
-abbrev pub leaves_listed : Fitted → ℕ
-leaves_listed fitted = sum (map (λ one. leaves_where one.0.listed (count one.1)) (typed_components fitted))

@@ -10,5 +10,5 @@ mod trace;
 
 pub use component::Component;
 pub use declarations::components;
-pub use listing::{listed_leaves, widths_text};
+pub use listing::widths_text;
 pub use trace::{header, trace_line};

@@ -1,14 +1,13 @@
 //! The listing of a circuit's widths.
 
-ghost use Rattle.std.specs.Prelude.{◌≡◌, ◌++◌, ◌-◌, ◌^◌, min, IfOk, OnOk};
-ghost use Rattle.fir_types.specs.Leaves.{count};
-ghost use Rattle.trace_print.specs.Listing.{component_lines, listing_of, leaves_where, leaves_listed};
+ghost use Rattle.std.specs.Prelude.{◌≡◌, ◌++◌, IfOk, OnOk};
+ghost use Rattle.trace_print.specs.Listing.{component_lines, listing_of};
 
 use crate::component::Component;
 use crate::declarations::components;
 use crate::leaf_lines::push_lines;
 use fir_tree::{Fitted, Names};
-use fir_types::{FirType, leaf_count};
+use fir_types::FirType;
 use leaf_names::push_name;
 use std::alloc::{AllocError, Global};
 
@@ -45,23 +44,4 @@ fn push_component(
         push_lines(text, &mut front, names, typ)?;
     }
     Ok(())
-}
-
-/// How many leaves the listed declarations have in all, clocks among them, or 2^128 - 1 where there are more.
-pub fn listed_leaves(alloc: Global, fitted: &Fitted) -> Result<u128, AllocError>
-    ensures { IfOk result (λ total. total ≡ min (leaves_listed fitted.now) (2 ^ 128 - 1)) }
-{
-    let all = components(alloc, &fitted.checked)?;
-    let mut total: u128 = 0;
-    for (component, typ) in all.iter().zip(fitted.declared.as_slice()) {
-        total = total.saturating_add(counted(*component, typ));
-    }
-    Ok(total)
-}
-
-/// How many leaves a declaration has, where it is listed.
-fn counted(component: Component, typ: &FirType) -> u128
-    ensures { result ≡ min (leaves_where component.listed (count typ.now)) (2 ^ 128 - 1) }
-{
-    if component.listed { leaf_count(typ) } else { 0 }
 }

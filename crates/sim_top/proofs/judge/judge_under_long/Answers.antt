@@ -17,7 +17,7 @@ returns-in_ok-refuse_long_stimulus-in-Ok-clause-line c =
 pub returns-in_ok-refuse-in-Err-clause-settles : goal.returns-in_ok-refuse-in-Err-clause-settles
 returns-in_ok-refuse-in-Err-clause-settles c = λ stimulus long.
     let told = c.in_ok-refuse-in-Err.ensures in
-    refused_from Run c.args.circuit.now stimulus _ told.1.0 _ _ c.in-Err.ensures.fault told.1.1 told.0 told.1.2
+    refused_from Run c.args.text.now stimulus _ told.1.0 _ _ c.in-Err.ensures.fault told.1.1 told.0 told.1.2
 
 pub returns-in_ok-refuse-in-Err-clause-line : goal.returns-in_ok-refuse-in-Err-clause-line
 returns-in_ok-refuse-in-Err-clause-line c = let told = c.in_ok-refuse-in-Err.ensures in rw (told.0, told.1.2) (of_circuit _ told.1.0)
