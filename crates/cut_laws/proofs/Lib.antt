@@ -1,0 +1,5 @@
+pub mod Sorted
+pub mod OneCut
+pub mod Sinks
+pub mod Elements
+pub mod Circuits
