@@ -3,3 +3,4 @@ pub mod OneCut
 pub mod Sinks
 pub mod Elements
 pub mod Circuits
+pub mod Texts
