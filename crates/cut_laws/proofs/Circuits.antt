@@ -31,11 +31,11 @@ use Rattle.ground_net.specs.Cones.{Sink, A_watched, A_register, A_memory, sinks,
 use Rattle.ground_net.specs.Reads.{IsAssigned, Reads}
 use Rattle.ground_net.specs.Watching.{is_shown, port_leaf, told_where, watched}
 use Rattle.net_meaning.specs.Nets.{IsNet, HasRole}
-use Rattle.net_of_circuit.specs.FlatOrder.{Placed, InFlatOrder, Standing, all_leaves, all_memories, flat_of, ListsLeaves}
+use Rattle.net_of_circuit.specs.FlatOrder.{Placed, Standing, all_leaves, all_memories, flat_of, ListsLeaves}
 use Rattle.net_of_circuit.specs.NetOf.{Part, Given, Without_value, Held, Kept, Driven, part_of_role, part_of, Names, NameAll, IsPortOf, IsMemoryOf, IsNetOf, IsNetWith, may_write, may_read, has_mode}
-use Rattle.net_of_circuit.proofs.Orders.{one_order}
 use Rattle.net_laws.specs.Serves.{Serves}
 use Rattle.net_laws.proofs.Numbers.{some_same, none_some, below_length}
+use Rattle.loop_laws.proofs.FlatOrders.{one_placed}
 use Rattle.cone_cutter.specs.Cuts.{InConeOf}
 use Rattle.cone_cutter.proofs.Lists.{none_in, first_in, later_in, cons_cases, Pairs}
 use Rattle.cone_cutter.proofs.Assembly.{cone_assigned}
@@ -123,9 +123,9 @@ wide_mask mode.ReadWriter = record { addr = λ e. omega arith; en = λ e. omega 
 
 -- what the numbers of a port that writes have
 through : (x y : ℕ) (ms a b c d : List ℕ) → ((z : ℕ) → Contains a z → Contains c z) → ((z : ℕ) → Contains b z → Contains d z) → (z : ℕ) → Contains (x ∷ y ∷ ms ++ (a ++ b)) z → Contains (x ∷ y ∷ ms ++ (c ++ d)) z
-through x y ms a b c d f g z h = ⊎_elim (λ e. first_in x _ z e)
-    (λ r. later_in x _ z (⊎_elim (λ e. first_in y _ z e)
-    (λ s. later_in y _ z (⊎_elim (λ l. Contains-append_left ms (c ++ d) z l)
+through x y ms a b c d f g z h = ⊎_elim (λ e. first_in x (y ∷ ms ++ (c ++ d)) z e)
+    (λ r. later_in x (y ∷ ms ++ (c ++ d)) z (⊎_elim (λ e. first_in y (ms ++ (c ++ d)) z e)
+    (λ s. later_in y (ms ++ (c ++ d)) z (⊎_elim (λ l. Contains-append_left ms (c ++ d) z l)
     (λ t. Contains-append_right ms (c ++ d) z (⊎_elim (λ l. Contains-append_left c d z (f z l)) (λ u. Contains-append_right c d z (g z u)) (Contains-append_cases a b z t)))
     (Contains-append_cases ms (a ++ b) z s)))
     (cons_cases y (ms ++ (a ++ b)) z r)))
@@ -311,9 +311,7 @@ module _ (texts : Texts) (design : Design) (net : Net) (serves : Serves texts de
   placed = serves.of.placed
 
   placed_same : of.placed ≡ serves.of.placed
-  placed_same =
-      let same = some_same (sym of.found ∙ serves.of.found) in
-      one_order (subst (λ m. InFlatOrder design [] m m.components of.placed) same of.order) serves.of.order
+  placed_same = one_placed design of.main serves.of.main of.placed serves.of.placed of.found serves.of.found of.order serves.of.order
 
   with_placed : IsNetWith texts design serves.of.placed of.elements other
   with_placed = subst (λ p. IsNetWith texts design p of.elements other) placed_same of.is
