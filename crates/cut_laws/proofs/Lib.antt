@@ -4,3 +4,4 @@ pub mod Sinks
 pub mod Elements
 pub mod Circuits
 pub mod Texts
+pub mod Accepted
