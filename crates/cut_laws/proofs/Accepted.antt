@@ -2,7 +2,7 @@
 use Rattle.std.proofs.Common.{◌≡◌, ℕ, zero, suc, List, [], ◌∷◌, Some, option_and_then, refl, sym, ap, ◌∙◌, subst}
 use Rattle.std.specs.List.{slice_get}
 use Rattle.fir_tree.specs.declared.scope.Fitted.{Fitted}
-use Rattle.fir_meaning.specs.Components.{Design, TypedModule, Component, module_at, module_within, module_named, declarations_of, design_of}
+use Rattle.fir_meaning.specs.Components.{TypedModule, Component, module_at, module_within, module_named, declarations_of, design_of}
 use Rattle.fir_names.specs.Scopes.{In, here, there}
 use Rattle.circuit_laws.specs.WellFormed.{IsWellFormed}
 use Rattle.circuit_laws.proofs.Reached.{known_module}

@@ -1,22 +1,21 @@
 -- The cut by the rule is one: the placings, and what the listing says of the partitions.
-use Rattle.std.proofs.Common.{◌≡◌, ◌≢◌, ℕ, zero, suc, ◌+◌, ◌<◌, ◌≤◌, List, [], ◌∷◌, ◌++◌, length, take, map, slice_get, slice_index, Some, refl, sym, subst, ap, ap₂, ◌∙◌, arith, ◌⊎◌, ⊎_elim, inl, inr, append_assoc}
+use Rattle.std.proofs.Common.{◌≡◌, ℕ, suc, ◌+◌, ◌<◌, List, [], ◌∷◌, ◌++◌, length, take, slice_get, slice_index, Some, refl, sym, subst, ap, ap₂, ◌∙◌, arith, ⊎_elim, inl, inr, append_assoc}
 use Rattle.std.specs.List.{Contains, range_with_len, flat_map, zip}
-use Rattle.std.specs.Prelude.{sum_by, codes, decimal}
+use Rattle.std.specs.Prelude.{codes, decimal}
 use Rattle.std.proofs.lemmas.Bool.{cases_eq, cases_lt}
 use Rattle.std.proofs.lemmas.List.{length-map}
 use Rattle.std.proofs.lemmas.List.Sums.{sum_by-cons}
 use Rattle.std.proofs.lemmas.List.Concat.{flat_map-cons}
-use Rattle.ground_net.specs.declared.net.Net.{Net}
 use Rattle.ground_net.specs.declared.net.Ordered.{Ordered}
 use Rattle.ground_net.specs.declared.net.Cut.{Cut}
 use Rattle.ground_net.specs.declared.net.CutPart.{CutPart}
-use Rattle.ground_net.specs.Cones.{sinks, numbered}
+use Rattle.ground_net.specs.Cones.{sinks}
 use Rattle.cone_cutter.specs.declared.placing.Placing.{Placing}
-use Rattle.cone_cutter.specs.Cuts.{Counts, Keeps, NeededBy, placed, placed_in, GoesFirst, IsLeast, ArePlaced, InConeOf, all_sinks, IsPart, IsCut}
+use Rattle.cone_cutter.specs.Cuts.{Counts, Keeps, NeededBy, placed, placed_in, GoesFirst, IsLeast, ArePlaced, InConeOf, all_sinks, IsCut}
 use Rattle.cone_cutter.proofs.Lists.{stands, Pairs}
 use Rattle.cone_cutter.proofs.Assembly.{counts_lift, placed_lift}
 use Rattle.cut_print.specs.Listing.{part_line, total_line, all_assignments, listing_of}
-use Rattle.cut_laws.proofs.Sorted.{same_sorted, lists_one, counts_one, keeps_one}
+use Rattle.cut_laws.proofs.Sorted.{same_sorted, counts_one, keeps_one}
 
 -- the order of the sinks
 
@@ -125,8 +124,13 @@ same_sum [] [] e h = refl
 same_sum [] (q ∷ qs) e h = absurd (omega arith)
 same_sum (p ∷ ps) [] e h = absurd (omega arith)
 same_sum (p ∷ ps) (q ∷ qs) e h =
-    omega (arith, sum_by-cons (λ (part : CutPart). length part.assignments) p ps, sum_by-cons (λ (part : CutPart). length part.assignments) q qs,
-    (h 0 p q refl refl).of_assignments, same_sum ps qs (omega arith) (λ i. h (suc i)))
+    omega (
+      arith,
+      sum_by-cons (λ (part : CutPart). length part.assignments) p ps,
+      sum_by-cons (λ (part : CutPart). length part.assignments) q qs,
+      (h 0 p q refl refl).of_assignments,
+      same_sum ps qs (omega arith) (λ i. h (suc i)),
+    )
 
 -- The listing of cuts with the same cones is one.
 pub one_listing : (a b : Ordered) (seen other : List ℕ) (workers : ℕ) (cut same : Cut) → length (sinks a.net seen) ≡ length (sinks b.net other)

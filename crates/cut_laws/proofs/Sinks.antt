@@ -1,6 +1,6 @@
 -- The sinks of a net are told by its watch list, by how many leaves stand before its memories, and by the leaves of its registers.
-use Rattle.std.proofs.Common.{◌≡◌, ℕ, suc, ◌+◌, ◌==◌, cond, List, [], ◌∷◌, ◌++◌, length, map, Option, Some, None, refl, sym, ap, ap₂, ◌∙◌, arith}
-use Rattle.std.specs.List.{filter_map, flat_map, cons_option, zip, range_with_len, slice_get}
+use Rattle.std.proofs.Common.{◌≡◌, ℕ, suc, ◌+◌, ◌==◌, cond, List, [], ◌∷◌, ◌++◌, length, map, Some, None, refl, sym, ap, ap₂, ◌∙◌}
+use Rattle.std.specs.List.{filter_map, flat_map, cons_option, zip, range_with_len}
 use Rattle.std.proofs.lemmas.List.Concat.{flat_map-cons}
 use Rattle.ground_net.specs.declared.net.Net.{Net}
 use Rattle.ground_net.specs.Cones.{Sink, A_watched, A_register, A_memory, sinks_at, sinks}
