@@ -1,0 +1,32 @@
+-- In an accepted circuit each component of the run stands once in its flat order.
+use Rattle.std.proofs.Common.{◌≡◌, ℕ, zero, suc, List, [], ◌∷◌, Some, option_and_then, refl, sym, ap, ◌∙◌, subst}
+use Rattle.std.specs.List.{slice_get}
+use Rattle.fir_tree.specs.declared.scope.Fitted.{Fitted}
+use Rattle.fir_meaning.specs.Components.{TypedModule, Component, module_at, module_within, module_named, declarations_of, design_of}
+use Rattle.fir_names.specs.Scopes.{In, here, there}
+use Rattle.circuit_laws.specs.WellFormed.{IsWellFormed}
+use Rattle.circuit_laws.proofs.Reached.{known_module}
+use Rattle.circuit_laws.proofs.Scoping.{declared_once}
+use Rattle.net_of_circuit.specs.FlatOrder.{Placed, InFlatOrder}
+use Rattle.net_laws.proofs.Numbers.{some_same, none_some}
+use Rattle.design_laws.proofs.Lists.{map_at}
+use Rattle.design_laws.proofs.Once.{Apart, entries_once}
+use Rattle.cut_laws.specs.CircuitCuts.{StandOnce}
+
+in_at : {A : Type 0} (xs : List A) (k : ℕ) (x : A) → slice_get xs k ≡ Some x → In x xs
+in_at [] k x e = none_some e
+in_at (a ∷ xs) zero x e = subst (λ z. In z (a ∷ xs)) (some_same e) (here xs)
+in_at (a ∷ xs) (suc k) x e = there a xs (in_at xs k x e)
+
+modules_apart : (fitted : Fitted) (well : IsWellFormed fitted) (path : List ℕ) (m : TypedModule) → module_at (design_of fitted) path ≡ Some m → Apart m.components
+modules_apart fitted well path m e j k c d f g name =
+    let it = known_module fitted well path m e in
+    let at : (i : ℕ) (x : Component) → slice_get m.components i ≡ Some x → slice_get (declarations_of it.holder) i ≡ Some x.declaration = λ i x h.
+    ap (λ l. slice_get l i) (sym it.typed.components) ∙ map_at (λ y. y.declaration) m.components i x h in
+    declared_once fitted.checked.circuit well.names it.holder (in_at fitted.checked.circuit.modules it.k it.holder it.here) j k c.declaration d.declaration (at j c f) (at k d g) name
+
+pub stand_once : (fitted : Fitted) (well : IsWellFormed fitted) (main : TypedModule) → module_named (design_of fitted) (design_of fitted).main ≡ Some main → (placed : List Placed)
+    → InFlatOrder (design_of fitted) [] main main.components placed → StandOnce placed
+stand_once fitted well main found placed order j k p e f =
+    let reached : module_at (design_of fitted) [] ≡ Some main = ap (option_and_then (λ m. module_within (design_of fitted) m [])) found in
+    entries_once (design_of fitted) well.bundles (modules_apart fitted well) [] main main.components order reached (λ c h. h) (modules_apart fitted well [] main reached) j k p p e f refl refl

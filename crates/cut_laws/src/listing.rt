@@ -1,0 +1,47 @@
+//! The listing of a circuit's cut.
+
+ghost use Rattle.std.specs.Prelude.{◌≡◌, ◌<◌, ◌≤◌, ◌^◌, length, map, IfOk};
+ghost use Rattle.leaf_names.specs.LeafNames.{Texts};
+ghost use Rattle.fir_meaning.specs.Components.{Design};
+ghost use Rattle.ground_net.specs.Cones.{sinks};
+ghost use Rattle.ground_net.specs.Reads.{IsOrder};
+ghost use Rattle.ground_net.specs.Watching.{watched};
+ghost use Rattle.net_laws.specs.Serves.{Serves};
+ghost use Rattle.cut_laws.specs.CircuitCuts.{watch, IsCutText};
+
+use cone_cutter::cut;
+use cut_print::cut_text;
+use ground_net::{Ordered, PortLeaf, Ports};
+use std::alloc::{AllocError, Global};
+
+/// The listing of the cut of a circuit's net into 1 to 64 partitions, where the ports are the net's: a line for each partition, and
+/// one for all. Main's watched leaves, the registers and the memories are its sinks.
+pub fn circuit_cut(
+    alloc: Global,
+    ordered: &Ordered,
+    ports: &Ports,
+    workers: u32,
+) -> Result<Vec<u8>, AllocError>
+    requires order { IsOrder ordered.now.net ordered.now.sequence }
+    requires seen { ports.now.watched ≡ watched ordered.now.net }
+    requires few { length ordered.now.net.leaves < 2 ^ 32 }
+    requires few_sinks { length (sinks ordered.now.net (watch ordered.now.net)) < 2 ^ 32 }
+    requires some { 0 < workers }
+    requires most { workers ≤ 64 }
+    ensures { (texts : Texts) (design : Design) → Serves texts design ordered.now.net → IfOk result (λ bytes. IsCutText texts design workers bytes.items) }
+{
+    let watch = numbers_of(alloc, ports.watched.as_slice())?;
+    let parts = cut(alloc, ordered, watch.as_slice(), workers)?;
+    Ok(cut_text(alloc, &parts)?)
+}
+
+/// The numbers of leaves of ports.
+fn numbers_of(alloc: Global, leaves: &[PortLeaf]) -> Result<Vec<u32>, AllocError>
+    ensures { IfOk result (λ numbers. numbers.items ≡ map (λ p. p.leaf) leaves.now) }
+{
+    let mut numbers = Vec::new(alloc);
+    for leaf in leaves {
+        numbers.push(leaf.leaf)?;
+    }
+    Ok(numbers)
+}
