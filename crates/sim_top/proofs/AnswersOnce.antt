@@ -61,7 +61,7 @@ one_trace : (text : List ℕ) (fitted : Fitted) (built : Built) → IsAccepted t
 one_trace text fitted built a b =
     let same = accepted_once text built.fitted fitted b.accepted a in
     let own : HasOneTrace built.fitted.checked.circuit.names (design_of built.fitted) =
-        λ stimulus bytes other p q. traces_once built.fitted.checked.circuit.names (design_of built.fitted) built.ordered.net built.ordered.sequence b.ordered.serves b.ordered.sequence stimulus bytes other p q in
+    λ stimulus bytes other p q. traces_once built.fitted.checked.circuit.names (design_of built.fitted) built.ordered.net built.ordered.sequence b.ordered.serves b.ordered.sequence stimulus bytes other p q in
     subst (λ (d : Design). HasOneTrace fitted.checked.circuit.names d) same.1 (subst (λ (c : Circuit). HasOneTrace c.names (design_of built.fitted)) same.0 own)
 
 -- a run
@@ -111,7 +111,7 @@ texts_once Run text stimulus _ _ _ _ (ran _ _ fitted _ _ a r) (refused _ _ _ f p
 texts_once Run text stimulus s t b d (ran _ _ fitted _ _ a r) (ran _ _ other _ _ o q) =
     let same = accepted_once text other fitted o a in
     let here : Runs fitted.checked.circuit.names (design_of fitted) stimulus t d =
-        subst (λ (x : Design). Runs fitted.checked.circuit.names x stimulus t d) same.1 (subst (λ (c : Circuit). Runs c.names (design_of other) stimulus t d) same.0 q) in
+    subst (λ (x : Design). Runs fitted.checked.circuit.names x stimulus t d) same.1 (subst (λ (c : Circuit). Runs c.names (design_of other) stimulus t d) same.0 q) in
     let both = runs_once fitted.checked.circuit.names (design_of fitted) stimulus s t b d r here in
     (both.0, λ served. let built = served refl fitted a in both.1 (one_trace text fitted built.0 a built.1))
 

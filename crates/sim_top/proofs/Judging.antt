@@ -108,7 +108,7 @@ pub ran_refused : (text stimulus : List ℕ) (built : Built) (watched : ℕ) (fa
 ran_refused text stimulus built watched fault place status bytes b short counted v at three e = rw (three, e)
     (⊎_elim (λ m. absurd (let n : None ≡ Some place = sym m ∙ at in cc))
     (λ f. ran_of text stimulus built _ _ b (stimulus_refused built.ports fault place short (ports_are text built b)
-        (subst (λ n. IsFirst place_of rank_of (IsFault stimulus built.ports n) fault) counted f) at)) v.fault)
+    (subst (λ n. IsFirst place_of rank_of (IsFault stimulus built.ports n) fault) counted f) at)) v.fault)
 
 pub ran_traced : (text stimulus : List ℕ) (built : Built) (watched : ℕ) (settings : Stimulus) → IsBuilt text built → length stimulus ≤ stimulus_limit
     → watched ≡ length built.ports.watched → IsRead stimulus built watched (Ok settings) → Gives (SettlesTexts Run text stimulus) (decision.Run built settings)

@@ -173,10 +173,13 @@ ends_run words texts result bytes before old new settled run told = record {
       (sym o.0 ∙ sym z, appended old new before bytes told (run.all z) ∙ ap (λ xs. Some (before ++ xs)) o.1);
   shelf_faulted = λ e. absurd (⊎_elim (λ z. omega (arith, e, z)) (λ more. ⊎_elim (λ five. omega (arith, e, five)) (λ six. omega (arith, e, six)) more) run.status);
   sink_faulted = λ e. let n : result ≢ 0 = omega (arith, e) in let p = run.part n in (0, bytes, p.0, settled.answers, appended old new before _ told p.1);
-  memory_wanted = λ e. let n : result ≢ 0 = omega (arith, e) in let p = run.part n in
-      (p.0, take p.0 bytes, appended old new before _ told p.1,
-       (λ code others a. ap (take p.0) (settled_once words texts 0 code bytes others settled a).1),
-       (λ none. absurd (none 0 bytes settled.answers)));
+  memory_wanted = λ e. let n : result ≢ 0 = omega (arith, e) in let p = run.part n in (
+    p.0,
+    take p.0 bytes,
+    appended old new before _ told p.1,
+    (λ code others a. ap (take p.0) (settled_once words texts 0 code bytes others settled a).1),
+    (λ none. absurd (none 0 bytes settled.answers)),
+  );
   within = ⊎_elim (λ z. omega (arith, z)) (λ more. ⊎_elim (λ five. omega (arith, five)) (λ six. omega (arith, six)) more) run.status;
 }
   where

@@ -64,11 +64,7 @@ pub fn run_program<H: Shelf, K: Sink>(
 }
 
 /// What is to be done for a command line.
-fn decide<H: Shelf>(
-    alloc: Global,
-    words: &[String],
-    shelf: &mut H,
-) -> Result<Decision, TakeFault>
+fn decide<H: Shelf>(alloc: Global, words: &[String], shelf: &mut H) -> Result<Decision, TakeFault>
     ensures settled { IfOk result (λ d. (texts : List ℕ → Option (List ℕ)) → H.held shelf.old ≡ Some texts → Gives (IsSettled (map string_bytes words.now) texts) d) }
     ensures ready { IfOk result IsReady }
     ensures usage { IfOk result (λ d. status_of d ≡ 1 → asked_by (map string_bytes words.now) ≡ None) }

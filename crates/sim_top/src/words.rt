@@ -29,7 +29,10 @@ pub enum Asked<'a> {
 }
 
 /// What some words ask for, where they are a command. `cut` and `make` are none yet.
-pub fn read_question<'a>(alloc: Global, words: &'a [String]) -> Result<Option<Asked<'a>>, AllocError>
+pub fn read_question<'a>(
+    alloc: Global,
+    words: &'a [String],
+) -> Result<Option<Asked<'a>>, AllocError>
     ensures { IfOk result (λ asked. option_map question asked ≡ asked_by (map string_bytes words.now)) }
 {
     let Some(command) = read_words(alloc, words)? else {

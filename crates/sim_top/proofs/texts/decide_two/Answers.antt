@@ -23,9 +23,9 @@ returns-in-Ok-clause-settled g c = IfOk-weaker c.decide_under.result _ _ (λ d h
 
 pub returns-in-Ok-clause-fault : goal.returns-in-Ok-clause-fault
 returns-in-Ok-clause-fault g c = λ e. (
-    _,
-    the_stimulus _ _ (λ texts text held told. subst (λ (xs : List ℕ). length xs ≤ circuit_limit) (some_same _ _ (sym (c.in-Ok.ensures.text texts held) ∙ told)) c.in-Ok.ensures.short),
-    rose_behind _ _ _ (c.in-Ok.ensures.never_falls _) (c.decide_under.ensures.fault e),
+  _,
+  the_stimulus _ _ (λ texts text held told. subst (λ (xs : List ℕ). length xs ≤ circuit_limit) (some_same _ _ (sym (c.in-Ok.ensures.text texts held) ∙ told)) c.in-Ok.ensures.short),
+  rose_behind _ _ _ (c.in-Ok.ensures.never_falls _) (c.decide_under.ensures.fault e),
 )
 
 pub returns-in-Err-clause-fault : goal.returns-in-Err-clause-fault
