@@ -14,9 +14,9 @@ FRONT = "FIRRTL version 3.0.0\ncircuit M :\n"
 
 
 def dense(count):
-    """One statement after the other on a few wires: some 20 bytes each."""
-    body = "".join(f"    node n{k} = add(a, n{k - 1})\n".replace(f"n{-1}", "a") for k in range(count))
-    return FRONT + "  module M :\n    input a : UInt<8>\n    output o : UInt<8>\n" + body.replace("add(a, n", "xor(a, n") + "    connect o, a\n"
+    """Nodes of some 30 bytes each, every one of which reads the one before."""
+    body = "".join(f"    node n{k} = xor(a, {f'n{k - 1}' if k else 'a'})\n" for k in range(count))
+    return FRONT + "  module M :\n    input a : UInt<8>\n    output o : UInt<8>\n" + body + f"    connect o, n{count - 1}\n"
 
 
 def wide(count):
@@ -33,6 +33,12 @@ def instances(count):
     return FRONT + child + "  module M :\n    input clock : Clock\n    input a : UInt<4>\n" + body
 
 
+def indexed(count):
+    """As many reads of a vector of 4,000 elements through an index: too large, which is to be said at once."""
+    body = "".join(f"    node n{k} = v[i]\n" for k in range(count))
+    return FRONT + "  module M :\n    input i : UInt<12>\n    wire v : UInt<1>[4000]\n    invalidate v\n" + body
+
+
 def ring(count, cycles):
     """A ring of registers, each the sum of the one before and its number, whose sum is watched; and its stimulus."""
     lines = ["    input clock : Clock", "    output out : UInt<32>"]
@@ -44,7 +50,7 @@ def ring(count, cycles):
 
 
 def taken(program, words, text):
-    """The seconds that a call takes, its peak memory in MB, and what it writes."""
+    """The seconds that a call takes, its peak memory in MB, and what it writes. It has no fault, or is too large."""
     with tempfile.TemporaryFile() as given:
         given.write(text.encode())
         given.seek(0)
@@ -53,7 +59,7 @@ def taken(program, words, text):
         written = child.stdout.read()
         _, status, used = os.wait4(child.pid, 0)
         took = time.perf_counter() - began
-    assert status == 0, (status, written[:200])
+    assert status == 0 or written == b"circuit TooLarge 2:9\n", (status, written[:200])
     return took, used.ru_maxrss / 1024, written
 
 
@@ -61,9 +67,10 @@ def main():
     program, folder = str(Path(sys.argv[1]).resolve()), Path(sys.argv[2])
     print(f"{'check of':48} {'bytes':>11} {'s':>7} {'MB':>6} {'bytes':>11} {'s':>7} {'MB':>6} {'ratio':>6}")
     for meaning, text_of, small in (
-        ("statements, one reading the one before", dense, 18_000),
+        ("statements, each reading the one before", dense, 15_000),
         ("whole connects of wires of 600 leaves", wide, 30_000),
         ("instances of one module", instances, 2_000),
+        ("reads of 4,000 elements (TooLarge)", indexed, 1_000),
     ):
         rows = [(len(text), *taken(program, ["check"], text)[:2]) for text in (text_of(small), text_of(2 * small))]
         (a, s, m), (b, t, n) = rows

@@ -6,6 +6,7 @@ A case is a line of JSON in FOLDER/cases.jsonl: its name, the words of the comma
 (each character is a byte), the bytes that are written and the status.
 """
 import json
+import re
 import subprocess
 import sys
 from pathlib import Path
@@ -40,6 +41,19 @@ def tower(depth, below):
     return "FIRRTL version 3.0.0\ncircuit M0 :\n" + "".join(modules) + f"  module M{depth - 1} :\n    {below}\n"
 
 
+def told_faults(page):
+    """The cases of docs/FAULTS.md: a block of text under a heading with a kind, and the line that is written."""
+    front = "FIRRTL version 3.0.0\ncircuit M :\n  module M :\n"
+    module = "".join(f"    {line}\n" for line in re.search(r"with these lines:\n\n```\n(.*?)```", page, re.S)[1].splitlines())
+    for kind, whole, text, line in re.findall(r"^### (\w+)\n\n(The whole text:\n\n)?```\n(.*?)```\n\n`(.*?)`", page, re.M | re.S):
+        words, status = ["check"], 2
+        if line.startswith("stimulus"):
+            words, status, text = ["run"], 3, front + module + "%stimulus\n" + text
+        elif not whole:
+            text = front + "".join(f"    {each}\n" for each in text.splitlines())
+        yield f"docs/FAULTS.md: {kind}", {"words": words, "stdin": text, "status": status, "stdout": line + "\n"}
+
+
 def main():
     program, folder = sys.argv[1], Path(sys.argv[2])
     cases = [json.loads(line) for line in (folder / "cases.jsonl").read_text().splitlines()]
@@ -56,6 +70,8 @@ def main():
         text = path.read_text("latin-1") + "%stimulus\n" + path.with_suffix(".stim").read_text("latin-1")
         case = {"words": ["run"], "stdin": text, "status": 0, "stdout": path.with_suffix(".expect").read_text("latin-1")}
         faults.append((f"the trace of {path.stem}", fault_of(program, case)))
+    for name, case in told_faults((folder / "../docs/FAULTS.md").read_text()):
+        faults.append((name, fault_of(program, case)))
     for name, depth, below, status, line in (
         ("10 modules over one another have no fault", 10, "skip", 0, "ok\n"),
         ("32 modules with two instances of the next one each are too large", 32, "skip", 2, "circuit TooLarge 2:9\n"),
