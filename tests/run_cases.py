@@ -3,21 +3,25 @@
 usage: run_cases.py PROGRAM FOLDER
 
 A case is a line of JSON in FOLDER/cases.jsonl: its name, the words of the command line, the bytes of standard input
-(each character is a byte), the bytes that are written and the status.
+(each character is a byte), the bytes that are written and the status, and where it has files the texts that they hold.
 """
 import json
 import re
 import subprocess
 import sys
+import tempfile
 from pathlib import Path
 
 
-def run(program, words, text):
-    return subprocess.run([program, *words], input=text, capture_output=True, timeout=60)
+def run(program, words, text, folder=None):
+    return subprocess.run([program, *words], input=text, capture_output=True, timeout=60, cwd=folder)
 
 
 def fault_of(program, case):
-    done = run(program, case["words"], case["stdin"].encode("latin-1"))
+    with tempfile.TemporaryDirectory() as folder:
+        for name, text in case.get("held", {}).items():
+            (Path(folder) / name).write_bytes(text.encode("latin-1"))
+        done = run(program, case["words"], case["stdin"].encode("latin-1"), folder)
     if done.stderr:
         return f"standard error: {done.stderr[:200]!r}"
     if done.returncode != case["status"]:
@@ -55,7 +59,7 @@ def told_faults(page):
 
 
 def main():
-    program, folder = sys.argv[1], Path(sys.argv[2])
+    program, folder = str(Path(sys.argv[1]).resolve()), Path(sys.argv[2])
     cases = [json.loads(line) for line in (folder / "cases.jsonl").read_text().splitlines()]
     run(program, ["check"], b"")  # builds the program where that has still to be done
     faults = [(case["name"], fault_of(program, case)) for case in cases]
