@@ -45,6 +45,39 @@ def tower(depth, below):
     return "FIRRTL version 3.0.0\ncircuit M0 :\n" + "".join(modules) + f"  module M{depth - 1} :\n    {below}\n"
 
 
+def limits():
+    """Circuits at each limit of the size, and one past it."""
+    front = "FIRRTL version 3.0.0\ncircuit M :\n  module M :\n"
+
+    def leaves(more):
+        return front + f"    wire w : UInt<1>[{65_536 + more}]\n    invalidate w\n"
+
+    def ports(more):
+        return front + f"    input v : UInt<1>[{4_096 + more}]\n"
+
+    def names(more):
+        elements = 60_000 * (1_100 + 2) + sum(len(str(k)) for k in range(60_000))
+        wire, node = "w" * 1_100, "n" * (67_108_864 - elements + more)
+        return front + f"    wire {wire} : UInt<1>[60000]\n    invalidate {wire}\n    node {node} = UInt<1>(0)\n"
+
+    def size(more):
+        connects = "    connect w, v\n" * 82
+        return front + "    input v : UInt<1>[4000]\n    wire w : UInt<1>[4000]\n" + connects + "    skip\n" * (8_000 + more)
+
+    def words(more):
+        lines = ("data-type => UInt<1>", f"depth => {131_072 + more}", "read-latency => 1", "write-latency => 1", "read-under-write => old")
+        return front + "    mem m :\n" + "".join(f"      {line}\n" for line in lines)
+
+    def path(more):
+        count = 32 + more
+        modules = "".join(f"  module C{k} :\n    " + (f"inst i of C{k + 1}\n" if k < count else "skip\n") for k in range(1, count + 1))
+        return front + "    inst i of C1\n" + modules
+
+    for meaning, text in (("leaves", leaves), ("port leaves", ports), ("bytes of names", names), ("flat size", size), ("state words", words), ("names in a path", path)):
+        yield f"a circuit at the limit of {meaning}", {"words": ["check"], "stdin": text(0), "status": 0, "stdout": "ok\n"}
+        yield f"a circuit past the limit of {meaning}", {"words": ["check"], "stdin": text(1), "status": 2, "stdout": "circuit TooLarge 2:9\n"}
+
+
 def told_faults(page):
     """The cases of docs/FAULTS.md: a block of text under a heading with a kind, and the line that is written."""
     front = "FIRRTL version 3.0.0\ncircuit M :\n  module M :\n"
@@ -74,6 +107,8 @@ def main():
         text = path.read_text("latin-1") + "%stimulus\n" + path.with_suffix(".stim").read_text("latin-1")
         case = {"words": ["run"], "stdin": text, "status": 0, "stdout": path.with_suffix(".expect").read_text("latin-1")}
         faults.append((f"the trace of {path.stem}", fault_of(program, case)))
+    for name, case in limits():
+        faults.append((name, fault_of(program, case)))
     for name, case in told_faults((folder / "../docs/FAULTS.md").read_text()):
         faults.append((name, fault_of(program, case)))
     for name, depth, below, status, line in (
