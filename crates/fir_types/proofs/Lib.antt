@@ -7,3 +7,4 @@ pub mod Lines
 pub mod Ways
 pub mod Equivalences
 pub mod Masks
+pub mod Runs

@@ -153,7 +153,7 @@ right_false : (a b : Bool) → (a || b) ≡ false → b ≡ false
 right_false true b e = absurd cc
 right_false false b e = e
 
-flip-vector : (t e : FirType) (n : ℕ) → t.shape ≡ shape.Vector e n → has_flip t ≡ has_flip e
+pub flip-vector : (t e : FirType) (n : ℕ) → t.shape ≡ shape.Vector e n → has_flip t ≡ has_flip e
 flip-vector t e n h = grind (arith, common_steps, the_lemmas)
 
 flip-field : (f : Field) → field_has_flip f ≡ (f.flip || has_flip f.typ)

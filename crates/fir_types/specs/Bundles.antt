@@ -12,7 +12,7 @@ use Rattle.fir_types.specs.declared.memory.MemLine.TheVariants as line
 use Rattle.fir_types.specs.declared.memory.PortMode.{PortMode}
 use Rattle.fir_types.specs.declared.memory.PortMode.TheVariants as mode
 use Rattle.fir_types.specs.declared.fir_type.FirType.{FirType, fold-FirType}
-use Rattle.fir_types.specs.declared.fir_type.Shape.{Shape}
+use Rattle.fir_types.specs.declared.fir_type.Shape.{Shape, fold-Shape}
 use Rattle.fir_types.specs.declared.fir_type.Shape.TheOpen.{Shape-F, Field-F, FirType-F}
 use Rattle.fir_types.specs.declared.fir_type.Shape.TheVariants as shape
 use Rattle.fir_types.specs.declared.fir_type.Field.{Field, fold-Field}
@@ -42,6 +42,9 @@ mask_type t = record { place = t.place; shape = t.shape }
 
 abbrev pub mask_of : FirType → FirType
 mask_of = fold-FirType Shape Field FirType mask_shape mask_field mask_type
+
+abbrev pub mask_of_shape : Shape → Shape
+mask_of_shape = fold-Shape Shape Field FirType mask_shape mask_field mask_type
 
 abbrev pub mask_of_field : Field → Field
 mask_of_field = fold-Field Shape Field FirType mask_shape mask_field mask_type

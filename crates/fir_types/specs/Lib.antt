@@ -3,3 +3,4 @@ pub mod Passivity
 pub mod Equivalence
 pub mod Bundles
 pub mod Memories
+pub mod Runs

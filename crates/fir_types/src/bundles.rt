@@ -1,8 +1,9 @@
 //! The bundles of instances and memories (FIRRTL specification 3.0, "Instances" and "Memories").
 
 ghost use Rattle.std.specs.Prelude.{◌≡◌, ◌++◌, filter_map, map, option_to_list, IfOk, OnOk};
-ghost use Rattle.fir_types.specs.Bundles.{instance_of, memory_of, mask_of, mask_of_field, address_bits, port_type, port_field, fields_of_mode, plain_field, flipped_field, uint_at, clock_at};
+ghost use Rattle.fir_types.specs.Bundles.{instance_of, memory_of, mask_of, mask_of_shape, mask_of_field, address_bits, port_type, port_field, fields_of_mode, plain_field, flipped_field, uint_at, clock_at};
 ghost use Rattle.fir_types.specs.Memories.{element_in, depth_in, first_or};
+ghost use Rattle.fir_types.specs.Runs.{within};
 
 use crate::copying::copy;
 use crate::{Field, FirType, MemLine, Memory, Name, Port, PortMode, Shape};
@@ -228,23 +229,57 @@ pub fn address_width(depth: u128) -> u128
 fn mask(alloc: Global, typ: &FirType) -> Result<FirType, AllocError>
     ensures { IfOk result (λ mask. mask ≡ mask_of typ.now) }
 {
-    let shape = match &typ.shape {
+    let mut lengths = Vec::new(alloc);
+    let mut inside = typ;
+    while let Shape::Vector(element, length) = &inside.shape {
+        lengths.push((inside.place, *length))?;
+        inside = element.get();
+    }
+    let shape = mask_shape(alloc, &inside.shape)?;
+    let innermost = FirType {
+        place: inside.place,
+        shape,
+    };
+    put_within(alloc, lengths, innermost)
+}
+
+#[cycle(mask)]
+fn mask_shape(alloc: Global, shape: &Shape) -> Result<Shape, AllocError>
+    ensures { IfOk result (λ mask. mask ≡ mask_of_shape shape.now) }
+{
+    match shape {
         Shape::Unsigned(_) | Shape::Signed(_) | Shape::Clock | Shape::Reset => {
-            Shape::Unsigned(Some(1))
+            Ok(Shape::Unsigned(Some(1)))
         }
         Shape::Bundle(fields) => {
             let masks = mask_fields(alloc, fields.as_slice())?;
-            Shape::Bundle(Shared::new(alloc, masks)?)
+            Ok(Shape::Bundle(Shared::new(alloc, masks)?))
         }
         Shape::Vector(element, length) => {
             let masked = mask(alloc, element.get())?;
-            Shape::Vector(Shared::new(alloc, masked)?, *length)
+            Ok(Shape::Vector(Shared::new(alloc, masked)?, *length))
         }
-    };
-    Ok(FirType {
-        place: typ.place,
-        shape,
-    })
+    }
+}
+
+/// A type with these lengths around it, the outermost first.
+#[tactic(auto, using(crate::proofs::Runs::within_last))]
+fn put_within(
+    alloc: Global,
+    lengths: Vec<(Place, u128)>,
+    typ: FirType,
+) -> Result<FirType, AllocError>
+    ensures { IfOk result (λ whole. whole ≡ within lengths.items typ) }
+{
+    let mut whole = typ;
+    let mut left = lengths;
+    while let Some((place, length)) = left.pop() {
+        whole = FirType {
+            place,
+            shape: Shape::Vector(Shared::new(alloc, whole)?, length),
+        };
+    }
+    Ok(whole)
 }
 
 #[cycle(mask)]

@@ -12,10 +12,19 @@ use crate::{Field, FirType, Shape};
 pub fn leaf_count(typ: &FirType) -> u128
     ensures { result ≡ min (count typ.now) (2 ^ 128 - 1) }
 {
-    match &typ.shape {
-        Shape::Unsigned(_) | Shape::Signed(_) | Shape::Clock | Shape::Reset => 1,
-        Shape::Bundle(fields) => count_fields(fields.as_slice()),
-        Shape::Vector(element, length) => length.saturating_mul(leaf_count(element.get())),
+    let mut factor: u128 = 1;
+    let mut inside = typ;
+    loop {
+        match &inside.shape {
+            Shape::Unsigned(_) | Shape::Signed(_) | Shape::Clock | Shape::Reset => return factor,
+            Shape::Bundle(fields) => {
+                return factor.saturating_mul(count_fields(fields.as_slice()));
+            }
+            Shape::Vector(element, length) => {
+                factor = factor.saturating_mul(*length);
+                inside = element.get();
+            }
+        }
     }
 }
 
@@ -35,11 +44,19 @@ fn count_fields(fields: &[Field]) -> u128
 pub fn has_clock(typ: &FirType) -> bool
     ensures { result ≡ list_any is_clock (leaves typ.now) }
 {
-    match &typ.shape {
-        Shape::Unsigned(_) | Shape::Signed(_) | Shape::Reset => false,
-        Shape::Clock => true,
-        Shape::Bundle(fields) => clock_in_fields(fields.as_slice()),
-        Shape::Vector(element, length) => *length > 0 && has_clock(element.get()),
+    let mut inside = typ;
+    loop {
+        match &inside.shape {
+            Shape::Unsigned(_) | Shape::Signed(_) | Shape::Reset => return false,
+            Shape::Clock => return true,
+            Shape::Bundle(fields) => return clock_in_fields(fields.as_slice()),
+            Shape::Vector(element, length) => {
+                if *length == 0 {
+                    return false;
+                }
+                inside = element.get();
+            }
+        }
     }
 }
 

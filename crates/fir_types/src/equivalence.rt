@@ -12,20 +12,30 @@ use crate::{Field, FirType, Shape};
 pub fn equivalent(left: &FirType, right: &FirType) -> bool
     ensures { IsTrue result ↔ Equivalent left.now right.now }
 {
-    match &left.shape {
-        Shape::Unsigned(_) | Shape::Reset => is_unsigned(right),
-        Shape::Signed(_) => matches!(&right.shape, Shape::Signed(_)),
-        Shape::Clock => matches!(&right.shape, Shape::Clock),
-        Shape::Bundle(fields) => match &right.shape {
-            Shape::Bundle(others) => same_fields(fields.as_slice(), others.as_slice()),
-            _ => false,
-        },
-        Shape::Vector(element, length) => match &right.shape {
-            Shape::Vector(other, other_length) => {
-                length == other_length && equivalent(element.get(), other.get())
+    let mut one = left;
+    let mut other = right;
+    loop {
+        match &one.shape {
+            Shape::Unsigned(_) | Shape::Reset => return is_unsigned(other),
+            Shape::Signed(_) => return matches!(&other.shape, Shape::Signed(_)),
+            Shape::Clock => return matches!(&other.shape, Shape::Clock),
+            Shape::Bundle(fields) => {
+                return match &other.shape {
+                    Shape::Bundle(others) => same_fields(fields.as_slice(), others.as_slice()),
+                    _ => false,
+                };
             }
-            _ => false,
-        },
+            Shape::Vector(element, length) => match &other.shape {
+                Shape::Vector(other_element, other_length) => {
+                    if length != other_length {
+                        return false;
+                    }
+                    one = element.get();
+                    other = other_element.get();
+                }
+                _ => return false,
+            },
+        }
     }
 }
 

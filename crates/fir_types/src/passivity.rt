@@ -18,10 +18,13 @@ pub fn passive(typ: &FirType) -> bool
 fn flip_in(typ: &FirType) -> bool
     ensures { result ≡ has_flip typ.now }
 {
-    match &typ.shape {
-        Shape::Unsigned(_) | Shape::Signed(_) | Shape::Clock | Shape::Reset => false,
-        Shape::Bundle(fields) => flip_in_fields(fields.as_slice()),
-        Shape::Vector(element, _) => flip_in(element.get()),
+    let mut inside = typ;
+    loop {
+        match &inside.shape {
+            Shape::Unsigned(_) | Shape::Signed(_) | Shape::Clock | Shape::Reset => return false,
+            Shape::Bundle(fields) => return flip_in_fields(fields.as_slice()),
+            Shape::Vector(element, _) => inside = element.get(),
+        }
     }
 }
 

@@ -2,32 +2,44 @@ use Rattle.std.proofs.Common.{refl, inl, inr, length, arith}
 use Rattle.std.proofs.lemmas.Grind.{common_steps}
 use Rattle.std.proofs.lemmas.Slice.Zip.{zip_turn, zip_end}
 use Rattle.fir_types.specs.Equivalence.{AreSame, IsUnsigned, unsigned, signed, clocks, a_uint, a_reset, a_sint}
-use Rattle.fir_types.proofs.Cases.{of_unsigned, of_vectors, of_bundles, vectors_from, bundles_from, same_length, same_at, same_from_places, are_same_at, places_more, not_both}
+use Rattle.fir_types.proofs.Cases.{of_unsigned, of_bundles, bundles_from, same_length, same_at, same_from_places, are_same_at, places_more, not_both}
+use Rattle.fir_types.proofs.Runs.{answered, other_length, same_on, element_falls}
 use Rattle.fir_types.proofs.equivalence.+equivalent.Goals as goal
 
 pub equivalent-returns-in-Unsigned : goal.equivalent-returns-in-Unsigned
 equivalent-returns-in-Unsigned t c =
-    let u : IsUnsigned c.args.left.now = elim c.in-Unsigned.is as (λ _. IsUnsigned c.args.left.now) [ inl u ↦ a_uint u.0 u.1 | inr r ↦ a_reset r ] in
+    let u : IsUnsigned c.loop-one.one.now = elim c.in-Unsigned.is as (λ _. IsUnsigned c.loop-one.one.now) [ inl u ↦ a_uint u.0 u.1 | inr r ↦ a_reset r ] in
+    answered c.args.left.now c.args.right.now c.loop-one.one.now c.loop-one.other.now c.loop-one.invariant.0
     (λ y. unsigned u (c.is_unsigned.ensures.0 y), λ e. c.is_unsigned.ensures.1 (of_unsigned u e))
 
 pub equivalent-returns-in-Signed-matches : goal.equivalent-returns-in-Signed-matches
 equivalent-returns-in-Signed-matches t c =
+    answered c.args.left.now c.args.right.now c.loop-one.one.now c.loop-one.other.now c.loop-one.invariant.0
     (λ _. signed (a_sint c.in-Signed.field-0 c.in-Signed.is) (a_sint c.in-Signed-matches.field-0 c.in-Signed-matches.is), λ _. refl)
 
 pub equivalent-returns-in-Clock-matches : goal.equivalent-returns-in-Clock-matches
-equivalent-returns-in-Clock-matches t c = (λ _. clocks c.in-Clock.is c.in-Clock-matches.is, λ _. refl)
+equivalent-returns-in-Clock-matches t c =
+    answered c.args.left.now c.args.right.now c.loop-one.one.now c.loop-one.other.now c.loop-one.invariant.0 (λ _. clocks c.in-Clock.is c.in-Clock-matches.is, λ _. refl)
 
 pub equivalent-returns-in-Bundle-shape : goal.equivalent-returns-in-Bundle-shape
-equivalent-returns-in-Bundle-shape t c = (
+equivalent-returns-in-Bundle-shape t c = answered c.args.left.now c.args.right.now c.loop-one.one.now c.loop-one.other.now c.loop-one.invariant.0 (
   λ y. bundles_from c.as_slice.result.now c.as_slice-in-Bundle-shape.result.now c.in-Bundle.is c.in-Bundle-shape.is c.as_slice.ensures c.as_slice-in-Bundle-shape.ensures (c.same_fields.ensures.0 y),
   λ e. c.same_fields.ensures.1 (of_bundles c.as_slice.result.now c.as_slice-in-Bundle-shape.result.now c.in-Bundle.is c.in-Bundle-shape.is c.as_slice.ensures c.as_slice-in-Bundle-shape.ensures e),
 )
 
 pub equivalent-returns-then-length-other_length : goal.equivalent-returns-then-length-other_length
 equivalent-returns-then-length-other_length t c = (
-  λ y. vectors_from c.get.result.now c.get-then-length-other_length.result.now c.in-Vector.is c.in-Vector-shape.is c.if-length-other_length.true c.get.ensures c.get-then-length-other_length.ensures (c.equivalent.ensures.0 y),
-  λ e. c.equivalent.ensures.1 (of_vectors c.get.result.now c.get-then-length-other_length.result.now c.in-Vector.is c.in-Vector-shape.is c.get.ensures c.get-then-length-other_length.ensures e).1,
+  λ y. absurd cc,
+  λ e. absurd (other_length c.args.left.now c.args.right.now c.loop-one.one.now c.loop-one.other.now _ _ _ _ c.in-Vector.is c.in-Vector-shape.is c.if-length-other_length.true c.loop-one.invariant.0 e),
 )
+
+pub equivalent-loop-one-preserved : goal.equivalent-loop-one-preserved
+equivalent-loop-one-preserved t c =
+    let one = c.loop-one.one.now in
+    rw (c.get-one.ensures, c.get-other.ensures) (
+      same_on c.args.left.now c.args.right.now one c.loop-one.other.now _ _ _ _ c.in-Vector.is c.in-Vector-shape.is c.if-length-other_length.false c.loop-one.invariant.0,
+      element_falls one _ _ _ c.in-Vector.is c.loop-one.invariant.1,
+    )
 
 pub same_fields-returns-then-fields-others : goal.same_fields-returns-then-fields-others
 same_fields-returns-then-fields-others t c = (λ y. absurd cc, λ s. absurd (c.if-fields-others.true (same_length s)))

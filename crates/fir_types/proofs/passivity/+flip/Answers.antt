@@ -5,5 +5,6 @@ use Rattle.fir_types.proofs.passivity.+flip.Goals as goal
 
 pub flip_in-returns-in-Bundle : goal.flip_in-returns-in-Bundle
 flip_in-returns-in-Bundle t c =
-    let e = flip-bundle c.args.typ.now c.in-Bundle.fields c.in-Bundle.is in
-    grind (arith, common_steps, e)
+    let e = flip-bundle c.loop-inside.inside.now c.in-Bundle.fields c.in-Bundle.is in
+    let h = c.loop-inside.invariant.0 in
+    grind (arith, common_steps, e, h)
