@@ -19,7 +19,7 @@ use crate::walk::Walk;
 use circuit_parts::steps::{port_flow, source};
 use circuit_parts::{Flow, Part};
 use fir_tree::Expr;
-use fir_types::{FirType, Memory, Name, Port, copy, instance_type, memory_type};
+use fir_types::{FirType, Memory, Name, Port, copy, memory_type};
 use std::alloc::{AllocError, Global};
 
 /// A port, which is read or driven inside its module.
@@ -88,7 +88,6 @@ pub fn declare_memory(alloc: Global, walk: &mut Walk, memory: &Memory) -> Result
 
 /// An instance of a module. It has no type where there is no module of the name.
 pub fn declare_instance(
-    alloc: Global,
     modules: &Modules<'_>,
     walk: &mut Walk,
     name: Name,
@@ -96,11 +95,10 @@ pub fn declare_instance(
 ) -> Result<(), AllocError>
     ensures { OnOk result (Walks (declares name.id (instance_in modules.now.all.now target.id)) walk.old walk.new) }
 {
-    let Some(target) = modules.first(target.id) else {
+    let Some(typ) = modules.bundle(target.id) else {
         return Ok(());
     };
-    let typ = instance_type(alloc, target.ports.as_slice())?;
-    declare_source(walk, name, typ)
+    declare_source(walk, name, copy(typ)?)
 }
 
 /// A node, which has the type of its expression where that has one.

@@ -62,13 +62,16 @@ pub fn push_twice(
 ) -> Result<(), AllocError>
     ensures { OnOk result (faults.new.items ≡ faults.old.items ++ twice_in typ.now) }
 {
-    match &typ.shape {
-        Shape::Unsigned(_) | Shape::Signed(_) | Shape::Clock | Shape::Reset => Ok(()),
-        Shape::Bundle(fields) => {
-            push_seconds(alloc, faults, fields.as_slice())?;
-            push_twice_in(alloc, faults, fields.as_slice())
+    let mut inside = typ;
+    loop {
+        match &inside.shape {
+            Shape::Unsigned(_) | Shape::Signed(_) | Shape::Clock | Shape::Reset => return Ok(()),
+            Shape::Bundle(fields) => {
+                push_seconds(alloc, faults, fields.as_slice())?;
+                return push_twice_in(alloc, faults, fields.as_slice());
+            }
+            Shape::Vector(element, _) => inside = element.get(),
         }
-        Shape::Vector(element, _) => push_twice(alloc, faults, element.get()),
     }
 }
 

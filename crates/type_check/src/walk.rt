@@ -88,7 +88,7 @@ fn walk_statement(
             declare_reset_register(alloc, walk, *name, typ, clock, reset, init)
         }
         Stmt::Mem(memory) => declare_memory(alloc, walk, memory),
-        Stmt::Inst(name, target) => declare_instance(alloc, modules, walk, *name, *target),
+        Stmt::Inst(name, target) => declare_instance(modules, walk, *name, *target),
         Stmt::Node(name, expr) => declare_node(alloc, walk, *name, expr),
         Stmt::Connect(left, right) => connect(alloc, walk, left, right),
         Stmt::Invalidate(target) => invalidate(alloc, walk, target),
