@@ -1,0 +1,212 @@
+"""Prints a table: time and peak memory of `check` on small texts that ask for much, each at a size and at twice the size, with the ratio
+of the times; all under a stack of 8 MB.
+
+usage: hostile.py PROGRAM [--check]
+
+With --check only the deepest texts that are read, under stacks of 8 MB and 4 MB; the last line is `N passed, M failed`.
+"""
+import os
+import resource
+import signal
+import subprocess
+import sys
+import tempfile
+import time
+
+FRONT = "FIRRTL version 3.0.0\ncircuit M :\n"
+MEGABYTE = 1_048_576
+
+
+def module(lines, name="M"):
+    return f"  module {name} :\n" + "".join(f"    {line}\n" for line in lines)
+
+
+def fields(count):
+    return "{ " + ", ".join(f"f{k} : UInt<1>" for k in range(count)) + " }"
+
+
+# The deepest texts: 128 brackets, and 128 suffixes or lengths at each.
+
+
+def deep_reference(depth):
+    """A reference of 127 fields and an index, which is such a reference again."""
+    way = "a" + ".b" * 127
+    typ = "{ b : " * 127 + "UInt<1>[2]" + " }" * 127
+    return FRONT + module([f"input a : {typ}", "node n = " + (way + "[") * depth + "0" + "]" * depth])
+
+
+def deep_type(depth):
+    """A bundle with 128 lengths around it, of a bundle with 128 lengths around it, and so on."""
+    return FRONT + module(["input a : " + "{ x : " * depth + "UInt<1>" + (" }" + "[1]" * 128) * depth])
+
+
+def deep_memory(depth):
+    """The same type, of which a memory makes the mask."""
+    typ = "{ x : " * depth + "UInt<1>" + (" }" + "[1]" * 128) * depth
+    lines = [f"data-type => {typ}", "depth => 2", "read-latency => 0", "write-latency => 1", "writer => w", "read-under-write => undefined"]
+    return FRONT + module(["input clock : Clock", "mem m :"] + ["  " + line for line in lines] + ["invalidate m.w"])
+
+
+# Texts that ask for much, of a size.
+
+
+def nodes_of_bundle(size):
+    return FRONT + module([f"input w : {fields(size)}"] + [f"node x{k} = w" for k in range(size)])
+
+
+def unreached_connects(size):
+    inner = [f"input i : {fields(size)}", f"output o : {fields(size)}"] + ["connect o, i"] * size
+    return FRONT + module(inner, "N") + module(["skip"])
+
+
+def instances_of_ports(size):
+    return FRONT + module([f"input p{k} : UInt<1>" for k in range(size)], "N") + module(
+        [line for k in range(size) for line in (f"inst i{k} of N", f"invalidate i{k}")]
+    )
+
+
+def last_field(size):
+    return FRONT + module([f"input w : {fields(size)}"] + [f"node x{k} = w.f{size - 1}" for k in range(2 * size)])
+
+
+def readers(size):
+    lines = ["data-type => UInt<8>", "depth => 2", "read-latency => 0", "write-latency => 1"]
+    lines += [f"reader => r{k}" for k in range(size)] + ["read-under-write => undefined"]
+    return FRONT + module(["mem m :"] + ["  " + line for line in lines] + [f"invalidate m.r{k}" for k in range(size)])
+
+
+def writers(size):
+    """Writers of one memory whose elements have as many fields."""
+    lines = [f"data-type => {fields(size)}", "depth => 2", "read-latency => 0", "write-latency => 1"]
+    lines += [f"writer => w{k}" for k in range(size)] + ["read-under-write => undefined"]
+    return FRONT + module(["mem m :"] + ["  " + line for line in lines] + ["invalidate m"], "N") + module(["skip"])
+
+
+def backward_chain(size):
+    wires = [f"wire w{k} : UInt" for k in range(size)]
+    chain = [f"connect w{k}, w{k + 1}" for k in range(size - 1)] + [f"connect w{size - 1}, a"]
+    return FRONT + module(["input a : UInt<8>"] + wires + chain + ["node n = " + sum_of([f"w{k}" for k in range(size)])])
+
+
+def diverging_chain(size):
+    wires = [f"wire w{k} : UInt" for k in range(size)]
+    chain = [f"connect w{k}, add(w{k + 1}, w{k})" for k in range(size - 1)] + [f"connect w{size - 1}, a"]
+    return FRONT + module(["input a : UInt<8>"] + wires + chain + ["node n = " + sum_of([f"w{k}" for k in range(size)])])
+
+
+def sum_of(terms):
+    """One expression of all these, in brackets that are few."""
+    while len(terms) > 1:
+        terms = [f"xor({', '.join(terms[k:k + 2])})" if k + 1 < len(terms) else terms[k] for k in range(0, len(terms), 2)]
+    return terms[0]
+
+
+def module_ring(size):
+    rest = "".join(module([f"inst i of R{(k + 1) % size}"], f"R{k}") for k in range(size))
+    return FRONT + module(["inst i of R0"]) + rest
+
+
+def many_indices(size):
+    return FRONT + module(["input a : UInt<1>" + "[1]" * 127] + [f"node x{k} = a" + "[0]" * 127 for k in range(size)])
+
+
+def long_names(size):
+    return FRONT + module([f"wire {'n' * 1000}{k} : UInt<1>" for k in range(size)] + [f"invalidate {'n' * 1000}{k}" for k in range(size)])
+
+
+def infos(size):
+    return FRONT + module([f"skip @[Name.scala {k}:20]" for k in range(size)])
+
+
+def one_bundle(size):
+    return FRONT + module([f"input w : {fields(size)}"])
+
+
+def wide_instances(size):
+    return FRONT + module([f"input p{k} : UInt<1>" for k in range(200)], "N") + module(
+        [line for k in range(size) for line in (f"inst i{k} of N", f"invalidate i{k}")]
+    )
+
+
+DEEP = {
+    "127 fields and an index, 128 deep": deep_reference(128),
+    "128 lengths around a bundle, 128 deep": deep_type(128),
+}
+
+# A text as deep, whose stack is only measured.
+MASKED = {"a memory of 128 lengths around a bundle, 128 deep": deep_memory(128)}
+
+ROWS = {
+    "n nodes of a bundle of n fields": (nodes_of_bundle, 1_000),
+    "n connects of n fields that main doesn't reach": (unreached_connects, 1_000),
+    "n instances of a module with n ports": (instances_of_ports, 500),
+    "2 n references to the last of n fields": (last_field, 6_000),
+    "n readers of one memory, each invalidated": (readers, 4_000),
+    "n writers of one memory of n fields": (writers, 500),
+    "n operands over a chain that runs backward": (backward_chain, 400),
+    "n operands over a chain that diverges": (diverging_chain, 400),
+    "n modules in one ring of instances": (module_ring, 2_000),
+    "n references with 127 indices each": (many_indices, 1_000),
+    "n declarations of long names": (long_names, 250),
+    "n infos": (infos, 15_000),
+    "one bundle of n fields": (one_bundle, 30_000),
+    "n instances of a module with 200 ports": (wide_instances, 1_000),
+}
+
+
+def answer(program, text, stack):
+    """What `check` says of a text under a stack of so many bytes, or the signal that ended it; seconds; and peak memory in MB."""
+
+    def limited():
+        resource.setrlimit(resource.RLIMIT_STACK, (stack, resource.getrlimit(resource.RLIMIT_STACK)[1]))
+
+    with tempfile.TemporaryFile() as given:
+        given.write(text.encode())
+        given.seek(0)
+        began = time.perf_counter()
+        child = subprocess.Popen([program, "check"], stdin=given, stdout=subprocess.PIPE, preexec_fn=limited)
+        written = child.stdout.read().decode().strip()
+        child.stdout.close()
+        _, status, used = os.wait4(child.pid, 0)
+        child.returncode = os.waitstatus_to_exitcode(status)
+    said = signal.Signals(-child.returncode).name if child.returncode < 0 else written
+    return said, time.perf_counter() - began, used.ru_maxrss / 1024
+
+
+def check(program):
+    passed = failed = 0
+    for meaning, text in DEEP.items():
+        for megabytes in (8, 4):
+            said, _, _ = answer(program, text, megabytes * MEGABYTE)
+            if said == "ok":
+                passed += 1
+            else:
+                failed += 1
+                print(f"{meaning}, under a stack of {megabytes} MB: {said}")
+    print(f"{passed} passed, {failed} failed")
+    return 1 if failed else 0
+
+
+def measure(program):
+    print(f"{'text':48} {'bytes':>9} {'seconds':>8} {'MB':>7} {'twice the bytes':>15} {'seconds':>8} {'MB':>7} {'ratio':>6}  answer")
+    for meaning, text in (DEEP | MASKED).items():
+        said, seconds, memory = answer(program, text, 8 * MEGABYTE)
+        print(f"{meaning:48} {len(text):9,} {seconds:8.2f} {memory:7.0f} {'':15} {'':8} {'':7} {'':6}  {said}")
+    for meaning, (make, size) in ROWS.items():
+        small, large = make(size), make(2 * size)
+        said, seconds, memory = answer(program, small, 8 * MEGABYTE)
+        said_of_large, seconds_of_large, memory_of_large = answer(program, large, 8 * MEGABYTE)
+        both = said if said == said_of_large else f"{said}; {said_of_large}"
+        print(
+            f"{meaning:48} {len(small):9,} {seconds:8.2f} {memory:7.0f} {len(large):15,} {seconds_of_large:8.2f} {memory_of_large:7.0f}"
+            f" {seconds_of_large / seconds:6.1f}  {both}"
+        )
+    return 0
+
+
+def main():
+    program = os.path.realpath(sys.argv[1])
+    return check(program) if sys.argv[2:] == ["--check"] else measure(program)
+
+
+sys.exit(main())
