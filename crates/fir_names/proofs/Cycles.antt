@@ -1,17 +1,17 @@
 -- The instances on loops, found one after another.
 use Rattle.std.proofs.Common.{◌≡◌, ℕ, ◌+◌, ◌<◌, ◌≤◌, Bool, true, false, List, [], ◌∷◌, ◌++◌, length, take, get_or, refl, sym, ap, ◌∙◌, subst, arith, ⊎_elim, inl, inr, ◌⊎◌, slice_get, Some}
-use Rattle.std.specs.Prelude.{slice_index, nat_lt}
+use Rattle.std.specs.Prelude.{nat_lt, MatchBool}
 use Rattle.std.proofs.lemmas.Bool.{ltb-true, ltb-false}
 use Rattle.std.proofs.lemmas.List.{take_more, take_all}
-use Rattle.std.proofs.lemmas.Option.{slice_get_within, slice_get_read}
+use Rattle.std.proofs.lemmas.Option.{slice_get_read}
 use Rattle.fir_names.specs.declared.graph.Edge.{Edge}
 use Rattle.fir_names.specs.declared.fault.NameFault.{NameFault}
 use Rattle.fir_names.specs.declared.fault.NameFault.TheVariants.{InstanceLoop}
 use Rattle.fir_names.specs.Scopes.{In, here}
-use Rattle.fir_names.specs.Graphs.{Graph, IsGraph, Out, Leads, stays, goes, LoopsOf, LoopsBefore, Adds, Rises, ends}
+use Rattle.fir_names.specs.Graphs.{Graph, IsGraph, Leads, LoopsOf, LoopsBefore, Adds, ends}
 use Rattle.fir_names.proofs.Graphs.{In-left, In-right, In-either, In-one, some_same, ends_within}
 
-at_or_before : (k n : ℕ) → k < n + 1 → (k < n) ⊎ (k ≡ n)
+pub at_or_before : (k n : ℕ) → k < n + 1 → (k < n) ⊎ (k ≡ n)
 at_or_before k n lt = by (nat_lt k n) refl
   where
     by : (b : Bool) → nat_lt k n ≡ b → (k < n) ⊎ (k ≡ n)
@@ -35,14 +35,8 @@ adds_both h k split left right = record {
   only = λ f i. ⊎_elim (λ l. ⊎_elim (λ x. inl x) (λ p. inr (left f p)) (h.only f l)) (λ q. inr (right f q)) (k.only f i);
 }
 
-pub loop_here : (graph : Graph) (from : ℕ) (edge : Edge) (fs : List NameFault) → Leads graph edge.to from
-    → Adds (LoopsOf graph from (edge ∷ [])) fs (fs ++ InstanceLoop edge.place ∷ [])
-loop_here graph from edge fs way = adds_one (InstanceLoop edge.place) fs
-    (λ f l. l.is ∙ ap (λ (e : Edge). InstanceLoop e.place) (In-one l.stands))
-    (record { edge = edge; stands = here []; back = way; is = refl })
-
-pub no_loop_here : (graph : Graph) (from : ℕ) (edge : Edge) (fs : List NameFault) → ¬ (Leads graph edge.to from) → Adds (LoopsOf graph from (edge ∷ [])) fs fs
-no_loop_here graph from edge fs none = adds_none (λ f l. none (subst (λ (e : Edge). Leads graph e.to from) (In-one l.stands) l.back))
+false_true : false ≡ true → ⊥
+false_true e = cc
 
 pub loops_none : (graph : Graph) (from : ℕ) (fs : List NameFault) → Adds (LoopsOf graph from []) fs fs
 loops_none graph from fs = adds_none (λ f l. elim l.stands [ ])
@@ -76,28 +70,25 @@ loops_before_more graph from out e h k = adds_both h k
     by f l (inl lt) = inl (record { from = l.from; before = lt; out = l.out; here = l.here; loops = l.loops })
     by f l (inr is) = inr (subst (λ k. LoopsOf graph k out f) is (subst (λ o. LoopsOf graph l.from o f) (some_same (sym l.here ∙ ap (slice_get graph) is ∙ e)) l.loops))
 
-pub rises_along : {ranks : List ℕ} {graph : Graph} {from : ℕ} (r : Rises ranks graph) (to : ℕ) → Leads graph from to → slice_index ranks from ≤ slice_index ranks to
-rises_along r to stays = omega arith
-rises_along {ranks} {graph} {from} r to (goes middle edge way out) = omega (arith, rises_along r middle way, r.rises middle edge out)
+same_faults : {P Q : NameFault → Type 0} {a b : List NameFault} → ((f : NameFault) → P f → Q f) → ((f : NameFault) → Q f → P f) → Adds P a b → Adds Q a b
+same_faults forth back h = record {
+  kept = h.kept;
+  added = λ f q. h.added f (back f q);
+  only = λ f i. ⊎_elim (λ l. inl l) (λ p. inr (forth f p)) (h.only f i);
+}
 
-pub no_loops : (ranks : List ℕ) (graph : Graph) (fs : List NameFault) → Rises ranks graph → Adds (LoopsBefore graph (length graph)) fs fs
-no_loops ranks graph fs r = adds_none (λ f l. absurd (omega (arith, rises_along r l.from l.loops.back, r.rises l.from l.loops.edge (record { out = l.out; here = l.here; stands = l.loops.stands }))))
+-- an instance is told where a way leads back
+pub loop_where : (graph : Graph) (from : ℕ) (edge : Edge) (yes : Bool) {a b : List NameFault} → MatchBool yes (Leads graph edge.to from) (¬ (Leads graph edge.to from))
+    → Adds (λ fault. (yes ≡ true) × (fault ≡ InstanceLoop edge.place)) a b → Adds (LoopsOf graph from (edge ∷ [])) a b
+loop_where graph from edge true way h = same_faults
+    (λ f p. record { edge = edge; stands = here []; back = way; is = p.1 })
+    (λ f l. (refl, l.is ∙ ap (λ (e : Edge). InstanceLoop e.place) (In-one l.stands))) h
+loop_where graph from edge false none h = same_faults
+    (λ f p. absurd (false_true p.0))
+    (λ f l. absurd (none (subst (λ (e : Edge). Leads graph e.to from) (In-one l.stands) l.back))) h
 
--- one numbers rise along the edges of the first modules
-pub record RisesBefore (ranks : List ℕ) (graph : Graph) (count : ℕ) : Type 0 where
-  pub rises : (from : ℕ) (edge : Edge) → from < count → Out graph from edge → slice_index ranks from < slice_index ranks edge.to
-
-pub rises_more : (ranks : List ℕ) (graph : Graph) (from : ℕ) (out : List Edge) → slice_get graph from ≡ Some out → RisesBefore ranks graph from
-    → ((edge : Edge) → In edge out → slice_index ranks from < slice_index ranks edge.to) → RisesBefore ranks graph (from + 1)
-rises_more ranks graph from out e h k = record { rises = λ f edge lt o. by f edge o (at_or_before f from lt) }
-  where
-    by : (f : ℕ) (edge : Edge) → Out graph f edge → (f < from) ⊎ (f ≡ from) → slice_index ranks f < slice_index ranks edge.to
-    by f edge o (inl lt) = h.rises f edge lt o
-    by f edge o (inr is) = subst (λ n. slice_index ranks n < slice_index ranks edge.to) (sym is)
-        (k edge (subst (In edge) (some_same (sym o.here ∙ ap (slice_get graph) is ∙ e)) o.stands))
-
-pub rises_all : (ranks : List ℕ) (graph : Graph) (count : ℕ) → RisesBefore ranks graph count → length graph ≤ count → Rises ranks graph
-rises_all ranks graph count h le = record { rises = λ from edge o. h.rises from edge (omega (arith, slice_get_within graph from o.out o.here)) o }
+pub told_where : (loops : Bool) (edge : Edge) (fs : List NameFault) → loops ≡ true → Adds (λ fault. (loops ≡ true) × (fault ≡ InstanceLoop edge.place)) fs (fs ++ InstanceLoop edge.place ∷ [])
+told_where loops edge fs e = adds_one (InstanceLoop edge.place) fs (λ f p. p.1) (e, refl)
 
 pub edge_more : (P : Edge → Type 0) (out : List Edge) (i : ℕ) (d : Edge) → i < length out → ((edge : Edge) → In edge (take i out) → P edge) → P (get_or out i d)
     → (edge : Edge) → In edge (take (i + 1) out) → P edge

@@ -2,6 +2,7 @@ pub mod Graphs
 mod Cycles
 mod Examples
 mod Finding
+pub mod Heads
 mod Meaning
 mod Telling
 pub mod Reached

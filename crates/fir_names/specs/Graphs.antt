@@ -1,5 +1,5 @@
 -- Modules and the instances between them as a graph: for each module the edges that go out from it.
-use Rattle.std.specs.Prelude.{◌≡◌, ℕ, ◌+◌, ◌<◌, Bool, true, false, ◌⊎◌, ◌↔◌, List, [], ◌∷◌, ◌++◌, map, length, slice_get, slice_index, Some}
+use Rattle.std.specs.Prelude.{◌≡◌, ℕ, ◌+◌, ◌<◌, ◌≤◌, Bool, true, false, ◌⊎◌, ◌↔◌, List, [], ◌∷◌, ◌++◌, map, length, slice_get, slice_index, Some}
 use Rattle.fir_names.specs.declared.graph.Edge.{Edge}
 use Rattle.fir_names.specs.declared.fault.NameFault.{NameFault}
 use Rattle.fir_names.specs.declared.fault.NameFault.TheVariants.{InstanceLoop}
@@ -44,9 +44,34 @@ pub record Adds (P : NameFault → Type 0) (old new : List NameFault) : Type 0 w
   pub added : (fault : NameFault) → P fault → In fault new
   pub only : (fault : NameFault) → In fault new → In fault old ⊎ P fault
 
--- numbers of modules rise along the edges
-pub record Rises (ranks : List ℕ) (graph : Graph) : Type 0 where
-  pub rises : (from : ℕ) (edge : Edge) → Out graph from edge → slice_index ranks from < slice_index ranks edge.to
+-- Heads tell the parts of a graph: ways lead from each module to the head of its part and back, and where an edge leads from one
+-- part to another no way leads back.
+pub record AreParts (heads : List ℕ) (graph : Graph) : Type 0 where
+  pub onward : (k : ℕ) → k < length graph → Leads graph k (slice_index heads k)
+  pub backward : (k : ℕ) → k < length graph → Leads graph (slice_index heads k) k
+  pub apart : (from : ℕ) (edge : Edge) → Out graph from edge → ¬ (slice_index heads edge.to ≡ slice_index heads from) → ¬ (Leads graph edge.to from)
+
+-- a way from a module to another one, or back
+abbrev pub Way : Bool → Graph → ℕ → ℕ → Type 0
+Way false graph node other = Leads graph node other
+Way true graph node other = Leads graph other node
+
+-- a module of the same part that is nearer to the head
+pub record Nearer (turned : Bool) (graph : Graph) (heads far : List ℕ) (node : ℕ) : Type 0 where
+  pub next : ℕ
+  pub within : next < length graph
+  pub way : Way turned graph node next
+  pub same : slice_index heads next ≡ slice_index heads node
+  pub nearer : slice_index far next < slice_index far node
+
+-- the head, or a module that is nearer to it
+abbrev pub Nears : Bool → Graph → List ℕ → List ℕ → ℕ → Type 0
+Nears turned graph heads far node = (slice_index heads node ≡ node) ⊎ Nearer turned graph heads far node
+
+-- a rank doesn't rise along an edge, and falls where the edge leaves a part
+pub record Falls (ranks heads : List ℕ) (from to : ℕ) : Type 0 where
+  pub falls : slice_index ranks to ≤ slice_index ranks from
+  pub apart : ¬ (slice_index heads to ≡ slice_index heads from) → slice_index ranks to < slice_index ranks from
 
 abbrev pub count_true : List Bool → ℕ
 count_true [] = 0

@@ -1,6 +1,6 @@
 //! The graph of modules and their instances: which modules one reaches, and which instances are on a loop.
 
-ghost use Rattle.std.specs.Prelude.{◌≡◌, ◌<◌, ◌↔◌, [], ◌∷◌, ℕ, List, length, slice_get, Some, true, false, replicate, IfOk, OnOk};
+ghost use Rattle.std.specs.Prelude.{◌≡◌, ◌<◌, ◌↔◌, [], ◌∷◌, ℕ, List, length, slice_get, slice_index, Some, true, false, replicate, IfOk, OnOk};
 ghost use Rattle.fir_names.specs.Graphs.{IsGraph, Leads, Marked, Spreads, ends};
 ghost use Rattle.fir_names.specs.Scopes.{In};
 
@@ -63,4 +63,14 @@ fn mark(marks: &mut Vec<bool>, order: &mut Vec<u32>, node: u32) -> Result<(), Al
         order.push(node)?;
     }
     Ok(())
+}
+
+/// The number of a module, or 0 where there is none.
+pub fn at(numbers: &[usize], node: usize) -> usize
+    ensures { result ≡ slice_index numbers.now node }
+{
+    match numbers.get(node) {
+        Some(number) => *number,
+        None => 0,
+    }
 }

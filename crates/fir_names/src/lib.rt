@@ -8,9 +8,12 @@ mod graph;
 pub mod laws;
 mod loops;
 mod namespace;
+mod parts;
 mod references;
 mod scoping;
+mod search;
 mod walk;
+mod ways;
 
 pub use fault::NameFault;
 pub use scoping::resolve;

@@ -24,8 +24,7 @@ use std::alloc::{AllocError, Global};
 /// What the names of a circuit mean, or its first fault by place, and at one place by kind (FIRRTL specification 3.0,
 /// "Circuits and Modules", "Instances", "Namespaces", "Scoping").
 ///
-/// Takes memory and time in proportion to the circuit, and where instances are on a loop up to the square of the instances.
-/// More than fit a `u32` of modules, or of declarations in a module, are a want of memory.
+/// Takes memory and time in proportion to the circuit. More than fit a `u32` of modules, or of declarations in a module, are a want of memory.
 pub fn resolve(alloc: Global, circuit: &Circuit) -> Result<Scope, NameFault>
     ensures { IsVerdict place_of rank_of (IsFault circuit.now) (IsScope circuit.now) result }
 {

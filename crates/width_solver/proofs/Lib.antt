@@ -1,6 +1,7 @@
 pub mod Examples
 pub mod Greatest
 pub mod Noting
+pub mod Replacing
 pub mod Standing
 pub mod Variables
 pub mod Waking

@@ -5,6 +5,7 @@
 mod formula;
 mod readers;
 mod rounds;
+mod small;
 mod solving;
 
 pub use solving::solve;
