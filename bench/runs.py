@@ -1,5 +1,6 @@
 """Prints tables: the time of `check` on large circuits that have no fault, at two sizes with the ratio; the time and cycles per second of
-runs of rings of registers and of the circuits of a folder; and the memory of a run of 4,000,000 values.
+runs of rings of registers and of the circuits of a folder; the time to read a stimulus of 4 MB, beside the circuit in a text of its own; and the
+memory of a run of 4,000,000 values.
 
 usage: runs.py PROGRAM FOLDER
 """
@@ -49,8 +50,36 @@ def ring(count, cycles):
     return FRONT + "  module M :\n" + "\n".join(lines) + f"\n%stimulus\ncycles {cycles}\n"
 
 
-def taken(program, words, text):
-    """The seconds that a call takes, its peak memory in MB, and what it writes. It has no fault, or is too large."""
+# A circuit with one input beside a vector of them, and stimuli of it.
+INPUTS = FRONT + "  module M :\n    input a : UInt<128>\n    input v : UInt<8>[32]\n    output o : UInt<128>\n    connect o, a\n"
+
+
+def filled(size, line_of):
+    """A stimulus of this many bytes: the lines of the numbers from 0, then a last line that lacks its form, so that nothing is run."""
+    lines, left = ["cycles 100000\n"], size - len("cycles 100000\n")
+    while len(line := line_of(len(lines) - 1)) < left:
+        lines.append(line)
+        left -= len(line)
+    return "".join(lines) + "!\n".rjust(left)
+
+
+def one_input(k):
+    """A line a cycle, with a number of 39 digits."""
+    return f"{k} a {2**128 - 1 - k}\n"
+
+
+def all_elements(k):
+    """A line for each element of the vector in each cycle."""
+    return f"{k // 32} v[{k % 32}] {k % 256}\n"
+
+
+def one_cycle(k):
+    """Empty lines and remarks between some lines of the first cycle."""
+    return f"0 v[{k}] 0h{k:x}\n" if k < 32 else f"; {k}\n\n"
+
+
+def taken(program, words, text, ends=(b"circuit TooLarge 2:9\n",)):
+    """The seconds that a call takes, its peak memory in MB, and what it writes. It has no fault, or one of those that are said."""
     with tempfile.TemporaryFile() as given:
         given.write(text.encode())
         given.seek(0)
@@ -59,8 +88,18 @@ def taken(program, words, text):
         written = child.stdout.read()
         _, status, used = os.wait4(child.pid, 0)
         took = time.perf_counter() - began
-    assert status == 0 or written == b"circuit TooLarge 2:9\n", (status, written[:200])
+    assert status == 0 or written in ends, (status, written[:200])
     return took, used.ru_maxrss / 1024, written
+
+
+def read(program, stimulus):
+    """The seconds and the peak memory in MB of a run of two texts whose stimulus, from standard input, has its only fault in its last line."""
+    lines = stimulus.splitlines()
+    fault = f"stimulus BadLine {len(lines)}:{len(lines[-1])}\n".encode()
+    with tempfile.NamedTemporaryFile("w") as circuit:
+        circuit.write(INPUTS)
+        circuit.flush()
+        return taken(program, ["run", circuit.name, "-"], stimulus, [fault])[:2]
 
 
 def main():
@@ -85,6 +124,11 @@ def main():
         took, _, written = taken(program, ["run"], circuit.read_text() + "%stimulus\n" + stimulus)
         cycles = written.count(b"\n") - 1
         print(f"{circuit.stem:48} {cycles:9,} {took:7.2f} {cycles / took:10,.0f}")
+    print(f"\n{'stimulus of':48} {'bytes':>11} {'s':>7} {'MB':>6} {'bytes':>11} {'s':>7} {'MB':>6} {'ratio':>6}")
+    for meaning, line_of in (("a line a cycle, with 39 digits", one_input), ("32 lines a cycle", all_elements), ("blank lines and remarks", one_cycle)):
+        sizes = (2_097_152, 4_194_304)
+        (s, m), (t, n) = (read(program, filled(size, line_of)) for size in sizes)
+        print(f"{meaning:48} {sizes[0]:11,} {s:7.2f} {m:6.0f} {sizes[1]:11,} {t:7.2f} {n:6.0f} {t / s:6.1f}")
     text = FRONT + "  module M :\n    input a : UInt<1>\n    output o : UInt<1>\n    output p : UInt<1>\n    output q : UInt<1>\n"
     text += "".join(f"    connect {name}, a\n" for name in "opq") + "%stimulus\ncycles 1000000\n"
     took, memory, _ = taken(program, ["run"], text)

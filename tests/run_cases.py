@@ -107,6 +107,10 @@ def main():
         text = path.read_text("latin-1") + "%stimulus\n" + path.with_suffix(".stim").read_text("latin-1")
         case = {"words": ["run"], "stdin": text, "status": 0, "stdout": path.with_suffix(".expect").read_text("latin-1")}
         faults.append((f"the trace of {path.stem}", fault_of(program, case)))
+    for path in sorted(examples.glob("*.fir")):
+        circuit, stimulus, trace = (path.with_suffix(suffix).read_text("latin-1") for suffix in (".fir", ".stim", ".expect"))
+        case = {"words": ["run", "c.fir", "c.stim"], "held": {"c.fir": circuit, "c.stim": stimulus}, "stdin": "", "status": 0, "stdout": trace}
+        faults.append((f"the trace of the example {path.stem}", fault_of(program, case)))
     for name, case in limits():
         faults.append((name, fault_of(program, case)))
     for name, case in told_faults((folder / "../docs/FAULTS.md").read_text()):

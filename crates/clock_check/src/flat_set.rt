@@ -1,6 +1,6 @@
 //! Sets of leaves of the run.
 
-ghost use Rattle.std.specs.Prelude.{◌≡◌, ◌||◌, false, OnOk};
+ghost use Rattle.std.specs.Prelude.{◌≡◌, ◌<◌, ◌^◌, ◌||◌, false, slice_get, option_copied, IsSome, OnOk};
 ghost use Rattle.fir_meaning.specs.Components.{FlatLeaf};
 ghost use Rattle.clock_check.specs.Flats.{leaf_of_flat, same_flat, is_within};
 ghost use Rattle.clock_check.specs.Searched.{Grows};
@@ -38,6 +38,18 @@ impl FlatSet {
         ensures { result ≡ is_within self.now.keys.keys (leaf_of_flat key.now) }
     {
         self.keys.contains(key)
+    }
+
+    /// The leaf that was added as the one of this number, from 0 on.
+    pub fn get(&self, number: usize) -> Option<&FlatKey>
+        ensures key { option_copied result ≡ slice_get self.now.keys.keys number }
+        ensures small { IsSome result → number < 2 ^ 63 }
+    {
+        if number < self.keys.len() {
+            self.keys.get_index(number)
+        } else {
+            None
+        }
     }
 
     /// Adds a leaf.

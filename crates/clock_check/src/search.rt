@@ -76,13 +76,13 @@ pub fn search(alloc: Global, sinks: &FlatSinks, root: FlatKey) -> Result<FlatSet
     let mut found = FlatSet::new(alloc);
     found.insert(root)?;
     for at in 0..usize::MAX {
-        let Some(key) = found.keys.get_index(at) else {
+        let Some(key) = found.get(at) else {
             return Ok(found);
         };
         let next = sinks.of(key);
         push_all(alloc, &mut found, next)?;
     }
-    Err(AllocError)
+    unreachable!()
 }
 
 /// Adds leaves to a set.

@@ -1,10 +1,10 @@
 -- The places at which modules stand, as they are listed.
-use Rattle.std.proofs.Common.{◌≡◌, ◌↔◌, ℕ, ◌+◌, ◌<◌, ◌≤◌, ◌==◌, Bool, true, false, List, [], ◌∷◌, ◌++◌, Some, None, slice_get, get_or, length, refl, sym, ap, ◌∙◌, subst, arith, ⊎_elim}
+use Rattle.std.proofs.Common.{◌≡◌, ◌↔◌, ℕ, ◌+◌, ◌<◌, ◌≤◌, ◌^◌, ◌==◌, Bool, true, false, List, [], ◌∷◌, ◌++◌, Some, None, slice_get, get_or, length, refl, sym, ap, ◌∙◌, subst, arith, ⊎_elim}
 use Rattle.std.specs.Prelude.{Contains, option_map}
 use Rattle.std.proofs.lemmas.Bool.{eqb-true, eqb-false}
 use Rattle.std.proofs.lemmas.List.Elements.{Contains-append_cases, Contains-append_left, Contains-append_right}
 use Rattle.std.specs.Global.{Vec}
-use Rattle.std.proofs.lemmas.List.{map-append}
+use Rattle.std.proofs.lemmas.List.{map-append, length-append}
 use Rattle.std.proofs.lemmas.Option.{slice_get_within, slice_get_past, slice_get_read, slice_get-map}
 use Rattle.fir_names.proofs.Graphs.{some_same}
 use Rattle.drive_check.proofs.Telling.{get_contains, contains_get}
@@ -73,3 +73,19 @@ pub all_listed : (table : Table) (start : Stand) (places items : List Standing) 
     → (x : Stand) → Contains (stands_of places) x ↔ ComesFrom table start x
 all_listed table start places items at h e past =
     listed_all table start (stands_of places) at h (slice_get-map stand_of places at ∙ ap (option_map stand_of) (ap (λ l. slice_get l at) (sym e) ∙ slice_get_past items at past))
+
+-- The end of the list
+
+pub one_more : (places items next after : List Standing) (at : ℕ) → items ≡ places → at < length items → after ≡ places ++ next → at + 1 ≤ length after
+one_more places items next after at e below is =
+    let both = ap length is ∙ length-append places next in
+    let all = ap length e in
+    omega (arith, below, both, all)
+
+-- no list of places is so long that a step would lead behind the last number
+pub no_end : (places : Vec Standing) (at : ℕ) → at ≤ length places.items → 2 ^ 63 ≤ at → ⊥
+no_end places at within far =
+    let whole = places.ok.0 in
+    let held = places.ok.1 in
+    let small = places.small in
+    omega (arith, within, far, whole, held, small)

@@ -36,7 +36,7 @@ pub fn places_of(
         let mut next = next_places(alloc, table, place)?;
         places.append(&mut next)?;
     }
-    Err(AllocError)
+    unreachable!()
 }
 
 /// The places behind the instances of the module at a place.
