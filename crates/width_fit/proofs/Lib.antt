@@ -7,3 +7,4 @@ mod FaultsTold
 mod Surveys
 mod Walking
 mod Whole
+pub mod Runs

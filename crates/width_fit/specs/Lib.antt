@@ -9,3 +9,4 @@ pub mod Surveys
 pub mod Marks
 pub mod Walks
 pub mod Ranks
+pub mod Runs

@@ -3,9 +3,11 @@
 ghost use Rattle.std.specs.Prelude.{◌≡◌, IfOk};
 ghost use Rattle.width_fit.specs.Filling.{filled, taking, first_number, behind_first};
 ghost use Rattle.width_fit.specs.Layers.{shape_taking, fields_taking};
+ghost use Rattle.width_fit.specs.Runs.{within};
 
 use bit_words::{List, Shared};
 use fir_types::{Field, FirType, Shape};
+use place_text::Place;
 use prim_ops::Width;
 use std::alloc::{AllocError, Global};
 
@@ -17,8 +19,9 @@ pub fn filled(alloc: Global, typ: &FirType, widths: &[Width]) -> Result<FirType,
     Ok(fitted)
 }
 
-/// A copy of a type with the first widths, and those that are left.
+/// A copy of a type with the first widths, and those that are left. The lengths of vectors in one another are taken in a loop.
 #[cycle(fill)]
+#[tactic(auto, using(crate::proofs::Runs::within_last, crate::proofs::Runs::taking_run))]
 fn fill<'a>(
     alloc: Global,
     typ: &FirType,
@@ -26,14 +29,38 @@ fn fill<'a>(
 ) -> Result<(FirType, &'a [Width]), AllocError>
     ensures { IfOk result (λ taken. (taken.0, taken.1.now) ≡ taking typ.now widths.now) }
 {
-    let (shape, rest) = fill_shape(alloc, &typ.shape, widths)?;
-    Ok((
-        FirType {
-            place: typ.place,
-            shape,
-        },
-        rest,
-    ))
+    let mut lengths = Vec::new(alloc);
+    let mut inside = typ;
+    while let Shape::Vector(element, length) = &inside.shape {
+        lengths.push((inside.place, *length))?;
+        inside = element.get();
+    }
+    let (shape, rest) = fill_shape(alloc, &inside.shape, widths)?;
+    let innermost = FirType {
+        place: inside.place,
+        shape,
+    };
+    Ok((put_within(alloc, lengths, innermost)?, rest))
+}
+
+/// A type with these lengths around it, the outermost first.
+#[tactic(auto, using(crate::proofs::Runs::within_last))]
+fn put_within(
+    alloc: Global,
+    lengths: Vec<(Place, u128)>,
+    typ: FirType,
+) -> Result<FirType, AllocError>
+    ensures { IfOk result (λ whole. whole ≡ within lengths.items typ) }
+{
+    let mut whole = typ;
+    let mut left = lengths;
+    while let Some((place, length)) = left.pop() {
+        whole = FirType {
+            place,
+            shape: Shape::Vector(Shared::new(alloc, whole)?, length),
+        };
+    }
+    Ok(whole)
 }
 
 #[cycle(fill)]
