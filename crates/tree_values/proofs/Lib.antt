@@ -1,0 +1,9 @@
+mod Leasts
+mod Lists
+mod Looking
+mod Conditions
+mod Forms
+mod Rows
+mod Typed
+mod Following
+mod Stepping
