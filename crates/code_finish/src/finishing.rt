@@ -7,16 +7,23 @@ ghost use Rattle.code_finish.specs.Finishing.{IsCodeOf};
 
 use bit_words::List;
 use code_draft::Draft;
-use flat_code::{Code, Instr, Op, Spot};
+use flat_code::{Code, Instr, Op, Span, Spot};
 use std::alloc::AllocError;
 
-/// The code of a draft, which puts out what stands at these spots, as the outputs at these positions of the watch list.
-pub fn finish(draft: Draft, shown: List<Spot>, positions: List<u32>) -> Result<Code, AllocError>
+/// The code of a draft, which puts out what stands at these spots, as the outputs at these positions of the watch list, and owns the
+/// shared words of these spans.
+pub fn finish(
+    draft: Draft,
+    shown: List<Spot>,
+    positions: List<u32>,
+    owned: List<Span>,
+) -> Result<Code, AllocError>
     requires draft { IsDraft draft }
     requires shown { All (Stands draft) shown }
     requires positions { length positions ≡ length shown }
     ensures effects { IfOk result (λ code. IsCodeOf code draft shown) }
     ensures positions { IfOk result (λ code. code.positions ≡ positions) }
+    ensures owned { IfOk result (λ code. code.owned ≡ owned) }
     ensures words { IfOk result (λ code. code.words ≡ draft.words) }
     ensures slots { IfOk result (λ code. code.slots ≡ draft.slots) }
 {
@@ -27,6 +34,7 @@ pub fn finish(draft: Draft, shown: List<Spot>, positions: List<u32>) -> Result<C
         wides: draft.wides,
         shown,
         positions,
+        owned,
         slots: draft.slots,
         words: draft.words,
         most,

@@ -20,7 +20,7 @@ use Rattle.code_emit.specs.declared.sources.Source.TheVariants as source
 use Rattle.code_emit.specs.declared.sources.Sources.{Sources}
 use Rattle.code_emit.specs.Emits.{leaf_source, element_source, source_shape, sources_table, IsOf, Sees, Fits, AreSources, ValueOf, Emits}
 use Rattle.code_emit.proofs.Emitting.{sources_on}
-use Rattle.code_sequence.specs.Sequences.{driver_in, with_leaf, with_shape, turned_table, InTurn, AreAssigned, Turned, Goes, Assigns}
+use Rattle.code_sequence.specs.Sequences.{driver_in, with_leaf, with_shape, turned_table, InTurn, AreAssigned, Turned, Goes, Assigns, StandElsewhere}
 
 some_same : {A : Type 0} {x y : A} → Some x ≡ Some y → x ≡ y
 some_same e = cc
@@ -137,3 +137,16 @@ driver_is drivers x o g table at turn = by_option (slice_get drivers x) refl tur
     by_option : (p : Option (Option Ground)) → slice_get drivers x ≡ p → option_and_then (λ d. d) p ≡ Some turn.0 → driver_in drivers x ≡ Some g
     by_option (Some y) e f = ap (option_and_then (λ d. d)) e ∙ (sym (get_or_from_slice_get drivers x y o e) ∙ at)
     by_option None e f = absurd (none_some f)
+
+-- what stands elsewhere stays there
+pub elsewhere : (x : ℕ) (S : Sources) (s : Spot) → StandElsewhere (x ∷ []) S (with_frame S x s)
+elsewhere x S s = record { leaves = λ y out. other_source S x y s (λ e. out (subst (Contains (x ∷ [])) (sym e) (contains_one x))); memories = refl }
+
+pub none_elsewhere : (S : Sources) → StandElsewhere [] S S
+none_elsewhere S = record { leaves = λ y out. refl; memories = refl }
+
+pub one_more_elsewhere : (xs : List ℕ) (x : ℕ) (S T U : Sources) → StandElsewhere xs S T → StandElsewhere (x ∷ []) T U → StandElsewhere (xs ++ x ∷ []) S U
+one_more_elsewhere xs x S T U first next = record {
+  leaves = λ y out. next.leaves y (λ c. out (Contains-append_right xs (x ∷ []) y c)) ∙ first.leaves y (λ c. out (Contains-append_left xs (x ∷ []) y c));
+  memories = next.memories ∙ first.memories;
+}

@@ -7,7 +7,7 @@ use Rattle.net_meaning.specs.Shapes.{Shape, Table, shape}
 use Rattle.code_draft.specs.declared.draft.Draft.{Draft}
 use Rattle.code_draft.specs.Drafts.{IsDraft, Solved, Grows}
 use Rattle.code_emit.specs.declared.sources.Sources.{Sources}
-use Rattle.code_emit.specs.Emits.{sources_table, Sees, AreSources}
+use Rattle.code_emit.specs.Emits.{sources_table, leaf_source, Sees, AreSources}
 
 -- the driver of a leaf
 abbrev pub driver_in : List (Option Ground) → ℕ → Option Ground
@@ -48,3 +48,8 @@ pub record Goes (drivers : List (Option Ground)) (xs : List ℕ) (S : Sources) (
 
 abbrev pub Assigns : List (Option Ground) → List ℕ → Sources → Draft → Sources → Draft → Type 0
 Assigns drivers xs S old T new = IsDraft old → AreSources S old → Goes drivers xs S old T new
+
+-- All that is no leaf of these is found where it was.
+pub record StandElsewhere (xs : List ℕ) (S T : Sources) : Type 0 where
+  pub leaves : (y : ℕ) → (Contains xs y → ⊥) → leaf_source T y ≡ leaf_source S y
+  pub memories : T.memories ≡ S.memories

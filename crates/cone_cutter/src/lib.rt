@@ -16,3 +16,4 @@ mod walking;
 
 pub use cutting::cut;
 pub use placing::Placing;
+pub use sinks::{SinkAt, sinks_of};

@@ -9,7 +9,7 @@ pub mod laws;
 pub mod loads;
 pub mod running;
 
-pub use code::Code;
+pub use code::{Code, Span};
 pub use instr::{Form, Instr, Op, Port, Region, Spot, Wide};
 pub use loads::Loads;
 pub use running::{Effects, step};

@@ -1,7 +1,7 @@
 use Rattle.std.proofs.Common.{◌≡◌, Some, [], ◌∷◌, get_or, sym, subst, ◌∙◌}
 use Rattle.code_emit.specs.Emits.{sources_table}
-use Rattle.code_sequence.specs.Sequences.{driver_in, Turned, Assigns}
-use Rattle.code_sequence.proofs.Turns.{turned, assigned, driver_is}
+use Rattle.code_sequence.specs.Sequences.{driver_in, Turned, Assigns, StandElsewhere}
+use Rattle.code_sequence.proofs.Turns.{turned, assigned, elsewhere, driver_is}
 use Rattle.code_sequence.proofs.assigning.assign.Goals as goal
 
 pub returns-clause-table : goal.returns-clause-table
@@ -24,3 +24,9 @@ returns-clause-assigns c =
     let at : driver_in drivers x ≡ Some c.in-Some-Some.driver = driver_is drivers x c.in-Some-Some.field-0.now c.in-Some-Some.driver (sources_table S) got c.requires.in_turn in
     subst (λ ls. Assigns drivers (x ∷ []) S old (record { leaves = ls; memories = S.memories }) new) (sym c.set.ensures)
     (assigned drivers x S old new c.in_ok-spot.spot c.in-Some-Some.driver c.requires.within at c.in_ok-spot.ensures.emits)
+
+pub returns-clause-others : goal.returns-clause-others
+returns-clause-others c =
+    let S = c.args.sources.now in
+    let x = c.args.leaf in
+    subst (λ ls. StandElsewhere (x ∷ []) S (record { leaves = ls; memories = S.memories })) (sym c.set.ensures) (elsewhere x S c.in_ok-spot.spot)

@@ -1,8 +1,8 @@
 use Rattle.std.proofs.Common.{◌≡◌, ◌+◌, slice_index, take, drop, sym, subst, ap, ◌∙◌}
-use Rattle.std.proofs.lemmas.List.{take_more, drop_more, drop_all}
+use Rattle.std.proofs.lemmas.List.{take_more, take_all, drop_more, drop_all}
 use Rattle.code_emit.specs.Emits.{sources_table}
-use Rattle.code_sequence.specs.Sequences.{InTurn, Assigns, turned_table}
-use Rattle.code_sequence.proofs.Turns.{in_turn_next, next_table, one_more_assigned}
+use Rattle.code_sequence.specs.Sequences.{InTurn, Assigns, StandElsewhere, turned_table}
+use Rattle.code_sequence.proofs.Turns.{in_turn_next, next_table, one_more_assigned, one_more_elsewhere}
 use Rattle.code_sequence.proofs.assigning.assign_all.Goals as goal
 
 pub loop-leaf-preserved : goal.loop-leaf-preserved
@@ -19,6 +19,8 @@ loop-leaf-preserved c =
       long = c.in_ok-assign.ensures.leaves ∙ c.loop-leaf.invariant.long;
       turn = in_turn_next S T drivers x (drop (k + 1) xs) turn c.in_ok-assign.ensures.table;
       table = next_table S T drivers x (drop (k + 1) xs) turn c.in_ok-assign.ensures.table ∙ (ap (turned_table (sources_table S) drivers) (sym (drop_more xs k 0 lt)) ∙ c.loop-leaf.invariant.table);
+      others = subst (λ ys. StandElsewhere ys c.args.sources.now T) (sym (take_more xs k 0 lt))
+          (one_more_elsewhere (take k xs) x c.args.sources.now S T c.loop-leaf.invariant.others c.in_ok-assign.ensures.others);
       assigns = subst (λ ys. Assigns drivers ys c.args.sources.now c.args.draft.now T c.assign.new.draft) (sym (take_more xs k 0 lt))
           (one_more_assigned drivers (take k xs) x c.args.sources.now S T c.args.draft.now c.loop-leaf.draft c.assign.new.draft c.loop-leaf.invariant.assigns c.in_ok-assign.ensures.assigns);
     }
@@ -27,3 +29,7 @@ pub returns-clause-table : goal.returns-clause-table
 returns-clause-table c =
     let none = drop_all c.loop-leaf.leaf-index c.args.sequence.now c.loop-leaf-test.false in
     sym (ap (turned_table (sources_table c.loop-leaf.sources) c.args.drivers.now) none) ∙ c.loop-leaf.invariant.table
+
+pub returns-clause-others : goal.returns-clause-others
+returns-clause-others c =
+    subst (λ ys. StandElsewhere ys c.args.sources.now c.loop-leaf.sources) (take_all c.loop-leaf.leaf-index c.args.sequence.now c.loop-leaf-test.false) c.loop-leaf.invariant.others

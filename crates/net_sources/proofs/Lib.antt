@@ -1,0 +1,3 @@
+mod ToldReads
+mod Rowed
+pub mod Among
