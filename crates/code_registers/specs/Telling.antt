@@ -1,8 +1,9 @@
 -- Code that publishes what sinks leave to the next cycle.
-use Rattle.std.specs.Prelude.{◌≡◌, ℕ, ◌<◌, ◌≤◌, true, List, ◌++◌, slice_get, slice_index, unsigned_abs, Some, Contains}
+use Rattle.std.specs.Prelude.{◌≡◌, ℕ, ◌<◌, ◌≤◌, nat_lt, true, List, ◌++◌, slice_get, slice_index, ℤ, pos, unsigned_abs, Some, Contains, if◌then◌else◌}
 use Rattle.bit_words.specs.declared.value.Value.{Value}
 use Rattle.bit_words.specs.Values.{integer_of}
 use Rattle.phase_core.specs.declared.model.Publication.{Publication}
+use Rattle.cycle_values.specs.Ports.{Held}
 use Rattle.ground_net.specs.declared.net.Net.{Net}
 use Rattle.ground_net.specs.declared.net.NetRegister.{NetRegister}
 use Rattle.ground_net.specs.declared.net.NetMemory.{NetMemory}
@@ -19,12 +20,16 @@ use Rattle.code_draft.specs.Drafts.{IsDraft, Solved, written_in, pushed_in}
 use Rattle.code_emit.specs.declared.sources.Sources.{Sources}
 use Rattle.code_emit.specs.Emits.{sources_table, Sees, AreSources}
 
--- A sight shows a state: the leaf of a register shows what the register holds, and the leaf of an element of a memory, at an address
--- below the depth, what that one holds. (A captured read isn't asked: what it shows next is no matter of what it shows.)
+-- what is held at an address, and 0 past the depth
+abbrev pub contents_at : Held ℕ → ℕ → ℕ → ℕ → ℤ
+contents_at held depth k a = if nat_lt a depth then held a k else pos 0
+
+-- A sight shows a state: the leaf of a register shows what the register holds, and a leaf of a memory, at an address, what the element
+-- holds, and 0 past the depth. (The leaves of captured reads aren't asked: what they show next is no matter of what they show.)
 pub record ShowsState (net : Net) (st : NetState) (sight : Sight) : Type 0 where
   pub registers : (n : ℕ) (register : NetRegister) → slice_get net.registers n ≡ Some register → integer_of (sight.leaf register.leaf) ≡ st.registers n
   pub contents : (m k : ℕ) (memory : NetMemory) (leaf : ElementLeaf) (address : Value) → slice_get net.memories m ≡ Some memory → slice_get memory.elements k ≡ Some leaf
-      → unsigned_abs (integer_of address) < memory.depth → integer_of (sight.load m k address) ≡ st.contents m (unsigned_abs (integer_of address)) k
+      → integer_of (sight.load m k address) ≡ contents_at (st.contents m) memory.depth k (unsigned_abs (integer_of address))
 
 -- What a cycle leaves, of the state that it begins with and of what is seen in it.
 abbrev pub Left : Type 0

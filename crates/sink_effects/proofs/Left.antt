@@ -1,12 +1,12 @@
 -- What ports leave.
-use Rattle.std.proofs.Common.{◌≡◌, ℕ, ◌+◌, ◌/◌, ◌%◌, ◌^◌, ◌<◌, ◌≤◌, Bool, true, false, ◌&&◌, nat_lt, if◌then◌else◌, List, [], ◌∷◌, refl, ap, ◌∙◌}
+use Rattle.std.proofs.Common.{◌≡◌, ℕ, ◌+◌, ◌/◌, ◌%◌, ◌^◌, ◌<◌, ◌≤◌, Bool, true, false, ◌&&◌, nat_lt, if◌then◌else◌, List, [], ◌∷◌, refl, ap, ◌∙◌, true≢false}
 use Rattle.std.proofs.lemmas.Bool.{lt-ltb, le-ltb}
 use Rattle.phase_core.specs.declared.model.Publication.{Publication}
 use Rattle.cycle_values.specs.Values.{fitted}
 use Rattle.cycle_values.specs.Ports.{Shown}
 use Rattle.ground_net.specs.declared.net.Net.{Net}
 use Rattle.ground_net.specs.declared.net.NetMemory.{NetMemory}
-use Rattle.ground_net.specs.Cones.{A_watched}
+use Rattle.ground_net.specs.Cones.{Sink, A_watched, A_register, A_memory}
 use Rattle.net_meaning.specs.Shapes.{Shape}
 use Rattle.net_meaning.specs.Words.{element_word}
 use Rattle.flat_code.specs.Meaning.{stored}
@@ -16,10 +16,18 @@ no_last : (a : Bool) → (a && false) ≡ false
 no_last true = refl
 no_last false = refl
 
+abbrev is_watched : Sink → Bool
+is_watched (A_watched x) = true
+is_watched (A_register n) = false
+is_watched (A_memory m) = false
+
+has_unwatched : (net : Net) (sink : Sink) (i : ℕ) → HasWord net sink i → is_watched sink ≡ false
+has_unwatched net sink i (of_register register e h) = refl
+has_unwatched net sink i (of_elements memory e a b) = refl
+has_unwatched net sink i (of_capture n c e q h) = refl
+
 pub watched_word : (net : Net) (x i : ℕ) → HasWord net (A_watched x) i → ⊥
-watched_word net x i (of_register r e h) = absurd h
-watched_word net x i (of_elements memory e a b) = absurd a
-watched_word net x i (of_capture n c e q h) = absurd h
+watched_word net x i h = true≢false (has_unwatched net (A_watched x) i h)
 
 module _ (net : Net) (m k : ℕ) (memory : NetMemory) (port : Shown ℕ) (s : Shape) where
   abbrev written : List Publication
