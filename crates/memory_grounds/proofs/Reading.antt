@@ -43,8 +43,11 @@ zero_made v e =
     let narrow : v.width ≤ 128 = v.narrow in
     same_value v (fitted v.kind v.width (pos 0)) refl (min_small v.width narrow) (e ∙ sym (no_bits (min v.width 128)))
 
-pub number_made : (v : Value) (n : ℕ) → v.kind ≡ Unsigned → v.width ≡ 128 → v.bits ≡ n → n < 2 ^ 128 → v ≡ fitted Unsigned 128 (pos n)
-number_made v n k w e lt = same_value v (fitted Unsigned 128 (pos n)) k w (e ∙ sym (mod-eq_of_lt lt))
+pub number_small : (v : Value) (n : ℕ) → v.width ≡ 128 → v.bits ≡ n → n < 2 ^ 128
+number_small v n w e = subst (λ x. x < 2 ^ 128) e (subst (λ x. v.bits < 2 ^ x) w v.within)
+
+pub number_made : (v : Value) (n : ℕ) → v.kind ≡ Unsigned → v.width ≡ 128 → v.bits ≡ n → v ≡ fitted Unsigned 128 (pos n)
+number_made v n k w e = same_value v (fitted Unsigned 128 (pos n)) k w (e ∙ sym (mod-eq_of_lt (number_small v n w e)))
 
 -- Tests
 
