@@ -16,7 +16,7 @@ use Rattle.flat_code.specs.Meaning.{stored}
 use Rattle.code_emit.specs.declared.sources.Sources.{Sources}
 use Rattle.code_emit.specs.Emits.{leaf_source}
 use Rattle.sink_effects.specs.Effects.{capture_shape, capture_told, captures_told}
-use Rattle.memory_sources.specs.Memories.{HasMemory, word_of, capture_left}
+use Rattle.memory_sources.specs.Memories.{HasMemory, word_of, capture_of, capture_left}
 use Rattle.memory_sources.proofs.Numbered.{some_same, each_numbered, one_numbered, nothing_left, flat_twice, flat_mapped, to_flat_map, at_numbered, at_map}
 
 numbers_same : (a b : ℕ) → (a == b) ≡ true → a ≡ b
@@ -27,9 +27,6 @@ not_same a b ne = ⊎_elim (λ e. absurd (ne e)) (λ n. grind (arith, common_ste
 
 abbrev pub of_memory : ℕ × NetMemory → List Capture
 of_memory both = flat_map (λ port. captured_by both.0 both.1 port port.read) both.1.ports
-
-abbrev pub capture_of : ℕ → NetMemory → NetPort → NetRead → ℕ × ℕ → Capture
-capture_of m memory port read both = record { number = m; memory = memory; port = port; after = read.after; element = both.0; leaf = both.1 }
 
 module _ (net : Net) (S : Sources) (m : ℕ) (st : NetState) (sight : Sight) (h : HasMemory net S m) where
   abbrev left : Capture → List Publication

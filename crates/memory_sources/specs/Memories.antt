@@ -4,6 +4,8 @@ use Rattle.phase_core.specs.declared.model.Publication.{Publication}
 use Rattle.cycle_values.specs.Values.{fitted}
 use Rattle.ground_net.specs.declared.net.Net.{Net}
 use Rattle.ground_net.specs.declared.net.NetMemory.{NetMemory}
+use Rattle.ground_net.specs.declared.net.NetPort.{NetPort}
+use Rattle.ground_net.specs.declared.net.NetRead.{NetRead}
 use Rattle.ground_net.specs.declared.net.ElementLeaf.{ElementLeaf}
 use Rattle.ground_net.specs.Grounds.{Sight}
 use Rattle.ground_net.specs.Cones.{A_memory, needs}
@@ -46,6 +48,10 @@ pub record HasMemory (net : Net) (S : Sources) (m : ℕ) : Type 0 where
 abbrev pub word_of : Option Source → ℕ
 word_of (Some (source.Word kept)) = kept.number
 word_of _ = 0
+
+-- the captured read of a leaf of an element, by the numbers of both leaves
+abbrev pub capture_of : ℕ → NetMemory → NetPort → NetRead → ℕ × ℕ → Capture
+capture_of m memory port read both = record { number = m; memory = memory; port = port; after = read.after; element = both.0; leaf = both.1 }
 
 -- what a captured read of this memory leaves, from the word on in which its leaf stands
 abbrev pub capture_left : Net → Sources → NetState → Sight → ℕ → Capture → List Publication
