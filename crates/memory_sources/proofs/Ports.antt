@@ -1,5 +1,5 @@
 -- The leaves of the ports of a memory.
-use Rattle.std.proofs.Common.{◌≡◌, ℕ, ◌+◌, ◌<◌, ◌≤◌, true, false, Bool, List, [], ◌∷◌, ◌++◌, flat_map, length, slice_get, Option, Some, None, option_map, option_and_then, All, get_or, refl, sym, subst, ap, ap₂, ◌∙◌, arith, if◌then◌else◌}
+use Rattle.std.proofs.Common.{◌≡◌, ℕ, ◌+◌, ◌<◌, ◌≤◌, true, false, Bool, List, [], ◌∷◌, ◌++◌, flat_map, length, slice_get, Option, Some, None, option_map, option_and_then, All, get_or, refl, sym, subst, ap, ap₂, ◌∙◌, arith, if◌then◌else◌, true≢false}
 use Rattle.std.specs.Prelude.{Contains, IsSome}
 use Rattle.std.proofs.lemmas.Option.{slice_get-get_or}
 use Rattle.bit_words.specs.declared.value.Kind.TheVariants.{Unsigned}
@@ -19,8 +19,9 @@ use Rattle.memory_grounds.specs.Captures.{IsUInt, HasReader, HasWriter, HasCaptu
 use Rattle.memory_sources.specs.Memories.{HasMemory, StandsInMemory}
 use Rattle.memory_sources.proofs.Numbered.{some_same, none_some, in_head, in_tail, in_left, in_right, in_flat_map, in_place, some_there, below_there}
 
-no_some : {A : Type 0} → IsSome {A = A} None → ⊥
-no_some h = cc
+no_write : (o : Option NetWrite) → o ≡ None → IsSome o → ⊥
+no_write None e h = true≢false (sym h)
+no_write (Some write) e h = none_some (sym e)
 
 module _ (net : Net) (S : Sources) (m : ℕ) (w : IsNet net) (h : HasMemory net S m) where
   needed : (x : ℕ) → Contains (flat_map (λ port. port_needs port port.write) h.memory.ports) x → (sources_table S).leaf x ≡ (table_of net).leaf x
@@ -44,15 +45,15 @@ module _ (net : Net) (S : Sources) (m : ℕ) (w : IsNet net) (h : HasMemory net 
       in_needs x c = from_port x (subst (λ o. Contains (port_needs port o) x) (sym writes) c)
 
       behind : (x : ℕ) → Contains (or_no_leaf port.mode ++ (write.leaves ++ write.masks)) x → (sources_table S).leaf x ≡ (table_of net).leaf x
-      behind x c = in_needs x (in_tail port.addr x _ (in_tail port.en x _ c))
+      behind x c = in_needs x (in_tail port.addr x (port.en ∷ (or_no_leaf port.mode ++ (write.leaves ++ write.masks))) (in_tail port.en x (or_no_leaf port.mode ++ (write.leaves ++ write.masks)) c))
 
       mode_in : (x : ℕ) → port.mode ≡ Some x → Contains (or_no_leaf port.mode ++ (write.leaves ++ write.masks)) x
       mode_in x e = in_left (or_no_leaf port.mode) (write.leaves ++ write.masks) x (subst (λ o. Contains (or_no_leaf o) x) (sym e) (in_head x []))
 
       writer_reads : HasReader (sources_table S) port
       writer_reads = record {
-        addr = unsigned_at port.addr its_port.addr (in_needs port.addr (in_head port.addr _));
-        en = unsigned_at port.en its_port.en (in_needs port.en (in_tail port.addr port.en _ (in_head port.en _)));
+        addr = unsigned_at port.addr its_port.addr (in_needs port.addr (in_head port.addr (port.en ∷ (or_no_leaf port.mode ++ (write.leaves ++ write.masks)))));
+        en = unsigned_at port.en its_port.en (in_needs port.en (in_tail port.addr port.en (port.en ∷ (or_no_leaf port.mode ++ (write.leaves ++ write.masks))) (in_head port.en (or_no_leaf port.mode ++ (write.leaves ++ write.masks)))));
         mode = λ x e. unsigned_at x (its_port.mode x e) (behind x (mode_in x e));
       }
 
@@ -80,9 +81,9 @@ module _ (net : Net) (S : Sources) (m : ℕ) (w : IsNet net) (h : HasMemory net 
       by_write None e =
           let only : port_needs port port.write ≡ port.addr ∷ port.en ∷ [] = ap (port_needs port) e ∙ (ap (reads_need port) reads ∙ ap (λ b. if b then port.addr ∷ port.en ∷ [] else []) late) in
           record {
-            addr = unsigned_at port.addr its_port.addr (from_port port.addr (subst (λ xs. Contains xs port.addr) (sym only) (in_head port.addr _)));
-            en = unsigned_at port.en its_port.en (from_port port.en (subst (λ xs. Contains xs port.en) (sym only) (in_tail port.addr port.en _ (in_head port.en _))));
-            mode = λ x at. absurd (no_some (subst (λ o. IsSome o) e (its_port.of_both x at).0));
+            addr = unsigned_at port.addr its_port.addr (from_port port.addr (subst (λ xs. Contains xs port.addr) (sym only) (in_head port.addr (port.en ∷ []))));
+            en = unsigned_at port.en its_port.en (from_port port.en (subst (λ xs. Contains xs port.en) (sym only) (in_tail port.addr port.en (port.en ∷ []) (in_head port.en []))));
+            mode = λ x at. absurd (no_write port.write e (its_port.of_both x at).0);
           }
 
       pub has_reader : HasReader (sources_table S) port
