@@ -1,5 +1,5 @@
 -- The words of what a captured read shows next are published.
-use Rattle.std.proofs.Common.{◌≡◌, ◌==◌, ℕ, ◌+◌, ◌<◌, ◌≤◌, Bool, true, false, List, [], ◌∷◌, ◌++◌, map, flat_map, take, length, slice_get, Option, Some, None, option_map, ℤ, pos, unsigned_abs, nat_lt, refl, sym, subst, ap, ap₂, ◌∙◌, arith, if◌then◌else◌}
+use Rattle.std.proofs.Common.{◌≡◌, ◌==◌, ℕ, ◌+◌, ◌<◌, ◌≤◌, Bool, true, false, List, [], ◌∷◌, ◌++◌, map, flat_map, take, get_or, length, slice_get, Option, Some, None, option_map, ℤ, pos, unsigned_abs, nat_lt, refl, sym, subst, ap, ap₂, ◌∙◌, arith, if◌then◌else◌}
 use Rattle.std.specs.Prelude.{IsSome, Result, Ok, Err, OnOk}
 use Rattle.std.proofs.lemmas.Grind.{common_steps, flat_map-append}
 use Rattle.std.proofs.lemmas.List.{append-nil, map-append}
@@ -22,17 +22,18 @@ use Rattle.net_meaning.specs.Cycles.{NetState, Capture, captures, captured_by, t
 use Rattle.net_meaning.specs.Nets.{IsNet, table_of, leaf_shape, element_shape, shape_or_none}
 use Rattle.flat_code.specs.declared.instr.Spot.{Spot}
 use Rattle.flat_code.specs.Meaning.{stored, spot_shape}
-use Rattle.flat_code.specs.Fine.{further_words}
+use Rattle.flat_code.specs.Fine.{further_words, spot_slots, InRegion}
+use Rattle.flat_code.proofs.Frames.{spot_more}
 use Rattle.code_draft.specs.declared.draft.Draft.{Draft}
 use Rattle.code_draft.specs.Drafts.{IsDraft, pushed_in}
+use Rattle.code_emit.specs.declared.sources.Source.{Source}
 use Rattle.code_emit.specs.declared.sources.Source.TheVariants as source
 use Rattle.code_emit.specs.declared.sources.Sources.{Sources}
-use Rattle.code_emit.specs.Emits.{sources_table, leaf_source, kept_shape, AreSources, Emits}
+use Rattle.code_emit.specs.Emits.{sources_table, leaf_source, kept_shape, Fits, AreSources, Emits}
 use Rattle.code_emit.proofs.Emitting.{sources_on, seen_shapes}
-use Rattle.code_publish.specs.Publishing.{Publishes}
+use Rattle.code_publish.specs.Publishing.{Tells, Publishes}
 use Rattle.sink_effects.specs.Effects.{capture_shape}
 use Rattle.code_registers.specs.Telling.{ShowsState}
-use Rattle.code_registers.proofs.NextWords.{sources_told}
 use Rattle.memory_grounds.specs.declared.leaf.MemoryLeaf.{MemoryLeaf}
 use Rattle.memory_grounds.specs.Captures.{HasCapture, ShowsHeld}
 use Rattle.memory_sources.specs.Memories.{HasMemory, StandsCaptured, word_of, capture_of, capture_left}
@@ -42,6 +43,19 @@ use Rattle.memory_sources.proofs.Captured.{capture_there}
 use Rattle.code_writes.specs.Writes.{PublishesLeft}
 use Rattle.code_writes.proofs.Written.{flat_more}
 use Rattle.code_memories.specs.Captures.{ReadsAt, IsKept}
+
+-- sources stay where they are
+fits_told : (a b : Draft) (word : ℕ) (s : Spot) (src : Source) → Tells a b word s → Fits a src → Fits b src
+fits_told a b word s (source.Word k) t h = let e = t.words in omega (arith, h, e)
+fits_told a b word s (source.Input k) t h = tt
+fits_told a b word s (source.Frame u) t h = record { within = spot_more a.slots b.slots u t.slots h.within; written = λ k d lt. t.stays (get_or (spot_slots u) k d) (h.written k d lt) }
+fits_told a b word s (source.Constant c) t h = tt
+
+sources_told : (S : Sources) (a b : Draft) (word : ℕ) (s : Spot) → Tells a b word s → AreSources S a → AreSources S b
+sources_told S a b word s t h = record {
+  leaves = λ x src e. fits_told a b word s src t (h.leaves x src e);
+  regions = λ m k e at. subst (λ n. InRegion n e.width e.region) (sym t.words) (h.regions m k e at);
+}
 
 same_number : (m : ℕ) → (m == m) ≡ true
 same_number m = grind (arith, common_steps)

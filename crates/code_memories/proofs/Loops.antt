@@ -36,7 +36,7 @@ use Rattle.code_memories.specs.Captures.{ReadsAt, IsKept}
 use Rattle.code_memories.proofs.Captures.{is_kept, has, captured, capture_more}
 use Rattle.std.proofs.lemmas.List.{append-nil}
 
-abbrev Reads : NetMemory → NetPort → NetRead → MemoryLeaf → Ground → Type 1
+abbrev Reads : NetMemory → NetPort → NetRead → MemoryLeaf → Ground → Type 0
 Reads memory port read of g = (table : Table) (sight : Sight) (held : Held ℕ) (r : NetRead) → HasCapture table memory port of → HasShapes table sight → ShowsHeld sight memory of held → port.read ≡ Some r
     → integer_of (value g sight) ≡ read_by_port memory.depth (taken read.after held (next_of_memory sight (Some memory) held)) (shown sight port) of.number
 

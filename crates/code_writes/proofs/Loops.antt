@@ -1,6 +1,6 @@
 -- Leaf by leaf, and port by port.
-use Rattle.std.proofs.Common.{◌≡◌, ℕ, ◌+◌, ◌<◌, ◌≤◌, List, [], ◌∷◌, ◌++◌, flat_map, take, length, slice_get, Option, Some, None, refl, sym, subst, ap, ap₂, ◌∙◌, arith}
-use Rattle.std.specs.Prelude.{IfSome}
+use Rattle.std.proofs.Common.{◌≡◌, ℕ, ◌+◌, ◌<◌, ◌≤◌, List, [], ◌∷◌, ◌++◌, flat_map, take, length, slice_get, Option, Some, None, All, refl, sym, subst, ap, ap₂, ◌∙◌, arith}
+use Rattle.std.specs.Prelude.{IfSome, IsSome}
 use Rattle.std.proofs.lemmas.List.{take_all, length-map, take_more}
 use Rattle.std.proofs.lemmas.Option.{slice_get-get_or}
 use Rattle.ground_net.specs.declared.net.Net.{Net}
@@ -13,14 +13,16 @@ use Rattle.net_meaning.specs.Cycles.{shown}
 use Rattle.net_meaning.specs.Nets.{IsNet, element_shape, element_shapes}
 use Rattle.code_draft.specs.declared.draft.Draft.{Draft}
 use Rattle.code_emit.specs.declared.sources.Sources.{Sources}
-use Rattle.code_emit.specs.Emits.{element_source}
+use Rattle.ground_net.specs.declared.ground.Ground.TheVariants.{Leaf}
+use Rattle.net_meaning.specs.Shapes.{shape}
+use Rattle.code_emit.specs.Emits.{element_source, sources_table}
 use Rattle.sink_effects.specs.Effects.{leaf_told, port_told, writes_told}
 use Rattle.memory_sources.specs.Memories.{HasMemory}
 use Rattle.memory_sources.proofs.Numbered.{some_same, numbered_long, some_there}
 use Rattle.code_writes.specs.declared.places.Target.{Target}
-use Rattle.code_writes.specs.Writes.{PublishesLeft, TellsTarget}
+use Rattle.code_writes.specs.Writes.{PublishesLeft, TellsTarget, WritesAt, conditions_of}
 use Rattle.code_writes.proofs.Targets.{left_as, left_then, nothing_left_yet}
-use Rattle.code_writes.proofs.Written.{conditions_of, leaf_written, leaf_more, idle_port, flat_more}
+use Rattle.code_writes.proofs.Written.{some_is, address_shaped, source_shaped, conditions_shaped, leaf_written, leaf_more, idle_port, flat_more}
 
 module _ (net : Net) (S : Sources) (m : ℕ) (memory : NetMemory) (there : slice_get net.memories m ≡ Some memory) where
   same_memory : (other : NetMemory) → slice_get net.memories m ≡ Some other → memory ≡ other
@@ -29,6 +31,29 @@ module _ (net : Net) (S : Sources) (m : ℕ) (memory : NetMemory) (there : slice
   module _ (p : ℕ) (port : NetPort) (listed : slice_get memory.ports p ≡ Some port) where
     same_port : (other : NetMemory) (its : NetPort) → slice_get net.memories m ≡ Some other → slice_get other.ports p ≡ Some its → port ≡ its
     same_port other its e f = some_same (sym listed ∙ (ap (λ (y : NetMemory). slice_get y.ports p) (same_memory other e) ∙ f))
+
+    module _ (w : IsNet net) (h : HasMemory net S m) (k : ℕ) (write : NetWrite) (mask datum : ℕ) (writes : port.write ≡ Some write) (masked : slice_get write.masks k ≡ Some mask) (sourced : slice_get write.leaves k ≡ Some datum)
+        (r : WritesAt net m p k) where
+      here : memory ≡ h.memory
+      here = same_memory h.memory h.there
+
+      its_place : slice_get h.memory.ports p ≡ Some port
+      its_place = sym (ap (λ (y : NetMemory). slice_get y.ports p) here) ∙ listed
+
+      its_leaf : slice_get h.memory.elements k ≡ Some r.leaf
+      its_leaf = ap (λ (y : NetMemory). slice_get y.elements k) (some_same (sym h.there ∙ r.there)) ∙ r.element
+
+      pub address_here : IsSome (shape (Leaf port.addr) (sources_table S))
+      address_here = address_shaped net S m w h p k port its_place write writes mask datum masked sourced r.leaf its_leaf
+
+      pub source_here : IsSome (shape (Leaf datum) (sources_table S))
+      source_here = source_shaped net S m w h p k port its_place write writes mask datum masked sourced r.leaf its_leaf
+
+      pub conditions_here : All (λ x. IsSome (shape (Leaf x) (sources_table S))) (conditions_of port mask)
+      conditions_here = conditions_shaped net S m w h p k port its_place write writes mask datum masked sourced r.leaf its_leaf
+
+      pub element_here : IsSome (element_source S m k)
+      element_here = let e = h.elements k r.leaf its_leaf in some_is (element_source S m k) e.source e.there
 
     pub leaf_done : (w : IsNet net) (h : HasMemory net S m) (k : ℕ) (write : NetWrite) (mask datum : ℕ) → port.write ≡ Some write → slice_get write.masks k ≡ Some mask → slice_get write.leaves k ≡ Some datum
         → (target : Target) (conditions : List ℕ) (a b : Draft) → target.address ≡ port.addr → target.source ≡ datum → IfSome (element_source S m k) (λ e. target.region ≡ e.region) → conditions ≡ conditions_of port mask

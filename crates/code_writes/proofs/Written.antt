@@ -1,5 +1,5 @@
 -- What a port leaves in a leaf of an element.
-use Rattle.std.proofs.Common.{◌≡◌, ℕ, ◌+◌, ◌*◌, ◌<◌, ◌≤◌, Bool, true, false, ◌&&◌, nat_lt, List, [], ◌∷◌, ◌++◌, map, flat_map, take, length, slice_get, Option, Some, None, option_map, option_and_then, ℤ, unsigned_abs, All, refl, sym, subst, ap, ap₂, ◌∙◌, arith, if◌then◌else◌}
+use Rattle.std.proofs.Common.{◌≡◌, ℕ, zero, suc, ◌+◌, ◌*◌, ◌<◌, ◌≤◌, Bool, true, false, ◌&&◌, nat_lt, List, [], ◌∷◌, ◌++◌, map, flat_map, take, length, slice_get, Option, Some, None, option_map, option_and_then, ℤ, unsigned_abs, All, refl, sym, subst, ap, ap₂, ◌∙◌, arith, if◌then◌else◌}
 use Rattle.std.specs.Prelude.{IsSome, IfSome}
 use Rattle.std.specs.List.{list_all}
 use Rattle.std.proofs.lemmas.List.{append-nil}
@@ -39,7 +39,7 @@ use Rattle.memory_sources.proofs.Numbered.{some_same, none_some, numbered_more, 
 use Rattle.memory_sources.proofs.Ports.{has_writer}
 use Rattle.code_registers.specs.Telling.{ShowsState}
 use Rattle.code_writes.specs.declared.places.Target.{Target}
-use Rattle.code_writes.specs.Writes.{PublishesLeft, target_left, FitsTarget, TellsTarget, IsPortAt, WritesAt}
+use Rattle.code_writes.specs.Writes.{PublishesLeft, target_left, FitsTarget, TellsTarget, conditions_of, IsPortAt, WritesAt}
 use Rattle.code_writes.proofs.Targets.{left_as, left_then}
 
 pub some_is : {A : Type 0} (o : Option A) (x : A) → o ≡ Some x → IsSome o
@@ -47,10 +47,6 @@ some_is o x e = subst (λ p. IsSome p) (sym e) refl
 
 pub leaf_has_shape : (S : Sources) (x : ℕ) (s : Shape) → (sources_table S).leaf x ≡ Some s → IsSome (shape (Leaf x) (sources_table S))
 leaf_has_shape S x s e = some_is (shape (Leaf x) (sources_table S)) s (shape-Leaf x (sources_table S) ∙ e)
-
--- the leaves that are conditions of a write
-abbrev pub conditions_of : NetPort → ℕ → List ℕ
-conditions_of port mask = port.en ∷ (or_no_leaf port.mode ++ (mask ∷ []))
 
 word_is : (net : Net) (m k : ℕ) (e : Elements) (h : HasElements net m k e) (a : ℕ) → e.region.base + a * e.region.stride ≡ element_word net m h.memory a k
 word_is net m k e h a =
@@ -99,6 +95,18 @@ module _ (net : Net) (S : Sources) (m : ℕ) (w : IsNet net) (h : HasMemory net 
 
   pub mode_shaped : (x : ℕ) → port.mode ≡ Some x → IsSome (shape (Leaf x) (sources_table S))
   mode_shaped x e = let u = its.reader.mode x e in leaf_has_shape S x (shaped Unsigned u.width) u.there
+
+  pub conditions_shaped : All (λ x. IsSome (shape (Leaf x) (sources_table S))) (conditions_of port mask)
+  conditions_shaped = by_mode port.mode mode_shaped
+    where
+      by_mode : (o : Option ℕ) → ((x : ℕ) → o ≡ Some x → IsSome (shape (Leaf x) (sources_table S))) → All (λ x. IsSome (shape (Leaf x) (sources_table S))) (port.en ∷ (or_no_leaf o ++ (mask ∷ [])))
+      by_mode None f zero d lt = enable_shaped
+      by_mode None f (suc zero) d lt = mask_shaped
+      by_mode None f (suc (suc j)) d lt = absurd (omega (arith, lt))
+      by_mode (Some x) f zero d lt = enable_shaped
+      by_mode (Some x) f (suc zero) d lt = f x refl
+      by_mode (Some x) f (suc (suc zero)) d lt = mask_shaped
+      by_mode (Some x) f (suc (suc (suc j))) d lt = absurd (omega (arith, lt))
 
   stands : StandsInMemory net S m k
   stands = h.elements k leaf at

@@ -1,10 +1,11 @@
 -- Code that publishes what the ports of a memory write.
-use Rattle.std.specs.Prelude.{◌≡◌, ℕ, List, map, slice_get, Some}
+use Rattle.std.specs.Prelude.{◌≡◌, ℕ, List, [], ◌∷◌, ◌++◌, map, slice_get, Some}
 use Rattle.ground_net.specs.declared.net.Net.{Net}
 use Rattle.ground_net.specs.declared.net.NetMemory.{NetMemory}
 use Rattle.ground_net.specs.declared.net.NetPort.{NetPort}
 use Rattle.ground_net.specs.declared.net.NetWrite.{NetWrite}
 use Rattle.ground_net.specs.declared.net.ElementLeaf.{ElementLeaf}
+use Rattle.ground_net.specs.Cones.{or_no_leaf}
 use Rattle.net_meaning.specs.Shapes.{Shape}
 use Rattle.flat_code.specs.Meaning.{stored_where}
 use Rattle.flat_code.specs.Fine.{InRegion}
@@ -21,6 +22,10 @@ PublishesLeft net S left old new = IsDraft old → AreSources S old → TellsLef
 -- what a target gets, where these leaves are 1
 abbrev pub target_left : Target → List ℕ → Left
 target_left target conditions st sight = stored_where target.region (sight.leaf target.address) (sight.leaf target.source) (map (λ x. sight.leaf x) conditions)
+
+-- the leaves that are conditions of a write: the enable, the mode of a readwriter, and the mask
+abbrev pub conditions_of : NetPort → ℕ → List ℕ
+conditions_of port mask = port.en ∷ (or_no_leaf port.mode ++ (mask ∷ []))
 
 -- the words of a target are there
 abbrev pub FitsTarget : Sources → Draft → Target → Type 0

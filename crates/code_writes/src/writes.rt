@@ -1,6 +1,6 @@
 //! Writes of a memory.
 
-ghost use Rattle.std.specs.Prelude.{◌≡◌, Some, IsSome, IfSome, OnOk, slice_get};
+ghost use Rattle.std.specs.Prelude.{◌≡◌, Some, IsSome, IfSome, IfOk, OnOk, slice_get};
 ghost use Rattle.ground_net.specs.declared.net.NetMemory.{NetMemory as TheMemory};
 ghost use Rattle.ground_net.specs.declared.net.NetPort.{NetPort as ThePort};
 ghost use Rattle.ground_net.specs.declared.net.ElementLeaf.{ElementLeaf as TheLeaf};
@@ -9,14 +9,15 @@ ghost use Rattle.net_meaning.specs.Cycles.{shown};
 ghost use Rattle.code_emit.specs.Emits.{element_source};
 ghost use Rattle.sink_effects.specs.Effects.{leaf_told, port_told, writes_told};
 ghost use Rattle.memory_sources.specs.Memories.{HasMemory};
-ghost use Rattle.code_writes.specs.Writes.{IsPortAt, WritesAt, PublishesLeft};
+ghost use Rattle.code_writes.specs.Writes.{IsPortAt, WritesAt, PublishesLeft, conditions_of as conditions_in};
 
 use crate::leaves::publish_target;
 use crate::places::{PortAt, PortLeaf, Target};
+use bit_words::List;
 use code_draft::Draft;
 use code_emit::Sources;
 use flat_code::Region;
-use ground_net::Net;
+use ground_net::{Net, NetPort};
 use std::alloc::{AllocError, Global};
 
 /// Adds code that publishes what the ports of a memory write, port by port and leaf by leaf.
@@ -110,10 +111,21 @@ fn publish_leaf(
         source: *source,
         region: region_of(sources, at.memory, at.leaf),
     };
-    match port.mode {
-        None => publish_target(alloc, draft, sources, target, &[port.en, *mask]),
-        Some(mode) => publish_target(alloc, draft, sources, target, &[port.en, mode, *mask]),
+    let conditions = conditions_of(alloc, port, *mask)?;
+    publish_target(alloc, draft, sources, target, conditions.as_slice())
+}
+
+/// The leaves that are conditions of a write: the enable, the mode of a readwriter, and the mask.
+fn conditions_of(alloc: Global, port: &NetPort, mask: u32) -> Result<List<u32>, AllocError>
+    ensures { IfOk result (λ leaves. leaves ≡ conditions_in port.now mask) }
+{
+    let mut leaves = List::new(alloc);
+    leaves.push(port.en)?;
+    if let Some(mode) = port.mode {
+        leaves.push(mode)?;
     }
+    leaves.push(mask)?;
+    Ok(leaves)
 }
 
 /// Where the words of a leaf of the elements of a memory stand.

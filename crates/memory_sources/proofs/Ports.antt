@@ -89,19 +89,20 @@ module _ (net : Net) (S : Sources) (m : ℕ) (w : IsNet net) (h : HasMemory net 
       pub has_reader : HasReader (sources_table S) port
       has_reader = by_write port.write refl
 
-      pub has_capture : (of : MemoryLeaf) (leaf : ElementLeaf) → of.memory ≡ m → slice_get h.memory.elements of.number ≡ Some leaf → shaped of.kind of.width ≡ element_shape leaf → HasCapture (sources_table S) h.memory port of
-      has_capture of leaf same e shape =
-          let at = h.elements of.number leaf e in
-          let found : at.has.memory ≡ h.memory = some_same (sym at.has.there ∙ h.there) in
-          let leaf_is : at.has.leaf ≡ leaf = some_same (sym at.has.at ∙ (ap (λ (y : NetMemory). slice_get y.elements of.number) found ∙ e)) in
-          record {
-            reader = has_reader;
-            element = ap (λ n. (sources_table S).element n of.number) same ∙ (ap (option_map elements_shape) at.there ∙ ap Some (at.has.shape ∙ (ap element_shape leaf_is ∙ sym shape)));
-            writers = λ q d lt write is.
-                let listed_q : slice_get h.memory.ports q ≡ Some (get_or h.memory.ports q d) = slice_get-get_or h.memory.ports q d lt in
-                subst (λ t. HasWriter (sources_table S) of.number t (get_or h.memory.ports q d) write) (sym shape) (writer_of q (get_or h.memory.ports q d) listed_q write is of.number leaf e);
-          }
-        where
-          writer_of : (q : ℕ) (other : NetPort) → slice_get h.memory.ports q ≡ Some other → (write : NetWrite) → other.write ≡ Some write → (k : ℕ) (leaf : ElementLeaf) → slice_get h.memory.elements k ≡ Some leaf
-              → HasWriter (sources_table S) k (element_shape leaf) other write
-          writer_of q other at write is k leaf e = has_writer q other at write is k leaf e
+  module _ (p : ℕ) (port : NetPort) (listed : slice_get h.memory.ports p ≡ Some port) (read : NetRead) (reads : port.read ≡ Some read) (late : read.captured ≡ true) where
+    pub has_capture : (of : MemoryLeaf) (leaf : ElementLeaf) → of.memory ≡ m → slice_get h.memory.elements of.number ≡ Some leaf → shaped of.kind of.width ≡ element_shape leaf → HasCapture (sources_table S) h.memory port of
+    has_capture of leaf same e shape =
+        let at = h.elements of.number leaf e in
+        let found : at.has.memory ≡ h.memory = some_same (sym at.has.there ∙ h.there) in
+        let leaf_is : at.has.leaf ≡ leaf = some_same (sym at.has.at ∙ (ap (λ (y : NetMemory). slice_get y.elements of.number) found ∙ e)) in
+        record {
+          reader = has_reader p port listed read reads late;
+          element = ap (λ n. (sources_table S).element n of.number) same ∙ (ap (option_map elements_shape) at.there ∙ ap Some (at.has.shape ∙ (ap element_shape leaf_is ∙ sym shape)));
+          writers = λ q d lt write is.
+              let listed_q : slice_get h.memory.ports q ≡ Some (get_or h.memory.ports q d) = slice_get-get_or h.memory.ports q d lt in
+              subst (λ t. HasWriter (sources_table S) of.number t (get_or h.memory.ports q d) write) (sym shape) (writer_of q (get_or h.memory.ports q d) listed_q write is of.number leaf e);
+        }
+      where
+        writer_of : (q : ℕ) (other : NetPort) → slice_get h.memory.ports q ≡ Some other → (write : NetWrite) → other.write ≡ Some write → (k : ℕ) (leaf : ElementLeaf) → slice_get h.memory.elements k ≡ Some leaf
+            → HasWriter (sources_table S) k (element_shape leaf) other write
+        writer_of q other at write is k leaf e = has_writer q other at write is k leaf e
