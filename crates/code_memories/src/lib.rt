@@ -3,7 +3,6 @@
 #![tactic(auto)]
 
 pub mod captures;
-pub mod laws;
 pub mod memories;
 
 pub use memories::publish_memory;
