@@ -6,6 +6,7 @@ use Rattle.bit_words.specs.Values.{integer_of}
 use Rattle.ground_net.specs.declared.ground.Ground.{Ground}
 use Rattle.ground_net.specs.declared.net.Net.{Net}
 use Rattle.ground_net.specs.Grounds.{Sight}
+use Rattle.ground_net.specs.Cones.{Sink}
 use Rattle.ground_net.specs.Reads.{driver_of, lone_driver}
 use Rattle.net_meaning.specs.Cycles.{Inputs, Valuation, Settled, sight_of}
 use Rattle.net_meaning.specs.Nets.{IsNet, leaf_shape, register_shapes}
@@ -22,7 +23,9 @@ use Rattle.code_emit.specs.declared.sources.Source.TheVariants as source
 use Rattle.code_emit.specs.declared.sources.Sources.{Sources}
 use Rattle.code_emit.specs.Emits.{leaf_source, Sees, IsOf}
 use Rattle.code_sequence.specs.Sequences.{driver_in, AreAssigned}
-use Rattle.code_registers.specs.Telling.{ShowsState, registers_told}
+use Rattle.code_registers.specs.Telling.{ShowsState}
+use Rattle.sink_effects.specs.Effects.{sinks_told}
+use Rattle.state_laws.proofs.Shown.{shows_state}
 use Rattle.source_laws.specs.FromNets.{MatchInputs}
 use Rattle.source_laws.proofs.Seen.{sees, kept_value, register_shape_there}
 use Rattle.part_laws.specs.Parts.{IsPart}
@@ -52,7 +55,7 @@ shown_values S words inputs F sight seen (x ∷ xs) [] e = absurd (nil_cons (sym
 shown_values S words inputs F sight seen (x ∷ xs) (s ∷ ss) e =
     ap₂ (λ v vs. v ∷ vs) (held_value F s (sight.leaf x) (seen.leaf x (source.Frame s) (head_same e))) (shown_values S words inputs F sight seen xs ss (tail_same e))
 
-module _ (net : Net) (assignments registers shown : List ℕ) (code : Code) (words : List ℕ) (inputs : List Value) (given : Inputs) (rho : Valuation) (w : IsNet net) (p : IsPart net assignments registers shown code)
+module _ (net : Net) (assignments : List ℕ) (these : List Sink) (shown : List ℕ) (code : Code) (words : List ℕ) (inputs : List Value) (given : Inputs) (rho : Valuation) (w : IsNet net) (p : IsPart net assignments these shown code)
     (plain : (k : ℕ) → slice_index words k < 2 ^ 64) (match : MatchInputs net inputs given) (settled : Settled net (state_of net words) given rho) where
   abbrev seen_now : Sight
   seen_now = sight_of net (state_of net words) rho
@@ -60,21 +63,17 @@ module _ (net : Net) (assignments registers shown : List ℕ) (code : Code) (wor
   are_assigned : AreAssigned net.drivers assignments seen_now
   are_assigned x g there e = let a = p.are x there in settled.assigned x a.leaf g a.there a.is (same_driver (slice_get net.drivers x) g e)
 
-  shows_state : ShowsState net (state_of net words) seen_now
-  shows_state n register e =
-      let r = w.register_leaves n register e in
-      let at = register_word net n in
-      let known = register_shape_there net w words inputs [] given rho match settled register.leaf n r.leaf r.there r.is in
-      ap integer_of (settled.registers register.leaf n r.leaf r.there r.is ∙ kept_value r.leaf words at (slice_get (register_shapes net) n) known) ∙ sym (ap (integer_at_word words at) known)
+  state_shown : ShowsState net (state_of net words) seen_now
+  state_shown = shows_state net words given rho w settled
 
-  pub publishes : published_by code words inputs ≡ registers_told net (state_of net words) seen_now registers
+  pub publishes : published_by code words inputs ≡ sinks_told net (state_of net words) seen_now these
   publishes =
       let e = p.whole words inputs plain in
       let F = e.frame in
       let later = p.tells.back words inputs F e.solved in
       let seen = p.goes.sees words inputs F seen_now later (sees net w words inputs F given rho match settled p.first p.of) are_assigned in
       let none : pushed_in p.assigned F ≡ [] = p.goes.grows.quiet F ∙ ap (λ is. pushed_all p.empty.ports is F) p.none in
-      e.publications ∙ (p.tells.tells words inputs F seen_now (state_of net words) e.solved seen shows_state ∙ ap (λ ps. ps ++ registers_told net (state_of net words) seen_now registers) none)
+      e.publications ∙ (p.tells.tells words inputs F seen_now (state_of net words) e.solved seen state_shown ∙ ap (λ ps. ps ++ sinks_told net (state_of net words) seen_now these) none)
 
   pub shows : outputs_by code words inputs ≡ map rho shown
   shows =

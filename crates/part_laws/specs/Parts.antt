@@ -1,6 +1,7 @@
--- A code that is put together by layers: the sources of a net, its assignments in turn, what its registers hold next, and the whole.
+-- A code that is put together by layers: the sources of a net, its assignments in turn, what its sinks leave, and the whole.
 use Rattle.std.specs.Prelude.{◌≡◌, ℕ, List, [], map, Some, Contains}
 use Rattle.ground_net.specs.declared.net.Net.{Net}
+use Rattle.ground_net.specs.Cones.{Sink}
 use Rattle.ground_net.specs.Reads.{IsAssigned}
 use Rattle.flat_code.specs.declared.code.Code.{Code}
 use Rattle.flat_code.specs.declared.instr.Spot.{Spot}
@@ -9,12 +10,12 @@ use Rattle.code_emit.specs.declared.sources.Source.TheVariants as source
 use Rattle.code_emit.specs.declared.sources.Sources.{Sources}
 use Rattle.code_emit.specs.Emits.{leaf_source}
 use Rattle.code_sequence.specs.Sequences.{Goes}
-use Rattle.code_registers.specs.Telling.{TellsNext}
+use Rattle.code_registers.specs.Telling.{TellsSinks}
 use Rattle.code_finish.specs.Finishing.{IsCodeOf}
 use Rattle.source_laws.specs.FromNets.{AreOf}
 
--- A code of these assignments, which publishes what these registers hold next and puts out these leaves.
-pub record IsPart (net : Net) (assignments registers shown : List ℕ) (code : Code) : Type 0 where
+-- A code of these assignments, which publishes what these sinks leave and puts out these leaves.
+pub record IsPart (net : Net) (assignments : List ℕ) (these : List Sink) (shown : List ℕ) (code : Code) : Type 0 where
   pub first : Sources
   pub of : AreOf net first
   pub later : Sources
@@ -24,7 +25,7 @@ pub record IsPart (net : Net) (assignments registers shown : List ℕ) (code : C
   pub goes : Goes net.drivers assignments first empty later assigned
   pub are : (x : ℕ) → Contains assignments x → IsAssigned net.leaves x
   pub told : Draft
-  pub tells : TellsNext net later registers assigned told
+  pub tells : TellsSinks net later these assigned told
   pub spots : List Spot
   pub whole : IsCodeOf code told spots
   pub stand : map (leaf_source later) shown ≡ map (λ s. Some (source.Frame s)) spots

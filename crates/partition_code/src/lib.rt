@@ -1,3 +1,3 @@
-//! The codes of the partitions of a net. Keeps the contract that all codes of one cut together leave exactly the next state's words,
-//! and that each watched leaf is put out once, with its settled value.
+//! What partition code is to do: what a code of a part leaves to the next cycle and puts out, which words it owns, and which codes are
+//! those of one cut. Definitions alone: the function that makes the codes isn't here yet.
 #![tactic(auto)]
