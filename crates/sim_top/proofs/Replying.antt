@@ -163,9 +163,9 @@ made_usage cycles size d reply e made one =
 pub made_run : (texts : List ℕ → Option (List ℕ)) (cycles size : ℕ) (d : Decision) (built : Built) (settings : Stimulus) (trace b : List ℕ) (s : ℕ) → d ≡ decision.Run built settings
     → IsMade cycles size d → s ≡ 0 → IsTraceText built.fitted.checked.circuit.names (design_of built.fitted) settings trace → IsSummary trace b
     → SettlesAsked texts (Of_made cycles size) s b
-made_run texts cycles size d built settings trace b s e made zero traced sums =
+made_run texts cycles size d built settings trace b s e made zero told sums =
     let ran = subst (IsMade cycles size) e made in
-    subst (λ (k : ℕ). SettlesAsked texts (Of_made cycles size) k b) (sym zero) (made_told texts cycles size trace b (ran.0 trace traced) sums)
+    subst (λ (k : ℕ). SettlesAsked texts (Of_made cycles size) k b) (sym zero) (made_told texts cycles size trace b (ran.0 trace told) sums)
 
 -- and for words
 pub settled_usage : (words : List (List ℕ)) (texts : List ℕ → Option (List ℕ)) (b : List ℕ) → asked_by words ≡ None → b ≡ codes "usage\n" → IsSettled words texts 1 b

@@ -1,4 +1,4 @@
-use Rattle.std.proofs.Common.{◌∙◌, subst, inl, arith}
+use Rattle.std.proofs.Common.{◌∙◌, subst}
 use Rattle.sim_top.specs.declared.words.Command.TheVariants.{Run}
 use Rattle.sim_top.specs.Endings.{IsFor}
 use Rattle.sim_top.proofs.Replying.{made_of, made_said, made_reply, made_usage, made_run}
@@ -22,11 +22,8 @@ returns-in-Say-clause-usage c =
 pub sum_up-requires : goal.sum_up-requires
 sum_up-requires c = subst (IsFor Run) c.in-Run.is c.in_ok-decision.ensures.fits
 
-pub returns-in_ok-sum_up-in-Run-clause-settled : goal.returns-in_ok-sum_up-in-Run-clause-settled
-returns-in_ok-sum_up-in-Run-clause-settled c = λ texts.
+pub returns-clause-settled : goal.returns-clause-settled
+returns-clause-settled c = λ texts.
     let made = made_of c.args.cycles c.args.size _ _ (c.deref.ensures.value ∙ c.in_ok-text.ensures.text) c.in_ok-decision.ensures.settles c.in_ok-decision.ensures.fits in
     let sums = c.in_ok-sum_up-in-Run.ensures.summary in
     made_run texts c.args.cycles c.args.size _ _ _ sums.0 _ _ c.in-Run.is made c.in_ok-sum_up-in-Run.ensures.status sums.1 sums.2
-
-pub returns-in_ok-sum_up-in-Run-clause-ready : goal.returns-in_ok-sum_up-in-Run-clause-ready
-returns-in_ok-sum_up-in-Run-clause-ready c = inl c.in_ok-sum_up-in-Run.ensures.status
