@@ -1,6 +1,6 @@
 //! The text of the ring, line by line.
 
-ghost use Rattle.std.specs.Prelude.{◌≡◌, ℕ, ◌+◌, ◌-◌, ◌≤◌, ◌<◌, ◌++◌, ◌⊎◌, codes, decimal, IfOk, OnOk, Err};
+ghost use Rattle.std.specs.Prelude.{◌≡◌, ℕ, ◌+◌, ◌-◌, ◌≤◌, ◌<◌, ◌++◌, ◌⊎◌, codes, decimal, length, IfOk, OnOk, Err};
 ghost use Rattle.std.specs.List.{flat_map, range_with_len};
 ghost use Rattle.circuit_make.specs.Rings.{InRange, before, head_lines, register_line, connect_line, sum_line, last_lines, ring_text};
 ghost use Rattle.circuit_make.specs.declared.fault.MakeFault.TheVariants.{Range, NoMemory};
@@ -15,9 +15,10 @@ const LIMIT: u32 = 4096;
 /// The joined text of a circuit with `n` registers of 32 bits in a ring and of a stimulus with this number of cycles. The output
 /// in cycle c is `c * n * (n - 1) / 2` modulo 2^32.
 ///
-/// Answers `Range` exactly where a number isn't from 1 to 4,096.
+/// The text is no longer than a circuit's text may be, 1,048,576 bytes. Answers `Range` exactly where a number isn't from 1 to 4,096.
 pub fn make_joined(alloc: Global, n: u32, cycles: u32) -> Result<Vec<u8>, MakeFault>
     ensures text { IfOk result (λ text. text.items ≡ ring_text n cycles) }
+    ensures short { IfOk result (λ text. length text.items ≤ 1048576) }
     ensures in_range { IfOk result (λ text. InRange n) }
     ensures cycles_in_range { IfOk result (λ text. InRange cycles) }
     ensures range { result ≡ Err MakeFault.Range → ¬ (InRange n) ⊎ ¬ (InRange cycles) }

@@ -1,5 +1,5 @@
 -- Words and texts have at most one answer, where a net serves what is run.
-use Rattle.std.proofs.Common.{◌≡◌, ℕ, ◌<◌, ◌≤◌, Bool, List, [], length, refl, sym, ap, ap₂, ◌∙◌, subst, arith}
+use Rattle.std.proofs.Common.{◌≡◌, ◌≢◌, ℕ, ◌<◌, ◌≤◌, Bool, List, [], length, refl, sym, ap, ap₂, ◌∙◌, subst, arith}
 use Rattle.std.specs.Prelude.{Option, Some, None}
 use Rattle.place_text.specs.declared.place.Place.{Place}
 use Rattle.fault_order.specs.First.{IsFirst}
@@ -19,19 +19,26 @@ use Rattle.stimulus.proofs.Once.{stimulus_once}
 use Rattle.circuit_run.specs.Traces.{IsTraceText}
 use Rattle.circuit_run.proofs.Once.{ports_once, traces_once}
 use Rattle.trace_print.specs.Listing.{listing_of}
+use Rattle.trace_summary.specs.Summaries.{IsSummary}
+use Rattle.trace_summary.proofs.Lines.{summary_once}
+use Rattle.circuit_make.specs.Rings.{ring_text}
+use Rattle.cut_laws.specs.CircuitCuts.{IsCutText}
+use Rattle.cut_laws.proofs.Accepted.{stand_once}
+use Rattle.cut_laws.proofs.Texts.{one_text}
 use Rattle.width_fit.specs.Fitting.{IsFittedCircuit}
 use Rattle.sim_engine.specs.Stages.{circuit_limit, IsAccepted}
 use Rattle.sim_engine.specs.Building.{IsBuilt}
 use Rattle.sim_engine.specs.Faults.{fault_place}
 use Rattle.sim_engine.specs.declared.compile.Built.{Built}
 use Rattle.sim_engine.specs.declared.fault.CircuitFault.{CircuitFault}
+use Rattle.sim_engine.proofs.Accepting.{fitted_well_formed}
 use Rattle.sim_engine.proofs.Once.{one_fault, no_fault, accepted_once}
 use Rattle.sim_engine.proofs.Solving.{same_at, same_declared, same_modules, flagged}
 use Rattle.sim_top.specs.declared.words.Command.{Command}
-use Rattle.sim_top.specs.declared.words.Command.TheVariants.{Run, Check, Widths}
-use Rattle.sim_top.specs.Questions.{Question, Of_joined, Of_two, asked_by}
-use Rattle.sim_top.specs.Answers.{fault_bytes, stimulus_bytes, joined_limit, stimulus_limit, IsPart, IsTaken, Runs, stimulus_too_long, stimulus_refused, traced, JudgesTexts, refused, accepted, listed, ran, Judges, joined_too_long, no_stimulus, circuit_too_long, taken, AnswersTo, of_joined, of_long_circuit, of_two, Answers, no_command, answered}
-use Rattle.sim_top.specs.Serving.{IsServed, IsServedIn, IsServedFor, AreServed, IsSettled}
+use Rattle.sim_top.specs.declared.words.Command.TheVariants.{Run, Check, Widths, Cut}
+use Rattle.sim_top.specs.Commands.{Question, Of_joined, Of_two, Of_made, asked_by}
+use Rattle.sim_top.specs.Texts.{IsPart, IsTaken, joined_limit, stimulus_limit}
+use Rattle.sim_top.specs.Answers.{fault_bytes, stimulus_bytes, Runs, stimulus_too_long, stimulus_refused, traced, JudgesTexts, refused, accepted, listed, divided, ran, Judges, joined_too_long, no_stimulus, circuit_too_long, taken, AnswersTo, of_joined, of_long_circuit, of_two, of_made, of_made_refused, Answers, no_command, answered, IsServed, IsServedIn, IsServedFor, AreServed, IsSettled}
 use Rattle.sim_top.proofs.Splitting.{part_once, run_has_line}
 
 pub some_same : {A : Type 0} (x y : A) → Some x ≡ Some y → x ≡ y
@@ -63,6 +70,19 @@ one_trace text fitted built a b =
     let own : HasOneTrace built.fitted.checked.circuit.names (design_of built.fitted) =
     λ stimulus bytes other p q. traces_once built.fitted.checked.circuit.names (design_of built.fitted) built.ordered.net built.ordered.sequence b.ordered.serves b.ordered.sequence stimulus bytes other p q in
     subst (λ (d : Design). HasOneTrace fitted.checked.circuit.names d) same.1 (subst (λ (c : Circuit). HasOneTrace c.names (design_of built.fitted)) same.0 own)
+
+-- a circuit has one cut
+abbrev HasOneCut : ℕ → Texts → Design → Type 0
+HasOneCut workers texts design = (bytes other : List ℕ) → IsCutText texts design workers bytes → IsCutText texts design workers other → bytes ≡ other
+
+one_cut : (text : List ℕ) (fitted : Fitted) (built : Built) (workers : ℕ) → IsAccepted text fitted → IsBuilt text built → HasOneCut workers fitted.checked.circuit.names (design_of fitted)
+one_cut text fitted built workers a b =
+    let same = accepted_once text built.fitted fitted b.accepted a in
+    let serves = b.ordered.serves in
+    let once = stand_once built.fitted (fitted_well_formed text built.fitted b.accepted.clocked.driven.fits) serves.of.main serves.of.found serves.of.placed serves.of.order in
+    let own : HasOneCut workers built.fitted.checked.circuit.names (design_of built.fitted) =
+    λ bytes other p q. one_text built.fitted.checked.circuit.names (design_of built.fitted) built.ordered.net serves once workers bytes other p q in
+    subst (λ (d : Design). HasOneCut workers fitted.checked.circuit.names d) same.1 (subst (λ (c : Circuit). HasOneCut workers c.names (design_of built.fitted)) same.0 own)
 
 -- a run
 too_long : (n limit : ℕ) → limit < n → n ≤ limit → ⊥
@@ -106,6 +126,13 @@ texts_once Check text stimulus _ _ _ _ (accepted _ _ fitted a) (accepted _ _ oth
 texts_once Widths text stimulus _ _ _ _ (refused _ _ _ f p is at) (listed _ _ fitted a) = absurd (no_fault text f fitted is a)
 texts_once Widths text stimulus _ _ _ _ (listed _ _ fitted a) (refused _ _ _ f p is at) = absurd (no_fault text f fitted is a)
 texts_once Widths text stimulus _ _ _ _ (listed _ _ fitted a) (listed _ _ other o) = (refl, λ served. listed_once text fitted other a o)
+texts_once (Cut workers) text stimulus _ _ _ _ (refused _ _ _ f p is at) (divided _ _ _ fitted _ a cuts) = absurd (no_fault text f fitted is a)
+texts_once (Cut workers) text stimulus _ _ _ _ (divided _ _ _ fitted _ a cuts) (refused _ _ _ f p is at) = absurd (no_fault text f fitted is a)
+texts_once (Cut workers) text stimulus _ _ b d (divided _ _ _ fitted _ a cuts) (divided _ _ _ other _ o others) =
+    let same = accepted_once text other fitted o a in
+    let here : IsCutText fitted.checked.circuit.names (design_of fitted) workers d =
+    subst (λ (x : Design). IsCutText fitted.checked.circuit.names x workers d) same.1 (subst (λ (c : Circuit). IsCutText c.names (design_of other) workers d) same.0 others) in
+    (refl, λ served. let built = served refl fitted a in one_cut text fitted built.0 workers a built.1 b d cuts here)
 texts_once Run text stimulus _ _ _ _ (refused _ _ _ f p is at) (ran _ _ fitted _ _ a r) = absurd (no_fault text f fitted is a)
 texts_once Run text stimulus _ _ _ _ (ran _ _ fitted _ _ a r) (refused _ _ _ f p is at) = absurd (no_fault text f fitted is a)
 texts_once Run text stimulus s t b d (ran _ _ fitted _ _ a r) (ran _ _ other _ _ o q) =
@@ -151,6 +178,14 @@ judged_once command joined s t b d (taken _ _ circuit stimulus _ _ k j) (taken _
     let both = texts_once command circuit stimulus s t b d j here in
     (both.0, λ served. both.1 (served circuit stimulus k))
 
+-- what a text that is made answers
+two_summaries : (joined trace other b d : List ℕ) → Judges Run joined 0 trace → Judges Run joined 0 other → IsSummary trace b → IsSummary other d → IsServedIn Run joined → b ≡ d
+two_summaries joined trace other b d j i s r served =
+    summary_once trace b d s (subst (λ x. IsSummary x d) ((judged_once Run joined 0 0 other trace i j).1 served) r)
+
+no_summary : (joined trace : List ℕ) (s : ℕ) (d : List ℕ) → Judges Run joined 0 trace → Judges Run joined s d → s ≢ 0 → ⊥
+no_summary joined trace s d j i n = n (judged_once Run joined s 0 d trace i j).0
+
 -- what is asked
 asked_once : (texts : List ℕ → Option (List ℕ)) (question : Question) (s t : ℕ) (b d : List ℕ) → AnswersTo texts question s b → AnswersTo texts question t d
     → (s ≡ t) × (IsServedFor texts question → b ≡ d)
@@ -166,6 +201,11 @@ asked_once texts (Of_two circuit stimulus) s t b d (of_two _ _ text given _ _ h 
     let y : more ≡ given = some_same more given (sym f ∙ g) in
     let both = texts_once Run text given s t b d j (subst (λ z. JudgesTexts Run text z t d) y (subst (λ z. JudgesTexts Run z more t d) x i)) in
     (both.0, λ served. both.1 (served text h l))
+asked_once texts (Of_made cycles size) _ _ b d (of_made _ _ trace _ j s) (of_made _ _ other _ i r) =
+    (refl, λ served. two_summaries (ring_text size cycles) trace other b d j i s r served)
+asked_once texts (Of_made cycles size) _ t b d (of_made _ _ trace _ j s) (of_made_refused _ _ _ _ i n) = absurd (no_summary (ring_text size cycles) trace t d j i n)
+asked_once texts (Of_made cycles size) s _ b d (of_made_refused _ _ _ _ j n) (of_made _ _ trace _ i r) = absurd (no_summary (ring_text size cycles) trace s b i j n)
+asked_once texts (Of_made cycles size) s t b d (of_made_refused _ _ _ _ j n) (of_made_refused _ _ _ _ i m) = judged_once Run (ring_text size cycles) s t b d j i
 
 pub no_reading : (words : List (List ℕ)) (question : Question) → asked_by words ≡ None → asked_by words ≡ Some question → ⊥
 no_reading words question e f = let g : None ≡ Some question = sym e ∙ f in cc

@@ -16,8 +16,8 @@ use Rattle.sim_engine.specs.Faults.{fault_place}
 use Rattle.sim_engine.specs.Stages.{IsLaid, IsFirstFault, of_grammar}
 use Rattle.sim_engine.specs.declared.fault.CircuitFault.TheVariants.{Parse}
 use Rattle.sim_top.specs.declared.words.Command.TheVariants.{Check}
-use Rattle.sim_top.specs.StimulusLine.{HasNone}
-use Rattle.sim_top.specs.Answers.{Judges, taken, refused, all_of_it, fault_bytes}
+use Rattle.sim_top.specs.Texts.{HasNone, all_of_it}
+use Rattle.sim_top.specs.Answers.{Judges, taken, refused, fault_bytes}
 
 laid_out : IsLaidOut [] (End 0 ∷ [])
 laid_out = record { pieces = []; lexed = no_piece []; body = []; blocks = []; lines = no_line [] []; made = refl }

@@ -1,5 +1,5 @@
 -- What a command answers, from what the text is.
-use Rattle.std.proofs.Common.{◌≡◌, ℕ, ◌<◌, ◌≤◌, List, ◌⊎◌, ⊎_elim, length, sym, ap, ◌∙◌, subst, arith}
+use Rattle.std.proofs.Common.{◌≡◌, ◌≢◌, ℕ, ◌<◌, ◌≤◌, List, ◌⊎◌, ⊎_elim, length, sym, ap, ◌∙◌, subst, arith}
 use Rattle.std.specs.Prelude.{Some, None, Result, Ok, Err, codes}
 use Rattle.place_text.specs.declared.place.Place.{Place}
 use Rattle.place_text.specs.Places.{first_place}
@@ -10,6 +10,7 @@ use Rattle.stimulus.specs.declared.stimulus.Stimulus.{Stimulus}
 use Rattle.stimulus.specs.declared.fault.StimFault.{StimFault}
 use Rattle.stimulus.specs.Faults.{IsFault, place_of, rank_of}
 use Rattle.stimulus.specs.Stimuli.{IsStimulus}
+use Rattle.cut_laws.specs.CircuitCuts.{IsCutText}
 use Rattle.circuit_run.specs.Ports.{ArePortsOf}
 use Rattle.circuit_run.proofs.Parts.{ports_of_circuit}
 use Rattle.trace_print.specs.Listing.{listing_of}
@@ -21,22 +22,21 @@ use Rattle.sim_engine.specs.declared.fault.CircuitFault.{CircuitFault}
 use Rattle.sim_engine.specs.declared.fault.CircuitFault.TheVariants.{NoMemory}
 use Rattle.sim_engine.proofs.Once.{no_fault}
 use Rattle.sim_top.specs.declared.words.Command.{Command}
-use Rattle.sim_top.specs.declared.words.Command.TheVariants.{Run, Check, Widths}
-use Rattle.sim_top.specs.declared.fault.WholeFault.TheVariants.{TooLong, NoStimulus}
+use Rattle.sim_top.specs.declared.words.Command.TheVariants.{Run, Check, Widths, Cut}
+use Rattle.sim_top.specs.declared.texts.WholeFault.TheVariants.{TooLong, NoStimulus}
 use Rattle.sim_top.specs.declared.judge.Decision.{Decision}
 use Rattle.sim_top.specs.declared.judge.Decision.TheVariants as decision
-use Rattle.sim_top.specs.StimulusLine.{HasNone}
-use Rattle.sim_top.specs.Answers.{fault_bytes, whole_bytes, stimulus_bytes, whole_stimulus_bytes, joined_limit, stimulus_limit, IsPart, Runs, stimulus_too_long, stimulus_refused, traced, refused, accepted, listed, ran, no_stimulus, circuit_too_long, taken}
-use Rattle.sim_top.specs.Serving.{IsServed, SettlesTexts, Settles}
-use Rattle.sim_top.specs.Decisions.{Gives}
+use Rattle.sim_top.specs.Texts.{HasNone, IsPart, joined_limit, stimulus_limit}
+use Rattle.sim_top.specs.Answers.{fault_bytes, whole_bytes, stimulus_bytes, whole_stimulus_bytes, Runs, stimulus_too_long, stimulus_refused, traced, refused, accepted, listed, divided, ran, no_stimulus, circuit_too_long, taken, IsServed, SettlesTexts, Settles}
+use Rattle.sim_top.specs.Endings.{Gives}
 use Rattle.sim_top.proofs.Splitting.{part_once, run_has_line}
 
 -- a net serves what was built, and nothing is to be served where there is a fault, or no run
 built_serves : (command : Command) (text : List ℕ) (built : Built) → IsBuilt text built → IsServed command text
-built_serves command text built b run fitted a = (built, b)
+built_serves command text built b takes fitted a = (built, b)
 
 faulty_served : (command : Command) (text : List ℕ) (fault : CircuitFault) → IsFirstFault text fault → IsServed command text
-faulty_served command text fault f run fitted a = absurd (no_fault text fault fitted f a)
+faulty_served command text fault f takes fitted a = absurd (no_fault text fault fitted f a)
 
 -- the parts of a joined text, the circuit's within its limit
 settled_part : (command : Command) (joined circuit stimulus : List ℕ) → length joined ≤ joined_limit → IsPart command joined circuit stimulus → length circuit ≤ circuit_limit
@@ -69,6 +69,19 @@ lacks_line joined within none status bytes two e = rw (two, e) (record {
   served = λ other more t. absurd (run_has_line joined other more t.part none);
 })
 
+-- of a run no reply has the status 0
+pub no_trace : (command : Command) (status n : ℕ) → 1 ≤ n → status ≡ n → command ≡ Run → status ≢ 0
+no_trace command status n some e run zero = omega (arith, some, e, zero)
+
+pub no_run_check : (command : Command) (status : ℕ) → command ≡ Check → command ≡ Run → status ≢ 0
+no_run_check command status check run zero = let e : Check ≡ Run = sym check ∙ run in cc
+
+pub no_run_widths : (command : Command) (status : ℕ) → command ≡ Widths → command ≡ Run → status ≢ 0
+no_run_widths command status widths run zero = let e : Widths ≡ Run = sym widths ∙ run in cc
+
+pub no_run_cut : (command : Command) (status workers : ℕ) → command ≡ Cut workers → command ≡ Run → status ≢ 0
+no_run_cut command status workers cut run zero = let e : Cut workers ≡ Run = sym cut ∙ run in cc
+
 -- a fault that has a place isn't want of memory
 pub refused_from : (command : Command) (text stimulus : List ℕ) (fault : CircuitFault) (place : Place) (status : ℕ) (bytes : List ℕ) → (fault ≡ NoMemory) ⊎ IsFirstFault text fault
     → fault_place fault ≡ Some place → status ≡ 2 → bytes ≡ fault_bytes fault place → SettlesTexts command text stimulus status bytes
@@ -76,7 +89,7 @@ refused_from command text stimulus fault place status bytes found at two e = rw 
     (⊎_elim (λ m. absurd (let n : None ≡ Some place = sym (ap fault_place m) ∙ at in cc))
     (λ f. record { judges = refused command text stimulus fault place f at; served = faulty_served command text fault f }) found)
 
--- what `check` and `widths` answer to what was built
+-- what `check`, `widths` and `cut` answer to what was built
 pub checked : (text stimulus : List ℕ) (built : Built) (status : ℕ) (bytes : List ℕ) → IsBuilt text built → status ≡ 0 → bytes ≡ codes "ok\n" → SettlesTexts Check text stimulus status bytes
 checked text stimulus built status bytes b zero e =
     rw (zero, e) (record { judges = accepted text stimulus built.fitted b.accepted; served = built_serves Check text built b })
@@ -85,6 +98,11 @@ pub widths : (text stimulus : List ℕ) (built : Built) (status : ℕ) (bytes : 
     → SettlesTexts Widths text stimulus status bytes
 widths text stimulus built status bytes b zero e =
     rw (zero, e) (record { judges = listed text stimulus built.fitted b.accepted; served = built_serves Widths text built b })
+
+pub divided_of : (workers : ℕ) (text stimulus : List ℕ) (built : Built) (status : ℕ) (bytes : List ℕ) → IsBuilt text built → status ≡ 0
+    → IsCutText built.fitted.checked.circuit.names (design_of built.fitted) workers bytes → SettlesTexts (Cut workers) text stimulus status bytes
+divided_of workers text stimulus built status bytes b zero cuts =
+    rw zero (record { judges = divided workers text stimulus built.fitted bytes b.accepted cuts; served = built_serves (Cut workers) text built b })
 
 -- a run of what was built
 ran_of : (text stimulus : List ℕ) (built : Built) (status : ℕ) (bytes : List ℕ) → IsBuilt text built

@@ -1,6 +1,7 @@
 pub mod Searching
 pub mod Splitting
 pub mod AnswersOnce
+pub mod Asking
 pub mod Judging
 pub mod Replying
 pub mod EmptyText

@@ -5,20 +5,25 @@ use Rattle.std.proofs.lemmas.Bool.{cases_eq}
 use Rattle.std.proofs.lemmas.Grind.{common_steps}
 use Rattle.place_text.specs.Places.{first_place}
 use Rattle.leaf_names.specs.LeafNames.{Texts}
-use Rattle.fir_meaning.specs.Components.{Design}
+use Rattle.stimulus.specs.declared.stimulus.Stimulus.{Stimulus}
+use Rattle.sim_engine.specs.declared.compile.Built.{Built}
+use Rattle.circuit_run.specs.Traces.{IsTraceText}
+use Rattle.fir_meaning.specs.Components.{Design, design_of}
 use Rattle.shelf_io.specs.Outside.{Appends, Rose}
+use Rattle.circuit_make.specs.Rings.{ring_text}
+use Rattle.trace_summary.specs.Summaries.{IsSummary}
 use Rattle.sim_engine.specs.Stages.{circuit_limit}
 use Rattle.sim_top.specs.declared.words.Command.{Command}
-use Rattle.sim_top.specs.declared.words.Command.TheVariants.{Run, Check, Widths}
-use Rattle.sim_top.specs.declared.fault.WholeFault.{WholeFault}
-use Rattle.sim_top.specs.declared.fault.WholeFault.TheVariants.{TooLong, NoStimulus}
+use Rattle.sim_top.specs.declared.words.Command.TheVariants.{Run, Check, Widths, Cut}
+use Rattle.sim_top.specs.declared.texts.WholeFault.{WholeFault}
+use Rattle.sim_top.specs.declared.texts.WholeFault.TheVariants.{TooLong, NoStimulus}
+use Rattle.sim_top.specs.declared.judge.Reply.{Reply}
 use Rattle.sim_top.specs.declared.judge.Decision.{Decision}
 use Rattle.sim_top.specs.declared.judge.Decision.TheVariants as decision
-use Rattle.sim_top.specs.Questions.{Question, Of_joined, Of_two, asked_by, NeedsFor, the_joined, the_circuit, the_stimulus, Needs}
-use Rattle.sim_top.specs.Answers.{whole_bytes, joined_limit, Runs, stimulus_too_long, stimulus_refused, traced, JudgesTexts, refused, accepted, listed, ran, Judges, joined_too_long, no_stimulus, circuit_too_long, taken, AnswersTo, of_joined, of_long_circuit, of_two, Answers, no_command, answered}
-use Rattle.sim_top.specs.Endings.{Ends, IsSaid, IsRun, IsFaultLine, of_circuit, of_whole, of_stimulus, of_whole_stimulus, IsReply}
-use Rattle.sim_top.specs.Serving.{IsServed, IsServedIn, IsServedFor, SettlesTexts, Settles, SettlesAsked, IsSettled}
-use Rattle.sim_top.specs.Decisions.{Gives, CanRun, IsReady, status_of}
+use Rattle.sim_top.specs.Commands.{Question, Of_joined, Of_two, Of_made, asked_by, NeedsFor, the_joined, the_circuit, the_stimulus, Needs}
+use Rattle.sim_top.specs.Texts.{joined_limit}
+use Rattle.sim_top.specs.Answers.{whole_bytes, Runs, stimulus_too_long, stimulus_refused, traced, JudgesTexts, refused, accepted, listed, divided, ran, Judges, joined_too_long, no_stimulus, circuit_too_long, taken, AnswersTo, of_joined, of_long_circuit, of_two, of_made, of_made_refused, Answers, no_command, answered, IsServed, IsServedIn, IsServedFor, SettlesTexts, Settles, SettlesAsked, IsSettled}
+use Rattle.sim_top.specs.Endings.{Ends, IsSaid, IsRun, IsFaultLine, of_circuit, of_whole, of_stimulus, of_whole_stimulus, IsReply, Gives, IsFor, IsReady, status_of}
 use Rattle.sim_top.proofs.AnswersOnce.{some_same, no_reading, settled_once}
 
 -- what a command answers has the status 0, or is a line that names a fault
@@ -34,6 +39,7 @@ texts_told : (command : Command) (text stimulus : List ℕ) (s : ℕ) (b : List 
 texts_told command text stimulus _ _ (refused _ _ _ fault p f at) = inr (of_circuit fault p)
 texts_told Check text stimulus _ _ (accepted _ _ fitted a) = inl refl
 texts_told Widths text stimulus _ _ (listed _ _ fitted a) = inl refl
+texts_told (Cut workers) text stimulus _ _ (divided _ _ _ fitted _ a cuts) = inl refl
 texts_told Run text stimulus s b (ran _ _ fitted _ _ a r) = ran_told fitted.checked.circuit.names _ stimulus s b r
 
 judged_told : (command : Command) (joined : List ℕ) (s : ℕ) (b : List ℕ) → Judges command joined s b → Told s b
@@ -62,7 +68,7 @@ reply_few s b reply = ⊎_elim (λ zero. omega arith)
     (λ more. ⊎_elim (λ (u : (s ≡ 1) × (b ≡ codes "usage\n")). let one = u.0 in omega arith) (λ line. (line_status s b line).1) more) reply
 
 -- what is decided for a joined text
-pub ready_decision : (command : Command) (joined : List ℕ) (d : Decision) → Gives (Settles command joined) d → CanRun d → IsReady d
+pub ready_decision : (command : Command) (joined : List ℕ) (d : Decision) → Gives (Settles command joined) d → IsFor command d → IsReady d
 ready_decision command joined (decision.Say reply) s run = judged_reply command joined _ _ s.judges
 ready_decision command joined (decision.Run built settings) s run = run
 
@@ -73,7 +79,7 @@ no_usage command joined (decision.Run built settings) s one = cc
 texts_ready : (text stimulus : List ℕ) (s : ℕ) (b : List ℕ) → JudgesTexts Run text stimulus s b → IsReply s b
 texts_ready text stimulus s b j = ⊎_elim (λ zero. inl zero) (λ line. inr (inr line)) (texts_told Run text stimulus s b j)
 
-pub ready_texts : (text stimulus : List ℕ) (d : Decision) → Gives (SettlesTexts Run text stimulus) d → CanRun d → IsReady d
+pub ready_texts : (text stimulus : List ℕ) (d : Decision) → Gives (SettlesTexts Run text stimulus) d → IsFor Run d → IsReady d
 ready_texts text stimulus (decision.Say reply) s run = texts_ready text stimulus _ _ s.judges
 ready_texts text stimulus (decision.Run built settings) s run = run
 
@@ -126,6 +132,41 @@ settled_circuit texts circuit stimulus text s b held long two e = rw (two, e) (r
   served = λ other k m. let same : length text ≡ length other = ap length (some_same text other (sym held ∙ k)) in absurd (omega (arith, long, m, same));
 })
 
+made_refused : (texts : List ℕ → Option (List ℕ)) (cycles size s : ℕ) (b : List ℕ) → Settles Run (ring_text size cycles) s b → s ≢ 0 → SettlesAsked texts (Of_made cycles size) s b
+made_refused texts cycles size s b settles n = record { answers = of_made_refused cycles size s b settles.judges n; served = settles.served }
+
+made_told : (texts : List ℕ → Option (List ℕ)) (cycles size : ℕ) (trace b : List ℕ) → Settles Run (ring_text size cycles) 0 trace → IsSummary trace b
+    → SettlesAsked texts (Of_made cycles size) 0 b
+made_told texts cycles size trace b settles sums = record { answers = of_made cycles size trace b settles.judges sums; served = settles.served }
+
+-- what is decided for a text that is made
+abbrev pub IsMade : ℕ → ℕ → Decision → Type 0
+IsMade cycles size d = Gives (Settles Run (ring_text size cycles)) d × IsFor Run d
+
+pub made_of : (cycles size : ℕ) (joined : List ℕ) (d : Decision) → joined ≡ ring_text size cycles → Gives (Settles Run joined) d → IsFor Run d
+    → Gives (Settles Run (ring_text size cycles)) d × IsFor Run d
+made_of cycles size joined d e gives fits = (subst (λ (text : List ℕ). Gives (Settles Run text) d) e gives, fits)
+
+pub made_said : (texts : List ℕ → Option (List ℕ)) (cycles size : ℕ) (d : Decision) (reply : Reply) → d ≡ decision.Say reply → IsMade cycles size d
+    → SettlesAsked texts (Of_made cycles size) reply.status reply.bytes.items
+made_said texts cycles size d reply e made =
+    let said = subst (IsMade cycles size) e made in made_refused texts cycles size _ _ said.0 (said.1 refl)
+
+pub made_reply : (cycles size : ℕ) (d : Decision) (reply : Reply) → d ≡ decision.Say reply → IsMade cycles size d → IsReply reply.status reply.bytes.items
+made_reply cycles size d reply e made =
+    let said = subst (IsMade cycles size) e made in judged_reply Run (ring_text size cycles) _ _ said.0.judges
+
+pub made_usage : (cycles size : ℕ) (d : Decision) (reply : Reply) → d ≡ decision.Say reply → IsMade cycles size d → reply.status ≢ 1
+made_usage cycles size d reply e made one =
+    let said = subst (IsMade cycles size) e made in told_usage _ _ (judged_told Run (ring_text size cycles) _ _ said.0.judges) one
+
+pub made_run : (texts : List ℕ → Option (List ℕ)) (cycles size : ℕ) (d : Decision) (built : Built) (settings : Stimulus) (trace b : List ℕ) (s : ℕ) → d ≡ decision.Run built settings
+    → IsMade cycles size d → s ≡ 0 → IsTraceText built.fitted.checked.circuit.names (design_of built.fitted) settings trace → IsSummary trace b
+    → SettlesAsked texts (Of_made cycles size) s b
+made_run texts cycles size d built settings trace b s e made zero told sums =
+    let ran = subst (IsMade cycles size) e made in
+    subst (λ (k : ℕ). SettlesAsked texts (Of_made cycles size) k b) (sym zero) (made_told texts cycles size trace b (ran.0 trace told) sums)
+
 -- and for words
 pub settled_usage : (words : List (List ℕ)) (texts : List ℕ → Option (List ℕ)) (b : List ℕ) → asked_by words ≡ None → b ≡ codes "usage\n" → IsSettled words texts 1 b
 settled_usage words texts b none e = rw e (record {
@@ -133,7 +174,7 @@ settled_usage words texts b none e = rw e (record {
   served = λ question asked. absurd (no_reading words question none asked);
 })
 
-of_words : (words : List (List ℕ)) (texts : List ℕ → Option (List ℕ)) (question : Question) → asked_by words ≡ Some question → (s : ℕ) (b : List ℕ) → SettlesAsked texts question s b
+pub of_words : (words : List (List ℕ)) (texts : List ℕ → Option (List ℕ)) (question : Question) → asked_by words ≡ Some question → (s : ℕ) (b : List ℕ) → SettlesAsked texts question s b
     → IsSettled words texts s b
 of_words words texts question asked s b settles = record {
   answers = answered words texts question s b asked settles.answers;
@@ -270,6 +311,7 @@ unheld_asked texts held (Of_two circuit stimulus) _ s b told (the_circuit _ _) n
 unheld_asked texts held (Of_two circuit stimulus) _ _ _ told (the_stimulus _ _ short) none (of_long_circuit _ _ text h l) =
     let le = short texts text told h in omega (arith, l, le)
 unheld_asked texts held (Of_two circuit stimulus) _ s b told (the_stimulus _ _ short) none (of_two _ _ text given _ _ h l g j) = let f : None ≡ Some given = sym none ∙ g in cc
+unheld_asked texts held (Of_made cycles size) name s b told needs none answers = elim needs [ ]
 
 pub unheld_unanswered : (words : List (List ℕ)) (texts : List ℕ → Option (List ℕ)) (held : Option (List ℕ → Option (List ℕ))) (name : List ℕ) (s : ℕ) (b : List ℕ) → held ≡ Some texts
     → Needs words held name → texts name ≡ None → Answers words texts s b → ⊥

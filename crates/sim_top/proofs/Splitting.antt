@@ -3,8 +3,7 @@ use Rattle.std.proofs.Common.{◌≡◌, ℕ, ◌≤◌, false, true, List, ⊎_
 use native.Mathlib.Decide.{dec_le}
 use Rattle.sim_top.specs.declared.words.Command.TheVariants.{Run}
 use Rattle.sim_top.specs.declared.words.Command.{Command}
-use Rattle.sim_top.specs.StimulusLine.{IsStimulusLine, StandsAt, NoneBefore, HasNone, IsSplit}
-use Rattle.sim_top.specs.Answers.{IsPart, before_line, all_of_it}
+use Rattle.sim_top.specs.Texts.{IsStimulusLine, StandsAt, NoneBefore, HasNone, IsSplit, IsPart, all_of_it, before_line}
 
 -- what stands behind the line
 line_once : (bytes a b : List ℕ) → IsStimulusLine bytes a → IsStimulusLine bytes b → a ≡ b

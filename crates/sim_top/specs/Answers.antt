@@ -1,5 +1,5 @@
 -- What the program is to answer: a status and the bytes that are written.
-use Rattle.std.specs.Prelude.{◌≡◌, ℕ, ◌<◌, ◌≤◌, Bool, true, false, List, [], length, Option, Some, None, codes}
+use Rattle.std.specs.Prelude.{◌≡◌, ◌≢◌, ℕ, ◌<◌, ◌≤◌, Bool, true, false, List, length, Option, Some, None, codes}
 use Rattle.place_text.specs.Places.{fault_line_bytes, first_place}
 use Rattle.place_text.specs.declared.place.Place.{Place}
 use Rattle.place_text.specs.declared.place.TextPart.TheVariants.{Circuit as Circuit_part, Stimulus as Stimulus_part}
@@ -15,46 +15,20 @@ use Rattle.stimulus.specs.Stimuli.{IsStimulus}
 use Rattle.circuit_run.specs.Ports.{ArePortsOf}
 use Rattle.circuit_run.specs.Traces.{IsTraceText}
 use Rattle.trace_print.specs.Listing.{listing_of}
+use Rattle.trace_summary.specs.Summaries.{IsSummary}
+use Rattle.circuit_make.specs.Rings.{ring_text}
+use Rattle.cut_laws.specs.CircuitCuts.{IsCutText}
 use Rattle.sim_engine.specs.Stages.{circuit_limit, IsAccepted, IsFirstFault}
+use Rattle.sim_engine.specs.Building.{IsBuilt}
 use Rattle.sim_engine.specs.Faults.{kind_name, fault_place}
+use Rattle.sim_engine.specs.declared.compile.Built.{Built}
 use Rattle.sim_engine.specs.declared.fault.CircuitFault.{CircuitFault}
 use Rattle.sim_top.specs.declared.words.Command.{Command}
-use Rattle.sim_top.specs.declared.words.Command.TheVariants.{Run, Check, Widths}
-use Rattle.sim_top.specs.declared.fault.WholeFault.{WholeFault}
-use Rattle.sim_top.specs.declared.fault.WholeFault.TheVariants.{TooLong, NoStimulus}
-use Rattle.sim_top.specs.Questions.{Question, Of_joined, Of_two, asked_by}
-use Rattle.sim_top.specs.StimulusLine.{IsSplit, HasNone}
-
--- the names of faults of a text as a whole
-abbrev pub whole_name : WholeFault → List ℕ
-whole_name TooLong = codes "TooLong"
-whole_name NoStimulus = codes "NoStimulus"
-
--- whether a command takes all of a text for the circuit's where it has no line `%stimulus`
-abbrev pub reads_all : Command → Bool
-reads_all Run = false
-reads_all Check = true
-reads_all Widths = true
-
--- The circuit's text and the stimulus's: what stands before the line `%stimulus`, and what stands behind it. For `check` and `widths` all of a
--- text without such a line is the circuit's, and the stimulus's is empty.
-pub data IsPart : Command → List ℕ → List ℕ → List ℕ → Type 0 where
-  before_line : (command : Command) (joined circuit stimulus : List ℕ) → IsSplit joined circuit stimulus → IsPart command joined circuit stimulus
-  all_of_it : (command : Command) (joined : List ℕ) → reads_all command ≡ true → HasNone joined → IsPart command joined joined []
-
--- the greatest length of a joined text, in bytes
-abbrev pub joined_limit : ℕ
-joined_limit = 5242880
-
--- the greatest length of a stimulus's text, in bytes
-abbrev pub stimulus_limit : ℕ
-stimulus_limit = 4194304
-
--- the circuit's text was taken: all is within its limit
-pub record IsTaken (command : Command) (joined circuit stimulus : List ℕ) : Type 0 where
-  pub within : length joined ≤ joined_limit
-  pub part : IsPart command joined circuit stimulus
-  pub short : length circuit ≤ circuit_limit
+use Rattle.sim_top.specs.declared.words.Command.TheVariants.{Run, Check, Widths, Cut}
+use Rattle.sim_top.specs.declared.texts.WholeFault.{WholeFault}
+use Rattle.sim_top.specs.declared.texts.WholeFault.TheVariants.{TooLong, NoStimulus}
+use Rattle.sim_top.specs.Commands.{Question, Of_joined, Of_two, Of_made, asked_by}
+use Rattle.sim_top.specs.Texts.{joined_limit, stimulus_limit, whole_name, HasNone, IsPart, IsTaken}
 
 -- The lines of faults: of a fault of the circuit, of one of its text as a whole, of a fault of the stimulus, and of one of its text as a whole.
 abbrev pub fault_bytes : CircuitFault → Place → List ℕ
@@ -78,16 +52,18 @@ pub data Runs (texts : Texts) (design : Design) (text : List ℕ) : ℕ → List
       → HasNoFault (IsFault text ports (length ports.watched)) → IsStimulus text ports stimulus → IsTraceText texts design stimulus bytes → Runs texts design text 0 bytes
 
 -- What a command answers where the circuit's text was taken: its first fault; or for `check` that there is none, for `widths` the listing, for
--- `run` what a run of the circuit answers.
+-- `cut` the circuit's cut, for `run` what a run of the circuit answers.
 pub data JudgesTexts : Command → List ℕ → List ℕ → ℕ → List ℕ → Type 0 where
   refused : (command : Command) (text stimulus : List ℕ) (fault : CircuitFault) (there' : Place) → IsFirstFault text fault → fault_place fault ≡ Some there'
       → JudgesTexts command text stimulus 2 (fault_bytes fault there')
   accepted : (text stimulus : List ℕ) (fitted : Fitted) → IsAccepted text fitted → JudgesTexts Check text stimulus 0 (codes "ok\n")
   listed : (text stimulus : List ℕ) (fitted : Fitted) → IsAccepted text fitted → JudgesTexts Widths text stimulus 0 (listing_of fitted)
+  divided : (workers : ℕ) (text stimulus : List ℕ) (fitted : Fitted) (bytes : List ℕ) → IsAccepted text fitted
+      → IsCutText fitted.checked.circuit.names (design_of fitted) workers bytes → JudgesTexts (Cut workers) text stimulus 0 bytes
   ran : (text stimulus : List ℕ) (fitted : Fitted) (status : ℕ) (bytes : List ℕ) → IsAccepted text fitted
       → Runs fitted.checked.circuit.names (design_of fitted) stimulus status bytes → JudgesTexts Run text stimulus status bytes
 
--- What a command answers to the text of standard input. Of the faults of the text as a whole the first in this order counts.
+-- What a command answers to a joined text. Of the faults of the text as a whole the first in this order counts.
 pub data Judges : Command → List ℕ → ℕ → List ℕ → Type 0 where
   joined_too_long : (command : Command) (joined : List ℕ) → joined_limit < length joined → Judges command joined 2 (whole_bytes TooLong first_place)
   no_stimulus : (joined : List ℕ) → length joined ≤ joined_limit → HasNone joined → Judges Run joined 2 (whole_bytes NoStimulus first_place)
@@ -97,6 +73,7 @@ pub data Judges : Command → List ℕ → ℕ → List ℕ → Type 0 where
       → JudgesTexts command circuit stimulus status bytes → Judges command joined status bytes
 
 -- The answer to a question, where the texts that it needs are held. Of two texts the circuit's is judged as a whole: no line is looked for in it.
+-- The text that is made is run as any joined text, and the summary stands for the trace.
 pub data AnswersTo (texts : List ℕ → Option (List ℕ)) : Question → ℕ → List ℕ → Type 0 where
   of_joined : (command : Command) (name joined : List ℕ) (status : ℕ) (bytes : List ℕ) → texts name ≡ Some joined → Judges command joined status bytes
       → AnswersTo texts (Of_joined command name) status bytes
@@ -104,9 +81,52 @@ pub data AnswersTo (texts : List ℕ → Option (List ℕ)) : Question → ℕ �
       → AnswersTo texts (Of_two circuit stimulus) 2 (whole_bytes TooLong first_place)
   of_two : (circuit stimulus text given : List ℕ) (status : ℕ) (bytes : List ℕ) → texts circuit ≡ Some text → length text ≤ circuit_limit
       → texts stimulus ≡ Some given → JudgesTexts Run text given status bytes → AnswersTo texts (Of_two circuit stimulus) status bytes
+  of_made : (cycles size : ℕ) (trace summary : List ℕ) → Judges Run (ring_text size cycles) 0 trace → IsSummary trace summary
+      → AnswersTo texts (Of_made cycles size) 0 summary
+  of_made_refused : (cycles size : ℕ) (status : ℕ) (bytes : List ℕ) → Judges Run (ring_text size cycles) status bytes → status ≢ 0
+      → AnswersTo texts (Of_made cycles size) status bytes
 
 -- The answer to a command line.
 pub data Answers : List (List ℕ) → (List ℕ → Option (List ℕ)) → ℕ → List ℕ → Type 0 where
   no_command : (words : List (List ℕ)) (texts : List ℕ → Option (List ℕ)) → asked_by words ≡ None → Answers words texts 1 (codes "usage\n")
   answered : (words : List (List ℕ)) (texts : List ℕ → Option (List ℕ)) (question : Question) (status : ℕ) (bytes : List ℕ)
       → asked_by words ≡ Some question → AnswersTo texts question status bytes → Answers words texts status bytes
+
+-- Where a run or a cut is asked for and the circuit's text is accepted, a net serves the circuit. Its trace and its cut are one then.
+abbrev pub takes_net : Command → Bool
+takes_net Run = true
+takes_net Check = false
+takes_net Widths = false
+takes_net (Cut workers) = true
+
+abbrev pub IsServed : Command → List ℕ → Type 0
+IsServed command text = takes_net command ≡ true → (fitted : Fitted) → IsAccepted text fitted → (built : Built) × IsBuilt text built
+
+-- the same of the circuit's part of a joined text, of what is asked, and of the words
+abbrev pub IsServedIn : Command → List ℕ → Type 0
+IsServedIn command joined = (circuit stimulus : List ℕ) → IsTaken command joined circuit stimulus → IsServed command circuit
+
+abbrev pub IsServedFor : (List ℕ → Option (List ℕ)) → Question → Type 0
+IsServedFor texts (Of_joined command name) = (joined : List ℕ) → texts name ≡ Some joined → IsServedIn command joined
+IsServedFor texts (Of_two circuit stimulus) = (text : List ℕ) → texts circuit ≡ Some text → length text ≤ circuit_limit → IsServed Run text
+IsServedFor texts (Of_made cycles size) = IsServedIn Run (ring_text size cycles)
+
+abbrev pub AreServed : List (List ℕ) → (List ℕ → Option (List ℕ)) → Type 0
+AreServed words texts = (question : Question) → asked_by words ≡ Some question → IsServedFor texts question
+
+-- An answer, and a net where one is taken.
+pub record SettlesTexts (command : Command) (text stimulus : List ℕ) (status : ℕ) (bytes : List ℕ) : Type 0 where
+  pub judges : JudgesTexts command text stimulus status bytes
+  pub served : IsServed command text
+
+pub record Settles (command : Command) (joined : List ℕ) (status : ℕ) (bytes : List ℕ) : Type 0 where
+  pub judges : Judges command joined status bytes
+  pub served : IsServedIn command joined
+
+pub record SettlesAsked (texts : List ℕ → Option (List ℕ)) (question : Question) (status : ℕ) (bytes : List ℕ) : Type 0 where
+  pub answers : AnswersTo texts question status bytes
+  pub served : IsServedFor texts question
+
+pub record IsSettled (words : List (List ℕ)) (texts : List ℕ → Option (List ℕ)) (status : ℕ) (bytes : List ℕ) : Type 0 where
+  pub answers : Answers words texts status bytes
+  pub served : AreServed words texts

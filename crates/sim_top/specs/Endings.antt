@@ -2,9 +2,19 @@
 use Rattle.std.specs.Prelude.{◌≡◌, ◌≢◌, ◌⊎◌, ℕ, ◌≤◌, List, [], ◌++◌, Option, Some, take, codes}
 use Rattle.place_text.specs.declared.place.Place.{Place}
 use Rattle.shelf_io.specs.Outside.{Appends}
+use Rattle.fir_meaning.specs.Components.{design_of}
+use Rattle.stimulus.specs.declared.stimulus.Stimulus.{Stimulus}
 use Rattle.stimulus.specs.declared.fault.StimFault.{StimFault}
+use Rattle.stimulus.specs.Stimuli.{IsFormed}
+use Rattle.circuit_run.specs.Traces.{IsTraceText}
+use Rattle.sim_engine.specs.Building.{IsBuilt}
+use Rattle.sim_engine.specs.declared.compile.Built.{Built}
 use Rattle.sim_engine.specs.declared.fault.CircuitFault.{CircuitFault}
-use Rattle.sim_top.specs.declared.fault.WholeFault.{WholeFault}
+use Rattle.sim_top.specs.declared.words.Command.{Command}
+use Rattle.sim_top.specs.declared.words.Command.TheVariants.{Run}
+use Rattle.sim_top.specs.declared.texts.WholeFault.{WholeFault}
+use Rattle.sim_top.specs.declared.judge.Decision.{Decision}
+use Rattle.sim_top.specs.declared.judge.Decision.TheVariants as decision
 use Rattle.sim_top.specs.Answers.{Answers, fault_bytes, whole_bytes, stimulus_bytes, whole_stimulus_bytes}
 
 -- Where the shelf tells its texts and the sink its bytes: `before` stood there, and now stands `after`.
@@ -43,3 +53,29 @@ pub data IsFaultLine : ℕ → List ℕ → Type 0 where
 -- what a status says of the bytes of a reply, whatever was asked
 abbrev pub IsReply : ℕ → List ℕ → Type 0
 IsReply status bytes = (status ≡ 0) ⊎ (((status ≡ 1) × (bytes ≡ codes "usage\n")) ⊎ IsFaultLine status bytes)
+
+-- A decision has a property of answers: its reply has it, or the trace has it, at status 0.
+abbrev pub Gives : (ℕ → List ℕ → Type 0) → Decision → Type 0
+Gives Property (decision.Say reply) = Property reply.status reply.bytes.items
+Gives Property (decision.Run built stimulus) = (bytes : List ℕ) → IsTraceText built.fitted.checked.circuit.names (design_of built.fitted) stimulus bytes → Property 0 bytes
+
+-- What was built can be run under the stimulus.
+pub record IsRunnable (built : Built) (stimulus : Stimulus) : Type 0 where
+  pub text : List ℕ
+  pub is_built : IsBuilt text built
+  pub formed : IsFormed built.ports stimulus
+
+-- What a decision for a command is: a run that can be run, or a reply. Of a run no trace is said.
+abbrev pub IsFor : Command → Decision → Type 0
+IsFor command (decision.Say reply) = command ≡ Run → reply.status ≢ 0
+IsFor command (decision.Run built stimulus) = IsRunnable built stimulus
+
+-- A decision can be carried out: a reply is one, and a run can be run.
+abbrev pub IsReady : Decision → Type 0
+IsReady (decision.Say reply) = IsReply reply.status reply.bytes.items
+IsReady (decision.Run built stimulus) = IsRunnable built stimulus
+
+-- the status, where nothing fails
+abbrev pub status_of : Decision → ℕ
+status_of (decision.Say reply) = reply.status
+status_of (decision.Run built stimulus) = 0

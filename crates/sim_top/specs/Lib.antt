@@ -1,9 +1,5 @@
--- what a reader must believe
-pub mod StimulusLine
-pub mod Questions
+-- what a reader must believe, and at the end of Answers and of Endings what the bodies keep
+pub mod Commands
+pub mod Texts
 pub mod Answers
 pub mod Endings
-pub mod Serving
--- what the bodies keep
-pub mod Asking
-pub mod Decisions

@@ -8,14 +8,16 @@ ghost use Rattle.sim_engine.specs.Stages.{circuit_limit};
 ghost use Rattle.sim_engine.specs.Building.{IsBuilt};
 ghost use Rattle.sim_engine.specs.Faults.{fault_place};
 ghost use Rattle.stimulus.specs.Faults.{place_of};
-ghost use Rattle.sim_top.specs.Answers.{fault_bytes, whole_bytes, stimulus_bytes, whole_stimulus_bytes, joined_limit, stimulus_limit, IsPart};
-ghost use Rattle.sim_top.specs.Endings.{IsFaultLine};
-ghost use Rattle.sim_top.specs.Serving.{SettlesTexts, Settles};
-ghost use Rattle.sim_top.specs.Decisions.{Gives, CanRun};
+ghost use Rattle.fir_meaning.specs.Components.{design_of};
+ghost use Rattle.cut_laws.specs.CircuitCuts.{IsCutText};
+ghost use Rattle.sim_top.specs.Commands.{AreWorkers};
+ghost use Rattle.sim_top.specs.Texts.{joined_limit, stimulus_limit, HasNone, IsPart};
+ghost use Rattle.sim_top.specs.Answers.{fault_bytes, whole_bytes, stimulus_bytes, whole_stimulus_bytes, SettlesTexts, Settles};
+ghost use Rattle.sim_top.specs.Endings.{IsFaultLine, Gives, IsFor};
 
-use crate::fault::WholeFault;
-use crate::split::split;
+use crate::texts::{STIMULUS_LIMIT, WholeFault, split};
 use crate::words::Command;
+use cut_laws::circuit_cut;
 use fault_order::Fault;
 use fir_tree::Fitted;
 use place_text::{Place, TextPart, fault_line};
@@ -23,9 +25,6 @@ use sim_engine::{Built, CIRCUIT_LIMIT, CircuitFault, compile_text};
 use std::alloc::{AllocError, Global};
 use stimulus::{StimFault, Stimulus, read_stimulus};
 use trace_print::widths_text;
-
-/// The greatest length of a stimulus's text in bytes.
-pub const STIMULUS_LIMIT: usize = 4_194_304;
 
 /// The place of a fault of a text as a whole.
 const FRONT: Place = Place { line: 1, column: 1 };
@@ -46,26 +45,33 @@ pub struct Reply {
 
 /// What the command answers to a joined text within its limit.
 pub fn judge(alloc: Global, command: Command, text: &[u8]) -> Result<Decision, AllocError>
-    requires { length text.now ≤ joined_limit }
+    requires within { length text.now ≤ joined_limit }
+    requires workers { AreWorkers command }
     ensures settles { IfOk result (Gives (Settles command text.now)) }
-    ensures runs { IfOk result CanRun }
+    ensures fits { IfOk result (IsFor command) }
 {
-    match (command, split(text)) {
-        (Command::Run, None) => {
+    match split(text) {
+        Some((circuit, stimulus)) => Ok(judge_part(alloc, command, circuit, stimulus)?),
+        None => Ok(judge_whole(alloc, command, text)?),
+    }
+}
+
+/// What the command answers to a joined text without a line `%stimulus`.
+fn judge_whole(alloc: Global, command: Command, text: &[u8]) -> Result<Decision, AllocError>
+    requires within { length text.now ≤ joined_limit }
+    requires none { HasNone text.now }
+    requires workers { AreWorkers command }
+    ensures settles { IfOk result (Gives (Settles command text.now)) }
+    ensures fits { IfOk result (IsFor command) }
+{
+    match command {
+        Command::Run => {
             let reply = refuse_whole(alloc, WholeFault::NoStimulus)?;
             Ok(Decision::Say(reply))
         }
-        (Command::Run, Some((circuit, stimulus))) => {
-            Ok(judge_part(alloc, Command::Run, circuit, stimulus)?)
-        }
-        (Command::Check, None) => Ok(judge_part(alloc, Command::Check, text, &[])?),
-        (Command::Check, Some((circuit, stimulus))) => {
-            Ok(judge_part(alloc, Command::Check, circuit, stimulus)?)
-        }
-        (Command::Widths, None) => Ok(judge_part(alloc, Command::Widths, text, &[])?),
-        (Command::Widths, Some((circuit, stimulus))) => {
-            Ok(judge_part(alloc, Command::Widths, circuit, stimulus)?)
-        }
+        Command::Check => Ok(judge_part(alloc, command, text, &[])?),
+        Command::Widths => Ok(judge_part(alloc, command, text, &[])?),
+        Command::Cut(_) => Ok(judge_part(alloc, command, text, &[])?),
     }
 }
 
@@ -76,8 +82,9 @@ fn judge_part(
     circuit: &[u8],
     stimulus: &[u8],
 ) -> Result<Decision, AllocError>
+    requires workers { AreWorkers command }
     ensures settles { IfOk result (λ d. (joined : List ℕ) → length joined ≤ joined_limit → IsPart command joined circuit.now stimulus.now → Gives (Settles command joined) d) }
-    ensures runs { IfOk result CanRun }
+    ensures fits { IfOk result (IsFor command) }
 {
     if circuit.len() > CIRCUIT_LIMIT {
         let reply = refuse_whole(alloc, WholeFault::TooLong)?;
@@ -93,9 +100,10 @@ pub fn judge_texts(
     circuit: &[u8],
     stimulus: &[u8],
 ) -> Result<Decision, AllocError>
-    requires { length circuit.now ≤ circuit_limit }
+    requires within { length circuit.now ≤ circuit_limit }
+    requires workers { AreWorkers command }
     ensures settles { IfOk result (Gives (SettlesTexts command circuit.now stimulus.now)) }
-    ensures runs { IfOk result CanRun }
+    ensures fits { IfOk result (IsFor command) }
 {
     match compile_text(alloc, circuit) {
         Ok(built) => Ok(judge_built(alloc, command, built, stimulus)?),
@@ -125,9 +133,10 @@ fn judge_built(
     built: Built,
     stimulus: &[u8],
 ) -> Result<Decision, AllocError>
-    requires { (text : List ℕ) × IsBuilt text built }
+    requires built { (text : List ℕ) × IsBuilt text built }
+    requires workers { AreWorkers command }
     ensures settles { IfOk result (λ d. (text : List ℕ) → IsBuilt text built → Gives (SettlesTexts command text stimulus.now) d) }
-    ensures runs { IfOk result CanRun }
+    ensures fits { IfOk result (IsFor command) }
 {
     match command {
         Command::Run => Ok(run(alloc, built, stimulus)?),
@@ -137,6 +146,10 @@ fn judge_built(
         }
         Command::Widths => {
             let reply = list(alloc, &built.fitted)?;
+            Ok(Decision::Say(reply))
+        }
+        Command::Cut(workers) => {
+            let reply = divide(alloc, &built, workers)?;
             Ok(Decision::Say(reply))
         }
     }
@@ -162,13 +175,26 @@ fn list(alloc: Global, fitted: &Fitted) -> Result<Reply, AllocError>
     })
 }
 
+/// The answer of `cut` to a text without a fault.
+fn divide(alloc: Global, built: &Built, workers: u32) -> Result<Reply, AllocError>
+    requires built { (text : List ℕ) × IsBuilt text built.now }
+    requires some { 1 ≤ workers }
+    requires most { workers ≤ 64 }
+    ensures { IfOk result (λ r. (r.status ≡ 0) × IsCutText built.now.fitted.checked.circuit.names (design_of built.now.fitted) workers r.bytes.items) }
+{
+    Ok(Reply {
+        status: 0,
+        bytes: circuit_cut(alloc, &built.ordered, &built.ports, workers)?,
+    })
+}
+
 /// What `run` answers to a circuit without a fault and to a stimulus's text.
 ///
 /// More watched leaves than a `u32` numbers are a want of memory.
 fn run(alloc: Global, built: Built, stimulus: &[u8]) -> Result<Decision, AllocError>
     requires { (text : List ℕ) × IsBuilt text built }
     ensures settles { IfOk result (λ d. (text : List ℕ) → IsBuilt text built → Gives (SettlesTexts Command.Run text stimulus.now) d) }
-    ensures runs { IfOk result CanRun }
+    ensures fits { IfOk result (IsFor Command.Run) }
 {
     if stimulus.len() > STIMULUS_LIMIT {
         let reply = refuse_long_stimulus(alloc)?;

@@ -1,8 +1,7 @@
 //! Laws of the definitions that the contracts here name. The functions do nothing.
 
 ghost use Rattle.std.specs.Prelude.{◌≡◌, ℕ, List, Option};
-ghost use Rattle.sim_top.specs.Answers.{Answers};
-ghost use Rattle.sim_top.specs.Serving.{AreServed};
+ghost use Rattle.sim_top.specs.Answers.{Answers, AreServed};
 
 /// A command line has at most one status over the texts that are held, and at most one answer: of a run one where a net serves the
 /// circuit.

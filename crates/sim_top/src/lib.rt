@@ -5,10 +5,8 @@
 #![tactic(auto)]
 
 pub mod example;
-mod fault;
 mod judge;
 pub mod laws;
-mod split;
 mod texts;
 mod top;
 mod words;

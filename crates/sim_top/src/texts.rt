@@ -1,90 +1,75 @@
-//! The texts that the words name, and what is decided on them.
+//! The texts: how long they may be, their faults as a whole, and the two that a joined text holds.
 
-ghost use Rattle.std.specs.Prelude.{◌≡◌, ◌≢◌, ◌≤◌, ℕ, List, length, Option, Some, IfOk, Err};
-ghost use Rattle.sim_engine.specs.Stages.{circuit_limit};
-ghost use Rattle.shelf_io.specs.Outside.{Rose};
-ghost use Rattle.sim_top.specs.Questions.{Of_joined, Of_two, NeedsFor};
-ghost use Rattle.sim_top.specs.Serving.{SettlesTexts, SettlesAsked};
-ghost use Rattle.sim_top.specs.Decisions.{Gives, IsReady, status_of};
-
-use crate::fault::WholeFault;
-use crate::judge::{Decision, STIMULUS_LIMIT, judge, judge_texts, judge_under_long, refuse_whole};
-use crate::words::Command;
-use shelf_io::{Shelf, TakeFault, take_text};
-use sim_engine::CIRCUIT_LIMIT;
-use std::alloc::Global;
+ghost use Rattle.std.specs.Prelude.{◌≡◌, ℕ, List, ◌≤◌, length, drop, take, IfSome, IfNone, ◌≢◌, slice_get, Some};
+ghost use Rattle.sim_top.specs.Texts.{IsStimulusLine, IsSplit, HasNone, EndsFirst, whole_name};
 
 /// The greatest length of a joined text in bytes.
-const JOINED_LIMIT: usize = 5_242_880;
+pub const JOINED_LIMIT: usize = 5_242_880;
 
-/// What is to be done for a command on a joined text.
-pub fn decide_joined<H: Shelf>(
-    alloc: Global,
-    command: Command,
-    name: &str,
-    shelf: &mut H,
-) -> Result<Decision, TakeFault>
-    ensures settled { IfOk result (λ d. (texts : List ℕ → Option (List ℕ)) → H.held shelf.old ≡ Some texts → Gives (SettlesAsked texts (Of_joined command name.now)) d) }
-    ensures ready { IfOk result IsReady }
-    ensures usage { IfOk result (λ d. status_of d ≢ 1) }
-    ensures fault { result ≡ Err TakeFault.ReadFault → Rose (H.faults shelf.old name.now) (H.faults shelf.new name.now) }
-    ensures short { result ≢ Err TakeFault.TooLong }
-{
-    match take_text(alloc, shelf, name, JOINED_LIMIT) {
-        Ok(text) => Ok(judge(alloc, command, &text)?),
-        Err(TakeFault::TooLong) => {
-            let reply = refuse_whole(alloc, WholeFault::TooLong)?;
-            Ok(Decision::Say(reply))
+/// The greatest length of a stimulus's text in bytes.
+pub const STIMULUS_LIMIT: usize = 4_194_304;
+
+/// What is wrong with a circuit's or a stimulus's text as a whole.
+#[derive(Clone, Copy, Debug, PartialEq, Eq)]
+pub enum WholeFault {
+    /// The text has more bytes than its limit.
+    TooLong,
+    /// The joined text has no line `%stimulus`, and `run` needs one.
+    NoStimulus,
+}
+
+impl WholeFault {
+    /// The fault's name, as its line has it.
+    pub fn name(self) -> &'static str
+        ensures { result.now ≡ whole_name self }
+    {
+        match self {
+            WholeFault::TooLong => "TooLong",
+            WholeFault::NoStimulus => "NoStimulus",
         }
-        Err(fault) => Err(fault),
     }
 }
 
-/// What is to be done for a run of two texts. Both are read before one is judged, but where the circuit's is too long the other
-/// one isn't opened.
-pub fn decide_two<H: Shelf>(
-    alloc: Global,
-    circuit: &str,
-    stimulus: &str,
-    shelf: &mut H,
-) -> Result<Decision, TakeFault>
-    ensures settled { IfOk result (λ d. (texts : List ℕ → Option (List ℕ)) → H.held shelf.old ≡ Some texts → Gives (SettlesAsked texts (Of_two circuit.now stimulus.now)) d) }
-    ensures ready { IfOk result IsReady }
-    ensures usage { IfOk result (λ d. status_of d ≢ 1) }
-    ensures fault { result ≡ Err TakeFault.ReadFault → (name : List ℕ) × NeedsFor (H.held shelf.old) (Of_two circuit.now stimulus.now) name × Rose (H.faults shelf.old name) (H.faults shelf.new name) }
-    ensures short { result ≢ Err TakeFault.TooLong }
+/// The text before the first line that is exactly `%stimulus`, and the text behind that line.
+pub fn split(text: &[u8]) -> Option<(&[u8], &[u8])>
+    ensures some { IfSome result (λ r. IsSplit text.now r.0.now r.1.now) }
+    ensures none { IfNone result (HasNone text.now) }
 {
-    match take_text(alloc, shelf, circuit, CIRCUIT_LIMIT) {
-        Ok(text) => decide_under(alloc, &text, stimulus, shelf),
-        Err(TakeFault::TooLong) => {
-            let reply = refuse_whole(alloc, WholeFault::TooLong)?;
-            Ok(Decision::Say(reply))
+    let mut start = 0;
+    'lines: while start < text.len() {
+        let rest = &text[start..];
+        if let Some(length) = stimulus_line(rest) {
+            return Some((&text[..start], &rest[length..]));
         }
-        Err(fault) => Err(fault),
+        match first_line(rest) {
+            Some(length) => start += length,
+            None => return None,
+        }
+    }
+    None
+}
+
+/// How long the line `%stimulus` is, with its end, where the bytes begin with it.
+fn stimulus_line(bytes: &[u8]) -> Option<usize>
+    ensures some { IfSome result (λ n. (n ≤ length bytes.now) × IsStimulusLine bytes.now (drop n bytes.now)) }
+    ensures none { IfNone result ((after : List ℕ) → IsStimulusLine bytes.now after → ⊥) }
+{
+    if bytes.starts_with(b"%stimulus\n") {
+        Some(10)
+    } else if bytes.starts_with(b"%stimulus\r\n") {
+        Some(11)
+    } else if bytes == b"%stimulus".as_slice() {
+        Some(9)
+    } else {
+        None
     }
 }
 
-/// What is to be done for a run of a circuit's text, which is within its limit, under the stimulus of a name.
-fn decide_under<H: Shelf>(
-    alloc: Global,
-    circuit: &[u8],
-    stimulus: &str,
-    shelf: &mut H,
-) -> Result<Decision, TakeFault>
-    requires { length circuit.now ≤ circuit_limit }
-    ensures settled { IfOk result (λ d. (texts : List ℕ → Option (List ℕ)) → H.held shelf.old ≡ Some texts
-        → (given : List ℕ) × (texts stimulus.now ≡ Some given) × Gives (SettlesTexts Command.Run circuit.now given) d) }
-    ensures ready { IfOk result IsReady }
-    ensures usage { IfOk result (λ d. status_of d ≢ 1) }
-    ensures fault { result ≡ Err TakeFault.ReadFault → Rose (H.faults shelf.old stimulus.now) (H.faults shelf.new stimulus.now) }
-    ensures short { result ≢ Err TakeFault.TooLong }
+/// How long the first line is, with its line feed.
+fn first_line(bytes: &[u8]) -> Option<usize>
+    ensures some { IfSome result (λ n. EndsFirst bytes.now n) }
+    ensures none { IfNone result ((k : ℕ) → slice_get bytes.now k ≢ Some 10) }
 {
-    match take_text(alloc, shelf, stimulus, STIMULUS_LIMIT) {
-        Ok(given) => Ok(judge_texts(alloc, Command::Run, circuit, &given)?),
-        Err(TakeFault::TooLong) => {
-            let reply = judge_under_long(alloc, circuit)?;
-            Ok(Decision::Say(reply))
-        }
-        Err(fault) => Err(fault),
-    }
+    let feed = bytes.iter().position(|byte| *byte == b'\n')?;
+    Some(feed + 1)
 }

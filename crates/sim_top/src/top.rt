@@ -1,23 +1,27 @@
 //! The top call.
 
-ghost use Rattle.std.specs.Prelude.{◌≡◌, ◌≢◌, ℕ, ◌≤◌, ◌⊎◌, ◌++◌, List, Option, Some, None, map, string_bytes, IfOk, IfErr, Err, codes};
+ghost use Rattle.std.specs.Prelude.{◌≡◌, ◌≢◌, ℕ, ◌≤◌, ◌⊎◌, ◌++◌, List, length, Option, Some, None, map, string_bytes, IfOk, IfErr, Err, codes};
 ghost use Rattle.shelf_io.specs.Outside.{Rose};
 ghost use Rattle.fir_meaning.specs.Components.{design_of};
 ghost use Rattle.circuit_run.specs.Traces.{IsTraceText};
-ghost use Rattle.sim_top.specs.Questions.{asked_by, Needs};
-ghost use Rattle.sim_top.specs.Answers.{Answers};
-ghost use Rattle.sim_top.specs.Endings.{Ends, IsSaid, IsRun, IsFaultLine};
-ghost use Rattle.sim_top.specs.Serving.{IsSettled};
-ghost use Rattle.sim_top.specs.Decisions.{Gives, IsReady, IsRunnable, status_of};
+ghost use Rattle.circuit_make.specs.Rings.{InRange, ring_text};
+ghost use Rattle.trace_summary.specs.Summaries.{IsSummary};
+ghost use Rattle.sim_engine.specs.Stages.{circuit_limit};
+ghost use Rattle.sim_top.specs.Commands.{AreWorkers, Of_joined, Of_two, Of_made, asked_by, NeedsFor, Needs};
+ghost use Rattle.sim_top.specs.Texts.{joined_limit};
+ghost use Rattle.sim_top.specs.Answers.{Answers, SettlesTexts, SettlesAsked, IsSettled};
+ghost use Rattle.sim_top.specs.Endings.{Ends, IsSaid, IsRun, IsFaultLine, IsReply, Gives, IsReady, IsRunnable, status_of};
 
-use crate::judge::{Decision, Reply};
-use crate::texts::{decide_joined, decide_two};
-use crate::words::{Asked, read_question};
+use crate::judge::{Decision, Reply, judge, judge_texts, judge_under_long, refuse_whole};
+use crate::texts::{JOINED_LIMIT, STIMULUS_LIMIT, WholeFault};
+use crate::words::{Asked, Command, read_question};
+use circuit_make::{MakeFault, make_joined};
 use circuit_run::{RunFault, simulate};
-use shelf_io::{Shelf, Sink, TakeFault, put_all};
-use sim_engine::Built;
+use shelf_io::{Shelf, Sink, TakeFault, put_all, take_text};
+use sim_engine::{Built, CIRCUIT_LIMIT};
 use std::alloc::{AllocError, Global};
 use stimulus::Stimulus;
+use trace_summary::summarize;
 
 /// Reads the texts that the words name from the shelf, writes the answer to the sink, and gives the status: 0 where the
 /// texts are accepted, 1 where the words are no command, 2 where the circuit has a fault, 3 where the stimulus has one,
@@ -80,6 +84,125 @@ fn decide<H: Shelf>(alloc: Global, words: &[String], shelf: &mut H) -> Result<De
     match asked {
         Asked::Joined(command, name) => decide_joined(alloc, command, name, shelf),
         Asked::Two(circuit, stimulus) => decide_two(alloc, circuit, stimulus, shelf),
+        Asked::Made { cycles, size } => {
+            let reply = decide_made(alloc, cycles, size)?;
+            Ok(Decision::Say(reply))
+        }
+    }
+}
+
+/// What is to be done for a command on a joined text.
+fn decide_joined<H: Shelf>(
+    alloc: Global,
+    command: Command,
+    name: &str,
+    shelf: &mut H,
+) -> Result<Decision, TakeFault>
+    requires { AreWorkers command }
+    ensures settled { IfOk result (λ d. (texts : List ℕ → Option (List ℕ)) → H.held shelf.old ≡ Some texts → Gives (SettlesAsked texts (Of_joined command name.now)) d) }
+    ensures ready { IfOk result IsReady }
+    ensures usage { IfOk result (λ d. status_of d ≢ 1) }
+    ensures fault { result ≡ Err TakeFault.ReadFault → Rose (H.faults shelf.old name.now) (H.faults shelf.new name.now) }
+    ensures short { result ≢ Err TakeFault.TooLong }
+{
+    match take_text(alloc, shelf, name, JOINED_LIMIT) {
+        Ok(text) => Ok(judge(alloc, command, &text)?),
+        Err(TakeFault::TooLong) => {
+            let reply = refuse_whole(alloc, WholeFault::TooLong)?;
+            Ok(Decision::Say(reply))
+        }
+        Err(fault) => Err(fault),
+    }
+}
+
+/// What is to be done for a run of two texts. Both are read before one is judged, but where the circuit's is too long the other
+/// one isn't opened.
+fn decide_two<H: Shelf>(
+    alloc: Global,
+    circuit: &str,
+    stimulus: &str,
+    shelf: &mut H,
+) -> Result<Decision, TakeFault>
+    ensures settled { IfOk result (λ d. (texts : List ℕ → Option (List ℕ)) → H.held shelf.old ≡ Some texts → Gives (SettlesAsked texts (Of_two circuit.now stimulus.now)) d) }
+    ensures ready { IfOk result IsReady }
+    ensures usage { IfOk result (λ d. status_of d ≢ 1) }
+    ensures fault { result ≡ Err TakeFault.ReadFault → (name : List ℕ) × NeedsFor (H.held shelf.old) (Of_two circuit.now stimulus.now) name × Rose (H.faults shelf.old name) (H.faults shelf.new name) }
+    ensures short { result ≢ Err TakeFault.TooLong }
+{
+    match take_text(alloc, shelf, circuit, CIRCUIT_LIMIT) {
+        Ok(text) => decide_under(alloc, &text, stimulus, shelf),
+        Err(TakeFault::TooLong) => {
+            let reply = refuse_whole(alloc, WholeFault::TooLong)?;
+            Ok(Decision::Say(reply))
+        }
+        Err(fault) => Err(fault),
+    }
+}
+
+/// What is to be done for a run of a circuit's text, which is within its limit, under the stimulus of a name.
+fn decide_under<H: Shelf>(
+    alloc: Global,
+    circuit: &[u8],
+    stimulus: &str,
+    shelf: &mut H,
+) -> Result<Decision, TakeFault>
+    requires { length circuit.now ≤ circuit_limit }
+    ensures settled { IfOk result (λ d. (texts : List ℕ → Option (List ℕ)) → H.held shelf.old ≡ Some texts
+        → (given : List ℕ) × (texts stimulus.now ≡ Some given) × Gives (SettlesTexts Command.Run circuit.now given) d) }
+    ensures ready { IfOk result IsReady }
+    ensures usage { IfOk result (λ d. status_of d ≢ 1) }
+    ensures fault { result ≡ Err TakeFault.ReadFault → Rose (H.faults shelf.old stimulus.now) (H.faults shelf.new stimulus.now) }
+    ensures short { result ≢ Err TakeFault.TooLong }
+{
+    match take_text(alloc, shelf, stimulus, STIMULUS_LIMIT) {
+        Ok(given) => Ok(judge_texts(alloc, Command::Run, circuit, &given)?),
+        Err(TakeFault::TooLong) => {
+            let reply = judge_under_long(alloc, circuit)?;
+            Ok(Decision::Say(reply))
+        }
+        Err(fault) => Err(fault),
+    }
+}
+
+/// What `make` answers: the summary of the trace where the circuit that is made is run, else its first fault.
+fn decide_made(alloc: Global, cycles: u32, size: u32) -> Result<Reply, AllocError>
+    requires cycles { InRange cycles }
+    requires size { InRange size }
+    ensures settled { IfOk result (λ r. (texts : List ℕ → Option (List ℕ)) → SettlesAsked texts (Of_made cycles size) r.status r.bytes.items) }
+    ensures ready { IfOk result (λ r. IsReply r.status r.bytes.items) }
+    ensures usage { IfOk result (λ r. r.status ≢ 1) }
+{
+    let text = make_text(alloc, cycles, size)?;
+    let decision = judge(alloc, Command::Run, &text)?;
+    match decision {
+        Decision::Say(reply) => Ok(reply),
+        Decision::Run(built, stimulus) => Ok(sum_up(alloc, &built, &stimulus)?),
+    }
+}
+
+/// The summary of a run's trace, which isn't written.
+fn sum_up(alloc: Global, built: &Built, stimulus: &Stimulus) -> Result<Reply, AllocError>
+    requires { IsRunnable built.now stimulus.now }
+    ensures status { IfOk result (λ r. r.status ≡ 0) }
+    ensures summary { IfOk result (λ r. (trace : List ℕ) × IsTraceText built.now.fitted.checked.circuit.names (design_of built.now.fitted) stimulus.now trace × IsSummary trace r.bytes.items) }
+{
+    Ok(Reply {
+        status: 0,
+        bytes: summarize(alloc, &built.ordered, &built.ports, stimulus)?,
+    })
+}
+
+/// The joined text of the circuit of a size and of a stimulus of so many cycles.
+fn make_text(alloc: Global, cycles: u32, size: u32) -> Result<Vec<u8>, AllocError>
+    requires cycles { InRange cycles }
+    requires size { InRange size }
+    ensures text { IfOk result (λ text. text.items ≡ ring_text size cycles) }
+    ensures short { IfOk result (λ text. length text.items ≤ joined_limit) }
+{
+    match make_joined(alloc, size, cycles) {
+        Ok(text) => Ok(text),
+        Err(MakeFault::Range) => unreachable!(),
+        Err(MakeFault::NoMemory) => Err(AllocError),
     }
 }
 

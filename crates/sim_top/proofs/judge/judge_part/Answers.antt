@@ -1,5 +1,5 @@
 use Rattle.std.proofs.Common.{arith}
-use Rattle.sim_top.proofs.Judging.{gives_part, long_part}
+use Rattle.sim_top.proofs.Judging.{gives_part, long_part, no_trace}
 use Rattle.sim_top.proofs.judge.judge_part.Goals as goal
 
 pub returns-then-circuit-gt-CIRCUIT_LIMIT-clause-settles : goal.returns-then-circuit-gt-CIRCUIT_LIMIT-clause-settles
@@ -9,3 +9,6 @@ returns-then-circuit-gt-CIRCUIT_LIMIT-clause-settles c = λ joined within part.
 pub returns-clause-settles : goal.returns-clause-settles
 returns-clause-settles c = λ joined within part.
     gives_part c.args.command joined c.args.circuit.now c.args.stimulus.now _ within part (omega (arith, c.if-circuit-gt-CIRCUIT_LIMIT.false)) c.in_ok-judge_texts.ensures.settles
+
+pub returns-then-circuit-gt-CIRCUIT_LIMIT-clause-fits : goal.returns-then-circuit-gt-CIRCUIT_LIMIT-clause-fits
+returns-then-circuit-gt-CIRCUIT_LIMIT-clause-fits c = no_trace c.args.command _ 2 (omega arith) c.in_ok-reply.ensures.0

@@ -1,5 +1,5 @@
 use Rattle.place_text.specs.Places.{first_place}
-use Rattle.sim_top.specs.declared.fault.WholeFault.TheVariants.{TooLong}
+use Rattle.sim_top.specs.declared.texts.WholeFault.TheVariants.{TooLong}
 use Rattle.sim_top.specs.declared.words.Command.TheVariants.{Run}
 use Rattle.sim_top.specs.Endings.{of_circuit, of_whole_stimulus}
 use Rattle.sim_top.proofs.Judging.{ran_long, refused_from}

@@ -1,5 +1,6 @@
 use Rattle.std.proofs.Common.{◌≡◌, length, arith}
-use Rattle.sim_top.proofs.Judging.{ran_long, ran_refused, ran_traced}
+use Rattle.sim_top.specs.declared.words.Command.TheVariants.{Run}
+use Rattle.sim_top.proofs.Judging.{no_trace, ran_long, ran_refused, ran_traced}
 use Rattle.sim_top.proofs.judge.run.Goals as goal
 
 pub returns-then-stimulus-gt-STIMULUS_LIMIT-clause-settles : goal.returns-then-stimulus-gt-STIMULUS_LIMIT-clause-settles
@@ -16,3 +17,9 @@ returns-in_ok-reply-in-Err-clause-settles c = λ text b.
     let counted : c.in-Ok-try_from.watched ≡ length c.args.built.ports.watched = omega (arith, c.in-Ok-try_from.ensures, c.len-2.ensures) in
     let told = c.in_ok-reply-in-Err.ensures in
     ran_refused text _ c.args.built _ _ told.1.0 _ _ b (omega (arith, c.if-stimulus-gt-STIMULUS_LIMIT.false)) counted c.in-Err.ensures.verdict told.1.1 told.0 told.1.2
+
+pub returns-then-stimulus-gt-STIMULUS_LIMIT-clause-fits : goal.returns-then-stimulus-gt-STIMULUS_LIMIT-clause-fits
+returns-then-stimulus-gt-STIMULUS_LIMIT-clause-fits c = no_trace Run _ 3 (omega arith) c.in_ok-reply.ensures.0
+
+pub returns-in_ok-reply-in-Err-clause-fits : goal.returns-in_ok-reply-in-Err-clause-fits
+returns-in_ok-reply-in-Err-clause-fits c = no_trace Run _ 3 (omega arith) c.in_ok-reply-in-Err.ensures.0

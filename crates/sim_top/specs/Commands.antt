@@ -1,34 +1,38 @@
 -- What a command line asks for.
-use Rattle.std.specs.Prelude.{◌≡◌, ℕ, ◌≤◌, List, length, Option, Some, None}
+use Rattle.std.specs.Prelude.{◌≡◌, ⊤, ℕ, ◌≤◌, List, length, Option, Some, None}
+use Rattle.circuit_make.specs.Rings.{InRange}
 use Rattle.command_words.specs.Commands.{Request, Run as Run_asked, Check as Check_asked, Widths as Widths_asked, Cut as Cut_asked, Make as Make_asked, command_of}
 use Rattle.sim_engine.specs.Stages.{circuit_limit}
 use Rattle.sim_top.specs.declared.words.Command.{Command}
-use Rattle.sim_top.specs.declared.words.Command.TheVariants.{Run, Check, Widths}
+use Rattle.sim_top.specs.declared.words.Command.TheVariants.{Run, Check, Widths, Cut}
+use Rattle.sim_top.specs.declared.words.Asked.{Asked}
+use Rattle.sim_top.specs.declared.words.Asked.TheVariants as asked
 
--- A command on a joined text of a name, or a run of two texts.
+-- A command on a joined text of a name, a run of two texts, or a run of so many cycles of the circuit that is made for a size.
 pub data Question : Type 0 where
   Of_joined : (command : Command) (name : List ℕ) → Question
   Of_two : (circuit stimulus : List ℕ) → Question
+  Of_made : (cycles size : ℕ) → Question
 
 -- A run of a name alone is one of a joined text.
-abbrev pub run_question : List ℕ → Option (List ℕ) → Option Question
-run_question circuit None = Some (Of_joined Run circuit)
-run_question circuit (Some stimulus) = Some (Of_two circuit stimulus)
+abbrev pub run_question : List ℕ → Option (List ℕ) → Question
+run_question circuit None = Of_joined Run circuit
+run_question circuit (Some stimulus) = Of_two circuit stimulus
 
--- The question of a request. `cut` and `make` are no commands yet.
+-- The question of a request. The number of workers changes a cut alone.
 abbrev pub question_of : Option Request → Option Question
-question_of (Some (Run_asked workers circuit stimulus)) = run_question circuit stimulus
+question_of (Some (Run_asked workers circuit stimulus)) = Some (run_question circuit stimulus)
 question_of (Some (Check_asked circuit)) = Some (Of_joined Check circuit)
 question_of (Some (Widths_asked circuit)) = Some (Of_joined Widths circuit)
-question_of (Some (Cut_asked workers circuit)) = None
-question_of (Some (Make_asked workers cycles size)) = None
+question_of (Some (Cut_asked workers circuit)) = Some (Of_joined (Cut workers) circuit)
+question_of (Some (Make_asked workers cycles size)) = Some (Of_made cycles size)
 question_of None = None
 
 abbrev pub asked_by : List (List ℕ) → Option Question
 asked_by words = question_of (command_of words)
 
 -- The texts that the answer to a question needs, where these texts are held, or it isn't told what is held: all that it names. The stimulus isn't
--- needed where the circuit's text is told and too long.
+-- needed where the circuit's text is told and too long. A circuit that is made needs none.
 pub data NeedsFor (held : Option (List ℕ → Option (List ℕ))) : Question → List ℕ → Type 0 where
   the_joined : (command : Command) (name : List ℕ) → NeedsFor held (Of_joined command name) name
   the_circuit : (circuit stimulus : List ℕ) → NeedsFor held (Of_two circuit stimulus) circuit
@@ -41,3 +45,21 @@ pub record Needs (words : List (List ℕ)) (held : Option (List ℕ → Option (
   pub question : Question
   pub asked : asked_by words ≡ Some question
   pub needs : NeedsFor held question name
+
+-- the numbers of a command and of a question lie in their ranges
+abbrev pub AreWorkers : Command → Type 0
+AreWorkers (Cut workers) = (1 ≤ workers) × (workers ≤ 64)
+AreWorkers Run = ⊤
+AreWorkers Check = ⊤
+AreWorkers Widths = ⊤
+
+abbrev pub IsInRange : Question → Type 0
+IsInRange (Of_joined command name) = AreWorkers command
+IsInRange (Of_two circuit stimulus) = ⊤
+IsInRange (Of_made cycles size) = InRange cycles × InRange size
+
+-- what is asked, as the definition sees it
+abbrev pub question : Asked → Question
+question (asked.Joined command name) = Of_joined command name.now
+question (asked.Two circuit stimulus) = Of_two circuit.now stimulus.now
+question (asked.Made cycles size) = Of_made cycles size

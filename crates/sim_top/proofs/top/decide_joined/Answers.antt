@@ -1,14 +1,14 @@
 use Rattle.std.proofs.Common.{ap, Err}
-use Rattle.sim_top.specs.declared.fault.WholeFault.TheVariants.{TooLong}
+use Rattle.sim_top.specs.declared.texts.WholeFault.TheVariants.{TooLong}
 use Rattle.sim_top.proofs.Replying.{ready_decision, no_usage, whole_ready, settled_name, settled_long}
-use Rattle.sim_top.proofs.texts.decide_joined.Goals as goal
+use Rattle.sim_top.proofs.top.decide_joined.Goals as goal
 
 pub returns-in_ok-judge-in-Ok-clause-settled : goal.returns-in_ok-judge-in-Ok-clause-settled
 returns-in_ok-judge-in-Ok-clause-settled g c = λ texts held.
     settled_name texts c.args.command _ c.in-Ok.text.items _ (c.in-Ok.ensures.text texts held) (rw c.deref.ensures.value at c.in_ok-judge-in-Ok.ensures.settles)
 
 pub returns-in_ok-judge-in-Ok-clause-ready : goal.returns-in_ok-judge-in-Ok-clause-ready
-returns-in_ok-judge-in-Ok-clause-ready g c = ready_decision _ _ _ c.in_ok-judge-in-Ok.ensures.settles c.in_ok-judge-in-Ok.ensures.runs
+returns-in_ok-judge-in-Ok-clause-ready g c = ready_decision _ _ _ c.in_ok-judge-in-Ok.ensures.settles c.in_ok-judge-in-Ok.ensures.fits
 
 pub returns-in_ok-judge-in-Ok-clause-usage : goal.returns-in_ok-judge-in-Ok-clause-usage
 returns-in_ok-judge-in-Ok-clause-usage g c = no_usage _ _ _ c.in_ok-judge-in-Ok.ensures.settles

@@ -1,11 +1,11 @@
 use Rattle.std.proofs.Common.{◌≤◌, length, ap, Err, List, ℕ, subst, sym, ◌∙◌}
 use Rattle.std.proofs.lemmas.Result.{IfOk-weaker}
 use Rattle.sim_engine.specs.Stages.{circuit_limit}
-use Rattle.sim_top.specs.Questions.{the_circuit, the_stimulus}
+use Rattle.sim_top.specs.Commands.{the_circuit, the_stimulus}
 use Rattle.sim_top.proofs.AnswersOnce.{some_same}
-use Rattle.sim_top.specs.declared.fault.WholeFault.TheVariants.{TooLong}
+use Rattle.sim_top.specs.declared.texts.WholeFault.TheVariants.{TooLong}
 use Rattle.sim_top.proofs.Replying.{whole_ready, settled_texts, settled_circuit, rose_behind, err_same}
-use Rattle.sim_top.proofs.texts.decide_two.Goals as goal
+use Rattle.sim_top.proofs.top.decide_two.Goals as goal
 
 pub returns-in_ok-reply-in-Err-TooLong-clause-settled : goal.returns-in_ok-reply-in-Err-TooLong-clause-settled
 returns-in_ok-reply-in-Err-TooLong-clause-settled g c = λ texts held.

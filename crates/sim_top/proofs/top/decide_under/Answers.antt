@@ -1,13 +1,13 @@
 use Rattle.std.proofs.Common.{ap, Err, inr}
 use Rattle.sim_top.proofs.Replying.{ready_texts, no_usage_texts, line_usage}
-use Rattle.sim_top.proofs.texts.decide_under.Goals as goal
+use Rattle.sim_top.proofs.top.decide_under.Goals as goal
 
 pub returns-in_ok-judge_texts-in-Ok-clause-settled : goal.returns-in_ok-judge_texts-in-Ok-clause-settled
 returns-in_ok-judge_texts-in-Ok-clause-settled g c = λ texts held.
     (c.in-Ok.given.items, c.in-Ok.ensures.text texts held, rw c.deref.ensures.value at c.in_ok-judge_texts-in-Ok.ensures.settles)
 
 pub returns-in_ok-judge_texts-in-Ok-clause-ready : goal.returns-in_ok-judge_texts-in-Ok-clause-ready
-returns-in_ok-judge_texts-in-Ok-clause-ready g c = ready_texts _ _ _ c.in_ok-judge_texts-in-Ok.ensures.settles c.in_ok-judge_texts-in-Ok.ensures.runs
+returns-in_ok-judge_texts-in-Ok-clause-ready g c = ready_texts _ _ _ c.in_ok-judge_texts-in-Ok.ensures.settles c.in_ok-judge_texts-in-Ok.ensures.fits
 
 pub returns-in_ok-judge_texts-in-Ok-clause-usage : goal.returns-in_ok-judge_texts-in-Ok-clause-usage
 returns-in_ok-judge_texts-in-Ok-clause-usage g c = no_usage_texts _ _ _ c.in_ok-judge_texts-in-Ok.ensures.settles

@@ -1,0 +1,73 @@
+-- The texts: how long they may be, their faults as a whole, and where the stimulus begins in a text that holds both.
+use Rattle.std.specs.Prelude.{◌≡◌, ◌≢◌, ℕ, ◌+◌, ◌-◌, ◌<◌, ◌≤◌, Bool, true, false, List, [], ◌++◌, length, take, drop, codes, slice_get, Some, ◌⊎◌}
+use Rattle.trace_summary.specs.Summaries.{BeginsLine}
+use Rattle.sim_engine.specs.Stages.{circuit_limit}
+use Rattle.sim_top.specs.declared.words.Command.{Command}
+use Rattle.sim_top.specs.declared.words.Command.TheVariants.{Run, Check, Widths, Cut}
+use Rattle.sim_top.specs.declared.texts.WholeFault.{WholeFault}
+use Rattle.sim_top.specs.declared.texts.WholeFault.TheVariants.{TooLong, NoStimulus}
+
+-- the greatest length of a joined text, and of a stimulus's text, in bytes
+abbrev pub joined_limit : ℕ
+joined_limit = 5242880
+
+abbrev pub stimulus_limit : ℕ
+stimulus_limit = 4194304
+
+-- the names of faults of a text as a whole
+abbrev pub whole_name : WholeFault → List ℕ
+whole_name TooLong = codes "TooLong"
+whole_name NoStimulus = codes "NoStimulus"
+
+-- The line `%stimulus`, by itself up to its end, and what stands behind it: a carriage return may stand before its line
+-- feed, and the text may end without one.
+abbrev pub IsStimulusLine : List ℕ → List ℕ → Type 0
+IsStimulusLine bytes after =
+    (bytes ≡ codes "%stimulus\n" ++ after) ⊎ (bytes ≡ codes "%stimulus\r\n" ++ after) ⊎ ((bytes ≡ codes "%stimulus") × (after ≡ []))
+
+-- the line `%stimulus` stands at the offset, with this behind it
+pub record StandsAt (text : List ℕ) (at : ℕ) (after : List ℕ) : Type 0 where
+  pub within : at ≤ length text
+  pub begins : BeginsLine text at
+  pub line : IsStimulusLine (drop at text) after
+
+-- no such line stands before the offset
+abbrev pub NoneBefore : List ℕ → ℕ → Type 0
+NoneBefore text limit = (at : ℕ) (after : List ℕ) → at < limit → StandsAt text at after → ⊥
+
+-- The text before the first line `%stimulus`, and the text behind it.
+pub record IsSplit (text before after : List ℕ) : Type 0 where
+  pub at : ℕ
+  pub stands : StandsAt text at after
+  pub first : NoneBefore text at
+  pub front : before ≡ take at text
+
+-- no such line stands in the text
+abbrev pub HasNone : List ℕ → Type 0
+HasNone text = (at : ℕ) (after : List ℕ) → StandsAt text at after → ⊥
+
+-- the first line feed is the last of these first bytes
+pub record EndsFirst (bytes : List ℕ) (n : ℕ) : Type 0 where
+  pub some : 0 < n
+  pub within : n ≤ length bytes
+  pub feed : slice_get bytes (n - 1) ≡ Some 10
+  pub none : (k : ℕ) → k + 1 < n → slice_get bytes k ≢ Some 10
+
+-- whether a command takes all of a text for the circuit's where it has no line `%stimulus`
+abbrev pub reads_all : Command → Bool
+reads_all Run = false
+reads_all Check = true
+reads_all Widths = true
+reads_all (Cut workers) = true
+
+-- The circuit's text and the stimulus's: what stands before the line `%stimulus`, and what stands behind it. For other commands than `run` all of
+-- a text without such a line is the circuit's, and the stimulus's is empty.
+pub data IsPart : Command → List ℕ → List ℕ → List ℕ → Type 0 where
+  before_line : (command : Command) (joined circuit stimulus : List ℕ) → IsSplit joined circuit stimulus → IsPart command joined circuit stimulus
+  all_of_it : (command : Command) (joined : List ℕ) → reads_all command ≡ true → HasNone joined → IsPart command joined joined []
+
+-- the circuit's text was taken: all is within its limit
+pub record IsTaken (command : Command) (joined circuit stimulus : List ℕ) : Type 0 where
+  pub within : length joined ≤ joined_limit
+  pub part : IsPart command joined circuit stimulus
+  pub short : length circuit ≤ circuit_limit
