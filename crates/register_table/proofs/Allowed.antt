@@ -1,5 +1,5 @@
 -- Each step of a seat keeps the rule.
-use Rattle.std.proofs.Common.{false, ◌≡◌, ◌≢◌, ℕ, zero, suc, ◌+◌, ◌-◌, ◌*◌, ◌/◌, ◌%◌, ◌^◌, ◌<◌, ◌≤◌, List, [], ◌∷◌, ◌++◌, map, length, get_or, set, sym, refl, ap, ◌∙◌, subst, ⊎_elim, arith, Option, Some, None, lt_of_not-le, mul-le-mul_left, add-one}
+use Rattle.std.proofs.Common.{false, ◌≡◌, ◌≢◌, ℕ, zero, suc, ◌+◌, ◌-◌, ◌*◌, ◌/◌, ◌%◌, ◌^◌, ◌<◌, ◌≤◌, List, [], ◌∷◌, ◌++◌, map, length, drop, get_or, set, sym, refl, ap, ◌∙◌, subst, ⊎_elim, arith, Option, Some, None, lt_of_not-le, mul-le-mul_left, add-one}
 use mathlib.Core.Option.{none, some, some-injective, some-ne-none}
 use mathlib.Core.List.{map-append}
 use native.Mathlib.Decide.{dec_le}
@@ -147,15 +147,21 @@ module _ (s : Script) (script : IsScript s) where
       only_knows zero h e = sym (ap (λ (y : Held). y.script) (some-injective (seated (view 0 s.workers 0 0 0) s) h e))
       only_knows (suc j) h e = absurd (some-ne-none h (sym e))
 
-  -- the words of a table that is closed by a seat that has all workers and has passed the last phase
-  pub closed-values : (words : List ℕ) (xs : List (Unit {0})) (id : ℕ) (h : Held) (v : View) (into : List ℕ) → h ≡ seated v s → v.passed ≡ 2 * s.cycles → Final (Seen Rule id h) words xs
-      → length into ≡ length s.first → ((i : ℕ) → i < length s.first → get_or into i 0 ≡ get_or words (i + 1) 0) → into ≡ values s s.cycles
-  closed-values words xs id h v into is last f long copied = let st = f.0 in let r = f.1.0 in
+  -- the data words of a table that is closed by a seat that has passed the last phase
+  pub closed-words : (words : List ℕ) (xs : List (Unit {0})) (id : ℕ) (h : Held) (v : View) → h ≡ seated v s → v.passed ≡ 2 * s.cycles → Final (Seen Rule id h) words xs → drop 1 words ≡ values s s.cycles
+  closed-words words xs id h v is last f = let st = f.0 in let r = f.1.0 in
       let t : PhaseState = record { barrier = r.barrier; words = r.data_words; views = map view_of st.views; closed = false } in
       let live : Live t.views id v = at_map view_of st.views id h f.1.1 ∙ ap (λ (y : Held). some y.view) is in
-      let end : r.data_words ≡ values s s.cycles = last_words s t id v script r.sound live last in
-      let behind : (i : ℕ) → get_or words (i + 1) 0 ≡ get_or (values s s.cycles) i 0 = λ i. ap (λ n. get_or words n 0) (add-one i) ∙ ap (λ l. get_or l (suc i) 0) (sym f.2 ∙ r.words_are) ∙ ap (λ l. get_or l i 0) end in
-      ext_get_or 0 into (values s s.cycles) (long ∙ sym (length-values s s.cycles)) (λ i inside. copied i (omega (arith, long, inside)) ∙ behind i)
+      ap (λ (l : List ℕ). drop 1 l) (sym f.2 ∙ r.words_are) ∙ last_words s t id v script r.sound live last
+
+  -- they are what was copied from behind the barrier
+  pub closed-values : (words into : List ℕ) → drop 1 words ≡ values s s.cycles → length into ≡ length s.first → ((i : ℕ) → i < length s.first → get_or into i 0 ≡ get_or words (i + 1) 0) → into ≡ values s s.cycles
+  closed-values words into end long copied = ext_get_or 0 into (values s s.cycles) (long ∙ sym (length-values s s.cycles))
+      (λ i inside. copied i (omega (arith, long, inside)) ∙ behind words i ∙ ap (λ l. get_or l i 0) end)
+    where
+      behind : (l : List ℕ) (i : ℕ) → get_or l (i + 1) 0 ≡ get_or (drop 1 l) i 0
+      behind [] i = refl
+      behind (x ∷ xs) i = ap (λ n. get_or (x ∷ xs) n 0) (add-one i)
 
 pub there : (l : List ℕ) (i a : ℕ) → get_elem? l i ≡ some a → a ≡ get_or l i 0
 there l i a e = sym (at-get_or l i a 0 e)

@@ -1,5 +1,6 @@
 -- What clauses see of a table, a post and a closed table.
-use Rattle.std.specs.Prelude.{◌≡◌, ℕ}
+use Rattle.std.specs.Prelude.{◌≡◌, ℕ, List, drop}
+use Rattle.std.specs.Mem.Slots.{slots_items}
 use Rattle.phase_core.specs.declared.model.Script.{Script}
 use Rattle.phase_core.specs.Sound.{view}
 use Rattle.register_table.specs.declared.plan.Plan.{Ghosts}
@@ -11,6 +12,10 @@ module _ {N : Type 0} {p : Ghosts N} where
   -- the post is one of this table
   abbrev pub ComesFrom : Post N p → RegisterTable N p → Type 0
   ComesFrom post table = post.seat.table_id ≡ table.table.shared.table_id
+
+  -- both posts are of one table
+  abbrev pub SameTable : Post N p → Post N p → Type 0
+  SameTable post other = post.seat.table_id ≡ other.seat.table_id
 
   -- the post is one of this table, for the workers from low to high, with these counts
   pub record Stands (table : RegisterTable N p) (post : Post N p) (low high arrivals passed done : ℕ) : Type 0 where
@@ -24,3 +29,7 @@ module _ {N : Type 0} {p : Ghosts N} where
 -- the script of the table that was closed
 abbrev pub closed_script : Closed → Script
 closed_script c = c.last.value.me.0.script
+
+-- its data words when it was closed
+abbrev pub closed_words : Closed → List ℕ
+closed_words c = drop 1 (slots_items c.end.value.words)

@@ -7,7 +7,7 @@ ghost use Rattle.std.specs.Mem.Slots.{slots_items, slots_len, IsFull};
 ghost use Rattle.phase_core.specs.Script.{values, publications, IsScript};
 ghost use Rattle.phase_core.specs.Sound.{part_of};
 ghost use Rattle.phase_core.specs.Steps.{left_part, right_part, after_pass, after_arrival, after_publication, both};
-ghost use Rattle.register_table.specs.Shown.{ComesFrom, word_count, closed_script};
+ghost use Rattle.register_table.specs.Shown.{ComesFrom, word_count, closed_script, closed_words};
 ghost use Rattle.register_table.specs.Rule.{seated, begin_view};
 
 use crate::plan::Plan;
@@ -252,6 +252,7 @@ impl<N: Plan> RegisterTable<N> {
         requires room { length into.old ≡ word_count self }
         ensures words { into.new ≡ values N.script N.script.cycles }
         ensures script { closed_script result ≡ N.script }
+        ensures closed { closed_words result ≡ into.new }
     {
         let RegisterTable { table, size: _ } = self;
         let Post {
@@ -261,8 +262,9 @@ impl<N: Plan> RegisterTable<N> {
         } = post;
         let last = Snapshot::of(&seat);
         let closed = table.close_with(seat);
+        let end = Snapshot::of(&closed);
         copy_words(&closed, into);
         closed.free();
-        Closed { last }
+        Closed { last, end }
     }
 }

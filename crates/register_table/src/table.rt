@@ -1,7 +1,8 @@
 //! The table and the posts.
 
-ghost use Rattle.std.specs.Prelude.{◌≡◌, ◌+◌, ◌≤◌, [], length};
-ghost use Rattle.phase_core.specs.Script.{IsScript};
+ghost use Rattle.std.specs.Prelude.{◌≡◌, ◌+◌, ◌≤◌, [], drop, length};
+ghost use Rattle.std.specs.Mem.Slots.{slots_items};
+ghost use Rattle.phase_core.specs.Script.{IsScript, values};
 ghost use Rattle.register_table.specs.Rule.{seated};
 
 use crate::plan::Plan;
@@ -45,8 +46,14 @@ pub struct Post<N: Plan> {
     ghost fresh: { view.arrivals ≡ 0 → view.done ≡ 0 },
 }
 
-/// A table that was closed behind its last cycle. `RegisterTable::finish` alone makes one.
+/// A table that was closed behind its last cycle. `RegisterTable::finish` alone makes one: it takes what the table's close
+/// gave, whose data words are those behind the last cycle of the script.
 #[derive(Drop)]
 pub struct Closed {
     pub(crate) last: Snapshot<Seat<(), Held>>,
+    pub(crate) end: Snapshot<Ended>,
+    ghost words_are: { drop 1 (slots_items end.value.words) ≡ values last.value.me.0.script last.value.me.0.script.cycles },
 }
+
+/// What the close of a table gives. Nothing else makes one.
+pub(crate) type Ended = atomic_table::Closed<(), Global>;

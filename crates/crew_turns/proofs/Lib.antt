@@ -1,0 +1,4 @@
+pub mod Asked
+pub mod Lists
+pub mod Scripts
+pub mod Rows
