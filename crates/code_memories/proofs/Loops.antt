@@ -1,5 +1,5 @@
 -- Captured reads, leaf by leaf and port by port.
-use Rattle.std.proofs.Common.{◌≡◌, ℕ, ◌+◌, ◌<◌, ◌≤◌, Bool, true, false, List, [], ◌∷◌, ◌++◌, map, flat_map, take, length, slice_get, Option, Some, None, refl, sym, subst, ap, ap₂, ◌∙◌, arith, if◌then◌else◌}
+use Rattle.std.proofs.Common.{◌≡◌, ℕ, ◌+◌, ◌<◌, ◌≤◌, true, false, List, [], ◌∷◌, ◌++◌, map, flat_map, take, length, slice_get, Some, None, sym, subst, ap, ◌∙◌, arith, if◌then◌else◌}
 use Rattle.std.proofs.lemmas.List.{take_all, take_more, append-nil}
 use Rattle.std.proofs.lemmas.Option.{slice_get-get_or}
 use Rattle.bit_words.specs.Values.{integer_of}
@@ -13,7 +13,7 @@ use Rattle.ground_net.specs.declared.net.NetRead.{NetRead}
 use Rattle.ground_net.specs.declared.net.ElementLeaf.{ElementLeaf}
 use Rattle.ground_net.specs.Grounds.{Sight, value}
 use Rattle.ground_net.specs.Cones.{numbered, A_memory}
-use Rattle.net_meaning.specs.Shapes.{Shape, shaped, shape, Table, HasShapes}
+use Rattle.net_meaning.specs.Shapes.{shaped, shape, Table, HasShapes}
 use Rattle.net_meaning.specs.Cycles.{NetState, Capture, captured_by, taken, next_of_memory, shown}
 use Rattle.net_meaning.specs.Nets.{IsNet, element_shape}
 use Rattle.flat_code.specs.declared.instr.Spot.{Spot}
@@ -22,7 +22,7 @@ use Rattle.code_draft.specs.declared.draft.Draft.{Draft}
 use Rattle.code_emit.specs.declared.sources.Sources.{Sources}
 use Rattle.code_emit.specs.Emits.{sources_table, leaf_source, Emits}
 use Rattle.code_publish.specs.Publishing.{Publishes}
-use Rattle.sink_effects.specs.Effects.{sinks_told, memory_told, writes_told, captures_told}
+use Rattle.sink_effects.specs.Effects.{sinks_told, memory_told, writes_told}
 use Rattle.code_registers.specs.Telling.{PublishesSinks}
 use Rattle.memory_grounds.specs.declared.leaf.MemoryLeaf.{MemoryLeaf}
 use Rattle.memory_grounds.specs.Captures.{HasCapture, ShowsHeld}

@@ -1,9 +1,7 @@
 -- The words of what a captured read shows next are published.
-use Rattle.std.proofs.Common.{◌≡◌, ◌==◌, ℕ, ◌+◌, ◌<◌, ◌≤◌, Bool, true, false, List, [], ◌∷◌, ◌++◌, map, flat_map, take, get_or, length, slice_get, Option, Some, None, option_map, ℤ, pos, unsigned_abs, nat_lt, refl, sym, subst, ap, ap₂, ◌∙◌, arith, if◌then◌else◌}
-use Rattle.std.specs.Prelude.{IsSome, Result, Ok, Err, OnOk}
-use Rattle.std.proofs.lemmas.Grind.{common_steps, flat_map-append}
-use Rattle.std.proofs.lemmas.List.{append-nil, map-append}
-use Rattle.bit_words.specs.declared.value.Value.{Value}
+use Rattle.std.proofs.Common.{◌≡◌, ◌==◌, ℕ, ◌+◌, ◌<◌, true, [], ◌∷◌, ◌++◌, map, flat_map, take, get_or, length, slice_get, Option, Some, None, option_map, pos, unsigned_abs, nat_lt, refl, sym, subst, ap, ap₂, ◌∙◌, arith, if◌then◌else◌}
+use Rattle.std.proofs.lemmas.Grind.{common_steps}
+use Rattle.std.proofs.lemmas.List.{map-append}
 use Rattle.bit_words.specs.declared.value.Kind.TheVariants.{Unsigned}
 use Rattle.bit_words.specs.Values.{integer_of}
 use Rattle.cycle_values.specs.Values.{fitted}
@@ -19,14 +17,13 @@ use Rattle.ground_net.specs.declared.net.ElementLeaf.{ElementLeaf}
 use Rattle.ground_net.specs.Grounds.{Sight, value}
 use Rattle.ground_net.specs.Cones.{numbered}
 use Rattle.net_meaning.specs.Shapes.{Shape, shaped, shape, shape_of_value, Table, HasShapes}
-use Rattle.net_meaning.specs.Cycles.{NetState, first_state, Capture, captures, captured_by, taken, next_of_memory, next_of_capture, shown}
-use Rattle.net_meaning.specs.Nets.{IsNet, table_of, leaf_shape, element_shape, shape_or_none}
+use Rattle.net_meaning.specs.Cycles.{NetState, first_state, Capture, captures, taken, next_of_memory, next_of_capture, shown}
+use Rattle.net_meaning.specs.Nets.{IsNet, leaf_shape, element_shape, shape_or_none}
 use Rattle.flat_code.specs.declared.instr.Spot.{Spot}
 use Rattle.flat_code.specs.Meaning.{stored, spot_shape}
 use Rattle.flat_code.specs.Fine.{further_words, spot_slots, InRegion}
 use Rattle.flat_code.proofs.Frames.{spot_more}
 use Rattle.code_draft.specs.declared.draft.Draft.{Draft}
-use Rattle.code_draft.specs.Drafts.{IsDraft, pushed_in}
 use Rattle.code_emit.specs.declared.sources.Source.{Source}
 use Rattle.code_emit.specs.declared.sources.Source.TheVariants as source
 use Rattle.code_emit.specs.declared.sources.Sources.{Sources}
@@ -34,11 +31,10 @@ use Rattle.code_emit.specs.Emits.{sources_table, leaf_source, kept_shape, Fits, 
 use Rattle.code_emit.proofs.Emitting.{sources_on, seen_shapes}
 use Rattle.code_publish.specs.Publishing.{Tells, Publishes}
 use Rattle.sink_effects.specs.Effects.{capture_shape}
-use Rattle.code_registers.specs.Telling.{ShowsState}
 use Rattle.memory_grounds.specs.declared.leaf.MemoryLeaf.{MemoryLeaf}
 use Rattle.memory_grounds.specs.Captures.{HasCapture, ShowsHeld}
 use Rattle.memory_sources.specs.Memories.{HasMemory, StandsCaptured, word_of, capture_of, capture_left}
-use Rattle.memory_sources.proofs.Numbered.{some_same, none_some, numbered_more, some_there, below_there}
+use Rattle.memory_sources.proofs.Numbered.{some_same, none_some, numbered_more, some_there}
 use Rattle.memory_sources.proofs.Ports.{has_capture}
 use Rattle.memory_sources.proofs.Captured.{capture_there}
 use Rattle.code_writes.specs.Writes.{PublishesLeft}

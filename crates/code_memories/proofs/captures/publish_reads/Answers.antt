@@ -1,5 +1,4 @@
 use Rattle.std.proofs.Common.{sym, arith}
-use Rattle.code_writes.proofs.Targets.{nothing_left_yet}
 use Rattle.code_memories.proofs.Published.{reads_at}
 use Rattle.code_memories.proofs.Loops.{same_count, capture_step, reads_done}
 use Rattle.code_memories.proofs.captures.publish_reads.Goals as goal
