@@ -1,0 +1,12 @@
+use Rattle.std.proofs.Common.{◌≡◌, Some, take, map, flat_map, slice_get}
+use Rattle.ground_net.specs.declared.net.NetMemory.{NetMemory}
+use Rattle.ground_net.specs.declared.net.NetPort.{NetPort}
+use Rattle.ground_net.specs.declared.net.NetRead.{NetRead}
+use Rattle.ground_net.specs.Cones.{numbered}
+use Rattle.memory_sources.specs.Memories.{capture_of, capture_left}
+use Rattle.code_writes.specs.Writes.{PublishesLeft}
+use Rattle.code_memories.proofs.captures.publish_reads.Given as goal
+
+abbrev pub invariant-loop-leaf : goal.invariant-loop-leaf
+invariant-loop-leaf l = (memory : NetMemory) (port : NetPort) (read : NetRead) → slice_get l.net.memories l.at.memory ≡ Some memory → slice_get memory.ports l.at.port ≡ Some port → port.read ≡ Some read
+    → PublishesLeft l.net l.sources (λ st sight. flat_map (capture_left l.net l.sources st sight l.at.memory) (map (capture_of l.at.memory memory port read) (take l.leaf (numbered read.leaves)))) l.fn.draft l.draft

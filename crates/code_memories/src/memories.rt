@@ -1,0 +1,30 @@
+//! Memories.
+
+ghost use Rattle.std.specs.Prelude.{◌≡◌, [], ◌∷◌, OnOk};
+ghost use Rattle.ground_net.specs.Cones.{A_memory};
+ghost use Rattle.net_meaning.specs.Nets.{IsNet};
+ghost use Rattle.memory_sources.specs.Memories.{HasMemory};
+ghost use Rattle.code_registers.specs.Telling.{PublishesSinks};
+
+use crate::captures::publish_captures;
+use code_draft::Draft;
+use code_emit::Sources;
+use code_writes::publish_writes;
+use ground_net::Net;
+use std::alloc::{AllocError, Global};
+
+/// Adds code that publishes what the memory of this number leaves: what its ports write, and then what its captured reads show next.
+pub fn publish_memory(
+    alloc: Global,
+    draft: &mut Draft,
+    sources: &Sources,
+    net: &Net,
+    number: u32,
+) -> Result<(), AllocError>
+    requires net { IsNet net.now }
+    requires memory { HasMemory net.now sources.now number }
+    ensures { OnOk result (PublishesSinks net.now sources.now (A_memory number ∷ []) draft.old draft.new) }
+{
+    publish_writes(alloc, draft, sources, net, number)?;
+    publish_captures(alloc, draft, sources, net, number)
+}

@@ -1,0 +1,44 @@
+use Rattle.std.proofs.Common.{◌≡◌, Some, All, slice_get, sym, subst, ◌∙◌, refl}
+use Rattle.std.specs.Prelude.{IsSome}
+use Rattle.ground_net.specs.declared.net.Net.{Net}
+use Rattle.ground_net.specs.declared.net.NetMemory.{NetMemory}
+use Rattle.ground_net.specs.declared.net.NetPort.{NetPort}
+use Rattle.ground_net.specs.declared.net.ElementLeaf.{ElementLeaf}
+use Rattle.ground_net.specs.declared.ground.Ground.TheVariants.{Leaf}
+use Rattle.net_meaning.specs.Shapes.{shape}
+use Rattle.code_emit.specs.Emits.{sources_table}
+use Rattle.code_writes.specs.declared.places.Target.{Target}
+use Rattle.net_meaning.specs.Cycles.{shown}
+use Rattle.net_meaning.specs.Nets.{element_shape}
+use Rattle.sink_effects.specs.Effects.{leaf_told}
+use Rattle.code_writes.specs.Writes.{PublishesLeft, TellsTarget}
+use Rattle.code_writes.proofs.Targets.{on_ok_so}
+use Rattle.code_writes.proofs.Loops.{leaf_done, address_here, source_here, conditions_here}
+use Rattle.code_writes.proofs.writes.publish_leaf.Goals as goal
+
+pub publish_target-requires-clause-address : goal.publish_target-requires-clause-address
+publish_target-requires-clause-address c = address_here c.args.net.now c.args.sources.now c.args.at.memory c.in-Some.memory.now (sym c.in-Some.ensures.value) c.args.at.port c.in-Some-get.port.now (sym c.in-Some-get.ensures.value) c.requires.net c.requires.memory c.args.at.leaf c.in-Some-write.write c.in-Some-get-2.mask.now c.in-Some-get-3.source.now c.in-Some-write.is (sym c.in-Some-get-2.ensures.value) (sym c.in-Some-get-3.ensures.value) c.requires.there
+
+pub publish_target-requires-clause-source : goal.publish_target-requires-clause-source
+publish_target-requires-clause-source c = source_here c.args.net.now c.args.sources.now c.args.at.memory c.in-Some.memory.now (sym c.in-Some.ensures.value) c.args.at.port c.in-Some-get.port.now (sym c.in-Some-get.ensures.value) c.requires.net c.requires.memory c.args.at.leaf c.in-Some-write.write c.in-Some-get-2.mask.now c.in-Some-get-3.source.now c.in-Some-write.is (sym c.in-Some-get-2.ensures.value) (sym c.in-Some-get-3.ensures.value) c.requires.there
+
+pub publish_target-requires-clause-conditions : goal.publish_target-requires-clause-conditions
+publish_target-requires-clause-conditions c =
+    subst (λ xs. All (λ x. IsSome (shape (Leaf x) (sources_table c.args.sources.now))) xs) (sym (c.as_slice.ensures ∙ c.in_ok-conditions.ensures)) (conditions_here c.args.net.now c.args.sources.now c.args.at.memory c.in-Some.memory.now (sym c.in-Some.ensures.value) c.args.at.port c.in-Some-get.port.now (sym c.in-Some-get.ensures.value) c.requires.net c.requires.memory c.args.at.leaf c.in-Some-write.write c.in-Some-get-2.mask.now c.in-Some-get-3.source.now c.in-Some-write.is (sym c.in-Some-get-2.ensures.value) (sym c.in-Some-get-3.ensures.value) c.requires.there)
+
+pub returns : goal.returns
+returns c =
+    let net = c.args.net.now in
+    let S = c.args.sources.now in
+    let m = c.args.at.memory in
+    let p = c.args.at.port in
+    let k = c.args.at.leaf in
+    let a = c.args.draft.now in
+    let b = c.publish_target.new.draft in
+    let target : Target = record { address = c.in-Some-get.port.now.addr; source = c.in-Some-get-3.source.now; region = c.region_of.result } in
+    let xs = c.as_slice.result.now in
+    on_ok_so ((n : Net) → TellsTarget n S target xs a b)
+    ((memory : NetMemory) (port : NetPort) (leaf : ElementLeaf) → slice_get net.memories m ≡ Some memory → slice_get memory.ports p ≡ Some port → slice_get memory.elements k ≡ Some leaf
+    → PublishesLeft net S (λ st sight. leaf_told net m memory (shown sight port) (k, element_shape leaf)) a b)
+    c.publish_target.result c.publish_target.ensures (λ told.
+    leaf_done c.args.net.now c.args.sources.now c.args.at.memory c.in-Some.memory.now (sym c.in-Some.ensures.value) c.args.at.port c.in-Some-get.port.now (sym c.in-Some-get.ensures.value) c.requires.net c.requires.memory c.args.at.leaf c.in-Some-write.write c.in-Some-get-2.mask.now c.in-Some-get-3.source.now c.in-Some-write.is (sym c.in-Some-get-2.ensures.value) (sym c.in-Some-get-3.ensures.value) target xs a b refl refl c.region_of.ensures (c.as_slice.ensures ∙ c.in_ok-conditions.ensures) (told net))

@@ -1,0 +1,37 @@
+use Rattle.std.proofs.Common.{length, sym, ap, ◌∙◌, arith}
+use Rattle.ground_net.specs.declared.net.NetMemory.{NetMemory}
+use Rattle.memory_sources.proofs.Numbered.{some_same}
+use Rattle.code_writes.proofs.Targets.{nothing_left_yet}
+use Rattle.code_writes.proofs.Written.{none_by, some_by, writes_at}
+use Rattle.code_writes.proofs.Loops.{leaf_step, port_done, idle_done}
+use Rattle.code_writes.proofs.writes.publish_port.Goals as goal
+
+pub returns-then-is_none : goal.returns-then-is_none
+returns-then-is_none c =
+    let memory = c.in-Some.memory.now in
+    let port = c.in-Some-get.port.now in
+    idle_done c.args.net.now c.args.sources.now c.args.at.memory memory (sym c.in-Some.ensures.value) c.args.at.port port (sym c.in-Some-get.ensures.value) c.args.draft.now
+    (none_by port.write c.is_none.result c.is_none.ensures c.if-is_none.true)
+
+pub publish_leaf-requires-clause-there : goal.publish_leaf-requires-clause-there
+publish_leaf-requires-clause-there c =
+    let memory = c.in-Some.memory.now in
+    let port = c.in-Some-get.port.now in
+    let write = some_by port.write c.is_none.result c.is_none.ensures c.if-is_none.false in
+    writes_at c.args.net.now c.args.sources.now c.args.at.memory c.requires.net c.requires.memory c.args.at.port c.loop-leaf.leaf memory port write.0 (sym c.in-Some.ensures.value) (sym c.in-Some-get.ensures.value) write.1
+    (omega (arith, c.loop-leaf-test.true))
+
+pub loop-leaf-init : goal.loop-leaf-init
+loop-leaf-init c = λ memory port there listed. nothing_left_yet c.args.net.now c.args.sources.now c.args.draft.now
+
+pub loop-leaf-preserved : goal.loop-leaf-preserved
+loop-leaf-preserved c = λ memory port there listed.
+    let same = ap (λ (y : NetMemory). length y.elements) (some_same (sym there ∙ sym c.in-Some.ensures.value)) in
+    leaf_step c.args.net.now c.args.sources.now c.args.at.memory memory there c.args.at.port port listed c.loop-leaf.leaf c.args.draft.now c.loop-leaf.draft c.publish_leaf.new.draft (omega (arith, c.loop-leaf-test.true, same))
+    (c.loop-leaf.invariant memory port there listed) c.in_ok-publish_leaf.ensures
+
+pub returns : goal.returns
+returns c = λ memory port there listed.
+    let same = ap (λ (y : NetMemory). length y.elements) (some_same (sym there ∙ sym c.in-Some.ensures.value)) in
+    port_done c.args.net.now c.args.sources.now c.args.at.memory memory there c.args.at.port port listed c.loop-leaf.leaf c.args.draft.now c.loop-leaf.draft (omega (arith, c.loop-leaf-test.false, same))
+    (c.loop-leaf.invariant memory port there listed) memory port there listed

@@ -1,0 +1,26 @@
+use Rattle.std.proofs.Common.{length, sym, ap, ◌∙◌, arith}
+use Rattle.ground_net.specs.declared.net.NetMemory.{NetMemory}
+use Rattle.memory_sources.proofs.Numbered.{some_there, some_same}
+use Rattle.code_writes.proofs.Targets.{nothing_left_yet}
+use Rattle.code_writes.proofs.Loops.{port_step, writes_done}
+use Rattle.code_writes.proofs.writes.publish_writes.Goals as goal
+
+pub loop-port-init : goal.loop-port-init
+loop-port-init c = λ memory there. nothing_left_yet c.args.net.now c.args.sources.now c.args.draft.now
+
+pub publish_port-requires-clause-there : goal.publish_port-requires-clause-there
+publish_port-requires-clause-there c =
+    let memory = c.in-Some.memory.now in
+    let port = some_there memory.ports c.loop-port.port (omega (arith, c.loop-port-test.true)) in
+    record { memory = memory; there = sym c.in-Some.ensures.value; port = port.0; listed = port.1 }
+
+pub loop-port-preserved : goal.loop-port-preserved
+loop-port-preserved c = λ memory there.
+    let same = ap (λ (y : NetMemory). length y.ports) (some_same (sym there ∙ sym c.in-Some.ensures.value)) in
+    port_step c.args.net.now c.args.sources.now c.args.number memory there c.loop-port.port c.args.draft.now c.loop-port.draft c.publish_port.new.draft (omega (arith, c.loop-port-test.true, same)) (c.loop-port.invariant memory there)
+    c.in_ok-publish_port.ensures
+
+pub returns : goal.returns
+returns c = λ memory there.
+    let same = ap (λ (y : NetMemory). length y.ports) (some_same (sym there ∙ sym c.in-Some.ensures.value)) in
+    writes_done c.args.net.now c.args.sources.now c.args.number memory there c.loop-port.port c.args.draft.now c.loop-port.draft (omega (arith, c.loop-port-test.false, same)) (c.loop-port.invariant memory there) memory there
