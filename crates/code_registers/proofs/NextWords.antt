@@ -1,5 +1,5 @@
 -- The words of a register's next integer are published.
-use Rattle.std.proofs.Common.{◌≡◌, ℕ, ◌+◌, ◌<◌, ◌≤◌, Bool, true, false, List, [], ◌∷◌, ◌++◌, map, flat_map, take, get_or, length, slice_get, Option, Some, None, ℤ, refl, sym, subst, ap, ap₂, ◌∙◌, arith}
+use Rattle.std.proofs.Common.{◌≡◌, ℕ, ◌+◌, ◌<◌, ◌≤◌, Bool, true, false, nat_lt, if◌then◌else◌, List, [], ◌∷◌, ◌++◌, map, flat_map, take, get_or, length, slice_get, Option, Some, None, ℤ, refl, sym, subst, ap, ap₂, ◌∙◌, arith}
 use Rattle.std.specs.Prelude.{Contains, IsSome, Result, Ok, Err, OnOk}
 use Rattle.std.proofs.lemmas.List.{append_assoc, append-nil, map-append, take_more}
 use Rattle.std.proofs.lemmas.Grind.{flat_map-append}
@@ -13,9 +13,10 @@ use Rattle.ground_net.specs.declared.ground.Ground.{Ground}
 use Rattle.ground_net.specs.declared.net.Net.{Net}
 use Rattle.ground_net.specs.declared.net.NetRegister.{NetRegister}
 use Rattle.ground_net.specs.Grounds.{Sight, value}
+use Rattle.ground_net.specs.Cones.{Sink, A_register}
 use Rattle.net_meaning.specs.Shapes.{Shape, shape, shape_of_value}
 use Rattle.net_meaning.specs.Cycles.{NetState, next, next_of_register}
-use Rattle.net_meaning.specs.Words.{register_word}
+use Rattle.net_meaning.specs.Words.{register_word, word_count}
 use Rattle.flat_code.specs.declared.instr.Spot.{Spot}
 use Rattle.flat_code.specs.Meaning.{stored, spot_shape}
 use Rattle.flat_code.specs.Fine.{further_words, spot_slots, InRegion}
@@ -28,7 +29,8 @@ use Rattle.code_emit.specs.declared.sources.Sources.{Sources}
 use Rattle.code_emit.specs.Emits.{sources_table, Fits, AreSources, Emits}
 use Rattle.code_emit.proofs.Emitting.{sources_on}
 use Rattle.code_publish.specs.Publishing.{Tells, Publishes}
-use Rattle.code_registers.specs.Telling.{register_shape, register_told, registers_told, PublishesNext}
+use Rattle.sink_effects.specs.Effects.{register_shape, register_told, sink_told, sinks_told, HasWord, of_register}
+use Rattle.code_registers.specs.Telling.{Left, TellsLeft, PublishesSinks}
 
 pub some_same : {A : Type 0} {x y : A} → Some x ≡ Some y → x ≡ y
 some_same e = cc
@@ -50,19 +52,29 @@ sources_told S a b word s t h = record {
   regions = λ m k e at. subst (λ n. InRegion n e.width e.region) (sym t.words) (h.regions m k e at);
 }
 
-contains_one : (x : ℕ) → Contains (x ∷ []) x
+pub contains_one : (x : Sink) → Contains (x ∷ []) x
 contains_one x = (0, omega arith, refl)
+
+-- the last word of a leaf is one of its words
+further_below : (s : Shape) (first : ℕ) → first + further_words s.width < first + word_count s
+further_below s first = by_test (nat_lt 64 s.width)
+  where
+    by_test : (b : Bool) → first + (if b then 1 else 0) < first + (if b then 2 else 1)
+    by_test true = omega arith
+    by_test false = omega arith
 
 -- one register
 pub one_register : (net : Net) (S : Sources) (n : ℕ) (register : NetRegister) (g : Ground) (old mid new : Draft) (s : Spot) (word : ℕ) → slice_get net.registers n ≡ Some register
     → shape g (sources_table S) ≡ Some (register_shape net register)
     → ((sight : Sight) (held : ℤ) → integer_of (sight.leaf register.leaf) ≡ held → integer_of (value g sight) ≡ next_of_register net sight (Some register) held)
-    → shape g (sources_table S) ≡ Some (spot_shape s) → Emits S g old mid s → Publishes mid new word s → word ≡ register_word net n → PublishesNext net S (n ∷ []) old new
+    → shape g (sources_table S) ≡ Some (spot_shape s) → Emits S g old mid s → Publishes mid new word s → word ≡ register_word net n → PublishesSinks net S (A_register n ∷ []) old new
 one_register net S n register g old mid new s word there shaped next_is at emits publishes is_word is srcs have =
     let m = emits is srcs in
     let same : spot_shape s ≡ register_shape net register = some_same (sym at ∙ shaped) in
     let widths : further_words s.width ≡ further_words (register_shape net register).width = ap (λ (t : Shape). further_words t.width) same in
-    let room = have n register (contains_one n) there in
+    let t0 = register_shape net register in
+    let last : register_word net n + further_words t0.width < register_word net n + word_count t0 = further_below t0 (register_word net n) in
+    let room = have (A_register n) (register_word net n + further_words t0.width) (contains_one (A_register n)) (of_register register there (omega arith, last)) in
     let kept = m.grows.words in
     let t = publishes m.grows.is m.stands (omega (arith, widths, room, is_word, kept)) in
     let first = m.grows.slots in
@@ -78,16 +90,17 @@ one_register net S n register g old mid new s word there shaped next_is at emits
           let v = value g sight in
           let h = m.holds words inputs F v (t.back words inputs F sol) (sight, sees, refl) in
           let shape_is : shape_of_value v ≡ register_shape net register = h.shape ∙ same in
-          let integer : integer_of v ≡ (next net st sight).registers n = next_is sight (st.registers n) (shows n register there) ∙ ap (λ o. next_of_register net sight o (st.registers n)) (sym there) in
+          let integer : integer_of v ≡ (next net st sight).registers n = next_is sight (st.registers n) (shows.registers n register there) ∙ ap (λ o. next_of_register net sight o (st.registers n)) (sym there) in
           let is_value : v ≡ fitted (register_shape net register).kind (register_shape net register).width ((next net st sight).registers n) = sym (refitted v)
           ∙ ap₂ (λ (u : Shape) i. fitted u.kind u.width i) shape_is integer in
           t.tells F v h ∙ (ap₂ (λ ps qs. ps ++ qs) (m.grows.quiet F) (ap₂ (λ w u. stored w u) is_word is_value ∙ sym (append-nil (stored (register_word net n) (fitted (register_shape net register).kind (register_shape net register).width ((next net st sight).registers n)))))
           ∙ ap (λ o. pushed_in old F ++ (register_told net st sight n o ++ [])) (sym there));
     }
 
--- none, and one more
-pub no_registers : (net : Net) (S : Sources) (d : Draft) → PublishesNext net S [] d d
-no_registers net S d is srcs have = record {
+-- none, and more sinks behind others
+
+pub none_told : (net : Net) (S : Sources) (d : Draft) → IsDraft d → AreSources S d → TellsLeft net S (λ st sight. []) d d
+none_told net S d is srcs = record {
   is = is;
   are = srcs;
   words = refl;
@@ -97,11 +110,8 @@ no_registers net S d is srcs have = record {
   tells = λ words inputs F sight st sol sees shows. sym (append-nil (pushed_in d F));
 }
 
-pub one_more_register : (net : Net) (S : Sources) (ns : List ℕ) (n : ℕ) (a b c : Draft) → PublishesNext net S ns a b → PublishesNext net S (n ∷ []) b c → PublishesNext net S (ns ++ n ∷ []) a c
-one_more_register net S ns n a b c first then_one is srcs have =
-    let f = first is srcs (λ k r there e. have k r (Contains-append_left ns (n ∷ []) k there) e) in
-    let kept = f.words in
-    let g = then_one f.is f.are (λ k r there e. let room = have k r (Contains-append_right ns (n ∷ []) k there) e in omega (arith, room, kept)) in
+pub told_then : (net : Net) (S : Sources) (V W : Left) (a b c : Draft) → TellsLeft net S V a b → TellsLeft net S W b c → TellsLeft net S (λ st sight. V st sight ++ W st sight) a c
+told_then net S V W a b c f g =
     let one = f.slots in
     let two = g.slots in
     record {
@@ -113,11 +123,34 @@ one_more_register net S ns n a b c first then_one is srcs have =
       back = λ words inputs F sol. f.back words inputs F (g.back words inputs F sol);
       tells = λ words inputs F sight st sol sees shows.
           g.tells words inputs F sight st sol sees shows
-          ∙ (ap (λ ps. ps ++ registers_told net st sight (n ∷ [])) (f.tells words inputs F sight st (g.back words inputs F sol) sees shows)
-          ∙ (append_assoc (pushed_in a F) (registers_told net st sight ns) (registers_told net st sight (n ∷ []))
-          ∙ ap (λ ps. pushed_in a F ++ ps) (sym (flat_map-append (λ k. register_told net st sight k (slice_get net.registers k)) ns (n ∷ [])))));
+          ∙ (ap (λ ps. ps ++ W st sight) (f.tells words inputs F sight st (g.back words inputs F sol) sees shows) ∙ append_assoc (pushed_in a F) (V st sight) (W st sight));
     }
 
--- the numbers of one pair more
-pub numbers_more : (xs : List (ℕ × ℕ)) (k : ℕ) (d : ℕ × ℕ) → k < length xs → map (λ (both : ℕ × ℕ). both.0) (take (k + 1) xs) ≡ map (λ (both : ℕ × ℕ). both.0) (take k xs) ++ (get_or xs k d).0 ∷ []
-numbers_more xs k d lt = ap (map (λ (both : ℕ × ℕ). both.0)) (take_more xs k d lt) ∙ map-append (λ (both : ℕ × ℕ). both.0) (take k xs) (get_or xs k d ∷ [])
+-- what is left is the same
+pub told_as : (net : Net) (S : Sources) (V W : Left) (a b : Draft) → ((st : NetState) (sight : Sight) → V st sight ≡ W st sight) → TellsLeft net S V a b → TellsLeft net S W a b
+told_as net S V W a b e f = record {
+  is = f.is;
+  are = f.are;
+  words = f.words;
+  slots = f.slots;
+  stays = f.stays;
+  back = f.back;
+  tells = λ words inputs F sight st sol sees shows. f.tells words inputs F sight st sol sees shows ∙ ap (λ ps. pushed_in a F ++ ps) (e st sight);
+}
+
+pub no_sinks : (net : Net) (S : Sources) (d : Draft) → PublishesSinks net S [] d d
+no_sinks net S d is srcs have = none_told net S d is srcs
+
+pub sinks_then : (net : Net) (S : Sources) (xs ys : List Sink) (a b c : Draft) → PublishesSinks net S xs a b → PublishesSinks net S ys b c → PublishesSinks net S (xs ++ ys) a c
+sinks_then net S xs ys a b c first next is srcs have =
+    let f = first is srcs (λ sink i there h. have sink i (Contains-append_left xs ys sink there) h) in
+    let kept = f.words in
+    let g = next f.is f.are (λ sink i there h. let room = have sink i (Contains-append_right xs ys sink there) h in omega (arith, room, kept)) in
+    told_as net S (λ st sight. sinks_told net st sight xs ++ sinks_told net st sight ys) (λ st sight. sinks_told net st sight (xs ++ ys)) a c
+    (λ st sight. sym (flat_map-append (sink_told net st sight) xs ys))
+    (told_then net S (λ st sight. sinks_told net st sight xs) (λ st sight. sinks_told net st sight ys) a b c f g)
+
+-- the sinks of one pair more
+pub sinks_more : (xs : List (ℕ × ℕ)) (k : ℕ) (d : ℕ × ℕ) → k < length xs
+    → map (λ (both : ℕ × ℕ). A_register both.0) (take (k + 1) xs) ≡ map (λ (both : ℕ × ℕ). A_register both.0) (take k xs) ++ A_register (get_or xs k d).0 ∷ []
+sinks_more xs k d lt = ap (map (λ (both : ℕ × ℕ). A_register both.0)) (take_more xs k d lt) ∙ map-append (λ (both : ℕ × ℕ). A_register both.0) (take k xs) (get_or xs k d ∷ [])

@@ -1,10 +1,12 @@
 use Rattle.std.proofs.Common.{◌≡◌, Some, slice_get, [], ◌∷◌, sym, subst, ap, ◌∙◌}
 use Rattle.ground_net.specs.Reads.{driver_of}
+use Rattle.ground_net.specs.Cones.{A_register}
 use Rattle.net_meaning.specs.Shapes.{shape}
 use Rattle.next_grounds.specs.Nexts.{next_ground}
 use Rattle.code_emit.specs.Emits.{sources_table}
 use Rattle.code_publish.specs.Publishing.{Publishes}
-use Rattle.code_registers.specs.Telling.{register_shape, PublishesNext}
+use Rattle.sink_effects.specs.Effects.{register_shape}
+use Rattle.code_registers.specs.Telling.{PublishesSinks}
 use Rattle.code_registers.proofs.NextWords.{some_same, on_ok_so, one_register}
 use Rattle.code_registers.proofs.publishing.publish_register.Goals as goal
 
@@ -25,5 +27,5 @@ returns c =
     let known : shape (next_ground register (driver_of net register.leaf)) table ≡ Some (register_shape net register)
     = subst (λ r. shape (next_ground r (driver_of net r.leaf)) table ≡ Some (register_shape net r)) same c.requires.shaped.shaped in
     let shaped : shape next table ≡ Some (register_shape net register) = ap (λ g. shape g table) c.in_ok-next.ensures.itself ∙ known in
-    on_ok_so (Publishes mid new c.args.numbers.1 s) (PublishesNext net S (n ∷ []) old new) c.publish.result c.publish.ensures (λ publishes.
+    on_ok_so (Publishes mid new c.args.numbers.1 s) (PublishesSinks net S (A_register n ∷ []) old new) c.publish.result c.publish.ensures (λ publishes.
     one_register net S n register next old mid new s c.args.numbers.1 found shaped c.in_ok-next.ensures.value c.in_ok-spot.ensures.shape c.in_ok-spot.ensures.emits publishes c.requires.word)

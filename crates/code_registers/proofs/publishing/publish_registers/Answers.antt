@@ -1,7 +1,8 @@
-use Rattle.std.proofs.Common.{◌≡◌, ℕ, ◌+◌, map, take, get_or, sym, subst}
+use Rattle.std.proofs.Common.{◌≡◌, ℕ, ◌+◌, map, take, get_or, [], ◌∷◌, sym, subst}
 use Rattle.std.proofs.lemmas.List.{take_all}
-use Rattle.code_registers.specs.Telling.{PublishesNext}
-use Rattle.code_registers.proofs.NextWords.{numbers_more, one_more_register}
+use Rattle.ground_net.specs.Cones.{A_register}
+use Rattle.code_registers.specs.Telling.{PublishesSinks}
+use Rattle.code_registers.proofs.NextWords.{sinks_more, sinks_then}
 use Rattle.code_registers.proofs.publishing.publish_registers.Goals as goal
 
 pub loop-both-preserved : goal.loop-both-preserved
@@ -10,12 +11,12 @@ loop-both-preserved c =
     let S = c.args.sources.now in
     let xs = c.args.registers.now in
     let k = c.loop-both.both-index in
-    subst (λ ys. PublishesNext net S ys c.args.draft.now c.publish_register.new.draft) (sym (numbers_more xs k (0, 0) c.loop-both-test.true))
-    (one_more_register net S (map (λ (both : ℕ × ℕ). both.0) (take k xs)) (get_or xs k (0, 0)).0 c.args.draft.now c.loop-both.draft c.publish_register.new.draft c.loop-both.invariant c.in_ok-publish_register.ensures)
+    subst (λ ys. PublishesSinks net S ys c.args.draft.now c.publish_register.new.draft) (sym (sinks_more xs k (0, 0) c.loop-both-test.true))
+    (sinks_then net S (map (λ (both : ℕ × ℕ). A_register both.0) (take k xs)) (A_register (get_or xs k (0, 0)).0 ∷ []) c.args.draft.now c.loop-both.draft c.publish_register.new.draft c.loop-both.invariant c.in_ok-publish_register.ensures)
 
 pub returns : goal.returns
 returns c =
     let net = c.args.net.now in
     let S = c.args.sources.now in
     let xs = c.args.registers.now in
-    subst (λ ys. PublishesNext net S (map (λ (both : ℕ × ℕ). both.0) ys) c.args.draft.now c.loop-both.draft) (take_all c.loop-both.both-index xs c.loop-both-test.false) c.loop-both.invariant
+    subst (λ ys. PublishesSinks net S (map (λ (both : ℕ × ℕ). A_register both.0) ys) c.args.draft.now c.loop-both.draft) (take_all c.loop-both.both-index xs c.loop-both-test.false) c.loop-both.invariant
