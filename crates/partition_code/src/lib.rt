@@ -1,3 +1,4 @@
-//! The codes of the partitions of a net. Keeps the contract that all codes of one cut together leave exactly the next state's words,
-//! and that each watched leaf is put out once, with its settled value.
+//! What the codes of the partitions of a net are: what each leaves and puts out, and which words it owns.
 #![tactic(auto)]
+
+pub mod laws;
