@@ -1,0 +1,4 @@
+pub mod Places
+pub mod Shaping
+pub mod Making
+mod Owning

@@ -1,0 +1,19 @@
+use Rattle.std.proofs.Common.{◌≡◌, refl}
+use Rattle.part_sinks.proofs.Places.{watched_place}
+use Rattle.part_sinks.proofs.Shaping.{watched_shaped}
+use Rattle.part_sinks.proofs.Making.{watched_adds}
+use Rattle.part_sinks.proofs.sink_code.show_leaf.Goals as goal
+
+pub emit-requires : goal.emit-requires
+emit-requires c =
+    let net = c.args.work.now.plan.now.net.now in
+    let watch = c.args.work.now.plan.now.watch.now in
+    let place = watched_place net watch c.args.number c.args.leaf c.requires.there in
+    watched_shaped net watch c.args.work.now.sources.now c.args.number c.args.leaf c.requires.plan.watched place.0 place.1 c.requires.known
+
+pub returns : goal.returns
+returns c =
+    let net = c.args.work.now.plan.now.net.now in
+    let watch = c.args.work.now.plan.now.watch.now in
+    let place = watched_place net watch c.args.number c.args.leaf c.requires.there in
+    watched_adds net watch c.args.work.now.sources.now c.args.number c.args.leaf _ _ c.in_ok-spot.spot place.0 place.1 c.requires.ready.0 c.requires.ready.1 c.in_ok-spot.ensures.emits c.in_ok-push.ensures.ok c.in_ok-push-2.ensures.ok refl

@@ -1,0 +1,31 @@
+//! What the code of a part is made from, and what is made of it so far.
+
+use bit_words::List;
+use code_draft::Draft;
+use code_emit::Sources;
+use flat_code::{Span, Spot};
+use ground_net::Net;
+use net_sources::{CapturedRead, FirstWords};
+
+/// A net with its watched leaves, the first words of what it keeps, and its captured reads.
+pub struct Plan<'a> {
+    pub net: &'a Net,
+    pub watch: &'a [u32],
+    pub words: &'a FirstWords,
+    pub reads: &'a [CapturedRead],
+}
+
+/// A plan, and where the values of the net are found once a part's assignments are evaluated.
+pub struct Work<'a> {
+    pub plan: &'a Plan<'a>,
+    pub sources: &'a Sources,
+}
+
+/// Code with the spots that it shows, their positions in the watch list, and the words that it owns.
+#[derive(Debug, Drop)]
+pub struct Made {
+    pub draft: Draft,
+    pub shown: List<Spot>,
+    pub positions: List<u32>,
+    pub owned: List<Span>,
+}
