@@ -1,0 +1,5 @@
+pub mod Blocks
+pub mod Lists
+pub mod Apart
+pub mod Standing
+pub mod Told

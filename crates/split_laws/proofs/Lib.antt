@@ -1,0 +1,2 @@
+mod Publishing
+pub mod Parts
