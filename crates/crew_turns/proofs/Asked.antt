@@ -5,7 +5,7 @@ use Rattle.flat_code.specs.declared.code.Code.{Code}
 use Rattle.partition_code.specs.Codes.{AreWords}
 use Rattle.code_cuts.proofs.Owners.{owner_below}
 use Rattle.code_cuts.proofs.Places.{place}
-use Rattle.code_cuts.proofs.Asked.{some_code, few_codes, words_counted, below_watch, positions_apart, positions_of_one, own_at, short_at}
+use Rattle.code_cuts.proofs.Asked.{some_code, few_codes, words_counted, below_watch, positions_apart, positions_of_one, own_at}
 use Rattle.crew_workers.specs.Codes.{row_at}
 use Rattle.crew_turns.specs.Asked.{AskedOfCodes, AreCounted, PublishOwn}
 use Rattle.crew_turns.specs.Places.{Below, IsPlace, HasPlaces, OwnPlaces}
@@ -20,7 +20,6 @@ module _ (codes : List Code) (words : List ℕ) (rows : List (List Value)) (runs
     there = λ k j d p lt e. subst (λ n. p.word < n) (sym (counted ∙ runs.may.counted)) (own_at codes words rows runs.may c now inside plain (counted ∙ runs.may.counted) k j d p lt e).there;
     own = λ k j d p lt e. (own_at codes words rows runs.may c now inside plain (counted ∙ runs.may.counted) k j d p lt e).own;
     plain = λ k j d p lt e. (own_at codes words rows runs.may c now inside plain (counted ∙ runs.may.counted) k j d p lt e).plain;
-    short = λ k d lt. short_at codes words rows runs.may now c k d (runs.few_each k d lt);
   }
 
   all_places : HasPlaces codes (length runs.may.cut.watch)

@@ -23,11 +23,10 @@ rounds_by codes ws (x ∷ xs) = round_by codes ws x ∷ rounds_by codes (publish
 abbrev pub script_of : List Code → List ℕ → List (List Value) → Script
 script_of codes words rows = record { workers = length codes; cycles = length rows; first = words; owners = owners_of codes (length words); rounds = rounds_by codes words rows }
 
--- what an epoch asks: all codes of one cut, the words and input rows of its net, and counts that fit, as those of codes in memory do
+-- what an epoch asks: all codes of one cut, the words and input rows of its net, and counts that fit
 pub record Runs (codes : List Code) (words : List ℕ) (rows : List (List Value)) : Type 0 where
   pub may : MayRun codes words rows
   pub fits : 2 * length rows * length codes < 2 ^ 64
-  pub few_each : (k : ℕ) (d : Code) → k < length codes → (slice_index_or codes k d).most < 2 ^ 64
 
 -- the row has each output of each code at its position in the watch list, and nothing else
 pub record RowOf (codes : List Code) (ws : List ℕ) (x row : List Value) : Type 0 where
