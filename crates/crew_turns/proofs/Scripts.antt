@@ -13,8 +13,9 @@ use Rattle.phase_core.proofs.Values.{length-values}
 use Rattle.flat_code.specs.declared.code.Code.{Code}
 use Rattle.flat_code.specs.Codes.{published_by}
 use Rattle.partition_code.specs.Codes.{AreWords, owner_in, owners_of}
+use Rattle.code_cuts.proofs.Asked.{short_at}
 use Rattle.crew_workers.specs.Codes.{row_at, Follows}
-use Rattle.crew_turns.specs.Asked.{PublishOwn, AskedOfCodes}
+use Rattle.crew_turns.specs.Asked.{PublishOwn, AskedOfCodes, FewEach}
 use Rattle.crew_turns.specs.Scripts.{round_by, rounds_by, script_of, Runs}
 use Rattle.crew_turns.proofs.Lists.{some_of}
 use Rattle.crew_turns.proofs.Asked.{asked_of}
@@ -108,16 +109,16 @@ module _ (codes : List Code) (words : List ℕ) (rows : List (List Value)) where
     pub publish_at : (c : ℕ) → c < length rows → PublishOwn codes (values s c) (row_at rows c)
     publish_at c h = asked.publish c (values s c) h (plain_at c (omega (arith, h))) (length-values s c)
 
-    part_is : (c w : ℕ) → c < length rows → IsPart s w (get_or (round_by codes (values s c) (row_at rows c)) w [])
-    part_is c w h = let o = publish_at c h in let n = length-values s c in each_part (IsPart s) c h
+    part_is : FewEach codes → (c w : ℕ) → c < length rows → IsPart s w (get_or (round_by codes (values s c) (row_at rows c)) w [])
+    part_is few c w h = let o = publish_at c h in let n = length-values s c in each_part (IsPart s) c h
         (λ v. record { own = λ k p e. absurd (some-ne-none p (sym e)); counted = omega arith })
         (λ v d h'. record {
           own = λ k p e. let lt : p.word < length words = (let t = o.there v k d p h' e in omega (arith, t, n)) in (lt, get_or-map-range_with_len (owner_in codes) 0 (length words) p.word p.word 0 lt (omega arith) ∙ o.own v k d p h' e);
-          counted = o.short v d h';
+          counted = short_at codes words rows runs.may (values s c) c v d (few.each v d h');
         }) w
 
-    pub script_is : IsScript s
-    script_is = record {
+    pub script_is : FewEach codes → IsScript s
+    script_is few = record {
       workers = asked.some_code;
       fits = runs.fits;
       owned = length-map-range_with_len (owner_in codes) 0 (length words);
@@ -126,7 +127,7 @@ module _ (codes : List Code) (words : List ℕ) (rows : List (List Value)) where
       rounds = length-rounds codes words rows;
       own = λ c h. let lt : c < length rows = (let n = length-rounds codes words rows in omega (arith, h, n)) in (
         ap length (round_at c lt) ∙ length-map codes (λ code. published_by code (values s c) (row_at rows c)),
-        subst (OwnRound s) (sym (round_at c lt)) (λ w. part_is c w lt),
+        subst (OwnRound s) (sym (round_at c lt)) (λ w. part_is few c w lt),
       );
     }
 

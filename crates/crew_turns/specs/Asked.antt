@@ -5,7 +5,7 @@ use lib.ListN.{get_elem?}
 use Rattle.bit_words.specs.declared.value.Value.{Value}
 use Rattle.phase_core.specs.declared.model.Publication.{Publication}
 use Rattle.flat_code.specs.declared.code.Code.{Code}
-use Rattle.flat_code.specs.Codes.{published_by}
+use Rattle.flat_code.specs.Codes.{published_by, most_publications}
 use Rattle.partition_code.specs.Codes.{AreWords, owner_in}
 use Rattle.crew_workers.specs.Codes.{row_at}
 use Rattle.crew_turns.specs.Places.{HasPlaces, OwnPlaces}
@@ -14,12 +14,15 @@ use Rattle.crew_turns.specs.Places.{HasPlaces, OwnPlaces}
 pub record AreCounted (codes : List Code) (count : ℕ) : Type 0 where
   pub each : (k : ℕ) (d : Code) → k < length codes → count ≡ (slice_index_or codes k d).words
 
+-- the publications of each code are counted in a word
+pub record FewEach (codes : List Code) : Type 0 where
+  pub each : (k : ℕ) (d : Code) → k < length codes → most_publications (slice_index_or codes k d) < 2 ^ 64
+
 -- in a cycle that begins with these words, under these inputs, each code publishes words of its own
 pub record PublishOwn (codes : List Code) (words : List ℕ) (inputs : List Value) : Type 0 where
   pub there : (k j : ℕ) (d : Code) (p : Publication) → k < length codes → get_elem? (published_by (slice_index_or codes k d) words inputs) j ≡ some p → p.word < length words
   pub own : (k j : ℕ) (d : Code) (p : Publication) → k < length codes → get_elem? (published_by (slice_index_or codes k d) words inputs) j ≡ some p → owner_in codes p.word ≡ k
   pub plain : (k j : ℕ) (d : Code) (p : Publication) → k < length codes → get_elem? (published_by (slice_index_or codes k d) words inputs) j ≡ some p → p.value < 2 ^ 64
-  pub short : (k : ℕ) (d : Code) → k < length codes → length (published_by (slice_index_or codes k d) words inputs) < 2 ^ 64
 
 -- 1 to 64 codes that share out so many words and the places of a row, whatever words a cycle of these inputs begins with
 pub record AskedOfCodes (codes : List Code) (count : ℕ) (rows : List (List Value)) : Type 0 where

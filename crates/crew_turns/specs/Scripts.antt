@@ -9,7 +9,6 @@ use Rattle.flat_code.specs.Codes.{published_by, outputs_by}
 use Rattle.partition_code.specs.Codes.{owners_of, MayRun}
 use Rattle.crew_workers.specs.Codes.{row_at}
 use Rattle.crew_turns.specs.Places.{HasPlaces}
-use Rattle.crew_turns.specs.Asked.{AskedOfCodes}
 
 -- what the codes publish in a cycle that begins with these words
 abbrev pub round_by : List Code → List ℕ → List Value → List (List Publication)
@@ -28,7 +27,6 @@ script_of codes words rows = record { workers = length codes; cycles = length ro
 pub record Runs (codes : List Code) (words : List ℕ) (rows : List (List Value)) : Type 0 where
   pub may : MayRun codes words rows
   pub fits : 2 * length rows * length codes < 2 ^ 64
-  pub asked : AskedOfCodes codes (length words) rows
 
 -- the row has each output of each code at its position in the watch list, and nothing else
 pub record RowOf (codes : List Code) (ws : List ℕ) (x row : List Value) : Type 0 where

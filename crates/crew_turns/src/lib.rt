@@ -7,5 +7,5 @@
 mod places;
 mod turns;
 
-pub use places::{longest_frame, place, row_width};
+pub use places::{longest_frame, most_published, place, row_width};
 pub use turns::run_in_turns;

@@ -2,7 +2,8 @@
 
 ghost use Rattle.std.specs.Prelude.{◌≡◌, ◌+◌, ◌<◌, ◌≤◌, ℕ, length, slice_index, slice_index_or};
 ghost use Rattle.flat_code.specs.declared.code.Code.{Code as Cod};
-ghost use Rattle.flat_code.specs.Codes.{frame_length};
+ghost use Rattle.flat_code.specs.Codes.{frame_length, most_publications};
+ghost use Rattle.crew_turns.specs.Asked.{FewEach};
 ghost use Rattle.crew_turns.specs.Lists.{Apart, Placed, AreBelow};
 ghost use Rattle.crew_turns.specs.Places.{Below, HasPlaces};
 ghost use Rattle.crew_turns.specs.Scripts.{Runs};
@@ -35,6 +36,22 @@ pub fn longest_frame(codes: &[Code]) -> usize
         }
     }
     longest
+}
+
+/// The most that one of these codes publishes in a cycle, 0 without a code. Takes no memory.
+pub fn most_published(codes: &[Code]) -> usize
+    ensures each { (k : ℕ) (d : Cod) → k < length codes.now → most_publications (slice_index_or codes.now k d) ≤ result }
+    ensures few { FewEach codes.now }
+{
+    let mut greatest = 0;
+    for k in 0..codes.len() {
+        let code = &codes[k];
+        let most = code.most;
+        if greatest < most {
+            greatest = most;
+        }
+    }
+    greatest
 }
 
 // The least number from `width` on that all these positions are below.
