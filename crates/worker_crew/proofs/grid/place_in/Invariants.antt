@@ -1,0 +1,7 @@
+use Rattle.crew_turns.specs.Lists.{Placed}
+use Rattle.worker_crew.proofs.grid.place_in.Given as goal
+
+abbrev pub invariant-loop-j : goal.invariant-loop-j
+invariant-loop-j l = record {
+  placed : Placed l.positions l.outputs l.initial.row l.row l.j;
+}

@@ -1,0 +1,5 @@
+-- what the bodies keep, and what proofs need
+pub mod Crew
+pub mod Threads
+pub mod Frames
+pub mod Grids
