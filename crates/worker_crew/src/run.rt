@@ -15,7 +15,7 @@ use crate::crowd::{Job, Rooms, run_in};
 use crate::grid::{fill_all, new_grid};
 use crate::hire::hire_all;
 use bit_words::{List, Row, Rows};
-use crew_turns::{longest_frame, row_width};
+use crew_turns::{longest_frame, most_published, row_width};
 use crew_workers::{Gate, Worker};
 use flat_code::Code;
 use register_table::{Closed, Plan, RegisterTable};
@@ -194,6 +194,8 @@ fn named_epoch<'a, N: Plan + Send + Sync, R: Threads + Wait + Sync, G: Gate + Sy
     let cycles = rows.len() as u64;
     let many = codes.len();
     let room = frame_room(codes);
+    // That each code's publications are counted in a word, which a script asks.
+    let _published = most_published(codes);
     let (table, post) = RegisterTable::<N>::open(alloc, many as u32, cycles, words)?;
     let workers = hire_all(alloc, &table, codes, words, rows, room, post)?;
     let places = empty_places(alloc, &table, codes, rows, room)?;
