@@ -4,5 +4,5 @@ pub mod Shaping
 pub mod Mentioning
 pub mod Examples
 mod ExamplesOfCones
-mod Placing
+pub mod Placing
 pub mod Ranges

@@ -24,25 +24,25 @@ pub record At (words piece : List ℕ) (at : ℕ) : Type 0 where
   pub is : words ≡ front ++ (piece ++ back)
   pub place : length front ≡ at
 
-append_assoc : (xs ys zs : List ℕ) → (xs ++ ys) ++ zs ≡ xs ++ (ys ++ zs)
+pub append_assoc : (xs ys zs : List ℕ) → (xs ++ ys) ++ zs ≡ xs ++ (ys ++ zs)
 append_assoc [] ys zs = refl
 append_assoc (x ∷ xs) ys zs = ap (λ l. x ∷ l) (append_assoc xs ys zs)
 
-append_nil : (xs : List ℕ) → xs ++ [] ≡ xs
+pub append_nil : (xs : List ℕ) → xs ++ [] ≡ xs
 append_nil [] = refl
 append_nil (x ∷ xs) = ap (λ l. x ∷ l) (append_nil xs)
 
-length_append : (xs ys : List ℕ) → length (xs ++ ys) ≡ length xs + length ys
+pub length_append : (xs ys : List ℕ) → length (xs ++ ys) ≡ length xs + length ys
 length_append [] ys = let e : length ys ≡ 0 + length ys = omega arith in e
 length_append (x ∷ xs) ys = let h = length_append xs ys in let e : suc (length (xs ++ ys)) ≡ suc (length xs) + length ys = omega (arith, h) in e
 
-at_first : (xs ys : List ℕ) → At (xs ++ ys) xs 0
+pub at_first : (xs ys : List ℕ) → At (xs ++ ys) xs 0
 at_first xs ys = record { front = []; back = ys; is = refl; place = refl }
 
-at_last : (xs ys : List ℕ) → At (xs ++ ys) ys (length xs)
+pub at_last : (xs ys : List ℕ) → At (xs ++ ys) ys (length xs)
 at_last xs ys = record { front = xs; back = []; is = ap (λ l. xs ++ l) (sym (append_nil ys)); place = refl }
 
-at_inside : (words piece part : List ℕ) (p q : ℕ) → At words piece p → At piece part q → At words part (p + q)
+pub at_inside : (words piece part : List ℕ) (p q : ℕ) → At words piece p → At piece part q → At words part (p + q)
 at_inside words piece part p q a b = record {
   front = a.front ++ b.front;
   back = b.back ++ a.back;
@@ -51,11 +51,11 @@ at_inside words piece part p q a b = record {
   place = let l = length_append a.front b.front in let x = a.place in let y = b.place in omega (arith, l, x, y);
 }
 
-at_place : (words piece : List ℕ) (p q : ℕ) → p ≡ q → At words piece p → At words piece q
+pub at_place : (words piece : List ℕ) (p q : ℕ) → p ≡ q → At words piece p → At words piece q
 at_place words piece p q e a = subst (At words piece) e a
 
 -- a piece of a list of pieces
-at_flat_map : {A : Type 0} (f : A → List ℕ) (xs : List A) (k : ℕ) (x : A) → slice_get xs k ≡ Some x → At (flat_map f xs) (f x) (sum_by (λ y. length (f y)) (take k xs))
+pub at_flat_map : {A : Type 0} (f : A → List ℕ) (xs : List A) (k : ℕ) (x : A) → slice_get xs k ≡ Some x → At (flat_map f xs) (f x) (sum_by (λ y. length (f y)) (take k xs))
 at_flat_map f [] k x e = cc
 at_flat_map f (y ∷ ys) zero x e = let same : y ≡ x = cc in subst (λ z. At (f y ++ flat_map f ys) (f z) 0) same (at_first (f y) (flat_map f ys))
 at_flat_map f (y ∷ ys) (suc k) x e =
@@ -63,7 +63,7 @@ at_flat_map f (y ∷ ys) (suc k) x e =
     (at_inside (f y ++ flat_map f ys) (flat_map f ys) (f x) (length (f y)) (sum_by (λ y. length (f y)) (take k ys)) (at_last (f y) (flat_map f ys)) (at_flat_map f ys k x e))
 
 -- numbered items
-numbered_at : {A : Type 0} (a : ℕ) (xs : List A) (k : ℕ) (x : A) → slice_get xs k ≡ Some x → slice_get (zip (range_with_len a (length xs)) xs) k ≡ Some (a + k, x)
+pub numbered_at : {A : Type 0} (a : ℕ) (xs : List A) (k : ℕ) (x : A) → slice_get xs k ≡ Some x → slice_get (zip (range_with_len a (length xs)) xs) k ≡ Some (a + k, x)
 numbered_at a [] k x e = cc
 numbered_at a (y ∷ ys) zero x e = let same : y ≡ x = cc in let z : a ≡ a + 0 = omega arith in ap₂ (λ n w. Some (n, w)) z same
 numbered_at a (y ∷ ys) (suc k) x e = let z : a + 1 + k ≡ a + suc k = omega arith in numbered_at (a + 1) ys k x e ∙ ap (λ n. Some (n, x)) z
@@ -71,7 +71,7 @@ numbered_at a (y ∷ ys) (suc k) x e = let z : a + 1 + k ≡ a + suc k = omega a
 pub numbered_is : {A : Type 0} (xs : List A) (k : ℕ) (x : A) → slice_get xs k ≡ Some x → slice_get (numbered xs) k ≡ Some (k, x)
 numbered_is xs k x e = let z : 0 + k ≡ k = omega arith in numbered_at 0 xs k x e ∙ ap (λ n. Some (n, x)) z
 
-sum_numbered : {A : Type 0} (g : ℕ × A → ℕ) (h : A → ℕ) → ((n : ℕ) (x : A) → g (n, x) ≡ h x) → (a : ℕ) (xs : List A) (k : ℕ)
+pub sum_numbered : {A : Type 0} (g : ℕ × A → ℕ) (h : A → ℕ) → ((n : ℕ) (x : A) → g (n, x) ≡ h x) → (a : ℕ) (xs : List A) (k : ℕ)
     → sum_by g (take k (zip (range_with_len a (length xs)) xs)) ≡ sum_by h (take k xs)
 sum_numbered g h e a [] zero = refl
 sum_numbered g h e a [] (suc k) = refl
@@ -81,7 +81,7 @@ sum_numbered g h e a (x ∷ xs) (suc k) =
 
 -- lengths
 
-kept_length : (t : Shape) (n : ℤ) → length (kept t n) ≡ word_count t
+pub kept_length : (t : Shape) (n : ℤ) → length (kept t n) ≡ word_count t
 kept_length t n = by_test (nat_lt 64 t.width) (nat_lt 64 (min t.width 128)) (same_test t.width)
   where
     same_test : (w : ℕ) → nat_lt 64 (min w 128) ≡ nat_lt 64 w
@@ -93,49 +93,49 @@ kept_length t n = by_test (nat_lt 64 t.width) (nat_lt 64 (min t.width 128)) (sam
     by_test true false e = cc
     by_test false true e = cc
 
-length_flat_map : {A : Type 0} (f : A → List ℕ) (h : A → ℕ) → ((x : A) → length (f x) ≡ h x) → (xs : List A) → length (flat_map f xs) ≡ sum_by h xs
+pub length_flat_map : {A : Type 0} (f : A → List ℕ) (h : A → ℕ) → ((x : A) → length (f x) ≡ h x) → (xs : List A) → length (flat_map f xs) ≡ sum_by h xs
 length_flat_map f h e [] = refl
 length_flat_map f h e (x ∷ xs) = length_append (f x) (flat_map f xs) ∙ (ap₂ (λ m n. m + n) (e x) (length_flat_map f h e xs) ∙ sym (sum_by-cons h x xs))
 
-sum_all_numbered : {A : Type 0} (h : A → ℕ) (a : ℕ) (xs : List A) → sum_by (λ both. h both.1) (zip (range_with_len a (length xs)) xs) ≡ sum_by h xs
+pub sum_all_numbered : {A : Type 0} (h : A → ℕ) (a : ℕ) (xs : List A) → sum_by (λ both. h both.1) (zip (range_with_len a (length xs)) xs) ≡ sum_by h xs
 sum_all_numbered h a [] = refl
 sum_all_numbered h a (x ∷ xs) =
     sum_by-cons (λ both. h both.1) (a, x) (zip (range_with_len (a + 1) (length xs)) xs) ∙ (ap (λ n. h x + n) (sum_all_numbered h (a + 1) xs) ∙ sym (sum_by-cons h x xs))
 
-kept_all_length : (shapes : List Shape) (integers : ℕ → ℤ) → length (kept_all shapes integers) ≡ count_words shapes
+pub kept_all_length : (shapes : List Shape) (integers : ℕ → ℤ) → length (kept_all shapes integers) ≡ count_words shapes
 kept_all_length shapes integers = length_flat_map (λ both. kept both.1 (integers both.0)) (λ both. word_count both.1) (λ both. kept_length both.1 (integers both.0)) (numbered shapes) ∙ sum_all_numbered word_count 0 shapes
 
-sum_range : (g : ℕ → ℕ) (c : ℕ) → ((x : ℕ) → g x ≡ c) → (a n : ℕ) → sum_by g (range_with_len a n) ≡ n * c
+pub sum_range : (g : ℕ → ℕ) (c : ℕ) → ((x : ℕ) → g x ≡ c) → (a n : ℕ) → sum_by g (range_with_len a n) ≡ n * c
 sum_range g c e a zero = let z : 0 ≡ 0 * c = omega arith in z
 sum_range g c e a (suc n) = sum_by-cons g a (range_with_len (a + 1) n) ∙ ap₂ (λ x y. x + y) (e a) (sum_range g c e (a + 1) n) ∙ more n c
   where
     more : (n c : ℕ) → c + n * c ≡ suc n * c
     more n c = grind arith
 
-take_range : (a n k : ℕ) → k ≤ n → take k (range_with_len a n) ≡ range_with_len a k
+pub take_range : (a n k : ℕ) → k ≤ n → take k (range_with_len a n) ≡ range_with_len a k
 take_range a n zero h = refl
 take_range a zero (suc k) h = absurd (omega (arith, h))
 take_range a (suc n) (suc k) h = ap (λ l. a ∷ l) (take_range (a + 1) n k (omega (arith, h)))
 
-range_at : (a n k : ℕ) → k < n → slice_get (range_with_len a n) k ≡ Some (a + k)
+pub range_at : (a n k : ℕ) → k < n → slice_get (range_with_len a n) k ≡ Some (a + k)
 range_at a zero k h = absurd (omega (arith, h))
 range_at a (suc n) zero h = let z : a ≡ a + 0 = omega arith in ap Some z
 range_at a (suc n) (suc k) h = let z : a + 1 + k ≡ a + suc k = omega arith in range_at (a + 1) n k (omega (arith, h)) ∙ ap Some z
 
-memory_length : (memory : NetMemory) (contents : ℕ → ℕ → ℤ) → length (words_of_memory memory contents) ≡ memory_words memory
+pub memory_length : (memory : NetMemory) (contents : ℕ → ℕ → ℤ) → length (words_of_memory memory contents) ≡ memory_words memory
 memory_length memory contents =
     length_flat_map (λ element. kept_all (element_shapes memory) (contents element)) (λ element. element_words memory) (λ element. kept_all_length (element_shapes memory) (contents element)) (range_with_len 0 memory.depth)
     ∙ sum_range (λ element. element_words memory) (element_words memory) (λ element. refl) 0 memory.depth
 
 -- one of the integers that are kept
-kept_at : (shapes : List Shape) (integers : ℕ → ℤ) (k : ℕ) (t : Shape) → slice_get shapes k ≡ Some t → At (kept_all shapes integers) (kept t (integers k)) (count_words (take k shapes))
+pub kept_at : (shapes : List Shape) (integers : ℕ → ℤ) (k : ℕ) (t : Shape) → slice_get shapes k ≡ Some t → At (kept_all shapes integers) (kept t (integers k)) (count_words (take k shapes))
 kept_at shapes integers k t e =
     at_place (kept_all shapes integers) (kept t (integers k)) _ (count_words (take k shapes))
     (sum_numbered (λ both. length (kept both.1 (integers both.0))) word_count (λ n x. kept_length x (integers n)) 0 shapes k)
     (at_flat_map (λ both. kept both.1 (integers both.0)) (numbered shapes) k (k, t) (numbered_is shapes k t e))
 
 -- an element of a memory
-element_at : (memory : NetMemory) (contents : ℕ → ℕ → ℤ) (element : ℕ) → element < memory.depth
+pub element_at : (memory : NetMemory) (contents : ℕ → ℕ → ℤ) (element : ℕ) → element < memory.depth
     → At (words_of_memory memory contents) (kept_all (element_shapes memory) (contents element)) (element * element_words memory)
 element_at memory contents element h =
     let most : element ≤ memory.depth = omega (arith, h) in
@@ -146,7 +146,7 @@ element_at memory contents element h =
     (at_flat_map (λ e. kept_all (element_shapes memory) (contents e)) (range_with_len 0 memory.depth) element element (range_at 0 memory.depth element h ∙ ap Some z))
 
 -- a memory
-memory_at : (memories : List NetMemory) (contents : ℕ → ℕ → ℕ → ℤ) (m : ℕ) (memory : NetMemory) → slice_get memories m ≡ Some memory
+pub memory_at : (memories : List NetMemory) (contents : ℕ → ℕ → ℕ → ℤ) (m : ℕ) (memory : NetMemory) → slice_get memories m ≡ Some memory
     → At (flat_map (λ both. words_of_memory both.1 (contents both.0)) (numbered memories)) (words_of_memory memory (contents m)) (sum_by memory_words (take m memories))
 memory_at memories contents m memory e =
     at_place (flat_map (λ both. words_of_memory both.1 (contents both.0)) (numbered memories)) (words_of_memory memory (contents m)) _ (sum_by memory_words (take m memories))
@@ -155,20 +155,20 @@ memory_at memories contents m memory e =
 
 -- What is read where an integer is kept
 
-index_at : (front : List ℕ) (x : ℕ) (back : List ℕ) → slice_index (front ++ x ∷ back) (length front) ≡ x
+pub index_at : (front : List ℕ) (x : ℕ) (back : List ℕ) → slice_index (front ++ x ∷ back) (length front) ≡ x
 index_at [] x back = refl
 index_at (y ∷ front) x back = index_at front x back
 
-index_next : (front : List ℕ) (x y : ℕ) (back : List ℕ) → slice_index (front ++ x ∷ y ∷ back) (length front + 1) ≡ y
+pub index_next : (front : List ℕ) (x y : ℕ) (back : List ℕ) → slice_index (front ++ x ∷ y ∷ back) (length front + 1) ≡ y
 index_next [] x y back = refl
 index_next (z ∷ front) x y back =
     let e : suc (length front) + 1 ≡ suc (length front + 1) = omega arith in
     ap (slice_index (z ∷ (front ++ x ∷ y ∷ back))) e ∙ index_next front x y back
 
-halves : (bits : ℕ) → bits % 2 ^ 64 + (bits / 2 ^ 64) * 2 ^ 64 ≡ bits
+pub halves : (bits : ℕ) → bits % 2 ^ 64 + (bits / 2 ^ 64) * 2 ^ 64 ≡ bits
 halves bits = omega arith
 
-refit : (t : Shape) (n : ℤ) (low high : ℕ) → low + high * 2 ^ 64 ≡ (fitted t.kind t.width n).bits → fitted t.kind t.width (pos (low + high * 2 ^ 64)) ≡ fitted t.kind t.width n
+pub refit : (t : Shape) (n : ℤ) (low high : ℕ) → low + high * 2 ^ 64 ≡ (fitted t.kind t.width n).bits → fitted t.kind t.width (pos (low + high * 2 ^ 64)) ≡ fitted t.kind t.width n
 refit t n low high e =
     same_value (fitted t.kind t.width (pos (low + high * 2 ^ 64))) (fitted t.kind t.width n) refl refl
     (ap (λ b. b % 2 ^ min t.width 128) e ∙ mod-eq_of_lt (bits_below (min t.width 128) n))

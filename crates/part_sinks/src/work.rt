@@ -8,6 +8,7 @@ use ground_net::Net;
 use net_sources::{CapturedRead, FirstWords};
 
 /// A net with its watched leaves, the first words of what it keeps, and its captured reads.
+#[derive(Drop)]
 pub struct Plan<'a> {
     pub net: &'a Net,
     pub watch: &'a [u32],
@@ -16,6 +17,7 @@ pub struct Plan<'a> {
 }
 
 /// A plan, and where the values of the net are found once a part's assignments are evaluated.
+#[derive(Drop)]
 pub struct Work<'a> {
     pub plan: &'a Plan<'a>,
     pub sources: &'a Sources,
