@@ -1,5 +1,5 @@
 -- The state that a state's words make is the state, wherever the net keeps something.
-use Rattle.std.proofs.Common.{◌≡◌, ℕ, ◌<◌, ◌≤◌, Bool, true, false, List, [], ◌∷◌, length, slice_get, nat_lt, ◌==◌, if◌then◌else◌, ◌&&◌, Option, Some, None, option_map, ℤ, pos, refl, sym, subst, ap, ◌∙◌, arith}
+use Rattle.std.proofs.Common.{◌≡◌, ℕ, ◌<◌, ◌≤◌, Bool, true, false, List, [], ◌∷◌, slice_get, nat_lt, ◌==◌, if◌then◌else◌, ◌&&◌, Option, Some, None, option_map, ℤ, pos, refl, sym, subst, ap, ◌∙◌, arith}
 use mathlib.Core.Path.{fun_ext}
 use Rattle.std.specs.Prelude.{option_and_then, unsigned_abs}
 use Rattle.std.proofs.lemmas.Bool.{ltb-true, and_parts}
@@ -18,7 +18,7 @@ use Rattle.ground_net.specs.declared.net.NetMemory.{NetMemory}
 use Rattle.ground_net.specs.declared.net.ElementLeaf.{ElementLeaf}
 use Rattle.ground_net.specs.declared.net.NetPort.{NetPort}
 use Rattle.ground_net.specs.Grounds.{Sight, value}
-use Rattle.net_meaning.specs.Cycles.{NetState, Inputs, Valuation, Settled, sight_of, fitted_to, fitted_to_element, depth_of, held_at, next_of_register, next_of_memory, next_of_capture, shown, taken, Capture, captures}
+use Rattle.net_meaning.specs.Cycles.{NetState, Inputs, Valuation, Settled, sight_of, fitted_to, fitted_to_element, depth_of, next_of_register, next_of_memory, next_of_capture, shown, taken, Capture, captures}
 use Rattle.net_meaning.specs.Nets.{IsNet, IsWithin, element_shape, shape_or_none, element_shapes}
 use Rattle.net_meaning.specs.Words.{words_of, state_of}
 use Rattle.net_meaning.proofs.Placing.{registers_back, contents_back, captured_back}
@@ -44,7 +44,7 @@ leaf_same : (o : Option ElementLeaf) (n m : ℤ) → ((leaf : ElementLeaf) → o
 leaf_same (Some leaf) n m h = ap (fitted leaf.kind leaf.width) (h leaf refl)
 leaf_same None n m h = no_bits n m
 
-pub where_same : (b : Bool) (n m : ℤ) → (b ≡ true → n ≡ m) → (if b then n else pos 0) ≡ (if b then m else pos 0)
+where_same : (b : Bool) (n m : ℤ) → (b ≡ true → n ≡ m) → (if b then n else pos 0) ≡ (if b then m else pos 0)
 where_same true n m h = h refl
 where_same false n m h = refl
 
@@ -60,7 +60,7 @@ taken_same : (after : Bool) (a k : ℕ) (old new other later : Held ℕ) → old
 taken_same true a k old new other later e f = f
 taken_same false a k old new other later e f = e
 
-pub element_shape_at : (memory : NetMemory) (k : ℕ) (leaf : ElementLeaf) → slice_get memory.elements k ≡ Some leaf → slice_get (element_shapes memory) k ≡ Some (element_shape leaf)
+element_shape_at : (memory : NetMemory) (k : ℕ) (leaf : ElementLeaf) → slice_get memory.elements k ≡ Some leaf → slice_get (element_shapes memory) k ≡ Some (element_shape leaf)
 element_shape_at memory k leaf e = slice_get-map element_shape memory.elements k ∙ ap (option_map element_shape) e
 
 -- the state of a state's words
@@ -68,7 +68,7 @@ abbrev pub again : Net → NetState → NetState
 again net s = state_of net (words_of net s)
 
 module _ (net : Net) (s : NetState) (inside : IsWithin net s) where
-  pub register_again : (n : ℕ) (register : NetRegister) → slice_get net.registers n ≡ Some register → (again net s).registers n ≡ s.registers n
+  register_again : (n : ℕ) (register : NetRegister) → slice_get net.registers n ≡ Some register → (again net s).registers n ≡ s.registers n
   register_again n register e =
       let t = register_shape net register in
       let at = register_shape_at net n register e in

@@ -1,5 +1,5 @@
 -- What the publications of a word's sink leave there is the next state's word.
-use Rattle.std.proofs.Common.{◌≡◌, ℕ, ◌+◌, ◌-◌, ◌<◌, ◌≤◌, List, ◌++◌, take, sum_by, length, slice_get, slice_index, Some, refl, sym, subst, ap, ◌∙◌, arith}
+use Rattle.std.proofs.Common.{◌≡◌, ℕ, ◌+◌, ◌-◌, ◌<◌, ◌≤◌, List, take, sum_by, length, slice_get, slice_index, Some, refl, sym, subst, ap, ◌∙◌, arith}
 use Rattle.phase_core.specs.Script.{published}
 use Rattle.phase_core.proofs.Values.{length-published, published-append}
 use Rattle.cycle_values.specs.Values.{fitted}
@@ -8,10 +8,9 @@ use Rattle.ground_net.specs.declared.net.NetRegister.{NetRegister}
 use Rattle.ground_net.specs.declared.net.NetMemory.{NetMemory}
 use Rattle.ground_net.specs.Grounds.{Sight}
 use Rattle.ground_net.specs.Cones.{Sink, A_watched, A_register, A_memory}
-use Rattle.net_meaning.specs.Shapes.{Shape}
 use Rattle.net_meaning.specs.Cycles.{NetState, Capture, captures, next_of_memory, next}
-use Rattle.net_meaning.specs.Nets.{IsNet, IsWithin, register_shapes, element_shapes}
-use Rattle.net_meaning.specs.Words.{kept, word_count, count_words, words_of, register_word, memory_words, memory_word, element_word, captured_word, state_words}
+use Rattle.net_meaning.specs.Nets.{IsNet, IsWithin, register_shapes}
+use Rattle.net_meaning.specs.Words.{kept, word_count, count_words, words_of, register_word, memory_words, memory_word, element_word, captured_word}
 use Rattle.net_meaning.proofs.Placing.{kept_length}
 use Rattle.net_meaning.proofs.Ranges.{capture_from}
 use Rattle.flat_code.specs.Meaning.{stored}

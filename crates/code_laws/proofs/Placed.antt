@@ -1,5 +1,5 @@
 -- Where the words of a state stand, and that they are words.
-use Rattle.std.proofs.Common.{◌≡◌, ℕ, zero, suc, ◌+◌, ◌*◌, ◌/◌, ◌%◌, ◌^◌, ◌<◌, ◌≤◌, Bool, true, false, List, [], ◌∷◌, ◌++◌, take, length, slice_get, slice_index, sum_by, nat_lt, if◌then◌else◌, Some, ℤ, refl, sym, subst, ap, ap₂, ◌∙◌, arith, pow-add, pow_pos, pow_mono, mod-lt, div-lt_iff_lt-mul}
+use Rattle.std.proofs.Common.{◌≡◌, ℕ, zero, suc, ◌+◌, ◌*◌, ◌/◌, ◌%◌, ◌^◌, ◌<◌, ◌≤◌, Bool, true, false, List, [], ◌∷◌, ◌++◌, take, length, slice_get, slice_index, sum_by, nat_lt, if◌then◌else◌, Some, ℤ, refl, subst, ap, ap₂, ◌∙◌, arith, pow-add, pow_pos, pow_mono, mod-lt, div-lt_iff_lt-mul}
 use Rattle.std.specs.List.{flat_map, range_with_len}
 use Rattle.std.proofs.lemmas.Bool.{ltb-false}
 use Rattle.bit_words.specs.declared.value.Value.{Value}

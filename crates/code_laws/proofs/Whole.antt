@@ -1,11 +1,10 @@
 -- The publications of all codes of a cut lead to the words of the next state.
-use Rattle.std.proofs.Common.{◌≡◌, ℕ, suc, ◌<◌, List, [], ◌∷◌, map, length, slice_get, slice_index, Some, refl, sym, subst, ap, ap₂, ◌∙◌, arith}
+use Rattle.std.proofs.Common.{◌≡◌, ℕ, suc, ◌<◌, List, [], ◌∷◌, map, length, slice_get, Some, refl, sym, subst, ap, ap₂, ◌∙◌, arith}
 use Rattle.bit_words.specs.declared.value.Value.{Value}
 use Rattle.phase_core.specs.declared.model.Publication.{Publication}
 use Rattle.phase_core.specs.Script.{published_all}
 use Rattle.phase_core.proofs.Values.{length-published_all}
 use Rattle.ground_net.specs.declared.net.Net.{Net}
-use Rattle.ground_net.specs.declared.net.CutPart.{CutPart}
 use Rattle.ground_net.specs.Grounds.{Sight}
 use Rattle.net_meaning.specs.Cycles.{NetState, Inputs, Valuation, Settled, sight_of, next}
 use Rattle.net_meaning.specs.Nets.{IsWithin}

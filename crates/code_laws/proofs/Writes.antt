@@ -1,8 +1,8 @@
 -- What the writes of a memory's ports leave in the words of its elements.
-use Rattle.std.proofs.Common.{◌≡◌, ◌≢◌, ◌⊎◌, ⊎_elim, ℕ, zero, suc, ◌+◌, ◌-◌, ◌*◌, ◌<◌, ◌≤◌, ◌&&◌, ◌==◌, Bool, true, false, List, [], ◌∷◌, take, length, slice_get, slice_index, nat_lt, if◌then◌else◌, Some, ℤ, refl, sym, subst, ap, ◌∙◌, arith}
+use Rattle.std.proofs.Common.{◌≡◌, ◌≢◌, ⊎_elim, ℕ, zero, suc, ◌+◌, ◌-◌, ◌*◌, ◌<◌, ◌≤◌, ◌&&◌, ◌==◌, Bool, true, false, List, [], ◌∷◌, take, length, slice_get, nat_lt, if◌then◌else◌, Some, refl, sym, subst, ap, ◌∙◌, arith}
 use Rattle.std.specs.List.{flat_map}
 use Rattle.std.proofs.Math.Nat.{mul-le-mul_right, suc-mul}
-use Rattle.std.proofs.lemmas.Bool.{ltb-true, eqb-true, eqb-false, cases_lt, cases_eq, and_parts}
+use Rattle.std.proofs.lemmas.Bool.{eqb-true, eqb-false, cases_lt, cases_eq}
 use Rattle.phase_core.specs.Script.{published}
 use Rattle.phase_core.proofs.Values.{length-published}
 use Rattle.cycle_values.specs.Values.{fitted}
@@ -57,7 +57,7 @@ leaves_apart shapes j k t u x y e f p q same =
 
 module _ (net : Net) (m : ℕ) (memory : NetMemory) (there : slice_get net.memories m ≡ Some memory) where
   -- the words have this in the elements
-  abbrev pub Contain : List ℕ → Held ℕ → Type 0
+  abbrev Contain : List ℕ → Held ℕ → Type 0
   Contain words held = (b k : ℕ) (t : Shape) → b < memory.depth → slice_get (element_shapes memory) k ≡ Some t → Holds words (element_word net m memory b k) (kept t (held b k))
 
   -- the place of a leaf of an element
