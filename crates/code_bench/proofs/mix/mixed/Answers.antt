@@ -14,7 +14,7 @@ invariant_of-result c =
     let wides = c.in_ok-wides.wides in
     let instrs = c.in_ok-instrs.instrs in
     let few = pushes_few instrs in
-    let count = c.len.ensures in
+    let count = c.len-most.ensures in
     record {
       fine = subst (λ p. AreFine (20 * b) 4096 p (length wides) instrs) (sym c.in_ok-ports.ensures.count)
           (subst (λ w. AreFine (20 * b) 4096 b w instrs) (sym c.in_ok-wides.ensures.count) c.in_ok-instrs.ensures.fine);
