@@ -1,6 +1,6 @@
 -- What registers hold next.
 use Rattle.std.proofs.Common.{◌≡◌, ℕ, false, List, [], map, ℤ, Option, Some, None, option_map, if◌then◌else◌, refl, sym, ap, ap₂, ◌∙◌, arith}
-use Rattle.std.specs.Option.{option_or, unwrap_or}
+use Rattle.std.specs.Option.{unwrap_or}
 use Rattle.std.proofs.lemmas.Grind.{common_steps}
 use Rattle.bit_words.specs.declared.value.Value.{Value}
 use Rattle.bit_words.specs.Values.{integer_of}
@@ -11,14 +11,13 @@ use Rattle.fir_types.specs.Leaves.{leaves}
 use Rattle.fir_tree.specs.declared.expr.Expr.{Expr}
 use Rattle.fir_tree.specs.declared.stmt.Stmt.{Stmt}
 use Rattle.fir_meaning.specs.Components.{Component, Leaf}
-use Rattle.fir_meaning.specs.Values.{Scene, Spot, value, whole, is_one, beside, lone}
+use Rattle.fir_meaning.specs.Values.{Scene, value, whole, is_one, beside, lone}
 use Rattle.fir_meaning.specs.Drives.{drives, setting, of_orientation, set_at, left_in}
 use Rattle.fir_meaning.specs.States.{or_else, next_of_register}
 use Rattle.drive_check.specs.declared.leaf_set.Step.{Step}
 use Rattle.drive_check.specs.Keys.{step_of}
 use Rattle.tree_values.specs.declared.site.Site.{Site}
 use Rattle.tree_values.specs.declared.site.View.{View}
-use Rattle.tree_values.specs.declared.spot.HeldSpot.{HeldSpot}
 use Rattle.tree_values.specs.Sites.{site_at, scene_of_view, type_or_empty}
 use Rattle.tree_values.specs.Finding.{spot_of_held}
 use Rattle.tree_drives.specs.declared.register.Reset.{Reset}

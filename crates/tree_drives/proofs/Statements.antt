@@ -1,7 +1,6 @@
 -- What statements do, one after the other, and what well typed ones ask for.
-use Rattle.std.proofs.Common.{◌≡◌, ℕ, zero, suc, ◌+◌, ◌<◌, ◌≤◌, ◌&&◌, ◌||◌, Bool, true, false, List, [], ◌∷◌, ◌++◌, map, length, take, get_or, ℤ, Option, Some, None, IsSome, IfSome, slice_get, if◌then◌else◌, refl, sym, ap, ap₂, ◌∙◌, subst, arith, true≢false}
+use Rattle.std.proofs.Common.{◌≡◌, ℕ, zero, suc, ◌+◌, ◌<◌, ◌&&◌, ◌||◌, Bool, true, false, List, [], ◌∷◌, ◌++◌, map, length, take, get_or, ℤ, Option, Some, None, IsSome, IfSome, slice_get, if◌then◌else◌, refl, sym, ap, ap₂, ◌∙◌, subst, arith, true≢false}
 use Rattle.std.specs.List.{list_all, list_any}
-use Rattle.std.specs.Option.{option_or}
 use Rattle.std.proofs.lemmas.Grind.{common_steps}
 use Rattle.std.proofs.lemmas.List.{take_more, map-append}
 use Rattle.cycle_values.specs.Shapes.{Shape}
@@ -9,9 +8,8 @@ use Rattle.fir_tree.specs.declared.expr.Expr.{Expr}
 use Rattle.fir_tree.specs.declared.stmt.Stmt.{Stmt, the_lemmas as stmt_lemmas}
 use Rattle.fir_tree.specs.declared.stmt.Stmt.TheVariants as stmt
 use Rattle.fir_tree.specs.declared.stmt.Arm.{Arm, fold-Arm}
-use Rattle.fir_tree.specs.declared.stmt.Stmt.TheOpen.{Stmt-F, Arm-F}
 use Rattle.fir_meaning.specs.Components.{Leaf}
-use Rattle.fir_meaning.specs.Values.{Scene, value, is_one}
+use Rattle.fir_meaning.specs.Values.{Scene}
 use Rattle.fir_meaning.specs.Drives as drives
 use Rattle.fir_meaning.specs.Drives.{Effect, effect, in_turn, first_holding, left_in, set_by_connect, set_by_invalidate}
 use Rattle.fir_meaning.specs.WellTyped as kinds
@@ -182,13 +180,20 @@ none_more scene (a ∷ arms) (suc n) arm h is e t =
     let next : suc n + 1 ≡ suc (n + 1) = omega arith in
     ap (λ k. list_any (is_taken scene) (take k (a ∷ arms))) next ∙ ap₂ (λ p q. p || q) both.0 (none_more scene arms n arm (omega (arith, h)) is both.1 t)
 
--- the same where the list and the number are told by equations
-
-pub to_number : (scene : Scene) (slice arms : List Arm) (o : Option ℕ) (n : ℕ) → slice ≡ arms → o ≡ Some n → IsFirstHolding scene slice o → IsFirstHolding scene arms (Some n)
-to_number scene slice arms o n e q h = subst (λ l. IsFirstHolding scene l (Some n)) e (subst (λ p. IsFirstHolding scene slice p) q h)
-
-pub to_none : (scene : Scene) (slice arms : List Arm) (o : Option ℕ) → slice ≡ arms → o ≡ None → IsFirstHolding scene slice o → IsFirstHolding scene arms None
-to_none scene slice arms o e q h = subst (λ l. IsFirstHolding scene l None) e (subst (λ p. IsFirstHolding scene slice p) q h)
+-- a whole `when`, with what a walk through it knows told by equations
 
 pub within : (slice arms : List Arm) (o : Option ℕ) (n : ℕ) → slice ≡ arms → o ≡ Some n → IfSome o (λ k. k < length slice) → n < length arms
 within slice arms o n e q h = subst (λ (l : List Arm). n < length l) e (subst (λ (p : Option ℕ). IfSome p (λ k. k < length slice)) q h)
+
+pub left_by_other : (scene : Scene) (leaf : Leaf) (s : Stmt) (arms slice : List Arm) (other body : List Stmt) (o : Option ℕ) (last left : Option ℤ) → s ≡ stmt.When arms other → slice ≡ arms → o ≡ None
+    → IsFirstHolding scene slice o → body ≡ other → left ≡ in_turn (map (effect scene leaf) body) last → left ≡ effect scene leaf s last
+left_by_other scene leaf s arms slice other body o last left is e q h b l =
+    let first : IsFirstHolding scene arms None = subst (λ l. IsFirstHolding scene l None) e (subst (λ p. IsFirstHolding scene slice p) q h) in
+    l ∙ (ap (λ ss. in_turn (map (effect scene leaf) ss) last) b ∙ sym (effect-other scene leaf s arms other last is first))
+
+pub left_by_arm : (scene : Scene) (leaf : Leaf) (s : Stmt) (arms slice : List Arm) (other body : List Stmt) (o : Option ℕ) (n : ℕ) (arm : Arm) (last left : Option ℤ) → s ≡ stmt.When arms other → slice ≡ arms → o ≡ Some n
+    → IsFirstHolding scene slice o → IfSome o (λ k. k < length slice) → arm ≡ get_or slice n arm → body ≡ arm.body → left ≡ in_turn (map (effect scene leaf) body) last → left ≡ effect scene leaf s last
+left_by_arm scene leaf s arms slice other body o n arm last left is e q h less at b l =
+    let first : IsFirstHolding scene arms (Some n) = subst (λ l. IsFirstHolding scene l (Some n)) e (subst (λ p. IsFirstHolding scene slice p) q h) in
+    l ∙ (ap (λ ss. in_turn (map (effect scene leaf) ss) last) b
+    ∙ sym (effect-taken scene leaf s arms other n arm last is (at ∙ ap (λ l. get_or l n arm) e) (within slice arms o n e q less) first))

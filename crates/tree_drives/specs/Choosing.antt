@@ -1,5 +1,5 @@
 -- The arm of a `when` that is taken (FIRRTL specification 3.0, "Conditionals").
-use Rattle.std.specs.Prelude.{◌≡◌, ℕ, ◌<◌, Bool, true, false, List, length, take, slice_get, Option, Some, None}
+use Rattle.std.specs.Prelude.{◌≡◌, ℕ, Bool, true, false, List, take, slice_get, Option, Some, None}
 use Rattle.std.specs.List.{list_all, list_any}
 use Rattle.fir_tree.specs.declared.stmt.Arm.{Arm}
 use Rattle.fir_meaning.specs.Values.{Scene, value, is_one}

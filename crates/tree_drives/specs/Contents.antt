@@ -1,8 +1,7 @@
 -- What lists of values say of a memory's contents, and what a module sees of a memory (FIRRTL specification 3.0, "Memories").
-use Rattle.std.specs.Prelude.{ℕ, not, List, [], map, filter, drop, get_or}
+use Rattle.std.specs.Prelude.{not, List, [], map, filter, drop, get_or}
 use Rattle.bit_words.specs.declared.value.Value.{Value}
 use Rattle.fir_types.specs.declared.leaf.TypeLeaf.{TypeLeaf}
-use Rattle.fir_types.specs.declared.leaf.PathStep.{PathStep}
 use Rattle.fir_meaning.specs.MemoryPorts.{MemoryPort, Contents, Leaves}
 use Rattle.tree_values.specs.Sites.{beside_leaf, integer_or_zero, scene_of_view}
 use Rattle.tree_drives.specs.declared.memory.SeenMemory.{SeenMemory}

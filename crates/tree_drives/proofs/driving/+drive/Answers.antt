@@ -1,16 +1,16 @@
-use Rattle.std.proofs.Common.{◌≡◌, ◌<◌, ◌∙◌, sym, ap, true, rules, map, option_map, get_or, length}
+use Rattle.std.proofs.Common.{◌≡◌, ◌<◌, ◌∙◌, sym, ap, rules, option_map, get_or, length}
 use Rattle.std.specs.Option.{option_or}
 use Rattle.bit_words.specs.Values.{integer_of}
 use Rattle.fir_tree.specs.declared.stmt.Stmt.{the_lemmas}
 use Rattle.fir_tree.specs.declared.stmt.Arm.{Arm}
-use Rattle.fir_meaning.specs.Drives.{effect, in_turn, set_by_connect, set_by_invalidate}
+use Rattle.fir_meaning.specs.Drives.{effect, set_by_connect, set_by_invalidate}
 use Rattle.fir_meaning.specs.WellTyped.{are_typed}
 use Rattle.drive_check.specs.Keys.{leaf_of_key}
 use Rattle.tree_values.specs.Sites.{known_of_view, scene_of_view}
 use Rattle.tree_drives.specs.Choosing.{are_conditions}
 use Rattle.tree_drives.proofs.Numbers.{or_of}
 use Rattle.tree_drives.proofs.Settings.{left_or}
-use Rattle.tree_drives.proofs.Statements.{turn_more, typed_one, arms_typed, body_typed, effect-Connect, effect-Invalidate, effect-taken, effect-other, to_number, to_none, within}
+use Rattle.tree_drives.proofs.Statements.{turn_more, typed_one, arms_typed, body_typed, effect-Connect, effect-Invalidate, within, left_by_other, left_by_arm}
 use Rattle.tree_drives.proofs.driving.+drive.Goals as goal
 
 pub after_block-after_statement-requires : goal.after_block-after_statement-requires
@@ -52,29 +52,16 @@ after_statement-after_block-requires-in-When t c =
 
 pub after_statement-returns-in_default : goal.after_statement-returns-in_default
 after_statement-returns-in_default t c =
-    let scene = scene_of_view c.args.view.now in
-    let leaf = leaf_of_key c.args.leaf.now in
-    let last = option_map integer_of c.args.before in
-    c.in_ok-last-in-When.ensures
-    ∙ (ap (λ b. in_turn (map (effect scene leaf) b) last) c.as_slice.ensures
-    ∙ sym (effect-other scene leaf c.args.statement.now c.in-When.arms c.in-When.other last c.in-When.is
-    (to_none scene c.as_slice-arms.result.now c.in-When.arms c.in_ok-number-in-When.field-0 c.as_slice-arms.ensures c.in_default.is c.in_ok-number-in-When.ensures.first)))
+    left_by_other (scene_of_view c.args.view.now) (leaf_of_key c.args.leaf.now) c.args.statement.now c.in-When.arms c.as_slice-arms.result.now c.in-When.other c.as_slice.result.now
+    c.in_ok-number-in-When.field-0 (option_map integer_of c.args.before) (option_map integer_of c.in_ok-last-in-When.last) c.in-When.is c.as_slice-arms.ensures c.in_default.is c.in_ok-number-in-When.ensures.first
+    c.as_slice.ensures c.in_ok-last-in-When.ensures
 
 pub after_statement-returns-in_ok-last-in-When-2 : goal.after_statement-returns-in_ok-last-in-When-2
 after_statement-returns-in_ok-last-in-When-2 t c =
-    let scene = scene_of_view c.args.view.now in
-    let leaf = leaf_of_key c.args.leaf.now in
-    let last = option_map integer_of c.args.before in
-    let arms = c.in-When.arms in
-    let n = c.in-Some.number in
-    let arm = c.index-arms-number.result in
-    let at : arm ≡ get_or arms n arm = c.index-arms-number.is ∙ ap (λ l. get_or l n arm) c.as_slice-arms.ensures in
-    let less : n < length arms = within c.as_slice-arms.result.now arms c.in_ok-number-in-When.field-0 n c.as_slice-arms.ensures c.in-Some.is c.in_ok-number-in-When.ensures.within in
-    let first = to_number scene c.as_slice-arms.result.now arms c.in_ok-number-in-When.field-0 n c.as_slice-arms.ensures c.in-Some.is c.in_ok-number-in-When.ensures.first in
-    c.in_ok-last-in-When-2.ensures
-    ∙ (ap (λ b. in_turn (map (effect scene leaf) b) last) c.as_slice-in-When.ensures
-    ∙ (sym (ap (λ (a : Arm). in_turn (map (effect scene leaf) a.body) last) c.index-arms-number.is)
-    ∙ sym (effect-taken scene leaf c.args.statement.now arms c.in-When.other n arm last c.in-When.is at less first)))
+    left_by_arm (scene_of_view c.args.view.now) (leaf_of_key c.args.leaf.now) c.args.statement.now c.in-When.arms c.as_slice-arms.result.now c.in-When.other c.as_slice-in-When.result.now
+    c.in_ok-number-in-When.field-0 c.in-Some.number c.index-arms-number.result (option_map integer_of c.args.before) (option_map integer_of c.in_ok-last-in-When-2.last) c.in-When.is c.as_slice-arms.ensures c.in-Some.is
+    c.in_ok-number-in-When.ensures.first c.in_ok-number-in-When.ensures.within c.index-arms-number.is
+    (c.as_slice-in-When.ensures ∙ sym (ap (λ (a : Arm). a.body) c.index-arms-number.is)) c.in_ok-last-in-When-2.ensures
 
 pub after_statement-returns-in_ok-set-in-Connect : goal.after_statement-returns-in_ok-set-in-Connect
 after_statement-returns-in_ok-set-in-Connect t c =

@@ -1,6 +1,6 @@
-use Rattle.std.proofs.Common.{◌≡◌, ◌∙◌, sym, ap, ap₂, false, Some, None}
+use Rattle.std.proofs.Common.{◌∙◌, sym, ap, ap₂, false, Some, None}
 use Rattle.std.specs.Option.{option_copied}
-use Rattle.fir_meaning.specs.Values.{value, whole}
+use Rattle.fir_meaning.specs.Values.{value}
 use Rattle.fir_meaning.specs.Drives.{set_at, left_in}
 use Rattle.drive_check.specs.Keys.{leaf_of_key}
 use Rattle.tree_values.specs.Sites.{scene_of_view}

@@ -1,7 +1,6 @@
 use Rattle.std.proofs.Common.{◌≡◌, ◌&&◌, ◌++◌, ◌∙◌, sym, ap, ap₂, map, take, get_or, Some, [], option_map, if◌then◌else◌, arith}
 use Rattle.bit_words.specs.declared.value.Value.{Value}
 use Rattle.bit_words.specs.Values.{integer_of}
-use Rattle.fir_types.specs.declared.leaf.TypeLeaf.{TypeLeaf}
 use Rattle.fir_meaning.specs.Values.{lone, fitted_to}
 use Rattle.fir_meaning.specs.Drives.{same_leaf, is_turned}
 use Rattle.drive_check.specs.Keys.{leaf_of_key, step_of}

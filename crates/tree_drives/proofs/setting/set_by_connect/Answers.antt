@@ -1,4 +1,4 @@
-use Rattle.std.proofs.Common.{◌≡◌, ◌∙◌, sym, ap, ap₂, true, false, None, option_map}
+use Rattle.std.proofs.Common.{◌≡◌, ◌∙◌, ap, ap₂, true, false, None, option_map}
 use Rattle.bit_words.specs.Values.{integer_of}
 use Rattle.fir_meaning.specs.Values.{value, spot_of}
 use Rattle.fir_meaning.specs.Drives.{set_at, left_in}
