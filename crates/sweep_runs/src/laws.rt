@@ -5,7 +5,7 @@ ghost use Rattle.fir_tree.specs.declared.scope.Fitted.{Fitted as FittedCircuit};
 ghost use Rattle.fir_meaning.specs.Components.{Design, FlatLeaf, design_of};
 ghost use Rattle.fir_meaning.specs.Values.{Valuation};
 ghost use Rattle.fir_meaning.specs.Certain.{IsInitialized};
-ghost use Rattle.fir_meaning.specs.States.{State, SameState, Inputs, Settled};
+ghost use Rattle.fir_meaning.specs.States.{State, SameState, Inputs, Settled, next};
 ghost use Rattle.fir_meaning.specs.Loops.{HasNoLoop, HasLeaves};
 ghost use Rattle.circuit_laws.specs.WellFormed.{IsWellFormed};
 ghost use Rattle.sweep_laws.specs.Sweeps.{swept};
@@ -15,6 +15,11 @@ use sweep_laws::laws::sweeps_settle;
 /// What is settled for a state is settled for one that is the same as far as the design's leaves show.
 pub fn same_states_settle_alike()
     ensures { (design : Design) (s t : State) → SameState design t s → (given : Inputs) (rho : Valuation) → Settled design t given rho → Settled design s given rho }
+{}
+
+/// And after a cycle they are the same again.
+pub fn same_states_go_on_alike()
+    ensures { (design : Design) (s t : State) → SameState design s t → (rho : Valuation) → SameState design (next design s rho) (next design t rho) }
 {}
 
 /// A sweep that changes nothing is the last one: later ones change nothing.
