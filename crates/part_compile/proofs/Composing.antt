@@ -1,15 +1,17 @@
 -- The code of a part from its layers, and the codes of parts one after the other.
-use Rattle.std.proofs.Common.{◌≡◌, ◌⊎◌, inl, inr, ⊎_elim, ◌↔◌, ℕ, zero, suc, ◌+◌, ◌<◌, Bool, true, false, List, [], ◌∷◌, ◌++◌, map, take, length, slice_get, slice_index, get_or, Some, None, refl, sym, subst, ap, ap₂, ◌∙◌, arith, All}
+use Rattle.std.proofs.Common.{◌≡◌, ◌⊎◌, inl, inr, ⊎_elim, ◌↔◌, ℕ, zero, suc, ◌+◌, ◌<◌, Bool, true, false, List, [], ◌∷◌, ◌++◌, map, take, length, slice_get, slice_index, get_or, Option, Some, None, refl, sym, subst, ap, ap₂, ◌∙◌, arith, All}
 use Rattle.std.specs.Prelude.{Contains, IsTrue}
-use Rattle.std.proofs.lemmas.List.{take_more, length-append}
+use Rattle.std.proofs.lemmas.List.{take_more, length-append, length-map}
 use Rattle.std.proofs.lemmas.Simd.{map-map}
 use Rattle.std.proofs.lemmas.Option.{slice_get_within, get_or_from_slice_get}
+use Rattle.ground_net.specs.declared.ground.Ground.{Ground}
 use Rattle.ground_net.specs.declared.net.Net.{Net}
 use Rattle.ground_net.specs.declared.net.CutPart.{CutPart}
 use Rattle.ground_net.specs.Cones.{Sink}
 use Rattle.ground_net.specs.Reads.{IsAssigned, IsOrder}
 use Rattle.net_meaning.specs.Nets.{IsNet}
-use Rattle.net_meaning.specs.Words.{state_words}
+use Rattle.net_meaning.specs.Cycles.{captures}
+use Rattle.net_meaning.specs.Words.{state_words, captured_word}
 use Rattle.flat_code.specs.declared.code.Code.{Code}
 use Rattle.flat_code.specs.declared.code.Span.{Span}
 use Rattle.flat_code.specs.declared.instr.Instr.{Instr}
@@ -22,9 +24,13 @@ use Rattle.code_draft.specs.declared.draft.Draft.{Draft}
 use Rattle.code_draft.specs.Drafts.{IsDraft}
 use Rattle.code_emit.specs.declared.sources.Sources.{Sources}
 use Rattle.code_emit.specs.Emits.{sources_table}
-use Rattle.code_sequence.specs.Sequences.{Goes, turned_table}
+use Rattle.code_sequence.specs.Sequences.{Goes, Assigns, turned_table}
 use Rattle.code_finish.specs.Finishing.{IsCodeOf as HasDraftsEffects}
+use Rattle.net_sources.specs.declared.captured.CapturedRead.{CapturedRead}
+use Rattle.net_sources.specs.declared.words.FirstWords.{FirstWords}
+use Rattle.net_sources.specs.FirstWords.{AreFirst, told_of}
 use Rattle.net_sources.specs.Complete.{AreAllOf}
+use Rattle.net_sources.proofs.Among.{among}
 use Rattle.turn_laws.specs.Knowing.{Knows}
 use Rattle.turn_laws.proofs.Turning.{part_known}
 use Rattle.part_laws.specs.Parts.{IsPart}
@@ -32,6 +38,7 @@ use Rattle.part_laws.proofs.Composed.{publishes, shows}
 use Rattle.partition_code.specs.Codes.{is_among, HasWordAmong, IsCodeOf, AreCodesOf}
 use Rattle.part_sinks.specs.declared.work.Made.{Made}
 use Rattle.part_sinks.specs.Rows.{sinks_of, IsWork, SoFar}
+use Rattle.part_compile.proofs.StateWords.{behind_all}
 
 false_true : false ≡ true → ⊥
 false_true e = cc
@@ -52,6 +59,18 @@ empty_is d instrs ports wides = record {
   wides = subst (All (IsWide d.slots d.words)) (sym wides) (λ k x lt. absurd (omega (arith, lt)));
 }
 
+pub at_both : {A B : Type 0} (P : A → B → Type 0) (a c : A) (b d : B) → a ≡ c → b ≡ d → P a b → P c d
+at_both P a c b d e f p = subst (λ x. P x d) e (subst (P a) f p)
+
+pub reads_long : (net : Net) (reads : List CapturedRead) → reads ≡ map told_of (captures net) → length reads ≡ length (captures net)
+reads_long net reads e = ap length e ∙ length-map (captures net) told_of
+
+-- the word behind the last captured read
+pub words_counted : (net : Net) (words : FirstWords) (reads : List CapturedRead) (xs : List ℕ) → AreFirst net words → reads ≡ map told_of (captures net) → xs ≡ words.captured → slice_index xs (length reads) ≡ state_words net
+words_counted net words reads xs first e same =
+    let long = reads_long net reads e in
+    ap (λ l. slice_index l (length reads)) same ∙ (first.captured (length reads) (omega (arith, long)) ∙ (ap (captured_word net) long ∙ behind_all net))
+
 module _ (net : Net) (w : IsNet net) (watch : List ℕ) (part : CutPart) where
   module _ (sequence : List ℕ) (union : IsUnion net watch sequence part) where
     pub are_assignments : (x : ℕ) → Contains part.assignments x → IsAssigned net.leaves x
@@ -70,6 +89,11 @@ module _ (net : Net) (w : IsNet net) (watch : List ℕ) (part : CutPart) where
             defaults [] k d lt = absurd (omega (arith, lt))
             defaults (x ∷ xs) zero d lt = refl
             defaults (x ∷ xs) (suc k) d lt = defaults xs k d (omega (arith, lt))
+
+    pub goes_on : (first later : Sources) (start assigned : Draft) (ds : List (Option Ground)) (xs : List ℕ) → AreAllOf net first → start.instrs ≡ [] → start.ports ≡ [] → start.wides ≡ [] → start.words ≡ state_words net → ds ≡ net.drivers
+        → xs ≡ part.assignments → Assigns ds xs first start later assigned → Goes net.drivers part.assignments first start later assigned
+    goes_on first later start assigned ds xs all instrs ports wides counted de xe assigns =
+        at_both (λ gs ys. Assigns gs ys first start later assigned) ds net.drivers xs part.assignments de xe assigns (empty_is start instrs ports wides) (among net w start counted first all.of)
 
     pub is_work : (first later : Sources) → IsOrder net sequence → AreAllOf net first → sources_table later ≡ turned_table (sources_table first) net.drivers part.assignments → IsWork net watch part later
     is_work first later order all e = record {
@@ -118,6 +142,9 @@ push_at P x y [] (v ∷ ys) e p h k a b at be = absurd (omega (arith, e))
 push_at P x y (u ∷ xs) [] e p h k a b at be = absurd (omega (arith, e))
 push_at P x y (u ∷ xs) (v ∷ ys) e p h zero a b at be = h 0 a b at be
 push_at P x y (u ∷ xs) (v ∷ ys) e p h (suc k) a b at be = push_at P x y xs ys (omega (arith, e)) p (λ j c d at be. h (suc j) c d at be) k a b at be
+
+pub codes_none : (net : Net) (watch : List ℕ) (codes : List Code) → codes ≡ [] → AreCodesOf net watch [] codes
+codes_none net watch codes e = record { counted = ap length e; each = λ p a c at here. absurd (none_some at) }
 
 pub codes_more : (net : Net) (watch : List ℕ) (parts : List CutPart) (i : ℕ) (part : CutPart) (codes : List Code) (code : Code) → slice_get parts i ≡ Some part → AreCodesOf net watch (take i parts) codes → IsCodeOf net watch part code
     → AreCodesOf net watch (take (i + 1) parts) (codes ++ code ∷ [])

@@ -1,4 +1,4 @@
-pub mod Counting
+pub mod StateWords
 pub mod Keeping
-pub mod Adding
+pub mod OneByOne
 pub mod Composing

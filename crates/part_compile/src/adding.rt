@@ -37,8 +37,10 @@ pub(crate) fn made_of(
         owned: List::new(alloc),
     };
     for number in part.sinks.as_slice() {
-        let sink = sinks[*number as usize];
-        add_sink(alloc, work, &mut made, *number, sink)?;
+        let Some(sink) = sinks.get(*number as usize) else {
+            unreachable!();
+        };
+        add_sink(alloc, work, &mut made, *number, *sink)?;
     }
     Ok(made)
 }

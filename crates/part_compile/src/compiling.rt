@@ -39,7 +39,9 @@ pub fn compile(
 {
     let net = &ordered.net;
     let reads = captured_reads(alloc, net)?;
-    if net.leaves.len() >= NUMBERS || !has_few_words(net, reads.len()) {
+    let leaves = net.leaves.len();
+    let few = has_few_words(net, reads.len());
+    if leaves >= NUMBERS || !few {
         return Err(AllocError);
     }
     let words = first_words(alloc, net)?;

@@ -1,11 +1,12 @@
 //! How many words a state has.
 
-ghost use Rattle.std.specs.Prelude.{◌≡◌, ◌<◌, ◌≤◌, ◌+◌, ◌*◌, ◌^◌, IsTrue, length, sum_by};
+ghost use Rattle.std.specs.Prelude.{◌≡◌, ◌<◌, ◌≤◌, ◌+◌, ◌^◌, IsTrue, length, sum_by};
 ghost use Rattle.net_meaning.specs.Nets.{register_shapes};
 ghost use Rattle.net_meaning.specs.Cycles.{captures};
-ghost use Rattle.net_meaning.specs.Words.{count_words, memory_words, element_words as words_in_element, state_words, SaysItsWords};
+ghost use Rattle.net_meaning.specs.Words.{count_words, memory_words, state_words, SaysItsWords};
 
-use ground_net::{Net, NetMemory};
+use ground_net::Net;
+use net_sources::element_words;
 
 /// Words have numbers below this.
 const NUMBERS: u128 = 4_294_967_296;
@@ -34,16 +35,4 @@ fn behind_memories(net: &Net) -> u128
     };
     let words = last.depth.saturating_mul(element_words(last));
     words.saturating_add(last.word as u128)
-}
-
-/// How many words an element of a memory takes.
-fn element_words(memory: &NetMemory) -> u128
-    ensures words { result ≡ words_in_element memory.now }
-    ensures few { result < 2 ^ 65 }
-{
-    let mut words: u128 = 0;
-    for leaf in memory.elements.as_slice() {
-        words += if leaf.width > 64 { 2 } else { 1 };
-    }
-    words
 }

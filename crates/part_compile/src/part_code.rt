@@ -34,7 +34,8 @@ pub(crate) fn code_of(
 {
     let net = plan.net;
     let words = plan.words;
-    let count = words.captured.as_slice()[plan.reads.len()];
+    let last = plan.reads.len();
+    let count = words.captured.as_slice()[last];
     let mut sources = sources_of(alloc, net, words)?;
     let mut draft = empty(alloc, count);
     assign_all(
@@ -49,5 +50,6 @@ pub(crate) fn code_of(
         sources: &sources,
     };
     let made = made_of(alloc, &work, sinks, part, draft)?;
-    finish(made.draft, made.shown, made.positions, made.owned)
+    let code = finish(made.draft, made.shown, made.positions, made.owned)?;
+    Ok(code)
 }

@@ -1,8 +1,8 @@
 -- The sinks of a part, one after the other.
-use Rattle.std.proofs.Common.{◌≡◌, ℕ, ◌+◌, ◌<◌, List, [], ◌∷◌, ◌++◌, map, take, length, slice_get, slice_index, get_or, Some, option_map, refl, sym, subst, ap, ◌∙◌, arith}
+use Rattle.std.proofs.Common.{◌≡◌, ℕ, ◌+◌, ◌<◌, List, [], ◌∷◌, ◌++◌, map, take, length, slice_get, slice_index, Some, option_map, refl, sym, subst, ap, ◌∙◌, arith}
 use Rattle.std.specs.Prelude.{Contains}
 use Rattle.std.proofs.lemmas.List.{take_more, length-map}
-use Rattle.std.proofs.lemmas.Option.{slice_get-map, slice_get-get_or}
+use Rattle.std.proofs.lemmas.Option.{slice_get-map}
 use Rattle.ground_net.specs.declared.net.Net.{Net}
 use Rattle.ground_net.specs.declared.net.CutPart.{CutPart}
 use Rattle.ground_net.specs.Cones.{Sink, A_memory, sinks, InCone}
@@ -23,9 +23,8 @@ pub memory_tells : (net : Net) (S : Sources) (m n : ℕ) (old new : Draft) → n
 memory_tells net S m n old new same t = subst (λ j. TellsSinks net S (A_memory j ∷ []) old new) same t
 
 -- the sink of a number
-pub sink_there : (net : Net) (watch : List ℕ) (found : List SinkAt) (k : ℕ) (d : SinkAt) → map sink_of found ≡ sinks net watch → k < length found → slice_get (sinks net watch) k ≡ Some (sink_of (get_or found k d))
-sink_there net watch found k d all lt =
-    ap (λ l. slice_get l k) (sym all) ∙ (slice_get-map sink_of found k ∙ ap (option_map sink_of) (slice_get-get_or found k d lt))
+pub sink_there : (net : Net) (watch : List ℕ) (found : List SinkAt) (k : ℕ) (s : SinkAt) → map sink_of found ≡ sinks net watch → slice_get found k ≡ Some s → slice_get (sinks net watch) k ≡ Some (sink_of s)
+sink_there net watch found k s all at = ap (λ l. slice_get l k) (sym all) ∙ (slice_get-map sink_of found k ∙ ap (option_map sink_of) at)
 
 pub number_within : (net : Net) (watch : List ℕ) (found : List SinkAt) (k : ℕ) → map sink_of found ≡ sinks net watch → k < length (sinks net watch) → k < length found
 number_within net watch found k all lt =
@@ -33,8 +32,8 @@ number_within net watch found k all lt =
     let same = ap length all in
     omega (arith, long, same, lt)
 
-pub part_has : (part : CutPart) (i : ℕ) → i < length part.sinks → Contains part.sinks (slice_index part.sinks i)
-part_has part i lt = (i, lt, refl)
+pub part_has : (part : CutPart) (xs : List ℕ) (i : ℕ) → xs ≡ part.sinks → i < length xs → Contains part.sinks (slice_index xs i)
+part_has part xs i same lt = let long = ap length same in (i, omega (arith, lt, long), ap (λ l. slice_index l i) (sym same))
 
 -- the cone of a part's sink is known
 pub cone_known : (net : Net) (watch : List ℕ) (part : CutPart) (S : Sources) (k : ℕ) (sink : Sink) → IsWork net watch part S → Contains part.sinks k → slice_get (sinks net watch) k ≡ Some sink → KnowsCone net sink S
@@ -44,7 +43,8 @@ cone_known net watch part S k sink work c there = knows_for net (Contains part.a
 pub ready_so_far : (net : Net) (watch : List ℕ) (S : Sources) (start : Draft) (numbers : List ℕ) (made : Made) → IsReady net S start → SoFar net watch S start numbers made → IsReady net S made.draft
 ready_so_far net watch S start numbers made ready so = (so.tells.is, so.tells.are, so.tells.words ∙ ready.2)
 
-pub sinks_more : (net : Net) (watch : List ℕ) (S : Sources) (start : Draft) (numbers : List ℕ) (i : ℕ) (sink : Sink) (old new : Made) → i < length numbers → slice_get (sinks net watch) (slice_index numbers i) ≡ Some sink
-    → SoFar net watch S start (take i numbers) old → Adds net watch S (slice_index numbers i) sink old new → SoFar net watch S start (take (i + 1) numbers) new
-sinks_more net watch S start numbers i sink old new lt there so adds =
-    subst (λ ks. SoFar net watch S start ks new) (sym (take_more numbers i 0 lt)) (one_so_far net watch S start (take i numbers) (slice_index numbers i) sink old new there so adds)
+pub sinks_more : (net : Net) (watch : List ℕ) (S : Sources) (start : Draft) (numbers xs : List ℕ) (i : ℕ) (sink : Sink) (old new : Made) → xs ≡ numbers → i < length xs → slice_get (sinks net watch) (slice_index xs i) ≡ Some sink
+    → SoFar net watch S start (take i numbers) old → Adds net watch S (slice_index xs i) sink old new → SoFar net watch S start (take (i + 1) numbers) new
+sinks_more net watch S start numbers xs i sink old new same lt there so adds =
+    subst (λ ks. SoFar net watch S start ks new) (sym (take_more xs i 0 lt) ∙ ap (take (i + 1)) same)
+    (one_so_far net watch S start (take i xs) (slice_index xs i) sink old new there (subst (λ ks. SoFar net watch S start (take i ks) old) (sym same) so) adds)
