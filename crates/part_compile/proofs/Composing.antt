@@ -2,6 +2,7 @@
 use Rattle.std.proofs.Common.{◌≡◌, ◌⊎◌, inl, inr, ⊎_elim, ◌↔◌, ℕ, zero, suc, ◌+◌, ◌<◌, Bool, true, false, List, [], ◌∷◌, ◌++◌, map, take, length, slice_get, slice_index, get_or, Option, Some, None, refl, sym, subst, ap, ap₂, ◌∙◌, arith, All}
 use Rattle.std.specs.Prelude.{Contains, IsTrue}
 use Rattle.std.proofs.lemmas.List.{take_more, length-append, length-map}
+use Rattle.std.proofs.lemmas.List.Elements.{Contains-get_or}
 use Rattle.std.proofs.lemmas.Simd.{map-map}
 use Rattle.std.proofs.lemmas.Option.{slice_get_within, get_or_from_slice_get}
 use Rattle.ground_net.specs.declared.ground.Ground.{Ground}
@@ -19,7 +20,6 @@ use Rattle.flat_code.specs.Fine.{AreFine, IsPort, IsWide, nothing, written}
 use Rattle.flat_code.specs.Orders.{Single}
 use Rattle.cone_cutter.specs.Splits.{IsUnion}
 use Rattle.cone_cutter.proofs.Assembly.{cone_assigned, assigned_within}
-use Rattle.cone_cutter.proofs.Lists.{stands}
 use Rattle.code_draft.specs.declared.draft.Draft.{Draft}
 use Rattle.code_draft.specs.Drafts.{IsDraft}
 use Rattle.code_emit.specs.declared.sources.Sources.{Sources}
@@ -78,17 +78,8 @@ module _ (net : Net) (w : IsNet net) (watch : List ℕ) (part : CutPart) where
 
     pub all_within : (n : ℕ) → n ≡ length net.leaves → All (λ x. x < n) part.assignments
     all_within n e k d lt =
-        let x = get_or part.assignments k d in
-        let within = assigned_within net.leaves x (are_assignments x (k, lt, same k d lt)) in
+        let within = assigned_within net.leaves (get_or part.assignments k d) (are_assignments (get_or part.assignments k d) (Contains-get_or part.assignments k d lt)) in
         omega (arith, within, e)
-      where
-        same : (k d : ℕ) → k < length part.assignments → slice_index part.assignments k ≡ get_or part.assignments k d
-        same k d lt = defaults part.assignments k d lt
-          where
-            defaults : (xs : List ℕ) (k d : ℕ) → k < length xs → slice_index xs k ≡ get_or xs k d
-            defaults [] k d lt = absurd (omega (arith, lt))
-            defaults (x ∷ xs) zero d lt = refl
-            defaults (x ∷ xs) (suc k) d lt = defaults xs k d (omega (arith, lt))
 
     pub goes_on : (first later : Sources) (start assigned : Draft) (ds : List (Option Ground)) (xs : List ℕ) → AreAllOf net first → start.instrs ≡ [] → start.ports ≡ [] → start.wides ≡ [] → start.words ≡ state_words net → ds ≡ net.drivers
         → xs ≡ part.assignments → Assigns ds xs first start later assigned → Goes net.drivers part.assignments first start later assigned

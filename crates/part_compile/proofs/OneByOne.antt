@@ -2,6 +2,7 @@
 use Rattle.std.proofs.Common.{◌≡◌, ℕ, ◌+◌, ◌<◌, List, [], ◌∷◌, ◌++◌, map, take, length, slice_get, slice_index, Some, option_map, refl, sym, subst, ap, ◌∙◌, arith}
 use Rattle.std.specs.Prelude.{Contains}
 use Rattle.std.proofs.lemmas.List.{take_more, length-map}
+use Rattle.std.proofs.lemmas.List.Elements.{Contains-get_or}
 use Rattle.std.proofs.lemmas.Option.{slice_get-map}
 use Rattle.ground_net.specs.declared.net.Net.{Net}
 use Rattle.ground_net.specs.declared.net.CutPart.{CutPart}
@@ -33,7 +34,7 @@ number_within net watch found k all lt =
     omega (arith, long, same, lt)
 
 pub part_has : (part : CutPart) (xs : List ℕ) (i : ℕ) → xs ≡ part.sinks → i < length xs → Contains part.sinks (slice_index xs i)
-part_has part xs i same lt = let long = ap length same in (i, omega (arith, lt, long), ap (λ l. slice_index l i) (sym same))
+part_has part xs i same lt = subst (λ l. Contains l (slice_index xs i)) same (Contains-get_or xs i 0 lt)
 
 -- the cone of a part's sink is known
 pub cone_known : (net : Net) (watch : List ℕ) (part : CutPart) (S : Sources) (k : ℕ) (sink : Sink) → IsWork net watch part S → Contains part.sinks k → slice_get (sinks net watch) k ≡ Some sink → KnowsCone net sink S
