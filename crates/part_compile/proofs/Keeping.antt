@@ -24,7 +24,7 @@ use Rattle.code_sequence.specs.Sequences.{StandElsewhere}
 use Rattle.source_laws.specs.FromNets.{IsFrom}
 use Rattle.net_sources.specs.Complete.{AreAllOf}
 use Rattle.memory_sources.specs.Memories.{HasMemory, StandsInMemory, StandsCaptured}
-use Rattle.part_sinks.proofs.Shaping.{found}
+use Rattle.memory_sources.proofs.Numbered.{some_there}
 use Rattle.part_compile.specs.Rows.{KnowsCone, AreKept}
 
 captured_assigned : (r : Role) (n : ℕ) → r ≡ role.Captured n → r ≡ role.Assigned → ⊥
@@ -78,7 +78,7 @@ module _ (net : Net) (w : IsNet net) (assignments : List ℕ) (first later : Sou
 -- the sources have what the code of a memory needs
 pub has_memory : (net : Net) (S : Sources) (m n : ℕ) → m < length net.memories → n ≡ m → KnowsCone net (A_memory m) S → AreKept net S → HasMemory net S n
 has_memory net S m n lt same known kept =
-    let at = found net.memories m lt in
+    let at = some_there net.memories m lt in
     subst (HasMemory net S) (sym same) (record {
       memory = at.0;
       there = at.1;
