@@ -1,5 +1,4 @@
-use Rattle.std.proofs.Common.{◌≡◌, ℕ, List, ◌+◌, ◌<◌, ◌≤◌, length, take, slice_get, slice_index, slice_index_or, sym, subst, ap, ◌∙◌, refl, None, Some, arith}
-use Rattle.core.specs.Slice.{IsItemAt}
+use Rattle.std.proofs.Common.{◌≡◌, ℕ, List, ◌+◌, ◌<◌, ◌≤◌, length, take, slice_get, slice_index, slice_index_or, sym, subst, ap, ◌∙◌, refl, false, true, IsSome, Some, arith}
 use Rattle.std.proofs.lemmas.List.{take_all}
 use Rattle.std.proofs.lemmas.Option.{slice_get_read}
 use Rattle.cone_cutter.specs.declared.sinks.SinkAt.{SinkAt}
@@ -24,8 +23,8 @@ unreachable-requires c =
     let test = c.loop-number-test.true in
     let below : i < length xs = omega (arith, test) in
     let within = number_within net watch c.args.sinks.now (slice_index xs i) c.requires.sinks (c.requires.part.within (slice_index xs i) (part_has c.args.part.now xs i c.as_slice-number-items.ensures below)) in
-    let none : IsItemAt c.args.sinks.now (slice_index xs i) None = subst (IsItemAt c.args.sinks.now (slice_index xs i)) c.in_default.is c.get.ensures.lookup in
-    omega (arith, within, none.3)
+    let none : false ≡ true = subst (λ r. IsSome r) c.in_default.is (c.get.ensures.lookup.2 within) in
+    cc
 
 pub add_sink-requires-clause-known : goal.add_sink-requires-clause-known
 add_sink-requires-clause-known c =
