@@ -1,5 +1,5 @@
 -- Behind the code of assignments, what is kept from cycle to cycle is found where it was.
-use Rattle.std.proofs.Common.{◌≡◌, ◌⊎◌, ⊎_elim, ℕ, ◌<◌, List, length, slice_get, Option, Some, option_and_then, refl, sym, subst, ap, ◌∙◌}
+use Rattle.std.proofs.Common.{◌≡◌, ⊎_elim, ℕ, ◌<◌, List, length, slice_get, Some, option_and_then, sym, subst, ap, ◌∙◌}
 use Rattle.std.specs.Prelude.{Contains}
 use Rattle.std.proofs.lemmas.Option.{slice_get_within}
 use Rattle.ground_net.specs.declared.net.Net.{Net}
@@ -8,7 +8,7 @@ use Rattle.ground_net.specs.declared.net.NetMemory.{NetMemory}
 use Rattle.ground_net.specs.declared.net.ElementLeaf.{ElementLeaf}
 use Rattle.ground_net.specs.declared.net.Role.{Role}
 use Rattle.ground_net.specs.declared.net.Role.TheVariants as role
-use Rattle.ground_net.specs.Cones.{A_memory, InCone, needed}
+use Rattle.ground_net.specs.Cones.{A_memory, needed}
 use Rattle.ground_net.specs.Reads.{IsAssigned}
 use Rattle.net_meaning.specs.Cycles.{Capture, captures, element_leaf}
 use Rattle.net_meaning.specs.Nets.{IsNet, shape_or_none}

@@ -1,4 +1,4 @@
-use Rattle.std.proofs.Common.{◌≡◌, refl}
+use Rattle.std.proofs.Common.{refl}
 use Rattle.ground_net.specs.Cones.{A_memory}
 use Rattle.part_sinks.proofs.Places.{memory_place}
 use Rattle.part_sinks.proofs.Shaping.{one_has_words}

@@ -1,4 +1,4 @@
-use Rattle.std.proofs.Common.{◌≡◌, ℕ, List, ◌+◌, ◌<◌, ◌≤◌, length, take, slice_get, slice_index, slice_index_or, sym, subst, ap, ◌∙◌, refl, false, true, IsSome, Some, arith}
+use Rattle.std.proofs.Common.{◌≡◌, ℕ, List, ◌<◌, length, take, slice_get, slice_index, slice_index_or, subst, ap, refl, false, true, IsSome, Some, arith}
 use Rattle.std.proofs.lemmas.List.{take_all}
 use Rattle.std.proofs.lemmas.Option.{slice_get_read}
 use Rattle.cone_cutter.specs.declared.sinks.SinkAt.{SinkAt}

@@ -1,9 +1,8 @@
-use Rattle.std.proofs.Common.{◌≡◌, ◌+◌, ◌<◌, length, map, take, slice_get, Some, sym, subst, ap, ◌∙◌, refl, arith}
+use Rattle.std.proofs.Common.{◌≡◌, ◌+◌, ◌<◌, length, take, slice_get, Some, sym, subst, ap, ◌∙◌, arith}
 use Rattle.std.proofs.lemmas.List.{take_all}
 use Rattle.std.proofs.lemmas.Option.{slice_get-get_or}
-use Rattle.cone_cutter.specs.Rows.{sink_of}
 use Rattle.partition_code.specs.Codes.{AreCodesOf}
-use Rattle.part_compile.proofs.Composing.{reads_long, codes_none, codes_more}
+use Rattle.part_compile.proofs.Composing.{codes_none, codes_more}
 use Rattle.part_compile.proofs.compiling.compile.Goals as goal
 
 pub loop-part-init : goal.loop-part-init

@@ -1,4 +1,4 @@
-use Rattle.std.proofs.Common.{◌≡◌, ℕ, ◌+◌, ◌<◌, length, slice_index, All, sym, subst, ap, ap₂, ◌∙◌, refl, arith}
+use Rattle.std.proofs.Common.{◌<◌, length, All, sym, subst, ap, ap₂, ◌∙◌, arith}
 use Rattle.code_emit.specs.Emits.{sources_table}
 use Rattle.code_sequence.specs.Sequences.{InTurn, StandElsewhere, turned_table}
 use Rattle.turn_laws.proofs.Turning.{part_turn}
