@@ -1,0 +1,11 @@
+//! The codes of the parts of a cut: of each part the sources of the net, its assignments in turn, the code of its sinks, and the whole.
+//! Keeps the contract that there is one code for each part, which publishes exactly what the part's sinks leave, puts out the settled
+//! values of the part's watched leaves, and owns the words of the part's sinks.
+#![tactic(auto)]
+
+pub mod adding;
+pub mod compiling;
+pub mod counting;
+pub mod part_code;
+
+pub use compiling::compile;
