@@ -1,5 +1,5 @@
 -- Ways of one operand.
-use Rattle.std.proofs.Common.{◌≡◌, ℕ, ◌+◌, ◌-◌, ◌*◌, ◌/◌, ◌%◌, ◌^◌, ◌<◌, ◌≤◌, min, true, List, [], ◌∷◌, slice_index, Some, pos, bit_and, refl, sym, ap, ap₂, ◌∙◌, arith, mod-eq_of_lt, pow_mono, All}
+use Rattle.std.proofs.Common.{◌≡◌, ℕ, ◌+◌, ◌-◌, ◌*◌, ◌/◌, ◌%◌, ◌^◌, ◌<◌, ◌≤◌, min, true, List, [], ◌∷◌, slice_index, Some, pos, bit_and, refl, sym, ap, ap₂, ◌∙◌, arith, mod-eq_of_lt, pow_mono, pow-add, All}
 use Rattle.bit_words.specs.declared.value.Kind.{Kind}
 use Rattle.bit_words.specs.declared.value.Kind.TheVariants.{Unsigned, Signed}
 use Rattle.bit_words.specs.declared.value.Value.{Value}
@@ -16,18 +16,21 @@ use Rattle.flat_code.specs.declared.instr.Spot.{Spot}
 use Rattle.flat_code.specs.Meaning.{spot_value, extension}
 use Rattle.flat_code.specs.Fine.{spot_shapes}
 use Rattle.code_draft.specs.declared.draft.Draft.{Draft}
-use Rattle.code_draft.specs.Drafts.{Stands}
+use Rattle.code_draft.specs.Drafts.{Stands, written_in}
 use Rattle.code_draft.proofs.Cuts.{masked}
 use Rattle.code_words.specs.Working.{working}
-use Rattle.code_words.specs.Ways.{Cut, Given, Rests, Operates, Follow, Refits, Shifts, row_value}
+use Rattle.code_words.specs.Ways.{Cut, Given, Rests, Operates, Follow, Refits, Shifts, row_value, fit_of_one}
 use Rattle.code_words.proofs.Laws.{HasWord, plain, not_law, signed_word}
 use Rattle.code_words.proofs.There.{bits_at, width_at, few_at, result_width, written_low, first_there, one_computes}
+
+pub half_double : (w : ℕ) → 0 < w → 2 * 2 ^ (w - 1) ≡ 2 ^ w
+half_double w some = let exponent : 1 + (w - 1) ≡ w = omega (arith, some) in sym (pow-add 2 1 (w - 1)) ∙ ap (λ n. 2 ^ n) exponent
 
 module _ (x : Spot) (few : x.width ≤ 64) where
   low_at : (F : List ℕ) → All (Cut F) (x ∷ []) → slice_index F x.low ≡ (spot_value F x).bits
   low_at F cut = sym (bits_at F x few (first_there (Cut F) x [] cut))
 
-  low_written : (d : Draft) → All (Stands d) (x ∷ []) → _
+  low_written : (d : Draft) → All (Stands d) (x ∷ []) → written_in d x.low ≡ true
   low_written d a = written_low d x (first_there (Stands d) x [] a)
 
   -- a value's bits are its integer's
@@ -85,6 +88,10 @@ module _ (x : Spot) (few : x.width ≤ 64) where
       computes = λ d a. one_computes op.Right low mask x.low d refl (λ ports wides i. refl) lt (low_written d a);
       gives = λ words inputs F cut. masked (slice_index F x.low / 2 ^ low) width mask m ∙ (ap (λ n. n / 2 ^ low % 2 ^ width) (low_at F cut) ∙ sym (shifts F));
     }
+
+  -- what is fitted has the bits of its integer
+  pub fit_refits : (kind : Kind) (width : ℕ) → width ≤ 64 → Refits x width (fit_of_one kind width)
+  fit_refits kind width le F = let e : min width 128 ≡ width = omega (arith, le) in ap (λ w. bits_of w (integer_of (spot_value F x))) e
 
   -- Rows of the table
   module _ (params : List ℕ) (kind : Kind) (width : ℕ) where

@@ -1,5 +1,6 @@
 -- What stands at spots whose words are cut.
-use Rattle.std.proofs.Common.{◌≡◌, ℕ, zero, suc, ◌+◌, ◌*◌, ◌%◌, ◌^◌, ◌<◌, ◌≤◌, min, Bool, true, false, nat_lt, if◌then◌else◌, List, [], ◌∷◌, length, slice_index, Some, pos, refl, sym, subst, ap, ◌∙◌, arith, mod-eq_of_lt, All}
+use Rattle.std.proofs.Common.{◌≡◌, ℕ, zero, suc, ◌+◌, ◌*◌, ◌%◌, ◌^◌, ◌<◌, ◌≤◌, min, Bool, true, false, nat_lt, if◌then◌else◌, List, [], ◌∷◌, length, slice_index, get_or, Option, Some, None, pos, ap₂, refl, sym, subst, ap, ◌∙◌, arith, mod-eq_of_lt, All}
+use Rattle.std.specs.Prelude.{IfSome}
 use Rattle.std.proofs.lemmas.Bool.{le-ltb}
 use Rattle.bit_words.specs.declared.value.Kind.{Kind}
 use Rattle.bit_words.specs.declared.value.Value.{Value}
@@ -19,7 +20,8 @@ use Rattle.code_draft.specs.Drafts.{Stands, written_in, computes, Computes}
 use Rattle.code_draft.proofs.Growing.{one_known, two_known}
 use Rattle.code_draft.proofs.Cuts.{fitted_bits}
 use Rattle.code_words.specs.Working.{working}
-use Rattle.code_words.specs.Ways.{Cut, row_value}
+use Rattle.code_words.specs.declared.ways.Way.{Way}
+use Rattle.code_words.specs.Ways.{Cut, Given, IsWay, GivesRow, row_value}
 
 no_more : (n : ℕ) → n + 0 * 2 ^ 64 ≡ n
 no_more n = omega arith
@@ -75,3 +77,39 @@ two_computes o shift mask x y d plain reads lt a b = record {
   known = subst (AreKnown (written_in d)) (sym (reads d.ports d.wides (working o shift x.low y.low 0 mask))) (two_known (written_in d) x.low y.low (written_low d x a) (written_low d y b));
   shift = lt;
 }
+
+-- Answers that are there
+
+pub some_so : {A : Type 0} {P Q : A → Type 0} (o : Option A) → IfSome o P → ((x : A) → P x → Q x) → IfSome o Q
+some_so (Some x) h f = f x h
+some_so None h f = tt
+
+-- a row of an operation that is known
+pub row_for : (p q : PrimOp) (w v : Way) (params : List ℕ) (spots : List Spot) (width : ℕ) → p ≡ q → w ≡ v → GivesRow v q params spots width → GivesRow w p params spots width
+row_for p q w v params spots width e f h = subst (λ r. GivesRow w r params spots width) (sym e) (subst (λ u. GivesRow u q params spots width) (sym f) h)
+
+-- a way that is one for whatever is made so
+pub way_row : (o : Option Way) (p q : PrimOp) (params : List ℕ) (x : Spot) (width : ℕ) (Q : Given → Type 0) → p ≡ q → IfSome o (λ way. (R : Given) → Q R → IsWay way (x ∷ []) R)
+    → ((kind : Kind) → shape_of_row q params (spot_shapes (x ∷ [])) ≡ Some (shaped kind width) → Q (row_value q params)) → IfSome o (λ way. GivesRow way p params (x ∷ []) width)
+way_row o p q params x width Q e h made =
+    some_so o h (λ way f. subst (λ r. GivesRow way r params (x ∷ []) width) (sym e) (λ kind row. f (row_value q params) (made kind row)))
+
+-- Items of slices
+
+pub one_item : (ss : List Spot) (x : Spot) → 1 ≤ length ss → length ss < 2 → x ≡ get_or ss 0 x → ss ≡ x ∷ []
+one_item [] x some few e = absurd (omega (arith, some))
+one_item (s ∷ []) x some few e = ap (λ y. y ∷ []) (sym e)
+one_item (s ∷ t ∷ ss) x some few e = absurd (omega (arith, few))
+
+pub two_items : (ss : List Spot) (x y : Spot) → 2 ≤ length ss → length ss < 3 → x ≡ get_or ss 0 x → y ≡ get_or ss 1 y → ss ≡ x ∷ y ∷ []
+two_items [] x y some few e f = absurd (omega (arith, some))
+two_items (s ∷ []) x y some few e f = absurd (omega (arith, some))
+two_items (s ∷ t ∷ []) x y some few e f = ap₂ (λ a b. a ∷ b ∷ []) (sym e) (sym f)
+two_items (s ∷ t ∷ u ∷ ss) x y some few e f = absurd (omega (arith, few))
+
+pub three_items : (ss : List Spot) (x y z : Spot) → 3 ≤ length ss → length ss < 4 → x ≡ get_or ss 0 x → y ≡ get_or ss 1 y → z ≡ get_or ss 2 z → ss ≡ x ∷ y ∷ z ∷ []
+three_items [] x y z some few e f g = absurd (omega (arith, some))
+three_items (s ∷ []) x y z some few e f g = absurd (omega (arith, some))
+three_items (s ∷ t ∷ []) x y z some few e f g = absurd (omega (arith, some))
+three_items (s ∷ t ∷ u ∷ []) x y z some few e f g = ap₂ (λ a bs. a ∷ bs) (sym e) (ap₂ (λ a b. a ∷ b ∷ []) (sym f) (sym g))
+three_items (s ∷ t ∷ u ∷ v ∷ ss) x y z some few e f g = absurd (omega (arith, few))

@@ -17,7 +17,11 @@ use std::alloc::AllocError;
 
 /// The second item where the first one is 1, and else the third, where they are three and words suffice for it; else none, and the
 /// code stays as it is.
-pub fn choice_word(draft: &mut Draft, items: &[Spot], measure: Measure) -> Result<Option<Spot>, AllocError>
+pub fn choice_word(
+    draft: &mut Draft,
+    items: &[Spot],
+    measure: Measure,
+) -> Result<Option<Spot>, AllocError>
     ensures shape { IfOk result (λ o. IfSome o (λ s. spot_shape s ≡ shaped measure.kind measure.width)) }
     ensures makes { IfOk result (λ o. IfSome o (λ s. IsDraft draft.old → All (Stands draft.old) items.now → Makes draft.old draft.new s (IsMade chosen items.now (shaped measure.kind measure.width)))) }
     ensures none { result ≡ Ok None → draft.new ≡ draft.old }
@@ -28,18 +32,31 @@ pub fn choice_word(draft: &mut Draft, items: &[Spot], measure: Measure) -> Resul
     }
     match items {
         [condition, first, second] => {
-            if condition.width > 64 || first.width > 64 || second.width > 64 {
-                return Ok(None);
-            }
-            match condition.kind {
-                Kind::Unsigned => {
-                    let way = Way::Word(choosing(*condition, *first, *second));
-                    Ok(Some(made(draft, way, measure)?))
-                }
-                Kind::Signed => Ok(None),
+            match choice_way(*condition, *first, *second) {
+                Some(way) => Ok(Some(made(draft, way, measure)?)),
+                None => Ok(None),
             }
         }
         _ => Ok(None),
+    }
+}
+
+/// The way of a choice of two values of at most 64 bits.
+fn choice_way(condition: Spot, first: Spot, second: Spot) -> Option<Way>
+    ensures { IfSome result (λ way. IsWay way (condition ∷ first ∷ second ∷ []) chosen) }
+{
+    if condition.width > 64 {
+        return None;
+    }
+    if first.width > 64 {
+        return None;
+    }
+    if second.width > 64 {
+        return None;
+    }
+    match condition.kind {
+        Kind::Unsigned => Some(Way::Word(choosing(condition, first, second))),
+        Kind::Signed => None,
     }
 }
 

@@ -1,6 +1,6 @@
 //! Values that are fitted to another width.
 
-ghost use Rattle.std.specs.Prelude.{◌≡◌, ◌≤◌, ◌+◌, ◌∷◌, [], Some, None, Ok, IfOk, OnOk, IfSome, All};
+ghost use Rattle.std.specs.Prelude.{◌≡◌, ◌<◌, ◌≤◌, ◌+◌, ◌-◌, ◌^◌, ◌∷◌, [], Some, None, Ok, IfOk, OnOk, IfSome, All};
 ghost use Rattle.bit_words.specs.declared.value.Kind.TheVariants.{Signed};
 ghost use Rattle.flat_code.specs.Meaning.{spot_shape};
 ghost use Rattle.net_meaning.specs.Shapes.{shaped};
@@ -14,7 +14,11 @@ use flat_code::{Op, Spot};
 use std::alloc::AllocError;
 
 /// The value of one spot, fitted to a kind and a width, where words suffice for it; else none, and the code stays as it is.
-pub fn fit_word(draft: &mut Draft, operands: &[Spot], measure: Measure) -> Result<Option<Spot>, AllocError>
+pub fn fit_word(
+    draft: &mut Draft,
+    operands: &[Spot],
+    measure: Measure,
+) -> Result<Option<Spot>, AllocError>
     ensures shape { IfOk result (λ o. IfSome o (λ s. spot_shape s ≡ shaped measure.kind measure.width)) }
     ensures makes { IfOk result (λ o. IfSome o (λ s. IsDraft draft.old → All (Stands draft.old) operands.now → Makes draft.old draft.new s (IsMade (fit_of_one measure.kind measure.width) operands.now (shaped measure.kind measure.width)))) }
     ensures none { result ≡ Ok None → draft.new ≡ draft.old }
@@ -65,9 +69,17 @@ fn signed_way(x: Spot, width: u8) -> Option<Way>
     if x.width == 0 {
         return None;
     }
-    let half = 1 << (x.width - 1);
     Some(Way::Twice(
-        of_one(Op::Extend, x, 0, half),
+        of_one(Op::Extend, x, 0, sign_of(x.width)),
         of_one(Op::Keep, x, 0, low_mask(width)),
     ))
+}
+
+/// The sign's bit of a width from 1 to 64.
+fn sign_of(width: u8) -> u64
+    requires some { 0 < width }
+    requires few { width ≤ 64 }
+    ensures { result ≡ 2 ^ (width - 1) }
+{
+    1 << (width - 1)
 }

@@ -2,6 +2,7 @@
 
 ghost use Rattle.std.specs.Prelude.{◌≡◌, ◌≤◌, ◌∷◌, [], Some, IfSome, slice_index};
 ghost use Rattle.bit_words.specs.declared.value.Kind.{Kind as TheKind};
+ghost use Rattle.bit_words.specs.declared.value.Kind.TheVariants.{Unsigned};
 ghost use Rattle.cycle_values.specs.Values.{operation};
 ghost use Rattle.flat_code.specs.Meaning.{spot_shape};
 ghost use Rattle.net_meaning.specs.Shapes.{shaped, shape_of_row};
@@ -21,8 +22,10 @@ pub(crate) fn way_on_one(prim: Prim, x: Spot, params: &[u128], width: u8) -> Opt
     ensures { IfSome result (λ way. GivesRow way prim params.now (x ∷ []) width) }
 {
     match prim {
-        Prim::Pad | Prim::Cvt => fit_way(x, width),
-        Prim::AsUInt | Prim::AsSInt => Some(Way::Same(x.low)),
+        Prim::Pad => fit_way(x, width),
+        Prim::Cvt => fit_way(x, width),
+        Prim::AsUInt => Some(Way::Same(x.low)),
+        Prim::AsSInt => Some(Way::Same(x.low)),
         Prim::Not => Some(Way::Word(of_one(Op::Not, x, 0, low_mask(width)))),
         Prim::Tail => Some(Way::Word(of_one(Op::Keep, x, 0, low_mask(width)))),
         Prim::Bits => from_bit(x, parameter(params, 1), width),
@@ -31,10 +34,7 @@ pub(crate) fn way_on_one(prim: Prim, x: Spot, params: &[u128], width: u8) -> Opt
             u128::from(x.width).saturating_sub(parameter(params, 0)),
             width,
         ),
-        Prim::Shr => match x.kind {
-            Kind::Unsigned => from_bit(x, parameter(params, 0), width),
-            Kind::Signed => None,
-        },
+        Prim::Shr => plain_from_bit(x, parameter(params, 0), width),
         _ => None,
     }
 }
@@ -49,6 +49,18 @@ fn from_bit(x: Spot, low: u128, width: u8) -> Option<Way>
         return None;
     }
     Some(Way::Word(of_one(Op::Right, x, low as u8, low_mask(width))))
+}
+
+/// The way of the bits of a UInt from this one on.
+fn plain_from_bit(x: Spot, low: u128, width: u8) -> Option<Way>
+    requires operand { x.width ≤ 64 }
+    requires result { width ≤ 64 }
+    ensures { IfSome result (λ way. (R : Given) → (x.kind ≡ Unsigned → Shifts x low width R) → IsWay way (x ∷ []) R) }
+{
+    match x.kind {
+        Kind::Unsigned => from_bit(x, low, width),
+        Kind::Signed => None,
+    }
 }
 
 /// A parameter, and 0 where there are fewer.
