@@ -174,6 +174,14 @@ wide_makes old new s ss f R t same m =
 pub no_region : (m width : ℕ) → InRegion m width (record { base = 0; stride = 0; depth = 0 })
 no_region m width b lt = absurd (omega (arith, lt))
 
+-- a wide value, where a try before it leaves the code as it is
+pub wide_after : (old d new : Draft) (s : Spot) (ss : List Spot) (f : Form) (R : Given) (t : Shape) → d ≡ old → ((words : List ℕ) (vs : List Value) → R vs ≡ form_value f s words vs)
+    → (IsDraft d → All (Stands d) ss → form_shape f s (spot_shapes ss) ≡ Some t → InRegion d.words t.width (region_of f) → Makes d new s (IsForm f s ss t)) → form_shape f s (spot_shapes ss) ≡ Some t
+    → region_of f ≡ record { base = 0; stride = 0; depth = 0 } → IsDraft old → All (Stands old) ss → Makes old new s (IsMade R ss t)
+wide_after old d new s ss f R t same is_value last is_shape nowhere =
+    subst (λ e. IsDraft e → All (Stands e) ss → Makes e new s (IsMade R ss t)) same (λ is there.
+    wide_makes d new s ss f R t is_value (last is there is_shape (subst (InRegion d.words t.width) (sym nowhere) (no_region d.words t.width))))
+
 -- The variants
 
 pub const_emits : (S : Sources) (g : Ground) (v : Value) (a b : Draft) (s : Spot) → g ≡ Const v → (IsDraft a → Makes a b s (IsConstant v)) → Emits S g a b s

@@ -128,6 +128,16 @@ emit-returns-in_ok-spots-in-Mux-clause-emits t c =
     mux_emits S g gs c.args.draft.now c.emit_all-in-Mux.new.draft c.emit_choice.new.draft ss s (spot_shape s) e c.in_ok-spots-in-Mux.ensures.emits h.1
     (sym (mux_row table g c.requires gs ss e c.in_ok-spots-in-Mux.ensures.shapes) ∙ h.0))
 
+pub emit-emit_fit-requires-clause-shape : goal.emit-emit_fit-requires-clause-shape
+emit-emit_fit-requires-clause-shape t c =
+    let table = sources_table c.args.sources.now in
+    let g = c.args.ground.now in
+    let kind = c.in-Fit.kind in
+    let width = c.in-Fit.width in
+    let gs = c.as_slice-in-Fit.result.now in
+    let e : g ≡ Fit kind width gs = c.in-Fit.is ∙ ap (λ xs. Fit kind width xs) (sym c.as_slice-in-Fit.ensures) in
+    fit_row table g c.requires kind width gs c.in_ok-spots-in-Fit.spots e c.in_ok-spots-in-Fit.ensures.shapes ∙ (fit_is table g c.requires kind width gs e).1
+
 pub emit-returns-in_ok-spots-in-Fit-clause-emits : goal.emit-returns-in_ok-spots-in-Fit-clause-emits
 emit-returns-in_ok-spots-in-Fit-clause-emits t c =
     let S = c.args.sources.now in
@@ -153,7 +163,7 @@ emit-returns-in_ok-spots-in-Select-clause-shape t c =
     let e : g ≡ Select is gs = c.in-Select.is ∙ ap₂ (λ os qs. Select os qs) (sym c.as_slice-in-Select.ensures) (sym c.as_slice-in-Select-2.ensures) in
     let row : shape_of_items (spot_shapes back) ≡ Some (shaped kind width) = ap (λ xs. shape_of_items (spot_shapes xs)) (sym c.as_slice-in-Select-3.ensures) ∙ c.items_measure-measure.ensures in
     let at : shape g table ≡ Some (shaped kind width) = sym (items_row table g c.requires is gs back e c.in_ok-back-in-Select.ensures.shapes) ∙ row in
-    ok_so c.wide_value-in-Select.result (ok_both _ _ c.wide_value-in-Select.result c.wide_value-in-Select.ensures.shape c.wide_value-in-Select.ensures.width) (λ s h. at ∙ ap Some (sym (spot_shape_by s kind width h.0 h.1)))
+    ok_so c.wide_value.result (ok_both _ _ c.wide_value.result c.wide_value.ensures.shape c.wide_value.ensures.width) (λ s h. at ∙ ap Some (sym (spot_shape_by s kind width h.0 h.1)))
 
 pub emit-returns-in_ok-spots-in-Select-clause-emits : goal.emit-returns-in_ok-spots-in-Select-clause-emits
 emit-returns-in_ok-spots-in-Select-clause-emits t c =
@@ -175,8 +185,8 @@ emit-returns-in_ok-spots-in-Select-clause-emits t c =
     let one = one_ground table is (spot_shapes front) c.in_ok-front-in-Select.ensures.shapes index in
     let both = both_emitted S is gs c.args.draft.now c.emit_all-in-Select.new.draft c.emit_all-in-Select-2.new.draft front back c.in_ok-front-in-Select.ensures.emits c.in_ok-back-in-Select.ensures.emits in
     let whole = ap (λ xs. shape_of_picked (spot_shapes xs)) same ∙ (picked_shape front back index ∙ row) in
-    ok_so c.wide_value-in-Select.result c.wide_value-in-Select.ensures.makes (λ s m.
-    select_emits S g is gs one.0 c.args.draft.now c.emit_all-in-Select-2.new.draft c.wide_value-in-Select.new.draft ss s (shaped kind width) e one.1
+    ok_so c.wide_value.result c.wide_value.ensures.makes (λ s m.
+    select_emits S g is gs one.0 c.args.draft.now c.emit_all-in-Select-2.new.draft c.wide_value.new.draft ss s (shaped kind width) e one.1
     (subst (EmitsAll S (is ++ gs) c.args.draft.now c.emit_all-in-Select-2.new.draft) (sym same) both) m whole at)
 
 pub emit-returns-in_ok-spots-in-Load-clause-emits : goal.emit-returns-in_ok-spots-in-Load-clause-emits
