@@ -1,6 +1,7 @@
 pub mod Growing
 pub mod Cuts
 pub mod Fetches
+pub mod Worked
 pub mod Widened
 pub mod Alone
 pub mod Held

@@ -1,17 +1,19 @@
 -- Code that grows: each instruction writes slots that no earlier one writes, and reads what was written before.
-use Rattle.std.specs.Prelude.{◌≡◌, ℕ, ◌+◌, ◌*◌, ◌/◌, ◌%◌, ◌^◌, ◌<◌, ◌≤◌, true, List, [], ◌∷◌, ◌++◌, length, slice_index, pos, All}
+use Rattle.std.specs.Prelude.{◌≡◌, ℕ, ◌+◌, ◌*◌, ◌/◌, ◌%◌, ◌^◌, ◌<◌, ◌≤◌, Bool, true, false, List, [], ◌∷◌, ◌++◌, length, slice_index, pos, All}
 use Rattle.bit_words.specs.declared.value.Kind.{Kind}
 use Rattle.bit_words.specs.declared.value.Value.{Value}
 use Rattle.phase_core.specs.declared.model.Publication.{Publication}
 use Rattle.cycle_values.specs.Values.{fitted}
 use Rattle.net_meaning.specs.Shapes.{Shape, shaped, shape_of_value}
 use Rattle.net_meaning.specs.Words.{value_at}
+use Rattle.flat_code.specs.declared.instr.Op.{Op}
+use Rattle.flat_code.specs.declared.instr.Op.TheVariants as op
 use Rattle.flat_code.specs.declared.instr.Instr.{Instr}
 use Rattle.flat_code.specs.declared.instr.Spot.{Spot}
 use Rattle.flat_code.specs.declared.instr.Wide.{Wide}
 use Rattle.flat_code.specs.declared.instr.Form.{Form}
-use Rattle.flat_code.specs.Meaning.{spot_shape, spot_values, form_value, input_word, input_high}
-use Rattle.flat_code.specs.Fine.{AreFine, IsSpot, IsWide, IsPort, Known, nothing, written, AreKnown, spot_slots, further_words}
+use Rattle.flat_code.specs.Meaning.{spot_shape, spot_values, form_value, word_on, input_word, input_high}
+use Rattle.flat_code.specs.Fine.{AreFine, IsSpot, IsWide, IsPort, Known, nothing, written, AreKnown, reads_on, spot_slots, further_words}
 use Rattle.flat_code.specs.Orders.{Single, Solves, pushed_all}
 use Rattle.code_draft.specs.declared.draft.Draft.{Draft}
 
@@ -100,3 +102,44 @@ IsInput s n words inputs F v = v ≡ input_value s inputs n
 -- the value of a form on what stands at spots, where it has this shape
 abbrev pub IsForm : Form → Spot → List Spot → Shape → Wanted
 IsForm form t operands s words inputs F v = (v ≡ form_value form t words (spot_values F operands)) × (shape_of_value v ≡ s)
+
+-- What can be computed
+
+-- the operations that give a word of the words in their slots and of nothing else
+abbrev pub computes : Op → Bool
+computes op.Constant = true
+computes op.Keep = true
+computes op.Add = true
+computes op.Sub = true
+computes op.And = true
+computes op.Or = true
+computes op.Xor = true
+computes op.Not = true
+computes op.Equal = true
+computes op.Less = true
+computes op.Mux = true
+computes op.Right = true
+computes op.Join = true
+computes op.Extend = true
+computes _ = false
+
+-- An instruction that computes from slots that are written.
+pub record Computes (d : Draft) (i : Instr) : Type 0 where
+  pub plain : computes i.op ≡ true
+  pub known : AreKnown (written_in d) (reads_on i.op d.ports d.wides i)
+  pub shift : i.shift < 64
+
+-- the word that it computes at a frame
+abbrev pub word_in : Instr → List ℕ → List Value → List ℕ → ℕ
+word_in i words inputs F = word_on i.op i words inputs (slice_index F i.first) (slice_index F i.second) (slice_index F i.third)
+
+-- Code that goes on, with a slot where the word stands that an instruction computes.
+pub record Works (old new : Draft) (i : Instr) (slot : ℕ) : Type 0 where
+  pub grows : Grows old new
+  pub within : slot < new.slots
+  pub written : written_in new slot ≡ true
+  pub holds : (words : List ℕ) (inputs : List Value) (F : List ℕ) → Solved new words inputs F → slice_index F slot ≡ word_in i words inputs F
+
+-- the instruction with another target
+abbrev pub at_slot : ℕ → Instr → Instr
+at_slot slot i = record { op = i.op; shift = i.shift; first = i.first; second = i.second; third = i.third; target = slot; mask = i.mask }

@@ -15,6 +15,7 @@ use std::alloc::AllocError;
 pub fn constant(draft: &mut Draft, value: Value) -> Result<Spot, AllocError>
     ensures shape { IfOk result (λ s. s.kind ≡ value.kind) }
     ensures width { IfOk result (λ s. s.width ≡ value.width) }
+    ensures slots { OnOk result (draft.new.slots ≤ draft.old.slots + 2) }
     ensures makes { IfOk result (λ s. IsDraft draft.old → Makes draft.old draft.new s (IsConstant value)) }
 {
     let spot = new_spot(draft, value.kind, value.width)?;
@@ -34,6 +35,7 @@ pub fn load(draft: &mut Draft, kind: Kind, width: u8, word: u32) -> Result<Spot,
     requires { width ≤ 128 }
     ensures shape { IfOk result (λ s. s.kind ≡ kind) }
     ensures width { IfOk result (λ s. s.width ≡ width) }
+    ensures slots { OnOk result (draft.new.slots ≤ draft.old.slots + 2) }
     ensures makes { IfOk result (λ s. IsDraft draft.old → word + further_words width < draft.old.words → Makes draft.old draft.new s (IsWord (shaped kind width) word)) }
 {
     let spot = new_spot(draft, kind, width)?;
@@ -56,6 +58,7 @@ pub fn input(draft: &mut Draft, kind: Kind, width: u8, number: u32) -> Result<Sp
     requires { width ≤ 128 }
     ensures shape { IfOk result (λ s. s.kind ≡ kind) }
     ensures width { IfOk result (λ s. s.width ≡ width) }
+    ensures slots { OnOk result (draft.new.slots ≤ draft.old.slots + 2) }
     ensures makes { IfOk result (λ s. IsDraft draft.old → Makes draft.old draft.new s (IsInput (shaped kind width) number)) }
 {
     let spot = new_spot(draft, kind, width)?;
@@ -89,7 +92,7 @@ fn fetch(op: Op, first: u32, target: u32, mask: u64) -> Instr
 }
 
 /// The bits of the low word of a width.
-fn low_mask(width: u8) -> u64
+pub fn low_mask(width: u8) -> u64
     ensures wide { 64 ≤ width → result ≡ 2 ^ 64 - 1 }
     ensures narrow { width ≤ 64 → result ≡ 2 ^ width - 1 }
 {

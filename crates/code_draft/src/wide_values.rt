@@ -23,6 +23,7 @@ pub fn wide_value(
     requires { width ≤ 128 }
     ensures shape { IfOk result (λ s. s.kind ≡ kind) }
     ensures width { IfOk result (λ s. s.width ≡ width) }
+    ensures slots { OnOk result (draft.new.slots ≤ draft.old.slots + 2) }
     ensures makes { IfOk result (λ s. IsDraft draft.old → All (Stands draft.old) operands → form_shape form s (spot_shapes operands) ≡ Some (shaped kind width) → InRegion draft.old.words width (region_of form) → Makes draft.old draft.new s (IsForm form s operands (shaped kind width))) }
 {
     let target = new_spot(draft, kind, width)?;

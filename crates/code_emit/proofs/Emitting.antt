@@ -1,5 +1,5 @@
 -- Emitted code has the values of its expressions.
-use Rattle.std.proofs.Common.{◌≡◌, ℕ, zero, suc, ◌+◌, ◌*◌, ◌<◌, ◌≤◌, Bool, true, false, min, nat_lt, List, [], ◌∷◌, ◌++◌, map, length, get_or, slice_get, slice_index, ◌^◌, Option, Some, None, option_map, option_and_then, refl, sym, subst, ap, ap₂, ◌∙◌, arith, All, pos, if◌then◌else◌, ◌&&◌, true≢false}
+use Rattle.std.proofs.Common.{◌≡◌, ℕ, zero, suc, ◌+◌, ◌*◌, ◌%◌, ◌<◌, ◌≤◌, Bool, true, false, min, nat_lt, List, [], ◌∷◌, ◌++◌, map, length, get_or, slice_get, slice_index, ◌^◌, Option, Some, None, option_map, option_and_then, refl, sym, subst, ap, ap₂, ◌∙◌, arith, All, pos, if◌then◌else◌, ◌&&◌, true≢false}
 use Rattle.std.specs.Prelude.{IsSome}
 use Rattle.std.proofs.lemmas.List.{map-append, length-append}
 use Rattle.std.proofs.lemmas.List.Elements.{All-push, All-append}
@@ -26,6 +26,7 @@ use Rattle.code_draft.specs.declared.draft.Draft.{Draft}
 use Rattle.code_draft.specs.Drafts.{IsDraft, Solved, Grows, Stands, Makes, Wanted, Holds, IsConstant, IsForm, input_value}
 use Rattle.code_draft.proofs.Growing.{grows_then, grows_not, stands_on, all_stand_on}
 use Rattle.code_draft.proofs.Held.{held_value}
+use Rattle.code_words.specs.Ways.{Cut, Given, IsMade, row_value, fit_of_one}
 use Rattle.code_emit.specs.declared.sources.Kept.{Kept}
 use Rattle.code_emit.specs.declared.sources.Source.{Source}
 use Rattle.code_emit.specs.declared.sources.Source.TheVariants as source
@@ -81,7 +82,16 @@ pub makes_there : (d : Draft) (s : Spot) → IsDraft d → Stands d s → Makes 
 makes_there d s is there = record { grows = grows_not d is; stands = there; holds = λ words inputs F v sol h. h }
 
 pub none_emitted : (S : Sources) (d : Draft) → EmitsAll S [] d d []
-none_emitted S d is srcs = record { grows = grows_not d is; stand = λ k x lt. absurd (omega (arith, lt)); holds = λ words inputs F sight sol sees. refl }
+none_emitted S d is srcs = record { grows = grows_not d is; stand = λ k x lt. absurd (omega (arith, lt)); holds = λ words inputs F sight sol sees. refl; cut = λ words inputs F sight sol sees. λ k x lt. absurd (omega (arith, lt)) }
+
+-- the low word of a value that stands there
+cut_there : (F : List ℕ) (s : Spot) (v : Value) → Holds F s v → Cut F s
+cut_there F s v h =
+    let width : v.width ≡ s.width = ap (λ (t : Shape). t.width) h.shape in
+    subst (λ w. slice_index F s.low < 2 ^ w) width (subst (λ n. n < 2 ^ v.width) (sym h.low) (below v.bits (2 ^ v.width) v.within))
+  where
+    below : (n m : ℕ) → n < m → n % 2 ^ 64 < m
+    below n m lt = omega (arith, lt)
 
 pub one_more_emitted : (S : Sources) (gs : List Ground) (g : Ground) (a b c : Draft) (ss : List Spot) (s : Spot) → EmitsAll S gs a b ss → Emits S g b c s → EmitsAll S (gs ++ g ∷ []) a c (ss ++ s ∷ [])
 one_more_emitted S gs g a b c ss s all one is srcs =
@@ -94,6 +104,8 @@ one_more_emitted S gs g a b c ss s all one is srcs =
           let before = first.holds words inputs F sight (next.grows.back words inputs F sol) sees in
           let here = held_value F s (value g sight) (next.holds words inputs F (value g sight) sol (sight, sees, refl)) in
           map-append (spot_value F) ss (s ∷ []) ∙ (ap₂ (λ vs v. vs ++ v ∷ []) before here ∙ sym (map-append (λ h. value h sight) gs (g ∷ [])));
+      cut = λ words inputs F sight sol sees.
+          All-push (Cut F) ss s (first.cut words inputs F sight (next.grows.back words inputs F sol) sees) (cut_there F s (value g sight) (next.holds words inputs F (value g sight) sol (sight, sees, refl)));
     }
 
 pub both_emitted : (S : Sources) (gs hs : List Ground) (a b c : Draft) (ss ts : List Spot) → EmitsAll S gs a b ss → EmitsAll S hs b c ts → EmitsAll S (gs ++ hs) a c (ss ++ ts)
@@ -106,6 +118,8 @@ both_emitted S gs hs a b c ss ts front back is srcs =
       holds = λ words inputs F sight sol sees.
           map-append (spot_value F) ss ts
           ∙ (ap₂ (λ vs ws. vs ++ ws) (first.holds words inputs F sight (next.grows.back words inputs F sol) sees) (next.holds words inputs F sight sol sees) ∙ sym (map-append (λ h. value h sight) gs hs));
+      cut = λ words inputs F sight sol sees.
+          All-append (Cut F) ss ts (first.cut words inputs F sight (next.grows.back words inputs F sol) sees) (next.cut words inputs F sight sol sees);
     }
 
 -- A form on what was emitted.
@@ -130,8 +144,43 @@ formed S g gs a b c ss s f t all last is_shape region at is_value is srcs =
           );
     }
 
-no_region : (m width : ℕ) → InRegion m width (record { base = 0; stride = 0; depth = 0 })
+-- What is made of what was emitted.
+made : (S : Sources) (g : Ground) (gs : List Ground) (a b c : Draft) (ss : List Spot) (s : Spot) (R : Given) (t : Shape) → EmitsAll S gs a b ss → (IsDraft b → All (Stands b) ss → Makes b c s (IsMade R ss t))
+    → shape g (sources_table S) ≡ Some t → ((sight : Sight) → value g sight ≡ R (map (λ h. value h sight) gs)) → Emits S g a c s
+made S g gs a b c ss s R t all last at is_value is srcs =
+    let first = all is srcs in
+    let m = last first.grows.is first.stand in
+    record {
+      grows = grows_then a b c first.grows m.grows;
+      stands = m.stands;
+      holds = λ words inputs F v sol wanted.
+          let sight = wanted.0 in
+          let sees = wanted.1 in
+          let back = m.grows.back words inputs F sol in
+          let parts = first.holds words inputs F sight back sees in
+          m.holds words inputs F v sol (
+            wanted.2 ∙ (is_value sight ∙ ap R (sym parts)),
+            ap shape_of_value wanted.2 ∙ shapes_hold (sources_table S) sight (seen_shapes S words inputs F sight sees) g t at,
+            first.cut words inputs F sight back sees,
+          );
+    }
+
+-- a wide value that is what is made of the spots' values
+pub wide_makes : (old new : Draft) (s : Spot) (ss : List Spot) (f : Form) (R : Given) (t : Shape) → ((words : List ℕ) (vs : List Value) → R vs ≡ form_value f s words vs) → Makes old new s (IsForm f s ss t)
+    → Makes old new s (IsMade R ss t)
+wide_makes old new s ss f R t same m =
+    makes_for old new s (IsForm f s ss t) (IsMade R ss t) m (λ words inputs F v sol wanted. (wanted.0 ∙ same words (spot_values F ss), wanted.1))
+
+pub no_region : (m width : ℕ) → InRegion m width (record { base = 0; stride = 0; depth = 0 })
 no_region m width b lt = absurd (omega (arith, lt))
+
+-- a wide value, where a try before it leaves the code as it is
+pub wide_after : (old d new : Draft) (s : Spot) (ss : List Spot) (f : Form) (R : Given) (t : Shape) → d ≡ old → ((words : List ℕ) (vs : List Value) → R vs ≡ form_value f s words vs)
+    → (IsDraft d → All (Stands d) ss → form_shape f s (spot_shapes ss) ≡ Some t → InRegion d.words t.width (region_of f) → Makes d new s (IsForm f s ss t)) → form_shape f s (spot_shapes ss) ≡ Some t
+    → region_of f ≡ record { base = 0; stride = 0; depth = 0 } → IsDraft old → All (Stands old) ss → Makes old new s (IsMade R ss t)
+wide_after old d new s ss f R t same is_value last is_shape nowhere =
+    subst (λ e. IsDraft e → All (Stands e) ss → Makes e new s (IsMade R ss t)) same (λ is there.
+    wide_makes d new s ss f R t is_value (last is there is_shape (subst (InRegion d.words t.width) (sym nowhere) (no_region d.words t.width))))
 
 -- The variants
 
@@ -144,25 +193,16 @@ leaf_emits S g x src a b s e at m is srcs =
     subst (IsOf src words inputs F) (sym (wanted.2 ∙ (ap (λ h. value h wanted.0) e ∙ value-Leaf x wanted.0))) (wanted.1.leaf x src at))
 
 pub op_emits : (S : Sources) (g : Ground) (prim : PrimOp) (gs : List Ground) (params : List ℕ) (a b c : Draft) (ss : List Spot) (s : Spot) (t : Shape) → g ≡ Op prim gs params → EmitsAll S gs a b ss
-    → (IsDraft b → All (Stands b) ss → form_shape (form.Apply prim params) s (spot_shapes ss) ≡ Some t → InRegion b.words t.width (region_of (form.Apply prim params)) → Makes b c s (IsForm (form.Apply prim params) s ss t))
-    → form_shape (form.Apply prim params) s (spot_shapes ss) ≡ Some t → shape g (sources_table S) ≡ Some t → Emits S g a c s
-op_emits S g prim gs params a b c ss s t e all last is_shape at =
-    formed S g gs a b c ss s (form.Apply prim params) t all last is_shape (λ srcs. no_region a.words t.width) at
-    (λ words inputs F sight sees parts. ap (λ h. value h sight) e ∙ (value-Op prim gs params sight ∙ ap (λ vs. operation prim vs params) (sym parts)))
+    → (IsDraft b → All (Stands b) ss → Makes b c s (IsMade (row_value prim params) ss t)) → shape g (sources_table S) ≡ Some t → Emits S g a c s
+op_emits S g prim gs params a b c ss s t e all last at = made S g gs a b c ss s (row_value prim params) t all last at (λ sight. ap (λ h. value h sight) e ∙ value-Op prim gs params sight)
 
 pub mux_emits : (S : Sources) (g : Ground) (gs : List Ground) (a b c : Draft) (ss : List Spot) (s : Spot) (t : Shape) → g ≡ Mux gs → EmitsAll S gs a b ss
-    → (IsDraft b → All (Stands b) ss → form_shape form.Choose s (spot_shapes ss) ≡ Some t → InRegion b.words t.width (region_of form.Choose) → Makes b c s (IsForm form.Choose s ss t))
-    → form_shape form.Choose s (spot_shapes ss) ≡ Some t → shape g (sources_table S) ≡ Some t → Emits S g a c s
-mux_emits S g gs a b c ss s t e all last is_shape at =
-    formed S g gs a b c ss s form.Choose t all last is_shape (λ srcs. no_region a.words t.width) at (λ words inputs F sight sees parts. ap (λ h. value h sight) e ∙ (value-Mux gs sight ∙ ap chosen (sym parts)))
+    → (IsDraft b → All (Stands b) ss → Makes b c s (IsMade chosen ss t)) → shape g (sources_table S) ≡ Some t → Emits S g a c s
+mux_emits S g gs a b c ss s t e all last at = made S g gs a b c ss s chosen t all last at (λ sight. ap (λ h. value h sight) e ∙ value-Mux gs sight)
 
-pub fit_emits : (S : Sources) (g : Ground) (kind : Kind) (width : ℕ) (gs : List Ground) (a b c : Draft) (ss : List Spot) (s : Spot) (t : Shape) → g ≡ Fit kind width gs → spot_shape s ≡ shaped kind width
-    → EmitsAll S gs a b ss → (IsDraft b → All (Stands b) ss → form_shape form.Fit s (spot_shapes ss) ≡ Some t → InRegion b.words t.width (region_of form.Fit) → Makes b c s (IsForm form.Fit s ss t))
-    → form_shape form.Fit s (spot_shapes ss) ≡ Some t → shape g (sources_table S) ≡ Some t → Emits S g a c s
-fit_emits S g kind width gs a b c ss s t e same all last is_shape at =
-    formed S g gs a b c ss s form.Fit t all last is_shape (λ srcs. no_region a.words t.width) at
-    (λ words inputs F sight sees parts.
-    ap (λ h. value h sight) e ∙ (value-Fit kind width gs sight ∙ ap₂ (λ (u : Shape) vs. fitted u.kind u.width (integer_of (lone vs))) (sym same) (sym parts)))
+pub fit_emits : (S : Sources) (g : Ground) (kind : Kind) (width : ℕ) (gs : List Ground) (a b c : Draft) (ss : List Spot) (s : Spot) (t : Shape) → g ≡ Fit kind width gs → EmitsAll S gs a b ss
+    → (IsDraft b → All (Stands b) ss → Makes b c s (IsMade (fit_of_one kind width) ss t)) → shape g (sources_table S) ≡ Some t → Emits S g a c s
+fit_emits S g kind width gs a b c ss s t e all last at = made S g gs a b c ss s (fit_of_one kind width) t all last at (λ sight. ap (λ h. value h sight) e ∙ value-Fit kind width gs sight)
 
 pub select_emits : (S : Sources) (g : Ground) (is gs : List Ground) (i : Ground) (a b c : Draft) (ss : List Spot) (s : Spot) (t : Shape) → g ≡ Select is gs → is ≡ i ∷ [] → EmitsAll S (is ++ gs) a b ss
     → (IsDraft b → All (Stands b) ss → form_shape form.Select s (spot_shapes ss) ≡ Some t → InRegion b.words t.width (region_of form.Select) → Makes b c s (IsForm form.Select s ss t))

@@ -133,17 +133,6 @@ index_one [] e = absurd (true≢false (sym e))
 index_one (i ∷ []) e = (i, refl)
 index_one (i ∷ j ∷ is) e = absurd (true≢false (sym e))
 
-pub one_item : (ss : List Spot) (x : Spot) → 1 ≤ length ss → length ss < 2 → x ≡ get_or ss 0 x → ss ≡ x ∷ []
-one_item [] x some few e = absurd (omega (arith, some))
-one_item (s ∷ []) x some few e = ap (λ y. y ∷ []) (sym e)
-one_item (s ∷ t ∷ ss) x some few e = absurd (omega (arith, few))
-
-pub two_items : (ss : List Spot) (x y : Spot) → 2 ≤ length ss → length ss < 3 → x ≡ get_or ss 0 x → y ≡ get_or ss 1 y → ss ≡ x ∷ y ∷ []
-two_items [] x y some few e f = absurd (omega (arith, some))
-two_items (s ∷ []) x y some few e f = absurd (omega (arith, some))
-two_items (s ∷ t ∷ []) x y some few e f = ap₂ (λ a b. a ∷ b ∷ []) (sym e) (sym f)
-two_items (s ∷ t ∷ u ∷ ss) x y some few e f = absurd (omega (arith, few))
-
 -- the last spot has a choice's kind and width
 pub last_spot : (ss : List Spot) (x : Spot) → IsSome (shape_of_choice (spot_shapes ss)) → x ≡ get_or ss (length ss - 1) x → shape_of_choice (spot_shapes ss) ≡ Some (spot_shape x)
 last_spot ss x h e =

@@ -12,6 +12,7 @@ use Rattle.flat_code.specs.Meaning.{spot_shape, spot_values}
 use Rattle.flat_code.specs.Fine.{InRegion, further_words}
 use Rattle.code_draft.specs.declared.draft.Draft.{Draft}
 use Rattle.code_draft.specs.Drafts.{IsDraft, Solved, Grows, Stands, Makes, Wanted, Holds, input_value}
+use Rattle.code_words.specs.Ways.{Cut}
 use Rattle.code_emit.specs.declared.sources.Kept.{Kept}
 use Rattle.code_emit.specs.declared.sources.Source.{Source}
 use Rattle.code_emit.specs.declared.sources.Source.TheVariants as source
@@ -83,6 +84,7 @@ pub record MakesAll (S : Sources) (gs : List Ground) (old new : Draft) (ss : Lis
   pub grows : Grows old new
   pub stand : All (Stands new) ss
   pub holds : (words : List ℕ) (inputs : List Value) (F : List ℕ) (sight : Sight) → Solved new words inputs F → Sees S words inputs F sight → spot_values F ss ≡ map (λ g. value g sight) gs
+  pub cut : (words : List ℕ) (inputs : List Value) (F : List ℕ) (sight : Sight) → Solved new words inputs F → Sees S words inputs F sight → All (Cut F) ss
 
 abbrev pub EmitsAll : Sources → List Ground → Draft → Draft → List Spot → Type 0
 EmitsAll S gs old new ss = IsDraft old → AreSources S old → MakesAll S gs old new ss

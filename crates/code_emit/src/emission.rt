@@ -7,8 +7,9 @@ ghost use Rattle.net_meaning.specs.Shapes.{shape, all_of};
 ghost use Rattle.code_draft.specs.Drafts.{IsDraft, Makes};
 ghost use Rattle.code_emit.specs.Emits.{sources_table, source_shape, Emits, EmitsAll, AreShaped, shapes_in, Fits, IsOf, leaf_source, element_source};
 
-use crate::forms::{choice_measure, items_measure, joined, row_measure};
+use crate::forms::{items_measure, joined};
 use crate::sources::{Elements, Source, Sources};
+use crate::values::{emit_choice, emit_fit, emit_operation};
 use bit_words::List;
 use code_draft::{Draft, constant, input, load, wide_value};
 use flat_code::{Form, Spot};
@@ -32,20 +33,11 @@ pub fn emit(
         Ground::Leaf(leaf) => fetch(draft, source_of(sources, *leaf)),
         Ground::Op(prim, operands, params) => {
             let spots = emit_all(alloc, draft, sources, operands.as_slice())?;
-            let measure = row_measure(*prim, spots.as_slice(), params.as_slice());
-            let params = List::from_slice(alloc, params.as_slice())?;
-            wide_value(
-                draft,
-                Form::Apply(*prim, params),
-                spots,
-                measure.kind,
-                measure.width,
-            )
+            emit_operation(alloc, draft, *prim, spots, params.as_slice())
         }
         Ground::Mux(items) => {
             let spots = emit_all(alloc, draft, sources, items.as_slice())?;
-            let measure = choice_measure(spots.as_slice());
-            wide_value(draft, Form::Choose, spots, measure.kind, measure.width)
+            emit_choice(draft, spots)
         }
         Ground::Select(index, items) => {
             let front = emit_all(alloc, draft, sources, index.as_slice())?;
@@ -67,7 +59,7 @@ pub fn emit(
         }
         Ground::Fit(kind, width, items) => {
             let spots = emit_all(alloc, draft, sources, items.as_slice())?;
-            wide_value(draft, Form::Fit, spots, *kind, *width)
+            emit_fit(draft, spots, *kind, *width)
         }
     }
 }

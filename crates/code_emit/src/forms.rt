@@ -10,17 +10,10 @@ ghost use Rattle.prim_ops.specs.Widths.{row_width};
 ghost use Rattle.code_emit.specs.Rows.{IsRow};
 
 use bit_words::{Kind, List};
+use code_words::Measure;
 use flat_code::Spot;
 use prim_ops::{Prim, Width, kind_of, width_of};
 use std::alloc::AllocError;
-
-/// A kind and a width of at most 128.
-#[derive(Clone, Copy)]
-pub(crate) struct Measure {
-    pub(crate) kind: Kind,
-    pub(crate) width: u8,
-    ghost narrow: { width ≤ 128 },
-}
 
 /// The kind and the width of an operation.
 pub(crate) fn row_measure(prim: Prim, operands: &[Spot], params: &[u128]) -> Measure

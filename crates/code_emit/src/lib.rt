@@ -7,6 +7,7 @@ pub mod emission;
 pub mod forms;
 pub mod laws;
 pub mod sources;
+pub mod values;
 
 pub use emission::emit;
 pub use sources::{Elements, Kept, Source, Sources};

@@ -1,0 +1,31 @@
+use Rattle.std.proofs.Common.{◌≡◌, List, All, Some, None, refl, sym, subst, ap, ◌∙◌}
+use Rattle.std.specs.Prelude.{Ok}
+use Rattle.cycle_values.specs.Values.{operation}
+use Rattle.net_meaning.specs.Shapes.{Shape, shaped, shape_of_row}
+use Rattle.flat_code.specs.declared.instr.Form.TheVariants as form
+use Rattle.flat_code.specs.Meaning.{spot_shape}
+use Rattle.flat_code.specs.Fine.{spot_shapes}
+use Rattle.code_draft.specs.Drafts.{IsDraft, Stands, Makes}
+use Rattle.code_words.specs.Ways.{IsMade, row_value}
+use Rattle.code_emit.proofs.Shaped.{ok_so}
+use Rattle.code_emit.proofs.Arms.{ok_both, spot_shape_by}
+use Rattle.code_emit.proofs.Emitting.{wide_after}
+use Rattle.code_emit.proofs.values.emit_operation.Goals as goal
+
+pub returns-in_ok-from_slice-in-None-clause-makes : goal.returns-in_ok-from_slice-in-None-clause-makes
+returns-in_ok-from_slice-in-None-clause-makes c =
+    let d = c.args.draft.now in
+    let prim = c.args.prim in
+    let ps = c.args.params.now in
+    let qs = c.in_ok-from_slice-in-None.field-0 in
+    let kind = c.row_measure-measure.result.kind in
+    let width = c.row_measure-measure.result.width in
+    let ss = c.args.spots in
+    let e = c.wide_value.ensures in
+    let same = c.operation_word.ensures.none (c.in_ok-spot.was ∙ ap Ok c.in-None.is) in
+    let copied : qs ≡ ps = c.in_ok-from_slice-in-None.ensures in
+    let row : shape_of_row prim ps (spot_shapes ss) ≡ Some (shaped kind width) = ap (λ xs. shape_of_row prim ps (spot_shapes xs)) (sym c.as_slice.ensures) ∙ c.row_measure-measure.ensures in
+    ok_so c.wide_value.result (ok_both _ _ c.wide_value.result (ok_both _ _ c.wide_value.result e.shape e.width) e.makes) (λ s h.
+    subst (λ (t : Shape). IsDraft d → All (Stands d) ss → Makes d c.wide_value.new.draft s (IsMade (row_value prim ps) ss t)) (sym (spot_shape_by s kind width h.0.0 h.0.1))
+    (wide_after d c.operation_word.new.draft c.wide_value.new.draft s ss (form.Apply prim qs) (row_value prim ps) (shaped kind width) same (λ words vs. ap (operation prim vs) (sym copied)) h.1
+    (ap (λ xs. shape_of_row prim xs (spot_shapes ss)) copied ∙ row) refl))

@@ -1,0 +1,5 @@
+pub mod Laws
+pub mod There
+pub mod Making
+pub mod Ones
+pub mod Twos

@@ -1,0 +1,70 @@
+-- Spots of words that are made.
+use Rattle.std.proofs.Common.{◌≡◌, ℕ, ◌+◌, ◌%◌, ◌^◌, ◌<◌, ◌≤◌, true, false, nat_lt, if◌then◌else◌, List, [], ◌∷◌, slice_index, refl, sym, subst, ap, ◌∙◌, arith, mod-eq_of_lt, pow_mono, All}
+use Rattle.std.proofs.lemmas.Bool.{le-ltb}
+use Rattle.bit_words.specs.declared.value.Kind.{Kind}
+use Rattle.bit_words.specs.declared.value.Value.{Value}
+use Rattle.net_meaning.specs.Shapes.{Shape, shaped, shape_of_value}
+use Rattle.flat_code.specs.declared.instr.Instr.{Instr}
+use Rattle.flat_code.specs.declared.instr.Spot.{Spot}
+use Rattle.flat_code.specs.Meaning.{spot_shape, spot_values}
+use Rattle.flat_code.specs.Fine.{AreKnown, spot_slots}
+use Rattle.code_draft.specs.declared.draft.Draft.{Draft}
+use Rattle.code_draft.specs.Drafts.{IsDraft, Grows, Solved, Stands, Makes, Holds, Works, written_in, word_in}
+use Rattle.code_draft.proofs.Growing.{grows_not, grows_then, all_stand_on, one_known}
+use Rattle.code_words.specs.Working.{from_slot, at_one_slot}
+use Rattle.code_words.specs.Ways.{Given, IsMade, Rests, Operates, Follow}
+
+module _ (kind : Kind) (width slot : ℕ) (s : Spot) (few : width ≤ 64) (at : at_one_slot kind width slot s) where
+  width_is : s.width ≡ width
+  width_is = ap (λ (t : Shape). t.width) at.0
+
+  stands_at : (d : Draft) → slot < d.slots → written_in d slot ≡ true → Stands d s
+  stands_at d lt h =
+      let low = at.1 in
+      let high = at.2 in
+      let narrow : nat_lt 64 s.width ≡ false = ap (nat_lt 64) width_is ∙ le-ltb 64 width few in
+      let slots : spot_slots s ≡ s.low ∷ [] = ap (λ b. if b then s.low ∷ s.high ∷ [] else s.low ∷ []) narrow in
+      record {
+        within = record { low = omega (arith, low, lt); high = omega (arith, high, lt) };
+        written = subst (AreKnown (written_in d)) (sym slots) (one_known (written_in d) s.low (ap (written_in d) low ∙ h));
+      }
+
+  holds_at : (F : List ℕ) (v : Value) → shape_of_value v ≡ shaped kind width → slice_index F slot ≡ v.bits → Holds F s v
+  holds_at F v shape bits =
+      let e : v.width ≡ width = ap (λ (t : Shape). t.width) shape in
+      let within : v.bits < 2 ^ v.width = v.within in
+      let le : v.width ≤ 64 = omega (arith, e, few) in
+      let most : 2 ^ v.width ≤ 2 ^ 64 = pow_mono le in
+      let w = width_is in
+      record {
+        shape = shape ∙ sym at.0;
+        low = ap (slice_index F) at.1 ∙ (bits ∙ sym (mod-eq_of_lt (below v.bits (2 ^ v.width) (2 ^ 64) within most)));
+        high = λ many. absurd (omega (arith, many, w, few));
+      }
+    where
+      below : (x y z : ℕ) → x < y → y ≤ z → x < z
+      below x y z l m = omega (arith, l, m)
+
+  module _ (spots : List Spot) (R : Given) where
+    pub rests_makes : (d : Draft) → Rests slot spots R → IsDraft d → All (Stands d) spots → Makes d d s (IsMade R spots (shaped kind width))
+    rests_makes d r is there = record {
+      grows = grows_not d is;
+      stands = let h = r.written d there in stands_at d (is.below slot h) h;
+      holds = λ words inputs F v sol wanted. holds_at F v wanted.1 (r.gives F wanted.2 ∙ ap (λ (u : Value). u.bits) (sym wanted.0));
+    }
+
+    pub word_makes : (d e : Draft) (i : Instr) → Operates i spots R → Works d e i slot → Makes d e s (IsMade R spots (shaped kind width))
+    word_makes d e i o w = record {
+      grows = w.grows;
+      stands = stands_at e w.within w.written;
+      holds = λ words inputs F v sol wanted. holds_at F v wanted.1 (w.holds words inputs F sol ∙ (o.gives words inputs F wanted.2 ∙ ap (λ (u : Value). u.bits) (sym wanted.0)));
+    }
+
+    pub twice_makes : (d e f : Draft) (i next : Instr) (k : ℕ) → Follow i next spots R → Works d e i k → Works e f (from_slot k next) slot → Makes d f s (IsMade R spots (shaped kind width))
+    twice_makes d e f i next k o w u = record {
+      grows = grows_then d e f w.grows u.grows;
+      stands = stands_at f u.within u.written;
+      holds = λ words inputs F v sol wanted.
+          holds_at F v wanted.1 (u.holds words inputs F sol
+          ∙ (o.gives words inputs F k wanted.2 (w.holds words inputs F (u.grows.back words inputs F sol)) ∙ ap (λ (u : Value). u.bits) (sym wanted.0)));
+    }

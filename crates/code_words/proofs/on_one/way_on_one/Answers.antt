@@ -1,0 +1,66 @@
+use Rattle.std.proofs.Common.{◌≡◌, ◌-◌, [], ◌∷◌, slice_index, sym, subst, ap, ap₂, ◌∙◌}
+use Rattle.bit_words.specs.declared.value.Kind.TheVariants.{Unsigned}
+use Rattle.prim_ops.specs.declared.operation.PrimOp.TheVariants as prim
+use Rattle.flat_code.specs.declared.instr.Op.TheVariants as op
+use Rattle.code_words.specs.declared.ways.Way.TheVariants.{Word}
+use Rattle.code_words.specs.Working.{working}
+use Rattle.code_words.specs.Ways.{Rests, Refits, Shifts, row_value}
+use Rattle.code_words.proofs.There.{row_for, way_row}
+use Rattle.code_words.proofs.Ones.{pad_refits, cvt_refits, as_uint_rests, as_sint_rests, not_operates, tail_operates, bits_shifts, head_shifts, shr_shifts}
+use Rattle.code_words.proofs.on_one.way_on_one.Goals as goal
+
+pub returns-in-Pad : goal.returns-in-Pad
+returns-in-Pad c =
+    let x = c.args.x in
+    way_row c.fit_way.result c.args.prim prim.Pad c.args.params.now x c.args.width (Refits x c.args.width) c.in-Pad.is c.fit_way.ensures (λ kind h. pad_refits x c.requires.operand c.args.params.now kind c.args.width h)
+
+pub returns-in-Cvt : goal.returns-in-Cvt
+returns-in-Cvt c =
+    let x = c.args.x in
+    way_row c.fit_way-in-Cvt.result c.args.prim prim.Cvt c.args.params.now x c.args.width (Refits x c.args.width) c.in-Cvt.is c.fit_way-in-Cvt.ensures (λ kind h. cvt_refits x c.requires.operand c.args.params.now kind c.args.width h)
+
+pub returns-in-AsUInt : goal.returns-in-AsUInt
+returns-in-AsUInt c = λ kind h.
+    let x = c.args.x in
+    subst (λ p. Rests x.low (x ∷ []) (row_value p c.args.params.now)) (sym c.in-AsUInt.is) (as_uint_rests x c.requires.operand c.args.params.now kind c.args.width)
+
+pub returns-in-AsSInt : goal.returns-in-AsSInt
+returns-in-AsSInt c = λ kind h.
+    let x = c.args.x in
+    subst (λ p. Rests x.low (x ∷ []) (row_value p c.args.params.now)) (sym c.in-AsSInt.is) (as_sint_rests x c.requires.operand c.args.params.now kind c.args.width)
+
+pub returns-in-Not : goal.returns-in-Not
+returns-in-Not c =
+    let x = c.args.x in
+    let mask = c.low_mask.result in
+    row_for c.args.prim prim.Not (Word c.of_one.result) (Word (working op.Not 0 x.low 0 0 mask)) c.args.params.now (x ∷ []) c.args.width c.in-Not.is (ap Word c.of_one.ensures) (λ kind h.
+    not_operates x c.requires.operand c.args.params.now kind c.args.width mask h (c.low_mask.ensures.narrow c.requires.result))
+
+pub returns-in-Tail : goal.returns-in-Tail
+returns-in-Tail c =
+    let x = c.args.x in
+    let mask = c.low_mask-in-Tail.result in
+    row_for c.args.prim prim.Tail (Word c.of_one-in-Tail.result) (Word (working op.Keep 0 x.low 0 0 mask)) c.args.params.now (x ∷ []) c.args.width c.in-Tail.is (ap Word c.of_one-in-Tail.ensures) (λ kind h.
+    tail_operates x c.requires.operand c.args.params.now kind c.args.width mask h (c.low_mask-in-Tail.ensures.narrow c.requires.result))
+
+pub returns-in-Bits : goal.returns-in-Bits
+returns-in-Bits c =
+    let x = c.args.x in
+    let ps = c.args.params.now in
+    way_row c.from_bit.result c.args.prim prim.Bits ps x c.args.width (Shifts x c.parameter.result c.args.width) c.in-Bits.is c.from_bit.ensures (λ kind h.
+    subst (λ n. Shifts x n c.args.width (row_value prim.Bits ps)) (sym c.parameter.ensures) (bits_shifts x c.requires.operand ps kind c.args.width h))
+
+pub returns-in-Head : goal.returns-in-Head
+returns-in-Head c =
+    let x = c.args.x in
+    let ps = c.args.params.now in
+    let low : c.saturating_sub.result ≡ x.width - slice_index ps 0 = c.saturating_sub.ensures ∙ ap₂ (λ m n. m - n) c.from.ensures c.parameter-in-Head.ensures in
+    way_row c.from_bit-in-Head.result c.args.prim prim.Head ps x c.args.width (Shifts x c.saturating_sub.result c.args.width) c.in-Head.is c.from_bit-in-Head.ensures (λ kind h.
+    subst (λ n. Shifts x n c.args.width (row_value prim.Head ps)) (sym low) (head_shifts x c.requires.operand ps kind c.args.width h))
+
+pub returns-in-Shr : goal.returns-in-Shr
+returns-in-Shr c =
+    let x = c.args.x in
+    let ps = c.args.params.now in
+    way_row c.plain_from_bit.result c.args.prim prim.Shr ps x c.args.width (λ R. x.kind ≡ Unsigned → Shifts x c.parameter-in-Shr.result c.args.width R) c.in-Shr.is c.plain_from_bit.ensures (λ kind h e.
+    subst (λ n. Shifts x n c.args.width (row_value prim.Shr ps)) (sym c.parameter-in-Shr.ensures) (shr_shifts x c.requires.operand ps kind c.args.width h e))

@@ -1,0 +1,28 @@
+use Rattle.std.proofs.Common.{sym, subst, ap}
+use Rattle.code_draft.specs.Drafts.{Computes, Works}
+use Rattle.code_words.specs.Ways.{IsWay, Operates, Follow}
+use Rattle.code_words.proofs.Making.{rests_makes, word_makes, twice_makes}
+use Rattle.code_words.proofs.ways.made.Goals as goal
+
+pub returns-in_ok-slot-in-Word-clause-makes : goal.returns-in_ok-slot-in-Word-clause-makes
+returns-in_ok-slot-in-Word-clause-makes c = λ spots R way is there.
+    let d = c.args.draft.now in
+    let i = c.in-Word.work in
+    let o : Operates i spots R = subst (λ w. IsWay w spots R) c.in-Word.is way in
+    word_makes c.args.measure.kind c.args.measure.width c.in_ok-slot-in-Word.slot c.at_slot-in-Word.result c.requires c.at_slot-in-Word.ensures spots R d c.computed.new.draft i o
+    (c.in_ok-slot-in-Word.ensures.works is (o.computes d there))
+
+pub returns-in_ok-last-in-Twice-clause-makes : goal.returns-in_ok-last-in-Twice-clause-makes
+returns-in_ok-last-in-Twice-clause-makes c = λ spots R way is there.
+    let d = c.args.draft.now in
+    let i = c.in-Twice.work in
+    let next = c.in-Twice.next in
+    let e = c.computed-in-Twice.new.draft in
+    let f = c.computed-in-Twice-2.new.draft in
+    let slot = c.in_ok-slot-in-Twice.slot in
+    let o : Follow i next spots R = subst (λ w. IsWay w spots R) c.in-Twice.is way in
+    let first = c.in_ok-slot-in-Twice.ensures.works is (o.computes d there) in
+    let can = o.then_computes e slot first.written in
+    let then_can = subst (Computes e) (sym c.after.ensures) can in
+    twice_makes c.args.measure.kind c.args.measure.width c.in_ok-last-in-Twice.last c.at_slot-in-Twice.result c.requires c.at_slot-in-Twice.ensures spots R d e f i next slot o first
+    (subst (λ j. Works e f j c.in_ok-last-in-Twice.last) c.after.ensures (c.in_ok-last-in-Twice.ensures.works first.grows.is then_can))

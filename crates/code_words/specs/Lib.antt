@@ -1,0 +1,4 @@
+-- what a reader must believe
+pub mod Ways
+-- what the bodies keep
+pub mod Working

@@ -1,0 +1,77 @@
+-- Words that are made of words, and the values that they are.
+use Rattle.std.specs.Prelude.{◌≡◌, ℕ, ◌/◌, ◌%◌, ◌^◌, ◌<◌, ◌≤◌, true, List, [], ◌∷◌, slice_index, Some, All}
+use Rattle.bit_words.specs.declared.value.Kind.{Kind}
+use Rattle.bit_words.specs.declared.value.Kind.TheVariants.{Unsigned}
+use Rattle.bit_words.specs.declared.value.Value.{Value}
+use Rattle.bit_words.specs.Values.{integer_of, bits_of}
+use Rattle.prim_ops.specs.declared.operation.PrimOp.{PrimOp}
+use Rattle.cycle_values.specs.Values.{fitted, lone, operation}
+use Rattle.net_meaning.specs.Shapes.{Shape, shaped, shape_of_value, shape_of_row}
+use Rattle.flat_code.specs.declared.instr.Instr.{Instr}
+use Rattle.flat_code.specs.declared.instr.Spot.{Spot}
+use Rattle.flat_code.specs.Meaning.{spot_value, spot_values}
+use Rattle.flat_code.specs.Fine.{spot_shapes}
+use Rattle.code_draft.specs.declared.draft.Draft.{Draft}
+use Rattle.code_draft.specs.Drafts.{Stands, Wanted, written_in, Computes, word_in}
+use Rattle.code_words.specs.declared.ways.Way.{Way}
+use Rattle.code_words.specs.declared.ways.Way.TheVariants as way
+use Rattle.code_words.specs.Working.{from_slot}
+
+-- The low word of a spot is below 2 to the power of its width, as that of a value is.
+abbrev pub Cut : List ℕ → Spot → Type 0
+Cut F s = slice_index F s.low < 2 ^ s.width
+
+-- what is made of values
+abbrev pub Given : Type 0
+Given = List Value → Value
+
+-- the value of a row of the table
+abbrev pub row_value : PrimOp → List ℕ → Given
+row_value prim params values = operation prim values params
+
+-- one value, fitted to a kind and a width
+abbrev pub fit_of_one : Kind → ℕ → Given
+fit_of_one kind width values = fitted kind width (integer_of (lone values))
+
+-- The value that is made of what stands at spots, where it has this shape and the spots' words are cut.
+abbrev pub IsMade : Given → List Spot → Shape → Wanted
+IsMade R spots s words inputs F v = (v ≡ R (spot_values F spots)) × (shape_of_value v ≡ s) × All (Cut F) spots
+
+-- A slot where the word of what is made of the spots' values stands already.
+pub record Rests (slot : ℕ) (spots : List Spot) (R : Given) : Type 0 where
+  pub written : (d : Draft) → All (Stands d) spots → written_in d slot ≡ true
+  pub gives : (F : List ℕ) → All (Cut F) spots → slice_index F slot ≡ (R (spot_values F spots)).bits
+
+-- An instruction that computes it.
+pub record Operates (i : Instr) (spots : List Spot) (R : Given) : Type 0 where
+  pub computes : (d : Draft) → All (Stands d) spots → Computes d i
+  pub gives : (words : List ℕ) (inputs : List Value) (F : List ℕ) → All (Cut F) spots → word_in i words inputs F ≡ (R (spot_values F spots)).bits
+
+-- Two instructions, of which the second computes it from the word that the first gives.
+pub record Follow (i next : Instr) (spots : List Spot) (R : Given) : Type 0 where
+  pub computes : (d : Draft) → All (Stands d) spots → Computes d i
+  pub then_computes : (d : Draft) (k : ℕ) → written_in d k ≡ true → Computes d (from_slot k next)
+  pub gives : (words : List ℕ) (inputs : List Value) (F : List ℕ) (k : ℕ) → All (Cut F) spots → slice_index F k ≡ word_in i words inputs F
+      → word_in (from_slot k next) words inputs F ≡ (R (spot_values F spots)).bits
+
+abbrev pub IsWay : Way → List Spot → Given → Type 0
+IsWay (way.Same slot) spots R = Rests slot spots R
+IsWay (way.Word i) spots R = Operates i spots R
+IsWay (way.Twice i next) spots R = Follow i next spots R
+
+-- It is a way of an operation, where that has a row of this width.
+abbrev pub GivesRow : Way → PrimOp → List ℕ → List Spot → ℕ → Type 0
+GivesRow w prim params spots width = (kind : Kind) → shape_of_row prim params (spot_shapes spots) ≡ Some (shaped kind width) → IsWay w spots (row_value prim params)
+
+-- a UInt of at most 64 bits
+pub record IsPlain (s : Spot) : Type 0 where
+  pub kind : s.kind ≡ Unsigned
+  pub few : s.width ≤ 64
+
+-- What is made of a spot's value has the bits of its integer, cut to a width.
+abbrev pub Refits : Spot → ℕ → Given → Type 0
+Refits x width R = (F : List ℕ) → (R (spot_value F x ∷ [])).bits ≡ bits_of width (integer_of (spot_value F x))
+
+-- It has the bits from this one on, cut to a width.
+abbrev pub Shifts : Spot → ℕ → ℕ → Given → Type 0
+Shifts x low width R = (F : List ℕ) → (R (spot_value F x ∷ [])).bits ≡ (spot_value F x).bits / 2 ^ low % 2 ^ width

@@ -1,0 +1,19 @@
+-- Instructions that compute, and spots of one slot.
+use Rattle.std.specs.Prelude.{◌≡◌, ℕ}
+use Rattle.bit_words.specs.declared.value.Kind.{Kind}
+use Rattle.net_meaning.specs.Shapes.{shaped}
+use Rattle.flat_code.specs.declared.instr.Op.{Op}
+use Rattle.flat_code.specs.declared.instr.Instr.{Instr}
+use Rattle.flat_code.specs.declared.instr.Spot.{Spot}
+use Rattle.flat_code.specs.Meaning.{spot_shape}
+
+abbrev pub working : Op → ℕ → ℕ → ℕ → ℕ → ℕ → Instr
+working op shift first second third mask = record { op = op; shift = shift; first = first; second = second; third = third; target = 0; mask = mask }
+
+-- the instruction with another first slot
+abbrev pub from_slot : ℕ → Instr → Instr
+from_slot slot i = record { op = i.op; shift = i.shift; first = slot; second = i.second; third = i.third; target = i.target; mask = i.mask }
+
+-- the spot of a kind and a width in one slot
+abbrev pub at_one_slot : Kind → ℕ → ℕ → Spot → Type 0
+at_one_slot kind width slot s = (spot_shape s ≡ shaped kind width) × (s.low ≡ slot) × (s.high ≡ slot)

@@ -1,0 +1,111 @@
+//! Ways in which a word is made of words in slots.
+
+ghost use Rattle.std.specs.Prelude.{◌≡◌, ◌≤◌, ◌+◌, List as TheList, All, IfOk, OnOk};
+ghost use Rattle.flat_code.specs.declared.instr.Spot.{Spot as TheSpot};
+ghost use Rattle.flat_code.specs.Meaning.{spot_shape};
+ghost use Rattle.net_meaning.specs.Shapes.{shaped};
+ghost use Rattle.code_draft.specs.Drafts.{IsDraft, Stands, Makes};
+ghost use Rattle.code_words.specs.Working.{working, from_slot, at_one_slot};
+ghost use Rattle.code_words.specs.Ways.{Given, IsMade, IsWay};
+
+use bit_words::Kind;
+use code_draft::{Draft, computed};
+use flat_code::{Instr, Op, Spot};
+use std::alloc::AllocError;
+
+/// A kind and a width of at most 128.
+#[derive(Clone, Copy, Debug)]
+pub struct Measure {
+    pub kind: Kind,
+    pub width: u8,
+    ghost narrow: { width ≤ 128 },
+}
+
+/// How a word is made.
+#[derive(Clone, Copy, Debug)]
+pub(crate) enum Way {
+    /// It stands in this slot.
+    Same(u32),
+    /// One instruction computes it.
+    Word(Instr),
+    /// The second instruction computes it of the word that the first one gives, in its first slot.
+    Twice(Instr, Instr),
+}
+
+/// The value of a kind and a width of at most 64 bits, whose word is made in this way.
+pub(crate) fn made(draft: &mut Draft, way: Way, measure: Measure) -> Result<Spot, AllocError>
+    requires { measure.width ≤ 64 }
+    ensures shape { IfOk result (λ s. spot_shape s ≡ shaped measure.kind measure.width) }
+    ensures makes { IfOk result (λ s. (spots : TheList TheSpot) (R : Given) → IsWay way spots R → IsDraft draft.old → All (Stands draft.old) spots → Makes draft.old draft.new s (IsMade R spots (shaped measure.kind measure.width))) }
+    ensures slots { OnOk result (draft.new.slots ≤ draft.old.slots + 2) }
+{
+    match way {
+        Way::Same(slot) => Ok(at_slot(slot, measure)),
+        Way::Word(work) => {
+            let slot = computed(draft, work)?;
+            Ok(at_slot(slot, measure))
+        }
+        Way::Twice(work, next) => {
+            let slot = computed(draft, work)?;
+            let last = computed(draft, after(next, slot))?;
+            Ok(at_slot(last, measure))
+        }
+    }
+}
+
+/// The spot of one slot.
+fn at_slot(slot: u32, measure: Measure) -> Spot
+    ensures { at_one_slot measure.kind measure.width slot result }
+{
+    Spot {
+        kind: measure.kind,
+        width: measure.width,
+        low: slot,
+        high: slot,
+    }
+}
+
+/// The instruction with another first slot.
+fn after(next: Instr, slot: u32) -> Instr
+    ensures { result ≡ from_slot slot next }
+{
+    Instr {
+        op: next.op,
+        shift: next.shift,
+        first: slot,
+        second: next.second,
+        third: next.third,
+        target: next.target,
+        mask: next.mask,
+    }
+}
+
+/// An instruction on the word of one operand.
+pub(crate) fn of_one(op: Op, x: Spot, shift: u8, mask: u64) -> Instr
+    ensures { result ≡ working op shift x.low 0 0 mask }
+{
+    Instr {
+        op,
+        shift,
+        first: x.low,
+        second: 0,
+        third: 0,
+        target: 0,
+        mask,
+    }
+}
+
+/// An instruction on the words of two operands.
+pub(crate) fn of_two(op: Op, x: Spot, y: Spot, mask: u64) -> Instr
+    ensures { result ≡ working op 0 x.low y.low 0 mask }
+{
+    Instr {
+        op,
+        shift: 0,
+        first: x.low,
+        second: y.low,
+        third: 0,
+        target: 0,
+        mask,
+    }
+}
