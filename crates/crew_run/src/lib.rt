@@ -5,7 +5,7 @@
 #![tactic(auto)]
 
 mod crew;
-mod epochs;
+mod cycles;
 pub mod laws;
 mod plan;
 pub mod running;

@@ -15,7 +15,7 @@ ghost use Rattle.crew_run.specs.Epochs.{IsAfter, AreEpochs, AreTables};
 ghost use Rattle.crew_run.specs.Crews.{AreCodesOfCut};
 
 use crate::crew::{codes_of, first_words};
-use crate::epochs::run_cycles;
+use crate::cycles::run_cycles;
 use crate::plan::{Crew, Plan};
 use bit_words::List;
 use circuit_run::RunFault;
