@@ -41,6 +41,7 @@ pub fn codes_of(alloc: Global, plan: &Plan<'_>) -> Result<List<Code>, AllocError
 pub fn first_words(alloc: Global, plan: &Plan<'_>, codes: &[Code]) -> Result<List<u64>, AllocError>
     requires planned { IsPlanned plan.now.ordered.now plan.now.ports.now plan.now.stimulus.now }
     requires some { 1 ≤ plan.now.workers }
+    requires few { plan.now.workers ≤ 64 }
     requires codes { (it : OneCut) × AreCodesOfCut plan.now.ordered.now plan.now.workers codes.now it }
     ensures { IfOk result (λ words. IsAfter plan.now.ordered.now.net plan.now.stimulus.now 0 words first_state) }
 {
