@@ -26,7 +26,7 @@ run_on net sequence well order t (g ∷ given) =
     let rest = run_on net sequence well order (next net t (sight_of net t one.0)) given in
     (map one.0 (watch net) ∷ rest.0, cycle one.0 one.1 rest.1)
 
-given_split : (stimulus : Stimulus) (first n m : ℕ) → given_from stimulus first (n + m) ≡ given_from stimulus first n ++ given_from stimulus (first + n) m
+pub given_split : (stimulus : Stimulus) (first n m : ℕ) → given_from stimulus first (n + m) ≡ given_from stimulus first n ++ given_from stimulus (first + n) m
 given_split stimulus first n m = ap (map (given_in stimulus)) (range_split first n m) ∙ map-append (given_in stimulus) (range_with_len first n) (range_with_len (first + n) m)
 
 lines_split : (first : ℕ) (rows more : List (List Value)) → lines_from first (rows ++ more) ≡ lines_from first rows ++ lines_from (first + length rows) more

@@ -17,5 +17,5 @@ returns c =
     let words = ap (λ (d : Code). d.words) c.index-codes-0.is ∙ sym (words_counted codes cut 0 c.index-codes-0.result lt) in
     record {
       reached = there;
-      are = c.from_vec.ensures ∙ (c.in_ok-from_elem.ensures.items ∙ (ap (λ n. replicate n 0) words ∙ sym (first_words_are plan.ordered.now.net)));
+      are = c.from_vec.ensures ∙ (c.in_ok-from_elem.ensures.items_if_clones_equal (λ w e. e) ∙ (ap (λ n. replicate n 0) words ∙ sym (first_words_are plan.ordered.now.net)));
     }

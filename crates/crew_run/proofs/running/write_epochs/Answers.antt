@@ -26,7 +26,7 @@ loop-first-init g c = record {
     no_cycle c.args.crew.now.plan.now.ordered.now.net c.args.crew.now.plan.now.stimulus.now (IsAfter c.args.crew.now.plan.now.ordered.now.net c.args.crew.now.plan.now.stimulus.now 0 c.args.words) first_state 0 c.requires.begins,
     nothing_written (g.K.Sink.written c.args.sink.now),
   );
-  epochs = λ it of. refl;
+  epochs = λ it of. subst (λ ts. AreEpochs c.args.crew.now.plan.now.ordered.now.net c.args.crew.now.plan.now.stimulus.now it.parts 0 (map closed_script ts) 0) (sym c.new-tables.ensures) refl;
   never_falls = omega arith;
 }
 
