@@ -20,7 +20,7 @@ use Rattle.stimulus.specs.Rows.{rows_from}
 use Rattle.circuit_run.specs.NetRuns.{IsPlanned}
 use Rattle.crew_run.specs.Epochs.{IsAfter, IsEpoch, AreEpochs}
 use Rattle.crew_run.specs.Crews.{AreCodesOfCut}
-use Rattle.crew_run.proofs.CodeLaws.{words_counted}
+use Rattle.code_laws.proofs.Placed.{words_counted}
 use Rattle.crew_run.proofs.Matched.{rows_long}
 use Rattle.crew_run.proofs.Crews.{one_cut}
 use Rattle.crew_run.proofs.States.{state_at}

@@ -1,4 +1,4 @@
-pub mod CodeLaws
+pub mod Watched
 pub mod Matched
 pub mod Crews
 pub mod Firsts

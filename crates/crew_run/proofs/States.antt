@@ -28,7 +28,8 @@ use Rattle.circuit_run.proofs.NetRuns.{given_split, no_cycle, one_cycle, join}
 use Rattle.circuit_run.proofs.Traces.{first_within}
 use Rattle.crew_run.specs.Epochs.{Reaches, there, onward, IsAfter}
 use Rattle.crew_run.specs.Crews.{AreCodesOfCut}
-use Rattle.crew_run.proofs.CodeLaws.{next_words, outputs_of}
+use Rattle.code_laws.proofs.Whole.{next_words}
+use Rattle.code_laws.proofs.Cycles.{outputs_of}
 use Rattle.crew_run.proofs.Matched.{rows_long, row_is, row_matches}
 use Rattle.crew_run.proofs.Crews.{one_cut}
 use Rattle.crew_run.proofs.Rows.{lines_next, row_watched}

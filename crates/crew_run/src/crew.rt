@@ -4,6 +4,7 @@ ghost use Rattle.std.specs.Prelude.{◌≡◌, ℕ, ◌<◌, ◌≤◌, ◌^◌,
 ghost use Rattle.ground_net.specs.declared.net.Cut.{Cut as OneCut};
 ghost use Rattle.ground_net.specs.Cones.{sinks};
 ghost use Rattle.net_meaning.specs.Cycles.{first_state};
+ghost use Rattle.net_meaning.specs.Words.{SaysItsWords};
 ghost use Rattle.circuit_run.specs.NetRuns.{IsPlanned};
 ghost use Rattle.crew_run.specs.Epochs.{IsAfter};
 ghost use Rattle.crew_run.specs.Crews.{AreCodesOfCut};
@@ -24,6 +25,7 @@ const NUMBERS: usize = 4_294_967_296;
 /// More leaves or sinks than a `u32` numbers are a want of memory.
 pub fn codes_of(alloc: Global, plan: &Plan<'_>) -> Result<List<Code>, AllocError>
     requires planned { IsPlanned plan.now.ordered.now plan.now.ports.now plan.now.stimulus.now }
+    requires said { SaysItsWords plan.now.ordered.now.net }
     requires some { 1 ≤ plan.now.workers }
     requires few { plan.now.workers ≤ 64 }
     ensures { IfOk result (λ codes. (it : OneCut) × AreCodesOfCut plan.now.ordered.now plan.now.workers codes it) }

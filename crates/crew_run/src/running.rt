@@ -6,6 +6,7 @@ ghost use Rattle.leaf_names.specs.LeafNames.{Texts};
 ghost use Rattle.fir_meaning.specs.Components.{Design};
 ghost use Rattle.ground_net.specs.declared.net.Cut.{Cut as OneCut};
 ghost use Rattle.net_meaning.specs.Cycles.{first_state};
+ghost use Rattle.net_meaning.specs.Words.{SaysItsWords};
 ghost use Rattle.net_laws.specs.Serves.{Serves};
 ghost use Rattle.register_table.specs.Shown.{closed_script};
 ghost use Rattle.circuit_run.specs.Traces.{IsTraceText};
@@ -35,8 +36,8 @@ const EPOCH: u64 = 1024;
 /// settle in it (FIRRTL specification 3.0, "Last Connect Semantics", "Registers" and "Memories"). The bytes are the same for every
 /// number of workers. Answers the closed tables of the epochs, in order.
 ///
-/// The net serves the circuit, its assignments stand in an order, and the stimulus was read for its ports. The net is cut into as
-/// many parts as there are workers, and each worker runs the code of one. The gate is told the number of each cycle. Takes memory for
+/// The net serves the circuit and says where the words of its memories stand, its assignments stand in an order, and the stimulus was
+/// read for its ports. The net is cut into as many parts as there are workers, and each worker runs the code of one. The gate is told the number of each cycle. Takes memory for
 /// the codes, the state, and the rows and lines of 1,024 cycles. A fault leaves a prefix of the trace in the sink.
 pub fn simulate<R: Threads + Wait + Sync, G: Gate + Sync, K: Sink>(
     alloc: Global,
@@ -46,6 +47,7 @@ pub fn simulate<R: Threads + Wait + Sync, G: Gate + Sync, K: Sink>(
     sink: &mut K,
 ) -> Result<List<Closed>, RunFault>
     requires planned { IsPlanned plan.now.ordered.now plan.now.ports.now plan.now.stimulus.now }
+    requires said { SaysItsWords plan.now.ordered.now.net }
     requires some { 1 ≤ plan.now.workers }
     requires few { plan.now.workers ≤ 64 }
     ensures traced { (texts : Texts) (design : Design) → Serves texts design plan.now.ordered.now.net → (bytes : Listed ℕ) × IsTraceText texts design plan.now.stimulus.now bytes
