@@ -12,12 +12,10 @@ use Rattle.net_meaning.specs.Cycles.{NetState, Inputs, Valuation, Settled, sight
 use Rattle.net_meaning.specs.Nets.{IsNet}
 use Rattle.net_meaning.proofs.Mentioning.{one_of_net}
 use Rattle.net_laws.specs.Runs.{Run, ended, cycle}
-use Rattle.net_run.specs.declared.kept.Kept.{Kept}
 use Rattle.net_run.specs.Seeing.{value_at}
-use Rattle.net_run.specs.Keeping.{IsKept}
 use Rattle.stimulus.specs.declared.stimulus.Stimulus.{Stimulus}
 use Rattle.trace_print.specs.Trace.{trace_line_of}
-use Rattle.circuit_run.specs.NetRuns.{watch, given_in, given_from, lines_from, LeadsOn, AreLines}
+use Rattle.circuit_run.specs.NetRuns.{watch, given_in, given_from, lines_from, LeadsTo, AreLines}
 use Rattle.circuit_run.proofs.Lists.{range_split, enumerate_split}
 
 -- From each state there is a run.
@@ -28,7 +26,7 @@ run_on net sequence well order t (g ∷ given) =
     let rest = run_on net sequence well order (next net t (sight_of net t one.0)) given in
     (map one.0 (watch net) ∷ rest.0, cycle one.0 one.1 rest.1)
 
-given_split : (stimulus : Stimulus) (first n m : ℕ) → given_from stimulus first (n + m) ≡ given_from stimulus first n ++ given_from stimulus (first + n) m
+pub given_split : (stimulus : Stimulus) (first n m : ℕ) → given_from stimulus first (n + m) ≡ given_from stimulus first n ++ given_from stimulus (first + n) m
 given_split stimulus first n m = ap (map (given_in stimulus)) (range_split first n m) ∙ map-append (given_in stimulus) (range_with_len first n) (range_with_len (first + n) m)
 
 lines_split : (first : ℕ) (rows more : List (List Value)) → lines_from first (rows ++ more) ≡ lines_from first rows ++ lines_from (first + length rows) more
@@ -48,13 +46,13 @@ row_watched net values seen ports leaves row watched_is ports_are seen_is row_is
 
 module _ (net : Net) (stimulus : Stimulus) where
   -- No cycle leads on yet.
-  pub no_cycle : (s : NetState) (first : ℕ) (behind : Kept) → IsKept net s behind → LeadsOn net stimulus s first 0 behind []
-  no_cycle s first behind k = record { state = s; rows = []; leads = λ later more r. r; counted = refl; kept = k; are = refl }
+  pub no_cycle : (P : NetState → Type 0) (s : NetState) (first : ℕ) → P s → LeadsTo net stimulus P s first 0 []
+  no_cycle P s first k = record { state = s; rows = []; leads = λ later more r. r; counted = refl; kept = k; are = refl }
 
   -- One cycle.
-  pub one_cycle : (s : NetState) (first : ℕ) (behind : Kept) (rho : Valuation) (row : List Value) (line : List ℕ) → Settled net s (given_in stimulus first) rho → row ≡ map rho (watch net) → line ≡ trace_line_of first row
-      → IsKept net (next net s (sight_of net s rho)) behind → LeadsOn net stimulus s first 1 behind line
-  one_cycle s first behind rho row line settled row_is line_is k = record {
+  pub one_cycle : (P : NetState → Type 0) (s : NetState) (first : ℕ) (rho : Valuation) (row : List Value) (line : List ℕ) → Settled net s (given_in stimulus first) rho → row ≡ map rho (watch net) → line ≡ trace_line_of first row
+      → P (next net s (sight_of net s rho)) → LeadsTo net stimulus P s first 1 line
+  one_cycle P s first rho row line settled row_is line_is k = record {
     state = next net s (sight_of net s rho);
     rows = map rho (watch net) ∷ [];
     leads = λ later more r. cycle rho settled r;
@@ -64,9 +62,9 @@ module _ (net : Net) (stimulus : Stimulus) where
   }
 
   -- Cycles, and then others.
-  pub join : (s : NetState) (first n m : ℕ) (middle behind : Kept) (lines more : List ℕ) → LeadsOn net stimulus s first n middle lines
-      → ((t : NetState) → IsKept net t middle → LeadsOn net stimulus t (first + n) m behind more) → LeadsOn net stimulus s first (n + m) behind (lines ++ more)
-  join s first n m middle behind lines more a f =
+  pub join : (P Q : NetState → Type 0) (s : NetState) (first n m : ℕ) (lines more : List ℕ) → LeadsTo net stimulus P s first n lines
+      → ((t : NetState) → P t → LeadsTo net stimulus Q t (first + n) m more) → LeadsTo net stimulus Q s first (n + m) (lines ++ more)
+  join P Q s first n m lines more a f =
       let b = f a.state a.kept in
       record {
         state = b.state;
@@ -83,8 +81,8 @@ module _ (net : Net) (stimulus : Stimulus) where
       }
 
   -- All cycles are a run.
-  pub whole : (n : ℕ) (behind : Kept) (lines : List ℕ) → n ≡ stimulus.cycles → LeadsOn net stimulus first_state 0 n behind lines → AreLines net stimulus lines
-  whole n behind lines all a = record {
+  pub whole : (P : NetState → Type 0) (n : ℕ) (lines : List ℕ) → n ≡ stimulus.cycles → LeadsTo net stimulus P first_state 0 n lines → AreLines net stimulus lines
+  whole P n lines all a = record {
     rows = a.rows;
     run = subst (λ rs. Run net (watch net) first_state (given_from stimulus 0 stimulus.cycles) rs) (append-nil a.rows)
         (subst (λ g. Run net (watch net) first_state g (a.rows ++ [])) (append-nil (given_from stimulus 0 n) ∙ ap (given_from stimulus 0) all) (a.leads [] [] ended));
@@ -92,9 +90,9 @@ module _ (net : Net) (stimulus : Stimulus) where
   }
 
   -- What the first cycles lead to is the beginning of a run.
-  pub extended : (sequence : List ℕ) → IsNet net → IsOrder net sequence → (n : ℕ) (behind : Kept) (lines : List ℕ) → n ≤ stimulus.cycles → LeadsOn net stimulus first_state 0 n behind lines
+  pub extended : (P : NetState → Type 0) (sequence : List ℕ) → IsNet net → IsOrder net sequence → (n : ℕ) (lines : List ℕ) → n ≤ stimulus.cycles → LeadsTo net stimulus P first_state 0 n lines
       → (more : List ℕ) × AreLines net stimulus (lines ++ more)
-  extended sequence well order n behind lines few a =
+  extended P sequence well order n lines few a =
       let later = given_from stimulus (0 + n) (stimulus.cycles - n) in
       let rest = run_on net sequence well order a.state later in
       let all : n + (stimulus.cycles - n) ≡ stimulus.cycles = omega (arith, few) in (

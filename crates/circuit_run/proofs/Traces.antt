@@ -36,19 +36,20 @@ lines_are : (first : ℕ) (rows : List (List Value)) → lines_from first rows �
 lines_are first [] = refl
 lines_are first (row ∷ rows) = ap₂ (λ a b. a ++ b) (line_is first row) (lines_are (first + 1) rows)
 
+-- The first state is in the ranges of its leaves.
+pub first_within : (net : Net) → IsWithin net first_state
+first_within net = record {
+  registers = λ n t there. zero_fits t.kind t.width;
+  contents = λ m element k memory t there at. zero_fits t.kind t.width;
+  captured = λ n t there. zero_fits t.kind t.width;
+}
+
 module _ (texts : Texts) (design : Design) (net : Net) (serves : Serves texts design net) where
   firsts_match : Matches serves tree.first_state first_state
   firsts_match = record {
     registers = λ x n y there held. refl;
     contents = λ m element k p memory typ leaf there of_type at. refl;
     captured = λ x n y port field way there held at. refl;
-  }
-
-  first_within : IsWithin net first_state
-  first_within = record {
-    registers = λ n t there. zero_fits t.kind t.width;
-    contents = λ m element k memory t there at. zero_fits t.kind t.width;
-    captured = λ n t there. zero_fits t.kind t.width;
   }
 
   pub names_are : map (λ (p : PortLeaf). p.name) (watched net) ≡ watched_names texts design
@@ -62,7 +63,7 @@ module _ (texts : Texts) (design : Design) (net : Net) (serves : Serves texts de
     pub text_of_lines : (lines : List ℕ) → AreLines net stimulus lines → IsTraceText texts design stimulus (header_of (map (λ (p : PortLeaf). p.name) (watched net)) ++ lines)
     text_of_lines lines a = record {
       rows = map (map integer_of) a.rows;
-      trace = run_traces texts design net serves.of serves.lists serves.has serves.typed sequence order tree.first_state first_state firsts_match first_within
+      trace = run_traces texts design net serves.of serves.lists serves.has serves.typed sequence order tree.first_state first_state firsts_match (first_within net)
           (all_inputs design stimulus) (given_from stimulus 0 stimulus.cycles)
           (all_given texts design net serves ports fed stimulus formed (range_with_len 0 stimulus.cycles)) a.run;
       is = ap₂ (λ x y. x ++ y) (ap header_of names_are) (a.are ∙ lines_are 0 a.rows);

@@ -46,14 +46,18 @@ Leads net s given rows t = (later : List Inputs) (more : List (List Value)) → 
 abbrev pub lines_from : ℕ → List (List Value) → List ℕ
 lines_from first rows = flat_map (λ x. trace_line_of x.0 x.1) (enumerate_from first rows)
 
--- From a state so many cycles from a first one on lead to what is kept behind them, and these are their lines.
-pub record LeadsOn (net : Net) (stimulus : Stimulus) (s : NetState) (first count : ℕ) (behind : Kept) (lines : List ℕ) : Type 0 where
+-- From a state so many cycles from a first one on lead to a state of which P holds, and these are their lines.
+pub record LeadsTo (net : Net) (stimulus : Stimulus) (P : NetState → Type 0) (s : NetState) (first count : ℕ) (lines : List ℕ) : Type 0 where
   pub state : NetState
   pub rows : List (List Value)
   pub leads : Leads net s (given_from stimulus first count) rows state
   pub counted : length rows ≡ count
-  pub kept : IsKept net state behind
+  pub kept : P state
   pub are : lines ≡ lines_from first rows
+
+-- The same, to what is kept behind them.
+abbrev pub LeadsOn : Net → Stimulus → NetState → ℕ → ℕ → Kept → List ℕ → Type 0
+LeadsOn net stimulus s first count behind lines = LeadsTo net stimulus (λ t. IsKept net t behind) s first count lines
 
 -- The lines of a whole run.
 pub record AreLines (net : Net) (stimulus : Stimulus) (bytes : List ℕ) : Type 0 where

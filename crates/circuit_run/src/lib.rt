@@ -5,7 +5,7 @@
 mod cycles;
 pub mod fault;
 pub mod laws;
-mod lines;
+pub mod lines;
 mod plan;
 pub mod running;
 

@@ -1,5 +1,5 @@
 mod Back
-mod Placed
+pub mod Placed
 mod Left
 mod Writes
 mod Captures

@@ -27,4 +27,4 @@ returns c =
     let row = row_watched net values c.as_slice.result.now ports.watched c.as_slice-watched.result.now c.in_ok-row.row planned.seen c.as_slice-watched.ensures c.as_slice.ensures.value c.in_ok-row.ensures in
     λ s k.
     let kept = subst (λ vs. IsKept net (next net s (sight_of net s (value_at vs))) c.in_ok-kept.kept) c.as_slice-2.ensures.value (c.in_ok-kept.ensures s k) in
-    one_cycle net stimulus s cycle c.in_ok-kept.kept (value_at values) c.in_ok-row.row c.in_ok-lines.lines.items (c.in_ok-values.ensures.settled s given k inputs) row c.in_ok-lines.ensures kept
+    one_cycle net stimulus (λ t. IsKept net t c.in_ok-kept.kept) s cycle (value_at values) c.in_ok-row.row c.in_ok-lines.lines.items (c.in_ok-values.ensures.settled s given k inputs) row c.in_ok-lines.ensures kept

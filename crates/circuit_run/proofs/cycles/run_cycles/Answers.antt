@@ -1,6 +1,7 @@
 use Rattle.std.proofs.Common.{◌≡◌, ◌+◌, ◌-◌, ◌<◌, ◌++◌, length, get_or, sym, subst, ap, ◌∙◌, arith}
 use Rattle.std.proofs.lemmas.List.FromFn.{length-map-range_with_len, get_or-map-range_with_len}
 use Rattle.stimulus.specs.Rows.{row_in}
+use Rattle.net_run.specs.Keeping.{IsKept}
 use Rattle.circuit_run.specs.NetRuns.{LeadsOn}
 use Rattle.circuit_run.proofs.NetRuns.{join}
 use Rattle.circuit_run.proofs.cycles.run_cycles.Goals as goal
@@ -36,7 +37,7 @@ loop-cycle-preserved c =
     record {
       stands = (next.state, next.kept);
       leads = λ s k.
-          let both = join net stimulus s first (cycle - first) 1 kept told.kept c.loop-cycle.lines.items told.lines.items (c.loop-cycle.invariant.leads s k)
+          let both = join net stimulus (λ t. IsKept net t kept) (λ t. IsKept net t told.kept) s first (cycle - first) 1 c.loop-cycle.lines.items told.lines.items (c.loop-cycle.invariant.leads s k)
           (λ t h. subst (λ n. LeadsOn net stimulus t n 1 told.kept told.lines.items) place (c.in_ok-told.ensures t h)) in
           subst (LeadsOn net stimulus s first (cycle + 1 - first) told.kept) (sym lines) (subst (λ n. LeadsOn net stimulus s first n told.kept (c.loop-cycle.lines.items ++ told.lines.items)) counted both);
     }

@@ -5,6 +5,7 @@ use Rattle.std.proofs.lemmas.Result.{err_from_is_err_and}
 use Rattle.shelf_io.specs.Outside.{Appends}
 use Rattle.shelf_io.proofs.Written.{Appends-trans}
 use Rattle.net_meaning.specs.Cycles.{first_state}
+use Rattle.net_run.specs.Keeping.{IsKept}
 use Rattle.circuit_run.specs.NetRuns.{LeadsOn}
 use Rattle.circuit_run.proofs.Lists.{front_of}
 use Rattle.circuit_run.proofs.NetRuns.{no_cycle, join, whole, extended}
@@ -14,7 +15,7 @@ use Rattle.circuit_run.proofs.running.write_cycles.Goals as goal
 pub loop-first-init : goal.loop-first-init
 loop-first-init g c = record {
   within = omega arith;
-  told = ([], no_cycle c.args.plan.now.ordered.now.net c.args.plan.now.stimulus.now first_state 0 c.args.kept c.requires.kept, nothing_written (g.K.Sink.written c.args.sink.now));
+  told = ([], no_cycle c.args.plan.now.ordered.now.net c.args.plan.now.stimulus.now (λ t. IsKept c.args.plan.now.ordered.now.net t c.args.kept) first_state 0 c.requires.kept, nothing_written (g.K.Sink.written c.args.sink.now));
   never_falls = omega arith;
 }
 
@@ -23,7 +24,8 @@ returns-in_err-told-clause-lines g c =
     let planned = c.requires.planned in
     let p = err_from_is_err_and c.from_residual.result c.from_residual.ensures.1 in
     let before = c.loop-first.invariant.told in
-    let more = extended c.args.plan.now.ordered.now.net c.args.plan.now.stimulus.now c.args.plan.now.ordered.now.sequence planned.net planned.order c.loop-first.first c.loop-first.kept before.0 c.loop-first.invariant.within before.1 in
+    let net = c.args.plan.now.ordered.now.net in
+    let more = extended net c.args.plan.now.stimulus.now (λ t. IsKept net t c.loop-first.kept) c.args.plan.now.ordered.now.sequence planned.net planned.order c.loop-first.first before.0 c.loop-first.invariant.within before.1 in
     rw p.1
     (before.0 ++ more.0, more.1, tt, (length before.0, subst (Appends (g.K.Sink.written c.args.sink.now) (g.K.Sink.written c.loop-first.sink)) (sym (take-append_seam before.0 more.0)) before.2))
 
@@ -39,9 +41,9 @@ returns-in_err-put_all-clause-lines g c =
     let told = c.in_ok-told.told in
     let place : first ≡ 0 + first = omega arith in
     let within : first + count ≤ stimulus.cycles = grind (arith, common_steps, c.min-count.ensures, c.loop-first-test.true) in
-    let leads = join net stimulus first_state 0 first count c.loop-first.kept told.kept before.0 told.lines.items before.1
+    let leads = join net stimulus (λ t. IsKept net t c.loop-first.kept) (λ t. IsKept net t told.kept) first_state 0 first count before.0 told.lines.items before.1
     (λ t k. subst (λ n. LeadsOn net stimulus t n count told.kept told.lines.items) place (c.in_ok-told.ensures t k)) in
-    let more = extended net stimulus c.args.plan.now.ordered.now.sequence planned.net planned.order (first + count) told.kept (before.0 ++ told.lines.items) within leads in
+    let more = extended net stimulus (λ t. IsKept net t told.kept) c.args.plan.now.ordered.now.sequence planned.net planned.order (first + count) (before.0 ++ told.lines.items) within leads in
     let old = g.K.Sink.written c.args.sink.now in
     let middle = g.K.Sink.written c.loop-first.sink in
     let new = g.K.Sink.written c.put_all.new.sink in
@@ -67,7 +69,7 @@ loop-first-preserved g c =
     let count = c.min-count.result in
     let told = c.in_ok-told.told in
     let place : first ≡ 0 + first = omega arith in
-    let leads = join net stimulus first_state 0 first count c.loop-first.kept told.kept before.0 told.lines.items before.1
+    let leads = join net stimulus (λ t. IsKept net t c.loop-first.kept) (λ t. IsKept net t told.kept) first_state 0 first count before.0 told.lines.items before.1
     (λ t k. subst (λ n. LeadsOn net stimulus t n count told.kept told.lines.items) place (c.in_ok-told.ensures t k)) in
     let old = g.K.Sink.written c.args.sink.now in
     let middle = g.K.Sink.written c.loop-first.sink in
@@ -82,4 +84,5 @@ pub returns-clause-lines : goal.returns-clause-lines
 returns-clause-lines g c =
     let before = c.loop-first.invariant.told in
     let all : c.loop-first.first ≡ c.args.plan.now.stimulus.now.cycles = omega (arith, c.loop-first-test.false, c.loop-first.invariant.within) in
-    (before.0, whole c.args.plan.now.ordered.now.net c.args.plan.now.stimulus.now c.loop-first.first c.loop-first.kept before.0 all before.1, before.2, tt)
+    let net = c.args.plan.now.ordered.now.net in
+    (before.0, whole net c.args.plan.now.stimulus.now (λ t. IsKept net t c.loop-first.kept) c.loop-first.first before.0 all before.1, before.2, tt)

@@ -1,0 +1,18 @@
+//! Laws of the definitions. The functions do nothing.
+
+ghost use Rattle.std.specs.Prelude.{◌≡◌, ℕ, List, Option, Some, Ok, Result, OnOk};
+ghost use Rattle.shelf_io.specs.Outside.{Appends};
+ghost use Rattle.leaf_names.specs.LeafNames.{Texts};
+ghost use Rattle.fir_meaning.specs.Components.{Design};
+ghost use Rattle.ground_net.specs.declared.net.Net.{Net as TheNet};
+ghost use Rattle.ground_net.specs.Reads.{IsOrder};
+ghost use Rattle.net_laws.specs.Serves.{Serves};
+ghost use Rattle.stimulus.specs.declared.stimulus.Stimulus.{Stimulus as TheStimulus};
+ghost use Rattle.circuit_run.specs.Traces.{IsTraceText};
+
+/// Two runs that came to their end from sinks that hold the same wrote the same, whatever the numbers of their workers: each appended a
+/// trace of the circuit under the stimulus, as `simulate` says.
+pub fn traces_are_the_same_for_all_numbers_of_workers()
+    ensures { (texts : Texts) (design : Design) (net : TheNet) (sequence : List ℕ) → Serves texts design net → IsOrder net sequence → (stimulus : TheStimulus) (old new other : Option (List ℕ)) (bytes others : List ℕ)
+        → IsTraceText texts design stimulus bytes → Appends old new bytes → IsTraceText texts design stimulus others → Appends old other others → new ≡ other }
+{}
