@@ -7,6 +7,7 @@ ghost use Rattle.flat_code.specs.declared.code.Code.{Code as Cod};
 ghost use Rattle.crew_workers.specs.Codes.{Recorded};
 ghost use Rattle.worker_crew.specs.Crew.{task, Answered, Fresh, Done, IsDuty, PlaceOk, Places, Parts};
 ghost use Rattle.crew_workers.specs.Standing.{Each};
+ghost use Rattle.worker_crew.specs.Numbers.{same, held, lent, there, Manned, AllThere};
 ghost use Rattle.worker_crew.specs.Threads.{Promised};
 
 use crate::crew::Lent;
@@ -29,6 +30,7 @@ fn next_done<'a, N: Plan>(
     ensures rest { Each (Done table.now (task codes.now rows.now room)) workers.new.items }
     ensures last { MatchOption result (vec_len workers.new ≡ 0) (λ w. Done table.now (task codes.now rows.now room) w) }
     ensures len { MatchOption result (vec_len workers.old ≡ 0) (λ w. vec_len workers.old ≡ vec_len workers.new + 1) }
+    ensures numbers { IfSome result (λ w. (k : ℕ) → held k workers.old.items ≡ held k workers.new.items + same k w.desk.duty.number) }
     ensures room { vec_capacity workers.new ≡ vec_capacity workers.old }
 {
     workers.pop()
@@ -47,6 +49,7 @@ fn keep_done<'a, N: Plan>(
     requires done { Each (Done table.now (task codes.now rows.now room)) done.old.items }
     ensures done { Each (Done table.now (task codes.now rows.now room)) done.new.items }
     ensures len { vec_len done.new ≡ vec_len done.old + 1 }
+    ensures numbers { (k : ℕ) → held k done.new.items ≡ held k done.old.items + same k worker.entry.desk.duty.number }
     ensures room { vec_capacity done.new ≡ vec_capacity done.old }
 {
     done.push_reserved(worker);
@@ -71,6 +74,7 @@ fn drive_mine<N: Plan, R: Wait, G: Gate>(
     requires mine { Each (Fresh table.now (task codes.now rows.now room)) mine.old.items }
     ensures mine { Each (Done table.now (task codes.now rows.now room)) mine.new.items }
     ensures len { vec_len mine.new ≡ vec_len mine.old }
+    ensures numbers { (k : ℕ) → held k mine.new.items ≡ held k mine.old.items }
     ensures room { vec_capacity mine.new ≡ vec_capacity mine.old }
     ensures frame { length frame.new ≡ length frame.old }
 {
@@ -100,6 +104,7 @@ pub(crate) fn settle<'a, N: Plan, R: Wait, G: Gate>(
     ensures empty { vec_len mine.new ≡ 0 }
     ensures done { Each (Done table.now (task codes.now rows.now room)) done.new.items }
     ensures len { vec_len done.new ≡ vec_len done.old + vec_len mine.old }
+    ensures numbers { (k : ℕ) → held k done.new.items ≡ held k done.old.items + held k mine.old.items }
     ensures room { (vec_capacity done.new ≡ vec_capacity done.old) × (vec_capacity mine.new ≡ vec_capacity mine.old) }
     ensures frame { length frame.new ≡ length frame.old }
 {
@@ -123,6 +128,7 @@ fn join_one<'a, N: Plan, R: Threads>(
     requires duty { IsDuty (task codes.now rows.now room) handle.promise.duty.value }
     ensures answer { Answered table.now result.desk.duty result }
     ensures duty { IsDuty (task codes.now rows.now room) result.desk.duty }
+    ensures number { result.desk.duty.number ≡ handle.entry.promise.duty.value.number }
 {
     handle.join(rt)
 }
@@ -138,6 +144,7 @@ fn next_handle<'a, N: Plan>(
     ensures rest { Promised table.now (task codes.now rows.now room) started.new.items }
     ensures last { MatchOption result (vec_len started.new ≡ 0) (λ h. (h.promise.table.value ≡ table.now) × IsDuty (task codes.now rows.now room) h.promise.duty.value) }
     ensures len { MatchOption result (vec_len started.old ≡ 0) (λ h. vec_len started.old ≡ vec_len started.new + 1) }
+    ensures numbers { IfSome result (λ h. (k : ℕ) → lent k started.old.items ≡ lent k started.new.items + same k h.promise.duty.value.number) }
 {
     started.pop()
 }
@@ -160,6 +167,7 @@ pub(crate) fn join_all<'a, N: Plan, R: Threads>(
     ensures late { Each (Fresh table.now (task codes.now rows.now room)) late.new.items }
     ensures done { Each (Done table.now (task codes.now rows.now room)) done.new.items }
     ensures len { vec_len late.new + vec_len done.new ≡ vec_len late.old + vec_len done.old + vec_len started.entry }
+    ensures numbers { (k : ℕ) → held k late.new.items + held k done.new.items ≡ held k late.old.items + held k done.old.items + lent k started.entry.items }
     ensures room { (vec_capacity late.new ≡ vec_capacity late.old) × (vec_capacity done.new ≡ vec_capacity done.old) }
 {
     while let Some(handle) = next_handle(table, codes, rows, room, &mut started) {
@@ -182,12 +190,14 @@ fn place<'a, N: Plan>(
     requires places { Places table.now (task codes.now rows.now room) places.old.items }
     ensures places { Places table.now (task codes.now rows.now room) places.new.items }
     ensures many { vec_len places.new ≡ vec_len places.old }
+    ensures kept { (k : ℕ) → there (slice_index_or places.old.items k None) ≤ there (slice_index_or places.new.items k None) }
+    ensures filled { (k : ℕ) → same k worker.entry.desk.duty.number ≤ there (slice_index_or places.new.items k None) }
 {
     let number = worker.duty().number as usize;
     places[number] = Some(worker);
 }
 
-// Puts all workers at their places.
+// Puts all workers at their places, which fills them.
 pub(crate) fn place_all<'a, N: Plan>(
     table: &RegisterTable<N>,
     codes: &[Code],
@@ -197,10 +207,12 @@ pub(crate) fn place_all<'a, N: Plan>(
     mut places: Vec<Option<Worker<'a, N>>>,
 ) -> Vec<Option<Worker<'a, N>>>
     requires done { Each (Done table.now (task codes.now rows.now room)) done.items }
+    requires manned { Manned (length codes.now) done.items }
     requires many { vec_len places ≡ length codes.now }
     requires places { Places table.now (task codes.now rows.now room) places.items }
     ensures places { Places table.now (task codes.now rows.now room) result.items }
     ensures many { vec_len result ≡ length codes.now }
+    ensures full { AllThere result.items }
 {
     while let Some(worker) = next_done(table, codes, rows, room, &mut done) {
         place(table, codes, rows, room, worker, &mut places);
@@ -216,16 +228,19 @@ fn take_parts<'a, N: Plan>(
     room: usize,
     number: usize,
     place: Option<Worker<'a, N>>,
-) -> Option<(Post<N>, Rows)>
+) -> (Post<N>, Rows)
     requires number { number < length codes.now }
     requires place { PlaceOk table.now (task codes.now rows.now room) number place }
-    ensures table { IfSome result (λ r. ComesFrom r.0 table.now) }
-    ensures view { IfSome result (λ r. r.0.view ≡ view number (number + 1) (2 * N.script.cycles) (2 * N.script.cycles) 0) }
-    ensures outputs { IfSome result (λ r. (d : Cod) → Recorded N.script (slice_index_or codes.now number d) rows.now r.1) }
-    ensures many { IfSome result (λ r. length r.1 ≡ N.script.cycles) }
+    requires filled { there place ≡ 1 }
+    ensures table { ComesFrom result.0 table.now }
+    ensures view { result.0.view ≡ view number (number + 1) (2 * N.script.cycles) (2 * N.script.cycles) 0 }
+    ensures outputs { (d : Cod) → Recorded N.script (slice_index_or codes.now number d) rows.now result.1 }
+    ensures many { length result.1 ≡ N.script.cycles }
 {
-    let worker = place?;
-    Some(worker.into_parts())
+    let Some(worker) = place else {
+        unreachable!();
+    };
+    worker.into_parts()
 }
 
 // Keeps the outputs of the worker `number`, where those of the workers above are kept.
@@ -260,23 +275,24 @@ fn unite_next<'a, N: Plan>(
     place: Option<Worker<'a, N>>,
     upper: Option<Post<N>>,
     parts: &mut Vec<Rows>,
-) -> Option<Post<N>>
+) -> Post<N>
     requires number { number < length codes.now }
     requires all { vec_len parts.old ≡ length codes.now }
     requires place { PlaceOk table.now (task codes.now rows.now room) number place }
+    requires filled { there place ≡ 1 }
     requires upper { MatchOption upper (number + 1 ≡ length codes.now) (λ u. ComesFrom u table.now × (u.view ≡ view (number + 1) (length codes.now) (2 * N.script.cycles) (2 * N.script.cycles) 0)) }
     requires above { Parts N.script (task codes.now rows.now room) parts.old.items (number + 1) }
     ensures all { vec_len parts.new ≡ vec_len parts.old }
-    ensures table { IfSome result (λ r. ComesFrom r table.now) }
-    ensures view { IfSome result (λ r. r.view ≡ view number (length codes.now) (2 * N.script.cycles) (2 * N.script.cycles) 0) }
-    ensures parts { IfSome result (λ r. Parts N.script (task codes.now rows.now room) parts.new.items number) }
+    ensures table { ComesFrom result table.now }
+    ensures view { result.view ≡ view number (length codes.now) (2 * N.script.cycles) (2 * N.script.cycles) 0 }
+    ensures parts { Parts N.script (task codes.now rows.now room) parts.new.items number }
 {
-    let (mut post, part) = take_parts(table, codes, rows, room, number, place)?;
+    let (mut post, part) = take_parts(table, codes, rows, room, number, place);
     put_part(table, codes, rows, room, parts, number, part);
     if let Some(upper) = upper {
         post.unite(table, upper);
     }
-    Some(post)
+    post
 }
 
 // Unites the posts from the last on, and keeps the outputs.
@@ -287,19 +303,24 @@ pub(crate) fn unite_all<'a, N: Plan>(
     room: usize,
     mut places: Vec<Option<Worker<'a, N>>>,
     parts: &mut Vec<Rows>,
-) -> Option<Post<N>>
+) -> Post<N>
+    requires some { 1 ≤ length codes.now }
+    requires full { AllThere places.items }
     requires all { (vec_len places ≡ length codes.now) × (vec_len parts.old ≡ length codes.now) }
     requires places { Places table.now (task codes.now rows.now room) places.items }
     ensures all { vec_len parts.new ≡ length codes.now }
-    ensures table { IfSome result (λ r. ComesFrom r table.now) }
-    ensures view { IfSome result (λ r. r.view ≡ view 0 (length codes.now) (2 * N.script.cycles) (2 * N.script.cycles) 0) }
-    ensures parts { IfSome result (λ r. Parts N.script (task codes.now rows.now room) parts.new.items 0) }
+    ensures table { ComesFrom result table.now }
+    ensures view { result.view ≡ view 0 (length codes.now) (2 * N.script.cycles) (2 * N.script.cycles) 0 }
+    ensures parts { Parts N.script (task codes.now rows.now room) parts.new.items 0 }
 {
     let mut upper = None;
     while let Some(place) = places.pop() {
         let number = places.len();
-        let post = unite_next(table, codes, rows, room, number, place, upper, parts)?;
+        let post = unite_next(table, codes, rows, room, number, place, upper, parts);
         upper = Some(post);
     }
-    upper
+    let Some(post) = upper else {
+        unreachable!();
+    };
+    post
 }

@@ -1,9 +1,10 @@
 //! An epoch's workers in threads, and beside the caller's own.
 
-ghost use Rattle.std.specs.Prelude.{◌≡◌, ℕ, ◌+◌, ◌*◌, ◌^◌, ◌<◌, ◌≤◌, length, vec_len, vec_capacity, MatchOption};
+ghost use Rattle.std.specs.Prelude.{◌≡◌, ℕ, ◌+◌, ◌*◌, ◌^◌, ◌<◌, ◌≤◌, length, vec_len, vec_capacity, MatchOption, IfSome};
 ghost use Rattle.worker_crew.specs.Crew.{task, Answered, Fresh, Done, IsDuty};
 ghost use Rattle.worker_crew.specs.Frames.{Frames};
 ghost use Rattle.crew_workers.specs.Standing.{Each};
+ghost use Rattle.worker_crew.specs.Numbers.{same, held, lent, Manned};
 ghost use Rattle.worker_crew.specs.Threads.{Promised};
 
 use crate::collect::{join_all, settle};
@@ -42,6 +43,7 @@ pub(crate) fn take_answer<'a, N: Plan>(
     ensures mine { Each (Fresh table.now (task codes.now rows.now room)) mine.new.items }
     ensures done { Each (Done table.now (task codes.now rows.now room)) done.new.items }
     ensures len { vec_len mine.new + vec_len done.new ≡ vec_len mine.old + vec_len done.old + 1 }
+    ensures numbers { (k : ℕ) → held k mine.new.items + held k done.new.items ≡ held k mine.old.items + held k done.old.items + same k worker.entry.desk.duty.number }
     ensures room { (vec_capacity mine.new ≡ vec_capacity mine.old) × (vec_capacity done.new ≡ vec_capacity done.old) }
 {
     if worker.passed() == 0 {
@@ -63,6 +65,7 @@ fn next_fresh<'a, N: Plan>(
     ensures rest { Each (Fresh table.now (task codes.now rows.now room)) workers.new.items }
     ensures last { MatchOption result (vec_len workers.new ≡ 0) (λ w. Fresh table.now (task codes.now rows.now room) w) }
     ensures len { MatchOption result (vec_len workers.old ≡ 0) (λ w. vec_len workers.old ≡ vec_len workers.new + 1) }
+    ensures numbers { IfSome result (λ w. (k : ℕ) → held k workers.old.items ≡ held k workers.new.items + same k w.desk.duty.number) }
 {
     workers.pop()
 }
@@ -94,6 +97,7 @@ fn keep_handle<'a, N: Plan>(
     requires started { Promised table.now (task codes.now rows.now room) started.old.items }
     ensures started { Promised table.now (task codes.now rows.now room) started.new.items }
     ensures len { vec_len started.new ≡ vec_len started.old + 1 }
+    ensures numbers { (k : ℕ) → lent k started.new.items ≡ lent k started.old.items + same k handle.entry.promise.duty.value.number }
     ensures room { vec_capacity started.new ≡ vec_capacity started.old }
 {
     started.push_reserved(handle);
@@ -130,6 +134,7 @@ fn start_next<'s, 'a: 's, E, N: Plan + Send + Sync, R: Threads + Wait + Sync, G:
     ensures mine { Each (Fresh table.now (task codes.now rows.now room)) mine.new.items }
     ensures done { Each (Done table.now (task codes.now rows.now room)) done.new.items }
     ensures len { vec_len started.new + vec_len mine.new + vec_len done.new ≡ vec_len started.old + vec_len mine.old + vec_len done.old + 1 }
+    ensures numbers { (k : ℕ) → lent k started.new.items + held k mine.new.items + held k done.new.items ≡ lent k started.old.items + held k mine.old.items + held k done.old.items + same k worker.entry.desk.duty.number }
     ensures room { (vec_capacity started.new ≡ vec_capacity started.old) × (vec_capacity mine.new ≡ vec_capacity mine.old) × (vec_capacity done.new ≡ vec_capacity done.old) }
 {
     match start_one(
@@ -154,6 +159,7 @@ pub(crate) fn keep<'a, N: Plan>(
     requires mine { Each (Fresh table.now (task codes.now rows.now room)) mine.old.items }
     ensures mine { Each (Fresh table.now (task codes.now rows.now room)) mine.new.items }
     ensures len { vec_len mine.new ≡ vec_len mine.old + 1 }
+    ensures numbers { (k : ℕ) → held k mine.new.items ≡ held k mine.old.items + same k worker.entry.desk.duty.number }
     ensures room { vec_capacity mine.new ≡ vec_capacity mine.old }
 {
     mine.push_reserved(worker);
@@ -189,6 +195,7 @@ fn start_all<'s, 'a: 's, E, N: Plan + Send + Sync, R: Threads + Wait + Sync, G: 
     ensures mine { Each (Fresh table.now (task codes.now rows.now room)) mine.new.items }
     ensures done { Each (Done table.now (task codes.now rows.now room)) done.new.items }
     ensures len { vec_len started.new + vec_len mine.new + vec_len done.new ≡ vec_len workers.entry }
+    ensures numbers { (k : ℕ) → lent k started.new.items + held k mine.new.items + held k done.new.items ≡ held k workers.entry.items }
     ensures room { (vec_capacity mine.new ≡ vec_capacity mine.old) × (vec_capacity done.new ≡ vec_capacity done.old) }
 {
     while let Some(worker) = next_fresh(table, codes, rows, room, &mut workers) {
@@ -246,7 +253,9 @@ pub(crate) fn run_in<
     requires empty { (vec_len job.rooms.started ≡ 0) × (vec_len job.rooms.mine ≡ 0) × (vec_len job.rooms.done ≡ 0) }
     requires room { (vec_len job.workers ≤ vec_capacity job.rooms.started) × (vec_len job.workers ≤ vec_capacity job.rooms.mine) × (vec_len job.workers ≤ vec_capacity job.rooms.done) }
     requires fresh { Each (Fresh job.table.now (task job.codes.now job.rows.now job.room)) job.workers.items }
+    requires manned { Manned (length job.codes.now) job.workers.items }
     ensures done { Each (Done job.entry.table.now (task job.entry.codes.now job.entry.rows.now job.entry.room)) result.items }
+    ensures manned { Manned (length job.entry.codes.now) result.items }
 {
     let Job {
         rt,

@@ -4,6 +4,7 @@ ghost use Rattle.std.specs.Prelude.{◌≡◌, ℕ, ◌+◌, ◌*◌, ◌^◌, �
 ghost use Rattle.phase_core.specs.Sound.{view};
 ghost use Rattle.register_table.specs.Shown.{ComesFrom};
 ghost use Rattle.worker_crew.specs.Crew.{task, Fresh};
+ghost use Rattle.worker_crew.specs.Numbers.{Manned};
 ghost use Rattle.crew_turns.specs.Turns.{Serves};
 ghost use Rattle.crew_turns.specs.Scripts.{script_of, Runs};
 ghost use Rattle.crew_workers.specs.Standing.{Each};
@@ -32,7 +33,8 @@ fn hire<'a, N: Plan>(
     requires number { number < length codes.now }
     requires table { ComesFrom post table.now }
     requires view { post.view ≡ view number (number + 1) 0 0 0 }
-    ensures { IfOk result (λ w. Fresh table.now (task codes.now rows.now room) w) }
+    ensures fresh { IfOk result (λ w. Fresh table.now (task codes.now rows.now room) w) }
+    ensures number { IfOk result (λ w. w.desk.duty.number ≡ number) }
 {
     let code = &codes[number];
     let worker = Worker::new(alloc, number as u32, code, post, rows)?;
@@ -57,6 +59,7 @@ pub(crate) fn hire_all<'a, N: Plan>(
     requires view { post.view ≡ view 0 (length codes.now) 0 0 0 }
     ensures workers { IfOk result (λ ws. Each (Fresh table.now (task codes.now rows.now room)) ws.items) }
     ensures many { IfOk result (λ ws. vec_len ws ≡ length codes.now) }
+    ensures manned { IfOk result (λ ws. Manned (length codes.now) ws.items) }
 {
     let mut workers = Vec::with_capacity(alloc, codes.len())?;
     let mut post = post;

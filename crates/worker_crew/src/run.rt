@@ -6,6 +6,7 @@ ghost use Rattle.register_table.specs.Shown.{closed_script};
 ghost use Rattle.worker_crew.specs.Crew.{task, Fresh, Done, Places, Parts};
 ghost use Rattle.crew_turns.specs.Turns.{Serves};
 ghost use Rattle.worker_crew.specs.Frames.{Frames};
+ghost use Rattle.worker_crew.specs.Numbers.{Manned};
 ghost use Rattle.worker_crew.specs.Grids.{Wide};
 ghost use Rattle.crew_turns.specs.Scripts.{script_of, Runs, Outputs};
 ghost use Rattle.crew_workers.specs.Standing.{Each};
@@ -154,7 +155,9 @@ fn in_threads<'t, 'a, N: Plan + Send + Sync, R: Threads + Wait + Sync, G: Gate +
     requires empty { (vec_len job.rooms.started ≡ 0) × (vec_len job.rooms.mine ≡ 0) × (vec_len job.rooms.done ≡ 0) }
     requires room { (vec_len job.workers ≤ vec_capacity job.rooms.started) × (vec_len job.workers ≤ vec_capacity job.rooms.mine) × (vec_len job.workers ≤ vec_capacity job.rooms.done) }
     requires fresh { Each (Fresh job.table.now (task job.codes.now job.rows.now job.room)) job.workers.items }
-    ensures { Each (Done job.entry.table.now (task job.entry.codes.now job.entry.rows.now job.entry.room)) result.items }
+    requires manned { Manned (length job.codes.now) job.workers.items }
+    ensures done { Each (Done job.entry.table.now (task job.entry.codes.now job.entry.rows.now job.entry.room)) result.items }
+    ensures manned { Manned (length job.entry.codes.now) result.items }
 {
     thread::scope(
         thread::scope_env(),
@@ -168,7 +171,9 @@ fn in_threads<'t, 'a, N: Plan + Send + Sync, R: Threads + Wait + Sync, G: Gate +
             requires empty { (vec_len job.rooms.started ≡ 0) × (vec_len job.rooms.mine ≡ 0) × (vec_len job.rooms.done ≡ 0) }
             requires room { (vec_len job.workers ≤ vec_capacity job.rooms.started) × (vec_len job.workers ≤ vec_capacity job.rooms.mine) × (vec_len job.workers ≤ vec_capacity job.rooms.done) }
             requires fresh { Each (Fresh job.table.now (task job.codes.now job.rows.now job.room)) job.workers.items }
-            ensures { Each (Done job.entry.table.now (task job.entry.codes.now job.entry.rows.now job.entry.room)) result.items }
+            requires manned { Manned (length job.codes.now) job.workers.items }
+            ensures done { Each (Done job.entry.table.now (task job.entry.codes.now job.entry.rows.now job.entry.room)) result.items }
+            ensures manned { Manned (length job.entry.codes.now) result.items }
         { run_in(scope, job) },
     )
 }
@@ -229,9 +234,7 @@ fn named_epoch<'a, N: Plan + Send + Sync, R: Threads + Wait + Sync, G: Gate + Sy
     };
     let done = in_threads(rt, job);
     let places = place_all(&table, codes, rows, room, done, places);
-    let Some(post) = unite_all(&table, codes, rows, room, places, &mut parts) else {
-        return Err(AllocError);
-    };
+    let post = unite_all(&table, codes, rows, room, places, &mut parts);
     let outputs = output_rows(&table, codes, words, rows, room, parts.as_slice(), grid);
     let closed = table.finish(post, last.as_mut_slice());
     Ok(Epoch {

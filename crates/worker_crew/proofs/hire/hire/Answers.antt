@@ -15,8 +15,8 @@ new-requires-clause-follows g c =
     (subst (λ (x : Code). Follows (script_of c.args.codes.now c.args.words.now c.args.rows.now) c.args.number x c.args.rows.now) (sym c.index-codes-number.is)
     (follows c.args.codes.now c.args.words.now c.args.rows.now c.requires.runs c.args.number c.index-codes-number.result c.requires.number))
 
-pub returns : goal.returns
-returns g c =
+pub returns-clause-fresh : goal.returns-clause-fresh
+returns-clause-fresh g c =
     let e = c.in_ok-worker.ensures in let n = c.args.number in let codes = c.args.codes.now in let x = c.index-codes-number.result in
     let code : x ≡ c.in_ok-worker.worker.desk.duty.code.now = sym e.duty.1 in
     record {

@@ -1,7 +1,8 @@
-use Rattle.std.proofs.Common.{◌≡◌, ◌+◌, ◌≤◌, length, vec_len, vec_capacity, vec_items}
+use Rattle.std.proofs.Common.{ℕ, ◌<◌, ◌≡◌, ◌+◌, ◌≤◌, length, vec_len, vec_capacity, vec_items}
 use Rattle.phase_core.specs.Sound.{view}
 use Rattle.register_table.specs.Shown.{ComesFrom}
 use Rattle.worker_crew.specs.Crew.{task, Fresh}
+use Rattle.worker_crew.specs.Numbers.{held}
 use Rattle.crew_workers.specs.Standing.{Each}
 use Rattle.worker_crew.proofs.hire.hire_all.Given as goal
 
@@ -13,6 +14,7 @@ invariant-loop-number g l = record {
   room : length l.codes ≤ vec_capacity l.workers;
   table_is : ComesFrom l.post l.table;
   view_is : l.post.view ≡ view 0 l.number 0 0 0;
+  above : (k : ℕ) → l.number ≤ k → k < length l.codes → 1 ≤ held k (vec_items l.workers);
   workers : Each (Fresh l.table (task l.codes l.rows l.room)) (vec_items l.workers);
 }
 
