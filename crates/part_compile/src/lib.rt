@@ -14,7 +14,12 @@ use ground_net::{Cut, Ordered};
 use std::alloc::{AllocError, Global};
 
 /// The codes of the parts of a cut, one for each.
-pub fn compile(alloc: Global, ordered: &Ordered, watch: &[u32], cut: &Cut) -> Result<List<Code>, AllocError>
+pub fn compile(
+    alloc: Global,
+    ordered: &Ordered,
+    watch: &[u32],
+    cut: &Cut,
+) -> Result<List<Code>, AllocError>
     requires net { IsNet ordered.now.net }
     requires order { IsOrder ordered.now.net ordered.now.sequence }
     requires split { IsSplit ordered.now watch.now cut.now.parts }
