@@ -1,3 +1,3 @@
 mod ToldReads
-mod Rowed
+pub mod Rowed
 pub mod Among

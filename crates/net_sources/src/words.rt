@@ -110,7 +110,7 @@ fn behind_memories(net: &Net, first: u32) -> u32
 }
 
 /// How many words an element of a memory takes.
-pub(crate) fn element_words(memory: &NetMemory) -> u128
+pub fn element_words(memory: &NetMemory) -> u128
     ensures words { result ≡ words_in_element memory.now }
     ensures few { result < 2 ^ 65 }
 {

@@ -1,0 +1,4 @@
+pub mod StateWords
+pub mod Keeping
+pub mod OneByOne
+pub mod Composing

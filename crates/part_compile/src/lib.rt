@@ -1,35 +1,11 @@
-//! STUB: the codes of all parts of a cut.
+//! The codes of the parts of a cut: of each part the sources of the net, its assignments in turn, the code of its sinks, and the whole.
+//! Keeps the contract that there is one code for each part, which publishes exactly what the part's sinks leave, puts out the settled
+//! values of the part's watched leaves, and owns the words of the part's sinks.
 #![tactic(auto)]
 
-ghost use Rattle.std.specs.Prelude.{◌<◌, length, All, IfOk};
-ghost use Rattle.ground_net.specs.Reads.{IsOrder};
-ghost use Rattle.net_meaning.specs.Nets.{IsNet};
-ghost use Rattle.net_meaning.specs.Words.{SaysItsWords};
-ghost use Rattle.cone_cutter.specs.Splits.{IsSplit};
-ghost use Rattle.partition_code.specs.Codes.{AreCodesOf};
+pub mod adding;
+pub mod compiling;
+pub mod counting;
+pub mod part_code;
 
-use bit_words::List;
-use flat_code::Code;
-use ground_net::{Cut, Ordered};
-use std::alloc::{AllocError, Global};
-
-/// The codes of the parts of a cut, one for each.
-pub fn compile(
-    alloc: Global,
-    ordered: &Ordered,
-    watch: &[u32],
-    cut: &Cut,
-) -> Result<List<Code>, AllocError>
-    requires net { IsNet ordered.now.net }
-    requires order { IsOrder ordered.now.net ordered.now.sequence }
-    requires split { IsSplit ordered.now watch.now cut.now.parts }
-    requires said { SaysItsWords ordered.now.net }
-    requires watched { All (λ x. x < length ordered.now.net.leaves) watch.now }
-    ensures { IfOk result (AreCodesOf ordered.now.net watch.now cut.now.parts) }
-{
-    let _ = alloc;
-    let _ = ordered;
-    let _ = watch;
-    let _ = cut;
-    Err(AllocError)
-}
+pub use compiling::compile;

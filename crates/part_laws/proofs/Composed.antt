@@ -12,16 +12,9 @@ use Rattle.net_meaning.specs.Cycles.{Inputs, Valuation, Settled, sight_of}
 use Rattle.net_meaning.specs.Nets.{IsNet, leaf_shape, register_shapes}
 use Rattle.net_meaning.specs.Words.{state_of, register_word, integer_at_word}
 use Rattle.flat_code.specs.declared.code.Code.{Code}
-use Rattle.flat_code.specs.declared.instr.Spot.{Spot}
-use Rattle.flat_code.specs.Meaning.{spot_value, spot_values}
 use Rattle.flat_code.specs.Codes.{published_by, outputs_by}
 use Rattle.flat_code.specs.Orders.{pushed_all}
-use Rattle.code_draft.specs.Drafts.{Holds, pushed_in}
-use Rattle.code_draft.proofs.Held.{held_value}
-use Rattle.code_emit.specs.declared.sources.Source.{Source}
-use Rattle.code_emit.specs.declared.sources.Source.TheVariants as source
-use Rattle.code_emit.specs.declared.sources.Sources.{Sources}
-use Rattle.code_emit.specs.Emits.{leaf_source, Sees, IsOf}
+use Rattle.code_draft.specs.Drafts.{pushed_in}
 use Rattle.code_sequence.specs.Sequences.{driver_in, AreAssigned}
 use Rattle.code_registers.specs.Telling.{ShowsState}
 use Rattle.sink_effects.specs.Effects.{sinks_told}
@@ -33,27 +26,6 @@ use Rattle.part_laws.specs.Parts.{IsPart}
 same_driver : (o : Option (Option Ground)) (g : Ground) → option_and_then (λ d. d) o ≡ Some g → lone_driver o ≡ Some g
 same_driver (Some d) g e = e
 same_driver None g e = e
-
-none_some : {A : Type 0} {x : A} → None ≡ Some x → ⊥
-none_some e = cc
-
-head_same : {A : Type 0} {x y : A} {xs ys : List A} → x ∷ xs ≡ y ∷ ys → x ≡ y
-head_same e = cc
-
-tail_same : {A : Type 0} {x y : A} {xs ys : List A} → x ∷ xs ≡ y ∷ ys → xs ≡ ys
-tail_same e = cc
-
-nil_cons : {A : Type 0} {x : A} {xs : List A} → [] ≡ x ∷ xs → ⊥
-nil_cons e = cc
-
--- what stands at the spots of leaves
-shown_values : (S : Sources) (words : List ℕ) (inputs : List Value) (F : List ℕ) (sight : Sight) → Sees S words inputs F sight → (xs : List ℕ) (ss : List Spot)
-    → map (leaf_source S) xs ≡ map (λ s. Some (source.Frame s)) ss → spot_values F ss ≡ map sight.leaf xs
-shown_values S words inputs F sight seen [] [] e = refl
-shown_values S words inputs F sight seen [] (s ∷ ss) e = absurd (nil_cons e)
-shown_values S words inputs F sight seen (x ∷ xs) [] e = absurd (nil_cons (sym e))
-shown_values S words inputs F sight seen (x ∷ xs) (s ∷ ss) e =
-    ap₂ (λ v vs. v ∷ vs) (held_value F s (sight.leaf x) (seen.leaf x (source.Frame s) (head_same e))) (shown_values S words inputs F sight seen xs ss (tail_same e))
 
 module _ (net : Net) (assignments : List ℕ) (these : List Sink) (shown : List ℕ) (code : Code) (words : List ℕ) (inputs : List Value) (given : Inputs) (rho : Valuation) (w : IsNet net) (p : IsPart net assignments these shown code)
     (plain : (k : ℕ) → slice_index words k < 2 ^ 64) (match : MatchInputs net inputs given) (settled : Settled net (state_of net words) given rho) where
@@ -81,4 +53,4 @@ module _ (net : Net) (assignments : List ℕ) (these : List Sink) (shown : List 
       let F = e.frame in
       let later = p.tells.back words inputs F e.solved in
       let seen = p.goes.sees words inputs F seen_now later (sees net w words inputs F given rho match settled p.first p.of) are_assigned in
-      e.outputs ∙ shown_values p.later words inputs F seen_now seen shown p.spots p.stand
+      e.outputs ∙ p.shows words inputs F seen_now e.solved seen

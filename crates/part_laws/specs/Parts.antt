@@ -1,14 +1,17 @@
 -- A code that is put together by layers: the sources of a net, its assignments in turn, what its sinks leave, and the whole.
-use Rattle.std.specs.Prelude.{◌≡◌, ℕ, List, [], map, Some, Contains}
+use Rattle.std.specs.Prelude.{◌≡◌, ℕ, List, [], map, Contains}
+use Rattle.bit_words.specs.declared.value.Value.{Value}
 use Rattle.ground_net.specs.declared.net.Net.{Net}
+use Rattle.ground_net.specs.Grounds.{Sight}
 use Rattle.ground_net.specs.Cones.{Sink}
 use Rattle.ground_net.specs.Reads.{IsAssigned}
 use Rattle.flat_code.specs.declared.code.Code.{Code}
 use Rattle.flat_code.specs.declared.instr.Spot.{Spot}
+use Rattle.flat_code.specs.Meaning.{spot_values}
 use Rattle.code_draft.specs.declared.draft.Draft.{Draft}
-use Rattle.code_emit.specs.declared.sources.Source.TheVariants as source
+use Rattle.code_draft.specs.Drafts.{Solved}
 use Rattle.code_emit.specs.declared.sources.Sources.{Sources}
-use Rattle.code_emit.specs.Emits.{leaf_source}
+use Rattle.code_emit.specs.Emits.{Sees}
 use Rattle.code_sequence.specs.Sequences.{Goes}
 use Rattle.code_registers.specs.Telling.{TellsSinks}
 use Rattle.code_finish.specs.Finishing.{IsCodeOf}
@@ -28,4 +31,4 @@ pub record IsPart (net : Net) (assignments : List ℕ) (these : List Sink) (show
   pub tells : TellsSinks net later these assigned told
   pub spots : List Spot
   pub whole : IsCodeOf code told spots
-  pub stand : map (leaf_source later) shown ≡ map (λ s. Some (source.Frame s)) spots
+  pub shows : (words : List ℕ) (inputs : List Value) (F : List ℕ) (sight : Sight) → Solved told words inputs F → Sees later words inputs F sight → spot_values F spots ≡ map sight.leaf shown

@@ -29,7 +29,7 @@ use Rattle.code_emit.proofs.Emitting.{sources_on}
 use Rattle.code_registers.specs.Telling.{TellsSinks, TellsLeft}
 use Rattle.code_registers.proofs.NextWords.{none_told, told_then, told_as}
 use Rattle.part_sinks.specs.declared.work.Made.{Made}
-use Rattle.part_sinks.specs.Owned.{spans, is_among, HasWordAmong}
+use Rattle.partition_code.specs.Codes.{spans, is_among, HasWordAmong}
 use Rattle.part_sinks.specs.Rows.{sinks_of, positions_in, seen_at, OwnsMore, Adds, SoFar}
 
 nil_in : {A : Type 0} (x : A) → Contains {X = A} [] x → ⊥

@@ -19,7 +19,7 @@ use Rattle.sink_effects.specs.Effects.{HasWord, IsWordOf, register_shape, captur
 use Rattle.sink_laws.proofs.Parts.{further_is, register_shape_at, capture_shape_at}
 use Rattle.net_sources.specs.declared.captured.CapturedRead.{CapturedRead}
 use Rattle.net_sources.specs.FirstWords.{told_of}
-use Rattle.part_sinks.specs.Owned.{spans, is_among}
+use Rattle.partition_code.specs.Codes.{spans, is_among}
 use Rattle.part_sinks.specs.Rows.{OwnsMore, IsRead, OwnsRead, OwnsSome}
 use Rattle.part_sinks.proofs.Making.{among_cases, among_left, among_right}
 

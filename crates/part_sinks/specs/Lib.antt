@@ -1,4 +1,2 @@
--- what a reader must believe
-pub mod Owned
 -- what the bodies keep
 pub mod Rows

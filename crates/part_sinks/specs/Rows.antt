@@ -23,7 +23,7 @@ use Rattle.net_sources.specs.declared.words.FirstWords.{FirstWords}
 use Rattle.net_sources.specs.FirstWords.{AreFirst, told_of}
 use Rattle.turn_laws.specs.Knowing.{Knows}
 use Rattle.part_sinks.specs.declared.work.Made.{Made}
-use Rattle.part_sinks.specs.Owned.{is_among, HasWordAmong}
+use Rattle.partition_code.specs.Codes.{is_among, HasWordAmong}
 
 -- a net with all that is made of it for its parts
 pub record IsPlan (net : Net) (watch : List ℕ) (words : FirstWords) (reads : List CapturedRead) : Type 0 where

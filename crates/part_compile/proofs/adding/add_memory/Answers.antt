@@ -1,0 +1,26 @@
+use Rattle.std.proofs.Common.{refl}
+use Rattle.ground_net.specs.Cones.{A_memory}
+use Rattle.part_sinks.proofs.Places.{memory_place}
+use Rattle.part_sinks.proofs.Shaping.{one_has_words}
+use Rattle.part_sinks.proofs.Making.{kept_adds}
+use Rattle.part_compile.proofs.Keeping.{has_memory}
+use Rattle.part_compile.proofs.OneByOne.{memory_tells}
+use Rattle.part_compile.proofs.adding.add_memory.Goals as goal
+
+pub publish_memory-requires-clause-memory : goal.publish_memory-requires-clause-memory
+publish_memory-requires-clause-memory c =
+    let net = c.args.work.now.plan.now.net.now in
+    has_memory net c.args.work.now.sources.now c.args.memory c.in-Ok.place (memory_place net c.args.work.now.plan.now.watch.now c.args.number c.args.memory c.requires.there).1 c.in-Ok.ensures.1 c.requires.known c.requires.kept
+
+pub own_memory-requires-clause-within : goal.own_memory-requires-clause-within
+own_memory-requires-clause-within c = (memory_place c.args.work.now.plan.now.net.now c.args.work.now.plan.now.watch.now c.args.number c.args.memory c.requires.there).1
+
+pub returns : goal.returns
+returns c =
+    let net = c.args.work.now.plan.now.net.now in
+    let watch = c.args.work.now.plan.now.watch.now in
+    let S = c.args.work.now.sources.now in
+    let place = memory_place net watch c.args.number c.args.memory c.requires.there in
+    let ready = c.requires.ready in
+    kept_adds net watch S c.args.number (A_memory c.args.memory) c.args.made.now _ place.0
+    (memory_tells net S c.args.memory c.in-Ok.place _ _ c.in-Ok.ensures.1 (c.in_ok-publish_memory.ensures ready.0 ready.1 (one_has_words net _ (A_memory c.in-Ok.place) ready.2))) refl refl c.in_ok-own_memory.ensures

@@ -1,0 +1,40 @@
+use Rattle.std.proofs.Common.{◌≡◌, slice_get, Some, sym, subst}
+use Rattle.std.specs.Prelude.{OnOk}
+use Rattle.ground_net.specs.Cones.{sinks}
+use Rattle.cone_cutter.specs.Rows.{sink_of}
+use Rattle.part_sinks.specs.Rows.{Adds}
+use Rattle.part_compile.specs.Rows.{KnowsCone}
+use Rattle.part_compile.proofs.adding.add_sink.Goals as goal
+
+pub show_leaf-requires-clause-known : goal.show_leaf-requires-clause-known
+show_leaf-requires-clause-known c = subst (λ s. KnowsCone c.args.work.now.plan.now.net.now (sink_of s) c.args.work.now.sources.now) c.in-Watched.is c.requires.known
+
+pub show_leaf-requires-clause-there : goal.show_leaf-requires-clause-there
+show_leaf-requires-clause-there c = subst (λ s. slice_get (sinks c.args.work.now.plan.now.net.now c.args.work.now.plan.now.watch.now) c.args.number ≡ Some (sink_of s)) c.in-Watched.is c.requires.there
+
+pub returns-in-Watched : goal.returns-in-Watched
+returns-in-Watched c =
+    subst (λ s. OnOk c.show_leaf.result (Adds c.args.work.now.plan.now.net.now c.args.work.now.plan.now.watch.now c.args.work.now.sources.now c.args.number (sink_of s) c.args.made.now c.show_leaf.new.made))
+    (sym c.in-Watched.is) c.show_leaf.ensures
+
+pub add_register-requires-clause-known : goal.add_register-requires-clause-known
+add_register-requires-clause-known c = subst (λ s. KnowsCone c.args.work.now.plan.now.net.now (sink_of s) c.args.work.now.sources.now) c.in-Register.is c.requires.known
+
+pub add_register-requires-clause-there : goal.add_register-requires-clause-there
+add_register-requires-clause-there c = subst (λ s. slice_get (sinks c.args.work.now.plan.now.net.now c.args.work.now.plan.now.watch.now) c.args.number ≡ Some (sink_of s)) c.in-Register.is c.requires.there
+
+pub returns-in-Register : goal.returns-in-Register
+returns-in-Register c =
+    subst (λ s. OnOk c.add_register.result (Adds c.args.work.now.plan.now.net.now c.args.work.now.plan.now.watch.now c.args.work.now.sources.now c.args.number (sink_of s) c.args.made.now c.add_register.new.made))
+    (sym c.in-Register.is) c.add_register.ensures
+
+pub add_memory-requires-clause-known : goal.add_memory-requires-clause-known
+add_memory-requires-clause-known c = subst (λ s. KnowsCone c.args.work.now.plan.now.net.now (sink_of s) c.args.work.now.sources.now) c.in-Memory.is c.requires.known
+
+pub add_memory-requires-clause-there : goal.add_memory-requires-clause-there
+add_memory-requires-clause-there c = subst (λ s. slice_get (sinks c.args.work.now.plan.now.net.now c.args.work.now.plan.now.watch.now) c.args.number ≡ Some (sink_of s)) c.in-Memory.is c.requires.there
+
+pub returns-in-Memory : goal.returns-in-Memory
+returns-in-Memory c =
+    subst (λ s. OnOk c.add_memory.result (Adds c.args.work.now.plan.now.net.now c.args.work.now.plan.now.watch.now c.args.work.now.sources.now c.args.number (sink_of s) c.args.made.now c.add_memory.new.made))
+    (sym c.in-Memory.is) c.add_memory.ensures

@@ -1,0 +1,38 @@
+use Rattle.std.proofs.Common.{◌≡◌, ◌+◌, ◌<◌, length, take, slice_get, Some, sym, subst, ap, ◌∙◌, arith}
+use Rattle.std.proofs.lemmas.List.{take_all}
+use Rattle.std.proofs.lemmas.Option.{slice_get-get_or}
+use Rattle.partition_code.specs.Codes.{AreCodesOf}
+use Rattle.part_compile.proofs.Composing.{codes_none, codes_more}
+use Rattle.part_compile.proofs.compiling.compile.Goals as goal
+
+pub loop-part-init : goal.loop-part-init
+loop-part-init c = codes_none c.args.ordered.now.net c.args.watch.now _ c.new-codes.ensures
+
+pub code_of-requires-clause-part : goal.code_of-requires-clause-part
+code_of-requires-clause-part c =
+    let parts = c.args.cut.now.parts in
+    let xs = c.as_slice-part-items.result.now in
+    let i = c.loop-part.part-index in
+    let part = c.part-item.result in
+    let test = c.loop-part-test.true in
+    let below : i < length xs = omega (arith, test) in
+    let there : slice_get parts i ≡ Some part = ap (λ l. slice_get l i) (sym c.as_slice-part-items.ensures) ∙ (slice_get-get_or xs i part below ∙ ap Some (sym c.part-item.is)) in
+    record { sequence = c.args.ordered.now.sequence; order = c.requires.order; union = c.requires.split.unions i part there }
+
+pub loop-part-preserved : goal.loop-part-preserved
+loop-part-preserved c =
+    let parts = c.args.cut.now.parts in
+    let xs = c.as_slice-part-items.result.now in
+    let i = c.loop-part.part-index in
+    let part = c.part-item.result in
+    let test = c.loop-part-test.true in
+    let below : i < length xs = omega (arith, test) in
+    let there : slice_get parts i ≡ Some part = ap (λ l. slice_get l i) (sym c.as_slice-part-items.ensures) ∙ (slice_get-get_or xs i part below ∙ ap Some (sym c.part-item.is)) in
+    subst (AreCodesOf c.args.ordered.now.net c.args.watch.now (take (i + 1) parts)) (sym c.in_ok-push.ensures.ok)
+    (codes_more c.args.ordered.now.net c.args.watch.now parts i part c.loop-part.codes c.in_ok-code_of.field-0 there c.loop-part.invariant c.in_ok-code_of.ensures)
+
+pub returns : goal.returns
+returns c =
+    let test = c.loop-part-test.false in
+    let same = ap length c.as_slice-part-items.ensures in
+    subst (λ ps. AreCodesOf c.args.ordered.now.net c.args.watch.now ps c.loop-part.codes) (take_all c.loop-part.part-index c.args.cut.now.parts (omega (arith, test, same))) c.loop-part.invariant

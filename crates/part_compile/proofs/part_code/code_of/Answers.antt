@@ -1,0 +1,71 @@
+use Rattle.std.proofs.Common.{◌<◌, length, All, sym, subst, ap, ap₂, ◌∙◌, arith}
+use Rattle.code_emit.specs.Emits.{sources_table}
+use Rattle.code_sequence.specs.Sequences.{InTurn, StandElsewhere, turned_table}
+use Rattle.turn_laws.proofs.Turning.{part_turn}
+use Rattle.part_compile.proofs.Keeping.{are_kept}
+use Rattle.part_compile.proofs.Composing.{at_both, reads_long, words_counted, are_assignments, all_within, goes_on, is_work, code_is}
+use Rattle.part_compile.proofs.part_code.code_of.Goals as goal
+
+pub bounds-as_slice-last : goal.bounds-as_slice-last
+bounds-as_slice-last c =
+    let long = c.requires.plan.first.all_captured in
+    let same = ap length c.as_slice.ensures in
+    let reads = reads_long c.args.plan.now.net.now c.args.plan.now.reads.now c.requires.plan.captured in
+    omega (arith, long, same, reads)
+
+pub assign_all-requires-clause-within : goal.assign_all-requires-clause-within
+assign_all-requires-clause-within c =
+    let u = c.requires.part in
+    let S = c.in_ok-sources.sources in
+    subst (All (λ x. x < length S.leaves)) (sym c.as_slice-3.ensures) (all_within c.args.plan.now.net.now c.requires.plan.is_net c.args.plan.now.watch.now c.args.part.now u.sequence u.union (length S.leaves) c.in_ok-sources.ensures.counted)
+
+pub assign_all-requires-clause-in_turn : goal.assign_all-requires-clause-in_turn
+assign_all-requires-clause-in_turn c =
+    let net = c.args.plan.now.net.now in
+    let u = c.requires.part in
+    let S = c.in_ok-sources.sources in
+    at_both (λ ds xs. InTurn (sources_table S) ds xs) net.drivers _ c.args.part.now.assignments _ (sym c.as_slice-2.ensures) (sym c.as_slice-3.ensures)
+    (part_turn net c.requires.plan.is_net c.args.plan.now.watch.now u.sequence c.args.part.now S u.order u.union c.in_ok-sources.ensures).0
+
+pub made_of-requires-clause-part : goal.made_of-requires-clause-part
+made_of-requires-clause-part c =
+    let u = c.requires.part in
+    let S = c.in_ok-sources.sources in
+    is_work c.args.plan.now.net.now c.requires.plan.is_net c.args.plan.now.watch.now c.args.part.now u.sequence u.union S c.assign_all.new.sources u.order c.in_ok-sources.ensures
+    (c.in_ok-assign_all.ensures.table ∙ ap₂ (turned_table (sources_table S)) c.as_slice-2.ensures c.as_slice-3.ensures)
+
+pub made_of-requires-clause-kept : goal.made_of-requires-clause-kept
+made_of-requires-clause-kept c =
+    let net = c.args.plan.now.net.now in
+    let w = c.requires.plan.is_net in
+    let u = c.requires.part in
+    let S = c.in_ok-sources.sources in
+    let T = c.assign_all.new.sources in
+    are_kept net w c.args.part.now.assignments S T c.in_ok-sources.ensures (are_assignments net w c.args.plan.now.watch.now c.args.part.now u.sequence u.union)
+    (subst (λ xs. StandElsewhere xs S T) c.as_slice-3.ensures c.in_ok-assign_all.ensures.others)
+
+pub made_of-requires-clause-ready : goal.made_of-requires-clause-ready
+made_of-requires-clause-ready c =
+    let net = c.args.plan.now.net.now in
+    let w = c.requires.plan.is_net in
+    let u = c.requires.part in
+    let start = c.empty-draft.ensures in
+    let counted = start.words ∙ words_counted net c.args.plan.now.words.now c.args.plan.now.reads.now c.as_slice.result.now c.requires.plan.first c.requires.plan.captured c.as_slice.ensures in
+    let goes = goes_on net w c.args.plan.now.watch.now c.args.part.now u.sequence u.union c.in_ok-sources.sources c.assign_all.new.sources c.empty-draft.result c.assign_all.new.draft _ _ c.in_ok-sources.ensures start.instrs start.ports start.wides counted
+    c.as_slice-2.ensures c.as_slice-3.ensures c.in_ok-assign_all.ensures.assigns in
+    (goes.grows.is, goes.are, goes.grows.words ∙ counted)
+
+pub returns : goal.returns
+returns c =
+    let net = c.args.plan.now.net.now in
+    let watch = c.args.plan.now.watch.now in
+    let part = c.args.part.now in
+    let w = c.requires.plan.is_net in
+    let u = c.requires.part in
+    let start = c.empty-draft.ensures in
+    let counted = start.words ∙ words_counted net c.args.plan.now.words.now c.args.plan.now.reads.now c.as_slice.result.now c.requires.plan.first c.requires.plan.captured c.as_slice.ensures in
+    let goes = goes_on net w watch part u.sequence u.union c.in_ok-sources.sources c.assign_all.new.sources c.empty-draft.result c.assign_all.new.draft _ _ c.in_ok-sources.ensures start.instrs start.ports start.wides counted
+    c.as_slice-2.ensures c.as_slice-3.ensures c.in_ok-assign_all.ensures.assigns in
+    let code = c.in_ok-code.ensures in
+    code_is net w watch part c.in_ok-sources.sources c.assign_all.new.sources c.empty-draft.result c.assign_all.new.draft c.in_ok-made.made c.in_ok-code.code c.in_ok-sources.ensures start.instrs counted goes
+    (are_assignments net w watch part u.sequence u.union) c.in_ok-made.ensures code.effects code.positions code.owned code.words

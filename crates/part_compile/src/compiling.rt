@@ -1,0 +1,60 @@
+//! The codes of the parts of a cut.
+
+ghost use Rattle.std.specs.Prelude.{◌<◌, length, All, IfOk};
+ghost use Rattle.ground_net.specs.Reads.{IsOrder};
+ghost use Rattle.net_meaning.specs.Nets.{IsNet};
+ghost use Rattle.net_meaning.specs.Words.{SaysItsWords};
+ghost use Rattle.cone_cutter.specs.Splits.{IsSplit};
+ghost use Rattle.partition_code.specs.Codes.{AreCodesOf};
+
+use crate::counting::has_few_words;
+use crate::part_code::code_of;
+use bit_words::List;
+use cone_cutter::sinks_of;
+use flat_code::Code;
+use ground_net::{Cut, Ordered};
+use net_sources::{captured_reads, first_words};
+use part_sinks::Plan;
+use std::alloc::{AllocError, Global};
+
+/// There are fewer leaves than this.
+const NUMBERS: usize = 4_294_967_296;
+
+/// The codes of the parts of a cut of a net whose assignments have an order, one for each part, for these watched leaves.
+///
+/// More leaves, words of a state or memories than a `u32` numbers are a want of memory. Takes memory in proportion to the net and to
+/// the codes, and time in proportion to the codes, and to the net for each part.
+pub fn compile(
+    alloc: Global,
+    ordered: &Ordered,
+    watch: &[u32],
+    cut: &Cut,
+) -> Result<List<Code>, AllocError>
+    requires net { IsNet ordered.now.net }
+    requires order { IsOrder ordered.now.net ordered.now.sequence }
+    requires split { IsSplit ordered.now watch.now cut.now.parts }
+    requires said { SaysItsWords ordered.now.net }
+    requires watched { All (λ x. x < length ordered.now.net.leaves) watch.now }
+    ensures { IfOk result (AreCodesOf ordered.now.net watch.now cut.now.parts) }
+{
+    let net = &ordered.net;
+    let reads = captured_reads(alloc, net)?;
+    let leaves = net.leaves.len();
+    let few = has_few_words(net, reads.len());
+    if leaves >= NUMBERS || !few {
+        return Err(AllocError);
+    }
+    let words = first_words(alloc, net)?;
+    let sinks = sinks_of(alloc, net, watch)?;
+    let plan = Plan {
+        net,
+        watch,
+        words: &words,
+        reads: reads.as_slice(),
+    };
+    let mut codes = List::new(alloc);
+    for part in cut.parts.as_slice() {
+        codes.push(code_of(alloc, &plan, sinks.as_slice(), part)?)?;
+    }
+    Ok(codes)
+}

@@ -1,0 +1,55 @@
+//! The code of a part.
+
+ghost use Rattle.std.specs.Prelude.{◌≡◌, map, IfOk};
+ghost use Rattle.ground_net.specs.Cones.{sinks as sinks_in};
+ghost use Rattle.cone_cutter.specs.Rows.{sink_of};
+ghost use Rattle.partition_code.specs.Codes.{IsCodeOf};
+ghost use Rattle.part_sinks.specs.Rows.{IsPlan};
+ghost use Rattle.part_compile.specs.Rows.{IsUnionInOrder};
+
+use crate::adding::made_of;
+use code_draft::steps::empty;
+use code_finish::finish;
+use code_sequence::assign_all;
+use cone_cutter::SinkAt;
+use flat_code::Code;
+use ground_net::CutPart;
+use net_sources::sources_of;
+use part_sinks::{Plan, Work};
+use std::alloc::{AllocError, Global};
+
+/// The code of a part: its assignments in their order, and then its sinks in theirs. The sinks are those of the net, by their numbers.
+///
+/// The sources of the net are made anew, since the part's assignments change them: takes time and memory in proportion to the net.
+pub(crate) fn code_of(
+    alloc: Global,
+    plan: &Plan<'_>,
+    sinks: &[SinkAt],
+    part: &CutPart,
+) -> Result<Code, AllocError>
+    requires plan { IsPlan plan.now.net.now plan.now.watch.now plan.now.words.now plan.now.reads.now }
+    requires sinks { map sink_of sinks.now ≡ sinks_in plan.now.net.now plan.now.watch.now }
+    requires part { IsUnionInOrder plan.now.net.now plan.now.watch.now part.now }
+    ensures { IfOk result (IsCodeOf plan.now.net.now plan.now.watch.now part.now) }
+{
+    let net = plan.net;
+    let words = plan.words;
+    let last = plan.reads.len();
+    let count = words.captured.as_slice()[last];
+    let mut sources = sources_of(alloc, net, words)?;
+    let mut draft = empty(alloc, count);
+    assign_all(
+        alloc,
+        &mut draft,
+        &mut sources,
+        net.drivers.as_slice(),
+        part.assignments.as_slice(),
+    )?;
+    let work = Work {
+        plan,
+        sources: &sources,
+    };
+    let made = made_of(alloc, &work, sinks, part, draft)?;
+    let code = finish(made.draft, made.shown, made.positions, made.owned)?;
+    Ok(code)
+}
