@@ -5,7 +5,7 @@ use Rattle.ground_net.specs.declared.net.Ordered.{Ordered}
 use Rattle.ground_net.specs.declared.net.Ports.{Ports}
 use Rattle.ground_net.specs.declared.net.Cut.{Cut}
 use Rattle.net_meaning.specs.Cycles.{NetState}
-use Rattle.net_meaning.specs.Words.{words_of, state_words}
+use Rattle.net_meaning.specs.Words.{words_of}
 use Rattle.flat_code.specs.declared.code.Code.{Code}
 use Rattle.cone_cutter.proofs.Splitting.{is_split}
 use Rattle.partition_code.specs.Codes.{AreWords, AreOfOneCut}

@@ -1,6 +1,5 @@
 -- The scripts of the epochs.
-use Rattle.std.proofs.Common.{◌≡◌, ℕ, ◌+◌, ◌<◌, ◌≤◌, List, [], ◌∷◌, ◌++◌, map, length, slice_index, slice_get, Some, sym, subst, ap, ◌∙◌, arith}
-use Rattle.std.specs.List.{range_with_len}
+use Rattle.std.proofs.Common.{◌≡◌, ℕ, ◌+◌, ◌<◌, ◌≤◌, List, [], ◌∷◌, ◌++◌, length, sym, subst, ap, ◌∙◌, arith}
 use Rattle.std.proofs.lemmas.List.FromFn.{get_or-map-range_with_len}
 use Rattle.phase_core.specs.declared.model.Script.{Script}
 use Rattle.ground_net.specs.declared.net.Net.{Net}
@@ -9,10 +8,10 @@ use Rattle.ground_net.specs.declared.net.Ports.{Ports}
 use Rattle.ground_net.specs.declared.net.Cut.{Cut}
 use Rattle.ground_net.specs.declared.net.CutPart.{CutPart}
 use Rattle.net_meaning.specs.Cycles.{NetState}
-use Rattle.net_meaning.specs.Words.{words_of, state_words}
+use Rattle.net_meaning.specs.Words.{state_words}
 use Rattle.flat_code.specs.declared.code.Code.{Code}
 use Rattle.sink_laws.proofs.Parts.{word_below}
-use Rattle.partition_code.specs.Codes.{owner_in, AreOfOneCut}
+use Rattle.partition_code.specs.Codes.{owner_in}
 use Rattle.code_cuts.proofs.Owners.{owner_of_sink}
 use Rattle.crew_turns.specs.Scripts.{script_of}
 use Rattle.stimulus.specs.declared.stimulus.Stimulus.{Stimulus}

@@ -1,16 +1,15 @@
 -- The words of the first state are 0.
-use Rattle.std.proofs.Common.{◌≡◌, ℕ, ◌%◌, ◌/◌, ◌^◌, ◌<◌, Bool, true, false, List, [], ◌∷◌, ◌++◌, length, get_or, replicate, min, nat_lt, if◌then◌else◌, pos, refl, sym, subst, ap, ◌∙◌, arith, pow_pos, slice_get, Some}
+use Rattle.std.proofs.Common.{◌≡◌, ℕ, ◌%◌, ◌/◌, ◌^◌, ◌<◌, Bool, true, false, List, [], ◌∷◌, get_or, replicate, min, nat_lt, if◌then◌else◌, pos, refl, sym, subst, ◌∙◌, pow_pos}
 use Rattle.std.specs.List.{flat_map, range_with_len}
 use Rattle.std.proofs.Math.Nat.{mod-eq_of_lt}
 use Rattle.std.proofs.lemmas.List.{ext_get_or, get_or-replicate, length-replicate}
 use Rattle.std.proofs.lemmas.Option.{slice_get-get_or}
-use Rattle.cycle_values.specs.Values.{fitted}
 use Rattle.ground_net.specs.declared.net.Net.{Net}
 use Rattle.ground_net.specs.Cones.{numbered}
 use Rattle.net_meaning.specs.Shapes.{Shape}
 use Rattle.net_meaning.specs.Cycles.{first_state}
 use Rattle.net_meaning.specs.Nets.{register_shapes, element_shapes, captured_shapes}
-use Rattle.net_meaning.specs.Words.{words_of_value, kept, kept_all, words_of_memory, words_of, state_words}
+use Rattle.net_meaning.specs.Words.{kept, kept_all, words_of_memory, words_of, state_words}
 use Rattle.sink_words.proofs.Lists.{Each, each_none, each_cons, each_append, each_flat}
 use Rattle.code_laws.proofs.Placed.{words_counted}
 

@@ -40,7 +40,15 @@ pub fn run_cycles<R: Threads + Wait + Sync, G: Gate + Sync>(
     ensures closed { IfOk result (λ told. closed_script told.closed ≡ script_of crew.now.codes words.now (rows_from crew.now.plan.now.ports.now crew.now.plan.now.stimulus.now.settings first count)) }
 {
     let inputs = rows(alloc, crew.plan.stimulus, crew.plan.ports, first, count)?;
-    let epoch = run_epoch(crew.rt, alloc, &crew.codes, words, &inputs, first, crew.gate)?;
+    let epoch = run_epoch(
+        crew.rt,
+        alloc,
+        &crew.codes,
+        words,
+        &inputs,
+        first,
+        crew.gate,
+    )?;
     let lines = lines_of(alloc, first, epoch.outputs.as_slice())?;
     Ok(Told {
         words: epoch.words,

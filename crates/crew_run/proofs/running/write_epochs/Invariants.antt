@@ -1,4 +1,4 @@
-use Rattle.std.proofs.Common.{◌≡◌, ℕ, ◌-◌, ◌≤◌, List, map}
+use Rattle.std.proofs.Common.{ℕ, ◌-◌, ◌≤◌, List, map}
 use Rattle.shelf_io.specs.Outside.{Appends}
 use Rattle.ground_net.specs.declared.net.Cut.{Cut}
 use Rattle.net_meaning.specs.Cycles.{first_state}
