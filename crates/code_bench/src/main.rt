@@ -1,0 +1,54 @@
+//! Runs or lists code over a mix of all operations, to be timed from outside. The words are how many blocks of 21 instructions there are,
+//! how many instructions a window has in which they are put in order, 0 for the order that they are made in, and how many cycles are run.
+//! It writes a word that all publications go into, and with no third word the code itself.
+#![tactic(auto)]
+
+mod listing;
+mod mix;
+mod running;
+
+ghost use Rattle.std.specs.Prelude.{◌<◌, ◌≤◌};
+
+use code_order::reorder;
+use flat_code::Code;
+use listing::list;
+use mix::mixed;
+use running::cycles;
+use std::alloc::Global;
+use std::env;
+use std::process::ExitCode;
+
+fn main(rt: HostRuntime) -> ExitCode {
+    match run(&rt) {
+        Some(()) => ExitCode::from(0),
+        None => ExitCode::from(1),
+    }
+}
+
+/// Does what the words of the command line say.
+fn run(rt: &HostRuntime) -> Option<()> {
+    let mut words = env::args(rt).ok()?.skip(1);
+    let blocks: u32 = words.next()?.as_str().parse().ok()?;
+    let window: usize = words.next()?.as_str().parse().ok()?;
+    if blocks == 0 || blocks > 1_000_000 {
+        return None;
+    }
+    let code = code_of(rt.alloc(), blocks, window)?;
+    let Some(count) = words.next() else {
+        return list(rt, &code);
+    };
+    let word = cycles(rt.alloc(), &code, count.as_str().parse().ok()?)?;
+    println!(rt; "{word}").ok()
+}
+
+/// The code, in order where a window has instructions.
+fn code_of(alloc: Global, blocks: u32, window: usize) -> Option<Code>
+    requires some { 0 < blocks }
+    requires few { blocks ≤ 1000000 }
+{
+    let code = mixed(alloc, blocks).ok()??;
+    if window == 0 {
+        return Some(code);
+    }
+    reorder(alloc, code, window).ok()
+}

@@ -1,0 +1,3 @@
+pub mod Sames
+pub mod Nexts
+pub mod Stills

@@ -1,0 +1,5 @@
+mod Numbers
+mod Settings
+mod Statements
+mod Nexts
+mod Storing
