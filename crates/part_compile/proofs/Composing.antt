@@ -5,6 +5,7 @@ use Rattle.std.proofs.lemmas.List.{take_more, length-append, length-map}
 use Rattle.std.proofs.lemmas.List.Elements.{Contains-get_or}
 use Rattle.std.proofs.lemmas.Simd.{map-map}
 use Rattle.std.proofs.lemmas.Option.{slice_get_within, get_or_from_slice_get}
+use Rattle.bit_words.specs.declared.value.Value.{Value}
 use Rattle.ground_net.specs.declared.ground.Ground.{Ground}
 use Rattle.ground_net.specs.declared.net.Net.{Net}
 use Rattle.ground_net.specs.declared.net.CutPart.{CutPart}
@@ -17,6 +18,8 @@ use Rattle.flat_code.specs.declared.code.Span.{Span}
 use Rattle.flat_code.specs.declared.instr.Instr.{Instr}
 use Rattle.flat_code.specs.Fine.{AreFine, IsPort, IsWide, nothing, written}
 use Rattle.flat_code.specs.Orders.{Single}
+use Rattle.flat_code.specs.Codes.{published_by, outputs_by}
+use Rattle.code_order.specs.Reorders.{KeepsTables}
 use Rattle.cone_cutter.specs.Splits.{IsUnion}
 use Rattle.cone_cutter.proofs.Assembly.{cone_assigned, assigned_within}
 use Rattle.code_draft.specs.declared.draft.Draft.{Draft}
@@ -121,6 +124,17 @@ module _ (net : Net) (w : IsNet net) (watch : List ℕ) (part : CutPart) where
         outputs = λ ws is rho cycle. shows net part.assignments these shown code ws is cycle.given rho w p cycle.plain cycle.matched cycle.settled
             ∙ (map-map rho (slice_index watch) made.positions ∙ ap (map (λ k. rho (slice_index watch k))) (sym positions));
       }
+
+-- a code in another order
+pub reordered_is : (net : Net) (watch : List ℕ) (part : CutPart) (old new : Code) → ((words : List ℕ) (inputs : List Value) → published_by new words inputs ≡ published_by old words inputs)
+    → ((words : List ℕ) (inputs : List Value) → outputs_by new words inputs ≡ outputs_by old words inputs) → KeepsTables old new → IsCodeOf net watch part old → IsCodeOf net watch part new
+reordered_is net watch part old new publications outputs kept is = record {
+  words = kept.words ∙ is.words;
+  positions = kept.positions ∙ is.positions;
+  owned = λ i. subst (λ (spans : List Span). IsTrue (is_among spans i) ↔ HasWordAmong net (sinks_of net watch part.sinks) i) (sym kept.owned) (is.owned i);
+  publications = λ ws inputs rho cycle. publications ws inputs ∙ is.publications ws inputs rho cycle;
+  outputs = λ ws inputs rho cycle. outputs ws inputs ∙ (is.outputs ws inputs rho cycle ∙ ap (map (λ k. rho (slice_index watch k))) (sym kept.positions));
+}
 
 -- One code after the other
 

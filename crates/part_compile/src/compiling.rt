@@ -10,6 +10,7 @@ ghost use Rattle.partition_code.specs.Codes.{AreCodesOf};
 use crate::counting::has_few_words;
 use crate::part_code::code_of;
 use bit_words::List;
+use code_order::reorder;
 use cone_cutter::sinks_of;
 use flat_code::Code;
 use ground_net::{Cut, Ordered};
@@ -19,6 +20,9 @@ use std::alloc::{AllocError, Global};
 
 /// There are fewer leaves than this.
 const NUMBERS: usize = 4_294_967_296;
+
+/// Equal operations are put side by side among so many instructions.
+const WINDOW: usize = 2_048;
 
 /// The codes of the parts of a cut of a net whose assignments have an order, one for each part, for these watched leaves.
 ///
@@ -54,7 +58,8 @@ pub fn compile(
     };
     let mut codes = List::new(alloc);
     for part in cut.parts.as_slice() {
-        codes.push(code_of(alloc, &plan, sinks.as_slice(), part)?)?;
+        let code = code_of(alloc, &plan, sinks.as_slice(), part)?;
+        codes.push(reorder(alloc, code, WINDOW)?)?;
     }
     Ok(codes)
 }
