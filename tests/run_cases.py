@@ -39,6 +39,17 @@ def bad_prefix(program, text):
     return None
 
 
+def other_trace(program, path, runs):
+    """The first of so many runs of a circuit by 8 workers that doesn't give the circuit's trace, or none."""
+    text = path.read_bytes() + b"%stimulus\n" + path.with_suffix(".stim").read_bytes()
+    trace = path.with_suffix(".expect").read_bytes()
+    for number in range(runs):
+        done = run(program, ["run", "--workers", "8"], text)
+        if done.returncode != 0 or done.stdout != trace:
+            return f"run {number}: status {done.returncode}, wrote {done.stdout[:200]!r}"
+    return None
+
+
 def tower(depth, below):
     """A circuit of modules over one another, each with two instances of the next one and the last one as said."""
     modules = [f"  module M{k} :\n    inst left of M{k + 1}\n    inst right of M{k + 1}\n" for k in range(depth - 1)]
@@ -105,8 +116,11 @@ def main():
         faults.append((f"check accepts {path.name}", fault_of(program, case)))
     for path in sorted([*(folder / "corpus").glob("*.fir")]):
         text = path.read_text("latin-1") + "%stimulus\n" + path.with_suffix(".stim").read_text("latin-1")
-        case = {"words": ["run"], "stdin": text, "status": 0, "stdout": path.with_suffix(".expect").read_text("latin-1")}
-        faults.append((f"the trace of {path.stem}", fault_of(program, case)))
+        trace = path.with_suffix(".expect").read_text("latin-1")
+        for workers in ("1", "2", "7"):
+            case = {"words": ["run", "--workers", workers], "stdin": text, "status": 0, "stdout": trace}
+            faults.append((f"the trace of {path.stem} by {workers} workers", fault_of(program, case)))
+    faults.append(("1,000 runs by 8 workers give one trace", other_trace(program, folder / "corpus/fifo_mem.fir", 1_000)))
     for path in sorted(examples.glob("*.fir")):
         circuit, stimulus, trace = (path.with_suffix(suffix).read_text("latin-1") for suffix in (".fir", ".stim", ".expect"))
         case = {"words": ["run", "c.fir", "c.stim"], "held": {"c.fir": circuit, "c.stim": stimulus}, "stdin": "", "status": 0, "stdout": trace}

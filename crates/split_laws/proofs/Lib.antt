@@ -1,2 +1,2 @@
-mod Publishing
+pub mod Publishing
 pub mod Parts

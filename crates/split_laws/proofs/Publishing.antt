@@ -17,11 +17,11 @@ use Rattle.sink_words.proofs.Lists.{Each, each_flat, among, from_filter_map, Dis
 abbrev pub Silent : ℕ → List Publication → Type 0
 Silent i ps = Each (λ (p : Publication). p.word ≢ i) ps
 
-silent : (ps : List Publication) (ws : List ℕ) (i : ℕ) → Silent i ps → slice_index (published ps ws) i ≡ slice_index ws i
+pub silent : (ps : List Publication) (ws : List ℕ) (i : ℕ) → Silent i ps → slice_index (published ps ws) i ≡ slice_index ws i
 silent ps ws i h = published_silent ps ws i (λ k p e. h k p (slice_get-get_or ps k p (at_below ps k p e) ∙ ap Some (at-get_or ps k p p e)))
 
 module _ {A : Type 0} (f : A → List Publication) where
-  in_two : (a : A) (xs : List A) (ws : List ℕ) → published (flat_map f (a ∷ xs)) ws ≡ published (flat_map f xs) (published (f a) ws)
+  pub in_two : (a : A) (xs : List A) (ws : List ℕ) → published (flat_map f (a ∷ xs)) ws ≡ published (flat_map f xs) (published (f a) ws)
   in_two a xs ws = ap (λ ps. published ps ws) (flat_map-cons f a xs) ∙ published-append (f a) (flat_map f xs) ws
 
   pub only_one : (i : ℕ) (xs : List A) (k : ℕ) (x : A) → slice_get xs k ≡ Some x → ((j : ℕ) (y : A) → slice_get xs j ≡ Some y → j ≢ k → Silent i (f y)) → (ws : List ℕ)

@@ -1,0 +1,73 @@
+"""Prints a table: the cycles per second of runs by 1, 2, 4 and 64 workers, of rings of registers and of a mesh whose cut shares little; and
+the processor time that the workers take together.
+
+usage: workers.py PROGRAM
+"""
+import os
+import subprocess
+import sys
+import tempfile
+import time
+from pathlib import Path
+
+FRONT = "FIRRTL version 3.0.0\ncircuit M :\n  module M :\n    input clock : Clock\n    output out : UInt<32>\n"
+WORKERS = (1, 2, 4, 64)
+
+
+def ring(count):
+    """A ring of registers, each the sum of the one before and its number, whose sum is watched."""
+    lines = [f"    reg r{k} : UInt<32>, clock" for k in range(count)]
+    lines += [f"    connect r{k}, tail(add(r{(k or count) - 1}, UInt<32>({k})), 1)" for k in range(count)]
+    lines += ["    node s0 = r0"] + [f"    node s{k} = tail(add(s{k - 1}, r{k}), 1)" for k in range(1, count)]
+    return FRONT + "\n".join(lines) + f"\n    connect out, s{count - 1}\n"
+
+
+def mesh(side, rounds):
+    """A mesh of registers, each of which mixes its own value with those of two neighbours in so many rounds; one of them is watched."""
+    lines = [f"    reg r{k} : UInt<32>, clock" for k in range(side * side)]
+    for k in range(side * side):
+        row, column = divmod(k, side)
+        left, above = row * side + (column - 1) % side, (row - 1) % side * side + column
+        lines.append(f"    node m{k}x0 = tail(add(r{k}, r{left}), 1)")
+        for i in range(1, rounds):
+            other = f"r{above}" if i % 2 else f"UInt<32>({k + i})"
+            step = f"xor(m{k}x{i - 1}, {other})" if i % 2 else f"tail(add(m{k}x{i - 1}, {other}), 1)"
+            lines.append(f"    node m{k}x{i} = {step}")
+        lines.append(f"    connect r{k}, m{k}x{rounds - 1}")
+    return FRONT + "\n".join(lines) + f"\n    connect out, r{side * side - 1}\n"
+
+
+def taken(program, text, cycles, workers):
+    """The seconds of a run, those of its processors, and what it writes."""
+    with tempfile.TemporaryFile() as given:
+        given.write(f"{text}%stimulus\ncycles {cycles}\n".encode())
+        given.seek(0)
+        began = time.perf_counter()
+        child = subprocess.Popen([program, "run", "--workers", str(workers)], stdin=given, stdout=subprocess.PIPE)
+        written = child.stdout.read()
+        _, status, used = os.wait4(child.pid, 0)
+        took = time.perf_counter() - began
+    assert status == 0, (status, written[:200])
+    return took, used.ru_utime + used.ru_stime, written
+
+
+def main():
+    program = str(Path(sys.argv[1]).resolve())
+    print(f"processors: {len(os.sched_getaffinity(0))}")
+    print(f"{'cycles per second of':36}" + "".join(f"{f'{p} workers':>14}{'cpu s':>7}" for p in WORKERS))
+    for meaning, text, cycles in (
+        ("a ring of 256 registers", ring(256), 20_000),
+        ("a ring of 4,096 registers", ring(4_096), 1_000),
+        ("a mesh of 1,024 registers", mesh(32, 16), 2_000),
+    ):
+        cells, traces = "", set()
+        for workers in WORKERS:
+            start = min(taken(program, text, 0, workers)[0] for _ in range(2))
+            took, processors, written = taken(program, text, cycles, workers)
+            traces.add(written)
+            cells += f"{cycles / max(took - start, 1e-9):14,.0f}{processors:7.1f}"
+        assert len(traces) == 1, "the traces differ"
+        print(f"{meaning:36}{cells}")
+
+
+main()
