@@ -85,7 +85,7 @@ pub fn run_program<R: Threads + Wait + Sync, H: Shelf, K: Sink, G: Gate + Sync>(
         Ok(Decision::Say(reply)) => say(sink, &reply),
         Ok(Decision::Run(built, stimulus)) => run(alloc, &crew, &built, &stimulus, sink),
         Ok(Decision::Sum(built, stimulus)) => match sum_up(alloc, &crew, &built, &stimulus) {
-            Ok(reply) => say(sink, &reply),
+            Ok(bytes) => say(sink, &Reply { status: 0, bytes }),
             Err(AllocError) => 6,
         },
         Err(TakeFault::NoMemory) => 6,
@@ -245,7 +245,12 @@ fn run<R: Threads + Wait + Sync, G: Gate + Sync, K: Sink>(
         × IsRun result bytes (K.written sink.old) (K.written sink.new) }
     ensures rose { result ≡ 5 → Rose (K.faults sink.old) (K.faults sink.new) }
 {
-    let plan = plan_of(built, stimulus, crew.workers);
+    let plan = Plan {
+        ordered: &built.ordered,
+        ports: &built.ports,
+        stimulus,
+        workers: crew.workers,
+    };
     match simulate(alloc, crew.rt, crew.gate, &plan, sink) {
         Ok(_closed) => 0,
         Err(RunFault::WriteFault) => 5,
@@ -259,31 +264,17 @@ fn sum_up<R: Threads + Wait + Sync, G: Gate + Sync>(
     crew: &Crew<'_, R, G>,
     built: &Built,
     stimulus: &Stimulus,
-) -> Result<Reply, AllocError>
+) -> Result<Vec<u8>, AllocError>
     requires runnable { IsRunnable built.now stimulus.now }
     requires some { 1 ≤ crew.now.workers }
     requires most { crew.now.workers ≤ 64 }
-    ensures status { IfOk result (λ r. r.status ≡ 0) }
-    ensures summary { IfOk result (λ r. (trace : List ℕ) × IsTraceText built.now.fitted.checked.circuit.names (design_of built.now.fitted) stimulus.now trace × IsSummary trace r.bytes.items) }
+    ensures summary { IfOk result (λ bytes. (trace : List ℕ) × IsTraceText built.now.fitted.checked.circuit.names (design_of built.now.fitted) stimulus.now trace × IsSummary trace bytes.items) }
 {
-    let plan = plan_of(built, stimulus, crew.workers);
-    Ok(Reply {
-        status: 0,
-        bytes: summarize(alloc, crew.rt, crew.gate, &plan)?,
-    })
-}
-
-/// What a run of a circuit goes by.
-fn plan_of<'a>(built: &'a Built, stimulus: &'a Stimulus, workers: u32) -> Plan<'a>
-    ensures ordered { result.ordered.now ≡ built.now.ordered }
-    ensures ports { result.ports.now ≡ built.now.ports }
-    ensures stimulus { result.stimulus.now ≡ stimulus.now }
-    ensures workers { result.workers ≡ workers }
-{
-    Plan {
+    let plan = Plan {
         ordered: &built.ordered,
         ports: &built.ports,
         stimulus,
-        workers,
-    }
+        workers: crew.workers,
+    };
+    summarize(alloc, crew.rt, crew.gate, &plan)
 }

@@ -56,21 +56,35 @@ fn shelf(alloc: Global, fails: &[u64]) -> Result<ShelfMemory, AllocError> {
     Ok(ShelfMemory::new(texts, 1, Vec::from_slice(alloc, fails)?))
 }
 
-/// The status of a command line and what it wrote, where the shelf and the sink fail at these calls.
+/// The calls at which the shelf and the sink fail.
+#[derive(Clone, Copy)]
+struct Fails<'a> {
+    read: &'a [u64],
+    write: &'a [u64],
+}
+
+/// None.
+fn never<'a>() -> Fails<'a> {
+    Fails {
+        read: &[],
+        write: &[],
+    }
+}
+
+/// The status of a command line and what it wrote.
 fn answer<R: Threads + Wait + Sync, G: Gate + Sync>(
     rt: &R,
     alloc: Global,
     gate: &G,
     words: &[&str],
-    calls: (&[u64], &[u64]),
+    fails: Fails<'_>,
 ) -> Result<(u8, Vec<u8>), AllocError> {
-    let (read, write) = calls;
     let mut all = Vec::new(alloc);
     for word in words {
         all.push(String::from_str(alloc, word)?)?;
     }
-    let mut shelf = shelf(alloc, read)?;
-    let mut sink = SinkMemory::new(alloc, 100, 1, Vec::from_slice(alloc, write)?)?;
+    let mut shelf = shelf(alloc, fails.read)?;
+    let mut sink = SinkMemory::new(alloc, 100, 1, Vec::from_slice(alloc, fails.write)?)?;
     let status = run_program(rt, alloc, &all, &mut shelf, &mut sink, gate);
     Ok((status, Vec::from_slice(alloc, sink.bytes())?))
 }
@@ -83,7 +97,7 @@ fn the_side_that_failed_is_told(rt: HostRuntime) -> Result<(), Fail> {
         ([].as_slice(), [3].as_slice(), 5, "cy"),
         ([].as_slice(), [13].as_slice(), 5, "cycle out\n0 "),
     ] {
-        let (given, written) = answer(&rt, rt.alloc(), &OpenGate, &["run"], (read, write))?;
+        let (given, written) = answer(&rt, rt.alloc(), &OpenGate, &["run"], Fails { read, write })?;
         assert_eq!(rt; given, status);
         assert_eq!(rt; written.as_slice(), bytes.as_bytes());
     }
@@ -103,7 +117,7 @@ fn texts_are_read_by_their_names(rt: HostRuntime) -> Result<(), Fail> {
         (["run", "c"].as_slice(), 2, "circuit NoStimulus 1:1\n"),
         (["run", "a", "b", "c"].as_slice(), 1, "usage\n"),
     ] {
-        let (given, written) = answer(&rt, rt.alloc(), &OpenGate, words, (&[], &[]))?;
+        let (given, written) = answer(&rt, rt.alloc(), &OpenGate, words, never())?;
         assert_eq!(rt; given, status);
         assert_eq!(rt; written.as_slice(), bytes.as_bytes());
     }
@@ -117,7 +131,7 @@ fn each_worker_enters_the_gate_in_each_cycle(rt: HostRuntime) -> Result<(), Fail
             entered: AtomicU64::new(0),
         };
         let words = ["run", "--workers", workers];
-        let (status, written) = answer(&rt, rt.alloc(), &gate, &words, (&[], &[]))?;
+        let (status, written) = answer(&rt, rt.alloc(), &gate, &words, never())?;
         assert_eq!(rt; status, 0);
         assert_eq!(rt; written.as_slice(), TRACE.as_bytes());
         assert_eq!(rt; gate.entered.load(SeqCst), times);
@@ -129,7 +143,7 @@ fn each_worker_enters_the_gate_in_each_cycle(rt: HostRuntime) -> Result<(), Fail
 fn summaries_are_the_same_by_any_number_of_workers(rt: HostRuntime) -> Result<(), Fail> {
     for workers in ["1", "2", "5", "64"] {
         let words = ["make", "--workers", workers, "--cycles", "5", "3"];
-        let (status, written) = answer(&rt, rt.alloc(), &OpenGate, &words, (&[], &[]))?;
+        let (status, written) = answer(&rt, rt.alloc(), &OpenGate, &words, never())?;
         assert_eq!(rt; status, 0);
         assert_eq!(rt; written.as_slice(), SUMMARY.as_bytes());
     }

@@ -17,4 +17,4 @@ returns-in-Ok g c = λ texts design serves.
     (t.0, t.1, subst (λ (xs : List ℕ). IsSummary xs c.in_ok-summary_of-in-Ok.field-0.items) kept c.in_ok-summary_of-in-Ok.ensures)
 
 pub simulate-requires-clause-said : goal.simulate-requires-clause-said
-simulate-requires-clause-said g c = c.requires.serves.2.of.is.words
+simulate-requires-clause-said g c κs within = c.requires.serves.2.of.is.words
