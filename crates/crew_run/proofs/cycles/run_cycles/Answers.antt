@@ -5,8 +5,8 @@ use Rattle.crew_run.proofs.Crews.{may_run}
 use Rattle.crew_run.proofs.States.{told_leads}
 use Rattle.crew_run.proofs.cycles.run_cycles.Goals as goal
 
-pub run_epoch-requires-clause-runs : goal.run_epoch-requires-clause-runs
-run_epoch-requires-clause-runs g c κs within =
+pub run_epoch_within-requires-clause-runs : goal.run_epoch_within-requires-clause-runs
+run_epoch_within-requires-clause-runs g c κs within =
     let plan = c.args.crew.now.plan.now in
     subst (Runs c.args.crew.now.codes c.args.words.now) (sym c.in_ok-inputs.ensures)
     (may_run plan.ordered.now plan.ports.now plan.stimulus.now c.requires.planned plan.workers c.requires.some c.requires.few c.args.crew.now.codes c.requires.codes.0 c.requires.codes.1

@@ -1,0 +1,92 @@
+//! A circuit's text and a stimulus's text are read, and run on one thread or by workers.
+
+ghost use Rattle.std.specs.Prelude.{IfSome};
+ghost use Rattle.circuit_run.specs.NetRuns.{IsPlanned};
+
+use crew_run::Plan;
+use crew_workers::Gate;
+use shelf_io::SinkMemory;
+use sim_engine::{Built, CIRCUIT_LIMIT, compile_text};
+use std::alloc::Global;
+use std::sync::Wait;
+use std::thread::Threads;
+use stimulus::{Stimulus, read_stimulus};
+
+/// The sinks have room for so many bytes, and take this many in a write.
+const ROOM: usize = 65_536;
+
+const STEP: usize = 1_000;
+
+/// A stimulus's text is at most so long.
+const STIMULUS_LIMIT: usize = 4_194_304;
+
+/// A circuit, and a stimulus for it.
+#[derive(Drop)]
+pub struct Given {
+    built: Built,
+    stimulus: Stimulus,
+}
+
+/// How many workers run, and how many threads are started beside the caller's at most.
+#[derive(Clone, Copy, Debug)]
+pub struct Force {
+    pub workers: u32,
+    pub threads: usize,
+}
+
+/// The circuit and the stimulus that two texts write.
+pub fn read(alloc: Global, circuit: &[u8], stimulus: &[u8]) -> Option<Given>
+    ensures { IfSome result (λ given. IsPlanned given.built.ordered given.built.ports given.stimulus) }
+{
+    if circuit.len() > CIRCUIT_LIMIT || stimulus.len() > STIMULUS_LIMIT {
+        return None;
+    }
+    let Ok(built) = compile_text(alloc, circuit) else {
+        return None;
+    };
+    let Ok(_) = u32::try_from(built.ports.inputs.len()) else {
+        return None;
+    };
+    let Ok(watched) = u32::try_from(built.ports.watched.len()) else {
+        return None;
+    };
+    match read_stimulus(alloc, stimulus, &built.ports, watched) {
+        Ok(stimulus) => Some(Given { built, stimulus }),
+        Err(_) => None,
+    }
+}
+
+/// The trace that one thread writes.
+pub fn traced_alone(alloc: Global, given: &Given) -> Option<Vec<u8>>
+    requires { IsPlanned given.now.built.ordered given.now.built.ports given.now.stimulus }
+{
+    let Built { ordered, ports, .. } = &given.built;
+    let mut sink = SinkMemory::new(alloc, ROOM, STEP, Vec::new(alloc)).ok()?;
+    circuit_run::simulate(alloc, ordered, ports, &given.stimulus, &mut sink).ok()?;
+    Vec::from_slice(alloc, sink.bytes()).ok()
+}
+
+/// The trace that workers write, where there are 1 to 64.
+pub fn traced_by<R: Threads + Wait + Sync, G: Gate + Sync>(
+    rt: &R,
+    alloc: Global,
+    given: &Given,
+    force: Force,
+    gate: &G,
+) -> Option<Vec<u8>>
+    requires { IsPlanned given.now.built.ordered given.now.built.ports given.now.stimulus }
+{
+    if force.workers == 0 || force.workers > 64 {
+        return None;
+    }
+    let plan = Plan {
+        ordered: &given.built.ordered,
+        ports: &given.built.ports,
+        stimulus: &given.stimulus,
+        workers: force.workers,
+        threads: force.threads,
+    };
+    let mut sink = SinkMemory::new(alloc, ROOM, STEP, Vec::new(alloc)).ok()?;
+    crew_run::simulate(alloc, rt, gate, &plan, &mut sink).ok()?;
+    Vec::from_slice(alloc, sink.bytes()).ok()
+}
