@@ -1,0 +1,4 @@
+//! Laws of codes of parts that are placed.
+#![tactic(auto)]
+
+pub mod laws;
