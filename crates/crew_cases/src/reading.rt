@@ -1,6 +1,7 @@
 //! A circuit's text and a stimulus's text are read, and run on one thread or by workers.
 
 ghost use Rattle.std.specs.Prelude.{IfSome};
+ghost use Rattle.net_meaning.specs.Words.{SaysItsWords};
 ghost use Rattle.circuit_run.specs.NetRuns.{IsPlanned};
 
 use crew_run::Plan;
@@ -36,7 +37,8 @@ pub struct Force {
 
 /// The circuit and the stimulus that two texts write.
 pub fn read(alloc: Global, circuit: &[u8], stimulus: &[u8]) -> Option<Given>
-    ensures { IfSome result (λ given. IsPlanned given.built.ordered given.built.ports given.stimulus) }
+    ensures planned { IfSome result (λ given. IsPlanned given.built.ordered given.built.ports given.stimulus) }
+    ensures said { IfSome result (λ given. SaysItsWords given.built.ordered.net) }
 {
     if circuit.len() > CIRCUIT_LIMIT || stimulus.len() > STIMULUS_LIMIT {
         return None;
@@ -74,7 +76,8 @@ pub fn traced_by<R: Threads + Wait + Sync, G: Gate + Sync>(
     force: Force,
     gate: &G,
 ) -> Option<Vec<u8>>
-    requires { IsPlanned given.now.built.ordered given.now.built.ports given.now.stimulus }
+    requires planned { IsPlanned given.now.built.ordered given.now.built.ports given.now.stimulus }
+    requires said { SaysItsWords given.now.built.ordered.net }
 {
     if force.workers == 0 || force.workers > 64 {
         return None;
