@@ -1,7 +1,6 @@
 //! The program: the words of the command line, the files and standard streams of this process, and the top call.
 #![tactic(auto)]
 
-use crew_workers::OpenGate;
 use shelf_io::{ShelfReal, SinkReal};
 use sim_top::run_program;
 use std::alloc::{AllocError, Global};
@@ -16,8 +15,7 @@ fn main(rt: HostRuntime) -> ExitCode {
     };
     let mut shelf = ShelfReal::new(&rt);
     let mut sink = SinkReal::new(&rt);
-    let status = run_program(&rt, alloc, &words, &mut shelf, &mut sink, &OpenGate);
-    ExitCode::from(status)
+    ExitCode::from(run_program(alloc, &words, &mut shelf, &mut sink))
 }
 
 /// The words behind the program's name. Where one is not UTF-8 there are none, which is no command.

@@ -14,41 +14,23 @@ ghost use Rattle.sim_top.specs.Endings.{Ends, IsSaid, IsRun, IsFaultLine, IsRepl
 
 use crate::judge::{Decision, Reply, judge, judge_texts, judge_under_long, refuse_whole};
 use crate::texts::{JOINED_LIMIT, STIMULUS_LIMIT, WholeFault};
-use crate::words::{Asked, Command, read_question, read_workers};
+use crate::words::{Asked, Command, read_question};
 use circuit_make::{MakeFault, make_joined};
-use circuit_run::RunFault;
-use crew_run::{Plan, simulate};
-use crew_workers::Gate;
+use circuit_run::{RunFault, simulate};
 use shelf_io::{Shelf, Sink, TakeFault, put_all, take_text};
 use sim_engine::{Built, CIRCUIT_LIMIT};
 use std::alloc::{AllocError, Global};
-use std::sync::Wait;
-use std::thread::Threads;
 use stimulus::Stimulus;
 use trace_summary::summarize;
-
-/// What runs circuits: a runtime that starts threads and waits, the gate that each worker enters before it evaluates, and how many
-/// workers there are, from 1 to 64.
-#[derive(Drop)]
-struct Crew<'a, R, G> {
-    rt: &'a R,
-    gate: &'a G,
-    workers: u32,
-}
 
 /// Reads the texts that the words name from the shelf, writes the answer to the sink, and gives the status: 0 where the
 /// texts are accepted, 1 where the words are no command, 2 where the circuit has a fault, 3 where the stimulus has one,
 /// 4 where the shelf failed, 5 where the sink failed, 6 where memory was wanted.
-///
-/// A circuit is run by as many workers as the words say, in threads that `rt` starts, and each enters the gate before each evaluation.
-/// No clause speaks of their number: the status and the bytes are the same for any.
-pub fn run_program<R: Threads + Wait + Sync, H: Shelf, K: Sink, G: Gate + Sync>(
-    rt: &R,
+pub fn run_program<H: Shelf, K: Sink>(
     alloc: Global,
     words: &[String],
     shelf: &mut H,
     sink: &mut K,
-    gate: &G,
 ) -> u8
     // Where the shelf tells its texts and the sink its bytes, status and bytes are those of the definition.
     ensures ends { (texts : List ℕ → Option (List ℕ)) (before : List ℕ) → H.held shelf.old ≡ Some texts → K.written sink.old ≡ Some before
@@ -77,17 +59,9 @@ pub fn run_program<R: Threads + Wait + Sync, H: Shelf, K: Sink, G: Gate + Sync>(
     ensures unheld { (texts : List ℕ → Option (List ℕ)) (name : List ℕ) → H.held shelf.old ≡ Some texts → Needs (map string_bytes words.now) (H.held shelf.old) name → texts name ≡ None
         → (result ≡ 4) ⊎ (result ≡ 6) }
 {
-    let Ok(workers) = read_workers(alloc, words) else {
-        return 6;
-    };
-    let crew = Crew { rt, gate, workers };
     match decide(alloc, words, shelf) {
         Ok(Decision::Say(reply)) => say(sink, &reply),
-        Ok(Decision::Run(built, stimulus)) => run(alloc, &crew, &built, &stimulus, sink),
-        Ok(Decision::Sum(built, stimulus)) => match sum_up(alloc, &crew, &built, &stimulus) {
-            Ok(bytes) => say(sink, &Reply { status: 0, bytes }),
-            Err(AllocError) => 6,
-        },
+        Ok(Decision::Run(built, stimulus)) => run(alloc, &built, &stimulus, sink),
         Err(TakeFault::NoMemory) => 6,
         Err(_) => 4,
     }
@@ -110,7 +84,10 @@ fn decide<H: Shelf>(alloc: Global, words: &[String], shelf: &mut H) -> Result<De
     match asked {
         Asked::Joined(command, name) => decide_joined(alloc, command, name, shelf),
         Asked::Two(circuit, stimulus) => decide_two(alloc, circuit, stimulus, shelf),
-        Asked::Made { cycles, size } => Ok(decide_made(alloc, cycles, size)?),
+        Asked::Made { cycles, size } => {
+            let reply = decide_made(alloc, cycles, size)?;
+            Ok(Decision::Say(reply))
+        }
     }
 }
 
@@ -187,21 +164,32 @@ fn decide_under<H: Shelf>(
     }
 }
 
-/// What is to be done for `make`: the circuit that is made is run and its trace summed up, or its first fault is said.
-fn decide_made(alloc: Global, cycles: u32, size: u32) -> Result<Decision, AllocError>
+/// What `make` answers: the summary of the trace where the circuit that is made is run, else its first fault.
+fn decide_made(alloc: Global, cycles: u32, size: u32) -> Result<Reply, AllocError>
     requires cycles { InRange cycles }
     requires size { InRange size }
-    ensures settled { IfOk result (λ d. (texts : List ℕ → Option (List ℕ)) → Gives (SettlesAsked texts (Of_made cycles size)) d) }
-    ensures ready { IfOk result IsReady }
-    ensures usage { IfOk result (λ d. status_of d ≢ 1) }
+    ensures settled { IfOk result (λ r. (texts : List ℕ → Option (List ℕ)) → SettlesAsked texts (Of_made cycles size) r.status r.bytes.items) }
+    ensures ready { IfOk result (λ r. IsReply r.status r.bytes.items) }
+    ensures usage { IfOk result (λ r. r.status ≢ 1) }
 {
     let text = make_text(alloc, cycles, size)?;
     let decision = judge(alloc, Command::Run, &text)?;
     match decision {
-        Decision::Say(reply) => Ok(Decision::Say(reply)),
-        Decision::Run(built, stimulus) => Ok(Decision::Sum(built, stimulus)),
-        Decision::Sum(_, _) => unreachable!(),
+        Decision::Say(reply) => Ok(reply),
+        Decision::Run(built, stimulus) => Ok(sum_up(alloc, &built, &stimulus)?),
     }
+}
+
+/// The summary of a run's trace, which isn't written.
+fn sum_up(alloc: Global, built: &Built, stimulus: &Stimulus) -> Result<Reply, AllocError>
+    requires { IsRunnable built.now stimulus.now }
+    ensures status { IfOk result (λ r. r.status ≡ 0) }
+    ensures summary { IfOk result (λ r. (trace : List ℕ) × IsTraceText built.now.fitted.checked.circuit.names (design_of built.now.fitted) stimulus.now trace × IsSummary trace r.bytes.items) }
+{
+    Ok(Reply {
+        status: 0,
+        bytes: summarize(alloc, &built.ordered, &built.ports, stimulus)?,
+    })
 }
 
 /// The joined text of the circuit of a size and of a stimulus of so many cycles.
@@ -231,52 +219,15 @@ fn say<K: Sink>(sink: &mut K, reply: &Reply) -> u8
 }
 
 /// Runs a circuit and writes its trace, and gives 0; or 5 where the sink failed, or 6 where memory was wanted.
-fn run<R: Threads + Wait + Sync, G: Gate + Sync, K: Sink>(
-    alloc: Global,
-    crew: &Crew<'_, R, G>,
-    built: &Built,
-    stimulus: &Stimulus,
-    sink: &mut K,
-) -> u8
-    requires runnable { IsRunnable built.now stimulus.now }
-    requires some { 1 ≤ crew.now.workers }
-    requires most { crew.now.workers ≤ 64 }
+fn run<K: Sink>(alloc: Global, built: &Built, stimulus: &Stimulus, sink: &mut K) -> u8
+    requires { IsRunnable built.now stimulus.now }
     ensures ran { (bytes : List ℕ) × IsTraceText built.now.fitted.checked.circuit.names (design_of built.now.fitted) stimulus.now bytes
         × IsRun result bytes (K.written sink.old) (K.written sink.new) }
     ensures rose { result ≡ 5 → Rose (K.faults sink.old) (K.faults sink.new) }
 {
-    let plan = Plan {
-        ordered: &built.ordered,
-        ports: &built.ports,
-        stimulus,
-        workers: crew.workers,
-        threads: usize::MAX,
-    };
-    match simulate(alloc, crew.rt, crew.gate, &plan, sink) {
-        Ok(_closed) => 0,
+    match simulate(alloc, &built.ordered, &built.ports, stimulus, sink) {
+        Ok(()) => 0,
         Err(RunFault::WriteFault) => 5,
         Err(RunFault::NoMemory) => 6,
     }
-}
-
-/// The summary of a run's trace, which isn't written.
-fn sum_up<R: Threads + Wait + Sync, G: Gate + Sync>(
-    alloc: Global,
-    crew: &Crew<'_, R, G>,
-    built: &Built,
-    stimulus: &Stimulus,
-) -> Result<Vec<u8>, AllocError>
-    requires runnable { IsRunnable built.now stimulus.now }
-    requires some { 1 ≤ crew.now.workers }
-    requires most { crew.now.workers ≤ 64 }
-    ensures summary { IfOk result (λ bytes. (trace : List ℕ) × IsTraceText built.now.fitted.checked.circuit.names (design_of built.now.fitted) stimulus.now trace × IsSummary trace bytes.items) }
-{
-    let plan = Plan {
-        ordered: &built.ordered,
-        ports: &built.ports,
-        stimulus,
-        workers: crew.workers,
-        threads: usize::MAX,
-    };
-    summarize(alloc, crew.rt, crew.gate, &plan)
 }

@@ -1,6 +1,6 @@
 //! What the words of a command line ask for.
 
-ghost use Rattle.std.specs.Prelude.{◌≡◌, ◌≤◌, map, string_bytes, option_map, IfOk, IfSome, Some};
+ghost use Rattle.std.specs.Prelude.{◌≡◌, map, string_bytes, option_map, IfOk, IfSome, Some};
 ghost use Rattle.command_words.specs.Commands.{InRange, request_of};
 ghost use Rattle.sim_top.specs.Commands.{IsInRange, question, run_question, question_of, asked_by};
 
@@ -43,18 +43,6 @@ pub fn read_question<'a>(
         return Ok(None);
     };
     Ok(Some(of_command(command)))
-}
-
-/// How many workers the words ask for, from 1 to 64: 1 where they name no number.
-pub fn read_workers(alloc: Global, words: &[String]) -> Result<u32, AllocError>
-    ensures some { IfOk result (λ workers. 1 ≤ workers) }
-    ensures most { IfOk result (λ workers. workers ≤ 64) }
-{
-    match read_words(alloc, words)? {
-        Some(command_words::Command::Run { workers, .. }) => Ok(workers),
-        Some(command_words::Command::Make { workers, .. }) => Ok(workers),
-        _ => Ok(1),
-    }
 }
 
 /// What a command asks for.
