@@ -72,12 +72,10 @@ reply_few s b reply = ⊎_elim (λ zero. omega arith)
 pub ready_decision : (command : Command) (joined : List ℕ) (d : Decision) → Gives (Settles command joined) d → IsFor command d → IsReady d
 ready_decision command joined (decision.Say reply) s run = judged_reply command joined _ _ s.judges
 ready_decision command joined (decision.Run built settings) s run = run
-ready_decision command joined (decision.Sum built settings) s run = absurd run
 
 pub no_usage : (command : Command) (joined : List ℕ) (d : Decision) → Gives (Settles command joined) d → status_of d ≡ 1 → ⊥
 no_usage command joined (decision.Say reply) s one = told_usage _ _ (judged_told command joined _ _ s.judges) one
 no_usage command joined (decision.Run built settings) s one = cc
-no_usage command joined (decision.Sum built settings) s one = cc
 
 texts_ready : (text stimulus : List ℕ) (s : ℕ) (b : List ℕ) → JudgesTexts Run text stimulus s b → IsReply s b
 texts_ready text stimulus s b j = ⊎_elim (λ zero. inl zero) (λ line. inr (inr line)) (texts_told Run text stimulus s b j)
@@ -85,12 +83,10 @@ texts_ready text stimulus s b j = ⊎_elim (λ zero. inl zero) (λ line. inr (in
 pub ready_texts : (text stimulus : List ℕ) (d : Decision) → Gives (SettlesTexts Run text stimulus) d → IsFor Run d → IsReady d
 ready_texts text stimulus (decision.Say reply) s run = texts_ready text stimulus _ _ s.judges
 ready_texts text stimulus (decision.Run built settings) s run = run
-ready_texts text stimulus (decision.Sum built settings) s run = absurd run
 
 pub no_usage_texts : (text stimulus : List ℕ) (d : Decision) → Gives (SettlesTexts Run text stimulus) d → status_of d ≡ 1 → ⊥
 no_usage_texts text stimulus (decision.Say reply) s one = told_usage _ _ (texts_told Run text stimulus _ _ s.judges) one
 no_usage_texts text stimulus (decision.Run built settings) s one = cc
-no_usage_texts text stimulus (decision.Sum built settings) s one = cc
 
 pub usage_ready : (b : List ℕ) → b ≡ codes "usage\n" → IsReply 1 b
 usage_ready b e = inr (inl (refl, e))
@@ -110,7 +106,6 @@ pub settled_name : (texts : List ℕ → Option (List ℕ)) (command : Command) 
     → Gives (SettlesAsked texts (Of_joined command name)) d
 settled_name texts command name joined (decision.Say reply) held s = of_name texts command name joined held _ _ s
 settled_name texts command name joined (decision.Run built settings) held s = λ bytes t. of_name texts command name joined held _ _ (s bytes t)
-settled_name texts command name joined (decision.Sum built settings) held s = λ trace summary t sums. of_name texts command name joined held _ _ (s trace summary t sums)
 
 pub settled_long : (texts : List ℕ → Option (List ℕ)) (command : Command) (name joined : List ℕ) (s : ℕ) (b : List ℕ) → texts name ≡ Some joined → joined_limit < length joined
     → s ≡ 2 → b ≡ whole_bytes TooLong first_place → SettlesAsked texts (Of_joined command name) s b
@@ -130,7 +125,6 @@ pub settled_texts : (texts : List ℕ → Option (List ℕ)) (circuit stimulus t
     → texts stimulus ≡ Some given → Gives (SettlesTexts Run text given) d → Gives (SettlesAsked texts (Of_two circuit stimulus)) d
 settled_texts texts circuit stimulus text given (decision.Say reply) held short told s = of_texts texts circuit stimulus text given held short told _ _ s
 settled_texts texts circuit stimulus text given (decision.Run built settings) held short told s = λ bytes t. of_texts texts circuit stimulus text given held short told _ _ (s bytes t)
-settled_texts texts circuit stimulus text given (decision.Sum built settings) held short told s = λ trace summary t sums. of_texts texts circuit stimulus text given held short told _ _ (s trace summary t sums)
 
 pub settled_circuit : (texts : List ℕ → Option (List ℕ)) (circuit stimulus text : List ℕ) (s : ℕ) (b : List ℕ) → texts circuit ≡ Some text → circuit_limit < length text → s ≡ 2
     → b ≡ whole_bytes TooLong first_place → SettlesAsked texts (Of_two circuit stimulus) s b
@@ -167,10 +161,12 @@ pub made_usage : (cycles size : ℕ) (d : Decision) (reply : Reply) → d ≡ de
 made_usage cycles size d reply e made one =
     let said = subst (IsMade cycles size) e made in told_usage _ _ (judged_told Run (ring_text size cycles) _ _ said.0.judges) one
 
-pub made_run : (texts : List ℕ → Option (List ℕ)) (cycles size : ℕ) (d : Decision) (built : Built) (settings : Stimulus) → d ≡ decision.Run built settings → IsMade cycles size d
-    → Gives (SettlesAsked texts (Of_made cycles size)) (decision.Sum built settings)
-made_run texts cycles size d built settings e made = λ trace summary told sums.
-    let ran = subst (IsMade cycles size) e made in made_told texts cycles size trace summary (ran.0 trace told) sums
+pub made_run : (texts : List ℕ → Option (List ℕ)) (cycles size : ℕ) (d : Decision) (built : Built) (settings : Stimulus) (trace b : List ℕ) (s : ℕ) → d ≡ decision.Run built settings
+    → IsMade cycles size d → s ≡ 0 → IsTraceText built.fitted.checked.circuit.names (design_of built.fitted) settings trace → IsSummary trace b
+    → SettlesAsked texts (Of_made cycles size) s b
+made_run texts cycles size d built settings trace b s e made zero told sums =
+    let ran = subst (IsMade cycles size) e made in
+    subst (λ (k : ℕ). SettlesAsked texts (Of_made cycles size) k b) (sym zero) (made_told texts cycles size trace b (ran.0 trace told) sums)
 
 -- and for words
 pub settled_usage : (words : List (List ℕ)) (texts : List ℕ → Option (List ℕ)) (b : List ℕ) → asked_by words ≡ None → b ≡ codes "usage\n" → IsSettled words texts 1 b
@@ -190,7 +186,6 @@ pub settled_words : (words : List (List ℕ)) (texts : List ℕ → Option (List
     → Gives (SettlesAsked texts question) d → Gives (IsSettled words texts) d
 settled_words words texts question (decision.Say reply) asked s = of_words words texts question asked _ _ s
 settled_words words texts question (decision.Run built settings) asked s = λ bytes t. of_words words texts question asked _ _ (s bytes t)
-settled_words words texts question (decision.Sum built settings) asked s = λ trace summary t sums. of_words words texts question asked _ _ (s trace summary t sums)
 
 -- what was appended
 appended : (old new : Option (List ℕ)) (before xs : List ℕ) → old ≡ Some before → Appends old new xs → new ≡ Some (before ++ xs)

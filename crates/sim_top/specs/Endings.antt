@@ -7,7 +7,6 @@ use Rattle.stimulus.specs.declared.stimulus.Stimulus.{Stimulus}
 use Rattle.stimulus.specs.declared.fault.StimFault.{StimFault}
 use Rattle.stimulus.specs.Stimuli.{IsFormed}
 use Rattle.circuit_run.specs.Traces.{IsTraceText}
-use Rattle.trace_summary.specs.Summaries.{IsSummary}
 use Rattle.sim_engine.specs.Building.{IsBuilt}
 use Rattle.sim_engine.specs.declared.compile.Built.{Built}
 use Rattle.sim_engine.specs.declared.fault.CircuitFault.{CircuitFault}
@@ -55,11 +54,10 @@ pub data IsFaultLine : ℕ → List ℕ → Type 0 where
 abbrev pub IsReply : ℕ → List ℕ → Type 0
 IsReply status bytes = (status ≡ 0) ⊎ (((status ≡ 1) × (bytes ≡ codes "usage\n")) ⊎ IsFaultLine status bytes)
 
--- A decision has a property of answers: its reply has it, or the trace has it, or the trace's summary, at status 0.
+-- A decision has a property of answers: its reply has it, or the trace has it, at status 0.
 abbrev pub Gives : (ℕ → List ℕ → Type 0) → Decision → Type 0
 Gives Property (decision.Say reply) = Property reply.status reply.bytes.items
 Gives Property (decision.Run built stimulus) = (bytes : List ℕ) → IsTraceText built.fitted.checked.circuit.names (design_of built.fitted) stimulus bytes → Property 0 bytes
-Gives Property (decision.Sum built stimulus) = (trace summary : List ℕ) → IsTraceText built.fitted.checked.circuit.names (design_of built.fitted) stimulus trace → IsSummary trace summary → Property 0 summary
 
 -- What was built can be run under the stimulus.
 pub record IsRunnable (built : Built) (stimulus : Stimulus) : Type 0 where
@@ -67,20 +65,17 @@ pub record IsRunnable (built : Built) (stimulus : Stimulus) : Type 0 where
   pub is_built : IsBuilt text built
   pub formed : IsFormed built.ports stimulus
 
--- What a decision for a command on texts is: a run that can be run, or a reply. Of a run no trace is said.
+-- What a decision for a command is: a run that can be run, or a reply. Of a run no trace is said.
 abbrev pub IsFor : Command → Decision → Type 0
 IsFor command (decision.Say reply) = command ≡ Run → reply.status ≢ 0
 IsFor command (decision.Run built stimulus) = IsRunnable built stimulus
-IsFor command (decision.Sum built stimulus) = ⊥
 
 -- A decision can be carried out: a reply is one, and a run can be run.
 abbrev pub IsReady : Decision → Type 0
 IsReady (decision.Say reply) = IsReply reply.status reply.bytes.items
 IsReady (decision.Run built stimulus) = IsRunnable built stimulus
-IsReady (decision.Sum built stimulus) = IsRunnable built stimulus
 
 -- the status, where nothing fails
 abbrev pub status_of : Decision → ℕ
 status_of (decision.Say reply) = reply.status
 status_of (decision.Run built stimulus) = 0
-status_of (decision.Sum built stimulus) = 0

@@ -29,12 +29,11 @@ use trace_print::widths_text;
 /// The place of a fault of a text as a whole.
 const FRONT: Place = Place { line: 1, column: 1 };
 
-/// What is to be done: a reply is said, or a circuit is run under a stimulus, and its trace or the trace's summary is said.
+/// What is to be done: a reply is said, or a circuit is run under a stimulus.
 #[derive(Drop)]
 pub enum Decision {
     Say(Reply),
     Run(Built, Stimulus),
-    Sum(Built, Stimulus),
 }
 
 /// A status and the bytes that are written.

@@ -14,7 +14,7 @@ ghost use Rattle.sim_top.specs.Endings.{Ends, IsSaid, IsRun, IsFaultLine, IsRepl
 
 use crate::judge::{Decision, Reply, judge, judge_texts, judge_under_long, refuse_whole};
 use crate::texts::{JOINED_LIMIT, STIMULUS_LIMIT, WholeFault};
-use crate::words::{Asked, Command, read_question, read_workers};
+use crate::words::{Asked, Command, read_question, workers_of};
 use circuit_make::{MakeFault, make_joined};
 use circuit_run::RunFault;
 use crew_run::{Plan, simulate};
@@ -77,17 +77,13 @@ pub fn run_program<R: Threads + Wait + Sync, H: Shelf, K: Sink, G: Gate + Sync>(
     ensures unheld { (texts : List ℕ → Option (List ℕ)) (name : List ℕ) → H.held shelf.old ≡ Some texts → Needs (map string_bytes words.now) (H.held shelf.old) name → texts name ≡ None
         → (result ≡ 4) ⊎ (result ≡ 6) }
 {
-    let Ok(workers) = read_workers(alloc, words) else {
-        return 6;
-    };
-    let crew = Crew { rt, gate, workers };
     match decide(alloc, words, shelf) {
         Ok(Decision::Say(reply)) => say(sink, &reply),
-        Ok(Decision::Run(built, stimulus)) => run(alloc, &crew, &built, &stimulus, sink),
-        Ok(Decision::Sum(built, stimulus)) => match sum_up(alloc, &crew, &built, &stimulus) {
-            Ok(bytes) => say(sink, &Reply { status: 0, bytes }),
-            Err(AllocError) => 6,
-        },
+        Ok(Decision::Run(built, stimulus)) => {
+            let workers = workers_of(alloc, words);
+            let crew = Crew { rt, gate, workers };
+            run(alloc, &crew, &built, &stimulus, sink)
+        }
         Err(TakeFault::NoMemory) => 6,
         Err(_) => 4,
     }
@@ -110,7 +106,10 @@ fn decide<H: Shelf>(alloc: Global, words: &[String], shelf: &mut H) -> Result<De
     match asked {
         Asked::Joined(command, name) => decide_joined(alloc, command, name, shelf),
         Asked::Two(circuit, stimulus) => decide_two(alloc, circuit, stimulus, shelf),
-        Asked::Made { cycles, size } => Ok(decide_made(alloc, cycles, size)?),
+        Asked::Made { cycles, size } => {
+            let reply = decide_made(alloc, cycles, size)?;
+            Ok(Decision::Say(reply))
+        }
     }
 }
 
@@ -187,21 +186,32 @@ fn decide_under<H: Shelf>(
     }
 }
 
-/// What is to be done for `make`: the circuit that is made is run and its trace summed up, or its first fault is said.
-fn decide_made(alloc: Global, cycles: u32, size: u32) -> Result<Decision, AllocError>
+/// What `make` answers: the summary of the trace where the circuit that is made is run, else its first fault.
+fn decide_made(alloc: Global, cycles: u32, size: u32) -> Result<Reply, AllocError>
     requires cycles { InRange cycles }
     requires size { InRange size }
-    ensures settled { IfOk result (λ d. (texts : List ℕ → Option (List ℕ)) → Gives (SettlesAsked texts (Of_made cycles size)) d) }
-    ensures ready { IfOk result IsReady }
-    ensures usage { IfOk result (λ d. status_of d ≢ 1) }
+    ensures settled { IfOk result (λ r. (texts : List ℕ → Option (List ℕ)) → SettlesAsked texts (Of_made cycles size) r.status r.bytes.items) }
+    ensures ready { IfOk result (λ r. IsReply r.status r.bytes.items) }
+    ensures usage { IfOk result (λ r. r.status ≢ 1) }
 {
     let text = make_text(alloc, cycles, size)?;
     let decision = judge(alloc, Command::Run, &text)?;
     match decision {
-        Decision::Say(reply) => Ok(Decision::Say(reply)),
-        Decision::Run(built, stimulus) => Ok(Decision::Sum(built, stimulus)),
-        Decision::Sum(_, _) => unreachable!(),
+        Decision::Say(reply) => Ok(reply),
+        Decision::Run(built, stimulus) => Ok(sum_up(alloc, &built, &stimulus)?),
     }
+}
+
+/// The summary of a run's trace, which isn't written.
+fn sum_up(alloc: Global, built: &Built, stimulus: &Stimulus) -> Result<Reply, AllocError>
+    requires { IsRunnable built.now stimulus.now }
+    ensures status { IfOk result (λ r. r.status ≡ 0) }
+    ensures summary { IfOk result (λ r. (trace : List ℕ) × IsTraceText built.now.fitted.checked.circuit.names (design_of built.now.fitted) stimulus.now trace × IsSummary trace r.bytes.items) }
+{
+    Ok(Reply {
+        status: 0,
+        bytes: summarize(alloc, &built.ordered, &built.ports, stimulus)?,
+    })
 }
 
 /// The joined text of the circuit of a size and of a stimulus of so many cycles.
@@ -257,26 +267,4 @@ fn run<R: Threads + Wait + Sync, G: Gate + Sync, K: Sink>(
         Err(RunFault::WriteFault) => 5,
         Err(RunFault::NoMemory) => 6,
     }
-}
-
-/// The summary of a run's trace, which isn't written.
-fn sum_up<R: Threads + Wait + Sync, G: Gate + Sync>(
-    alloc: Global,
-    crew: &Crew<'_, R, G>,
-    built: &Built,
-    stimulus: &Stimulus,
-) -> Result<Vec<u8>, AllocError>
-    requires runnable { IsRunnable built.now stimulus.now }
-    requires some { 1 ≤ crew.now.workers }
-    requires most { crew.now.workers ≤ 64 }
-    ensures summary { IfOk result (λ bytes. (trace : List ℕ) × IsTraceText built.now.fitted.checked.circuit.names (design_of built.now.fitted) stimulus.now trace × IsSummary trace bytes.items) }
-{
-    let plan = Plan {
-        ordered: &built.ordered,
-        ports: &built.ports,
-        stimulus,
-        workers: crew.workers,
-        threads: usize::MAX,
-    };
-    summarize(alloc, crew.rt, crew.gate, &plan)
 }

@@ -45,15 +45,15 @@ pub fn read_question<'a>(
     Ok(Some(of_command(command)))
 }
 
-/// How many workers the words ask for, from 1 to 64: 1 where they name no number.
-pub fn read_workers(alloc: Global, words: &[String]) -> Result<u32, AllocError>
-    ensures some { IfOk result (λ workers. 1 ≤ workers) }
-    ensures most { IfOk result (λ workers. workers ≤ 64) }
+/// How many workers run the circuit that the words ask for, from 1 to 64: one where they ask for none, or where memory is wanted to
+/// read them. Their number changes no byte.
+pub fn workers_of(alloc: Global, words: &[String]) -> u32
+    ensures some { 1 ≤ result }
+    ensures most { result ≤ 64 }
 {
-    match read_words(alloc, words)? {
-        Some(command_words::Command::Run { workers, .. }) => Ok(workers),
-        Some(command_words::Command::Make { workers, .. }) => Ok(workers),
-        _ => Ok(1),
+    match read_words(alloc, words) {
+        Ok(Some(command_words::Command::Run { workers, .. })) => workers,
+        _ => 1,
     }
 }
 

@@ -39,7 +39,7 @@ decide_made-requires-clause-cycles g c = (made_range _ _ _ _ c.in-Some.is c.in-M
 pub decide_made-requires-clause-size : goal.decide_made-requires-clause-size
 decide_made-requires-clause-size g c = (made_range _ _ _ _ c.in-Some.is c.in-Made.is c.in_ok-asked.ensures.in_range).1
 
-pub returns-in_ok-decide_made-in-Made-clause-settled : goal.returns-in_ok-decide_made-in-Made-clause-settled
-returns-in_ok-decide_made-in-Made-clause-settled g c = λ texts held.
+pub returns-in_ok-reply-in-Made-clause-settled : goal.returns-in_ok-reply-in-Made-clause-settled
+returns-in_ok-reply-in-Made-clause-settled g c = λ texts held.
     let asked = sym c.in_ok-asked.ensures.asked ∙ ap (option_map question) (c.in-Some.is ∙ ap Some c.in-Made.is) in
-    settled_words _ texts _ _ asked (c.in_ok-decide_made-in-Made.ensures.settled texts)
+    of_words _ texts _ asked _ _ (c.in_ok-reply-in-Made.ensures.settled texts)

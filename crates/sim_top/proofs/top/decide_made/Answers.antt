@@ -19,13 +19,11 @@ returns-in-Say-clause-usage c =
     let made = made_of c.args.cycles c.args.size _ _ (c.deref.ensures.value ∙ c.in_ok-text.ensures.text) c.in_ok-decision.ensures.settles c.in_ok-decision.ensures.fits in
     made_usage c.args.cycles c.args.size _ _ c.in-Say.is made
 
-pub returns-in-Run-clause-settled : goal.returns-in-Run-clause-settled
-returns-in-Run-clause-settled c = λ texts.
+pub sum_up-requires : goal.sum_up-requires
+sum_up-requires c = subst (IsFor Run) c.in-Run.is c.in_ok-decision.ensures.fits
+
+pub returns-clause-settled : goal.returns-clause-settled
+returns-clause-settled c = λ texts.
     let made = made_of c.args.cycles c.args.size _ _ (c.deref.ensures.value ∙ c.in_ok-text.ensures.text) c.in_ok-decision.ensures.settles c.in_ok-decision.ensures.fits in
-    made_run texts c.args.cycles c.args.size _ _ _ c.in-Run.is made
-
-pub returns-in-Run-clause-ready : goal.returns-in-Run-clause-ready
-returns-in-Run-clause-ready c = subst (IsFor Run) c.in-Run.is c.in_ok-decision.ensures.fits
-
-pub never-in-Sum : goal.never-in-Sum
-never-in-Sum c = subst (IsFor Run) c.in-Sum.is c.in_ok-decision.ensures.fits
+    let sums = c.in_ok-sum_up-in-Run.ensures.summary in
+    made_run texts c.args.cycles c.args.size _ _ _ sums.0 _ _ c.in-Run.is made c.in_ok-sum_up-in-Run.ensures.status sums.1 sums.2

@@ -36,20 +36,3 @@ returns-in-Ok-Say-clause-shelf_fault g c = λ four.
 pub returns-in-Ok-Say-clause-complete : goal.returns-in-Ok-Say-clause-complete
 returns-in-Ok-Say-clause-complete g c = λ held kept.
     said_complete _ _ _ (reply_few _ _ (rw c.in-Ok-Say.field-0-is at c.in-Ok-Say.ensures.ready)) c.say.ensures.rose kept
-
-pub returns-in-Ok-Sum-in-Ok-clause-ends : goal.returns-in-Ok-Sum-in-Ok-clause-ends
-returns-in-Ok-Sum-in-Ok-clause-ends g c = λ texts before held written.
-    let sums = c.in-Ok-Sum-in-Ok.ensures.summary in
-    ends_said _ texts _ _ _ before _ _ ((rw c.in-Ok-Sum.field-0-is at c.in-Ok-Sum.ensures.settled texts held) sums.0 _ sums.1 sums.2) (omega arith) c.say.ensures.said written
-
-pub returns-in_default-clause-ends : goal.returns-in_default-clause-ends
-returns-in_default-clause-ends g c = λ texts before held written. ends_wanting _ texts before _ written
-
-pub returns-in-Ok-Sum-in-Err-clause-ends : goal.returns-in-Ok-Sum-in-Err-clause-ends
-returns-in-Ok-Sum-in-Err-clause-ends g c = λ texts before held written. ends_wanting _ texts before _ written
-
-pub returns-in-Ok-Sum-in-Ok-clause-unheld : goal.returns-in-Ok-Sum-in-Ok-clause-unheld
-returns-in-Ok-Sum-in-Ok-clause-unheld g c = λ texts name held needs none.
-    let sums = c.in-Ok-Sum-in-Ok.ensures.summary in
-    let settled = (rw c.in-Ok-Sum.field-0-is at c.in-Ok-Sum.ensures.settled texts held) sums.0 _ sums.1 sums.2 in
-    absurd (unheld_unanswered _ texts _ name _ _ held needs none settled.answers)
