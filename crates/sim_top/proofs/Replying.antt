@@ -345,6 +345,10 @@ planned built stimulus runnable = record {
   formed = runnable.formed;
 }
 
+-- where it failed, its count rose
+pub said_rose : (status result : ℕ) (Failed : Type 0) → status ≤ 3 → (result ≢ status → Failed) → result ≡ 5 → Failed
+said_rose status result Failed few rose five = rose (λ same. omega (arith, few, same, five))
+
 -- where the sink didn't fail, a reply was written
 pub said_complete : (status result : ℕ) (Failed : Type 0) → status ≤ 3 → (result ≢ status → Failed) → (Failed → ⊥) → (result ≤ 3) ⊎ (result ≡ 6)
 said_complete status result Failed few rose kept = ⊎_elim (λ same. inl (omega (arith, few, same))) (λ n. absurd (kept (rose n))) (cases_eq result status)
