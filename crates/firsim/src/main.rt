@@ -1,6 +1,7 @@
 //! The program: the words of the command line, the files and standard streams of this process, and the top call.
 #![tactic(auto)]
 
+use crew_workers::OpenGate;
 use shelf_io::{ShelfReal, SinkReal};
 use sim_top::run_program;
 use std::alloc::{AllocError, Global};
@@ -15,7 +16,8 @@ fn main(rt: HostRuntime) -> ExitCode {
     };
     let mut shelf = ShelfReal::new(&rt);
     let mut sink = SinkReal::new(&rt);
-    ExitCode::from(run_program(alloc, &words, &mut shelf, &mut sink))
+    let status = run_program(&rt, alloc, &words, &mut shelf, &mut sink, &OpenGate);
+    ExitCode::from(status)
 }
 
 /// The words behind the program's name. Where one is not UTF-8 there are none, which is no command.

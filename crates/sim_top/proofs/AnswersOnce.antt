@@ -227,6 +227,12 @@ pub answer_bytes : (words : List (List ℕ)) (texts : List ℕ → Option (List 
     → Answers words texts t d → b ≡ d
 answer_bytes words texts s t b d served f g = (answers_once words texts s t b d f g).1 served
 
+-- words that ask for one thing have the same answers
+pub same_answers : (words others : List (List ℕ)) → asked_by words ≡ asked_by others → (texts : List ℕ → Option (List ℕ)) (s : ℕ) (b : List ℕ) → Answers words texts s b
+    → Answers others texts s b
+same_answers words others same texts _ _ (no_command _ _ e) = no_command others texts (sym same ∙ e)
+same_answers words others same texts s b (answered _ _ question _ _ e a) = answered others texts question s b (sym same ∙ e) a
+
 -- a settled answer is the only one
 pub settled_once : (words : List (List ℕ)) (texts : List ℕ → Option (List ℕ)) (s t : ℕ) (b d : List ℕ) → IsSettled words texts s b → Answers words texts t d → (s ≡ t) × (b ≡ d)
 settled_once words texts s t b d settled g = let both = answers_once words texts s t b d settled.answers g in (both.0, both.1 settled.served)

@@ -7,6 +7,7 @@ use Rattle.place_text.specs.Places.{first_place}
 use Rattle.leaf_names.specs.LeafNames.{Texts}
 use Rattle.stimulus.specs.declared.stimulus.Stimulus.{Stimulus}
 use Rattle.sim_engine.specs.declared.compile.Built.{Built}
+use Rattle.circuit_run.specs.NetRuns.{IsPlanned}
 use Rattle.circuit_run.specs.Traces.{IsTraceText}
 use Rattle.fir_meaning.specs.Components.{Design, design_of}
 use Rattle.shelf_io.specs.Outside.{Appends, Rose}
@@ -23,7 +24,7 @@ use Rattle.sim_top.specs.declared.judge.Decision.TheVariants as decision
 use Rattle.sim_top.specs.Commands.{Question, Of_joined, Of_two, Of_made, asked_by, NeedsFor, the_joined, the_circuit, the_stimulus, Needs}
 use Rattle.sim_top.specs.Texts.{joined_limit}
 use Rattle.sim_top.specs.Answers.{whole_bytes, Runs, stimulus_too_long, stimulus_refused, traced, JudgesTexts, refused, accepted, listed, divided, ran, Judges, joined_too_long, no_stimulus, circuit_too_long, taken, AnswersTo, of_joined, of_long_circuit, of_two, of_made, of_made_refused, Answers, no_command, answered, IsServed, IsServedIn, IsServedFor, SettlesTexts, Settles, SettlesAsked, IsSettled}
-use Rattle.sim_top.specs.Endings.{Ends, IsSaid, IsRun, IsFaultLine, of_circuit, of_whole, of_stimulus, of_whole_stimulus, IsReply, Gives, IsFor, IsReady, status_of}
+use Rattle.sim_top.specs.Endings.{Ends, IsSaid, IsRun, IsFaultLine, of_circuit, of_whole, of_stimulus, of_whole_stimulus, IsReply, Gives, IsFor, IsReady, IsRunnable, status_of}
 use Rattle.sim_top.proofs.AnswersOnce.{some_same, no_reading, settled_once}
 
 -- what a command answers has the status 0, or is a line that names a fault
@@ -333,6 +334,20 @@ run_cut result bytes old new status part = record {
   all = λ zero. absurd (⊎_elim (λ five. omega (arith, zero, five)) (λ six. omega (arith, zero, six)) status);
   part = λ n. part;
 }
+
+-- what was built can be run
+pub planned : (built : Built) (stimulus : Stimulus) → IsRunnable built stimulus → IsPlanned built.ordered built.ports stimulus
+planned built stimulus runnable = record {
+  net = runnable.is_built.ordered.serves.of.well_formed;
+  order = runnable.is_built.ordered.sequence;
+  fed = runnable.is_built.inputs;
+  seen = runnable.is_built.watched;
+  formed = runnable.formed;
+}
+
+-- where it failed, its count rose
+pub said_rose : (status result : ℕ) (Failed : Type 0) → status ≤ 3 → (result ≢ status → Failed) → result ≡ 5 → Failed
+said_rose status result Failed few rose five = rose (λ same. omega (arith, few, same, five))
 
 -- where the sink didn't fail, a reply was written
 pub said_complete : (status result : ℕ) (Failed : Type 0) → status ≤ 3 → (result ≢ status → Failed) → (Failed → ⊥) → (result ≤ 3) ⊎ (result ≡ 6)

@@ -1,6 +1,7 @@
 //! Laws of the definitions that the contracts here name. The functions do nothing.
 
-ghost use Rattle.std.specs.Prelude.{◌≡◌, ℕ, List, Option};
+ghost use Rattle.std.specs.Prelude.{◌≡◌, ℕ, List, Option, Some};
+ghost use Rattle.command_words.specs.Commands.{Run, Make, command_of};
 ghost use Rattle.sim_top.specs.Answers.{Answers, AreServed};
 
 /// A command line has at most one status over the texts that are held, and at most one answer: of a run one where a net serves the
@@ -10,4 +11,12 @@ pub fn the_answer_is_one()
         → Answers words texts other others → status ≡ other }
     ensures bytes { (words : List (List ℕ)) (texts : List ℕ → Option (List ℕ)) (status other : ℕ) (bytes others : List ℕ) → AreServed words texts
         → Answers words texts status bytes → Answers words texts other others → bytes ≡ others }
+{}
+
+/// Two command lines that differ in the number of workers of a run alone have the same answers.
+pub fn workers_change_no_answer()
+    ensures run { (words others : List (List ℕ)) (workers more : ℕ) (circuit : List ℕ) (stimulus : Option (List ℕ)) → command_of words ≡ Some (Run workers circuit stimulus)
+        → command_of others ≡ Some (Run more circuit stimulus) → (texts : List ℕ → Option (List ℕ)) (status : ℕ) (bytes : List ℕ) → Answers words texts status bytes → Answers others texts status bytes }
+    ensures make { (words others : List (List ℕ)) (workers more cycles size : ℕ) → command_of words ≡ Some (Make workers cycles size)
+        → command_of others ≡ Some (Make more cycles size) → (texts : List ℕ → Option (List ℕ)) (status : ℕ) (bytes : List ℕ) → Answers words texts status bytes → Answers others texts status bytes }
 {}

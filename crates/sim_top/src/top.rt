@@ -14,23 +14,41 @@ ghost use Rattle.sim_top.specs.Endings.{Ends, IsSaid, IsRun, IsFaultLine, IsRepl
 
 use crate::judge::{Decision, Reply, judge, judge_texts, judge_under_long, refuse_whole};
 use crate::texts::{JOINED_LIMIT, STIMULUS_LIMIT, WholeFault};
-use crate::words::{Asked, Command, read_question};
+use crate::words::{Asked, Command, read_question, workers_of};
 use circuit_make::{MakeFault, make_joined};
-use circuit_run::{RunFault, simulate};
+use circuit_run::RunFault;
+use crew_run::{Plan, simulate};
+use crew_workers::Gate;
 use shelf_io::{Shelf, Sink, TakeFault, put_all, take_text};
 use sim_engine::{Built, CIRCUIT_LIMIT};
 use std::alloc::{AllocError, Global};
+use std::sync::Wait;
+use std::thread::Threads;
 use stimulus::Stimulus;
 use trace_summary::summarize;
+
+/// What runs circuits: a runtime that starts threads and waits, the gate that each worker enters before it evaluates, and how many
+/// workers there are, from 1 to 64.
+#[derive(Drop)]
+struct Crew<'a, R, G> {
+    rt: &'a R,
+    gate: &'a G,
+    workers: u32,
+}
 
 /// Reads the texts that the words name from the shelf, writes the answer to the sink, and gives the status: 0 where the
 /// texts are accepted, 1 where the words are no command, 2 where the circuit has a fault, 3 where the stimulus has one,
 /// 4 where the shelf failed, 5 where the sink failed, 6 where memory was wanted.
-pub fn run_program<H: Shelf, K: Sink>(
+///
+/// A circuit is run by as many workers as the words say, in threads that `rt` starts, and each enters the gate before each evaluation.
+/// No clause speaks of their number: the status and the bytes are the same for any.
+pub fn run_program<R: Threads + Wait + Sync, H: Shelf, K: Sink, G: Gate + Sync>(
+    rt: &R,
     alloc: Global,
     words: &[String],
     shelf: &mut H,
     sink: &mut K,
+    gate: &G,
 ) -> u8
     // Where the shelf tells its texts and the sink its bytes, status and bytes are those of the definition.
     ensures ends { (texts : List ℕ → Option (List ℕ)) (before : List ℕ) → H.held shelf.old ≡ Some texts → K.written sink.old ≡ Some before
@@ -61,7 +79,11 @@ pub fn run_program<H: Shelf, K: Sink>(
 {
     match decide(alloc, words, shelf) {
         Ok(Decision::Say(reply)) => say(sink, &reply),
-        Ok(Decision::Run(built, stimulus)) => run(alloc, &built, &stimulus, sink),
+        Ok(Decision::Run(built, stimulus)) => {
+            let workers = workers_of(alloc, words);
+            let crew = Crew { rt, gate, workers };
+            run(alloc, &crew, &built, &stimulus, sink)
+        }
         Err(TakeFault::NoMemory) => 6,
         Err(_) => 4,
     }
@@ -219,14 +241,29 @@ fn say<K: Sink>(sink: &mut K, reply: &Reply) -> u8
 }
 
 /// Runs a circuit and writes its trace, and gives 0; or 5 where the sink failed, or 6 where memory was wanted.
-fn run<K: Sink>(alloc: Global, built: &Built, stimulus: &Stimulus, sink: &mut K) -> u8
-    requires { IsRunnable built.now stimulus.now }
+fn run<R: Threads + Wait + Sync, G: Gate + Sync, K: Sink>(
+    alloc: Global,
+    crew: &Crew<'_, R, G>,
+    built: &Built,
+    stimulus: &Stimulus,
+    sink: &mut K,
+) -> u8
+    requires runnable { IsRunnable built.now stimulus.now }
+    requires some { 1 ≤ crew.now.workers }
+    requires most { crew.now.workers ≤ 64 }
     ensures ran { (bytes : List ℕ) × IsTraceText built.now.fitted.checked.circuit.names (design_of built.now.fitted) stimulus.now bytes
         × IsRun result bytes (K.written sink.old) (K.written sink.new) }
     ensures rose { result ≡ 5 → Rose (K.faults sink.old) (K.faults sink.new) }
 {
-    match simulate(alloc, &built.ordered, &built.ports, stimulus, sink) {
-        Ok(()) => 0,
+    let plan = Plan {
+        ordered: &built.ordered,
+        ports: &built.ports,
+        stimulus,
+        workers: crew.workers,
+        threads: usize::MAX,
+    };
+    match simulate(alloc, crew.rt, crew.gate, &plan, sink) {
+        Ok(_closed) => 0,
         Err(RunFault::WriteFault) => 5,
         Err(RunFault::NoMemory) => 6,
     }

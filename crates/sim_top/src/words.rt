@@ -1,6 +1,6 @@
 //! What the words of a command line ask for.
 
-ghost use Rattle.std.specs.Prelude.{◌≡◌, map, string_bytes, option_map, IfOk, IfSome, Some};
+ghost use Rattle.std.specs.Prelude.{◌≡◌, ◌≤◌, map, string_bytes, option_map, IfOk, IfSome, Some};
 ghost use Rattle.command_words.specs.Commands.{InRange, request_of};
 ghost use Rattle.sim_top.specs.Commands.{IsInRange, question, run_question, question_of, asked_by};
 
@@ -43,6 +43,18 @@ pub fn read_question<'a>(
         return Ok(None);
     };
     Ok(Some(of_command(command)))
+}
+
+/// How many workers run the circuit that the words ask for, from 1 to 64: one where they ask for none, or where memory is wanted to
+/// read them. Their number changes no byte.
+pub fn workers_of(alloc: Global, words: &[String]) -> u32
+    ensures some { 1 ≤ result }
+    ensures most { result ≤ 64 }
+{
+    match read_words(alloc, words) {
+        Ok(Some(command_words::Command::Run { workers, .. })) => workers,
+        _ => 1,
+    }
 }
 
 /// What a command asks for.

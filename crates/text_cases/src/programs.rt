@@ -1,9 +1,14 @@
 //! The top call over shelves and sinks in memory that take one byte a call.
 
+use crew_workers::{Gate, OpenGate};
 use shelf_io::{ShelfMemory, SinkMemory};
 use sim_top::run_program;
 use std::alloc::{AllocError, Global};
+use std::sync::Wait;
+use std::sync::atomic::AtomicU64;
+use std::sync::atomic::Ordering::SeqCst;
 use std::test::Fail;
+use std::thread::Threads;
 
 const CIRCUIT: &str = "FIRRTL version 3.0.0
 circuit M :
@@ -23,6 +28,21 @@ const STIMULUS: &str = "cycles 4
 
 const TRACE: &str = "cycle out\n0 0\n1 0\n2 1\n3 2\n";
 
+/// The summary of five cycles of a ring of three registers.
+const SUMMARY: &str = "bytes 31\n4 12\n";
+
+/// A gate that counts how often workers enter it.
+#[derive(Drop)]
+struct Counter {
+    entered: AtomicU64,
+}
+
+impl Gate for Counter {
+    fn enter(&self, _worker: u32, _cycle: u64) {
+        let _before = self.entered.fetch_add(1, SeqCst);
+    }
+}
+
 /// A shelf that holds the circuit as `c`, the stimulus as `s` and both as `-`, and fails at these calls.
 fn shelf(alloc: Global, fails: &[u64]) -> Result<ShelfMemory, AllocError> {
     let mut joined = String::from_str(alloc, CIRCUIT)?;
@@ -36,20 +56,36 @@ fn shelf(alloc: Global, fails: &[u64]) -> Result<ShelfMemory, AllocError> {
     Ok(ShelfMemory::new(texts, 1, Vec::from_slice(alloc, fails)?))
 }
 
-/// The status of a command line and what it wrote, where the shelf and the sink fail at these calls.
-fn answer(
+/// The calls at which the shelf and the sink fail.
+#[derive(Clone, Copy)]
+struct Fails<'a> {
+    read: &'a [u64],
+    write: &'a [u64],
+}
+
+/// None.
+fn never<'a>() -> Fails<'a> {
+    Fails {
+        read: &[],
+        write: &[],
+    }
+}
+
+/// The status of a command line and what it wrote.
+fn answer<R: Threads + Wait + Sync, G: Gate + Sync>(
+    rt: &R,
     alloc: Global,
+    gate: &G,
     words: &[&str],
-    read: &[u64],
-    write: &[u64],
+    fails: Fails<'_>,
 ) -> Result<(u8, Vec<u8>), AllocError> {
     let mut all = Vec::new(alloc);
     for word in words {
         all.push(String::from_str(alloc, word)?)?;
     }
-    let mut shelf = shelf(alloc, read)?;
-    let mut sink = SinkMemory::new(alloc, 100, 1, Vec::from_slice(alloc, write)?)?;
-    let status = run_program(alloc, &all, &mut shelf, &mut sink);
+    let mut shelf = shelf(alloc, fails.read)?;
+    let mut sink = SinkMemory::new(alloc, 100, 1, Vec::from_slice(alloc, fails.write)?)?;
+    let status = run_program(rt, alloc, &all, &mut shelf, &mut sink, gate);
     Ok((status, Vec::from_slice(alloc, sink.bytes())?))
 }
 
@@ -61,7 +97,7 @@ fn the_side_that_failed_is_told(rt: HostRuntime) -> Result<(), Fail> {
         ([].as_slice(), [3].as_slice(), 5, "cy"),
         ([].as_slice(), [13].as_slice(), 5, "cycle out\n0 "),
     ] {
-        let (given, written) = answer(rt.alloc(), &["run"], read, write)?;
+        let (given, written) = answer(&rt, rt.alloc(), &OpenGate, &["run"], Fails { read, write })?;
         assert_eq!(rt; given, status);
         assert_eq!(rt; written.as_slice(), bytes.as_bytes());
     }
@@ -81,9 +117,35 @@ fn texts_are_read_by_their_names(rt: HostRuntime) -> Result<(), Fail> {
         (["run", "c"].as_slice(), 2, "circuit NoStimulus 1:1\n"),
         (["run", "a", "b", "c"].as_slice(), 1, "usage\n"),
     ] {
-        let (given, written) = answer(rt.alloc(), words, &[], &[])?;
+        let (given, written) = answer(&rt, rt.alloc(), &OpenGate, words, never())?;
         assert_eq!(rt; given, status);
         assert_eq!(rt; written.as_slice(), bytes.as_bytes());
+    }
+    Ok(())
+}
+
+#[test]
+fn each_worker_enters_the_gate_in_each_cycle(rt: HostRuntime) -> Result<(), Fail> {
+    for (workers, times) in [("1", 4), ("2", 8), ("5", 20), ("64", 256)] {
+        let gate = Counter {
+            entered: AtomicU64::new(0),
+        };
+        let words = ["run", "--workers", workers];
+        let (status, written) = answer(&rt, rt.alloc(), &gate, &words, never())?;
+        assert_eq!(rt; status, 0);
+        assert_eq!(rt; written.as_slice(), TRACE.as_bytes());
+        assert_eq!(rt; gate.entered.load(SeqCst), times);
+    }
+    Ok(())
+}
+
+#[test]
+fn summaries_are_the_same_by_any_number_of_workers(rt: HostRuntime) -> Result<(), Fail> {
+    for workers in ["1", "2", "5", "64"] {
+        let words = ["make", "--workers", workers, "--cycles", "5", "3"];
+        let (status, written) = answer(&rt, rt.alloc(), &OpenGate, &words, never())?;
+        assert_eq!(rt; status, 0);
+        assert_eq!(rt; written.as_slice(), SUMMARY.as_bytes());
     }
     Ok(())
 }

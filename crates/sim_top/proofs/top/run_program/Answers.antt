@@ -1,4 +1,4 @@
-use Rattle.sim_top.proofs.Replying.{ends_said, ends_run, ends_wanting, reply_few, run_answered, unheld_unanswered, said_untouched, said_complete}
+use Rattle.sim_top.proofs.Replying.{said_few, said_rose, ends_said, ends_run, ends_wanting, reply_few, run_answered, unheld_unanswered, said_untouched, said_complete}
 use Rattle.sim_top.proofs.top.run_program.Goals as goal
 
 pub returns-in-Ok-Say-clause-ends : goal.returns-in-Ok-Say-clause-ends
@@ -36,3 +36,16 @@ returns-in-Ok-Say-clause-shelf_fault g c = λ four.
 pub returns-in-Ok-Say-clause-complete : goal.returns-in-Ok-Say-clause-complete
 returns-in-Ok-Say-clause-complete g c = λ held kept.
     said_complete _ _ _ (reply_few _ _ (rw c.in-Ok-Say.field-0-is at c.in-Ok-Say.ensures.ready)) c.say.ensures.rose kept
+
+pub say-requires : goal.say-requires
+say-requires g c = reply_few _ _ (rw c.in-Ok-Say.field-0-is at c.in-Ok-Say.ensures.ready)
+
+pub returns-in-Ok-Say-clause-sink_fault : goal.returns-in-Ok-Say-clause-sink_fault
+returns-in-Ok-Say-clause-sink_fault g c = λ five. said_rose _ _ _ (reply_few _ _ (rw c.in-Ok-Say.field-0-is at c.in-Ok-Say.ensures.ready)) c.say.ensures.rose five
+
+pub returns-in-Ok-Say-clause-few : goal.returns-in-Ok-Say-clause-few
+returns-in-Ok-Say-clause-few g c = said_few _ _ _ _ _ (reply_few _ _ (rw c.in-Ok-Say.field-0-is at c.in-Ok-Say.ensures.ready)) c.say.ensures.said
+
+pub returns-in-Ok-Say-clause-untouched : goal.returns-in-Ok-Say-clause-untouched
+returns-in-Ok-Say-clause-untouched g c = λ four.
+    absurd (said_untouched _ _ _ _ _ (reply_few _ _ (rw c.in-Ok-Say.field-0-is at c.in-Ok-Say.ensures.ready)) c.say.ensures.said four)
