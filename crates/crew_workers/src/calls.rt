@@ -17,32 +17,38 @@ use register_table::{Plan, Post, RegisterTable};
 use std::mem::replace;
 use std::sync::Wait;
 
+// A code with the inputs of a cycle.
+#[derive(Clone, Copy)]
+struct Fed<'f> {
+    code: &'f Code,
+    inputs: &'f Row,
+}
+
 // The effects of the code in the cycle that the post is in.
 fn compute<N: Plan>(
     post: &mut Post<N>,
     table: &RegisterTable<N>,
-    code: &Code,
+    fed: &Fed,
     frame: &mut [u64],
-    inputs: &Row,
     effects: &mut Effects,
 )
     requires table { ComesFrom post.old table.now }
     requires rest { post.old.view.arrivals ≡ post.old.view.passed }
     requires even { post.old.view.passed % 2 ≡ 0 }
-    requires words { length N.script.first ≡ code.now.words }
-    requires frame { frame_length code.now ≤ length frame.old }
-    requires publications { most_publications code.now ≤ vec_capacity effects.old.publications }
-    requires outputs { most_outputs code.now ≤ vec_capacity effects.old.outputs }
+    requires words { length N.script.first ≡ fed.now.code.now.words }
+    requires frame { frame_length fed.now.code.now ≤ length frame.old }
+    requires publications { most_publications fed.now.code.now ≤ vec_capacity effects.old.publications }
+    requires outputs { most_outputs fed.now.code.now ≤ vec_capacity effects.old.outputs }
     ensures table { ComesFrom post.new table.now }
     ensures view { post.new.view ≡ post.old.view }
-    ensures publications { effects.new.publications.items ≡ published_by code.now (values N.script (post.old.view.passed / 2)) inputs.now }
-    ensures outputs { effects.new.outputs.items ≡ outputs_by code.now (values N.script (post.old.view.passed / 2)) inputs.now }
-    ensures publications_room { most_publications code.now ≤ vec_capacity effects.new.publications }
-    ensures outputs_room { most_outputs code.now ≤ vec_capacity effects.new.outputs }
+    ensures publications { effects.new.publications.items ≡ published_by fed.now.code.now (values N.script (post.old.view.passed / 2)) fed.now.inputs.now }
+    ensures outputs { effects.new.outputs.items ≡ outputs_by fed.now.code.now (values N.script (post.old.view.passed / 2)) fed.now.inputs.now }
+    ensures publications_room { most_publications fed.now.code.now ≤ vec_capacity effects.new.publications }
+    ensures outputs_room { most_outputs fed.now.code.now ≤ vec_capacity effects.new.outputs }
     ensures frame { length frame.new ≡ length frame.old }
 {
     let mut reading = Reading { post, table };
-    step(code, frame, &mut reading, inputs, effects);
+    step(fed.code, frame, &mut reading, fed.inputs, effects);
 }
 
 // Publishes all publications of a phase.
@@ -85,8 +91,11 @@ impl<'a, N: Plan> Desk<'a, N> {
         let Some(inputs) = self.duty.rows.get(cycle as usize) else {
             return;
         };
-        let code = self.duty.code;
-        compute(post, table, code, frame, inputs, &mut self.effects);
+        let fed = Fed {
+            code: self.duty.code,
+            inputs,
+        };
+        compute(post, table, &fed, frame, &mut self.effects);
         let Some(spare) = self.spares.pop() else {
             return;
         };

@@ -12,5 +12,5 @@ mod reading;
 mod worker;
 
 pub use gate::{Gate, OpenGate};
-pub use phases::{drive, drive_one};
+pub use phases::{Stint, drive, drive_one};
 pub use worker::{Duty, Worker};

@@ -8,24 +8,36 @@ use crate::worker::Worker;
 use register_table::{Plan, RegisterTable};
 use std::sync::Wait;
 
+/// The cycles that workers are driven through, and the gate that is told their numbers.
+#[derive(Drop)]
+pub struct Stint<'g, G> {
+    /// The number that the gate is told of the first cycle.
+    pub first: u64,
+    /// How many cycles there are.
+    pub cycles: u64,
+    /// What each worker calls before an evaluation.
+    pub gate: &'g G,
+}
+
 // The even phase of the cycle, up to the arrival.
 fn evaluate_one<N: Plan, G: Gate>(
     worker: &mut Worker<N>,
     table: &RegisterTable<N>,
     frame: &mut [u64],
-    first: u64,
+    stint: &Stint<G>,
     cycle: u64,
-    gate: &G,
 )
     requires cycle { cycle < N.script.cycles }
-    requires number { first + cycle < 2 ^ 64 }
+    requires number { stint.now.first + cycle < 2 ^ 64 }
     requires at { At table.now worker.old (2 * cycle) (2 * cycle) 0 cycle }
     requires frame { FrameFits (length frame.old) worker.old }
     ensures at { Arrived table.now worker.new (2 * cycle) (cycle + 1) }
     ensures duty { worker.new.desk.duty ≡ worker.old.desk.duty }
     ensures frame { length frame.new ≡ length frame.old }
 {
-    gate.enter(worker.desk.duty.number, first + cycle);
+    stint
+        .gate
+        .enter(worker.desk.duty.number, stint.first + cycle);
     worker.evaluate(table, frame, cycle);
     worker.arrive(table);
 }
@@ -34,12 +46,11 @@ fn evaluate_all<N: Plan, G: Gate>(
     workers: &mut [Worker<N>],
     table: &RegisterTable<N>,
     frame: &mut [u64],
-    first: u64,
+    stint: &Stint<G>,
     cycle: u64,
-    gate: &G,
 )
     requires cycle { cycle < N.script.cycles }
-    requires number { first + cycle < 2 ^ 64 }
+    requires number { stint.now.first + cycle < 2 ^ 64 }
     requires at { Each (λ w. At table.now w (2 * cycle) (2 * cycle) 0 cycle) workers.old }
     requires frame { Each (FrameFits (length frame.old)) workers.old }
     ensures at { Each (λ w. Arrived table.now w (2 * cycle) (cycle + 1)) workers.new }
@@ -47,7 +58,7 @@ fn evaluate_all<N: Plan, G: Gate>(
     ensures frame { length frame.new ≡ length frame.old }
 {
     for i in 0..workers.len() {
-        evaluate_one(&mut workers[i], table, frame, first, cycle, gate);
+        evaluate_one(&mut workers[i], table, frame, stint, cycle);
     }
 }
 
@@ -116,8 +127,13 @@ pub fn drive<N: Plan, R: Wait, G: Gate>(
     ensures duties { SameDuties workers.old workers.new }
     ensures frame { length frame.new ≡ length frame.old }
 {
+    let stint = Stint {
+        first,
+        cycles,
+        gate,
+    };
     for cycle in 0..cycles {
-        evaluate_all(workers, table, frame, first, cycle, gate);
+        evaluate_all(workers, table, frame, &stint, cycle);
         pass_all(rt, workers, table, 2 * cycle);
         publish_all(workers, table, cycle);
         pass_all(rt, workers, table, 2 * cycle + 1);
@@ -130,19 +146,17 @@ pub fn drive_one<'a, N: Plan, R: Wait, G: Gate>(
     table: &RegisterTable<N>,
     mut worker: Worker<'a, N>,
     frame: &mut [u64],
-    first: u64,
-    cycles: u64,
-    gate: &G,
+    stint: &Stint<G>,
 ) -> Worker<'a, N>
-    requires cycles { cycles ≡ N.script.cycles }
-    requires numbers { first + cycles < 2 ^ 64 }
+    requires cycles { stint.now.cycles ≡ N.script.cycles }
+    requires numbers { stint.now.first + stint.now.cycles < 2 ^ 64 }
     requires at { AtStart table.now worker }
     requires frame { FrameFits (length frame.old) worker }
     ensures duty { result.desk.duty ≡ worker.entry.desk.duty }
     ensures at { AtEnd table.now result }
 {
-    for cycle in 0..cycles {
-        evaluate_one(&mut worker, table, frame, first, cycle, gate);
+    for cycle in 0..stint.cycles {
+        evaluate_one(&mut worker, table, frame, stint, cycle);
         pass_one(rt, &mut worker, table, 2 * cycle);
         publish_one(&mut worker, table, cycle);
         pass_one(rt, &mut worker, table, 2 * cycle + 1);
