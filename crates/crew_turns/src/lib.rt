@@ -8,4 +8,4 @@ mod places;
 mod turns;
 
 pub use places::{longest_frame, most_published, place, row_width};
-pub use turns::run_in_turns;
+pub use turns::{Work, run_in_turns};

@@ -1,6 +1,6 @@
 //! An epoch on one thread: in each cycle all codes are evaluated before the first publishes.
 
-ghost use Rattle.std.specs.Prelude.{◌≡◌, ◌+◌, ◌*◌, ◌^◌, ◌<◌, ◌≤◌, ℕ, length, slice_index_or, vec_capacity, IfOk};
+ghost use Rattle.std.specs.Prelude.{◌≡◌, ◌+◌, ◌*◌, ◌^◌, ◌<◌, ◌≤◌, ℕ, length, slice_index_or, vec_len, vec_capacity, IfOk};
 ghost use Rattle.std.proofs.Common.{refl, ◌∙◌};
 ghost use mathlib.Core.Option.{some};
 ghost use lib.ListN.{get_elem?};
@@ -47,6 +47,30 @@ impl<'w> Loads for Words<'w> {
     ghost same_on = { λ a b c e f. f ∙ e };
 }
 
+// The codes that take turns, how many values a row of their outputs has, and the gate, which is told the numbers of the
+// cycles from `first` on.
+#[derive(Drop)]
+struct Team<'t, G> {
+    codes: &'t [Code],
+    width: usize,
+    first: u64,
+    gate: &'t G,
+}
+
+// The number of a cycle, and its inputs.
+#[derive(Clone, Copy)]
+struct Cycle<'c> {
+    number: u64,
+    inputs: &'c Row,
+}
+
+// A frame that serves each code, and the effects of each.
+#[derive(Drop)]
+struct Desk {
+    frame: Vec<u64>,
+    effects: Vec<Effects>,
+}
+
 // Evaluates a code on these words.
 fn evaluate_code(code: &Code, words: &[u64], frame: &mut [u64], inputs: &Row, effects: &mut Effects)
     requires words { length words.now ≡ code.now.words }
@@ -65,24 +89,24 @@ fn evaluate_code(code: &Code, words: &[u64], frame: &mut [u64], inputs: &Row, ef
 
 // Evaluates all codes on these words.
 fn evaluate_codes<G: Gate>(
-    codes: &[Code],
+    team: &Team<G>,
+    cycle: &Cycle,
     words: &[u64],
     frame: &mut [u64],
-    inputs: &Row,
     effects: &mut [Effects],
-    number: u64,
-    gate: &G,
 )
-    requires few { length codes.now < 2 ^ 32 }
-    requires words { AreCounted codes.now (length words.now) }
-    requires frame { Serves codes.now (length frame.old) }
-    requires room { Roomy codes.now effects.old }
-    ensures effects { Evaluated codes.now words.now inputs.now effects.new (length codes.now) }
-    ensures room { Roomy codes.now effects.new }
+    requires few { length team.now.codes.now < 2 ^ 32 }
+    requires words { AreCounted team.now.codes.now (length words.now) }
+    requires frame { Serves team.now.codes.now (length frame.old) }
+    requires room { Roomy team.now.codes.now effects.old }
+    ensures effects { Evaluated team.now.codes.now words.now cycle.now.inputs.now effects.new (length team.now.codes.now) }
+    ensures room { Roomy team.now.codes.now effects.new }
     ensures frame { length frame.new ≡ length frame.old }
 {
+    let codes = team.codes;
+    let inputs = cycle.inputs;
     for k in 0..codes.len() {
-        gate.enter(k as u32, number);
+        team.gate.enter(k as u32, cycle.number);
         evaluate_code(&codes[k], words, frame, inputs, &mut effects[k]);
     }
 }
@@ -161,71 +185,70 @@ fn all_effects(alloc: Global, codes: &[Code]) -> Result<Vec<Effects>, AllocError
 // One cycle: evaluates all codes, and then stores what they publish.
 fn run_cycle<G: Gate>(
     alloc: Global,
-    codes: &[Code],
-    inputs: &Row,
-    frame: &mut [u64],
-    effects: &mut [Effects],
+    team: &Team<G>,
+    cycle: &Cycle,
+    desk: &mut Desk,
     words: &mut [u64],
-    width: usize,
-    number: u64,
-    gate: &G,
 ) -> Result<Row, AllocError>
-    requires few { length codes.now < 2 ^ 32 }
-    requires counted { AreCounted codes.now (length words.old) }
-    requires publish { PublishOwn codes.now words.old inputs.now }
-    requires own { OwnPlaces codes.now }
-    requires places { HasPlaces codes.now width }
-    requires frame { Serves codes.now (length frame.old) }
-    requires room { Roomy codes.now effects.old }
-    ensures words { IfOk result (λ r. words.new ≡ published_all (round_by codes.now words.old inputs.now) words.old) }
-    ensures row { IfOk result (λ r. RowOf codes.now words.old inputs.now r) }
-    ensures room { Roomy codes.now effects.new }
-    ensures frame { length frame.new ≡ length frame.old }
+    requires few { length team.now.codes.now < 2 ^ 32 }
+    requires counted { AreCounted team.now.codes.now (length words.old) }
+    requires publish { PublishOwn team.now.codes.now words.old cycle.now.inputs.now }
+    requires own { OwnPlaces team.now.codes.now }
+    requires places { HasPlaces team.now.codes.now team.now.width }
+    requires frame { Serves team.now.codes.now (vec_len desk.old.frame) }
+    requires room { Roomy team.now.codes.now desk.old.effects.items }
+    ensures words { IfOk result (λ r. words.new ≡ published_all (round_by team.now.codes.now words.old cycle.now.inputs.now) words.old) }
+    ensures row { IfOk result (λ r. RowOf team.now.codes.now words.old cycle.now.inputs.now r) }
+    ensures room { Roomy team.now.codes.now desk.new.effects.items }
+    ensures frame { vec_len desk.new.frame ≡ vec_len desk.old.frame }
     ensures many { length words.new ≡ length words.old }
 {
-    evaluate_codes(codes, words, frame, inputs, effects, number, gate);
-    let row = output_row(alloc, codes, effects, width)?;
+    let frame = desk.frame.as_mut_slice();
+    evaluate_codes(team, cycle, words, frame, desk.effects.as_mut_slice());
+    let effects = desk.effects.as_slice();
+    let row = output_row(alloc, team.codes, effects, team.width)?;
     store_all(effects, words);
     Ok(row)
 }
 
+// Runs the codes, one cycle per input row.
 fn run_cycles<G: Gate>(
     alloc: Global,
-    codes: &[Code],
+    team: &Team<G>,
     rows: &[Row],
-    frame: &mut [u64],
-    effects: &mut [Effects],
+    desk: &mut Desk,
     words: &mut [u64],
-    width: usize,
-    first: u64,
-    gate: &G,
 ) -> Result<Rows, AllocError>
-    requires runs { Runs codes.now words.old rows.now }
-    requires numbers { first + length rows.now < 2 ^ 64 }
-    requires places { HasPlaces codes.now width }
-    requires frame { Serves codes.now (length frame.old) }
-    requires room { Roomy codes.now effects.old }
+    requires runs { Runs team.now.codes.now words.old rows.now }
+    requires numbers { team.now.first + length rows.now < 2 ^ 64 }
+    requires places { HasPlaces team.now.codes.now team.now.width }
+    requires frame { Serves team.now.codes.now (vec_len desk.old.frame) }
+    requires room { Roomy team.now.codes.now desk.old.effects.items }
     ensures many { length words.new ≡ length words.old }
-    ensures words { IfOk result (λ r. words.new ≡ values (script_of codes.now words.old rows.now) (length rows.now)) }
-    ensures outputs { IfOk result (λ r. Outputs (script_of codes.now words.old rows.now) codes.now rows.now r (length rows.now)) }
+    ensures words { IfOk result (λ r. words.new ≡ values (script_of team.now.codes.now words.old rows.now) (length rows.now)) }
+    ensures outputs { IfOk result (λ r. Outputs (script_of team.now.codes.now words.old rows.now) team.now.codes.now rows.now r (length rows.now)) }
 {
     let mut outputs = List::new(alloc);
     for cycle in 0..rows.len() {
-        let number = first + cycle as u64;
-        let row = run_cycle(
-            alloc,
-            codes,
-            &rows[cycle],
-            frame,
-            effects,
-            words,
-            width,
-            number,
-            gate,
-        )?;
+        let here = Cycle {
+            number: team.first + cycle as u64,
+            inputs: &rows[cycle],
+        };
+        let row = run_cycle(alloc, team, &here, desk, words)?;
         outputs.push(row)?;
     }
     Ok(outputs)
+}
+
+/// What an epoch is of.
+#[derive(Clone, Copy)]
+pub struct Work<'w> {
+    /// All codes of one cut.
+    pub codes: &'w List<Code>,
+    /// The words that the first cycle begins with.
+    pub words: &'w List<u64>,
+    /// The values of the inputs, a row for each cycle.
+    pub rows: &'w Rows,
 }
 
 /// Runs the codes from these words on, one cycle per input row, and gives the words behind the last cycle and a row of
@@ -234,33 +257,29 @@ fn run_cycles<G: Gate>(
 /// The codes are all codes of one cut, the words are as many as its net has, and the rows match its inputs.
 pub fn run_in_turns<G: Gate>(
     alloc: Global,
-    codes: &List<Code>,
-    words: &List<u64>,
-    rows: &Rows,
+    work: &Work<'_>,
     first: u64,
     gate: &G,
 ) -> Result<(List<u64>, Rows), AllocError>
-    requires runs { Runs codes.now words.now rows.now }
-    requires numbers { first + length rows.now < 2 ^ 64 }
-    ensures words { IfOk result (λ r. r.0 ≡ values (script_of codes.now words.now rows.now) (length rows.now)) }
-    ensures outputs { IfOk result (λ r. Outputs (script_of codes.now words.now rows.now) codes.now rows.now r.1 (length rows.now)) }
+    requires runs { Runs work.now.codes.now work.now.words.now work.now.rows.now }
+    requires numbers { first + length work.now.rows.now < 2 ^ 64 }
+    ensures words { IfOk result (λ r. r.0 ≡ values (script_of work.now.codes.now work.now.words.now work.now.rows.now) (length work.now.rows.now)) }
+    ensures outputs { IfOk result (λ r. Outputs (script_of work.now.codes.now work.now.words.now work.now.rows.now) work.now.codes.now work.now.rows.now r.1 (length work.now.rows.now)) }
 {
-    let all = codes.as_slice();
-    let width = row_width(all, words.as_slice(), rows);
-    let mut frame = Vec::from_elem(alloc, 0u64, longest_frame(all))?;
-    let mut effects = all_effects(alloc, all)?;
+    let codes = work.codes.as_slice();
+    let width = row_width(codes, work.words.as_slice(), work.rows);
+    let frame = Vec::from_elem(alloc, 0u64, longest_frame(codes))?;
+    let effects = all_effects(alloc, codes)?;
     let mut state = Vec::new(alloc);
-    state.extend_from_slice(words.as_slice())?;
-    let outputs = run_cycles(
-        alloc,
-        all,
-        rows.as_slice(),
-        frame.as_mut_slice(),
-        effects.as_mut_slice(),
-        state.as_mut_slice(),
+    state.extend_from_slice(work.words.as_slice())?;
+    let team = Team {
+        codes,
         width,
         first,
         gate,
-    )?;
+    };
+    let mut desk = Desk { frame, effects };
+    let words = state.as_mut_slice();
+    let outputs = run_cycles(alloc, &team, work.rows.as_slice(), &mut desk, words)?;
     Ok((List::from_vec(state), outputs))
 }

@@ -14,24 +14,24 @@ pub run_cycle-requires-clause-frame : goal.run_cycle-requires-clause-frame
 run_cycle-requires-clause-frame g c = record { each = λ k d h. let m = c.loop-cycle.invariant.frame in let f = c.requires.frame.each k d h in omega (arith, m, f) }
 
 pub run_cycle-requires-clause-few : goal.run_cycle-requires-clause-few
-run_cycle-requires-clause-few g c = let few = (asked_of c.args.codes.now c.args.words.now c.args.rows.now c.requires.runs).few in omega (arith, few)
+run_cycle-requires-clause-few g c = let few = (asked_of c.args.team.now.codes.now c.args.words.now c.args.rows.now c.requires.runs).few in omega (arith, few)
 
 pub run_cycle-requires-clause-counted : goal.run_cycle-requires-clause-counted
-run_cycle-requires-clause-counted g c = subst (AreCounted c.args.codes.now) (sym c.loop-cycle.invariant.many) (asked_of c.args.codes.now c.args.words.now c.args.rows.now c.requires.runs).counted
+run_cycle-requires-clause-counted g c = subst (AreCounted c.args.team.now.codes.now) (sym c.loop-cycle.invariant.many) (asked_of c.args.team.now.codes.now c.args.words.now c.args.rows.now c.requires.runs).counted
 
 pub run_cycle-requires-clause-own : goal.run_cycle-requires-clause-own
-run_cycle-requires-clause-own g c = (asked_of c.args.codes.now c.args.words.now c.args.rows.now c.requires.runs).own_places
+run_cycle-requires-clause-own g c = (asked_of c.args.team.now.codes.now c.args.words.now c.args.rows.now c.requires.runs).own_places
 
 pub run_cycle-requires-clause-publish : goal.run_cycle-requires-clause-publish
 run_cycle-requires-clause-publish g c =
-    let codes = c.args.codes.now in let rows = c.args.rows.now in let n = c.loop-cycle.cycle in let test = c.loop-cycle-test.true in
+    let codes = c.args.team.now.codes.now in let rows = c.args.rows.now in let n = c.loop-cycle.cycle in let test = c.loop-cycle-test.true in
     let at : c.index-rows-cycle.result ≡ row_at rows n = c.index-rows-cycle.is ∙ get_or_default rows n c.index-rows-cycle.result [] test in
     subst (PublishOwn codes c.loop-cycle.words) (sym at)
     (subst (λ (ws : List ℕ). PublishOwn codes ws (row_at rows n)) (sym c.loop-cycle.invariant.words) (publish_at codes c.args.words.now rows c.requires.runs n test))
 
 pub loop-cycle-preserved : goal.loop-cycle-preserved
 loop-cycle-preserved g c =
-    let codes = c.args.codes.now in let first = c.args.words.now in let rows = c.args.rows.now in let n = c.loop-cycle.cycle in let i = c.loop-cycle.invariant in let e = c.in_ok-row.ensures in
+    let codes = c.args.team.now.codes.now in let first = c.args.words.now in let rows = c.args.rows.now in let n = c.loop-cycle.cycle in let i = c.loop-cycle.invariant in let e = c.in_ok-row.ensures in
     let test = c.loop-cycle-test.true in let is = c.index-rows-cycle.is in let at : c.index-rows-cycle.result ≡ row_at rows n = is ∙ get_or_default rows n c.index-rows-cycle.result [] test in
     record {
       many = e.many ∙ i.many;

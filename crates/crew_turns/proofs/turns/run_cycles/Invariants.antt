@@ -1,4 +1,4 @@
-use Rattle.std.proofs.Common.{◌≡◌, length}
+use Rattle.std.proofs.Common.{◌≡◌, length, vec_len, vec_items}
 use Rattle.phase_core.specs.Script.{values}
 use Rattle.crew_turns.specs.Scripts.{script_of, Outputs}
 use Rattle.crew_turns.specs.Turns.{Roomy}
@@ -7,8 +7,8 @@ use Rattle.crew_turns.proofs.turns.run_cycles.Given as goal
 abbrev pub invariant-loop-cycle : goal.invariant-loop-cycle
 invariant-loop-cycle g l = record {
   many : length l.words ≡ length l.initial.words;
-  words : l.words ≡ values (script_of l.codes l.initial.words l.rows) l.cycle;
-  outputs : Outputs (script_of l.codes l.initial.words l.rows) l.codes l.rows l.outputs l.cycle;
-  room : Roomy l.codes l.effects;
-  frame : length l.frame ≡ length l.initial.frame;
+  words : l.words ≡ values (script_of l.team.codes.now l.initial.words l.rows) l.cycle;
+  outputs : Outputs (script_of l.team.codes.now l.initial.words l.rows) l.team.codes.now l.rows l.outputs l.cycle;
+  room : Roomy l.team.codes.now (vec_items l.desk.effects);
+  frame : vec_len l.desk.frame ≡ vec_len l.initial.desk.frame;
 }
