@@ -4,7 +4,7 @@ ghost use Rattle.std.specs.Prelude.{◌≡◌, ◌+◌, ◌*◌, ◌^◌, ◌<�
 ghost use Rattle.worker_crew.specs.Crew.{Answered};
 ghost use Rattle.crew_workers.specs.Standing.{AtStart, FrameFits};
 
-use crew_workers::{Duty, Gate, Worker, drive_one};
+use crew_workers::{Duty, Gate, Stint, Worker, drive_one};
 use register_table::{Plan, RegisterTable};
 use std::snapshot::Snapshot;
 use std::sync::Wait;
@@ -50,7 +50,12 @@ fn turn<'a, N: Plan, R: Wait, G: Gate>(
 {
     if may_go(rt, start) {
         let lent = frame.as_mut_slice();
-        drive_one(rt, table, worker, lent, first, cycles, gate)
+        let stint = Stint {
+            first,
+            cycles,
+            gate,
+        };
+        drive_one(rt, table, worker, lent, &stint)
     } else {
         worker
     }
