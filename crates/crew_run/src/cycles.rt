@@ -18,7 +18,7 @@ use std::sync::Wait;
 use std::thread::Threads;
 use stimulus::rows;
 use trace_print::trace_line;
-use worker_crew::run_epoch_within;
+use worker_crew::{Machine, run_epoch_within};
 
 /// The epoch of so many cycles from a first one on, which begins with these words.
 pub fn run_cycles<R: Threads + Wait + Sync, G: Gate + Sync>(
@@ -40,16 +40,13 @@ pub fn run_cycles<R: Threads + Wait + Sync, G: Gate + Sync>(
     ensures closed { IfOk result (λ told. closed_script told.closed ≡ script_of crew.now.codes words.now (rows_from crew.now.plan.now.ports.now crew.now.plan.now.stimulus.now.settings first count)) }
 {
     let inputs = rows(alloc, crew.plan.stimulus, crew.plan.ports, first, count)?;
-    let epoch = run_epoch_within(
-        crew.rt,
-        alloc,
-        &crew.codes,
-        words,
-        &inputs,
+    let machine = Machine {
+        rt: crew.rt,
+        gate: crew.gate,
         first,
-        crew.plan.threads,
-        crew.gate,
-    )?;
+        threads: crew.plan.threads,
+    };
+    let epoch = run_epoch_within(alloc, &machine, &crew.codes, words, &inputs)?;
     let lines = lines_of(alloc, first, epoch.outputs.as_slice())?;
     Ok(Told {
         words: epoch.words,

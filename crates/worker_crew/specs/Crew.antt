@@ -10,6 +10,7 @@ use Rattle.crew_workers.specs.declared.worker.Worker.{Worker}
 use Rattle.crew_workers.specs.declared.worker.Duty.{Duty}
 use Rattle.crew_workers.specs.Codes.{Recorded}
 use Rattle.crew_workers.specs.Standing.{AtStart, AtEnd}
+use Rattle.worker_crew.specs.declared.crew.Shared.{Shared}
 
 -- what the workers of an epoch have in common: the codes, the input rows and the length of a frame
 pub record Task : Type 0 where
@@ -28,25 +29,28 @@ pub record IsDuty (t : Task) (duty : Duty) : Type 0 where
   pub frame : frame_length duty.code.now ≤ t.room
 
 module _ {N : Type 0} {p : Ghosts N} where
+  abbrev pub task_of : Shared N p → Task
+  task_of s = task s.codes.now s.rows.now s.room
+
   -- what a thread that was lent a worker answers: it did nothing, or all
   abbrev pub Answered : RegisterTable N p → Duty → Worker N p → Type 0
   Answered table duty w = (w.desk.duty ≡ duty) × (AtStart table w ⊎ AtEnd table w)
 
-  pub record Fresh (table : RegisterTable N p) (t : Task) (w : Worker N p) : Type 0 where
-    pub at : AtStart table w
-    pub duty : IsDuty t w.desk.duty
+  pub record Fresh (s : Shared N p) (w : Worker N p) : Type 0 where
+    pub at : AtStart s.table.now w
+    pub duty : IsDuty (task_of s) w.desk.duty
 
-  pub record Done (table : RegisterTable N p) (t : Task) (w : Worker N p) : Type 0 where
-    pub at : AtEnd table w
-    pub duty : IsDuty t w.desk.duty
+  pub record Done (s : Shared N p) (w : Worker N p) : Type 0 where
+    pub at : AtEnd s.table.now w
+    pub duty : IsDuty (task_of s) w.desk.duty
 
   -- a place for the worker k: empty, or with that worker at its end
-  abbrev pub PlaceOk : RegisterTable N p → Task → ℕ → Option (Worker N p) → Type 0
-  PlaceOk table t k None = Unit {0}
-  PlaceOk table t k (Some w) = Done table t w × (w.desk.duty.number ≡ k)
+  abbrev pub PlaceOk : Shared N p → ℕ → Option (Worker N p) → Type 0
+  PlaceOk s k None = Unit {0}
+  PlaceOk s k (Some w) = Done s w × (w.desk.duty.number ≡ k)
 
-  abbrev pub Places : RegisterTable N p → Task → List (Option (Worker N p)) → Type 0
-  Places table t os = (k : ℕ) → k < length os → PlaceOk table t k (slice_index_or os k None)
+  abbrev pub Places : Shared N p → List (Option (Worker N p)) → Type 0
+  Places s os = (k : ℕ) → k < length os → PlaceOk s k (slice_index_or os k None)
 
 -- the outputs of each code, from the code at `from` on
 pub record Parts (s : Script) (t : Task) (parts : List (List (List Value))) (from : ℕ) : Type 0 where

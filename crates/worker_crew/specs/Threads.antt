@@ -2,12 +2,12 @@
 use Rattle.std.specs.Prelude.{◌≡◌, ℕ, ◌<◌, List, length, slice_index_or}
 use Rattle.std.specs.declared.thread.PromisedHandle.{PromisedHandle}
 use Rattle.register_table.specs.declared.plan.Plan.{Ghosts}
-use Rattle.register_table.specs.declared.table.RegisterTable.{RegisterTable}
 use Rattle.crew_workers.specs.declared.worker.Worker.{Worker}
 use Rattle.worker_crew.specs.declared.crew.Lent.{Lent}
-use Rattle.worker_crew.specs.Crew.{Task, IsDuty}
+use Rattle.worker_crew.specs.declared.crew.Shared.{Shared}
+use Rattle.worker_crew.specs.Crew.{task_of, IsDuty}
 
 module _ {N : Type 0} {p : Ghosts N} where
   -- each was lent a worker of the table, with the duty of one of these codes
-  abbrev pub Promised : RegisterTable N p → Task → List (PromisedHandle (Worker N p) (Lent N p)) → Type 0
-  Promised table t hs = (k : ℕ) (d : PromisedHandle (Worker N p) (Lent N p)) → k < length hs → ((slice_index_or hs k d).promise.table.value ≡ table) × IsDuty t (slice_index_or hs k d).promise.duty.value
+  abbrev pub Promised : Shared N p → List (PromisedHandle (Worker N p) (Lent N p)) → Type 0
+  Promised s hs = (k : ℕ) (d : PromisedHandle (Worker N p) (Lent N p)) → k < length hs → ((slice_index_or hs k d).promise.table.value ≡ s.table.now) × IsDuty (task_of s) (slice_index_or hs k d).promise.duty.value

@@ -4,7 +4,9 @@ ghost use Rattle.std.specs.Prelude.{◌≡◌, ◌+◌, ◌*◌, ◌^◌, ◌<�
 ghost use Rattle.worker_crew.specs.Crew.{Answered};
 ghost use Rattle.crew_workers.specs.Standing.{AtStart, FrameFits};
 
+use bit_words::Rows;
 use crew_workers::{Duty, Gate, Stint, Worker, drive_one};
+use flat_code::Code;
 use register_table::{Plan, RegisterTable};
 use std::snapshot::Snapshot;
 use std::sync::Wait;
@@ -31,31 +33,51 @@ fn may_go<R: Wait>(rt: &R, start: &AtomicU64) -> bool {
     false
 }
 
+// What the workers of an epoch have in common.
+#[derive(Drop)]
+pub(crate) struct Shared<'t, 'a, N: Plan> {
+    pub(crate) table: &'t RegisterTable<N>,
+    pub(crate) codes: &'a [Code],
+    pub(crate) rows: &'a Rows,
+    // The length of a frame.
+    pub(crate) room: usize,
+}
+
+// What the threads of an epoch go by.
+#[derive(Drop)]
+pub(crate) struct Orders<'t, 'a, N: Plan, R, G> {
+    pub(crate) rt: &'t R,
+    pub(crate) shared: &'t Shared<'t, 'a, N>,
+    pub(crate) stint: Stint<'t, G>,
+    // The start word of each worker.
+    pub(crate) starts: &'t [AtomicU64],
+    // The greatest number of threads.
+    pub(crate) most: usize,
+}
+
+// A worker, and the frame that it is lent.
+#[derive(Drop)]
+pub(crate) struct Equipped<'a, N: Plan> {
+    pub(crate) worker: Worker<'a, N>,
+    pub(crate) frame: Vec<u64>,
+}
+
 // Waits for the start word, and then drives the worker or gives it back.
 fn turn<'a, N: Plan, R: Wait, G: Gate>(
-    rt: &R,
-    table: &RegisterTable<N>,
+    orders: &Orders<'_, '_, N, R, G>,
     start: &AtomicU64,
-    worker: Worker<'a, N>,
-    mut frame: Vec<u64>,
-    first: u64,
-    cycles: u64,
-    gate: &G,
+    equipped: Equipped<'a, N>,
 ) -> Worker<'a, N>
-    requires cycles { cycles ≡ N.script.cycles }
-    requires numbers { first + cycles < 2 ^ 64 }
-    requires at { AtStart table.now worker }
-    requires frame { FrameFits (vec_len frame) worker }
-    ensures { Answered table.now worker.entry.desk.duty result }
+    requires cycles { orders.now.stint.cycles ≡ N.script.cycles }
+    requires numbers { orders.now.stint.first + orders.now.stint.cycles < 2 ^ 64 }
+    requires at { AtStart orders.now.shared.now.table.now equipped.worker }
+    requires frame { FrameFits (vec_len equipped.frame) equipped.worker }
+    ensures { Answered orders.now.shared.now.table.now equipped.entry.worker.desk.duty result }
 {
-    if may_go(rt, start) {
+    let Equipped { worker, mut frame } = equipped;
+    if may_go(orders.rt, start) {
         let lent = frame.as_mut_slice();
-        let stint = Stint {
-            first,
-            cycles,
-            gate,
-        };
-        drive_one(rt, table, worker, lent, &stint)
+        drive_one(orders.rt, orders.shared.table, worker, lent, &orders.stint)
     } else {
         worker
     }
@@ -75,6 +97,7 @@ impl<'a, N: Plan> Promise<Worker<'a, N>> for Lent<'a, N> {
 // Starts a thread for the worker. Where it is refused, or where none may be started, the worker comes back.
 pub(crate) fn start_one<
     's,
+    't: 's,
     'a: 's,
     E,
     N: Plan + Send + Sync,
@@ -82,34 +105,29 @@ pub(crate) fn start_one<
     G: Gate + Sync,
 >(
     scope: &Scope<'s, E>,
-    rt: &'s R,
-    table: &'s RegisterTable<N>,
+    orders: &'s Orders<'t, 'a, N, R, G>,
     start: &'s AtomicU64,
-    worker: Worker<'a, N>,
-    frame: Vec<u64>,
-    first: u64,
-    cycles: u64,
-    gate: &'s G,
+    equipped: Equipped<'a, N>,
     may_start: bool,
 ) -> Result<PromisedHandle<Worker<'a, N>, Lent<'a, N>>, Worker<'a, N>>
-    requires cycles { cycles ≡ N.script.cycles }
-    requires numbers { first + cycles < 2 ^ 64 }
-    requires at { AtStart table.now worker }
-    requires frame { FrameFits (vec_len frame) worker }
-    ensures ok { IfOk result (λ h. (h.promise.table.value ≡ table.now) × (h.promise.duty.value ≡ worker.entry.desk.duty)) }
-    ensures err { IfErr result (λ w. Answered table.now worker.entry.desk.duty w) }
+    requires cycles { orders.now.stint.cycles ≡ N.script.cycles }
+    requires numbers { orders.now.stint.first + orders.now.stint.cycles < 2 ^ 64 }
+    requires at { AtStart orders.now.shared.now.table.now equipped.worker }
+    requires frame { FrameFits (vec_len equipped.frame) equipped.worker }
+    ensures ok { IfOk result (λ h. (h.promise.table.value ≡ orders.now.shared.now.table.now) × (h.promise.duty.value ≡ equipped.entry.worker.desk.duty)) }
+    ensures err { IfErr result (λ w. Answered orders.now.shared.now.table.now equipped.entry.worker.desk.duty w) }
 {
     let lent = Lent {
-        table: Snapshot::of(table),
-        duty: Snapshot::of(worker.duty()),
+        table: Snapshot::of(orders.shared.table),
+        duty: Snapshot::of(equipped.worker.duty()),
     };
     let job = move || -> Worker<N>
-        requires cycles { cycles ≡ N.script.cycles }
-        requires numbers { first + cycles < 2 ^ 64 }
-        requires at { AtStart table.now worker }
-        requires frame { FrameFits (vec_len frame) worker }
-        ensures { Answered table.entry.now worker.entry.desk.duty result }
-    { turn(rt, table, start, worker, frame, first, cycles, gate) };
+        requires cycles { orders.now.stint.cycles ≡ N.script.cycles }
+        requires numbers { orders.now.stint.first + orders.now.stint.cycles < 2 ^ 64 }
+        requires at { AtStart orders.now.shared.now.table.now equipped.worker }
+        requires frame { FrameFits (vec_len equipped.frame) equipped.worker }
+        ensures { Answered orders.entry.now.shared.now.table.now equipped.entry.worker.desk.duty result }
+    { turn(orders, start, equipped) };
     if !may_start {
         start.store(BACK, Ordering::SeqCst);
         return Err(job());

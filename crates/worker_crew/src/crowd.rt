@@ -1,69 +1,66 @@
 //! An epoch's workers in threads, and beside the caller's own.
 
 ghost use Rattle.std.specs.Prelude.{◌≡◌, ℕ, ◌+◌, ◌*◌, ◌^◌, ◌<◌, ◌≤◌, length, vec_len, vec_capacity, MatchOption, IfSome};
-ghost use Rattle.worker_crew.specs.Crew.{task, Answered, Fresh, Done, IsDuty};
+ghost use Rattle.worker_crew.specs.Crew.{task_of, Answered, Fresh, Done, IsDuty};
 ghost use Rattle.worker_crew.specs.Frames.{Frames};
 ghost use Rattle.crew_workers.specs.Standing.{Each};
 ghost use Rattle.worker_crew.specs.Numbers.{same, held, lent, Manned};
 ghost use Rattle.worker_crew.specs.Threads.{Promised};
 
 use crate::collect::{join_all, settle};
-use crate::crew::{Lent, set_go, start_one};
-use bit_words::Rows;
+use crate::crew::{Equipped, Lent, Orders, Shared, set_go, start_one};
 use crew_workers::{Gate, Worker};
-use flat_code::Code;
-use register_table::{Plan, RegisterTable};
+use register_table::Plan;
 use std::sync::Wait;
 use std::sync::atomic::AtomicU64;
 use std::thread::{PromisedHandle, Scope, Threads};
+
+// The workers that the caller holds: those that it drives itself, and those that are done.
+#[derive(Drop)]
+pub(crate) struct Roster<'a, N: Plan> {
+    pub(crate) mine: Vec<Worker<'a, N>>,
+    pub(crate) done: Vec<Worker<'a, N>>,
+}
 
 // Memory that is taken before the first start.
 #[derive(Drop)]
 pub(crate) struct Rooms<'a, N: Plan> {
     pub(crate) started: Vec<PromisedHandle<Worker<'a, N>, Lent<'a, N>>>,
-    pub(crate) mine: Vec<Worker<'a, N>>,
-    pub(crate) done: Vec<Worker<'a, N>>,
+    pub(crate) roster: Roster<'a, N>,
 }
 
 // Sorts an answer by what its thread did.
 pub(crate) fn take_answer<'a, N: Plan>(
-    table: &RegisterTable<N>,
-    codes: &[Code],
-    rows: &Rows,
-    room: usize,
+    shared: &Shared<N>,
     worker: Worker<'a, N>,
-    mine: &mut Vec<Worker<'a, N>>,
-    done: &mut Vec<Worker<'a, N>>,
+    roster: &mut Roster<'a, N>,
 )
-    requires answered { Answered table.now worker.desk.duty worker }
-    requires duty { IsDuty (task codes.now rows.now room) worker.desk.duty }
-    requires room { (vec_len mine.old < vec_capacity mine.old) × (vec_len done.old < vec_capacity done.old) }
-    requires mine { Each (Fresh table.now (task codes.now rows.now room)) mine.old.items }
-    requires done { Each (Done table.now (task codes.now rows.now room)) done.old.items }
-    ensures mine { Each (Fresh table.now (task codes.now rows.now room)) mine.new.items }
-    ensures done { Each (Done table.now (task codes.now rows.now room)) done.new.items }
-    ensures len { vec_len mine.new + vec_len done.new ≡ vec_len mine.old + vec_len done.old + 1 }
-    ensures numbers { (k : ℕ) → held k mine.new.items + held k done.new.items ≡ held k mine.old.items + held k done.old.items + same k worker.entry.desk.duty.number }
-    ensures room { (vec_capacity mine.new ≡ vec_capacity mine.old) × (vec_capacity done.new ≡ vec_capacity done.old) }
+    requires answered { Answered shared.now.table.now worker.desk.duty worker }
+    requires duty { IsDuty (task_of shared.now) worker.desk.duty }
+    requires room { (vec_len roster.old.mine < vec_capacity roster.old.mine) × (vec_len roster.old.done < vec_capacity roster.old.done) }
+    requires mine { Each (Fresh shared.now) roster.old.mine.items }
+    requires done { Each (Done shared.now) roster.old.done.items }
+    ensures mine { Each (Fresh shared.now) roster.new.mine.items }
+    ensures done { Each (Done shared.now) roster.new.done.items }
+    ensures len { vec_len roster.new.mine + vec_len roster.new.done ≡ vec_len roster.old.mine + vec_len roster.old.done + 1 }
+    ensures numbers { (k : ℕ) → held k roster.new.mine.items + held k roster.new.done.items ≡ held k roster.old.mine.items + held k roster.old.done.items + same k worker.entry.desk.duty.number }
+    ensures room { (vec_capacity roster.new.mine ≡ vec_capacity roster.old.mine) × (vec_capacity roster.new.done ≡ vec_capacity roster.old.done) }
 {
     if worker.passed() == 0 {
-        mine.push_reserved(worker);
+        roster.mine.push_reserved(worker);
     } else {
-        done.push_reserved(worker);
+        roster.done.push_reserved(worker);
     }
 }
 
 // The last of the workers.
 fn next_fresh<'a, N: Plan>(
-    table: &RegisterTable<N>,
-    codes: &[Code],
-    rows: &Rows,
-    room: usize,
+    shared: &Shared<N>,
     workers: &mut Vec<Worker<'a, N>>,
 ) -> Option<Worker<'a, N>>
-    requires { Each (Fresh table.now (task codes.now rows.now room)) workers.old.items }
-    ensures rest { Each (Fresh table.now (task codes.now rows.now room)) workers.new.items }
-    ensures last { MatchOption result (vec_len workers.new ≡ 0) (λ w. Fresh table.now (task codes.now rows.now room) w) }
+    requires { Each (Fresh shared.now) workers.old.items }
+    ensures rest { Each (Fresh shared.now) workers.new.items }
+    ensures last { MatchOption result (vec_len workers.new ≡ 0) (λ w. Fresh shared.now w) }
     ensures len { MatchOption result (vec_len workers.old ≡ 0) (λ w. vec_len workers.old ≡ vec_len workers.new + 1) }
     ensures numbers { IfSome result (λ w. (k : ℕ) → held k workers.old.items ≡ held k workers.new.items + same k w.desk.duty.number) }
 {
@@ -84,18 +81,15 @@ fn next_frame(room: usize, frames: &mut Vec<Vec<u64>>) -> Vec<u64>
 
 // Keeps the handle of a thread.
 fn keep_handle<'a, N: Plan>(
-    table: &RegisterTable<N>,
-    codes: &[Code],
-    rows: &Rows,
-    room: usize,
+    shared: &Shared<N>,
     handle: PromisedHandle<Worker<'a, N>, Lent<'a, N>>,
     started: &mut Vec<PromisedHandle<Worker<'a, N>, Lent<'a, N>>>,
 )
-    requires table { handle.promise.table.value ≡ table.now }
-    requires duty { IsDuty (task codes.now rows.now room) handle.promise.duty.value }
+    requires table { handle.promise.table.value ≡ shared.now.table.now }
+    requires duty { IsDuty (task_of shared.now) handle.promise.duty.value }
     requires room { vec_len started.old < vec_capacity started.old }
-    requires started { Promised table.now (task codes.now rows.now room) started.old.items }
-    ensures started { Promised table.now (task codes.now rows.now room) started.new.items }
+    requires started { Promised shared.now started.old.items }
+    ensures started { Promised shared.now started.new.items }
     ensures len { vec_len started.new ≡ vec_len started.old + 1 }
     ensures numbers { (k : ℕ) → lent k started.new.items ≡ lent k started.old.items + same k handle.entry.promise.duty.value.number }
     ensures room { vec_capacity started.new ≡ vec_capacity started.old }
@@ -104,60 +98,54 @@ fn keep_handle<'a, N: Plan>(
 }
 
 // Starts a thread for the worker, and keeps its handle or what comes back.
-fn start_next<'s, 'a: 's, E, N: Plan + Send + Sync, R: Threads + Wait + Sync, G: Gate + Sync>(
+fn start_next<
+    's,
+    't: 's,
+    'a: 's,
+    E,
+    N: Plan + Send + Sync,
+    R: Threads + Wait + Sync,
+    G: Gate + Sync,
+>(
     scope: &Scope<'s, E>,
-    rt: &'s R,
-    table: &'s RegisterTable<N>,
-    codes: &[Code],
-    rows: &Rows,
-    room: usize,
+    orders: &'s Orders<'t, 'a, N, R, G>,
     start: &'s AtomicU64,
-    worker: Worker<'a, N>,
-    frame: Vec<u64>,
-    started: &mut Vec<PromisedHandle<Worker<'a, N>, Lent<'a, N>>>,
-    mine: &mut Vec<Worker<'a, N>>,
-    done: &mut Vec<Worker<'a, N>>,
-    first: u64,
-    cycles: u64,
-    gate: &'s G,
-    may_start: bool,
+    equipped: Equipped<'a, N>,
+    rooms: &mut Rooms<'a, N>,
 )
-    requires cycles { cycles ≡ N.script.cycles }
-    requires numbers { first + cycles < 2 ^ 64 }
-    requires frame { vec_len frame ≡ room }
-    requires fresh { Fresh table.now (task codes.now rows.now room) worker }
-    requires room { (vec_len started.old < vec_capacity started.old) × (vec_len mine.old < vec_capacity mine.old) × (vec_len done.old < vec_capacity done.old) }
-    requires started { Promised table.now (task codes.now rows.now room) started.old.items }
-    requires mine { Each (Fresh table.now (task codes.now rows.now room)) mine.old.items }
-    requires done { Each (Done table.now (task codes.now rows.now room)) done.old.items }
-    ensures started { Promised table.now (task codes.now rows.now room) started.new.items }
-    ensures mine { Each (Fresh table.now (task codes.now rows.now room)) mine.new.items }
-    ensures done { Each (Done table.now (task codes.now rows.now room)) done.new.items }
-    ensures len { vec_len started.new + vec_len mine.new + vec_len done.new ≡ vec_len started.old + vec_len mine.old + vec_len done.old + 1 }
-    ensures numbers { (k : ℕ) → lent k started.new.items + held k mine.new.items + held k done.new.items ≡ lent k started.old.items + held k mine.old.items + held k done.old.items + same k worker.entry.desk.duty.number }
-    ensures room { (vec_capacity started.new ≡ vec_capacity started.old) × (vec_capacity mine.new ≡ vec_capacity mine.old) × (vec_capacity done.new ≡ vec_capacity done.old) }
+    requires cycles { orders.now.stint.cycles ≡ N.script.cycles }
+    requires numbers { orders.now.stint.first + orders.now.stint.cycles < 2 ^ 64 }
+    requires frame { vec_len equipped.frame ≡ orders.now.shared.now.room }
+    requires fresh { Fresh orders.now.shared.now equipped.worker }
+    requires room { (vec_len rooms.old.started < vec_capacity rooms.old.started) × (vec_len rooms.old.roster.mine < vec_capacity rooms.old.roster.mine) × (vec_len rooms.old.roster.done < vec_capacity rooms.old.roster.done) }
+    requires started { Promised orders.now.shared.now rooms.old.started.items }
+    requires mine { Each (Fresh orders.now.shared.now) rooms.old.roster.mine.items }
+    requires done { Each (Done orders.now.shared.now) rooms.old.roster.done.items }
+    ensures started { Promised orders.now.shared.now rooms.new.started.items }
+    ensures mine { Each (Fresh orders.now.shared.now) rooms.new.roster.mine.items }
+    ensures done { Each (Done orders.now.shared.now) rooms.new.roster.done.items }
+    ensures len { vec_len rooms.new.started + vec_len rooms.new.roster.mine + vec_len rooms.new.roster.done ≡ vec_len rooms.old.started + vec_len rooms.old.roster.mine + vec_len rooms.old.roster.done + 1 }
+    ensures numbers { (k : ℕ) → lent k rooms.new.started.items + held k rooms.new.roster.mine.items + held k rooms.new.roster.done.items ≡ lent k rooms.old.started.items + held k rooms.old.roster.mine.items + held k rooms.old.roster.done.items + same k equipped.entry.worker.desk.duty.number }
+    ensures room { (vec_capacity rooms.new.started ≡ vec_capacity rooms.old.started) × (vec_capacity rooms.new.roster.mine ≡ vec_capacity rooms.old.roster.mine) × (vec_capacity rooms.new.roster.done ≡ vec_capacity rooms.old.roster.done) }
 {
-    match start_one(
-        scope, rt, table, start, worker, frame, first, cycles, gate, may_start,
-    ) {
-        Ok(handle) => keep_handle(table, codes, rows, room, handle, started),
-        Err(answer) => take_answer(table, codes, rows, room, answer, mine, done),
+    let shared = orders.shared;
+    let may_start = rooms.started.len() < orders.most;
+    match start_one(scope, orders, start, equipped, may_start) {
+        Ok(handle) => keep_handle(shared, handle, &mut rooms.started),
+        Err(answer) => take_answer(shared, answer, &mut rooms.roster),
     }
 }
 
 // Keeps a worker.
 pub(crate) fn keep<'a, N: Plan>(
-    table: &RegisterTable<N>,
-    codes: &[Code],
-    rows: &Rows,
-    room: usize,
+    shared: &Shared<N>,
     worker: Worker<'a, N>,
     mine: &mut Vec<Worker<'a, N>>,
 )
-    requires fresh { Fresh table.now (task codes.now rows.now room) worker }
+    requires fresh { Fresh shared.now worker }
     requires room { vec_len mine.old < vec_capacity mine.old }
-    requires mine { Each (Fresh table.now (task codes.now rows.now room)) mine.old.items }
-    ensures mine { Each (Fresh table.now (task codes.now rows.now room)) mine.new.items }
+    requires mine { Each (Fresh shared.now) mine.old.items }
+    ensures mine { Each (Fresh shared.now) mine.new.items }
     ensures len { vec_len mine.new ≡ vec_len mine.old + 1 }
     ensures numbers { (k : ℕ) → held k mine.new.items ≡ held k mine.old.items + same k worker.entry.desk.duty.number }
     ensures room { vec_capacity mine.new ≡ vec_capacity mine.old }
@@ -165,74 +153,66 @@ pub(crate) fn keep<'a, N: Plan>(
     mine.push_reserved(worker);
 }
 
-// Starts a thread for each worker but the first, and at most `most`. The caller keeps the first, and those that come back.
-fn start_all<'s, 'a: 's, E, N: Plan + Send + Sync, R: Threads + Wait + Sync, G: Gate + Sync>(
+// Starts a thread for each worker but the first, and at most as many as the orders say. The caller keeps the first, and
+// those that come back.
+fn start_all<
+    's,
+    't: 's,
+    'a: 's,
+    E,
+    N: Plan + Send + Sync,
+    R: Threads + Wait + Sync,
+    G: Gate + Sync,
+>(
     scope: &Scope<'s, E>,
-    rt: &'s R,
-    table: &'s RegisterTable<N>,
-    codes: &[Code],
-    rows: &Rows,
-    room: usize,
-    starts: &'s [AtomicU64],
+    orders: &'s Orders<'t, 'a, N, R, G>,
     mut workers: Vec<Worker<'a, N>>,
     mut frames: Vec<Vec<u64>>,
-    started: &mut Vec<PromisedHandle<Worker<'a, N>, Lent<'a, N>>>,
-    mine: &mut Vec<Worker<'a, N>>,
-    done: &mut Vec<Worker<'a, N>>,
-    first: u64,
-    cycles: u64,
-    gate: &'s G,
-    most: usize,
+    rooms: &mut Rooms<'a, N>,
 )
-    requires cycles { cycles ≡ N.script.cycles }
-    requires numbers { first + cycles < 2 ^ 64 }
-    requires frames { (vec_len workers ≤ vec_len frames) × Frames room frames.items }
-    requires starts { vec_len workers ≤ length starts.now }
-    requires empty { (vec_len started.old ≡ 0) × (vec_len mine.old ≡ 0) × (vec_len done.old ≡ 0) }
-    requires room { (vec_len workers ≤ vec_capacity started.old) × (vec_len workers ≤ vec_capacity mine.old) × (vec_len workers ≤ vec_capacity done.old) }
-    requires fresh { Each (Fresh table.now (task codes.now rows.now room)) workers.items }
-    ensures started { Promised table.now (task codes.now rows.now room) started.new.items }
-    ensures mine { Each (Fresh table.now (task codes.now rows.now room)) mine.new.items }
-    ensures done { Each (Done table.now (task codes.now rows.now room)) done.new.items }
-    ensures len { vec_len started.new + vec_len mine.new + vec_len done.new ≡ vec_len workers.entry }
-    ensures numbers { (k : ℕ) → lent k started.new.items + held k mine.new.items + held k done.new.items ≡ held k workers.entry.items }
-    ensures room { (vec_capacity mine.new ≡ vec_capacity mine.old) × (vec_capacity done.new ≡ vec_capacity done.old) }
+    requires cycles { orders.now.stint.cycles ≡ N.script.cycles }
+    requires numbers { orders.now.stint.first + orders.now.stint.cycles < 2 ^ 64 }
+    requires frames { (vec_len workers ≤ vec_len frames) × Frames orders.now.shared.now.room frames.items }
+    requires starts { vec_len workers ≤ length orders.now.starts.now }
+    requires empty { (vec_len rooms.old.started ≡ 0) × (vec_len rooms.old.roster.mine ≡ 0) × (vec_len rooms.old.roster.done ≡ 0) }
+    requires room { (vec_len workers ≤ vec_capacity rooms.old.started) × (vec_len workers ≤ vec_capacity rooms.old.roster.mine) × (vec_len workers ≤ vec_capacity rooms.old.roster.done) }
+    requires fresh { Each (Fresh orders.now.shared.now) workers.items }
+    ensures started { Promised orders.now.shared.now rooms.new.started.items }
+    ensures mine { Each (Fresh orders.now.shared.now) rooms.new.roster.mine.items }
+    ensures done { Each (Done orders.now.shared.now) rooms.new.roster.done.items }
+    ensures len { vec_len rooms.new.started + vec_len rooms.new.roster.mine + vec_len rooms.new.roster.done ≡ vec_len workers.entry }
+    ensures numbers { (k : ℕ) → lent k rooms.new.started.items + held k rooms.new.roster.mine.items + held k rooms.new.roster.done.items ≡ held k workers.entry.items }
+    ensures room { (vec_capacity rooms.new.roster.mine ≡ vec_capacity rooms.old.roster.mine) × (vec_capacity rooms.new.roster.done ≡ vec_capacity rooms.old.roster.done) }
 {
-    while let Some(worker) = next_fresh(table, codes, rows, room, &mut workers) {
+    let shared = orders.shared;
+    while let Some(worker) = next_fresh(shared, &mut workers) {
         let number = workers.len();
         if number == 0 {
-            keep(table, codes, rows, room, worker, mine);
+            keep(shared, worker, &mut rooms.roster.mine);
         } else {
-            let start = &starts[number];
-            let frame = next_frame(room, &mut frames);
-            let may_start = started.len() < most;
-            start_next(
-                scope, rt, table, codes, rows, room, start, worker, frame, started, mine, done,
-                first, cycles, gate, may_start,
-            );
+            let start = &orders.starts[number];
+            let frame = next_frame(shared.room, &mut frames);
+            let equipped = Equipped { worker, frame };
+            start_next(scope, orders, start, equipped, rooms);
         }
     }
 }
 
-// All that the threads of an epoch are lent.
+// The workers of an epoch, with all the memory that they need.
 #[derive(Drop)]
-pub(crate) struct Job<'t, 'a, N: Plan, R, G> {
-    pub(crate) rt: &'t R,
-    pub(crate) gate: &'t G,
-    pub(crate) table: &'t RegisterTable<N>,
-    pub(crate) starts: &'t [AtomicU64],
-    pub(crate) codes: &'a [Code],
-    pub(crate) rows: &'a Rows,
-    pub(crate) room: usize,
+pub(crate) struct Hired<'a, N: Plan> {
     pub(crate) workers: Vec<Worker<'a, N>>,
     // A frame for each worker, and one for the caller.
     pub(crate) frames: Vec<Vec<u64>>,
     pub(crate) frame: Vec<u64>,
     pub(crate) rooms: Rooms<'a, N>,
-    pub(crate) first: u64,
-    pub(crate) cycles: u64,
-    // The greatest number of threads.
-    pub(crate) most: usize,
+}
+
+// What an epoch's threads are lent.
+#[derive(Drop)]
+pub(crate) struct Job<'t, 'a, N: Plan, R, G> {
+    pub(crate) orders: &'t Orders<'t, 'a, N, R, G>,
+    pub(crate) hired: Hired<'a, N>,
 }
 
 // Runs the workers to their end, in threads and beside the caller's own.
@@ -245,65 +225,36 @@ pub(crate) fn run_in<
     R: Threads + Wait + Sync,
     G: Gate + Sync,
 >(scope: &Scope<'s, E>, job: Job<'t, 'a, N, R, G>) -> Vec<Worker<'a, N>>
-    requires cycles { job.cycles ≡ N.script.cycles }
-    requires numbers { job.first + job.cycles < 2 ^ 64 }
-    requires frames { (vec_len job.workers ≤ vec_len job.frames) × Frames job.room job.frames.items }
-    requires frame { vec_len job.frame ≡ job.room }
-    requires starts { vec_len job.workers ≤ length job.starts.now }
-    requires empty { (vec_len job.rooms.started ≡ 0) × (vec_len job.rooms.mine ≡ 0) × (vec_len job.rooms.done ≡ 0) }
-    requires room { (vec_len job.workers ≤ vec_capacity job.rooms.started) × (vec_len job.workers ≤ vec_capacity job.rooms.mine) × (vec_len job.workers ≤ vec_capacity job.rooms.done) }
-    requires fresh { Each (Fresh job.table.now (task job.codes.now job.rows.now job.room)) job.workers.items }
-    requires manned { Manned (length job.codes.now) job.workers.items }
-    ensures done { Each (Done job.entry.table.now (task job.entry.codes.now job.entry.rows.now job.entry.room)) result.items }
-    ensures manned { Manned (length job.entry.codes.now) result.items }
+    requires cycles { job.orders.now.stint.cycles ≡ N.script.cycles }
+    requires numbers { job.orders.now.stint.first + job.orders.now.stint.cycles < 2 ^ 64 }
+    requires frames { (vec_len job.hired.workers ≤ vec_len job.hired.frames) × Frames job.orders.now.shared.now.room job.hired.frames.items }
+    requires frame { vec_len job.hired.frame ≡ job.orders.now.shared.now.room }
+    requires starts { vec_len job.hired.workers ≤ length job.orders.now.starts.now }
+    requires empty { (vec_len job.hired.rooms.started ≡ 0) × (vec_len job.hired.rooms.roster.mine ≡ 0) × (vec_len job.hired.rooms.roster.done ≡ 0) }
+    requires room { (vec_len job.hired.workers ≤ vec_capacity job.hired.rooms.started) × (vec_len job.hired.workers ≤ vec_capacity job.hired.rooms.roster.mine) × (vec_len job.hired.workers ≤ vec_capacity job.hired.rooms.roster.done) }
+    requires fresh { Each (Fresh job.orders.now.shared.now) job.hired.workers.items }
+    requires manned { Manned (length job.orders.now.shared.now.codes.now) job.hired.workers.items }
+    ensures done { Each (Done job.entry.orders.now.shared.now) result.items }
+    ensures manned { Manned (length job.entry.orders.now.shared.now.codes.now) result.items }
 {
-    let Job {
-        rt,
-        gate,
-        table,
-        starts,
-        codes,
-        rows,
-        room,
+    let Job { orders, hired } = job;
+    let Hired {
         workers,
         frames,
         mut frame,
-        rooms,
-        first,
-        cycles,
-        most,
-    } = job;
+        mut rooms,
+    } = hired;
+    start_all(scope, orders, workers, frames, &mut rooms);
+    set_go(orders.starts);
     let Rooms {
-        mut started,
-        mut mine,
-        mut done,
+        started,
+        mut roster,
     } = rooms;
-    start_all(
-        scope,
-        rt,
-        table,
-        codes,
-        rows,
-        room,
-        starts,
-        workers,
-        frames,
-        &mut started,
-        &mut mine,
-        &mut done,
-        first,
-        cycles,
-        gate,
-        most,
-    );
-    set_go(starts);
+    let shared = orders.shared;
     let lent = frame.as_mut_slice();
-    settle(
-        rt, table, codes, rows, room, lent, &mut mine, &mut done, first, cycles, gate,
-    );
-    join_all(rt, table, codes, rows, room, started, &mut mine, &mut done);
-    settle(
-        rt, table, codes, rows, room, lent, &mut mine, &mut done, first, cycles, gate,
-    );
+    settle(orders.rt, shared, lent, &mut roster, &orders.stint);
+    join_all(orders.rt, shared, started, &mut roster);
+    settle(orders.rt, shared, lent, &mut roster, &orders.stint);
+    let Roster { mine: _, done } = roster;
     done
 }

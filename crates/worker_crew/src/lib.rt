@@ -12,4 +12,4 @@ mod grid;
 mod hire;
 mod run;
 
-pub use run::{Epoch, run_epoch, run_epoch_within};
+pub use run::{Epoch, Machine, run_epoch, run_epoch_within};

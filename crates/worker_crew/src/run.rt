@@ -2,8 +2,9 @@
 
 ghost use Rattle.std.specs.Prelude.{◌≡◌, ℕ, ◌+◌, ◌*◌, ◌^◌, ◌<◌, ◌≤◌, length, vec_len, vec_capacity, IfOk};
 ghost use Rattle.phase_core.specs.Script.{values};
-ghost use Rattle.register_table.specs.Shown.{closed_script};
-ghost use Rattle.worker_crew.specs.Crew.{task, Fresh, Done, Places, Parts};
+ghost use Rattle.phase_core.specs.Sound.{view};
+ghost use Rattle.register_table.specs.Shown.{ComesFrom, closed_script};
+ghost use Rattle.worker_crew.specs.Crew.{task_of, Fresh, Done, Places, Parts};
 ghost use Rattle.crew_turns.specs.Turns.{Serves};
 ghost use Rattle.worker_crew.specs.Frames.{Frames};
 ghost use Rattle.worker_crew.specs.Numbers.{Manned};
@@ -12,14 +13,15 @@ ghost use Rattle.crew_turns.specs.Scripts.{script_of, Runs, Outputs};
 ghost use Rattle.crew_workers.specs.Standing.{Each};
 
 use crate::collect::{place_all, unite_all};
-use crate::crowd::{Job, Rooms, run_in};
+use crate::crew::{Orders, Shared};
+use crate::crowd::{Hired, Job, Rooms, Roster, run_in};
 use crate::grid::{fill_all, new_grid};
 use crate::hire::hire_all;
 use bit_words::{List, Row, Rows};
 use crew_turns::{longest_frame, most_published, row_width};
-use crew_workers::{Gate, Worker};
+use crew_workers::{Gate, Stint, Worker};
 use flat_code::Code;
-use register_table::{Closed, Plan, RegisterTable};
+use register_table::{Closed, Plan, Post, RegisterTable};
 use std::alloc::{AllocError, Global};
 use std::marker::Brand;
 use std::sync::Wait;
@@ -36,6 +38,19 @@ pub struct Epoch {
     pub outputs: Rows,
     /// The table that was closed.
     pub closed: Closed,
+}
+
+/// What the workers of an epoch run on.
+#[derive(Drop)]
+pub struct Machine<'m, R, G> {
+    /// What starts the threads, and waits.
+    pub rt: &'m R,
+    /// What each worker calls before an evaluation.
+    pub gate: &'m G,
+    /// The number that the gate is told of the first cycle.
+    pub first: u64,
+    /// The greatest number of threads beside the caller's.
+    pub threads: usize,
 }
 
 fn start_words(alloc: Global, many: usize) -> Result<Vec<AtomicU64>, AllocError>
@@ -62,16 +77,13 @@ fn new_frames(alloc: Global, many: usize, room: usize) -> Result<Vec<Vec<u64>>, 
 
 fn empty_places<'a, N: Plan>(
     alloc: Global,
-    table: &RegisterTable<N>,
-    codes: &[Code],
-    rows: &Rows,
-    room: usize,
+    shared: &Shared<N>,
 ) -> Result<Vec<Option<Worker<'a, N>>>, AllocError>
-    ensures many { IfOk result (λ v. vec_len v ≡ length codes.now) }
-    ensures places { IfOk result (λ v. Places table.now (task codes.now rows.now room) v.items) }
+    ensures many { IfOk result (λ v. vec_len v ≡ length shared.now.codes.now) }
+    ensures places { IfOk result (λ v. Places shared.now v.items) }
 {
     let mut places = Vec::new(alloc);
-    for _ in 0..codes.len() {
+    for _ in 0..shared.codes.len() {
         places.push(None)?;
     }
     Ok(places)
@@ -95,103 +107,127 @@ fn frame_room(codes: &[Code]) -> usize
 }
 
 // The outputs of all codes at their positions.
-fn fill_rows<N: Plan>(
-    table: &RegisterTable<N>,
-    codes: &[Code],
-    words: &[u64],
-    rows: &Rows,
-    room: usize,
-    parts: &[Rows],
-    grid: &mut [Row],
-)
-    requires script { N.script ≡ script_of codes.now words.now rows.now }
-    requires runs { Runs codes.now words.now rows.now }
-    requires all { length parts.now ≡ length codes.now }
-    requires parts { Parts N.script (task codes.now rows.now room) parts.now 0 }
-    requires many { length grid.old ≡ length rows.now }
-    requires wide { Wide codes.now grid.old }
+fn fill_rows<N: Plan>(shared: &Shared<N>, words: &[u64], parts: &[Rows], grid: &mut [Row])
+    requires script { N.script ≡ script_of shared.now.codes.now words.now shared.now.rows.now }
+    requires runs { Runs shared.now.codes.now words.now shared.now.rows.now }
+    requires all { length parts.now ≡ length shared.now.codes.now }
+    requires parts { Parts N.script (task_of shared.now) parts.now 0 }
+    requires many { length grid.old ≡ length shared.now.rows.now }
+    requires wide { Wide shared.now.codes.now grid.old }
     ensures many { length grid.new ≡ length grid.old }
-    ensures outputs { Outputs (script_of codes.now words.now rows.now) codes.now rows.now grid.new (length rows.now) }
+    ensures outputs { Outputs (script_of shared.now.codes.now words.now shared.now.rows.now) shared.now.codes.now shared.now.rows.now grid.new (length shared.now.rows.now) }
 {
-    // Only the contract speaks of the table, of the words, of the rows and of the frames.
-    let _ = table;
+    // Only the contract speaks of the words.
     let _ = words;
-    let _ = rows;
-    let _ = room;
-    fill_all(codes, parts, grid);
+    fill_all(shared.codes, parts, grid);
 }
 
 // The rows of the epoch.
 fn output_rows<N: Plan>(
-    table: &RegisterTable<N>,
-    codes: &[Code],
+    shared: &Shared<N>,
     words: &[u64],
-    rows: &Rows,
-    room: usize,
     parts: &[Rows],
     mut grid: Vec<Row>,
 ) -> Rows
-    requires script { N.script ≡ script_of codes.now words.now rows.now }
-    requires runs { Runs codes.now words.now rows.now }
-    requires all { length parts.now ≡ length codes.now }
-    requires parts { Parts N.script (task codes.now rows.now room) parts.now 0 }
-    requires many { length grid.items ≡ length rows.now }
-    requires wide { Wide codes.now grid.items }
-    ensures { Outputs (script_of codes.now words.now rows.now) codes.now rows.now result (length rows.now) }
+    requires script { N.script ≡ script_of shared.now.codes.now words.now shared.now.rows.now }
+    requires runs { Runs shared.now.codes.now words.now shared.now.rows.now }
+    requires all { length parts.now ≡ length shared.now.codes.now }
+    requires parts { Parts N.script (task_of shared.now) parts.now 0 }
+    requires many { length grid.items ≡ length shared.now.rows.now }
+    requires wide { Wide shared.now.codes.now grid.items }
+    ensures { Outputs (script_of shared.now.codes.now words.now shared.now.rows.now) shared.now.codes.now shared.now.rows.now result (length shared.now.rows.now) }
 {
-    fill_rows(table, codes, words, rows, room, parts, grid.as_mut_slice());
+    fill_rows(shared, words, parts, grid.as_mut_slice());
     List::from_vec(grid)
+}
+
+// The workers of all codes, with the memory that they need.
+fn hire_crew<'a, N: Plan>(
+    alloc: Global,
+    shared: &Shared<'_, 'a, N>,
+    words: &[u64],
+    post: Post<N>,
+) -> Result<Hired<'a, N>, AllocError>
+    requires script { N.script ≡ script_of shared.now.codes.now words.now shared.now.rows.now }
+    requires runs { Runs shared.now.codes.now words.now shared.now.rows.now }
+    requires few { length shared.now.codes.now ≤ 64 }
+    requires serves { Serves shared.now.codes.now shared.now.room }
+    requires table { ComesFrom post shared.now.table.now }
+    requires view { post.view ≡ view 0 (length shared.now.codes.now) 0 0 0 }
+    ensures many { IfOk result (λ h. vec_len h.workers ≡ length shared.now.codes.now) }
+    ensures fresh { IfOk result (λ h. Each (Fresh shared.now) h.workers.items) }
+    ensures manned { IfOk result (λ h. Manned (length shared.now.codes.now) h.workers.items) }
+    ensures frames { IfOk result (λ h. (vec_len h.workers ≤ vec_len h.frames) × Frames shared.now.room h.frames.items) }
+    ensures frame { IfOk result (λ h. vec_len h.frame ≡ shared.now.room) }
+    ensures empty { IfOk result (λ h. (vec_len h.rooms.started ≡ 0) × (vec_len h.rooms.roster.mine ≡ 0) × (vec_len h.rooms.roster.done ≡ 0)) }
+    ensures room { IfOk result (λ h. (vec_len h.workers ≤ vec_capacity h.rooms.started) × (vec_len h.workers ≤ vec_capacity h.rooms.roster.mine) × (vec_len h.workers ≤ vec_capacity h.rooms.roster.done)) }
+{
+    let many = shared.codes.len();
+    let workers = hire_all(alloc, shared, words, post)?;
+    let frames = new_frames(alloc, many, shared.room)?;
+    let frame = Vec::from_elem(alloc, 0u64, shared.room)?;
+    let roster = Roster {
+        mine: Vec::with_capacity(alloc, many)?,
+        done: Vec::with_capacity(alloc, many)?,
+    };
+    let rooms = Rooms {
+        started: Vec::with_capacity(alloc, many)?,
+        roster,
+    };
+    Ok(Hired {
+        workers,
+        frames,
+        frame,
+        rooms,
+    })
 }
 
 fn in_threads<'t, 'a, N: Plan + Send + Sync, R: Threads + Wait + Sync, G: Gate + Sync>(
     rt: &R,
     job: Job<'t, 'a, N, R, G>,
 ) -> Vec<Worker<'a, N>>
-    requires cycles { job.cycles ≡ N.script.cycles }
-    requires numbers { job.first + job.cycles < 2 ^ 64 }
-    requires frames { (vec_len job.workers ≤ vec_len job.frames) × Frames job.room job.frames.items }
-    requires frame { vec_len job.frame ≡ job.room }
-    requires starts { vec_len job.workers ≤ length job.starts.now }
-    requires empty { (vec_len job.rooms.started ≡ 0) × (vec_len job.rooms.mine ≡ 0) × (vec_len job.rooms.done ≡ 0) }
-    requires room { (vec_len job.workers ≤ vec_capacity job.rooms.started) × (vec_len job.workers ≤ vec_capacity job.rooms.mine) × (vec_len job.workers ≤ vec_capacity job.rooms.done) }
-    requires fresh { Each (Fresh job.table.now (task job.codes.now job.rows.now job.room)) job.workers.items }
-    requires manned { Manned (length job.codes.now) job.workers.items }
-    ensures done { Each (Done job.entry.table.now (task job.entry.codes.now job.entry.rows.now job.entry.room)) result.items }
-    ensures manned { Manned (length job.entry.codes.now) result.items }
+    requires cycles { job.orders.now.stint.cycles ≡ N.script.cycles }
+    requires numbers { job.orders.now.stint.first + job.orders.now.stint.cycles < 2 ^ 64 }
+    requires frames { (vec_len job.hired.workers ≤ vec_len job.hired.frames) × Frames job.orders.now.shared.now.room job.hired.frames.items }
+    requires frame { vec_len job.hired.frame ≡ job.orders.now.shared.now.room }
+    requires starts { vec_len job.hired.workers ≤ length job.orders.now.starts.now }
+    requires empty { (vec_len job.hired.rooms.started ≡ 0) × (vec_len job.hired.rooms.roster.mine ≡ 0) × (vec_len job.hired.rooms.roster.done ≡ 0) }
+    requires room { (vec_len job.hired.workers ≤ vec_capacity job.hired.rooms.started) × (vec_len job.hired.workers ≤ vec_capacity job.hired.rooms.roster.mine) × (vec_len job.hired.workers ≤ vec_capacity job.hired.rooms.roster.done) }
+    requires fresh { Each (Fresh job.orders.now.shared.now) job.hired.workers.items }
+    requires manned { Manned (length job.orders.now.shared.now.codes.now) job.hired.workers.items }
+    ensures done { Each (Done job.entry.orders.now.shared.now) result.items }
+    ensures manned { Manned (length job.entry.orders.now.shared.now.codes.now) result.items }
 {
     thread::scope(
         thread::scope_env(),
         rt,
         move |scope|
-            requires cycles { job.cycles ≡ N.script.cycles }
-            requires numbers { job.first + job.cycles < 2 ^ 64 }
-            requires frames { (vec_len job.workers ≤ vec_len job.frames) × Frames job.room job.frames.items }
-            requires frame { vec_len job.frame ≡ job.room }
-            requires starts { vec_len job.workers ≤ length job.starts.now }
-            requires empty { (vec_len job.rooms.started ≡ 0) × (vec_len job.rooms.mine ≡ 0) × (vec_len job.rooms.done ≡ 0) }
-            requires room { (vec_len job.workers ≤ vec_capacity job.rooms.started) × (vec_len job.workers ≤ vec_capacity job.rooms.mine) × (vec_len job.workers ≤ vec_capacity job.rooms.done) }
-            requires fresh { Each (Fresh job.table.now (task job.codes.now job.rows.now job.room)) job.workers.items }
-            requires manned { Manned (length job.codes.now) job.workers.items }
-            ensures done { Each (Done job.entry.table.now (task job.entry.codes.now job.entry.rows.now job.entry.room)) result.items }
-            ensures manned { Manned (length job.entry.codes.now) result.items }
+            requires cycles { job.orders.now.stint.cycles ≡ N.script.cycles }
+            requires numbers { job.orders.now.stint.first + job.orders.now.stint.cycles < 2 ^ 64 }
+            requires frames { (vec_len job.hired.workers ≤ vec_len job.hired.frames) × Frames job.orders.now.shared.now.room job.hired.frames.items }
+            requires frame { vec_len job.hired.frame ≡ job.orders.now.shared.now.room }
+            requires starts { vec_len job.hired.workers ≤ length job.orders.now.starts.now }
+            requires empty { (vec_len job.hired.rooms.started ≡ 0) × (vec_len job.hired.rooms.roster.mine ≡ 0) × (vec_len job.hired.rooms.roster.done ≡ 0) }
+            requires room { (vec_len job.hired.workers ≤ vec_capacity job.hired.rooms.started) × (vec_len job.hired.workers ≤ vec_capacity job.hired.rooms.roster.mine) × (vec_len job.hired.workers ≤ vec_capacity job.hired.rooms.roster.done) }
+            requires fresh { Each (Fresh job.orders.now.shared.now) job.hired.workers.items }
+            requires manned { Manned (length job.orders.now.shared.now.codes.now) job.hired.workers.items }
+            ensures done { Each (Done job.entry.orders.now.shared.now) result.items }
+            ensures manned { Manned (length job.entry.orders.now.shared.now.codes.now) result.items }
         { run_in(scope, job) },
     )
 }
 
 fn named_epoch<'a, N: Plan + Send + Sync, R: Threads + Wait + Sync, G: Gate + Sync>(
-    rt: &R,
     alloc: Global,
+    machine: &Machine<'_, R, G>,
     codes: &'a [Code],
     words: &[u64],
     rows: &'a Rows,
-    first: u64,
-    most: usize,
-    gate: &G,
 ) -> Result<Epoch, AllocError>
     requires script { N.script ≡ script_of codes.now words.now rows.now }
     requires runs { Runs codes.now words.now rows.now }
     requires few { length codes.now ≤ 64 }
-    requires numbers { first + length rows.now < 2 ^ 64 }
+    requires numbers { machine.now.first + length rows.now < 2 ^ 64 }
     ensures words { IfOk result (λ e. e.words ≡ values (script_of codes.now words.now rows.now) (length rows.now)) }
     ensures outputs { IfOk result (λ e. Outputs (script_of codes.now words.now rows.now) codes.now rows.now e.outputs (length rows.now)) }
     ensures closed { IfOk result (λ e. closed_script e.closed ≡ script_of codes.now words.now rows.now) }
@@ -202,40 +238,38 @@ fn named_epoch<'a, N: Plan + Send + Sync, R: Threads + Wait + Sync, G: Gate + Sy
     // That each code's publications are counted in a word, which a script asks.
     let _published = most_published(codes);
     let (table, post) = RegisterTable::<N>::open(alloc, many as u32, cycles, words)?;
-    let workers = hire_all(alloc, &table, codes, words, rows, room, post)?;
-    let places = empty_places(alloc, &table, codes, rows, room)?;
+    let shared = Shared {
+        table: &table,
+        codes,
+        rows,
+        room,
+    };
+    let hired = hire_crew(alloc, &shared, words, post)?;
+    let places = empty_places(alloc, &shared)?;
     let mut parts = empty_parts(alloc, many)?;
     let width = row_width(codes, words, rows);
     let grid = new_grid(alloc, codes, rows.len(), width)?;
     let mut last = Vec::from_elem(alloc, 0u64, words.len())?;
     let starts = start_words(alloc, many)?;
-    let frames = new_frames(alloc, many, room)?;
-    let frame = Vec::from_elem(alloc, 0u64, room)?;
-    let rooms = Rooms {
-        started: Vec::with_capacity(alloc, many)?,
-        mine: Vec::with_capacity(alloc, many)?,
-        done: Vec::with_capacity(alloc, many)?,
+    let orders = Orders {
+        rt: machine.rt,
+        shared: &shared,
+        stint: Stint {
+            first: machine.first,
+            cycles,
+            gate: machine.gate,
+        },
+        starts: starts.as_slice(),
+        most: machine.threads,
     };
     let job = Job {
-        rt,
-        gate,
-        table: &table,
-        starts: starts.as_slice(),
-        codes,
-        rows,
-        room,
-        workers,
-        frames,
-        frame,
-        rooms,
-        first,
-        cycles,
-        most,
+        orders: &orders,
+        hired,
     };
-    let done = in_threads(rt, job);
-    let places = place_all(&table, codes, rows, room, done, places);
-    let post = unite_all(&table, codes, rows, room, places, &mut parts);
-    let outputs = output_rows(&table, codes, words, rows, room, parts.as_slice(), grid);
+    let done = in_threads(machine.rt, job);
+    let places = place_all(&shared, done, places);
+    let post = unite_all(&shared, places, &mut parts);
+    let outputs = output_rows(&shared, words, parts.as_slice(), grid);
     let closed = table.finish(post, last.as_mut_slice());
     Ok(Epoch {
         words: List::from_vec(last),
@@ -264,34 +298,28 @@ pub fn run_epoch<R: Threads + Wait + Sync, G: Gate + Sync>(
     ensures outputs { IfOk result (λ e. Outputs (script_of codes.now words.now rows.now) codes.now rows.now e.outputs (length rows.now)) }
     ensures closed { IfOk result (λ e. closed_script e.closed ≡ script_of codes.now words.now rows.now) }
 {
-    run_epoch_within(rt, alloc, codes, words, rows, first, usize::MAX, gate)
+    let machine = Machine {
+        rt,
+        gate,
+        first,
+        threads: usize::MAX,
+    };
+    run_epoch_within(alloc, &machine, codes, words, rows)
 }
 
-/// The same with at most `most` threads beside the caller's.
+/// The same on a machine that may have a bound on its threads.
 pub fn run_epoch_within<R: Threads + Wait + Sync, G: Gate + Sync>(
-    rt: &R,
     alloc: Global,
+    machine: &Machine<'_, R, G>,
     codes: &List<Code>,
     words: &List<u64>,
     rows: &Rows,
-    first: u64,
-    most: usize,
-    gate: &G,
 ) -> Result<Epoch, AllocError>
     requires runs { Runs codes.now words.now rows.now }
-    requires numbers { first + length rows.now < 2 ^ 64 }
+    requires numbers { machine.now.first + length rows.now < 2 ^ 64 }
     ensures words { IfOk result (λ e. e.words ≡ values (script_of codes.now words.now rows.now) (length rows.now)) }
     ensures outputs { IfOk result (λ e. Outputs (script_of codes.now words.now rows.now) codes.now rows.now e.outputs (length rows.now)) }
     ensures closed { IfOk result (λ e. closed_script e.closed ≡ script_of codes.now words.now rows.now) }
 {
-    named_epoch::<Brand, R, G>(
-        rt,
-        alloc,
-        codes.as_slice(),
-        words.as_slice(),
-        rows,
-        first,
-        most,
-        gate,
-    )
+    named_epoch::<Brand, R, G>(alloc, machine, codes.as_slice(), words.as_slice(), rows)
 }

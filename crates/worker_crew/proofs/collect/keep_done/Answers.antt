@@ -1,11 +1,11 @@
 use Rattle.std.proofs.Common.{subst, sym, ℕ, ◌<◌, length, get_or, List}
 use Rattle.crew_workers.specs.declared.worker.Worker.{Worker}
-use Rattle.worker_crew.specs.Crew.{task, Done}
+use Rattle.worker_crew.specs.Crew.{Done}
 use Rattle.worker_crew.proofs.Crews.{each_push}
 use Rattle.worker_crew.proofs.collect.keep_done.Goals as goal
 
 pub returns-clause-done : goal.returns-clause-done
 returns-clause-done g c =
-    let P : Worker g.row.N.Denot g.N.Plan → Type 0 = Done c.args.table.now (task c.args.codes.now c.args.rows.now c.args.room) in
+    let P : Worker g.row.N.Denot g.N.Plan → Type 0 = Done c.args.shared.now in
     let E : List (Worker g.row.N.Denot g.N.Plan) → Type 0 = λ l. (k : ℕ) (d : Worker g.row.N.Denot g.N.Plan) → k < length l → P (get_or l k d) in
     subst E (sym c.push_reserved.ensures.items) (each_push P _ c.args.worker c.requires.done c.requires.worker)

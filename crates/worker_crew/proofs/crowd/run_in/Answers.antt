@@ -8,7 +8,7 @@ pub returns-clause-manned : goal.returns-clause-manned
 returns-clause-manned g c = record {
   each = λ k lt.
       let W : Type 0 = Worker g.row.N.Denot g.N.Plan in
-      let left : List W = vec_items c.settle.new.mine in
+      let left : List W = vec_items c.settle.new.roster.mine in
       let empty : length left ≡ 0 = search rules in
       let all = c.requires.manned.each k lt in
       let begun = c.start_all.ensures.numbers k in
