@@ -11,7 +11,7 @@ pub unreachable-requires : goal.unreachable-requires
 unreachable-requires c =
     let within = (memory_place c.args.work.now.plan.now.net.now c.args.work.now.plan.now.watch.now c.args.number c.args.memory c.requires.there).1 in
     let few = c.requires.memories in
-    c.in_default.ensures tt (omega (arith, within, few))
+    c.in_default.ensures (omega (arith, within, few))
 
 pub publish_memory-requires-clause-memory : goal.publish_memory-requires-clause-memory
 publish_memory-requires-clause-memory c =
