@@ -23,12 +23,7 @@ pub fn code_of(alloc: Global, slots: u32, words: u32, rows: &[Row]) -> Option<Co
     }
 }
 
-fn made_of(
-    alloc: Global,
-    slots: u32,
-    words: u32,
-    rows: &[Row],
-) -> Result<Option<Code>, AllocError>
+fn made_of(alloc: Global, slots: u32, words: u32, rows: &[Row]) -> Result<Option<Code>, AllocError>
     ensures { IfOk result (λ made. IfSome made IsSingle) }
 {
     let instrs = instrs_of(alloc, rows)?;

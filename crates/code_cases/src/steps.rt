@@ -85,9 +85,17 @@ fn published_thrice(alloc: Global, rows: &[Row], words: &[u64]) -> Option<Vec<u8
 fn a_step_publishes_the_same_in_any_order(rt: HostRuntime) {
     for (case, rows, wanted) in [
         // 255 - 15 and 255 - 51
-        ("two complements", APART, "2 240;3 204;2 240;3 204;2 240;3 204;"),
+        (
+            "two complements",
+            APART,
+            "2 240;3 204;2 240;3 204;2 240;3 204;",
+        ),
         // (15 + 255) mod 256, and 255 - 51
-        ("a sum and a complement", MIXED, "2 14;3 204;2 14;3 204;2 14;3 204;"),
+        (
+            "a sum and a complement",
+            MIXED,
+            "2 14;3 204;2 14;3 204;2 14;3 204;",
+        ),
     ] {
         let told = published_thrice(rt.alloc(), rows, &[15, 51, 0, 0]);
         expect(&rt, told, case, wanted);
