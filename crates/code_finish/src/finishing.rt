@@ -2,6 +2,8 @@
 
 ghost use Rattle.std.specs.Prelude.{◌≡◌, All, length, IfOk};
 ghost use Rattle.flat_code.specs.Meaning.{push_of as most_of, pushes};
+ghost use Rattle.flat_code.specs.Fine.{nothing};
+ghost use Rattle.flat_code.specs.Orders.{Single};
 ghost use Rattle.code_draft.specs.Drafts.{IsDraft, Stands};
 ghost use Rattle.code_finish.specs.Finishing.{IsCodeOf};
 
@@ -26,6 +28,7 @@ pub fn finish(
     ensures owned { IfOk result (λ code. code.owned ≡ owned) }
     ensures words { IfOk result (λ code. code.words ≡ draft.words) }
     ensures slots { IfOk result (λ code. code.slots ≡ draft.slots) }
+    ensures single { IfOk result (λ code. Single nothing code.ports code.wides code.instrs) }
 {
     let most = publications(draft.instrs.as_slice())?;
     Ok(Code {

@@ -19,7 +19,6 @@ use Rattle.flat_code.specs.declared.instr.Instr.{Instr}
 use Rattle.flat_code.specs.Fine.{AreFine, IsPort, IsWide, nothing, written}
 use Rattle.flat_code.specs.Orders.{Single}
 use Rattle.flat_code.specs.Codes.{published_by, outputs_by}
-use Rattle.code_order.specs.Reorders.{KeepsTables}
 use Rattle.cone_cutter.specs.Splits.{IsUnion}
 use Rattle.cone_cutter.proofs.Assembly.{cone_assigned, assigned_within}
 use Rattle.code_draft.specs.declared.draft.Draft.{Draft}
@@ -124,17 +123,6 @@ module _ (net : Net) (w : IsNet net) (watch : List ℕ) (part : CutPart) where
         outputs = λ ws is rho cycle. shows net part.assignments these shown code ws is cycle.given rho w p cycle.plain cycle.matched cycle.settled
             ∙ (map-map rho (slice_index watch) made.positions ∙ ap (map (λ k. rho (slice_index watch k))) (sym positions));
       }
-
--- a code in another order
-pub reordered_is : (net : Net) (watch : List ℕ) (part : CutPart) (old new : Code) → ((words : List ℕ) (inputs : List Value) → published_by new words inputs ≡ published_by old words inputs)
-    → ((words : List ℕ) (inputs : List Value) → outputs_by new words inputs ≡ outputs_by old words inputs) → KeepsTables old new → IsCodeOf net watch part old → IsCodeOf net watch part new
-reordered_is net watch part old new publications outputs kept is = record {
-  words = kept.words ∙ is.words;
-  positions = kept.positions ∙ is.positions;
-  owned = λ i. subst (λ (spans : List Span). IsTrue (is_among spans i) ↔ HasWordAmong net (sinks_of net watch part.sinks) i) (sym kept.owned) (is.owned i);
-  publications = λ ws inputs rho cycle. publications ws inputs ∙ is.publications ws inputs rho cycle;
-  outputs = λ ws inputs rho cycle. outputs ws inputs ∙ (is.outputs ws inputs rho cycle ∙ ap (map (λ k. rho (slice_index watch k))) (sym kept.positions));
-}
 
 -- One code after the other
 

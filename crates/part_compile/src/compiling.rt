@@ -10,7 +10,7 @@ ghost use Rattle.partition_code.specs.Codes.{AreCodesOf};
 use crate::counting::has_few_words;
 use crate::part_code::code_of;
 use bit_words::List;
-use code_order::reorder;
+use code_arrange::arrange;
 use cone_cutter::sinks_of;
 use flat_code::Code;
 use ground_net::{Cut, Ordered};
@@ -18,11 +18,8 @@ use net_sources::{captured_reads, first_words};
 use part_sinks::Plan;
 use std::alloc::{AllocError, Global};
 
-/// There are fewer leaves than this.
+/// There are fewer leaves and memories than this.
 const NUMBERS: usize = 4_294_967_296;
-
-/// Equal operations are put side by side among so many instructions.
-const WINDOW: usize = 2_048;
 
 /// The codes of the parts of a cut of a net whose assignments have an order, one for each part, for these watched leaves.
 ///
@@ -44,8 +41,9 @@ pub fn compile(
     let net = &ordered.net;
     let reads = captured_reads(alloc, net)?;
     let leaves = net.leaves.len();
+    let memories = net.memories.len();
     let few = has_few_words(net, reads.len());
-    if leaves >= NUMBERS || !few {
+    if leaves >= NUMBERS || memories >= NUMBERS || !few {
         return Err(AllocError);
     }
     let words = first_words(alloc, net)?;
@@ -59,7 +57,7 @@ pub fn compile(
     let mut codes = List::new(alloc);
     for part in cut.parts.as_slice() {
         let code = code_of(alloc, &plan, sinks.as_slice(), part)?;
-        codes.push(reorder(alloc, code, WINDOW)?)?;
+        codes.push(arrange(alloc, code)?)?;
     }
     Ok(codes)
 }

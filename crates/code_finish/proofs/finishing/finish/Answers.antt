@@ -22,3 +22,6 @@ invariant_of-result c =
 
 pub returns-clause-effects : goal.returns-clause-effects
 returns-clause-effects c = has_effects _ c.args.draft c.args.shown c.requires.draft refl refl refl refl refl
+
+pub returns-clause-single : goal.returns-clause-single
+returns-clause-single c = c.requires.draft.single

@@ -1,4 +1,4 @@
-use Rattle.std.proofs.Common.{refl}
+use Rattle.std.proofs.Common.{refl, arith}
 use Rattle.ground_net.specs.Cones.{A_memory}
 use Rattle.part_sinks.proofs.Places.{memory_place}
 use Rattle.part_sinks.proofs.Shaping.{one_has_words}
@@ -6,6 +6,12 @@ use Rattle.part_sinks.proofs.Making.{kept_adds}
 use Rattle.part_compile.proofs.Keeping.{has_memory}
 use Rattle.part_compile.proofs.OneByOne.{memory_tells}
 use Rattle.part_compile.proofs.adding.add_memory.Goals as goal
+
+pub unreachable-requires : goal.unreachable-requires
+unreachable-requires c =
+    let within = (memory_place c.args.work.now.plan.now.net.now c.args.work.now.plan.now.watch.now c.args.number c.args.memory c.requires.there).1 in
+    let few = c.requires.memories in
+    c.in_default.ensures (omega (arith, within, few))
 
 pub publish_memory-requires-clause-memory : goal.publish_memory-requires-clause-memory
 publish_memory-requires-clause-memory c =

@@ -2,7 +2,8 @@ use Rattle.std.proofs.Common.{◌≡◌, ◌+◌, ◌<◌, length, take, slice_g
 use Rattle.std.proofs.lemmas.List.{take_all}
 use Rattle.std.proofs.lemmas.Option.{slice_get-get_or}
 use Rattle.partition_code.specs.Codes.{AreCodesOf}
-use Rattle.part_compile.proofs.Composing.{codes_none, reordered_is, codes_more}
+use Rattle.place_laws.proofs.Placed.{placed_is_code}
+use Rattle.part_compile.proofs.Composing.{codes_none, codes_more}
 use Rattle.part_compile.proofs.compiling.compile.Goals as goal
 
 pub loop-part-init : goal.loop-part-init
@@ -30,8 +31,8 @@ loop-part-preserved c =
     let there : slice_get parts i ≡ Some part = ap (λ l. slice_get l i) (sym c.as_slice-part-items.ensures) ∙ (slice_get-get_or xs i part below ∙ ap Some (sym c.part-item.is)) in
     let net = c.args.ordered.now.net in
     let watch = c.args.watch.now in
-    let new = c.in_ok-reorder.field-0 in
-    let is = reordered_is net watch part c.in_ok-code.code new c.in_ok-reorder.ensures.publications c.in_ok-reorder.ensures.outputs c.in_ok-reorder.ensures.kept c.in_ok-code.ensures in
+    let new = c.in_ok-arrange.field-0 in
+    let is = placed_is_code net watch part c.in_ok-code.code new c.in_ok-code.ensures.code c.in_ok-arrange.ensures.placed in
     subst (AreCodesOf net watch (take (i + 1) parts)) (sym c.in_ok-push.ensures.ok) (codes_more net watch parts i part c.loop-part.codes new there c.loop-part.invariant is)
 
 pub returns : goal.returns

@@ -55,8 +55,8 @@ made_of-requires-clause-ready c =
     c.as_slice-2.ensures c.as_slice-3.ensures c.in_ok-assign_all.ensures.assigns in
     (goes.grows.is, goes.are, goes.grows.words ∙ counted)
 
-pub returns : goal.returns
-returns c =
+pub returns-clause-code : goal.returns-clause-code
+returns-clause-code c =
     let net = c.args.plan.now.net.now in
     let watch = c.args.plan.now.watch.now in
     let part = c.args.part.now in
@@ -69,3 +69,6 @@ returns c =
     let code = c.in_ok-code.ensures in
     code_is net w watch part c.in_ok-sources.sources c.assign_all.new.sources c.empty-draft.result c.assign_all.new.draft c.in_ok-made.made c.in_ok-code.code c.in_ok-sources.ensures start.instrs counted goes
     (are_assignments net w watch part u.sequence u.union) c.in_ok-made.ensures code.effects code.positions code.owned code.words
+
+pub returns-clause-single : goal.returns-clause-single
+returns-clause-single c = c.in_ok-code.ensures.single

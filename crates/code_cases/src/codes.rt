@@ -1,0 +1,91 @@
+//! Codes of instructions that are written by hand.
+
+ghost use Rattle.std.specs.Prelude.{◌≡◌, true, IfSome, IfOk};
+ghost use Rattle.flat_code.specs.Fine.{IsFine, AreFine};
+ghost use Rattle.code_place.specs.Live.{IsSingle};
+
+use bit_words::List;
+use code_order::writes_once;
+use flat_code::{Code, Instr, Op};
+use std::alloc::{AllocError, Global};
+
+/// An operation with its first and second number and its target. The mask is 255.
+pub type Row = (Op, u32, u32, u32);
+
+/// The code of these rows over so many slots and shared words, which shows nothing. None where they may not stand in a code or a slot is
+/// written twice.
+pub fn code_of(alloc: Global, slots: u32, words: u32, rows: &[Row]) -> Option<Code>
+    ensures { IfSome result IsSingle }
+{
+    match made_of(alloc, slots, words, rows) {
+        Ok(made) => made,
+        Err(_) => None,
+    }
+}
+
+fn made_of(alloc: Global, slots: u32, words: u32, rows: &[Row]) -> Result<Option<Code>, AllocError>
+    ensures { IfOk result (λ made. IfSome made IsSingle) }
+{
+    let instrs = instrs_of(alloc, rows)?;
+    if instrs.len() > 1_000_000 || !are_fine(instrs.as_slice(), slots, words) {
+        return Ok(None);
+    }
+    if !writes_once(alloc, &[], &[], instrs.as_slice(), slots)? {
+        return Ok(None);
+    }
+    let most = instrs.len() * 2;
+    Ok(Some(Code {
+        instrs,
+        ports: List::new(alloc),
+        wides: List::new(alloc),
+        shown: List::new(alloc),
+        positions: List::new(alloc),
+        owned: List::new(alloc),
+        slots,
+        words,
+        most,
+    }))
+}
+
+/// The instructions of these rows.
+fn instrs_of(alloc: Global, rows: &[Row]) -> Result<List<Instr>, AllocError> {
+    let mut instrs = List::new(alloc);
+    for (op, first, second, target) in rows {
+        instrs.push(Instr {
+            op: *op,
+            shift: 0,
+            first: *first,
+            second: *second,
+            third: 0,
+            target: *target,
+            mask: 255,
+        })?;
+    }
+    Ok(instrs)
+}
+
+/// Whether all of these are narrow instructions over so many slots and shared words.
+fn are_fine(instrs: &[Instr], slots: u32, words: u32) -> bool
+    ensures { result ≡ true → AreFine slots words 0 0 instrs.now }
+{
+    for instr in instrs {
+        if !is_fine(*instr, slots, words) {
+            return false;
+        }
+    }
+    true
+}
+
+/// Whether it is a narrow instruction over so many slots and shared words.
+fn is_fine(instr: Instr, slots: u32, words: u32) -> bool
+    ensures { result ≡ true → IsFine slots words 0 0 instr }
+{
+    match instr.op {
+        Op::Constant => instr.target < slots,
+        Op::Load => instr.target < slots && instr.first < words,
+        Op::Not => instr.target < slots && instr.first < slots,
+        Op::Add => instr.target < slots && instr.first < slots && instr.second < slots,
+        Op::Publish => instr.first < slots && instr.second < words,
+        _ => false,
+    }
+}

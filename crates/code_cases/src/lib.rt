@@ -1,0 +1,11 @@
+//! Cases of codes that are written by hand: their steps, another order of their instructions, and few slots.
+#![tactic(auto)]
+
+#[cfg(test)]
+mod arranging;
+#[cfg(test)]
+mod codes;
+#[cfg(test)]
+mod steps;
+#[cfg(test)]
+mod telling;
