@@ -6,3 +6,5 @@ pub mod Widened
 pub mod Alone
 pub mod Held
 pub mod Running
+pub mod Segmenting
+pub mod Joining
