@@ -8,3 +8,4 @@ pub mod Held
 pub mod Running
 pub mod Segmenting
 pub mod Joining
+pub mod Stepping
