@@ -1,10 +1,8 @@
 //! Values that are fetched: constants, shared words and inputs.
 
-ghost use Rattle.std.specs.Prelude.{◌≡◌, ◌≤◌, ◌<◌, ◌+◌, ◌^◌, ◌-◌, IfOk, OnOk};
-ghost use Rattle.flat_code.specs.Fine.{further_words};
+ghost use Rattle.std.specs.Prelude.{◌≡◌, ◌≤◌, ◌<◌, ◌+◌, ◌^◌, ◌-◌, [], IfOk, OnOk};
+ghost use Rattle.flat_code.specs.Fine.{further_words, spot_slots};
 ghost use Rattle.net_meaning.specs.Shapes.{shaped};
-ghost use Rattle.std.specs.Prelude.{[]};
-ghost use Rattle.flat_code.specs.Fine.{spot_slots};
 ghost use Rattle.code_draft.specs.Drafts.{IsDraft, Makes, IsConstant, IsWord, IsInput, with_instr};
 ghost use Rattle.code_draft.specs.Segments.{Step};
 
