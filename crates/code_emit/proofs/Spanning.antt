@@ -159,11 +159,11 @@ pub one_told : (S : Sources) (g : Ground) (a b c : Draft) (s : Spot) → Spans S
 one_told S g a b c s spans told = group_told S (g ∷ []) a b c (s ∷ []) (single_spans S g a b s spans)
     (segment_weaker b c (spot_slots s) [] (spot_slots s ++ []) [] 0 0 told (λ k e. among_left (spot_slots s) [] k e) (λ k e. e) (omega arith) (omega arith))
 
-evaluates_then : (S : Sources) (gs hs : List (List Ground)) (a b c : Draft) → Evaluates S gs a b → Evaluates S hs b c → Evaluates S (gs ++ hs) a c
+pub evaluates_then : (S : Sources) (gs hs : List (List Ground)) (a b c : Draft) → Evaluates S gs a b → Evaluates S hs b c → Evaluates S (gs ++ hs) a c
 evaluates_then S [] hs a b c f g = subst (λ d. Evaluates S hs d c) f g
 evaluates_then S (group ∷ gs) hs a b c f g = (f.0, f.1, evaluates_then S gs hs f.0 b c f.2 g)
 
-evaluated_slots : (S : Sources) (gs : List (List Ground)) (a b : Draft) → Evaluates S gs a b → a.slots ≤ b.slots
+pub evaluated_slots : (S : Sources) (gs : List (List Ground)) (a b : Draft) → Evaluates S gs a b → a.slots ≤ b.slots
 evaluated_slots S [] a b f = let same : b.slots ≡ a.slots = ap (λ (d : Draft). d.slots) f in omega (arith, same)
 evaluated_slots S (group ∷ gs) a b f = let first = f.1.slots in let rest = evaluated_slots S gs f.0 b f.2 in omega (arith, first, rest)
 

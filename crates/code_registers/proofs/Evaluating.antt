@@ -1,6 +1,6 @@
 -- Registers are evaluated one after the other.
 use Rattle.std.proofs.Common.{◌≡◌, ℕ, ◌+◌, ◌<◌, ◌≤◌, max, List, [], ◌∷◌, ◌++◌, take, get_or, length, flat_map, slice_get, Some, sym, subst, ap, ◌∙◌, arith}
-use Rattle.std.specs.Prelude.{sum}
+use Rattle.std.specs.Prelude.{sum, All}
 use Rattle.std.proofs.lemmas.List.{take_more, append-nil}
 use Rattle.std.proofs.lemmas.Grind.{flat_map-append}
 use Rattle.ground_net.specs.declared.ground.Ground.{Ground}
@@ -16,9 +16,10 @@ use Rattle.code_draft.specs.Segments.{Segment}
 use Rattle.code_emit.specs.declared.sources.Sources.{Sources}
 use Rattle.code_emit.specs.Counts.{nodes, tips}
 use Rattle.code_emit.specs.Spans.{Spans, EvaluatesAll}
+use Rattle.std.proofs.lemmas.List.Elements.{All-cons, All-nil, All-append}
 use Rattle.code_emit.proofs.Counting.{tips-Mux, tips_few, tips_some}
-use Rattle.code_emit.proofs.Spanning.{one_told, more_evaluated}
-use Rattle.code_registers.specs.Groups.{found_groups, register_groups}
+use Rattle.code_emit.proofs.Spanning.{found_later, one_told, evaluates_then, evaluated_slots, none_evaluated, more_evaluated}
+use Rattle.code_registers.specs.Groups.{found_groups, register_groups, EvaluatesOnly}
 
 pub register_evaluated : (net : Net) (S : Sources) (n : ℕ) (register : NetRegister) (g : Ground) (old mid new : Draft) (s : Spot) → slice_get net.registers n ≡ Some register
     → g ≡ next_ground register (driver_of net register.leaf) → Spans S g old mid s → Segment mid new (spot_slots s) [] 0 → EvaluatesAll S (register_groups net n) old new
@@ -44,3 +45,20 @@ choice_few a b c =
     let third = tips_few c in
     let some = tips_some a in
     omega (arith, count, first, second, third, some)
+
+-- Such groups, and more of them
+
+pub none_such : (S : Sources) (such : List Ground → Type 0) (d : Draft) → EvaluatesOnly S such d d
+none_such S such d before = ([], All-nil such, none_evaluated S d before)
+
+pub one_such : (S : Sources) (such : List Ground → Type 0) (gs : List Ground) (a b : Draft) → such gs → EvaluatesAll S (gs ∷ []) a b → EvaluatesOnly S such a b
+one_such S such gs a b h f before = (gs ∷ [], All-cons such gs [] h (All-nil such), f before)
+
+pub more_such : (S : Sources) (such : List Ground → Type 0) (a b c : Draft) → EvaluatesOnly S such a b → EvaluatesOnly S such b c → EvaluatesOnly S such a c
+more_such S such a b c f g before =
+    let first = f before in
+    let next = g (found_later S a.slots b.slots (evaluated_slots S first.0 a b first.2) before) in
+    (first.0 ++ next.0, All-append such first.0 next.0 first.1 next.1, evaluates_then S first.0 next.0 a b c first.2 next.2)
+
+pub such_too : (S : Sources) (such other : List Ground → Type 0) (a b : Draft) → ((gs : List Ground) → such gs → other gs) → EvaluatesOnly S such a b → EvaluatesOnly S other a b
+such_too S such other a b h f before = let first = f before in (first.0, λ k d lt. h (get_or first.0 k d) (first.1 k d lt), first.2)
