@@ -11,7 +11,7 @@ use Rattle.tree_sites.proofs.Seeing.{and_parts, leaves_listed}
 use Rattle.tree_sites.proofs.Typing.{located_typed}
 use Rattle.plain_run.proofs.Reading.{reads_leaf}
 
-block_there : (fitted : Fitted) → IsWellFormed fitted → (path : List ℕ) (m : TypedModule) (c : Component) → module_at (design_of fitted) path ≡ Some m → component_named m c.declaration.name ≡ Some c
+pub block_there : (fitted : Fitted) → IsWellFormed fitted → (path : List ℕ) (m : TypedModule) (c : Component) → module_at (design_of fitted) path ≡ Some m → component_named m c.declaration.name ≡ Some c
     → are_typed (known_in m) c.declaration.block ≡ true
 block_there fitted well path m c at named =
     (and_parts (are_typed (known_in m) c.declaration.block) (is_typed_sort (known_in m) c.declaration.sort && is_named c.declaration.name c.declaration.sort)

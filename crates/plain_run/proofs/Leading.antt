@@ -1,7 +1,7 @@
 -- Runs that go on from a state, and from one that is the same as far as the design's leaves show.
 use Rattle.std.proofs.Common.{◌≡◌, ℕ, ◌+◌, ◌<◌, ◌≤◌, List, [], ◌∷◌, ◌++◌, map, length, take, get_or, slice_get, Option, Some, None, refl, sym, ap, ap₂, ◌∙◌, subst, append-nil, append_assoc}
 use Rattle.std.specs.List.{filter_map, cons_option}
-use Rattle.std.proofs.lemmas.List.{map-append}
+use Rattle.std.proofs.lemmas.List.{map-append, take_more}
 use Rattle.std.proofs.lemmas.List.Elements.{filter_map-append}
 use Rattle.bit_words.specs.declared.value.Value.{Value}
 use Rattle.fir_meaning.specs.Components.{Design, Leaf}
@@ -34,10 +34,10 @@ run_of design keys own some all numbers rows inputs outputs a b c h =
 
 -- Watched leaves, one after another
 
-module _ (leaves : List Watched) (rho : Valuation) (numbers : List ℕ) (k n : ℕ) (below : k < length numbers) (is : n ≡ get_or numbers k n) where
+module _ (leaves : List Watched) (rho : Valuation) (numbers : List ℕ) (k n other : ℕ) (below : k < length numbers) (is : n ≡ get_or numbers k other) where
   one_more : (o : Option Watched) → slice_get leaves n ≡ o → row_of (filter_map (slice_get leaves) (take (k + 1) numbers)) rho ≡ row_of (filter_map (slice_get leaves) (take k numbers)) rho ++ row_of (cons_option o []) rho
   one_more o e =
-      ap (λ l. row_of (filter_map (slice_get leaves) l) rho) (taken_more numbers k n below is)
+      ap (λ l. row_of (filter_map (slice_get leaves) l) rho) (take_more numbers k other below ∙ ap (λ x. take k numbers ++ x ∷ []) (sym is))
       ∙ (ap (λ l. row_of l rho) (filter_map-append (slice_get leaves) (take k numbers) (n ∷ []) ∙ ap (λ p. filter_map (slice_get leaves) (take k numbers) ++ cons_option p []) e)
       ∙ map-append (value_of rho) (filter_map (slice_get leaves) (take k numbers)) (cons_option o []))
 

@@ -65,26 +65,6 @@ module _ (found : Option TypedModule) (ds items : List Declaration) (ts : List F
   pub leaves_all : (all : List Watched) → all ≡ flat_map leaves_kept (zipped ds ts k) → all ≡ leaves_of_ports found
   leaves_all all h = h ∙ (ap (flat_map leaves_kept) all_zipped ∙ leaves_known found (zip (map held items) ts) is)
 
--- Leaves of a component, one after another
-
+-- one item more
 pub taken_more : {A : Type 0} (xs : List A) (k : ℕ) (x : A) → k < length xs → x ≡ get_or xs k x → take (k + 1) xs ≡ take k xs ++ x ∷ []
 taken_more xs k x below is = take_more xs k x below ∙ ap (λ y. take k xs ++ y ∷ []) (sym is)
-
-module _ {A B C : Type 0} (f : A → B) (g : C → B) (given : C → Bool) (ls : List C) (k : ℕ) (leaf : C) (below : k < length ls) (is : leaf ≡ get_or ls k leaf) where
-  filtered : (b : Bool) → given leaf ≡ b → filter given (take (k + 1) ls) ≡ filter given (take k ls) ++ (if b then leaf ∷ [] else [])
-  filtered b e = ap (filter given) (taken_more ls k leaf below is) ∙ (filter-append given (take k ls) (leaf ∷ []) ∙ ap (λ t. filter given (take k ls) ++ (if t then leaf ∷ [] else [])) e)
-
-  pub given_more : (base : List B) (before after : List A) (x : A) → given leaf ≡ true → f x ≡ g leaf → after ≡ before ++ x ∷ [] → map f before ≡ base ++ map g (filter given (take k ls)) → map f after ≡ base ++ map g (filter given (take (k + 1) ls))
-  given_more base before after x e one more old =
-      ap (map f) more ∙ (map-append f before (x ∷ []) ∙ (ap (λ l. l ++ f x ∷ []) old ∙ (ap (λ y. base ++ map g (filter given (take k ls)) ++ y ∷ []) one
-      ∙ (append_assoc base (map g (filter given (take k ls))) (g leaf ∷ [])
-      ∙ sym (ap (λ l. base ++ map g l) (filtered true e) ∙ ap (λ l. base ++ l) (map-append g (filter given (take k ls)) (leaf ∷ [])))))))
-
-  pub given_less : (base all : List B) → given leaf ≡ false → all ≡ base ++ map g (filter given (take k ls)) → all ≡ base ++ map g (filter given (take (k + 1) ls))
-  given_less base all e old = old ∙ sym (ap (λ l. base ++ map g l) (filtered false e ∙ append-nil (filter given (take k ls))))
-
-  pub mapped_more : (base : List B) (before after : List A) (x : A) → f x ≡ g leaf → after ≡ before ++ x ∷ [] → map f before ≡ base ++ map g (take k ls) → map f after ≡ base ++ map g (take (k + 1) ls)
-  mapped_more base before after x one more old =
-      ap (map f) more ∙ (map-append f before (x ∷ []) ∙ (ap (λ l. l ++ f x ∷ []) old ∙ (ap (λ y. base ++ map g (take k ls) ++ y ∷ []) one
-      ∙ (append_assoc base (map g (take k ls)) (g leaf ∷ [])
-      ∙ sym (ap (λ l. base ++ map g l) (taken_more ls k leaf below is) ∙ ap (λ l. base ++ l) (map-append g (take k ls) (leaf ∷ [])))))))

@@ -1,5 +1,5 @@
 -- The leaves of main's ports, in port order (FIRRTL specification 3.0, "Ports"), and those of them that are watched.
-use Rattle.std.specs.Prelude.{ℕ, ◌&&◌, not, Bool, List, [], map, filter_map, flat_map, slice_get, Option, Some, None, if◌then◌else◌}
+use Rattle.std.specs.Prelude.{ℕ, ◌&&◌, not, Bool, List, [], map, filter, filter_map, flat_map, slice_get, Option, Some, None, if◌then◌else◌}
 use Rattle.fir_types.specs.declared.fir_type.FirType.{FirType}
 use Rattle.fir_types.specs.declared.leaf.TypeLeaf.{TypeLeaf}
 use Rattle.fir_types.specs.Leaves.{leaves}
@@ -32,6 +32,19 @@ port_leaves design = leaves_of_ports (module_named design design.main)
 abbrev pub watched_by : Design → List ℕ → List Watched
 watched_by design numbers = filter_map (slice_get (port_leaves design)) numbers
 
+-- main's leaves of flow sink that are no clocks
+abbrev pub sinks_of_port : Component → List Watched
+sinks_of_port c =
+    if is_port c.declaration.sort then map (leaf_of_main c.declaration.name) (filter (λ leaf. not (is_source (flow_of c.declaration.sort leaf.flip)) && not (is_clock leaf)) (leaves c.typ)) else []
+
+abbrev pub sinks_of : Option TypedModule → List Watched
+sinks_of (Some m) = flat_map sinks_of_port m.components
+sinks_of None = []
+
+-- The leaves that a trace watches.
+abbrev pub sinks : Design → List Watched
+sinks design = sinks_of (module_named design design.main)
+
 -- As they are held
 
 -- a component of which this is kept; its place and what stands behind it count for nothing here
@@ -51,4 +64,4 @@ leaf_held held = record { at = record { path = []; component = (leaf_of_key held
 
 -- the watched ones of leaves that are held
 abbrev pub watched_in : Watch → List Watched
-watched_in watch = filter_map (slice_get (map leaf_held watch.leaves.now)) watch.numbers.now
+watched_in watch = filter_map (slice_get (map leaf_held watch.leaves)) watch.numbers.now

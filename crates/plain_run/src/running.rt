@@ -1,8 +1,9 @@
 //! The run, cycle by cycle.
 
 ghost use Rattle.std.specs.Prelude.{◌≡◌, List as Listed, map, slice_get, option_map, option_copied, IfOk};
+ghost use Rattle.bit_words.specs.Values.{integer_of};
 ghost use Rattle.fir_meaning.specs.Components.{design_of};
-ghost use Rattle.fir_meaning.specs.States.{first_state};
+ghost use Rattle.fir_meaning.specs.States.{Trace, first_state};
 ghost use Rattle.circuit_laws.specs.WellFormed.{IsWellFormed};
 ghost use Rattle.drive_check.specs.Keys.{leaf_of_key};
 ghost use Rattle.tree_values.specs.declared.site.Site.{Site as ASite};
@@ -11,9 +12,9 @@ ghost use Rattle.sweep_runs.specs.Runs.{value_of, row_of, Runs};
 ghost use Rattle.tree_sweep.specs.Given.{given_by, inputs_in};
 ghost use Rattle.tree_sweep.specs.Runs.{IsRun, design_in, state_of};
 ghost use Rattle.plain_run.specs.Settling.{CanSettle};
-ghost use Rattle.plain_run.specs.Leaves.{leaf_held, watched_by, watched_in};
+ghost use Rattle.plain_run.specs.Leaves.{leaf_held, sinks, watched_by, watched_in};
 
-use crate::leaves::{MainLeaf, main_leaves};
+use crate::leaves::{MainLeaf, MainLeaves, main_leaves};
 use crate::settling::settled;
 use bit_words::{List, Row, Rows, Value};
 use fir_tree::Fitted;
@@ -25,9 +26,9 @@ use tree_values::fitted_value;
 use tree_values::sights::value_on;
 
 /// What is watched of a run: some of the leaves of main's ports, by their numbers.
-#[derive(Clone, Copy)]
+#[derive(Drop)]
 pub struct Watch<'a> {
-    pub leaves: &'a [MainLeaf],
+    pub leaves: List<MainLeaf>,
     pub numbers: &'a [u32],
 }
 
@@ -49,19 +50,21 @@ pub fn plain_run(
 ) -> Result<Rows, AllocError>
     requires well { IsWellFormed fitted.now }
     requires settles { CanSettle fitted.now }
-    ensures { IfOk result (λ outputs. Runs (design_of fitted.now) (watched_by (design_of fitted.now) watch.now) first_state (map (given_by (inputs_in (design_of fitted.now))) rows.now) outputs) }
+    ensures run { IfOk result (λ outputs. Runs (design_of fitted.now) (watched_by (design_of fitted.now) watch.now) first_state (map (given_by (inputs_in (design_of fitted.now))) rows.now) outputs) }
+    // where the leaves of a trace are watched, the integers of the rows are the trace
+    ensures traced { watched_by (design_of fitted.now) watch.now ≡ sinks (design_of fitted.now) → IfOk result (λ outputs. Trace (design_of fitted.now) first_state (map (given_by (inputs_in (design_of fitted.now))) rows.now) (map (map integer_of) outputs)) }
 {
-    let main = main_leaves(alloc, fitted)?;
+    let MainLeaves { inputs, ports } = main_leaves(alloc, fitted)?;
+    let watch = Watch {
+        leaves: ports,
+        numbers: watch,
+    };
     let layout = lay_out(alloc, fitted)?;
     let run = Run {
         fitted,
         sites: layout.sites.as_slice(),
         declared: layout.declared.as_slice(),
-        inputs: main.inputs.as_slice(),
-    };
-    let watch = Watch {
-        leaves: main.ports.as_slice(),
-        numbers: watch,
+        inputs: inputs.as_slice(),
     };
     run_for(alloc, &run, &watch, rows.as_slice())
 }
@@ -111,7 +114,7 @@ fn watched_row(
 {
     let mut row = List::new(alloc);
     for number in watch.numbers {
-        if let Some(leaf) = leaf_numbered(watch.leaves, *number) {
+        if let Some(leaf) = leaf_numbered(watch.leaves.as_slice(), *number) {
             row.push(value_of(run, leaf, values))?;
         }
     }

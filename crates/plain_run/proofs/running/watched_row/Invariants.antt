@@ -6,4 +6,4 @@ use Rattle.plain_run.specs.Leaves.{leaf_held}
 use Rattle.plain_run.proofs.running.watched_row.Given as goal
 
 abbrev pub invariant-loop-number : goal.invariant-loop-number
-invariant-loop-number l = l.row ≡ row_of (filter_map (slice_get (map leaf_held l.watch.leaves.now)) (take l.number-index l.watch.numbers.now)) (valuation_of l.run.sites.now l.values)
+invariant-loop-number l = l.row ≡ row_of (filter_map (slice_get (map leaf_held l.watch.leaves)) (take l.number-index l.watch.numbers.now)) (valuation_of l.run.sites.now l.values)
