@@ -64,7 +64,10 @@ fn compiled(alloc: Global, circuit: &[u8]) -> Option<Built>
     ensures settles { IfSome result (λ built. CanSettle built.fitted) }
 {
     accepted_circuits_are_well_formed();
-    compile_text(alloc, circuit).ok()
+    match compile_text(alloc, circuit) {
+        Ok(built) => Some(built),
+        Err(_) => None,
+    }
 }
 
 /// The trace of the compiled run.

@@ -14,7 +14,7 @@ struct Traces {
     compiled: Vec<u8>,
 }
 
-fn traces(alloc: Global, circuit: &str, stimulus: &str) -> Option<Traces> {
+fn traced(alloc: Global, circuit: &str, stimulus: &str) -> Option<Traces> {
     let given = read(alloc, circuit.as_bytes(), stimulus.as_bytes())?;
     let plainly = traced_plainly(alloc, &given)?;
     let compiled = traced_compiled(alloc, &given)?;
@@ -35,20 +35,20 @@ fn expect(rt: &impl Abort, told: Option<Traces>, circuit: &str, wanted: &str) {
 #[test]
 fn circuits_run_as_they_are_written(rt: HostRuntime) {
     for case in CASES {
-        let told = traces(rt.alloc(), case.circuit, case.stimulus);
+        let told = traced(rt.alloc(), case.circuit, case.stimulus);
         expect(&rt, told, case.circuit, case.trace);
     }
 }
 
-fn memory_traces(alloc: Global, lines: &str) -> Option<Traces> {
+fn traced_memory(alloc: Global, lines: &str) -> Option<Traces> {
     let circuit = format!(in alloc; "{MEMORY_FRONT}{lines}{MEMORY_REST}").ok()?;
-    traces(alloc, circuit.as_str(), MEMORY_STIMULUS)
+    traced(alloc, circuit.as_str(), MEMORY_STIMULUS)
 }
 
 // the last writer that is enabled wins
 #[test]
 fn memories_run_as_they_are_written(rt: HostRuntime) {
     for (lines, wanted) in MEMORIES {
-        expect(&rt, memory_traces(rt.alloc(), lines), lines, wanted);
+        expect(&rt, traced_memory(rt.alloc(), lines), lines, wanted);
     }
 }

@@ -1,5 +1,5 @@
 -- Parts of components that references name: their leaves are leaves of the components, of the same types.
-use Rattle.std.proofs.Common.{◌≡◌, ℕ, zero, suc, ◌<◌, ◌==◌, Bool, true, false, List, [], ◌∷◌, ◌++◌, map, fold, Option, Some, None, IsSome, ℤ, pos, negsuc, nat_lt, refl, sym, ap, ap₂, ◌∙◌, subst, arith, append_assoc, if◌then◌else◌, option_map, option_and_then, ◌⊎◌, inl, inr, true≢false}
+use Rattle.std.proofs.Common.{◌≡◌, ℕ, zero, suc, ◌<◌, ◌==◌, Bool, true, false, List, [], ◌∷◌, ◌++◌, map, fold, Option, Some, None, IsSome, ℤ, pos, negsuc, nat_lt, refl, sym, ap, ◌∙◌, subst, arith, append_assoc, if◌then◌else◌, option_map, ◌⊎◌, inl, inr, true≢false}
 use Rattle.std.specs.Prelude.{Contains}
 use Rattle.std.proofs.lemmas.Grind.{common_steps}
 use Rattle.std.proofs.lemmas.Bool.{ltb-true, cases_order}
@@ -15,10 +15,9 @@ use Rattle.fir_types.proofs.Layers.{leaves-bundle, leaves-vector, leaves-field}
 use Rattle.fir_tree.specs.declared.expr.Expr.{Expr, the_lemmas as expr_lemmas}
 use Rattle.fir_tree.specs.declared.expr.Form.{Form, fold-Form}
 use Rattle.fir_tree.specs.declared.expr.Suffix.{Suffix, ind-Suffix}
-use Rattle.fir_tree.specs.declared.expr.Form.TheOpen.{Form-F, Suffix-F, Expr-F}
+use Rattle.fir_tree.specs.declared.expr.Form.TheOpen.{Form-F, Suffix-F}
 use Rattle.fir_tree.specs.declared.expr.Form.TheFolds.{map-Form, map-Suffix, fold-roll-Suffix}
 use Rattle.fir_tree.specs.declared.expr.Form.TheViews.{roll-Suffix, out-Form}
-use Rattle.cycle_values.specs.Shapes.{Shape}
 use Rattle.fir_meaning.specs.Values as values
 use Rattle.fir_meaning.specs.Values.{Scene, Spot, InScene, value, suffix_step, part_of, further, whole, follow, element_step, field_type, element_type, or_itself, field_of_shape, element_of_shape, vector_length, spot_of, spot_of_form}
 use Rattle.fir_meaning.specs.WellTyped as kinds
@@ -71,9 +70,12 @@ further_some None o way e = absurd (none_some e)
 moved : (all : FirType) (name : ℕ) (spot : Spot) (typ next : FirType) (o : Option PathStep) → typ ≡ next → InsideAt all name spot
     → ((way : List PathStep) (st : PathStep) → o ≡ Some st → Inside all spot.typ way → Inside all next (way ++ st ∷ [])) → InsideAt all name (part_of spot typ o) × ((part_of spot typ o).typ ≡ next)
 moved all name spot typ next o same i h = (
-  (i.0, λ way e.
-      let parts = further_some spot.way o way e in
-      subst (Inside all typ) parts.4 (subst (λ t. Inside all t (parts.0 ++ parts.1 ∷ [])) (sym same) (h parts.0 parts.1 parts.3 (i.1 parts.0 parts.2)))),
+  (
+    i.0,
+    λ way e.
+        let parts = further_some spot.way o way e in
+        subst (Inside all typ) parts.4 (subst (λ t. Inside all t (parts.0 ++ parts.1 ∷ [])) (sym same) (h parts.0 parts.1 parts.3 (i.1 parts.0 parts.2))),
+  ),
   same,
 )
 

@@ -1,27 +1,22 @@
 -- Main's leaves, as they are held.
-use Rattle.std.proofs.Common.{◌≡◌, ℕ, ◌+◌, ◌<◌, ◌≤◌, min, Bool, true, false, List, [], ◌∷◌, ◌++◌, map, zip, length, take, get_or, Option, Some, None, if◌then◌else◌, refl, sym, ap, ◌∙◌, arith, append-nil, append_assoc}
-use Rattle.std.specs.Prelude.{option_map, filter, flat_map}
-use Rattle.std.proofs.lemmas.List.{map-append, take_more}
+use Rattle.std.proofs.Common.{◌≡◌, ℕ, ◌+◌, ◌<◌, ◌≤◌, min, List, [], ◌∷◌, ◌++◌, map, zip, length, take, get_or, Option, Some, None, refl, sym, ap, ◌∙◌, append-nil}
+use Rattle.std.specs.Prelude.{option_map, flat_map}
+use Rattle.std.proofs.lemmas.List.{take_more}
 use Rattle.std.proofs.lemmas.List.Concat.{flat_map-cons}
-use Rattle.std.proofs.lemmas.List.Elements.{filter-append}
 use Rattle.std.proofs.lemmas.List.Folds.{flat_map-map}
 use Rattle.std.proofs.lemmas.Grind.{flat_map-append}
 use Rattle.fir_types.specs.declared.fir_type.FirType.{FirType}
-use Rattle.fir_types.specs.declared.leaf.TypeLeaf.{TypeLeaf}
 use Rattle.fir_meaning.specs.Components.{TypedModule, Leaf}
 use Rattle.fir_meaning.proofs.Tracking.{none_some}
 use Rattle.fir_names.proofs.Graphs.{some_same}
-use Rattle.drive_check.specs.declared.leaf_set.LeafKey.{LeafKey}
-use Rattle.drive_check.specs.Keys.{leaf_of_key}
 use Rattle.sweep_runs.specs.Runs.{Watched}
 use Rattle.tree_sites.specs.declared.declarations.Declaration.{Declaration}
 use Rattle.tree_sites.specs.Held.{Kept, held}
 use Rattle.tree_sites.specs.Parts.{bare, bares}
-use Rattle.tree_sites.proofs.Lists.{zip_mapped, zip_mapped_more, take_past}
+use Rattle.tree_sites.proofs.Lists.{zip_mapped, zip_mapped_more}
 use Rattle.tree_sites.proofs.Modules.{zipped}
 use Rattle.tree_sweep.specs.Given.{inputs_of_component, inputs_of}
-use Rattle.plain_run.specs.declared.leaves.MainLeaf.{MainLeaf}
-use Rattle.plain_run.specs.Leaves.{leaves_of_port, leaves_of_ports, component_with, leaf_held}
+use Rattle.plain_run.specs.Leaves.{leaves_of_port, leaves_of_ports, component_with}
 
 -- Components, one after another
 

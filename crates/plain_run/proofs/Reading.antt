@@ -1,13 +1,10 @@
 -- What a leaf of a well formed circuit reads is a leaf of the run.
 use Rattle.std.proofs.Common.{◌≡◌, ℕ, ◌==◌, zero, suc, true, List, [], ◌∷◌, Option, Some, None, refl, sym, ap, ◌∙◌, subst, arith}
 use Rattle.std.specs.Prelude.{Contains, is_some, slice_get}
-use Rattle.fir_types.specs.declared.leaf.TypeLeaf.{TypeLeaf}
 use Rattle.fir_types.specs.declared.leaf.PathStep.{PathStep}
 use Rattle.fir_types.specs.declared.leaf.PathStep.TheVariants as step
-use Rattle.fir_types.specs.Leaves.{leaves}
 use Rattle.fir_tree.specs.declared.expr.Expr.{Expr}
 use Rattle.fir_tree.specs.declared.scope.Fitted.{Fitted}
-use Rattle.cycle_values.specs.Shapes.{Shape}
 use Rattle.fir_meaning.specs.Components.{Design, TypedModule, Component, Leaf, FlatLeaf, design_of, module_at, component_named, type_in, flat}
 use Rattle.fir_meaning.specs.Mentions.{joined, mentions}
 use Rattle.fir_meaning.specs.MemoryPorts.{memory_ports}

@@ -1,4 +1,4 @@
-use Rattle.std.proofs.Common.{◌≡◌, Some, None, map, get_or, slice_get, refl, sym, ap, ◌∙◌, arith, option_map}
+use Rattle.std.proofs.Common.{◌≡◌, map, get_or, slice_get, refl, sym, ap, ◌∙◌, arith, option_map}
 use Rattle.std.specs.Option.{option_copied}
 use Rattle.tree_values.specs.Sites.{valuation_of}
 use Rattle.plain_run.specs.Leaves.{leaf_held}
@@ -15,8 +15,8 @@ loop-number-preserved c =
     let n = get_or numbers k 0 in
     let found : slice_get leaves n ≡ option_map leaf_held (option_copied c.leaf_numbered.result) = sym (c.leaf_numbered.ensures ∙ ap (λ l. slice_get (map leaf_held l) n) c.as_slice.ensures) in
     elim c.match-leaf_numbered.branch [
-      in-Some+in_ok-push w ↦
-        shown_more leaves rho numbers k n 0 (omega arith) refl (leaf_held w.in-Some.leaf.now) w.value_of.result c.loop-number.row c.match-leaf_numbered.row
-        (found ∙ ap (λ r. option_map leaf_held (option_copied r)) w.in-Some.is) w.value_of.ensures (w.row-is ∙ w.in_ok-push.ensures.ok) c.loop-number.invariant
-    | in_default w ↦ w.row-is ∙ shown_less leaves rho numbers k n 0 (omega arith) refl c.loop-number.row (found ∙ ap (λ r. option_map leaf_held (option_copied r)) w.in_default.is) c.loop-number.invariant
+      | in-Some+in_ok-push w ↦
+          shown_more leaves rho numbers k n 0 (omega arith) refl (leaf_held w.in-Some.leaf.now) w.value_of.result c.loop-number.row c.match-leaf_numbered.row
+          (found ∙ ap (λ r. option_map leaf_held (option_copied r)) w.in-Some.is) w.value_of.ensures (w.row-is ∙ w.in_ok-push.ensures.ok) c.loop-number.invariant
+      | in_default w ↦ w.row-is ∙ shown_less leaves rho numbers k n 0 (omega arith) refl c.loop-number.row (found ∙ ap (λ r. option_map leaf_held (option_copied r)) w.in_default.is) c.loop-number.invariant
     ]

@@ -1,4 +1,4 @@
-use Rattle.std.proofs.Common.{map, length, take, sym, ap, ◌∙◌, subst, arith}
+use Rattle.std.proofs.Common.{map, take, sym, ap, ◌∙◌, subst, arith}
 use Rattle.fir_meaning.specs.States.{Settled}
 use Rattle.drive_check.specs.Keys.{leaf_of_key}
 use Rattle.sweep_laws.specs.Sweeps.{swept}
