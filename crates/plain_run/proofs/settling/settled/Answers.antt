@@ -1,12 +1,12 @@
-use Rattle.std.proofs.Common.{map, length, take, sym, ap, ◌∙◌, subst, arith}
+use Rattle.std.proofs.Common.{map, take, sym, ap, ◌∙◌, subst, arith}
 use Rattle.fir_meaning.specs.States.{Settled}
 use Rattle.drive_check.specs.Keys.{leaf_of_key}
 use Rattle.sweep_laws.specs.Sweeps.{swept}
 use Rattle.tree_sites.specs.Layouts.{all_flat}
-use Rattle.tree_sites.proofs.Seeing.{has_leaves}
 use Rattle.tree_sweep.specs.Given.{given_by}
 use Rattle.tree_sweep.specs.Runs.{design_in, state_of}
 use Rattle.plain_run.proofs.Counts.{leaf_count, none_swept, site_more, all_there}
+use Rattle.plain_run.proofs.AllLeaves.{are_leaves}
 use Rattle.plain_run.proofs.settling.settled.Goals as goal
 
 pub loop-site-init : goal.loop-site-init
@@ -32,4 +32,4 @@ returns c =
     let layout = c.requires.run.layout in
     let can = c.requires.settles in
     subst (Settled design state given) (sym (c.loop-site.invariant ∙ ap (swept design state given) (all_there design sites run.declared.now layout c.loop-site.site-index (omega arith))))
-    (c.sweeps_settle.ensures run.fitted.now (all_flat layout.all) c.requires.run.well can.initialized can.loopless (has_leaves design layout.all layout.are can.all can.leaves) state given)
+    (c.sweeps_settle.ensures run.fitted.now (all_flat layout.all) c.requires.run.well can.initialized can.loopless (are_leaves run.fitted.now c.requires.run.well layout.all layout.are) state given)

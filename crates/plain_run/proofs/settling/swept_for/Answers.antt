@@ -1,4 +1,4 @@
-use Rattle.std.proofs.Common.{◌≡◌, ◌+◌, map, ap, ◌∙◌, arith}
+use Rattle.std.proofs.Common.{◌+◌, map, ap, ◌∙◌, arith}
 use Rattle.drive_check.specs.Keys.{leaf_of_key}
 use Rattle.tree_values.specs.Sites.{valuation_of}
 use Rattle.sweep_laws.specs.Sweeps.{sweep, swept}

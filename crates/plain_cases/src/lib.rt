@@ -1,0 +1,10 @@
+//! Cases of runs on circuits as they are written: short circuits whose traces are written by hand, and are the same from the compiled
+//! run.
+#![tactic(auto)]
+
+#[cfg(test)]
+mod circuits;
+#[cfg(test)]
+mod reading;
+#[cfg(test)]
+mod runs;

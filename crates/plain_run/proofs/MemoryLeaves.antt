@@ -1,0 +1,105 @@
+-- The leaves by which a memory's port reads.
+use Rattle.std.proofs.Common.{◌≡◌, ℕ, zero, suc, true, false, List, [], ◌∷◌, map, filter_map, Option, Some, None, refl, sym, ap, ◌∙◌, subst, arith}
+use Rattle.std.specs.Prelude.{Contains}
+use Rattle.std.specs.List.{flat_map, cons_option}
+use Rattle.std.proofs.lemmas.Grind.{common_steps}
+use Rattle.place_text.specs.declared.place.Place.{Place}
+use Rattle.fir_types.specs.declared.fir_type.FirType.{FirType, the_lemmas}
+use Rattle.fir_types.specs.declared.fir_type.Field.{Field}
+use Rattle.fir_types.specs.declared.leaf.TypeLeaf.{TypeLeaf}
+use Rattle.fir_types.specs.declared.leaf.PathStep.TheVariants as step
+use Rattle.fir_types.specs.declared.memory.Memory.{Memory}
+use Rattle.fir_types.specs.declared.memory.MemLine.{MemLine}
+use Rattle.fir_types.specs.declared.memory.MemLine.TheVariants as line
+use Rattle.fir_types.specs.declared.memory.PortMode.{PortMode}
+use Rattle.fir_types.specs.declared.memory.PortMode.TheVariants as mode
+use Rattle.fir_types.specs.Leaves.{leaves, under}
+use Rattle.fir_types.specs.Memories.{depth_of}
+use Rattle.fir_types.specs.Bundles.{port_field, port_type, fields_of_mode, plain_field, uint_at, clock_at, address_bits, addr_name, en_name, clk_name, wmode_name}
+use Rattle.fir_meaning.specs.Components.{ports_bundle}
+use Rattle.fir_meaning.specs.MemoryPorts.{MemoryPort, port_in, memory_ports}
+use Rattle.fir_meaning.specs.Loops.{read_goes_by}
+use Rattle.fir_meaning.proofs.Ports.{bundle_leaves, from_filter_map, one_later}
+use Rattle.fir_meaning.proofs.Tracking.{none_some, some_same, Contains-map, Contains-flat_map}
+
+uint_leaves : (place : Place) (width : ℕ) → leaves (uint_at place width) ≡ record { path = []; flip = false; typ = uint_at place width } ∷ []
+uint_leaves place width = grind (arith, common_steps, the_lemmas)
+
+abbrev in_field : Field → List TypeLeaf
+in_field f = map (under (step.Field f.name.id ∷ []) f.flip) (leaves f.typ)
+
+-- the fields of a port
+abbrev fields_of : FirType → ℕ → PortMode → Place → List Field
+fields_of element depth m place =
+    plain_field place addr_name (uint_at place (address_bits depth)) ∷ plain_field place en_name (uint_at place 1) ∷ plain_field place clk_name (clock_at place) ∷ fields_of_mode place element m
+
+-- A field of one UInt is one leaf.
+number_leaf : (fields : List Field) (place : Place) (name width : ℕ) → Contains fields (plain_field place name (uint_at place width))
+    → (leaf : TypeLeaf) × Contains (flat_map in_field fields) leaf × (leaf.path ≡ step.Field name ∷ [])
+number_leaf fields place name width c =
+    let f : Field = plain_field place name (uint_at place width) in
+    let whole : TypeLeaf = record { path = []; flip = false; typ = uint_at place width } in
+    let there : Contains (leaves (uint_at place width)) whole = subst (λ ls. Contains ls whole) (sym (uint_leaves place width)) (0, omega arith, refl) in
+    let leaf = under (step.Field name ∷ []) false whole in
+    (leaf, Contains-flat_map in_field fields f leaf c (Contains-map (under (step.Field name ∷ []) false) (leaves (uint_at place width)) whole there), refl)
+
+module _ (element : FirType) (depth : ℕ) (place : Place) where
+  abbrev Found : PortMode → ℕ → Type 0
+  Found m by = (leaf : TypeLeaf) × Contains (flat_map in_field (fields_of element depth m place)) leaf × (leaf.path ≡ step.Field by ∷ [])
+
+  addr : (m : PortMode) → Found m addr_name
+  addr m = number_leaf (fields_of element depth m place) place addr_name (address_bits depth) (0, omega arith, refl)
+
+  en : (m : PortMode) → Found m en_name
+  en m = number_leaf (fields_of element depth m place) place en_name 1 (1, omega arith, refl)
+
+  goes_by_leaf : (m : PortMode) (by : ℕ) → Contains (read_goes_by m) by → Found m by
+  goes_by_leaf mode.Reader by (zero, below, is) = subst (Found mode.Reader) is (addr mode.Reader)
+  goes_by_leaf mode.Reader by (suc zero, below, is) = subst (Found mode.Reader) is (en mode.Reader)
+  goes_by_leaf mode.Reader by (suc (suc k), below, is) = absurd (omega arith)
+  goes_by_leaf mode.Writer by (zero, below, is) = subst (Found mode.Writer) is (addr mode.Writer)
+  goes_by_leaf mode.Writer by (suc zero, below, is) = subst (Found mode.Writer) is (en mode.Writer)
+  goes_by_leaf mode.Writer by (suc (suc k), below, is) = absurd (omega arith)
+  goes_by_leaf mode.ReadWriter by (zero, below, is) = subst (Found mode.ReadWriter) is (addr mode.ReadWriter)
+  goes_by_leaf mode.ReadWriter by (suc zero, below, is) = subst (Found mode.ReadWriter) is (en mode.ReadWriter)
+  goes_by_leaf mode.ReadWriter by (suc (suc zero), below, is) = subst (Found mode.ReadWriter) is (number_leaf (fields_of element depth mode.ReadWriter place) place wmode_name 1 (4, omega arith, refl))
+  goes_by_leaf mode.ReadWriter by (suc (suc (suc k)), below, is) = absurd (omega arith)
+
+in_cons : {A : Type 0} (o : Option A) (xs : List A) (x : A) → Contains xs x → Contains (cons_option o xs) x
+in_cons (Some z) xs x c = one_later z xs x c
+in_cons None xs x c = c
+
+in_filter_map : {A B : Type 0} (h : A → Option B) (xs : List A) (x : A) (y : B) → Contains xs x → h x ≡ Some y → Contains (filter_map h xs) y
+in_filter_map h [] x y (k, below, is) e = absurd (omega arith)
+in_filter_map h (z ∷ xs) x y (zero, below, is) e = subst (λ o. Contains (cons_option o (filter_map h xs)) y) (sym (ap h is ∙ e)) (0, omega arith, refl)
+in_filter_map h (z ∷ xs) x y (suc k, below, is) e = in_cons (h z) (filter_map h xs) y (in_filter_map h xs x y (k, omega (arith, below), is) e)
+
+-- the line of a port
+line_of : (element : FirType) (depth : ℕ) (l : MemLine) (port : MemoryPort) → port_in l ≡ Some port
+    → (f : Field) × (port_field element depth l ≡ Some f) × (f.name.id ≡ port.name) × (f.typ ≡ port_type element depth port.mode port.place)
+line_of element depth (line.MemPort at m name) port e =
+    let is = some_same _ port e in
+    (record { flip = true; name = name; typ = port_type element depth m name.place }, refl, ap (λ (p : MemoryPort). p.name) is, ap (λ (p : MemoryPort). port_type element depth p.mode p.place) is)
+line_of element depth (line.Element at t) port e = absurd (none_some e)
+line_of element depth (line.Depth at n) port e = absurd (none_some e)
+line_of element depth (line.ReadLatency at n) port e = absurd (none_some e)
+line_of element depth (line.WriteLatency at n) port e = absurd (none_some e)
+line_of element depth (line.ReadUnder at u) port e = absurd (none_some e)
+
+-- The leaves that a port's read goes by are leaves of its memory.
+pub read_leaf : (memory : Memory) (element : FirType) (port : MemoryPort) (by : ℕ) → Contains (memory_ports memory) port → Contains (read_goes_by port.mode) by
+    → (leaf : TypeLeaf) × Contains (leaves (ports_bundle memory element)) leaf × (leaf.path ≡ step.Field port.name ∷ step.Field by ∷ [])
+read_leaf memory element port by among goes =
+    let l = from_filter_map port_in memory.lines port among in
+    let at = line_of element (depth_of memory) l.0 port l.2 in
+    let fields : List Field = filter_map (port_field element (depth_of memory)) memory.lines in
+    let inner = goes_by_leaf element (depth_of memory) port.place port.mode by goes in
+    let there : Contains (leaves (port_type element (depth_of memory) port.mode port.place)) inner.0 =
+    subst (λ ls. Contains ls inner.0) (sym (bundle_leaves port.place (fields_of element (depth_of memory) port.mode port.place))) inner.1 in
+    let leaf = under (step.Field at.0.name.id ∷ []) at.0.flip inner.0 in (
+      leaf,
+      subst (λ ls. Contains ls leaf) (sym (bundle_leaves _ fields))
+          (Contains-flat_map in_field fields at.0 leaf (in_filter_map (port_field element (depth_of memory)) memory.lines l.0 at.0 l.1 at.1)
+          (Contains-map (under (step.Field at.0.name.id ∷ []) at.0.flip) (leaves at.0.typ) inner.0 (subst (λ t. Contains (leaves t) inner.0) (sym at.3) there))),
+      ap (λ n. step.Field n ∷ inner.0.path) at.2 ∙ ap (λ p. step.Field port.name ∷ p) inner.2,
+    )

@@ -1,0 +1,13 @@
+use Rattle.std.proofs.Common.{◌≡◌, map}
+use Rattle.std.specs.List.{flat_map}
+use Rattle.drive_check.specs.Keys.{leaf_of_key}
+use Rattle.tree_sites.proofs.Modules.{zipped}
+use Rattle.plain_run.specs.Leaves.{leaf_held}
+use Rattle.plain_run.proofs.Ports.{inputs_kept, leaves_kept}
+use Rattle.plain_run.proofs.leaves.main_leaves.Given as goal
+
+abbrev pub invariant-loop-at : goal.invariant-loop-at
+invariant-loop-at l = record {
+  inputs : map leaf_of_key l.main.inputs ≡ flat_map inputs_kept (zipped l.declared l.types l.at);
+  ports : map leaf_held l.main.ports ≡ flat_map leaves_kept (zipped l.declared l.types l.at);
+}

@@ -1,0 +1,44 @@
+use Rattle.std.proofs.Common.{List, map, sym, ap, ◌∙◌, subst}
+use Rattle.std.proofs.lemmas.Result.{IfOk-weaker}
+use Rattle.bit_words.specs.declared.value.Value.{Value}
+use Rattle.fir_meaning.specs.Components.{design_of}
+use Rattle.fir_meaning.specs.States.{first_state}
+use Rattle.drive_check.specs.Keys.{leaf_of_key}
+use Rattle.sweep_runs.specs.Runs.{Runs}
+use Rattle.tree_sites.specs.Layouts.{IsLayout}
+use Rattle.tree_sweep.specs.Given.{given_by, inputs_in}
+use Rattle.plain_run.specs.Leaves.{leaf_held, port_leaves}
+use Rattle.plain_run.proofs.AllLeaves.{block_there}
+use Rattle.plain_run.proofs.Leading.{run_of}
+use Rattle.plain_run.proofs.Tracing.{runs_trace}
+use Rattle.plain_run.proofs.running.plain_run.Goals as goal
+
+pub run_for-requires-clause-run : goal.run_for-requires-clause-run
+run_for-requires-clause-run c =
+    let design = design_of c.args.fitted.now in
+    record {
+      well = c.requires.well;
+      layout = subst (λ ds. IsLayout design c.as_slice.result.now ds) (sym c.as_slice-2.ensures.value) (subst (λ ss. IsLayout design ss c.in_ok-layout.layout.declared.items) (sym c.as_slice.ensures) c.in_ok-layout.ensures);
+    }
+
+pub returns-clause-run : goal.returns-clause-run
+returns-clause-run c =
+    let design = design_of c.args.fitted.now in
+    let main = c.in_ok-inputs in
+    IfOk-weaker c.run_for.result _ _
+    (λ outputs h. run_of design (map leaf_of_key c.as_slice-3.result.now) (inputs_in design) (map leaf_held main.field-0.ports) (port_leaves design) c.args.watch.now c.as_slice-4.result.now c.args.rows.now outputs
+    (ap (map leaf_of_key) c.as_slice-3.ensures ∙ main.ensures.inputs) main.ensures.ports c.as_slice-4.ensures h)
+    c.run_for.ensures
+
+pub returns-clause-traced : goal.returns-clause-traced
+returns-clause-traced c = λ same.
+    let fitted = c.args.fitted.now in
+    let design = design_of fitted in
+    let main = c.in_ok-inputs in
+    let inputs = map (given_by (inputs_in design)) c.args.rows.now in
+    IfOk-weaker c.run_for.result _ _
+    (λ (outputs : List (List Value)) h. runs_trace fitted c.requires.well (block_there fitted c.requires.well) first_state inputs
+    (subst (λ ws. Runs design ws first_state inputs outputs) same
+    (run_of design (map leaf_of_key c.as_slice-3.result.now) (inputs_in design) (map leaf_held main.field-0.ports) (port_leaves design) c.args.watch.now c.as_slice-4.result.now c.args.rows.now outputs
+    (ap (map leaf_of_key) c.as_slice-3.ensures ∙ main.ensures.inputs) main.ensures.ports c.as_slice-4.ensures h)))
+    c.run_for.ensures

@@ -1,0 +1,9 @@
+use Rattle.std.proofs.Common.{◌≡◌, map, take, slice_get}
+use Rattle.std.specs.List.{filter_map}
+use Rattle.sweep_runs.specs.Runs.{row_of}
+use Rattle.tree_values.specs.Sites.{valuation_of}
+use Rattle.plain_run.specs.Leaves.{leaf_held}
+use Rattle.plain_run.proofs.running.watched_row.Given as goal
+
+abbrev pub invariant-loop-number : goal.invariant-loop-number
+invariant-loop-number l = l.row ≡ row_of (filter_map (slice_get (map leaf_held l.watch.leaves)) (take l.number-index l.watch.numbers.now)) (valuation_of l.run.sites.now l.values)
