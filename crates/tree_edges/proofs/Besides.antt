@@ -43,10 +43,10 @@ pub record FirstMet {A B C : Type 0} (f : A → C) (test : C → Bool) (P : A �
 
 module _ {A B C : Type 0} (f : A → C) (test : C → Bool) (P : A → B → Type 0) where
   behind_one : (x : A) (xs : List A) (y : B) (ys : List B) → test (f x) ≡ false → FirstMet f test P xs ys → FirstMet f test P (x ∷ xs) (y ∷ ys)
-  behind_one x xs y ys no rest = record {
+  behind_one x xs y ys missed rest = record {
     item = rest.item;
     other = rest.other;
-    first = ap (λ t. if t then Some (f x, y) else first_beside test (map f xs) ys) no ∙ rest.first;
+    first = ap (λ t. if t then Some (f x, y) else first_beside test (map f xs) ys) missed ∙ rest.first;
     met = rest.met;
     among = one_later x xs rest.item rest.among;
     beside = rest.beside;

@@ -1,5 +1,5 @@
 -- What memories hold after the writes of a cycle, and what their ports have read.
-use Rattle.std.proofs.Common.{◌≡◌, ℕ, false, true, List, map, drop, filter_map, Option, Some, refl, sym, ap, ap₂, ◌∙◌, subst, Bor}
+use Rattle.std.proofs.Common.{◌≡◌, ℕ, false, true, List, map, drop, filter_map, Option, Some, None, refl, sym, ap, ap₂, ◌∙◌, subst, Bor}
 use Rattle.std.specs.Prelude.{Contains}
 use Rattle.std.proofs.lemmas.Bool.{eqb-true}
 use Rattle.bit_words.specs.declared.value.Value.{Value}
@@ -69,16 +69,16 @@ module _ (run : Run) (ok : IsRun run) (x : Located) (part : Part) (is : IsPart (
   all_stored : (stored : List TypeLeaf) → stored ≡ stored_leaves part.site.now.leaves → stored ≡ stored_leaves (leaves x.c.typ)
   all_stored stored q = q ∙ ap stored_leaves (leaves_are (design_in run) x part is)
 
-  pub written_is : (here : Scene) (stored : List TypeLeaf) (old new : List (List Value)) → here ≡ scene_of x.m x.path rho → before_writes s rho x ≡ contents_of (stored_leaves part.site.now.leaves) old
-      → stored ≡ stored_leaves part.site.now.leaves
-      → ((element : ℕ) (leaf : TypeLeaf) → Contains stored leaf → contents_of stored new element leaf.path ≡ after_writes m.now (here.integers m.now.name.id) (contents_of stored old) element leaf.path)
+  pub written_is : (here : Scene) (stored : List TypeLeaf) (old copy new : List (List Value)) → here ≡ scene_of x.m x.path rho → before_writes s rho x ≡ contents_of (stored_leaves part.site.now.leaves) old
+      → stored ≡ stored_leaves part.site.now.leaves → copy ≡ old
+      → ((element : ℕ) (leaf : TypeLeaf) → Contains stored leaf → contents_of stored new element leaf.path ≡ after_writes m.now (here.integers m.now.name.id) (contents_of stored copy) element leaf.path)
       → AreWritten s rho x new
-  written_is here stored old new scene held q h memory e element leaf among =
+  written_is here stored old copy new scene held q o h memory e element leaf among =
       let all = all_stored stored q in
       ap (λ l. contents_of l new element leaf.path) (sym all)
       ∙ (h element leaf (subst (λ l. Contains l leaf) (sym all) among)
-      ∙ (ap₂ (λ (k : Memory) (l : Leaves). after_writes k l (contents_of stored old) element leaf.path) (same memory e) (own_leaves memory e here scene)
-      ∙ ap (λ (k : Contents). after_writes memory (leaves_in s rho x) k element leaf.path) (ap (λ l. contents_of l old) q ∙ sym held)))
+      ∙ (ap₂ (λ (k : Memory) (l : Leaves). after_writes k l (contents_of stored copy) element leaf.path) (same memory e) (own_leaves memory e here scene)
+      ∙ ap (λ (k : Contents). after_writes memory (leaves_in s rho x) k element leaf.path) (ap₂ contents_of q o ∙ sym held)))
 
   pub reads_are : AreStored → (here : Scene) (stored ls : List TypeLeaf) (old new from : List (List Value)) (lines : List MemLine) (values : List Value) → here ≡ scene_of x.m x.path rho
       → before_writes s rho x ≡ contents_of (stored_leaves part.site.now.leaves) old → stored ≡ stored_leaves part.site.now.leaves → ls ≡ part.site.now.leaves → lines ≡ m.now.lines → AreWritten s rho x new

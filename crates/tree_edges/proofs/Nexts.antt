@@ -60,10 +60,10 @@ module _ (design : Design) (all : List Located) (are : AreAll design all) where
       }
 
 -- What is held of these components.
-pub record AreHeld (s : State) (rho : Valuation) (xs : List Located) (registers : List (List Value)) (contents : List (List (List Value))) (captured : List (List Value)) : Type 0 where
-  pub registers : Beside (AreNextIn s rho) xs registers
-  pub contents : Beside (AreWritten s rho) xs contents
-  pub captured : Beside (AreRead s rho) xs captured
+pub record AreHeld (s : State) (rho : Valuation) (xs : List Located) (values : List (List Value)) (elements : List (List (List Value))) (read : List (List Value)) : Type 0 where
+  pub registers : Beside (AreNextIn s rho) xs values
+  pub contents : Beside (AreWritten s rho) xs elements
+  pub captured : Beside (AreRead s rho) xs read
 
 module _ (design : Design) (sites : List Site) (declared : List Declaration) (layout : IsLayout design sites declared) (s : State) (rho : Valuation) where
   -- one component more

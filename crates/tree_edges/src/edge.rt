@@ -9,6 +9,7 @@ use crate::memories::next_of_memory;
 use crate::registers::next_of_leaves;
 use bit_words::{List, Value};
 use std::alloc::{AllocError, Global};
+use tree_drives::laws::shown_leaves_are_stored;
 use tree_sweep::{Held, Moment, Part, Run};
 
 /// What is held when the next cycle begins, where this was held in the cycle and the leaves of the run have these values: the next state
@@ -23,6 +24,7 @@ pub fn next_held(
     requires { IsRun run.now }
     ensures { IfOk result (λ after. SameState (design_in run.now) (state_of run.now.sites.now after) (next (design_in run.now) (state_of run.now.sites.now held.now) (valuation_of run.now.sites.now values.now))) }
 {
+    shown_leaves_are_stored();
     let moment = Moment {
         held,
         row: &[],
