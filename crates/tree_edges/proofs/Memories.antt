@@ -92,16 +92,16 @@ module _ (run : Run) (ok : IsRun run) (x : Located) (part : Part) (is : IsPart (
       let after : Contents = written_in s rho memory x in
       let reads_under : first_or under.Undefined (filter_map under_in lines) ≡ under_of memory = ap (λ l. first_or under.Undefined (filter_map under_in l)) r ∙ ap under_of (same memory e) in
       let sees : contents_of stored from ≡ taken (under_of memory) before (contents_of its new) =
-          ap (λ l. contents_of l from) all
-          ∙ (takes its ∙ ap₂ (λ (u : Under) (k : Contents). taken u k (contents_of its new)) reads_under (ap (λ l. contents_of l old) (sym all ∙ q) ∙ sym held)) in
+      ap (λ l. contents_of l from) all
+      ∙ (takes its ∙ ap₂ (λ (u : Under) (k : Contents). taken u k (contents_of its new)) reads_under (ap (λ l. contents_of l old) (sym all ∙ q) ∙ sym held)) in
       let shows : (leaf : TypeLeaf) (v : Value) → Contains (leaves x.c.typ) leaf → IsReadFrom m.now (here.integers m.now.name.id) (contents_of stored from) leaf v
-          → IsReadFrom memory own (taken (under_of memory) before after) leaf v =
-          λ leaf v among has port way turned shown.
-          let behind = shown_behind leaf.path port way shown in
-          has port way turned shown
-          ∙ (ap₂ (λ (k : Memory) (l : Leaves). read_by k l (contents_of stored from) port way) (same memory e) (own_leaves memory e here scene)
-          ∙ (ap (λ (k : Contents). read_by memory own k port way) sees
-          ∙ reads_alike memory own (under_of memory) before (contents_of its new) after port way (λ element.
-          ap (contents_of its new element) (sym behind) ∙ (written memory e element (inner_leaf leaf) (kept (leaves x.c.typ) leaf among turned) ∙ ap (after element) behind)))) in
+      → IsReadFrom memory own (taken (under_of memory) before after) leaf v =
+      λ leaf v among has port way turned shown.
+      let behind = shown_behind leaf.path port way shown in
+      has port way turned shown
+      ∙ (ap₂ (λ (k : Memory) (l : Leaves). read_by k l (contents_of stored from) port way) (same memory e) (own_leaves memory e here scene)
+      ∙ (ap (λ (k : Contents). read_by memory own k port way) sees
+      ∙ reads_alike memory own (under_of memory) before (contents_of its new) after port way (λ element.
+      ap (contents_of its new element) (sym behind) ∙ (written memory e element (inner_leaf leaf) (kept (leaves x.c.typ) leaf among turned) ∙ ap (after element) behind)))) in
       beside_weaker (IsReadFrom m.now (here.integers m.now.name.id) (contents_of stored from)) (IsReadFrom memory own (taken (under_of memory) before after)) (leaves x.c.typ) values shows
       (subst (λ l. Beside (IsReadFrom m.now (here.integers m.now.name.id) (contents_of stored from)) l values) (p ∙ leaves_are (design_in run) x part is) h)

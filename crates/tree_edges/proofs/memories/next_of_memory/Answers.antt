@@ -24,10 +24,10 @@ returns c =
     let stored = c.as_slice-2.ensures ∙ (c.in_ok-leaves.ensures ∙ ap stored_leaves c.as_slice.ensures) in
     let scene = λ (x : Located) (is : IsPart (design_in run) x part). scene_there run c.requires.run x part is c.as_slice-path.result.now c.as_slice-path.ensures moment.values.now in
     let held = λ (x : Located) (is : IsPart (design_in run) x part).
-        contents_there run c.requires.run x part is moment.held.now.contents c.as_slice-contents.result.now c.as_slice-path.result.now c.elements_on-before.result.now c.as_slice-path.ensures c.as_slice-contents.ensures c.elements_on-before.ensures in
+    contents_there run c.requires.run x part is moment.held.now.contents c.as_slice-contents.result.now c.as_slice-path.result.now c.elements_on-before.result.now c.as_slice-path.ensures c.as_slice-contents.ensures c.elements_on-before.ensures in
     let written : (x : Located) → IsPart (design_in run) x part → AreWritten s rho x c.write.new.elements =
-        λ x is. written_is run c.requires.run x part is c.in-Memory.memory c.in-Memory.is s rho _ c.as_slice-2.result.now c.elements_on-before.result.now c.in_ok-elements.elements c.write.new.elements (scene x is) (held x is) stored
-        c.in_ok-elements.ensures c.in_ok-write.ensures in
+    λ x is. written_is run c.requires.run x part is c.in-Memory.memory c.in-Memory.is s rho _ c.as_slice-2.result.now c.elements_on-before.result.now c.in_ok-elements.elements c.write.new.elements (scene x is) (held x is) stored
+    c.in_ok-elements.ensures c.in_ok-write.ensures in
     record {
       written = written;
       read = λ x is. reads_are run c.requires.run x part is c.in-Memory.memory c.in-Memory.is s rho c.shown_leaves_are_stored.ensures _ c.as_slice-2.result.now c.as_slice-5.result.now c.elements_on-before.result.now c.as_slice-4.result.now c.taken-from.result.now
