@@ -1,5 +1,5 @@
 pub mod Besides
 pub mod Steps
-pub mod Registers
-pub mod Memories
+pub mod OfRegisters
+pub mod OfMemories
 pub mod Nexts

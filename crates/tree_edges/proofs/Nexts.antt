@@ -29,7 +29,7 @@ use Rattle.tree_sweep.proofs.Parts.{part_there, so_many_sites, so_many_declared}
 use Rattle.tree_edges.specs.Edges.{Beside, IsReadFrom, next_in_leaf, AreNextIn, AreWritten, AreRead, leaves_in, before_writes, written_in}
 use Rattle.tree_edges.proofs.Besides.{FirstMet, first_met, met_itself, beside_more, beside_all}
 use Rattle.tree_edges.proofs.Steps.{way_itself, at_itself, shows_itself, shown_there, in_first, value_first, leaf_first}
-use Rattle.tree_edges.proofs.Memories.{AreStored}
+use Rattle.tree_edges.proofs.OfMemories.{AreStored}
 
 -- what stands beside a component, the first of its name at its path
 pub record Own {B : Type 0} (all : List Located) (P : Located → B → Type 0) (items : List B) (x : Located) : Type 0 where

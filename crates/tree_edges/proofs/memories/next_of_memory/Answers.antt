@@ -5,7 +5,7 @@ use Rattle.tree_sweep.specs.Runs.{IsPart, design_in, state_at, values_at}
 use Rattle.tree_edges.specs.Edges.{AreWritten}
 use Rattle.tree_sweep.proofs.Views.{sort_is, scene_there}
 use Rattle.tree_sweep.proofs.Holding.{held_memory, contents_there}
-use Rattle.tree_edges.proofs.Memories.{written_is, reads_are}
+use Rattle.tree_edges.proofs.OfMemories.{written_is, reads_are}
 use Rattle.tree_edges.proofs.memories.next_of_memory.Goals as goal
 
 pub returns-in_default-clause-written : goal.returns-in_default-clause-written

@@ -2,7 +2,7 @@ use Rattle.std.proofs.Common.{sym, ap}
 use Rattle.fir_types.specs.declared.memory.Under.TheVariants.{Undefined}
 use Rattle.fir_types.specs.Memories.{under_in}
 use Rattle.fir_types.proofs.Lines.{first_line, none_more}
-use Rattle.tree_edges.proofs.Memories.{not_under}
+use Rattle.tree_edges.proofs.OfMemories.{not_under}
 use Rattle.tree_edges.proofs.memories.under_of.Goals as goal
 
 pub returns-in-ReadUnder : goal.returns-in-ReadUnder

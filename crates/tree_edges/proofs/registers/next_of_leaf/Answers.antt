@@ -4,7 +4,7 @@ use Rattle.bit_words.specs.Values.{integer_of}
 use Rattle.tree_values.specs.Sites.{integer_or_zero}
 use Rattle.tree_sweep.specs.Runs.{design_in, state_at, values_at}
 use Rattle.tree_sweep.proofs.Views.{or_nothing, name_is, block_is, scene_there, block_typed, narrow_there}
-use Rattle.tree_edges.proofs.Registers.{reset_typed, held_there, next_there}
+use Rattle.tree_edges.proofs.OfRegisters.{reset_typed, held_there, next_there}
 use Rattle.tree_edges.proofs.registers.next_of_leaf.Goals as goal
 
 pub next_of_register-requires-clause-narrow : goal.next_of_register-requires-clause-narrow
