@@ -1,6 +1,7 @@
-use Rattle.std.proofs.Common.{ap, ◌∙◌, sym}
+use Rattle.std.proofs.Common.{map, sym, ap, ◌∙◌}
 use Rattle.std.proofs.lemmas.Result.{IfOk-weaker}
 use Rattle.bit_words.specs.Values.{integer_of}
+use Rattle.drive_check.specs.Keys.{step_of}
 use Rattle.tree_values.specs.Sites.{integer_or_zero}
 use Rattle.tree_sweep.specs.Runs.{design_in, state_at, values_at}
 use Rattle.tree_sweep.proofs.Views.{or_nothing, name_is, block_is, scene_there, block_typed, narrow_there}
@@ -34,5 +35,5 @@ returns c =
     (ap integer_of c.unwrap_or.ensures
     ∙ (or_nothing c.value_on-held.result c.nothing.result c.nothing.ensures
     ∙ (ap integer_or_zero c.value_on-held.ensures
-    ∙ held_there run c.requires.run x part is c.as_slice-registers.result.now moment.held.now.registers c.as_slice-path.result.now _ leaf.path c.as_slice-registers.ensures c.as_slice-path.ensures way))))
+    ∙ held_there run c.requires.run x part is c.as_slice-registers.result.now moment.held.now.registers c.as_slice-path.result.now _ leaf.path c.as_slice-registers.ensures c.as_slice-path.ensures (ap (map step_of) c.as_slice-2.ensures.value ∙ way)))))
     c.next_of_register.ensures
