@@ -1,5 +1,5 @@
 -- What is held of all components of a run after a cycle is the next state, as far as the leaves show.
-use Rattle.std.proofs.Common.{◌≡◌, ℕ, ◌+◌, ◌<◌, ◌≤◌, ◌==◌, min, ◌++◌, false, true, List, [], ◌∷◌, map, length, take, drop, get_or, Some, refl, sym, ap, ap₂, ◌∙◌, subst, arith}
+use Rattle.std.proofs.Common.{◌≡◌, ℕ, ◌+◌, ◌<◌, ◌≤◌, ◌==◌, min, ◌++◌, false, true, List, [], ◌∷◌, map, length, take, drop, get_or, Some, sym, ap, ap₂, ◌∙◌, subst, arith}
 use Rattle.std.proofs.lemmas.Bool.{eqb-true}
 use Rattle.bit_words.specs.declared.value.Value.{Value}
 use Rattle.bit_words.specs.Values.{integer_of}
@@ -27,7 +27,7 @@ use Rattle.tree_sweep.specs.Firsts.{first_beside, integer_beside_it}
 use Rattle.tree_sweep.specs.Runs.{IsPart, held_elements, contents_on, shows, held_reads, captured_on, state_of}
 use Rattle.tree_sweep.proofs.Parts.{part_there, so_many_sites, so_many_declared}
 use Rattle.tree_edges.specs.Edges.{Beside, IsReadFrom, next_in_leaf, AreNextIn, AreWritten, AreRead, leaves_in, before_writes, written_in}
-use Rattle.tree_edges.proofs.Besides.{FirstMet, first_met, met_itself, beside_more, beside_all}
+use Rattle.tree_edges.proofs.Besides.{first_met, met_itself, beside_more, beside_all}
 use Rattle.tree_edges.proofs.Steps.{way_itself, at_itself, shows_itself, shown_there, in_first, value_first, leaf_first}
 use Rattle.tree_edges.proofs.OfMemories.{AreStored}
 

@@ -1,5 +1,5 @@
 -- What memories hold after the writes of a cycle, and what their ports have read.
-use Rattle.std.proofs.Common.{◌≡◌, ℕ, false, true, List, map, drop, filter_map, Option, Some, None, refl, sym, ap, ap₂, ◌∙◌, subst, Bor}
+use Rattle.std.proofs.Common.{◌≡◌, ℕ, false, List, filter_map, None, refl, sym, ap, ap₂, ◌∙◌, subst, Bor}
 use Rattle.std.specs.Prelude.{Contains}
 use Rattle.std.proofs.lemmas.Bool.{eqb-true}
 use Rattle.bit_words.specs.declared.value.Value.{Value}
@@ -15,17 +15,16 @@ use Rattle.fir_types.specs.Leaves.{leaves}
 use Rattle.fir_types.specs.Memories.{first_or, under_in, under_of}
 use Rattle.fir_meaning.specs.Components as tree
 use Rattle.fir_meaning.specs.Values.{Valuation, Scene, scene_of}
-use Rattle.fir_meaning.specs.MemoryPorts.{MemoryPort, Contents, Leaves, port_named, after_writes, read_of, read_by}
+use Rattle.fir_meaning.specs.MemoryPorts.{Contents, Leaves, port_named, after_writes, read_by}
 use Rattle.fir_meaning.specs.States.{State, taken}
 use Rattle.fir_meaning.proofs.Settling.{read_contents}
-use Rattle.fir_meaning.proofs.Tracking.{none_some}
 use Rattle.tree_drives.specs.Contents.{contents_of, stored_leaves, inner_leaf}
 use Rattle.tree_sites.specs.declared.declarations.Sort.TheVariants as sort
 use Rattle.tree_sites.specs.Typed.{is_named}
 use Rattle.tree_sites.specs.Layouts.{Located}
 use Rattle.tree_sweep.specs.declared.run.Run.{Run}
 use Rattle.tree_sweep.specs.declared.run.Part.{Part}
-use Rattle.tree_sweep.specs.Runs.{IsRun, IsPart, design_in, shown_of}
+use Rattle.tree_sweep.specs.Runs.{IsRun, IsPart, design_in}
 use Rattle.tree_sweep.proofs.Views.{leaves_are, named_there}
 use Rattle.tree_sweep.proofs.Holding.{memory_is}
 use Rattle.tree_edges.specs.Edges.{Beside, IsReadFrom, AreWritten, AreRead, leaves_in, before_writes, written_in}

@@ -1,5 +1,5 @@
 -- What registers hold next, as their module sees it.
-use Rattle.std.proofs.Common.{◌≡◌, ℕ, true, List, map, ℤ, Option, Some, None, refl, sym, ap, ap₂, ◌∙◌}
+use Rattle.std.proofs.Common.{◌≡◌, ℕ, true, List, ℤ, Option, Some, None, refl, sym, ap, ap₂, ◌∙◌}
 use Rattle.bit_words.specs.declared.value.Value.{Value}
 use Rattle.fir_types.specs.declared.leaf.PathStep.{PathStep}
 use Rattle.fir_tree.specs.declared.expr.Expr.{Expr}
@@ -17,7 +17,7 @@ use Rattle.tree_sweep.specs.declared.run.Run.{Run}
 use Rattle.tree_sweep.specs.declared.run.Part.{Part}
 use Rattle.tree_sweep.specs.Runs.{IsRun, IsPart, design_in}
 use Rattle.tree_sweep.proofs.Views.{path_is, name_is, sort_is, sort_typed}
-use Rattle.tree_edges.specs.Edges.{IsRegisterOf, next_in_leaf}
+use Rattle.tree_edges.specs.Edges.{IsRegisterOf}
 
 typed_reset : (known : Known) (clock : Expr) (reset : Option Reset) → is_typed_sort known (sort_by_reset clock reset) ≡ true → is_typed_reset known reset ≡ true
 typed_reset known clock None e = refl

@@ -1,16 +1,13 @@
 //! What memories hold after the writes of a cycle, and what their ports have read (FIRRTL specification 3.0, "Memories").
 
-ghost use Rattle.std.specs.Prelude.{◌≡◌, ℕ, List as Listed, false, filter_map, Some, IfOk};
-ghost use Rattle.bit_words.specs.Values.{integer_of};
+ghost use Rattle.std.specs.Prelude.{◌≡◌, List as Listed, filter_map, IfOk};
 ghost use Rattle.fir_types.specs.Memories.{first_or, under_in};
 ghost use Rattle.fir_types.specs.declared.leaf.TypeLeaf.{TypeLeaf as ALeaf};
-ghost use Rattle.fir_types.specs.declared.leaf.PathStep.{PathStep as AStep};
 ghost use Rattle.fir_types.specs.declared.memory.Under.TheVariants.{Undefined};
-ghost use Rattle.fir_meaning.specs.MemoryPorts.{read_by};
 ghost use Rattle.fir_meaning.specs.States.{taken};
 ghost use Rattle.tree_drives.specs.Contents.{contents_of, leaves_of_seen};
 ghost use Rattle.tree_sites.specs.Layouts.{Located};
-ghost use Rattle.tree_sweep.specs.Runs.{IsRun, IsPart, design_in, state_at, values_at, shown_of};
+ghost use Rattle.tree_sweep.specs.Runs.{IsRun, IsPart, design_in, state_at, values_at};
 ghost use Rattle.tree_edges.specs.Edges.{Beside, IsReadFrom, AreWritten, AreRead};
 
 use bit_words::{List, Value};

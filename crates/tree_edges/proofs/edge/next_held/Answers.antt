@@ -1,5 +1,5 @@
 use Rattle.std.proofs.Common.{get_or, ap, arith}
-use Rattle.tree_sweep.specs.Runs.{design_in, state_at, values_at}
+use Rattle.tree_sweep.specs.Runs.{design_in}
 use Rattle.tree_sweep.proofs.Parts.{part_there}
 use Rattle.tree_edges.proofs.Nexts.{held_more, held_all, same_next}
 use Rattle.tree_edges.proofs.edge.next_held.Goals as goal

@@ -2,7 +2,6 @@ use Rattle.std.proofs.Common.{◌≡◌, true≢false, sym, ap, ◌∙◌, subst
 use Rattle.bit_words.specs.declared.value.Value.{Value}
 use Rattle.bit_words.specs.Values.{integer_of}
 use Rattle.fir_types.specs.declared.leaf.TypeLeaf.{TypeLeaf}
-use Rattle.fir_types.specs.Leaves.{leaves}
 use Rattle.fir_meaning.specs.States.{is_register}
 use Rattle.tree_sweep.specs.Runs.{design_in, state_at, values_at}
 use Rattle.tree_sweep.proofs.Views.{sort_is, leaves_are}
