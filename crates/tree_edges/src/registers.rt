@@ -70,13 +70,13 @@ fn next_of_leaf(
     ensures { IfOk result (λ v. (x : Located) → IsPart (design_in run.now) x part.now → integer_of v ≡ next_in_leaf (state_at run.now moment.now) (values_at run.now moment.now) x here.entry.1.now) }
 {
     let path = part.site.path.as_slice();
+    let registers = moment.held.registers.as_slice();
     let view = View {
         sites: run.sites,
         values: moment.values,
         path,
     };
     let key = key_of(alloc, part.site.name, &[], here.1.path.as_slice())?;
-    let registers = moment.held.registers.as_slice();
     let held = value_on(
         run.sites,
         registers,
