@@ -1,0 +1,5 @@
+pub mod Besides
+pub mod Steps
+pub mod OfRegisters
+pub mod OfMemories
+pub mod Nexts

@@ -1,0 +1,106 @@
+-- What memories hold after the writes of a cycle, and what their ports have read.
+use Rattle.std.proofs.Common.{◌≡◌, ℕ, false, List, filter_map, None, refl, sym, ap, ap₂, ◌∙◌, subst, Bor}
+use Rattle.std.specs.Prelude.{Contains}
+use Rattle.std.proofs.lemmas.Bool.{eqb-true}
+use Rattle.bit_words.specs.declared.value.Value.{Value}
+use Rattle.place_text.specs.declared.place.Place.{Place}
+use Rattle.fir_types.specs.declared.leaf.TypeLeaf.{TypeLeaf}
+use Rattle.fir_types.specs.declared.leaf.PathStep.{PathStep}
+use Rattle.fir_types.specs.declared.memory.Memory.{Memory}
+use Rattle.fir_types.specs.declared.memory.MemLine.{MemLine}
+use Rattle.fir_types.specs.declared.memory.MemLine.TheVariants as line
+use Rattle.fir_types.specs.declared.memory.Under.{Under}
+use Rattle.fir_types.specs.declared.memory.Under.TheVariants as under
+use Rattle.fir_types.specs.Leaves.{leaves}
+use Rattle.fir_types.specs.Memories.{first_or, under_in, under_of}
+use Rattle.fir_meaning.specs.Components as tree
+use Rattle.fir_meaning.specs.Values.{Valuation, Scene, scene_of}
+use Rattle.fir_meaning.specs.MemoryPorts.{Contents, Leaves, port_named, after_writes, read_by}
+use Rattle.fir_meaning.specs.States.{State, taken}
+use Rattle.fir_meaning.proofs.Settling.{read_contents}
+use Rattle.tree_drives.specs.Contents.{contents_of, stored_leaves, inner_leaf}
+use Rattle.tree_sites.specs.declared.declarations.Sort.TheVariants as sort
+use Rattle.tree_sites.specs.Typed.{is_named}
+use Rattle.tree_sites.specs.Layouts.{Located}
+use Rattle.tree_sweep.specs.declared.run.Run.{Run}
+use Rattle.tree_sweep.specs.declared.run.Part.{Part}
+use Rattle.tree_sweep.specs.Runs.{IsRun, IsPart, design_in}
+use Rattle.tree_sweep.proofs.Views.{leaves_are, named_there}
+use Rattle.tree_sweep.proofs.Holding.{memory_is}
+use Rattle.tree_edges.specs.Edges.{Beside, IsReadFrom, AreWritten, AreRead, leaves_in, before_writes, written_in}
+use Rattle.tree_edges.proofs.Besides.{beside_weaker}
+use Rattle.tree_edges.proofs.Steps.{shown_behind}
+
+pub not_under : (l : MemLine) → ((at : Place) (u : Under) → l ≡ line.ReadUnder at u → ⊥) → under_in l ≡ None
+not_under (line.ReadUnder at u) h = absurd (h at u refl)
+not_under (line.Element at t) h = refl
+not_under (line.Depth at n) h = refl
+not_under (line.ReadLatency at n) h = refl
+not_under (line.WriteLatency at n) h = refl
+not_under (line.MemPort at m n) h = refl
+
+-- what a read takes where both contents after the writes have the same at its way
+taken_alike : (u : Under) (held new after : Contents) (element : ℕ) (way : List PathStep) → new element way ≡ after element way → taken u held new element way ≡ taken u held after element way
+taken_alike under.New held new after element way h = h
+taken_alike under.Old held new after element way h = refl
+taken_alike under.Undefined held new after element way h = refl
+
+reads_alike : (memory : Memory) (l : Leaves) (u : Under) (held new after : Contents) (port : ℕ) (way : List PathStep) → ((element : ℕ) → new element way ≡ after element way)
+    → read_by memory l (taken u held new) port way ≡ read_by memory l (taken u held after) port way
+reads_alike memory l u held new after port way h =
+    read_contents memory l (taken u held new) (taken u held after) way (λ element. taken_alike u held new after element way (h element)) (port_named memory port)
+
+-- Each leaf that isn't flipped is stored.
+abbrev pub AreStored : Type 0
+AreStored = (ls : List TypeLeaf) (leaf : TypeLeaf) → Contains ls leaf → leaf.flip ≡ false → Contains (stored_leaves ls) (inner_leaf leaf)
+
+module _ (run : Run) (ok : IsRun run) (x : Located) (part : Part) (is : IsPart (design_in run) x part) (m : Bor Memory) (so : part.declaration.sort ≡ sort.Memory m) (s : State) (rho : Valuation) where
+  module _ (memory : Memory) (e : x.c.declaration.sort ≡ tree.A_memory memory) where
+    same : m.now ≡ memory
+    same = memory_is run ok x part is m so memory e
+
+    named : memory.name.id ≡ x.c.declaration.name
+    named = eqb-true memory.name.id x.c.declaration.name (sym (ap (is_named x.c.declaration.name) e) ∙ named_there run ok x part is part.site.now.path refl)
+
+    own_leaves : (here : Scene) → here ≡ scene_of x.m x.path rho → here.integers m.now.name.id ≡ leaves_in s rho x
+    own_leaves here scene = ap₂ (λ (q : Scene) (n : ℕ). q.integers n) scene (ap (λ (k : Memory). k.name.id) same ∙ named)
+
+  all_stored : (stored : List TypeLeaf) → stored ≡ stored_leaves part.site.now.leaves → stored ≡ stored_leaves (leaves x.c.typ)
+  all_stored stored q = q ∙ ap stored_leaves (leaves_are (design_in run) x part is)
+
+  pub written_is : (here : Scene) (stored : List TypeLeaf) (old copy new : List (List Value)) → here ≡ scene_of x.m x.path rho → before_writes s rho x ≡ contents_of (stored_leaves part.site.now.leaves) old
+      → stored ≡ stored_leaves part.site.now.leaves → copy ≡ old
+      → ((element : ℕ) (leaf : TypeLeaf) → Contains stored leaf → contents_of stored new element leaf.path ≡ after_writes m.now (here.integers m.now.name.id) (contents_of stored copy) element leaf.path)
+      → AreWritten s rho x new
+  written_is here stored old copy new scene held q o h memory e element leaf among =
+      let all = all_stored stored q in
+      ap (λ l. contents_of l new element leaf.path) (sym all)
+      ∙ (h element leaf (subst (λ l. Contains l leaf) (sym all) among)
+      ∙ (ap₂ (λ (k : Memory) (l : Leaves). after_writes k l (contents_of stored copy) element leaf.path) (same memory e) (own_leaves memory e here scene)
+      ∙ ap (λ (k : Contents). after_writes memory (leaves_in s rho x) k element leaf.path) (ap₂ contents_of q o ∙ sym held)))
+
+  pub reads_are : AreStored → (here : Scene) (stored ls : List TypeLeaf) (old new from : List (List Value)) (lines : List MemLine) (values : List Value) → here ≡ scene_of x.m x.path rho
+      → before_writes s rho x ≡ contents_of (stored_leaves part.site.now.leaves) old → stored ≡ stored_leaves part.site.now.leaves → ls ≡ part.site.now.leaves → lines ≡ m.now.lines → AreWritten s rho x new
+      → ((l : List TypeLeaf) → contents_of l from ≡ taken (first_or under.Undefined (filter_map under_in lines)) (contents_of l old) (contents_of l new))
+      → Beside (IsReadFrom m.now (here.integers m.now.name.id) (contents_of stored from)) ls values → AreRead s rho x values
+  reads_are kept here stored ls old new from lines values scene held q p r written takes h memory e =
+      let all = all_stored stored q in
+      let its : List TypeLeaf = stored_leaves (leaves x.c.typ) in
+      let own : Leaves = leaves_in s rho x in
+      let before : Contents = before_writes s rho x in
+      let after : Contents = written_in s rho memory x in
+      let reads_under : first_or under.Undefined (filter_map under_in lines) ≡ under_of memory = ap (λ l. first_or under.Undefined (filter_map under_in l)) r ∙ ap under_of (same memory e) in
+      let sees : contents_of stored from ≡ taken (under_of memory) before (contents_of its new) =
+      ap (λ l. contents_of l from) all
+      ∙ (takes its ∙ ap₂ (λ (u : Under) (k : Contents). taken u k (contents_of its new)) reads_under (ap (λ l. contents_of l old) (sym all ∙ q) ∙ sym held)) in
+      let shows : (leaf : TypeLeaf) (v : Value) → Contains (leaves x.c.typ) leaf → IsReadFrom m.now (here.integers m.now.name.id) (contents_of stored from) leaf v
+      → IsReadFrom memory own (taken (under_of memory) before after) leaf v =
+      λ leaf v among has port way turned shown.
+      let behind = shown_behind leaf.path port way shown in
+      has port way turned shown
+      ∙ (ap₂ (λ (k : Memory) (l : Leaves). read_by k l (contents_of stored from) port way) (same memory e) (own_leaves memory e here scene)
+      ∙ (ap (λ (k : Contents). read_by memory own k port way) sees
+      ∙ reads_alike memory own (under_of memory) before (contents_of its new) after port way (λ element.
+      ap (contents_of its new element) (sym behind) ∙ (written memory e element (inner_leaf leaf) (kept (leaves x.c.typ) leaf among turned) ∙ ap (after element) behind)))) in
+      beside_weaker (IsReadFrom m.now (here.integers m.now.name.id) (contents_of stored from)) (IsReadFrom memory own (taken (under_of memory) before after)) (leaves x.c.typ) values shows
+      (subst (λ l. Beside (IsReadFrom m.now (here.integers m.now.name.id) (contents_of stored from)) l values) (p ∙ leaves_are (design_in run) x part is) h)

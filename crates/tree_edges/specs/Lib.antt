@@ -1,0 +1,2 @@
+-- what the bodies keep
+pub mod Edges
