@@ -17,7 +17,7 @@ returns-in-Say-clause-usage g c = made_usage c.args.cycles c.args.size _ _ c.in-
 pub sum_up-requires-clause-runnable : goal.sum_up-requires-clause-runnable
 sum_up-requires-clause-runnable g c κs within = subst (IsFor Run) c.in-Run.is c.in_ok-decision.ensures.fits
 
-pub returns-clause-settled : goal.returns-clause-settled
-returns-clause-settled g c = λ texts.
+pub returns-in_ok-sum_up-in-Run-clause-settled : goal.returns-in_ok-sum_up-in-Run-clause-settled
+returns-in_ok-sum_up-in-Run-clause-settled g c = λ texts.
     let sums = c.in_ok-sum_up-in-Run.ensures.summary in
     made_run texts c.args.cycles c.args.size _ _ _ sums.0 _ _ c.in-Run.is (c.in_ok-decision.ensures.settles, c.in_ok-decision.ensures.fits) c.in_ok-sum_up-in-Run.ensures.status sums.1 sums.2
