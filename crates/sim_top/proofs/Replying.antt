@@ -144,9 +144,9 @@ made_told texts cycles size trace b settles sums = record { answers = of_made cy
 abbrev pub IsMade : ℕ → ℕ → Decision → Type 0
 IsMade cycles size d = Gives (Settles Run (ring_text size cycles)) d × IsFor Run d
 
-pub made_of : (cycles size : ℕ) (joined : List ℕ) (d : Decision) → joined ≡ ring_text size cycles → Gives (Settles Run joined) d → IsFor Run d
-    → Gives (Settles Run (ring_text size cycles)) d × IsFor Run d
-made_of cycles size joined d e gives fits = (subst (λ (text : List ℕ). Gives (Settles Run text) d) e gives, fits)
+pub made_gives : (cycles size : ℕ) (joined : List ℕ) (d : Decision) → joined ≡ ring_text size cycles → Gives (Settles Run joined) d
+    → Gives (Settles Run (ring_text size cycles)) d
+made_gives cycles size joined d e gives = subst (λ (text : List ℕ). Gives (Settles Run text) d) e gives
 
 pub made_said : (texts : List ℕ → Option (List ℕ)) (cycles size : ℕ) (d : Decision) (reply : Reply) → d ≡ decision.Say reply → IsMade cycles size d
     → SettlesAsked texts (Of_made cycles size) reply.status reply.bytes.items

@@ -9,8 +9,8 @@ ghost use Rattle.trace_summary.specs.Summaries.{IsSummary};
 ghost use Rattle.sim_engine.specs.Stages.{circuit_limit};
 ghost use Rattle.sim_top.specs.Commands.{AreWorkers, Of_joined, Of_two, Of_made, asked_by, NeedsFor, Needs};
 ghost use Rattle.sim_top.specs.Texts.{joined_limit};
-ghost use Rattle.sim_top.specs.Answers.{Answers, SettlesTexts, SettlesAsked, IsSettled};
-ghost use Rattle.sim_top.specs.Endings.{Ends, IsSaid, IsRun, IsFaultLine, IsReply, Gives, IsReady, IsRunnable, status_of};
+ghost use Rattle.sim_top.specs.Answers.{Answers, SettlesTexts, Settles, SettlesAsked, IsSettled};
+ghost use Rattle.sim_top.specs.Endings.{Ends, IsSaid, IsRun, IsFaultLine, IsReply, Gives, IsFor, IsReady, IsRunnable, status_of};
 
 use crate::judge::{Decision, Reply, judge, judge_texts, judge_under_long, refuse_whole};
 use crate::texts::{JOINED_LIMIT, STIMULUS_LIMIT, WholeFault};
@@ -77,7 +77,7 @@ pub fn run_program<R: Threads + Wait + Sync, H: Shelf, K: Sink, G: Gate + Sync>(
     ensures unheld { (texts : List ℕ → Option (List ℕ)) (name : List ℕ) → H.held shelf.old ≡ Some texts → Needs (map string_bytes words.now) (H.held shelf.old) name → texts name ≡ None
         → (result ≡ 4) ⊎ (result ≡ 6) }
 {
-    match decide(alloc, words, shelf) {
+    match decide(alloc, rt, gate, words, shelf) {
         Ok(Decision::Say(reply)) => say(sink, &reply),
         Ok(Decision::Run(built, stimulus)) => {
             let workers = workers_of(alloc, words);
@@ -90,7 +90,13 @@ pub fn run_program<R: Threads + Wait + Sync, H: Shelf, K: Sink, G: Gate + Sync>(
 }
 
 /// What is to be done for a command line.
-fn decide<H: Shelf>(alloc: Global, words: &[String], shelf: &mut H) -> Result<Decision, TakeFault>
+fn decide<R: Threads + Wait + Sync, H: Shelf, G: Gate + Sync>(
+    alloc: Global,
+    rt: &R,
+    gate: &G,
+    words: &[String],
+    shelf: &mut H,
+) -> Result<Decision, TakeFault>
     ensures settled { IfOk result (λ d. (texts : List ℕ → Option (List ℕ)) → H.held shelf.old ≡ Some texts → Gives (IsSettled (map string_bytes words.now) texts) d) }
     ensures ready { IfOk result IsReady }
     ensures usage { IfOk result (λ d. status_of d ≡ 1 → asked_by (map string_bytes words.now) ≡ None) }
@@ -107,7 +113,9 @@ fn decide<H: Shelf>(alloc: Global, words: &[String], shelf: &mut H) -> Result<De
         Asked::Joined(command, name) => decide_joined(alloc, command, name, shelf),
         Asked::Two(circuit, stimulus) => decide_two(alloc, circuit, stimulus, shelf),
         Asked::Made { cycles, size } => {
-            let reply = decide_made(alloc, cycles, size)?;
+            let workers = workers_of(alloc, words);
+            let crew = Crew { rt, gate, workers };
+            let reply = decide_made(alloc, &crew, cycles, size)?;
             Ok(Decision::Say(reply))
         }
     }
@@ -187,30 +195,61 @@ fn decide_under<H: Shelf>(
 }
 
 /// What `make` answers: the summary of the trace where the circuit that is made is run, else its first fault.
-fn decide_made(alloc: Global, cycles: u32, size: u32) -> Result<Reply, AllocError>
+fn decide_made<R: Threads + Wait + Sync, G: Gate + Sync>(
+    alloc: Global,
+    crew: &Crew<'_, R, G>,
+    cycles: u32,
+    size: u32,
+) -> Result<Reply, AllocError>
+    requires some { 1 ≤ crew.now.workers }
+    requires most { crew.now.workers ≤ 64 }
     requires cycles { InRange cycles }
     requires size { InRange size }
     ensures settled { IfOk result (λ r. (texts : List ℕ → Option (List ℕ)) → SettlesAsked texts (Of_made cycles size) r.status r.bytes.items) }
     ensures ready { IfOk result (λ r. IsReply r.status r.bytes.items) }
     ensures usage { IfOk result (λ r. r.status ≢ 1) }
 {
-    let text = make_text(alloc, cycles, size)?;
-    let decision = judge(alloc, Command::Run, &text)?;
+    let decision = judge_made(alloc, cycles, size)?;
     match decision {
         Decision::Say(reply) => Ok(reply),
-        Decision::Run(built, stimulus) => Ok(sum_up(alloc, &built, &stimulus)?),
+        Decision::Run(built, stimulus) => Ok(sum_up(alloc, crew, &built, &stimulus)?),
     }
 }
 
+/// What is to be done for the text that is made.
+fn judge_made(alloc: Global, cycles: u32, size: u32) -> Result<Decision, AllocError>
+    requires cycles { InRange cycles }
+    requires size { InRange size }
+    ensures settles { IfOk result (Gives (Settles Command.Run (ring_text size cycles))) }
+    ensures fits { IfOk result (IsFor Command.Run) }
+{
+    let text = make_text(alloc, cycles, size)?;
+    Ok(judge(alloc, Command::Run, &text)?)
+}
+
 /// The summary of a run's trace, which isn't written.
-fn sum_up(alloc: Global, built: &Built, stimulus: &Stimulus) -> Result<Reply, AllocError>
-    requires { IsRunnable built.now stimulus.now }
+fn sum_up<R: Threads + Wait + Sync, G: Gate + Sync>(
+    alloc: Global,
+    crew: &Crew<'_, R, G>,
+    built: &Built,
+    stimulus: &Stimulus,
+) -> Result<Reply, AllocError>
+    requires runnable { IsRunnable built.now stimulus.now }
+    requires some { 1 ≤ crew.now.workers }
+    requires most { crew.now.workers ≤ 64 }
     ensures status { IfOk result (λ r. r.status ≡ 0) }
     ensures summary { IfOk result (λ r. (trace : List ℕ) × IsTraceText built.now.fitted.checked.circuit.names (design_of built.now.fitted) stimulus.now trace × IsSummary trace r.bytes.items) }
 {
+    let plan = Plan {
+        ordered: &built.ordered,
+        ports: &built.ports,
+        stimulus,
+        workers: crew.workers,
+        threads: usize::MAX,
+    };
     Ok(Reply {
         status: 0,
-        bytes: summarize(alloc, &built.ordered, &built.ports, stimulus)?,
+        bytes: summarize(alloc, crew.rt, crew.gate, &plan)?,
     })
 }
 

@@ -53,6 +53,7 @@ pub fn workers_of(alloc: Global, words: &[String]) -> u32
 {
     match read_words(alloc, words) {
         Ok(Some(command_words::Command::Run { workers, .. })) => workers,
+        Ok(Some(command_words::Command::Make { workers, .. })) => workers,
         _ => 1,
     }
 }

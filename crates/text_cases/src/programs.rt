@@ -31,6 +31,9 @@ const TRACE: &str = "cycle out\n0 0\n1 0\n2 1\n3 2\n";
 /// The summary of five cycles of a ring of three registers.
 const SUMMARY: &str = "bytes 31\n4 12\n";
 
+/// The summary of 2,049 cycles of a ring of two registers: two whole epochs and one of a cycle.
+const LONG_SUMMARY: &str = "bytes 18280\n2048 2048\n";
+
 /// A gate that counts how often workers enter it.
 #[derive(Drop)]
 struct Counter {
@@ -146,6 +149,21 @@ fn summaries_are_the_same_by_any_number_of_workers(rt: HostRuntime) -> Result<()
         let (status, written) = answer(&rt, rt.alloc(), &OpenGate, &words, never())?;
         assert_eq!(rt; status, 0);
         assert_eq!(rt; written.as_slice(), SUMMARY.as_bytes());
+    }
+    Ok(())
+}
+
+#[test]
+fn each_worker_of_a_made_circuit_enters_the_gate(rt: HostRuntime) -> Result<(), Fail> {
+    for (workers, times) in [("1", 2049), ("3", 6147)] {
+        let gate = Counter {
+            entered: AtomicU64::new(0),
+        };
+        let words = ["make", "--workers", workers, "--cycles", "2049", "2"];
+        let (status, written) = answer(&rt, rt.alloc(), &gate, &words, never())?;
+        assert_eq!(rt; status, 0);
+        assert_eq!(rt; written.as_slice(), LONG_SUMMARY.as_bytes());
+        assert_eq!(rt; gate.entered.load(SeqCst), times);
     }
     Ok(())
 }

@@ -1,5 +1,5 @@
 -- The last line is one.
-use Rattle.std.proofs.Common.{◌≡◌, ◌≢◌, ℕ, suc, zero, ◌+◌, ◌-◌, ◌<◌, ◌≤◌, List, ◌++◌, ⊎_elim, inl, inr, length, drop, refl, sym, ap, ◌∙◌, subst, arith}
+use Rattle.std.proofs.Common.{◌≡◌, ◌≢◌, ℕ, suc, zero, ◌+◌, ◌-◌, ◌<◌, List, ◌++◌, ⊎_elim, inr, length, drop, refl, sym, ap, ◌∙◌, arith}
 use Rattle.std.specs.Prelude.{Some, slice_get, codes, decimal}
 use Rattle.std.specs.Fmt.{digits}
 use native.Mathlib.Decide.{dec_le}

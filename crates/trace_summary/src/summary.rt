@@ -1,44 +1,41 @@
 //! The length and the last line.
 
-ghost use Rattle.std.specs.Prelude.{◌≡◌, ℕ, ◌<◌, List, length, IfOk};
+ghost use Rattle.std.specs.Prelude.{◌≡◌, ℕ, ◌<◌, ◌≤◌, List, length, IfOk};
 ghost use Rattle.leaf_names.specs.LeafNames.{Texts};
 ghost use Rattle.fir_meaning.specs.Components.{Design};
-ghost use Rattle.ground_net.specs.Reads.{IsOrder};
-ghost use Rattle.ground_net.specs.Watching.{inputs, watched};
-ghost use Rattle.net_meaning.specs.Nets.{IsNet};
 ghost use Rattle.net_laws.specs.Serves.{Serves};
-ghost use Rattle.stimulus.specs.Stimuli.{IsFormed};
+ghost use Rattle.circuit_run.specs.NetRuns.{IsPlanned};
 ghost use Rattle.circuit_run.specs.Traces.{IsTraceText};
 ghost use Rattle.trace_summary.specs.Summaries.{BeginsLine, IsInOneLine, IsSummary};
 
 use crate::kept::KeptTrace;
-use circuit_run::simulate;
-use ground_net::{Ordered, Ports};
+use crew_run::{Plan, simulate};
+use crew_workers::Gate;
 use itoa::Buffer;
 use std::alloc::{AllocError, Global};
-use stimulus::Stimulus;
+use std::sync::Wait;
+use std::thread::Threads;
 
 /// The summary of the trace of a circuit under a stimulus: the line `bytes B` with the trace's length, and the trace's last line.
 ///
-/// The net serves a circuit, its assignments stand in an order, and the stimulus was read for its ports. Takes memory for the trace.
-pub fn summarize(
+/// The net serves a circuit, its assignments stand in an order, and the stimulus was read for its ports. From 1 to 64 workers run it, in
+/// threads that `rt` starts. Takes memory for the trace.
+pub fn summarize<R: Threads + Wait + Sync, G: Gate + Sync>(
     alloc: Global,
-    ordered: &Ordered,
-    ports: &Ports,
-    stimulus: &Stimulus,
+    rt: &R,
+    gate: &G,
+    plan: &Plan<'_>,
 ) -> Result<Vec<u8>, AllocError>
-    requires net { IsNet ordered.now.net }
-    requires order { IsOrder ordered.now.net ordered.now.sequence }
-    requires inputs { ports.now.inputs ≡ inputs ordered.now.net }
-    requires watched { ports.now.watched ≡ watched ordered.now.net }
-    requires stimulus { IsFormed ports.now stimulus.now }
-    requires serves { (texts : Texts) × (design : Design) × Serves texts design ordered.now.net }
-    ensures { (texts : Texts) (design : Design) → Serves texts design ordered.now.net
-        → IfOk result (λ summary. (trace : List ℕ) × IsTraceText texts design stimulus.now trace × IsSummary trace summary.items) }
+    requires planned { IsPlanned plan.now.ordered.now plan.now.ports.now plan.now.stimulus.now }
+    requires some { 1 ≤ plan.now.workers }
+    requires few { plan.now.workers ≤ 64 }
+    requires serves { (texts : Texts) × (design : Design) × Serves texts design plan.now.ordered.now.net }
+    ensures { (texts : Texts) (design : Design) → Serves texts design plan.now.ordered.now.net
+        → IfOk result (λ summary. (trace : List ℕ) × IsTraceText texts design plan.now.stimulus.now trace × IsSummary trace summary.items) }
 {
     let mut trace = KeptTrace::new(alloc);
-    match simulate(alloc, ordered, ports, stimulus, &mut trace) {
-        Ok(()) => Ok(summary_of(alloc, trace.bytes())?),
+    match simulate(alloc, rt, gate, plan, &mut trace) {
+        Ok(_closed) => Ok(summary_of(alloc, trace.bytes())?),
         Err(_) => Err(AllocError),
     }
 }

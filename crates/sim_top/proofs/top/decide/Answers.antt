@@ -34,10 +34,10 @@ pub decide_joined-requires : goal.decide_joined-requires
 decide_joined-requires g c = joined_range _ _ _ _ c.in-Some.is c.in-Joined.is c.in_ok-asked.ensures.in_range
 
 pub decide_made-requires-clause-cycles : goal.decide_made-requires-clause-cycles
-decide_made-requires-clause-cycles g c = (made_range _ _ _ _ c.in-Some.is c.in-Made.is c.in_ok-asked.ensures.in_range).0
+decide_made-requires-clause-cycles g c κs within = (made_range _ _ _ _ c.in-Some.is c.in-Made.is c.in_ok-asked.ensures.in_range).0
 
 pub decide_made-requires-clause-size : goal.decide_made-requires-clause-size
-decide_made-requires-clause-size g c = (made_range _ _ _ _ c.in-Some.is c.in-Made.is c.in_ok-asked.ensures.in_range).1
+decide_made-requires-clause-size g c κs within = (made_range _ _ _ _ c.in-Some.is c.in-Made.is c.in_ok-asked.ensures.in_range).1
 
 pub returns-in_ok-reply-in-Made-clause-settled : goal.returns-in_ok-reply-in-Made-clause-settled
 returns-in_ok-reply-in-Made-clause-settled g c = λ texts held.
