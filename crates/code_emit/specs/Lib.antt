@@ -1,4 +1,5 @@
 -- what a reader must believe
 pub mod Emits
+pub mod Nested
 -- what the bodies keep
 pub mod Rows

@@ -6,6 +6,7 @@
 pub mod emission;
 pub mod forms;
 pub mod laws;
+pub mod nested;
 pub mod sources;
 pub mod values;
 
