@@ -2,3 +2,4 @@ pub mod Rowing
 pub mod Shaped
 pub mod Emitting
 pub mod Arms
+pub mod Nesting

@@ -1,6 +1,6 @@
 //! Operations on the results of operations.
 
-ghost use Rattle.std.specs.Prelude.{◌≡◌, ◌∷◌, [], ◌⊎◌, true, Some, IsSome, IfOk, IfSome, All, slice_index};
+ghost use Rattle.std.specs.Prelude.{◌≡◌, ◌∷◌, [], ◌⊎◌, true, Some, None, IsSome, Ok, IfOk, IfSome, All, slice_index};
 ghost use Rattle.prim_ops.specs.declared.operation.PrimOp.TheVariants.{Tail, Bits as BitsOp};
 ghost use Rattle.ground_net.specs.declared.ground.Ground.TheVariants.{Op as Op_of};
 ghost use Rattle.net_meaning.specs.Shapes.{shaped, shape_of_row};
@@ -36,7 +36,7 @@ pub(crate) struct Inner<'a> {
 
 /// The operation that is the only one of these expressions.
 pub(crate) fn inner_of<'a>(operands: &'a [Ground]) -> Option<Inner<'a>>
-    ensures { IfSome result (λ i. operands.now ≡ Op_of i.row.prim i.operands i.row.params ∷ []) }
+    ensures { IfSome result (λ i. operands.now ≡ Op_of i.row.prim i.operands.now i.row.params.now ∷ []) }
 {
     match operands {
         [operand] => match operand {
@@ -62,16 +62,47 @@ pub(crate) fn emit_nested(
     inner: Row<'_>,
     outer: Row<'_>,
 ) -> Result<Spot, AllocError>
-    requires { IsSome (nested_shape inner outer (spot_shapes spots)) }
-    ensures shape { IfOk result (λ s. nested_shape inner outer (spot_shapes spots) ≡ Some (spot_shape s)) }
-    ensures makes { IfOk result (λ s. IsDraft draft.old → All (Stands draft.old) spots → Makes draft.old draft.new s (IsMade (nested_value inner outer) spots (spot_shape s))) }
+    requires { IsSome (nested_shape inner.prim inner.params.now outer.prim outer.params.now (spot_shapes spots)) }
+    ensures shape { IfOk result (λ s. nested_shape inner.entry.prim inner.entry.params.now outer.entry.prim outer.entry.params.now (spot_shapes spots) ≡ Some (spot_shape s)) }
+    ensures makes { IfOk result (λ s. IsDraft draft.old → All (Stands draft.old) spots → Makes draft.old draft.new s (IsMade (nested_value inner.entry.prim inner.entry.params.now outer.entry.prim outer.entry.params.now) spots (spot_shape s))) }
 {
-    if takes_lowest(outer) {
-        let measure = nested_measure(spots.as_slice(), inner, outer);
-        if let Some(spot) = lowest_word(draft, inner.prim, spots.as_slice(), measure)? {
-            return Ok(spot);
-        }
+    match lowest(draft, spots.as_slice(), inner, outer)? {
+        Some(spot) => Ok(spot),
+        None => emit_both(alloc, draft, spots, inner, outer),
     }
+}
+
+/// The same, where the outer operation takes lowest bits and words suffice for it; else none, and the code stays as it is.
+fn lowest(
+    draft: &mut Draft,
+    spots: &[Spot],
+    inner: Row<'_>,
+    outer: Row<'_>,
+) -> Result<Option<Spot>, AllocError>
+    requires { IsSome (nested_shape inner.prim inner.params.now outer.prim outer.params.now (spot_shapes spots.now)) }
+    ensures shape { IfOk result (λ o. IfSome o (λ s. nested_shape inner.entry.prim inner.entry.params.now outer.entry.prim outer.entry.params.now (spot_shapes spots.now) ≡ Some (spot_shape s))) }
+    ensures makes { IfOk result (λ o. IfSome o (λ s. IsDraft draft.old → All (Stands draft.old) spots.now → Makes draft.old draft.new s (IsMade (nested_value inner.entry.prim inner.entry.params.now outer.entry.prim outer.entry.params.now) spots.now (spot_shape s)))) }
+    ensures none { result ≡ Ok None → draft.new ≡ draft.old }
+{
+    if !takes_lowest(outer) {
+        return Ok(None);
+    }
+    let measure = nested_measure(spots, inner, outer);
+    lowest_word(draft, inner.prim, spots, measure)
+}
+
+/// The value of the inner operation, and then that of the outer one.
+fn emit_both(
+    alloc: Global,
+    draft: &mut Draft,
+    spots: List<Spot>,
+    inner: Row<'_>,
+    outer: Row<'_>,
+) -> Result<Spot, AllocError>
+    requires { IsSome (nested_shape inner.prim inner.params.now outer.prim outer.params.now (spot_shapes spots)) }
+    ensures shape { IfOk result (λ s. nested_shape inner.entry.prim inner.entry.params.now outer.entry.prim outer.entry.params.now (spot_shapes spots) ≡ Some (spot_shape s)) }
+    ensures makes { IfOk result (λ s. IsDraft draft.old → All (Stands draft.old) spots → Makes draft.old draft.new s (IsMade (nested_value inner.entry.prim inner.entry.params.now outer.entry.prim outer.entry.params.now) spots (spot_shape s))) }
+{
     let between = emit_operation(alloc, draft, inner.prim, spots, inner.params)?;
     let mut one = List::new(alloc);
     one.push(between)?;
@@ -80,8 +111,8 @@ pub(crate) fn emit_nested(
 
 /// The kind and the width of the outer operation on the inner one.
 fn nested_measure(spots: &[Spot], inner: Row<'_>, outer: Row<'_>) -> Measure
-    requires { IsSome (nested_shape inner outer (spot_shapes spots.now)) }
-    ensures { nested_shape inner outer (spot_shapes spots.now) ≡ Some (shaped result.kind result.width) }
+    requires { IsSome (nested_shape inner.prim inner.params.now outer.prim outer.params.now (spot_shapes spots.now)) }
+    ensures { nested_shape inner.entry.prim inner.entry.params.now outer.entry.prim outer.entry.params.now (spot_shapes spots.now) ≡ Some (shaped result.kind result.width) }
 {
     let between = row_measure(inner.prim, spots, inner.params);
     row_measure(outer.prim, &[somewhere(between)], outer.params)
@@ -101,7 +132,7 @@ fn somewhere(measure: Measure) -> Spot
 
 /// Whether an operation takes lowest bits.
 fn takes_lowest(row: Row<'_>) -> bool
-    ensures { result ≡ true → TakesLowest row.prim row.params }
+    ensures { result ≡ true → TakesLowest row.entry.prim row.entry.params.now }
 {
     match row.prim {
         Prim::Tail => true,
