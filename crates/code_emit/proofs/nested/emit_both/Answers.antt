@@ -8,7 +8,7 @@ use Rattle.code_emit.proofs.Shaped.{ok_so}
 use Rattle.code_emit.proofs.Nesting.{some_inner, both_make}
 use Rattle.code_emit.proofs.nested.emit_both.Goals as goal
 
-pub emit_operation-requires : goal.emit_operation-between-requires
+pub emit_operation-requires : goal.emit_operation-requires
 emit_operation-requires c =
     some_inner (λ s. shape_of_row c.args.outer.prim c.args.outer.params.now (s ∷ [])) (shape_of_row c.args.inner.prim c.args.inner.params.now (spot_shapes c.args.spots)) c.requires
 
