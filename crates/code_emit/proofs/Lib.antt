@@ -3,3 +3,4 @@ pub mod Shaped
 pub mod Emitting
 pub mod Arms
 pub mod Nesting
+pub mod Choosing

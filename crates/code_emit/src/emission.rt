@@ -7,10 +7,11 @@ ghost use Rattle.net_meaning.specs.Shapes.{shape, all_of};
 ghost use Rattle.code_draft.specs.Drafts.{IsDraft, Makes};
 ghost use Rattle.code_emit.specs.Emits.{sources_table, source_shape, Emits, EmitsAll, AreShaped, shapes_in, Fits, IsOf, leaf_source, element_source};
 
+use crate::chains::emit_choice;
 use crate::forms::{items_measure, joined};
 use crate::nested::{Row, emit_nested, inner_of};
 use crate::sources::{Elements, Source, Sources};
-use crate::values::{emit_choice, emit_fit, emit_operation};
+use crate::values::{emit_fit, emit_operation};
 use bit_words::List;
 use code_draft::{Draft, constant, input, load, wide_value};
 use flat_code::{Form, Spot};
@@ -48,7 +49,7 @@ pub fn emit(
         },
         Ground::Mux(items) => {
             let spots = emit_all(alloc, draft, sources, items.as_slice())?;
-            emit_choice(draft, spots)
+            emit_choice(alloc, draft, spots)
         }
         Ground::Select(index, items) => {
             let front = emit_all(alloc, draft, sources, index.as_slice())?;

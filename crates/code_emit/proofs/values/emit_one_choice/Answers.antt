@@ -10,7 +10,7 @@ use Rattle.code_words.specs.Ways.{IsMade}
 use Rattle.code_emit.proofs.Shaped.{ok_so}
 use Rattle.code_emit.proofs.Arms.{ok_both, spot_shape_by}
 use Rattle.code_emit.proofs.Emitting.{wide_after}
-use Rattle.code_emit.proofs.values.emit_choice.Goals as goal
+use Rattle.code_emit.proofs.values.emit_one_choice.Goals as goal
 
 pub returns-in-None-clause-makes : goal.returns-in-None-clause-makes
 returns-in-None-clause-makes c =
