@@ -90,7 +90,7 @@ emit-emit_nested-requires t c =
     let gs = c.in-Some.inner.operands.now in
     let ss = c.in_ok-spots-in-Some.spots in
     let e : g ≡ Op o (Op p gs qs ∷ []) ps =
-        c.in-Op.is ∙ (ap (λ os. Op o os c.in-Op.params) (sym c.as_slice.ensures ∙ c.in-Some.ensures) ∙ ap (Op o (Op p gs qs ∷ [])) (sym c.as_slice-in-Some.ensures)) in
+    c.in-Op.is ∙ (ap (λ os. Op o os c.in-Op.params) (sym c.as_slice.ensures ∙ c.in-Some.ensures) ∙ ap (Op o (Op p gs qs ∷ [])) (sym c.as_slice-in-Some.ensures)) in
     subst (λ x. IsSome x) (sym (nested_row table g c.requires o ps p qs gs e ss c.in_ok-spots-in-Some.ensures.shapes)) c.requires
 
 pub emit-returns-in_ok-spots-in-Some-clause-shape : goal.emit-returns-in_ok-spots-in-Some-clause-shape
@@ -104,7 +104,7 @@ emit-returns-in_ok-spots-in-Some-clause-shape t c =
     let gs = c.in-Some.inner.operands.now in
     let ss = c.in_ok-spots-in-Some.spots in
     let e : g ≡ Op o (Op p gs qs ∷ []) ps =
-        c.in-Op.is ∙ (ap (λ os. Op o os c.in-Op.params) (sym c.as_slice.ensures ∙ c.in-Some.ensures) ∙ ap (Op o (Op p gs qs ∷ [])) (sym c.as_slice-in-Some.ensures)) in
+    c.in-Op.is ∙ (ap (λ os. Op o os c.in-Op.params) (sym c.as_slice.ensures ∙ c.in-Some.ensures) ∙ ap (Op o (Op p gs qs ∷ [])) (sym c.as_slice-in-Some.ensures)) in
     ok_so c.emit_nested.result c.emit_nested.ensures.shape (λ s h. sym (nested_row table g c.requires o ps p qs gs e ss c.in_ok-spots-in-Some.ensures.shapes) ∙ h)
 
 pub emit-returns-in_ok-spots-in-Some-clause-emits : goal.emit-returns-in_ok-spots-in-Some-clause-emits
@@ -119,7 +119,7 @@ emit-returns-in_ok-spots-in-Some-clause-emits t c =
     let gs = c.in-Some.inner.operands.now in
     let ss = c.in_ok-spots-in-Some.spots in
     let e : g ≡ Op o (Op p gs qs ∷ []) ps =
-        c.in-Op.is ∙ (ap (λ os. Op o os c.in-Op.params) (sym c.as_slice.ensures ∙ c.in-Some.ensures) ∙ ap (Op o (Op p gs qs ∷ [])) (sym c.as_slice-in-Some.ensures)) in
+    c.in-Op.is ∙ (ap (λ os. Op o os c.in-Op.params) (sym c.as_slice.ensures ∙ c.in-Some.ensures) ∙ ap (Op o (Op p gs qs ∷ [])) (sym c.as_slice-in-Some.ensures)) in
     ok_so c.emit_nested.result (ok_both _ _ c.emit_nested.result c.emit_nested.ensures.shape c.emit_nested.ensures.makes) (λ s h.
     nested_emits S g o ps p qs gs c.args.draft.now c.emit_all.new.draft c.emit_nested.new.draft ss s (spot_shape s) e c.in_ok-spots-in-Some.ensures.emits h.1
     (sym (nested_row table g c.requires o ps p qs gs e ss c.in_ok-spots-in-Some.ensures.shapes) ∙ h.0))
