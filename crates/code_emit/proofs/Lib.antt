@@ -4,3 +4,5 @@ pub mod Emitting
 pub mod Arms
 pub mod Counting
 pub mod Spanning
+pub mod Nesting
+pub mod Choosing

@@ -11,13 +11,28 @@ use Rattle.code_emit.proofs.Arms.{ok_both, spot_shape_by, op_shaped, op_row, mux
 use Rattle.code_emit.proofs.Emitting.{none_emitted, const_emits, leaf_emits, op_emits, mux_emits, fit_emits, select_emits, load_emits, both_emitted, one_more_emitted}
 use Rattle.code_emit.specs.Spans.{SpansAll}
 use Rattle.code_emit.proofs.Spanning.{none_spans, fetched_spans, leaf_spans, op_spans, mux_spans, load_spans, fit_spans, select_spans, both_span, one_more_spans}
+use Rattle.code_emit.proofs.Nesting.{nested_shaped, nested_row, nested_emits}
 use Rattle.code_emit.proofs.emission.+emit.Goals as goal
 
 pub emit-emit_all-requires : goal.emit-emit_all-requires
 emit-emit_all-requires t c =
+    let table = sources_table c.args.sources.now in
+    let g = c.args.ground.now in
+    let o = c.in-Op.prim in
+    let ps = c.in-Op.params in
+    let p = c.in-Some.inner.row.prim in
+    let qs = c.in-Some.inner.row.params.now in
+    let gs = c.in-Some.inner.operands.now in
+    let e : g ≡ Op o (Op p gs qs ∷ []) ps = c.in-Op.is ∙ ap (λ os. Op o os ps) (sym c.as_slice.ensures ∙ c.in-Some.ensures) in (
+      search (rules, the_lemmas, e),
+      nested_shaped table g c.requires o ps p qs gs e,
+    )
+
+pub emit-emit_all-requires-in-None : goal.emit-emit_all-requires-in-None
+emit-emit_all-requires-in-None t c =
     let table = sources_table c.args.sources.now in (
       search (rules, the_lemmas, c.in-Op.is),
-      subst (AreShaped table) (sym c.as_slice.ensures) (op_shaped table c.args.ground.now c.requires c.in-Op.prim c.in-Op.operands c.in-Op.params c.in-Op.is),
+      subst (AreShaped table) (sym c.as_slice-in-None.ensures) (op_shaped table c.args.ground.now c.requires c.in-Op.prim c.in-Op.operands c.in-Op.params c.in-Op.is),
     )
 
 pub emit-emit_all-requires-in-Mux : goal.emit-emit_all-requires-in-Mux
@@ -66,40 +81,86 @@ pub emit-returns-in-Leaf-clause-emits : goal.emit-returns-in-Leaf-clause-emits
 emit-returns-in-Leaf-clause-emits t c =
     ok_so c.fetch.result c.fetch.ensures.makes (λ s m. leaf_emits c.args.sources.now c.args.ground.now c.in-Leaf.leaf c.source_of.result c.args.draft.now c.fetch.new.draft s c.in-Leaf.is c.source_of.ensures m)
 
+pub emit-emit_nested-requires : goal.emit-emit_nested-requires
+emit-emit_nested-requires t c =
+    let table = sources_table c.args.sources.now in
+    let g = c.args.ground.now in
+    let o = c.in-Op.prim in
+    let ps = c.as_slice-in-Some.result.now in
+    let p = c.in-Some.inner.row.prim in
+    let qs = c.in-Some.inner.row.params.now in
+    let gs = c.in-Some.inner.operands.now in
+    let ss = c.in_ok-spots-in-Some.spots in
+    let e : g ≡ Op o (Op p gs qs ∷ []) ps =
+    c.in-Op.is ∙ (ap (λ os. Op o os c.in-Op.params) (sym c.as_slice.ensures ∙ c.in-Some.ensures) ∙ ap (Op o (Op p gs qs ∷ [])) (sym c.as_slice-in-Some.ensures)) in
+    subst (λ x. IsSome x) (sym (nested_row table g c.requires o ps p qs gs e ss c.in_ok-spots-in-Some.ensures.shapes)) c.requires
+
+pub emit-returns-in_ok-spots-in-Some-clause-shape : goal.emit-returns-in_ok-spots-in-Some-clause-shape
+emit-returns-in_ok-spots-in-Some-clause-shape t c =
+    let table = sources_table c.args.sources.now in
+    let g = c.args.ground.now in
+    let o = c.in-Op.prim in
+    let ps = c.as_slice-in-Some.result.now in
+    let p = c.in-Some.inner.row.prim in
+    let qs = c.in-Some.inner.row.params.now in
+    let gs = c.in-Some.inner.operands.now in
+    let ss = c.in_ok-spots-in-Some.spots in
+    let e : g ≡ Op o (Op p gs qs ∷ []) ps =
+    c.in-Op.is ∙ (ap (λ os. Op o os c.in-Op.params) (sym c.as_slice.ensures ∙ c.in-Some.ensures) ∙ ap (Op o (Op p gs qs ∷ [])) (sym c.as_slice-in-Some.ensures)) in
+    ok_so c.emit_nested.result c.emit_nested.ensures.shape (λ s h. sym (nested_row table g c.requires o ps p qs gs e ss c.in_ok-spots-in-Some.ensures.shapes) ∙ h)
+
+pub emit-returns-in_ok-spots-in-Some-clause-emits : goal.emit-returns-in_ok-spots-in-Some-clause-emits
+emit-returns-in_ok-spots-in-Some-clause-emits t c =
+    let S = c.args.sources.now in
+    let table = sources_table S in
+    let g = c.args.ground.now in
+    let o = c.in-Op.prim in
+    let ps = c.as_slice-in-Some.result.now in
+    let p = c.in-Some.inner.row.prim in
+    let qs = c.in-Some.inner.row.params.now in
+    let gs = c.in-Some.inner.operands.now in
+    let ss = c.in_ok-spots-in-Some.spots in
+    let e : g ≡ Op o (Op p gs qs ∷ []) ps =
+    c.in-Op.is ∙ (ap (λ os. Op o os c.in-Op.params) (sym c.as_slice.ensures ∙ c.in-Some.ensures) ∙ ap (Op o (Op p gs qs ∷ [])) (sym c.as_slice-in-Some.ensures)) in
+    ok_so c.emit_nested.result (ok_both _ _ c.emit_nested.result c.emit_nested.ensures.shape c.emit_nested.ensures.makes) (λ s h.
+    nested_emits S g o ps p qs gs c.args.draft.now c.emit_all.new.draft c.emit_nested.new.draft ss s (spot_shape s) e c.in_ok-spots-in-Some.ensures.emits h.1
+    (sym (nested_row table g c.requires o ps p qs gs e ss c.in_ok-spots-in-Some.ensures.shapes) ∙ h.0))
+
 pub emit-emit_operation-requires : goal.emit-emit_operation-requires
 emit-emit_operation-requires t c =
     let table = sources_table c.args.sources.now in
     let g = c.args.ground.now in
     let prim = c.in-Op.prim in
-    let gs = c.as_slice.result.now in
-    let ps = c.as_slice-in-Op.result.now in
-    let e : g ≡ Op prim gs ps = c.in-Op.is ∙ ap₂ (λ os qs. Op prim os qs) (sym c.as_slice.ensures) (sym c.as_slice-in-Op.ensures) in
-    subst (λ o. IsSome o) (sym (op_row table g c.requires prim gs ps c.in_ok-spots-in-Op.spots e c.in_ok-spots-in-Op.ensures.shapes)) c.requires
+    let gs = c.as_slice-in-None.result.now in
+    let ps = c.as_slice-in-None-2.result.now in
+    let ss = c.in_ok-spots-in-None.spots in
+    let e : g ≡ Op prim gs ps = c.in-Op.is ∙ ap₂ (λ os qs. Op prim os qs) (sym c.as_slice-in-None.ensures) (sym c.as_slice-in-None-2.ensures) in
+    subst (λ o. IsSome o) (sym (op_row table g c.requires prim gs ps ss e c.in_ok-spots-in-None.ensures.shapes)) c.requires
 
-pub emit-returns-in_ok-spots-in-Op-clause-shape : goal.emit-returns-in_ok-spots-in-Op-clause-shape
-emit-returns-in_ok-spots-in-Op-clause-shape t c =
+pub emit-returns-in_ok-spots-in-None-clause-shape : goal.emit-returns-in_ok-spots-in-None-clause-shape
+emit-returns-in_ok-spots-in-None-clause-shape t c =
     let table = sources_table c.args.sources.now in
     let g = c.args.ground.now in
     let prim = c.in-Op.prim in
-    let gs = c.as_slice.result.now in
-    let ps = c.as_slice-in-Op.result.now in
-    let ss = c.in_ok-spots-in-Op.spots in
-    let e : g ≡ Op prim gs ps = c.in-Op.is ∙ ap₂ (λ os qs. Op prim os qs) (sym c.as_slice.ensures) (sym c.as_slice-in-Op.ensures) in
-    ok_so c.emit_operation.result c.emit_operation.ensures.shape (λ s h. sym (op_row table g c.requires prim gs ps ss e c.in_ok-spots-in-Op.ensures.shapes) ∙ h)
+    let gs = c.as_slice-in-None.result.now in
+    let ps = c.as_slice-in-None-2.result.now in
+    let ss = c.in_ok-spots-in-None.spots in
+    let e : g ≡ Op prim gs ps = c.in-Op.is ∙ ap₂ (λ os qs. Op prim os qs) (sym c.as_slice-in-None.ensures) (sym c.as_slice-in-None-2.ensures) in
+    ok_so c.emit_operation.result c.emit_operation.ensures.shape (λ s h. sym (op_row table g c.requires prim gs ps ss e c.in_ok-spots-in-None.ensures.shapes) ∙ h)
 
-pub emit-returns-in_ok-spots-in-Op-clause-emits : goal.emit-returns-in_ok-spots-in-Op-clause-emits
-emit-returns-in_ok-spots-in-Op-clause-emits t c =
+pub emit-returns-in_ok-spots-in-None-clause-emits : goal.emit-returns-in_ok-spots-in-None-clause-emits
+emit-returns-in_ok-spots-in-None-clause-emits t c =
     let S = c.args.sources.now in
     let table = sources_table S in
     let g = c.args.ground.now in
     let prim = c.in-Op.prim in
-    let gs = c.as_slice.result.now in
-    let ps = c.as_slice-in-Op.result.now in
-    let ss = c.in_ok-spots-in-Op.spots in
-    let e : g ≡ Op prim gs ps = c.in-Op.is ∙ ap₂ (λ os qs. Op prim os qs) (sym c.as_slice.ensures) (sym c.as_slice-in-Op.ensures) in
+    let gs = c.as_slice-in-None.result.now in
+    let ps = c.as_slice-in-None-2.result.now in
+    let ss = c.in_ok-spots-in-None.spots in
+    let e : g ≡ Op prim gs ps = c.in-Op.is ∙ ap₂ (λ os qs. Op prim os qs) (sym c.as_slice-in-None.ensures) (sym c.as_slice-in-None-2.ensures) in
     ok_so c.emit_operation.result (ok_both _ _ c.emit_operation.result c.emit_operation.ensures.shape c.emit_operation.ensures.makes) (λ s h.
-    op_emits S g prim gs ps c.args.draft.now c.emit_all.new.draft c.emit_operation.new.draft ss s (spot_shape s) e c.in_ok-spots-in-Op.ensures.emits h.1
-    (sym (op_row table g c.requires prim gs ps ss e c.in_ok-spots-in-Op.ensures.shapes) ∙ h.0))
+    op_emits S g prim gs ps c.args.draft.now c.emit_all-in-None.new.draft c.emit_operation.new.draft ss s (spot_shape s) e c.in_ok-spots-in-None.ensures.emits h.1
+    (sym (op_row table g c.requires prim gs ps ss e c.in_ok-spots-in-None.ensures.shapes) ∙ h.0))
 
 pub emit-emit_choice-requires : goal.emit-emit_choice-requires
 emit-emit_choice-requires t c =
