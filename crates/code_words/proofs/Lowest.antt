@@ -1,14 +1,18 @@
 -- Lowest bits of sums and differences.
-use Rattle.std.proofs.Common.{◌≡◌, ℕ, ◌+◌, ◌-◌, ◌*◌, ◌%◌, ◌^◌, ◌<◌, ◌≤◌, List, [], ◌∷◌, slice_index, ℤ, pos, neg_ℤ, ◌+ℤ◌, ◌-ℤ◌, refl, sym, subst, ap, ◌∙◌, arith, pow_mono, All, ⊎_elim}
+use Rattle.std.proofs.Common.{◌≡◌, ℕ, ◌+◌, ◌-◌, ◌*◌, ◌%◌, ◌^◌, ◌<◌, ◌≤◌, List, [], ◌∷◌, slice_index, ℤ, pos, neg_ℤ, ◌+ℤ◌, ◌-ℤ◌, refl, sym, subst, ap, ◌∙◌, arith, pow_mono, All, ⊎_elim, min}
 use Rattle.std.proofs.lemmas.Int.{ints}
+use Rattle.bit_words.specs.declared.value.Kind.{Kind}
 use Rattle.bit_words.specs.declared.value.Value.{Value}
 use Rattle.bit_words.specs.Values.{integer_of, bits_of}
 use Rattle.bit_words.proofs.Congruence.{Level, Level-trans}
+use Rattle.prim_ops.specs.declared.operation.PrimOp.{PrimOp}
 use Rattle.prim_ops.specs.declared.operation.PrimOp.TheVariants as prim
+use Rattle.prim_ops.specs.Results.{integer_result}
 use Rattle.prim_ops.proofs.Residues.{same_low, Level-lower, Level-add, Level-neg, Level-cut, word_level}
+use Rattle.cycle_values.specs.Values.{fitted}
 use Rattle.flat_code.specs.declared.instr.Op.TheVariants as op
 use Rattle.flat_code.specs.declared.instr.Spot.{Spot}
-use Rattle.flat_code.specs.Meaning.{spot_value, minus}
+use Rattle.flat_code.specs.Meaning.{spot_value, spot_values, minus}
 use Rattle.code_draft.specs.declared.draft.Draft.{Draft}
 use Rattle.code_draft.specs.Drafts.{Stands}
 use Rattle.code_draft.proofs.Cuts.{masked}
@@ -73,3 +77,7 @@ module _ (x y : Spot) (width : ℕ) (few : width ≤ 64) (a : KeepsLowest x widt
         ∙ (low_difference width (slice_index F x.low) (slice_index F y.low) (integer_of (spot_value F x)) (integer_of (spot_value F y)) few (omega (arith, within, most)) (first_level F cut) (second_level F cut)
         ∙ sym (lowest F));
   }
+
+-- what an operation's integer is fitted to has its lowest bits
+pub fitted_lowest : (p : PrimOp) (params : List ℕ) (kind : Kind) (width : ℕ) (spots : List Spot) → width ≤ 64 → IsLowest p params width spots (λ vs. fitted kind width (integer_result p vs params))
+fitted_lowest p params kind width spots le F = let e : min width 128 ≡ width = omega (arith, le) in ap (λ w. bits_of w (integer_result p (spot_values F spots) params)) e
