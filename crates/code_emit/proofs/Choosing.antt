@@ -1,5 +1,5 @@
 -- Choices one behind the other.
-use Rattle.std.proofs.Common.{◌≡◌, ℕ, zero, suc, ◌+◌, ◌-◌, ◌<◌, ◌≤◌, true, true≢false, List, [], ◌∷◌, map, length, get_or, drop, take, Option, Some, None, option_and_then, if◌then◌else◌, ◌&&◌, refl, sym, ap, ap₂, ◌∙◌, arith, All}
+use Rattle.std.proofs.Common.{◌≡◌, ℕ, zero, suc, ◌-◌, ◌<◌, ◌≤◌, true≢false, List, [], ◌∷◌, length, get_or, drop, take, Some, None, option_and_then, if◌then◌else◌, ◌&&◌, refl, sym, ap, ap₂, ◌∙◌, arith, All}
 use Rattle.std.specs.Prelude.{IsSome}
 use Rattle.cycle_values.specs.Values.{is_one}
 use Rattle.ground_net.specs.Grounds.{chosen}

@@ -6,3 +6,4 @@ pub mod Counting
 pub mod Spanning
 pub mod Nesting
 pub mod Choosing
+pub mod Following

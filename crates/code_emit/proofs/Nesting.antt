@@ -1,5 +1,5 @@
 -- Operations on the results of operations.
-use Rattle.std.proofs.Common.{◌≡◌, ℕ, zero, suc, ◌+◌, ◌-◌, ◌/◌, ◌%◌, ◌^◌, ◌<◌, ◌≤◌, ◌==◌, ◌&&◌, true, nat_le, nat_lt, List, [], ◌∷◌, map, length, slice_index, Option, Some, None, option_and_then, min, refl, sym, subst, ap, ◌∙◌, arith, All, ⊎_elim}
+use Rattle.std.proofs.Common.{◌≡◌, ℕ, zero, suc, ◌+◌, ◌-◌, ◌/◌, ◌%◌, ◌^◌, ◌<◌, ◌≤◌, ◌==◌, ◌&&◌, nat_le, nat_lt, List, [], ◌∷◌, map, length, slice_index, Option, Some, None, option_and_then, min, refl, sym, subst, ap, ◌∙◌, arith, All, ⊎_elim}
 use Rattle.std.specs.Prelude.{IsSome, IfSome}
 use Rattle.std.proofs.lemmas.Bool.{ltb-true}
 use Rattle.bit_words.specs.declared.value.Kind.{Kind}
@@ -13,7 +13,7 @@ use Rattle.prim_ops.proofs.Residues.{word_low}
 use Rattle.cycle_values.specs.Values.{operation}
 use Rattle.ground_net.specs.declared.ground.Ground.{Ground}
 use Rattle.ground_net.specs.declared.ground.Ground.TheVariants.{Op}
-use Rattle.ground_net.specs.Grounds.{Sight, value}
+use Rattle.ground_net.specs.Grounds.{value}
 use Rattle.ground_net.proofs.Layers.{value-Op}
 use Rattle.net_meaning.specs.Shapes.{Shape, shaped, shape_of_value, Table, shape, all_of, params_fit, is_row, width_of_row, shape_of_row}
 use Rattle.net_meaning.proofs.Shaping.{and_then, if_some, both_true, operation_shape}

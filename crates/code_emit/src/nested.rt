@@ -5,8 +5,9 @@ ghost use Rattle.prim_ops.specs.declared.operation.PrimOp.TheVariants.{Tail, Bit
 ghost use Rattle.ground_net.specs.declared.ground.Ground.TheVariants.{Op as Op_of};
 ghost use Rattle.net_meaning.specs.Shapes.{shaped, shape_of_row};
 ghost use Rattle.flat_code.specs.Meaning.{spot_shape};
-ghost use Rattle.flat_code.specs.Fine.{spot_shapes};
+ghost use Rattle.flat_code.specs.Fine.{spot_shapes, spot_slots, slots_of};
 ghost use Rattle.code_draft.specs.Drafts.{IsDraft, Stands, Makes};
+ghost use Rattle.code_draft.specs.Segments.{Step};
 ghost use Rattle.code_words.specs.Ways.{IsMade};
 ghost use Rattle.code_emit.specs.Nested.{nested_shape, nested_value, TakesLowest};
 
@@ -65,6 +66,7 @@ pub(crate) fn emit_nested(
     requires { IsSome (nested_shape inner.prim inner.params.now outer.prim outer.params.now (spot_shapes spots)) }
     ensures shape { IfOk result (λ s. nested_shape inner.entry.prim inner.entry.params.now outer.entry.prim outer.entry.params.now (spot_shapes spots) ≡ Some (spot_shape s)) }
     ensures makes { IfOk result (λ s. IsDraft draft.old → All (Stands draft.old) spots → Makes draft.old draft.new s (IsMade (nested_value inner.entry.prim inner.entry.params.now outer.entry.prim outer.entry.params.now) spots (spot_shape s))) }
+    ensures step { IfOk result (λ s. Step draft.old draft.new (slots_of spots) (spot_slots s) 2) }
 {
     match lowest(draft, spots.as_slice(), inner, outer)? {
         Some(spot) => Ok(spot),
@@ -83,6 +85,7 @@ fn lowest(
     ensures shape { IfOk result (λ o. IfSome o (λ s. nested_shape inner.entry.prim inner.entry.params.now outer.entry.prim outer.entry.params.now (spot_shapes spots.now) ≡ Some (spot_shape s))) }
     ensures makes { IfOk result (λ o. IfSome o (λ s. IsDraft draft.old → All (Stands draft.old) spots.now → Makes draft.old draft.new s (IsMade (nested_value inner.entry.prim inner.entry.params.now outer.entry.prim outer.entry.params.now) spots.now (spot_shape s)))) }
     ensures none { result ≡ Ok None → draft.new ≡ draft.old }
+    ensures step { IfOk result (λ o. IfSome o (λ s. Step draft.old draft.new (slots_of spots.now) (spot_slots s) 2)) }
 {
     if !takes_lowest(outer) {
         return Ok(None);
@@ -102,6 +105,7 @@ fn emit_both(
     requires { IsSome (nested_shape inner.prim inner.params.now outer.prim outer.params.now (spot_shapes spots)) }
     ensures shape { IfOk result (λ s. nested_shape inner.entry.prim inner.entry.params.now outer.entry.prim outer.entry.params.now (spot_shapes spots) ≡ Some (spot_shape s)) }
     ensures makes { IfOk result (λ s. IsDraft draft.old → All (Stands draft.old) spots → Makes draft.old draft.new s (IsMade (nested_value inner.entry.prim inner.entry.params.now outer.entry.prim outer.entry.params.now) spots (spot_shape s))) }
+    ensures step { IfOk result (λ s. Step draft.old draft.new (slots_of spots) (spot_slots s) 2) }
 {
     let between = emit_operation(alloc, draft, inner.prim, spots, inner.params)?;
     let mut one = List::new(alloc);

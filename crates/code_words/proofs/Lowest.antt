@@ -2,7 +2,6 @@
 use Rattle.std.proofs.Common.{◌≡◌, ℕ, ◌+◌, ◌-◌, ◌*◌, ◌%◌, ◌^◌, ◌<◌, ◌≤◌, List, [], ◌∷◌, slice_index, ℤ, pos, neg_ℤ, ◌+ℤ◌, ◌-ℤ◌, refl, sym, subst, ap, ◌∙◌, arith, pow_mono, All, ⊎_elim, min}
 use Rattle.std.proofs.lemmas.Int.{ints}
 use Rattle.bit_words.specs.declared.value.Kind.{Kind}
-use Rattle.bit_words.specs.declared.value.Value.{Value}
 use Rattle.bit_words.specs.Values.{integer_of, bits_of}
 use Rattle.bit_words.proofs.Congruence.{Level, Level-trans}
 use Rattle.prim_ops.specs.declared.operation.PrimOp.{PrimOp}
@@ -13,7 +12,6 @@ use Rattle.cycle_values.specs.Values.{fitted}
 use Rattle.flat_code.specs.declared.instr.Op.TheVariants as op
 use Rattle.flat_code.specs.declared.instr.Spot.{Spot}
 use Rattle.flat_code.specs.Meaning.{spot_value, spot_values, minus}
-use Rattle.code_draft.specs.declared.draft.Draft.{Draft}
 use Rattle.code_draft.specs.Drafts.{Stands}
 use Rattle.code_draft.proofs.Cuts.{masked}
 use Rattle.code_words.specs.Working.{working}

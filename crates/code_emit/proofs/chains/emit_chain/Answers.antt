@@ -1,12 +1,15 @@
-use Rattle.std.proofs.Common.{◌≡◌, ℕ, ◌-◌, ◌<◌, ◌≤◌, [], ◌∷◌, Some, All, drop, length, sym, subst, ap, ◌∙◌, arith}
+use Rattle.std.proofs.Common.{◌-◌, ◌<◌, ◌≤◌, All, drop, length, sym, subst, ap, ◌∙◌, arith}
 use Rattle.std.specs.Prelude.{IsSome}
 use Rattle.ground_net.specs.Grounds.{chosen}
 use Rattle.net_meaning.specs.Shapes.{shape_of_choice}
 use Rattle.flat_code.specs.Meaning.{spot_shape}
-use Rattle.flat_code.specs.Fine.{spot_shapes}
+use Rattle.flat_code.specs.Fine.{spot_shapes, spot_slots, slots_of}
 use Rattle.code_draft.specs.Drafts.{IsDraft, Stands, Makes}
+use Rattle.code_draft.specs.Segments.{Segment, Step}
 use Rattle.code_words.specs.Ways.{IsMade}
 use Rattle.code_emit.proofs.Choosing.{twice, odd_long, choice_from, split_at, two_less, none_less, three_less, chain_shape, chain_step, rest_all}
+use Rattle.code_emit.specs.Spans.{ComeBefore}
+use Rattle.code_emit.proofs.Following.{chain_segment}
 use Rattle.code_emit.proofs.chains.emit_chain.Goals as goal
 
 pub emit_one_choice-requires : goal.emit_one_choice-requires
@@ -35,6 +38,9 @@ loop-at-init c =
       within = omega (arith, many);
       shape = ap (λ xs. shape_of_choice (spot_shapes xs)) (sym same) ∙ c.in_ok-last.ensures.shape;
       makes = subst (λ xs. IsDraft d → All (Stands d) xs → Makes d e last (IsMade chosen xs (spot_shape last))) same c.in_ok-last.ensures.makes;
+      segment = λ come.
+          let st = subst (λ xs. Step d e (slots_of xs) (spot_slots last) 2) same c.in_ok-last.ensures.step in
+          st.segment;
     }
 
 pub emit_one_choice-requires-in-loop-at : goal.emit_one_choice-requires-in-loop-at
@@ -79,6 +85,8 @@ loop-at-preserved c =
       makes = subst (λ xs. IsDraft d → All (Stands d) xs → Makes d f s (IsMade chosen xs (spot_shape s))) (sym items)
           (chain_step d e f (drop at ss) first second last s i.shape i.makes
           (subst (λ xs. IsDraft e → All (Stands e) xs → Makes e f s (IsMade chosen xs (spot_shape s))) same c.in_ok-last-2.ensures.makes));
+      segment = subst (λ xs. ComeBefore d.slots (slots_of xs) → Segment d f (slots_of xs) (spot_slots s) 2) (sym items)
+          (chain_segment d e f (drop at ss) first second last s i.segment (subst (λ xs. Step e f (slots_of xs) (spot_slots s) 2) same c.in_ok-last-2.ensures.step));
     }
 
 pub returns-clause-shape : goal.returns-clause-shape
@@ -94,3 +102,12 @@ returns-clause-makes c =
     let last = c.loop-at.last in
     let none = none_less i.even.0 c.loop-at.at i.even.1 (omega (arith, c.loop-at-test.false)) in
     subst (λ n. IsDraft d → All (Stands d) (drop n c.args.spots.now) → Makes d c.loop-at.draft last (IsMade chosen (drop n c.args.spots.now) (spot_shape last))) none i.makes
+
+pub returns-clause-segment : goal.returns-clause-segment
+returns-clause-segment c =
+    let i = c.loop-at.invariant in
+    let d = c.args.draft.now in
+    let ss = c.args.spots.now in
+    let last = c.loop-at.last in
+    let none = none_less i.even.0 c.loop-at.at i.even.1 (omega (arith, c.loop-at-test.false)) in
+    subst (λ n. ComeBefore d.slots (slots_of (drop n ss)) → Segment d c.loop-at.draft (slots_of (drop n ss)) (spot_slots last) 2) none i.segment

@@ -1,5 +1,4 @@
-use Rattle.std.proofs.Common.{◌≡◌, Option, Some, None, sym, subst}
-use Rattle.std.specs.Prelude.{IfSome}
+use Rattle.std.proofs.Common.{sym, subst}
 use Rattle.code_draft.specs.Drafts.{Makes}
 use Rattle.code_words.specs.Ways.{IsMade}
 use Rattle.code_words.proofs.There.{some_so}
