@@ -82,7 +82,7 @@ pub none_emitted : (S : Sources) (d : Draft) → EmitsAll S [] d d []
 none_emitted S d is srcs = record { grows = grows_not d is; stand = λ k x lt. absurd (omega (arith, lt)); holds = λ words inputs F sight sol sees. refl; cut = λ words inputs F sight sol sees. λ k x lt. absurd (omega (arith, lt)) }
 
 -- the low word of a value that stands there
-cut_there : (F : List ℕ) (s : Spot) (v : Value) → Holds F s v → Cut F s
+pub cut_there : (F : List ℕ) (s : Spot) (v : Value) → Holds F s v → Cut F s
 cut_there F s v h =
     let width : v.width ≡ s.width = ap (λ (t : Shape). t.width) h.shape in
     subst (λ w. slice_index F s.low < 2 ^ w) width (subst (λ n. n < 2 ^ v.width) (sym h.low) (below v.bits (2 ^ v.width) v.within))
@@ -142,7 +142,7 @@ formed S g gs a b c ss s f t all last is_shape region at is_value is srcs =
     }
 
 -- What is made of what was emitted.
-made : (S : Sources) (g : Ground) (gs : List Ground) (a b c : Draft) (ss : List Spot) (s : Spot) (R : Given) (t : Shape) → EmitsAll S gs a b ss → (IsDraft b → All (Stands b) ss → Makes b c s (IsMade R ss t))
+pub made : (S : Sources) (g : Ground) (gs : List Ground) (a b c : Draft) (ss : List Spot) (s : Spot) (R : Given) (t : Shape) → EmitsAll S gs a b ss → (IsDraft b → All (Stands b) ss → Makes b c s (IsMade R ss t))
     → shape g (sources_table S) ≡ Some t → ((sight : Sight) → value g sight ≡ R (map (λ h. value h sight) gs)) → Emits S g a c s
 made S g gs a b c ss s R t all last at is_value is srcs =
     let first = all is srcs in

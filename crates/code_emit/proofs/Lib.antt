@@ -5,3 +5,6 @@ pub mod Arms
 pub mod Counting
 pub mod Spanning
 pub mod Leaves
+pub mod Nesting
+pub mod Choosing
+pub mod Following

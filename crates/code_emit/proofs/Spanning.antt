@@ -8,9 +8,9 @@ use Rattle.std.proofs.lemmas.List.Sums.{sum-map, sum_by-append}
 use Rattle.bit_words.specs.declared.value.Kind.{Kind}
 use Rattle.prim_ops.specs.declared.operation.PrimOp.{PrimOp}
 use Rattle.ground_net.specs.declared.ground.Ground.{Ground}
-use Rattle.ground_net.specs.declared.ground.Ground.TheVariants.{Leaf, Op, Mux, Select, Load, Fit}
+use Rattle.ground_net.specs.declared.ground.Ground.TheVariants.{Leaf, Op, Select, Load, Fit}
 use Rattle.ground_net.specs.Grounds.{mentions}
-use Rattle.ground_net.proofs.Layers.{all_mentions, mentions-Leaf, mentions-Op, mentions-Mux, mentions-Select, mentions-Load, mentions-Fit}
+use Rattle.ground_net.proofs.Layers.{all_mentions, mentions-Leaf, mentions-Op, mentions-Select, mentions-Load, mentions-Fit}
 use Rattle.flat_code.specs.declared.instr.Spot.{Spot}
 use Rattle.flat_code.specs.Fine.{among, spot_slots, slots_of}
 use Rattle.code_draft.specs.declared.draft.Draft.{Draft}
@@ -40,7 +40,7 @@ grounds_before S n gs before k e = among_each (ground_slots S) gs k (k < n) (λ 
 pub found_later : (S : Sources) (n m : ℕ) → n ≤ m → AreFoundBefore S n → AreFoundBefore S m
 found_later S n m le before x k e = let lt = before x k e in omega (arith, lt, le)
 
-slots_each : (S : Sources) (gs : List Ground) → flat_map (ground_slots S) gs ≡ flat_map (leaf_slots S) (all_mentions gs)
+pub slots_each : (S : Sources) (gs : List Ground) → flat_map (ground_slots S) gs ≡ flat_map (leaf_slots S) (all_mentions gs)
 slots_each S [] = refl
 slots_each S (g ∷ gs) = ap (λ xs. ground_slots S g ++ xs) (slots_each S gs)
     ∙ (sym (flat_map-append (leaf_slots S) (mentions g) (all_mentions gs)) ∙ ap (flat_map (leaf_slots S)) (sym (flat_map-cons (λ l. l) (mentions g) (map mentions gs))))
@@ -94,7 +94,7 @@ leaf_spans S g x src a b s e at st = step_spans S g a b s (source_slots src) (λ
 
 -- a step on what was emitted
 module _ (S : Sources) (g : Ground) (gs : List Ground) (a b c : Draft) (ss : List Spot) (s : Spot) (all : SpansAll S gs a b ss) (last : Step b c (slots_of ss) (spot_slots s) 2) where
-  parts_span : sum_by tips gs ≤ tips g → mentions g ≡ all_mentions gs → Spans S g a c s
+  pub parts_span : sum_by tips gs ≤ tips g → mentions g ≡ all_mentions gs → Spans S g a c s
   parts_span le same before =
       let some = tips_some g in
       subst (λ xs. Segment a c xs (spot_slots s) (2 * tips g)) (slots_each S gs ∙ ap (flat_map (leaf_slots S)) (sym same))
@@ -105,9 +105,6 @@ module _ (S : Sources) (g : Ground) (gs : List Ground) (a b c : Draft) (ss : Lis
 
   pub op_spans : (prim : PrimOp) (params : List ℕ) → g ≡ Op prim gs params → Spans S g a c s
   op_spans prim params e = parts_span (counted (ap tips e ∙ tips-Op prim gs params)) (ap mentions e ∙ mentions-Op prim gs params)
-
-  pub mux_spans : g ≡ Mux gs → Spans S g a c s
-  mux_spans e = parts_span (counted (ap tips e ∙ tips-Mux gs)) (ap mentions e ∙ mentions-Mux gs)
 
   pub load_spans : (m k : ℕ) → g ≡ Load m k gs → Spans S g a c s
   load_spans m k e = parts_span (counted (ap tips e ∙ tips-Load m k gs)) (ap mentions e ∙ mentions-Load m k gs)

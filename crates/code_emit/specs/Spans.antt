@@ -1,5 +1,6 @@
 -- The code of an expression reads the slots of the leaves that it mentions and its own, and at most two of its own are live at once for each of its tips.
-use Rattle.std.specs.Prelude.{◌≡◌, ℕ, ◌*◌, ◌<◌, true, List, [], flat_map, sum_by, Option, Some, None, ◌∷◌}
+use Rattle.std.specs.Prelude.{◌≡◌, ℕ, ◌*◌, ◌<◌, ◌≤◌, nat_le, Bool, true, List, [], length, flat_map, sum_by, Option, Some, None, ◌∷◌}
+use Rattle.std.specs.List.{list_all}
 use Rattle.ground_net.specs.declared.ground.Ground.{Ground}
 use Rattle.ground_net.specs.declared.ground.Ground.TheVariants.{Leaf}
 use Rattle.ground_net.specs.Grounds.{mentions}
@@ -55,3 +56,15 @@ EvaluatesAll S groups old new = AreFoundBefore S old.slots → Evaluates S group
 -- A leaf that is found in the frame stands there, and needs no code.
 abbrev pub StandsThere : Sources → Ground → Draft → Draft → Spot → Type 0
 StandsThere S g old new s = (x : ℕ) (t : Spot) → g ≡ Leaf x → leaf_source S x ≡ Some (source.Frame t) → (s ≡ t) × (new ≡ old)
+
+-- slots before this one
+abbrev pub ComeBefore : ℕ → List ℕ → Type 0
+ComeBefore n xs = (k : ℕ) → among xs k ≡ true → k < n
+
+-- What is computed of some spots' values, behind code that keeps their slots: where that leaves two slots live for each of them, no more are live.
+abbrev pub Follows : List Spot → Draft → Draft → Spot → Type 0
+Follows ss old new s = (start : Draft) (outer : List ℕ) (n : ℕ) → ComeBefore start.slots outer → 2 * length ss ≤ n → Segment start old outer (slots_of ss) n → Segment start new outer (spot_slots s) n
+
+-- each of at most 64 bits
+abbrev pub are_words : List Spot → Bool
+are_words spots = list_all (λ spot. nat_le spot.width 64) spots

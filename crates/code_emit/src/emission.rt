@@ -11,9 +11,11 @@ ghost use Rattle.code_emit.specs.Spans.{Spans, SpansAll, StandsThere, source_slo
 ghost use Rattle.code_emit.specs.declared.sources.Source.TheVariants.{Frame as A_frame};
 ghost use Rattle.flat_code.specs.declared.instr.Spot.{Spot as TheSpot};
 
+use crate::chains::emit_choice;
 use crate::forms::{items_measure, joined};
+use crate::nested::{Row, emit_nested, inner_of};
 use crate::sources::{Elements, Source, Sources};
-use crate::values::{emit_choice, emit_fit, emit_operation};
+use crate::values::{emit_fit, emit_operation};
 use bit_words::List;
 use code_draft::{Draft, constant, input, load, wide_value};
 use flat_code::{Form, Spot};
@@ -37,13 +39,23 @@ pub fn emit(
     match ground {
         Ground::Const(value) => constant(draft, *value),
         Ground::Leaf(leaf) => fetch(draft, source_of(sources, *leaf)),
-        Ground::Op(prim, operands, params) => {
-            let spots = emit_all(alloc, draft, sources, operands.as_slice())?;
-            emit_operation(alloc, draft, *prim, spots, params.as_slice())
-        }
+        Ground::Op(prim, operands, params) => match inner_of(operands.as_slice()) {
+            Some(inner) => {
+                let outer = Row {
+                    prim: *prim,
+                    params: params.as_slice(),
+                };
+                let spots = emit_all(alloc, draft, sources, inner.operands)?;
+                emit_nested(alloc, draft, spots, inner.row, outer)
+            }
+            None => {
+                let spots = emit_all(alloc, draft, sources, operands.as_slice())?;
+                emit_operation(alloc, draft, *prim, spots, params.as_slice())
+            }
+        },
         Ground::Mux(items) => {
             let spots = emit_all(alloc, draft, sources, items.as_slice())?;
-            emit_choice(draft, spots)
+            emit_choice(alloc, draft, spots)
         }
         Ground::Select(index, items) => {
             let front = emit_all(alloc, draft, sources, index.as_slice())?;

@@ -3,9 +3,11 @@
 //! what the sources show (FIRRTL specification 3.0, "Expressions" and "Primitive Operations").
 #![tactic(auto)]
 
+pub mod chains;
 pub mod emission;
 pub mod forms;
 pub mod laws;
+pub mod nested;
 pub mod sources;
 pub mod values;
 

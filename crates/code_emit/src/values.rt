@@ -40,8 +40,8 @@ pub(crate) fn emit_operation(
     }
 }
 
-/// The value of a choice of what stands at spots.
-pub(crate) fn emit_choice(draft: &mut Draft, spots: List<Spot>) -> Result<Spot, AllocError>
+/// The value of a choice of what stands at spots, by one instruction.
+pub(crate) fn emit_one_choice(draft: &mut Draft, spots: List<Spot>) -> Result<Spot, AllocError>
     requires { IsSome (shape_of_choice (spot_shapes spots)) }
     ensures shape { IfOk result (λ s. shape_of_choice (spot_shapes spots) ≡ Some (spot_shape s)) }
     ensures makes { IfOk result (λ s. IsDraft draft.old → All (Stands draft.old) spots → Makes draft.old draft.new s (IsMade chosen spots (spot_shape s))) }

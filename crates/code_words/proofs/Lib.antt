@@ -4,3 +4,4 @@ pub mod Making
 pub mod Ones
 pub mod Twos
 pub mod Reading
+pub mod Lowest

@@ -34,7 +34,7 @@ module _ (x : Spot) (few : x.width ≤ 64) where
   low_written d a = written_low d x (first_there (Stands d) x [] a)
 
   -- a value's bits are its integer's
-  own_bits : (v : Value) → v.bits ≡ bits_of v.width (integer_of v)
+  pub own_bits : (v : Value) → v.bits ≡ bits_of v.width (integer_of v)
   own_bits v = sym (bits_back v.kind v.width v.bits v.within)
 
   module _ (width : ℕ) (R : Given) where

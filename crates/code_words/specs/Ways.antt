@@ -1,10 +1,11 @@
 -- Words that are made of words, and the values that they are.
-use Rattle.std.specs.Prelude.{◌≡◌, ℕ, ◌/◌, ◌%◌, ◌^◌, ◌<◌, ◌≤◌, true, List, [], ◌∷◌, slice_index, Some, All}
+use Rattle.std.specs.Prelude.{◌≡◌, ℕ, ◌/◌, ◌%◌, ◌^◌, ◌<◌, ◌≤◌, ◌⊎◌, true, List, [], ◌∷◌, slice_index, Some, All}
 use Rattle.bit_words.specs.declared.value.Kind.{Kind}
 use Rattle.bit_words.specs.declared.value.Kind.TheVariants.{Unsigned}
 use Rattle.bit_words.specs.declared.value.Value.{Value}
 use Rattle.bit_words.specs.Values.{integer_of, bits_of}
 use Rattle.prim_ops.specs.declared.operation.PrimOp.{PrimOp}
+use Rattle.prim_ops.specs.Results.{integer_result}
 use Rattle.cycle_values.specs.Values.{fitted, lone, operation}
 use Rattle.net_meaning.specs.Shapes.{Shape, shaped, shape_of_value, shape_of_row}
 use Rattle.flat_code.specs.declared.instr.Instr.{Instr}
@@ -75,3 +76,13 @@ Refits x width R = (F : List ℕ) → (R (spot_value F x ∷ [])).bits ≡ bits_
 -- It has the bits from this one on, cut to a width.
 abbrev pub Shifts : Spot → ℕ → ℕ → Given → Type 0
 Shifts x low width R = (F : List ℕ) → (R (spot_value F x ∷ [])).bits ≡ (spot_value F x).bits / 2 ^ low % 2 ^ width
+
+-- It has the lowest bits of the integer that an operation gives, so many of them.
+abbrev pub IsLowest : PrimOp → List ℕ → ℕ → List Spot → Given → Type 0
+IsLowest prim params width spots R = (F : List ℕ) → (R (spot_values F spots)).bits ≡ bits_of width (integer_result prim (spot_values F spots) params)
+
+-- A spot of at most 64 bits whose word has the lowest bits of its value's integer, so many of them: that of a UInt is the integer, and
+-- that of an SInt has no bits above its width.
+pub record KeepsLowest (s : Spot) (width : ℕ) : Type 0 where
+  pub few : s.width ≤ 64
+  pub low : (s.kind ≡ Unsigned) ⊎ (width ≤ s.width)

@@ -8,9 +8,11 @@ pub mod fits;
 pub mod on_one;
 pub mod on_two;
 pub mod operations;
+pub mod sums;
 pub mod ways;
 
 pub use choices::choice_word;
 pub use fits::fit_word;
 pub use operations::operation_word;
+pub use sums::lowest_word;
 pub use ways::Measure;

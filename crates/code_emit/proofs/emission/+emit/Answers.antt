@@ -10,15 +10,31 @@ use Rattle.code_emit.proofs.Shaped.{ok_so}
 use Rattle.code_emit.proofs.Arms.{ok_both, spot_shape_by, op_shaped, op_row, mux_shaped, mux_row, index_shaped, items_shaped, items_row, index_row, load_row, load_element, fit_shaped, fit_row, fit_is, picked_shape, one_ground, one_more_shape}
 use Rattle.code_emit.proofs.Emitting.{none_emitted, const_emits, leaf_emits, op_emits, mux_emits, fit_emits, select_emits, load_emits, both_emitted, one_more_emitted}
 use Rattle.code_emit.specs.Spans.{SpansAll}
-use Rattle.code_emit.proofs.Spanning.{none_spans, fetched_spans, leaf_spans, op_spans, mux_spans, load_spans, fit_spans, select_spans, both_span, one_more_spans}
+use Rattle.code_emit.proofs.Spanning.{none_spans, fetched_spans, leaf_spans, op_spans, load_spans, fit_spans, select_spans, both_span, one_more_spans}
 use Rattle.code_emit.proofs.Leaves.{no_leaf, leaf_stands, leaf-Const, leaf-Op, leaf-Mux, leaf-Select, leaf-Load, leaf-Fit}
+use Rattle.code_emit.proofs.Nesting.{nested_shaped, nested_row, nested_emits}
+use Rattle.code_emit.proofs.Following.{mux_spans, nested_spans}
 use Rattle.code_emit.proofs.emission.+emit.Goals as goal
 
 pub emit-emit_all-requires : goal.emit-emit_all-requires
 emit-emit_all-requires t c =
+    let table = sources_table c.args.sources.now in
+    let g = c.args.ground.now in
+    let o = c.in-Op.prim in
+    let ps = c.in-Op.params in
+    let p = c.in-Some.inner.row.prim in
+    let qs = c.in-Some.inner.row.params.now in
+    let gs = c.in-Some.inner.operands.now in
+    let e : g ≡ Op o (Op p gs qs ∷ []) ps = c.in-Op.is ∙ ap (λ os. Op o os ps) (sym c.as_slice.ensures ∙ c.in-Some.ensures) in (
+      search (rules, the_lemmas, e),
+      nested_shaped table g c.requires o ps p qs gs e,
+    )
+
+pub emit-emit_all-requires-in-None : goal.emit-emit_all-requires-in-None
+emit-emit_all-requires-in-None t c =
     let table = sources_table c.args.sources.now in (
       search (rules, the_lemmas, c.in-Op.is),
-      subst (AreShaped table) (sym c.as_slice.ensures) (op_shaped table c.args.ground.now c.requires c.in-Op.prim c.in-Op.operands c.in-Op.params c.in-Op.is),
+      subst (AreShaped table) (sym c.as_slice-in-None.ensures) (op_shaped table c.args.ground.now c.requires c.in-Op.prim c.in-Op.operands c.in-Op.params c.in-Op.is),
     )
 
 pub emit-emit_all-requires-in-Mux : goal.emit-emit_all-requires-in-Mux
@@ -67,40 +83,86 @@ pub emit-returns-in-Leaf-clause-emits : goal.emit-returns-in-Leaf-clause-emits
 emit-returns-in-Leaf-clause-emits t c =
     ok_so c.fetch.result c.fetch.ensures.makes (λ s m. leaf_emits c.args.sources.now c.args.ground.now c.in-Leaf.leaf c.source_of.result c.args.draft.now c.fetch.new.draft s c.in-Leaf.is c.source_of.ensures m)
 
+pub emit-emit_nested-requires : goal.emit-emit_nested-requires
+emit-emit_nested-requires t c =
+    let table = sources_table c.args.sources.now in
+    let g = c.args.ground.now in
+    let o = c.in-Op.prim in
+    let ps = c.as_slice-in-Some.result.now in
+    let p = c.in-Some.inner.row.prim in
+    let qs = c.in-Some.inner.row.params.now in
+    let gs = c.in-Some.inner.operands.now in
+    let ss = c.in_ok-spots-in-Some.spots in
+    let e : g ≡ Op o (Op p gs qs ∷ []) ps =
+    c.in-Op.is ∙ (ap (λ os. Op o os c.in-Op.params) (sym c.as_slice.ensures ∙ c.in-Some.ensures) ∙ ap (Op o (Op p gs qs ∷ [])) (sym c.as_slice-in-Some.ensures)) in
+    subst (λ x. IsSome x) (sym (nested_row table g c.requires o ps p qs gs e ss c.in_ok-spots-in-Some.ensures.shapes)) c.requires
+
+pub emit-returns-in_ok-spots-in-Some-clause-shape : goal.emit-returns-in_ok-spots-in-Some-clause-shape
+emit-returns-in_ok-spots-in-Some-clause-shape t c =
+    let table = sources_table c.args.sources.now in
+    let g = c.args.ground.now in
+    let o = c.in-Op.prim in
+    let ps = c.as_slice-in-Some.result.now in
+    let p = c.in-Some.inner.row.prim in
+    let qs = c.in-Some.inner.row.params.now in
+    let gs = c.in-Some.inner.operands.now in
+    let ss = c.in_ok-spots-in-Some.spots in
+    let e : g ≡ Op o (Op p gs qs ∷ []) ps =
+    c.in-Op.is ∙ (ap (λ os. Op o os c.in-Op.params) (sym c.as_slice.ensures ∙ c.in-Some.ensures) ∙ ap (Op o (Op p gs qs ∷ [])) (sym c.as_slice-in-Some.ensures)) in
+    ok_so c.emit_nested.result c.emit_nested.ensures.shape (λ s h. sym (nested_row table g c.requires o ps p qs gs e ss c.in_ok-spots-in-Some.ensures.shapes) ∙ h)
+
+pub emit-returns-in_ok-spots-in-Some-clause-emits : goal.emit-returns-in_ok-spots-in-Some-clause-emits
+emit-returns-in_ok-spots-in-Some-clause-emits t c =
+    let S = c.args.sources.now in
+    let table = sources_table S in
+    let g = c.args.ground.now in
+    let o = c.in-Op.prim in
+    let ps = c.as_slice-in-Some.result.now in
+    let p = c.in-Some.inner.row.prim in
+    let qs = c.in-Some.inner.row.params.now in
+    let gs = c.in-Some.inner.operands.now in
+    let ss = c.in_ok-spots-in-Some.spots in
+    let e : g ≡ Op o (Op p gs qs ∷ []) ps =
+    c.in-Op.is ∙ (ap (λ os. Op o os c.in-Op.params) (sym c.as_slice.ensures ∙ c.in-Some.ensures) ∙ ap (Op o (Op p gs qs ∷ [])) (sym c.as_slice-in-Some.ensures)) in
+    ok_so c.emit_nested.result (ok_both _ _ c.emit_nested.result c.emit_nested.ensures.shape c.emit_nested.ensures.makes) (λ s h.
+    nested_emits S g o ps p qs gs c.args.draft.now c.emit_all.new.draft c.emit_nested.new.draft ss s (spot_shape s) e c.in_ok-spots-in-Some.ensures.emits h.1
+    (sym (nested_row table g c.requires o ps p qs gs e ss c.in_ok-spots-in-Some.ensures.shapes) ∙ h.0))
+
 pub emit-emit_operation-requires : goal.emit-emit_operation-requires
 emit-emit_operation-requires t c =
     let table = sources_table c.args.sources.now in
     let g = c.args.ground.now in
     let prim = c.in-Op.prim in
-    let gs = c.as_slice.result.now in
-    let ps = c.as_slice-in-Op.result.now in
-    let e : g ≡ Op prim gs ps = c.in-Op.is ∙ ap₂ (λ os qs. Op prim os qs) (sym c.as_slice.ensures) (sym c.as_slice-in-Op.ensures) in
-    subst (λ o. IsSome o) (sym (op_row table g c.requires prim gs ps c.in_ok-spots-in-Op.spots e c.in_ok-spots-in-Op.ensures.shapes)) c.requires
+    let gs = c.as_slice-in-None.result.now in
+    let ps = c.as_slice-in-None-2.result.now in
+    let ss = c.in_ok-spots-in-None.spots in
+    let e : g ≡ Op prim gs ps = c.in-Op.is ∙ ap₂ (λ os qs. Op prim os qs) (sym c.as_slice-in-None.ensures) (sym c.as_slice-in-None-2.ensures) in
+    subst (λ o. IsSome o) (sym (op_row table g c.requires prim gs ps ss e c.in_ok-spots-in-None.ensures.shapes)) c.requires
 
-pub emit-returns-in_ok-spots-in-Op-clause-shape : goal.emit-returns-in_ok-spots-in-Op-clause-shape
-emit-returns-in_ok-spots-in-Op-clause-shape t c =
+pub emit-returns-in_ok-spots-in-None-clause-shape : goal.emit-returns-in_ok-spots-in-None-clause-shape
+emit-returns-in_ok-spots-in-None-clause-shape t c =
     let table = sources_table c.args.sources.now in
     let g = c.args.ground.now in
     let prim = c.in-Op.prim in
-    let gs = c.as_slice.result.now in
-    let ps = c.as_slice-in-Op.result.now in
-    let ss = c.in_ok-spots-in-Op.spots in
-    let e : g ≡ Op prim gs ps = c.in-Op.is ∙ ap₂ (λ os qs. Op prim os qs) (sym c.as_slice.ensures) (sym c.as_slice-in-Op.ensures) in
-    ok_so c.emit_operation.result c.emit_operation.ensures.shape (λ s h. sym (op_row table g c.requires prim gs ps ss e c.in_ok-spots-in-Op.ensures.shapes) ∙ h)
+    let gs = c.as_slice-in-None.result.now in
+    let ps = c.as_slice-in-None-2.result.now in
+    let ss = c.in_ok-spots-in-None.spots in
+    let e : g ≡ Op prim gs ps = c.in-Op.is ∙ ap₂ (λ os qs. Op prim os qs) (sym c.as_slice-in-None.ensures) (sym c.as_slice-in-None-2.ensures) in
+    ok_so c.emit_operation.result c.emit_operation.ensures.shape (λ s h. sym (op_row table g c.requires prim gs ps ss e c.in_ok-spots-in-None.ensures.shapes) ∙ h)
 
-pub emit-returns-in_ok-spots-in-Op-clause-emits : goal.emit-returns-in_ok-spots-in-Op-clause-emits
-emit-returns-in_ok-spots-in-Op-clause-emits t c =
+pub emit-returns-in_ok-spots-in-None-clause-emits : goal.emit-returns-in_ok-spots-in-None-clause-emits
+emit-returns-in_ok-spots-in-None-clause-emits t c =
     let S = c.args.sources.now in
     let table = sources_table S in
     let g = c.args.ground.now in
     let prim = c.in-Op.prim in
-    let gs = c.as_slice.result.now in
-    let ps = c.as_slice-in-Op.result.now in
-    let ss = c.in_ok-spots-in-Op.spots in
-    let e : g ≡ Op prim gs ps = c.in-Op.is ∙ ap₂ (λ os qs. Op prim os qs) (sym c.as_slice.ensures) (sym c.as_slice-in-Op.ensures) in
+    let gs = c.as_slice-in-None.result.now in
+    let ps = c.as_slice-in-None-2.result.now in
+    let ss = c.in_ok-spots-in-None.spots in
+    let e : g ≡ Op prim gs ps = c.in-Op.is ∙ ap₂ (λ os qs. Op prim os qs) (sym c.as_slice-in-None.ensures) (sym c.as_slice-in-None-2.ensures) in
     ok_so c.emit_operation.result (ok_both _ _ c.emit_operation.result c.emit_operation.ensures.shape c.emit_operation.ensures.makes) (λ s h.
-    op_emits S g prim gs ps c.args.draft.now c.emit_all.new.draft c.emit_operation.new.draft ss s (spot_shape s) e c.in_ok-spots-in-Op.ensures.emits h.1
-    (sym (op_row table g c.requires prim gs ps ss e c.in_ok-spots-in-Op.ensures.shapes) ∙ h.0))
+    op_emits S g prim gs ps c.args.draft.now c.emit_all-in-None.new.draft c.emit_operation.new.draft ss s (spot_shape s) e c.in_ok-spots-in-None.ensures.emits h.1
+    (sym (op_row table g c.requires prim gs ps ss e c.in_ok-spots-in-None.ensures.shapes) ∙ h.0))
 
 pub emit-emit_choice-requires : goal.emit-emit_choice-requires
 emit-emit_choice-requires t c =
@@ -241,23 +303,37 @@ emit-returns-in-Leaf-clause-spans t c =
     ok_so c.fetch.result c.fetch.ensures.step (λ s st.
     leaf_spans c.args.sources.now c.args.ground.now c.in-Leaf.leaf c.source_of.result c.args.draft.now c.fetch.new.draft s c.in-Leaf.is c.source_of.ensures st)
 
-pub emit-returns-in_ok-spots-in-Op-clause-spans : goal.emit-returns-in_ok-spots-in-Op-clause-spans
-emit-returns-in_ok-spots-in-Op-clause-spans t c =
+pub emit-returns-in_ok-spots-in-Some-clause-spans : goal.emit-returns-in_ok-spots-in-Some-clause-spans
+emit-returns-in_ok-spots-in-Some-clause-spans t c =
+    let g = c.args.ground.now in
+    let o = c.in-Op.prim in
+    let ps = c.as_slice-in-Some.result.now in
+    let p = c.in-Some.inner.row.prim in
+    let qs = c.in-Some.inner.row.params.now in
+    let gs = c.in-Some.inner.operands.now in
+    let e : g ≡ Op o (Op p gs qs ∷ []) ps =
+    c.in-Op.is ∙ (ap (λ os. Op o os c.in-Op.params) (sym c.as_slice.ensures ∙ c.in-Some.ensures) ∙ ap (Op o (Op p gs qs ∷ [])) (sym c.as_slice-in-Some.ensures)) in
+    ok_so c.emit_nested.result c.emit_nested.ensures.step (λ s st.
+    nested_spans c.args.sources.now g gs c.args.draft.now c.emit_all.new.draft c.emit_nested.new.draft c.in_ok-spots-in-Some.spots s o ps p qs e c.in_ok-spots-in-Some.ensures.spans st)
+
+pub emit-returns-in_ok-spots-in-None-clause-spans : goal.emit-returns-in_ok-spots-in-None-clause-spans
+emit-returns-in_ok-spots-in-None-clause-spans t c =
     let g = c.args.ground.now in
     let prim = c.in-Op.prim in
-    let gs = c.as_slice.result.now in
-    let ps = c.as_slice-in-Op.result.now in
-    let e : g ≡ Op prim gs ps = c.in-Op.is ∙ ap₂ (λ os qs. Op prim os qs) (sym c.as_slice.ensures) (sym c.as_slice-in-Op.ensures) in
+    let gs = c.as_slice-in-None.result.now in
+    let ps = c.as_slice-in-None-2.result.now in
+    let e : g ≡ Op prim gs ps = c.in-Op.is ∙ ap₂ (λ os qs. Op prim os qs) (sym c.as_slice-in-None.ensures) (sym c.as_slice-in-None-2.ensures) in
     ok_so c.emit_operation.result c.emit_operation.ensures.step (λ s st.
-    op_spans c.args.sources.now g gs c.args.draft.now c.emit_all.new.draft c.emit_operation.new.draft c.in_ok-spots-in-Op.spots s c.in_ok-spots-in-Op.ensures.spans st prim ps e)
+    op_spans c.args.sources.now g gs c.args.draft.now c.emit_all-in-None.new.draft c.emit_operation.new.draft c.in_ok-spots-in-None.spots s c.in_ok-spots-in-None.ensures.spans st prim ps e)
 
 pub emit-returns-in_ok-spots-in-Mux-clause-spans : goal.emit-returns-in_ok-spots-in-Mux-clause-spans
 emit-returns-in_ok-spots-in-Mux-clause-spans t c =
+    let S = c.args.sources.now in
     let g = c.args.ground.now in
     let gs = c.as_slice-in-Mux.result.now in
     let e : g ≡ Mux gs = c.in-Mux.is ∙ ap Mux (sym c.as_slice-in-Mux.ensures) in
-    ok_so c.emit_choice.result c.emit_choice.ensures.step (λ s st.
-    mux_spans c.args.sources.now g gs c.args.draft.now c.emit_all-in-Mux.new.draft c.emit_choice.new.draft c.in_ok-spots-in-Mux.spots s c.in_ok-spots-in-Mux.ensures.spans st e)
+    ok_so c.emit_choice.result c.emit_choice.ensures.follows (λ s last.
+    mux_spans S (sources_table S) g gs c.args.draft.now c.emit_all-in-Mux.new.draft c.emit_choice.new.draft c.in_ok-spots-in-Mux.spots s e c.in_ok-spots-in-Mux.ensures.shapes c.in_ok-spots-in-Mux.ensures.spans last)
 
 pub emit-returns-in_ok-spots-in-Fit-clause-spans : goal.emit-returns-in_ok-spots-in-Fit-clause-spans
 emit-returns-in_ok-spots-in-Fit-clause-spans t c =
@@ -329,3 +405,6 @@ emit-returns-in_ok-spots-in-Load-clause-stands t c = no_leaf c.args.sources.now 
 
 pub emit-returns-in_ok-spots-in-Fit-clause-stands : goal.emit-returns-in_ok-spots-in-Fit-clause-stands
 emit-returns-in_ok-spots-in-Fit-clause-stands t c = no_leaf c.args.sources.now c.args.ground.now (Fit c.in-Fit.kind c.in-Fit.width c.in-Fit.items) c.args.draft.now c.emit_fit.new.draft c.emit_fit.result c.in-Fit.is (leaf-Fit c.in-Fit.kind c.in-Fit.width c.in-Fit.items)
+
+pub emit-returns-in_ok-spots-in-Some-clause-stands : goal.emit-returns-in_ok-spots-in-Some-clause-stands
+emit-returns-in_ok-spots-in-Some-clause-stands t c = no_leaf c.args.sources.now c.args.ground.now (Op c.in-Op.prim c.in-Op.operands c.in-Op.params) c.args.draft.now c.emit_nested.new.draft c.emit_nested.result c.in-Op.is (leaf-Op c.in-Op.prim c.in-Op.operands c.in-Op.params)

@@ -11,7 +11,7 @@ use Rattle.code_emit.proofs.Arms.{ok_both, spot_shape_by}
 use Rattle.code_emit.proofs.Emitting.{wide_after}
 use Rattle.flat_code.specs.Fine.{spot_slots, slots_of}
 use Rattle.code_emit.proofs.Spanning.{step_after}
-use Rattle.code_emit.proofs.values.emit_choice.Goals as goal
+use Rattle.code_emit.proofs.values.emit_one_choice.Goals as goal
 
 pub returns-in-None-clause-makes : goal.returns-in-None-clause-makes
 returns-in-None-clause-makes c =
