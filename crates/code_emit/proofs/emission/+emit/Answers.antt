@@ -391,8 +391,8 @@ emit-returns-in-Leaf-clause-stands t c =
     ok_so c.fetch.result c.fetch.ensures.stands (λ s st.
     leaf_stands c.args.sources.now c.args.ground.now c.in-Leaf.leaf c.source_of.result c.args.draft.now c.fetch.new.draft s c.in-Leaf.is c.source_of.ensures st)
 
-pub emit-returns-in_ok-spots-in-Op-clause-stands : goal.emit-returns-in_ok-spots-in-Op-clause-stands
-emit-returns-in_ok-spots-in-Op-clause-stands t c = no_leaf c.args.sources.now c.args.ground.now (Op c.in-Op.prim c.in-Op.operands c.in-Op.params) c.args.draft.now c.emit_operation.new.draft c.emit_operation.result c.in-Op.is (leaf-Op c.in-Op.prim c.in-Op.operands c.in-Op.params)
+pub emit-returns-in_ok-spots-in-None-clause-stands : goal.emit-returns-in_ok-spots-in-None-clause-stands
+emit-returns-in_ok-spots-in-None-clause-stands t c = no_leaf c.args.sources.now c.args.ground.now (Op c.in-Op.prim c.in-Op.operands c.in-Op.params) c.args.draft.now c.emit_operation.new.draft c.emit_operation.result c.in-Op.is (leaf-Op c.in-Op.prim c.in-Op.operands c.in-Op.params)
 
 pub emit-returns-in_ok-spots-in-Mux-clause-stands : goal.emit-returns-in_ok-spots-in-Mux-clause-stands
 emit-returns-in_ok-spots-in-Mux-clause-stands t c = no_leaf c.args.sources.now c.args.ground.now (Mux c.in-Mux.items) c.args.draft.now c.emit_choice.new.draft c.emit_choice.result c.in-Mux.is (leaf-Mux c.in-Mux.items)
