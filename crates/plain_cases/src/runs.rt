@@ -1,8 +1,6 @@
 //! Traces of runs on circuits as they are written.
 
-use crate::circuits::{
-    CASES, MEMORIES, MEMORY_FRONT, MEMORY_REST, MEMORY_STIMULUS,
-};
+use crate::circuits::{CASES, MEMORIES, MEMORY_FRONT, MEMORY_REST, MEMORY_STIMULUS};
 use crate::reading::{read, traced_compiled, traced_plainly};
 use std::alloc::Global;
 use std::process::Abort;
@@ -26,7 +24,11 @@ fn expect(rt: &impl Abort, told: Option<Traces>, circuit: &str, wanted: &str) {
     match told {
         Some(told) => {
             assert_eq!(rt; told.plainly.as_slice(), wanted.as_bytes(), "at {circuit}");
-            assert_eq!(rt; told.compiled.as_slice(), wanted.as_bytes(), "compiled, at {circuit}");
+            assert_eq!(rt;
+                told.compiled.as_slice(),
+                wanted.as_bytes(),
+                "compiled, at {circuit}"
+            );
         }
         None => assert!(rt; false, "no trace at {circuit}"),
     }

@@ -9,7 +9,7 @@ use Rattle.tree_sites.specs.Typed.{is_typed_sort, is_named}
 use Rattle.tree_sites.specs.Layouts.{Located, AreAll, all_flat}
 use Rattle.tree_sites.proofs.Seeing.{and_parts, leaves_listed}
 use Rattle.tree_sites.proofs.Typing.{located_typed}
-use Rattle.plain_run.proofs.Reading.{reads_leaf}
+use Rattle.leaf_reads.proofs.Reading.{reads_leaf}
 
 pub block_there : (fitted : Fitted) → IsWellFormed fitted → (path : List ℕ) (m : TypedModule) (c : Component) → module_at (design_of fitted) path ≡ Some m → component_named m c.declaration.name ≡ Some c
     → are_typed (known_in m) c.declaration.block ≡ true

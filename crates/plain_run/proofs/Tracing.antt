@@ -26,7 +26,7 @@ use Rattle.circuit_laws.proofs.Reached.{known_module}
 use Rattle.drive_check.proofs.Telling.{contains_get}
 use Rattle.sweep_runs.specs.Runs.{Watched, value_of, row_of, Runs, ended, cycle}
 use Rattle.plain_run.specs.Leaves.{leaf_of_main, sinks_of_port, sinks_of, sinks}
-use Rattle.plain_run.proofs.Driven.{IsFit, block_fits, from_filter}
+use Rattle.leaf_reads.proofs.Driven.{IsFit, block_fits, from_filter}
 
 both_true : (p q : Bool) → (p && q) ≡ true → (p ≡ true) × (q ≡ true)
 both_true true q e = (refl, e)

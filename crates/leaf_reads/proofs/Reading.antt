@@ -16,8 +16,8 @@ use Rattle.fir_meaning.proofs.Tracking.{none_some, some_same, Contains-flat_map}
 use Rattle.circuit_laws.specs.WellFormed.{IsWellFormed, IsKnownModule}
 use Rattle.circuit_laws.proofs.Reached.{known_module}
 use Rattle.circuit_laws.proofs.TypedModules.{module_mentions}
-use Rattle.plain_run.proofs.Mentioning.{AllOf, block_reads}
-use Rattle.plain_run.proofs.MemoryLeaves.{read_leaf}
+use Rattle.leaf_reads.proofs.Mentioning.{AllOf, block_reads}
+use Rattle.leaf_reads.proofs.MemoryLeaves.{read_leaf}
 
 is_there : {A : Type 0} (o : Option A) → is_some o ≡ true → (x : A) × (o ≡ Some x)
 is_there (Some x) e = (x, refl)

@@ -27,7 +27,7 @@ use Rattle.fir_meaning.specs.WellTyped as kinds
 use Rattle.fir_meaning.specs.WellTyped.{Known, is_typed, is_condition, is_typed_stmt, are_typed, named_type, both_match}
 use Rattle.fir_meaning.proofs.Ports.{from_map, one_later, same_number}
 use Rattle.fir_meaning.proofs.Tracking.{none_some, some_same}
-use Rattle.plain_run.proofs.Inside.{InsideAt, reference_inside}
+use Rattle.leaf_reads.proofs.Inside.{InsideAt, reference_inside}
 
 -- a type's ground part has the integer as it is
 abbrev pub FitsType : FirType → ℤ → Type 0
