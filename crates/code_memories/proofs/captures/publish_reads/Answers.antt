@@ -13,10 +13,10 @@ publish_capture-requires-clause-there c =
 pub loop-leaf-preserved : goal.loop-leaf-preserved
 loop-leaf-preserved c = record {
   left = λ memory port read there listed reads.
-        let same = same_count c.args.net.now c.args.sources.now c.args.at.memory c.requires.net c.requires.memory memory there c.args.at.port port listed read reads c.in-Some.memory.now c.in-Some-get.port.now c.in-Some-read.read
-        (sym c.in-Some.ensures.value) (sym c.in-Some-get.ensures.value) c.in-Some-read.is in
-        capture_step c.args.net.now c.args.sources.now c.args.at.memory c.requires.net c.requires.memory memory there c.args.at.port port listed read reads c.loop-leaf.leaf c.args.draft.now c.loop-leaf.draft c.publish_capture.new.draft
-        (omega (arith, c.loop-leaf-test.true, same)) (c.loop-leaf.invariant.left memory port read there listed reads) c.in_ok-publish_capture.ensures.left;
+      let same = same_count c.args.net.now c.args.sources.now c.args.at.memory c.requires.net c.requires.memory memory there c.args.at.port port listed read reads c.in-Some.memory.now c.in-Some-get.port.now c.in-Some-read.read
+      (sym c.in-Some.ensures.value) (sym c.in-Some-get.ensures.value) c.in-Some-read.is in
+      capture_step c.args.net.now c.args.sources.now c.args.at.memory c.requires.net c.requires.memory memory there c.args.at.port port listed read reads c.loop-leaf.leaf c.args.draft.now c.loop-leaf.draft c.publish_capture.new.draft
+      (omega (arith, c.loop-leaf-test.true, same)) (c.loop-leaf.invariant.left memory port read there listed reads) c.in_ok-publish_capture.ensures.left;
   evaluates = more_such c.args.sources.now (IsCaptureGroup c.args.net.now c.args.at.memory) c.args.draft.now c.loop-leaf.draft c.publish_capture.new.draft c.loop-leaf.invariant.evaluates c.in_ok-publish_capture.ensures.evaluates;
 }
 
