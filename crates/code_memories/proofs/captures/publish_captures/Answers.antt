@@ -22,9 +22,9 @@ publish_reads-requires-clause-there c =
 pub loop-port-preserved : goal.loop-port-preserved
 loop-port-preserved c = record {
   left = λ memory there.
-        let same = ap (λ (y : NetMemory). length y.ports) (some_same (sym there ∙ sym c.in-Some.ensures.value)) in
-        port_step c.args.net.now c.args.sources.now c.args.number c.requires.net c.requires.memory memory there c.loop-port.port c.args.draft.now c.loop-port.draft c.publish_reads.new.draft
-        (omega (arith, c.loop-port-test.true, same)) (c.loop-port.invariant.left memory there) c.in_ok-publish_reads.ensures.left;
+      let same = ap (λ (y : NetMemory). length y.ports) (some_same (sym there ∙ sym c.in-Some.ensures.value)) in
+      port_step c.args.net.now c.args.sources.now c.args.number c.requires.net c.requires.memory memory there c.loop-port.port c.args.draft.now c.loop-port.draft c.publish_reads.new.draft
+      (omega (arith, c.loop-port-test.true, same)) (c.loop-port.invariant.left memory there) c.in_ok-publish_reads.ensures.left;
   evaluates = more_such c.args.sources.now (IsCaptureGroup c.args.net.now c.args.number) c.args.draft.now c.loop-port.draft c.publish_reads.new.draft c.loop-port.invariant.evaluates c.in_ok-publish_reads.ensures.evaluates;
 }
 

@@ -32,9 +32,9 @@ loop-leaf-init c = record {
 pub loop-leaf-preserved : goal.loop-leaf-preserved
 loop-leaf-preserved c = record {
   left = λ memory port there listed.
-        let same = ap (λ (y : NetMemory). length y.elements) (some_same (sym there ∙ sym c.in-Some.ensures.value)) in
-        leaf_step c.args.net.now c.args.sources.now c.args.at.memory memory there c.args.at.port port listed c.loop-leaf.leaf c.args.draft.now c.loop-leaf.draft c.publish_leaf.new.draft (omega (arith, c.loop-leaf-test.true, same))
-        (c.loop-leaf.invariant.left memory port there listed) c.in_ok-publish_leaf.ensures.left;
+      let same = ap (λ (y : NetMemory). length y.elements) (some_same (sym there ∙ sym c.in-Some.ensures.value)) in
+      leaf_step c.args.net.now c.args.sources.now c.args.at.memory memory there c.args.at.port port listed c.loop-leaf.leaf c.args.draft.now c.loop-leaf.draft c.publish_leaf.new.draft (omega (arith, c.loop-leaf-test.true, same))
+      (c.loop-leaf.invariant.left memory port there listed) c.in_ok-publish_leaf.ensures.left;
   evaluates = more_such c.args.sources.now (IsWriteGroup c.args.net.now c.args.at.memory) c.args.draft.now c.loop-leaf.draft c.publish_leaf.new.draft c.loop-leaf.invariant.evaluates c.in_ok-publish_leaf.ensures.evaluates;
 }
 
