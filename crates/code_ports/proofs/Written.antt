@@ -1,26 +1,24 @@
 -- A longer table of ports, and an instruction that publishes by its last.
-use Rattle.std.proofs.Common.{◌≡◌, ℕ, zero, suc, ◌+◌, ◌<◌, ◌≤◌, Bool, true, false, ◌||◌, List, [], ◌∷◌, ◌++◌, length, slice_get, Some, All, get_or, refl, sym, subst, ap, ap₂, ◌∙◌, arith}
+use Rattle.std.proofs.Common.{◌≡◌, ℕ, zero, suc, ◌<◌, ◌≤◌, true, ◌||◌, List, [], ◌∷◌, ◌++◌, length, slice_get, Some, All, get_or, refl, sym, subst, ap, ap₂, ◌∙◌, arith}
 use Rattle.std.specs.Prelude.{Result, Ok, Err, OnOk}
 use Rattle.std.proofs.lemmas.List.{append_assoc, append-nil, get_or_append_left, length-append}
 use Rattle.std.proofs.Math.Seq.{get_or-append_seam}
 use Rattle.std.proofs.lemmas.Option.{slice_get-get_or}
 use Rattle.std.proofs.lemmas.List.Elements.{All-push, All-append}
-use Rattle.bit_words.specs.declared.value.Value.{Value}
-use Rattle.phase_core.specs.declared.model.Publication.{Publication}
 use Rattle.flat_code.specs.declared.instr.Op.{Op}
 use Rattle.flat_code.specs.declared.instr.Op.TheVariants as op
 use Rattle.flat_code.specs.declared.instr.Instr.{Instr}
 use Rattle.flat_code.specs.declared.instr.Port.{Port}
 use Rattle.flat_code.specs.declared.instr.Spot.{Spot}
 use Rattle.flat_code.specs.declared.instr.Wide.{Wide}
-use Rattle.flat_code.specs.Meaning.{pushed, pushed_on, at_port, at_some_port}
-use Rattle.flat_code.specs.Fine.{FineOn, IsFine, AreFine, IsPort, Known, nothing, more, among, AreKnown, reads_on, reads_of, writes_on, writes_of, port_reads, spot_slots, slots_of}
+use Rattle.flat_code.specs.Meaning.{pushed, pushed_on, at_some_port}
+use Rattle.flat_code.specs.Fine.{FineOn, IsFine, AreFine, IsPort, Known, nothing, more, among, AreKnown, reads_on, writes_on, writes_of, port_reads, spot_slots, slots_of}
 use Rattle.flat_code.specs.Orders.{Solves, Single, AreNew, pushed_all}
 use Rattle.flat_code.proofs.Frames.{fine_more}
 use Rattle.code_draft.specs.declared.draft.Draft.{Draft}
-use Rattle.code_draft.specs.Drafts.{IsDraft, Solved, Grows, Stands, written_in, pushed_in, with_instr}
+use Rattle.code_draft.specs.Drafts.{IsDraft, Grows, Stands, written_in, with_instr}
 use Rattle.code_draft.proofs.Growing.{written_last, single_last, all_front}
-use Rattle.code_ports.specs.Writing.{with_port, HasPort, TellsBy, PublishesBy}
+use Rattle.code_ports.specs.Writing.{with_port, PublishesBy}
 
 pub on_ok_so : {A E : Type 0} (P Q : Type 0) (r : Result A E) → OnOk r P → (P → Q) → OnOk r Q
 on_ok_so P Q (Ok x) h f = f h

@@ -1,6 +1,5 @@
 -- Registers are evaluated one after the other.
-use Rattle.std.proofs.Common.{◌≡◌, ℕ, ◌+◌, ◌<◌, ◌≤◌, max, List, [], ◌∷◌, ◌++◌, take, get_or, length, flat_map, slice_get, Some, sym, subst, ap, ◌∙◌, arith}
-use Rattle.std.specs.Prelude.{sum, All}
+use Rattle.std.proofs.Common.{◌≡◌, ℕ, ◌+◌, ◌<◌, ◌≤◌, List, [], ◌∷◌, ◌++◌, take, get_or, length, flat_map, slice_get, Some, sym, subst, ap, ◌∙◌, arith}
 use Rattle.std.proofs.lemmas.List.{take_more, append-nil}
 use Rattle.std.proofs.lemmas.Grind.{flat_map-append}
 use Rattle.ground_net.specs.declared.ground.Ground.{Ground}

@@ -1,12 +1,10 @@
 -- The words of a register's next integer are published.
-use Rattle.std.proofs.Common.{◌≡◌, ℕ, ◌+◌, ◌<◌, ◌≤◌, Bool, true, false, nat_lt, if◌then◌else◌, List, [], ◌∷◌, ◌++◌, map, flat_map, take, get_or, length, slice_get, Option, Some, None, ℤ, refl, sym, subst, ap, ap₂, ◌∙◌, arith}
-use Rattle.std.specs.Prelude.{Contains, IsSome, Result, Ok, Err, OnOk}
+use Rattle.std.proofs.Common.{◌≡◌, ℕ, ◌+◌, ◌<◌, Bool, true, false, nat_lt, if◌then◌else◌, List, [], ◌∷◌, ◌++◌, map, take, get_or, length, slice_get, Some, ℤ, refl, sym, subst, ap, ap₂, ◌∙◌, arith}
+use Rattle.std.specs.Prelude.{Contains, Result, Ok, Err, OnOk}
 use Rattle.std.proofs.lemmas.List.{append_assoc, append-nil, map-append, take_more}
 use Rattle.std.proofs.lemmas.Grind.{flat_map-append}
 use Rattle.std.proofs.lemmas.List.Elements.{Contains-append_left, Contains-append_right}
-use Rattle.bit_words.specs.declared.value.Value.{Value}
 use Rattle.bit_words.specs.Values.{integer_of}
-use Rattle.phase_core.specs.declared.model.Publication.{Publication}
 use Rattle.cycle_values.specs.Values.{fitted}
 use Rattle.cycle_values.proofs.Fittings.{refitted}
 use Rattle.ground_net.specs.declared.ground.Ground.{Ground}
@@ -22,14 +20,14 @@ use Rattle.flat_code.specs.Meaning.{stored, spot_shape}
 use Rattle.flat_code.specs.Fine.{further_words, spot_slots, InRegion}
 use Rattle.flat_code.proofs.Frames.{spot_more}
 use Rattle.code_draft.specs.declared.draft.Draft.{Draft}
-use Rattle.code_draft.specs.Drafts.{IsDraft, Stands, pushed_in}
+use Rattle.code_draft.specs.Drafts.{IsDraft, pushed_in}
 use Rattle.code_emit.specs.declared.sources.Source.{Source}
 use Rattle.code_emit.specs.declared.sources.Source.TheVariants as source
 use Rattle.code_emit.specs.declared.sources.Sources.{Sources}
 use Rattle.code_emit.specs.Emits.{sources_table, Fits, AreSources, Emits}
 use Rattle.code_emit.proofs.Emitting.{sources_on}
 use Rattle.code_publish.specs.Publishing.{Tells, Publishes}
-use Rattle.sink_effects.specs.Effects.{register_shape, register_told, sink_told, sinks_told, HasWord, of_register}
+use Rattle.sink_effects.specs.Effects.{register_shape, register_told, sink_told, sinks_told, of_register}
 use Rattle.code_registers.specs.Telling.{Left, TellsLeft, PublishesSinks}
 
 pub some_same : {A : Type 0} {x y : A} → Some x ≡ Some y → x ≡ y

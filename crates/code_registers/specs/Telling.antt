@@ -1,5 +1,5 @@
 -- Code that publishes what sinks leave to the next cycle.
-use Rattle.std.specs.Prelude.{◌≡◌, ℕ, ◌<◌, ◌≤◌, nat_lt, true, List, ◌++◌, slice_get, slice_index, ℤ, pos, unsigned_abs, Some, Contains, if◌then◌else◌}
+use Rattle.std.specs.Prelude.{◌≡◌, ℕ, ◌<◌, ◌≤◌, nat_lt, true, List, ◌++◌, slice_get, ℤ, pos, unsigned_abs, Some, Contains, if◌then◌else◌}
 use Rattle.bit_words.specs.declared.value.Value.{Value}
 use Rattle.bit_words.specs.Values.{integer_of}
 use Rattle.phase_core.specs.declared.model.Publication.{Publication}

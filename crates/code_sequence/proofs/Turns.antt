@@ -64,7 +64,7 @@ turned drivers x S s g lt at of_spot h t e f =
     (λ ne. ap (option_map source_shape) (other_source S x y s ne) ∙ sym (ap (λ b. if b then Some t else option_map source_shape (leaf_source S y)) (test_other x y ne)))
     (cases_eq y x))
 
-contains_one : (x : ℕ) → Contains (x ∷ []) x
+pub contains_one : (x : ℕ) → Contains (x ∷ []) x
 contains_one x = (0, omega arith, refl)
 
 -- one assignment

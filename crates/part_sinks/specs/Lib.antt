@@ -1,2 +1,3 @@
 -- what the bodies keep
 pub mod Rows
+pub mod Groups

@@ -5,6 +5,7 @@ ghost use Rattle.ground_net.specs.Cones.{sinks, A_watched, A_register, InCone};
 ghost use Rattle.code_emit.specs.Emits.{sources_table};
 ghost use Rattle.turn_laws.specs.Knowing.{Knows};
 ghost use Rattle.part_sinks.specs.Rows.{IsPlan, IsReady, Adds};
+ghost use Rattle.part_sinks.specs.Groups.{ShowsLeaf, EvaluatesRegister};
 
 use crate::spans::own_register;
 use crate::work::{Made, Work};
@@ -25,7 +26,8 @@ pub fn show_leaf(
     requires known { Knows work.now.plan.now.net.now (InCone work.now.plan.now.net.now (A_watched leaf)) (sources_table work.now.sources.now) }
     requires ready { IsReady work.now.plan.now.net.now work.now.sources.now made.old.draft }
     requires there { slice_get (sinks work.now.plan.now.net.now work.now.plan.now.watch.now) number ≡ Some (A_watched leaf) }
-    ensures { OnOk result (Adds work.now.plan.now.net.now work.now.plan.now.watch.now work.now.sources.now number (A_watched leaf) made.old made.new) }
+    ensures adds { OnOk result (Adds work.now.plan.now.net.now work.now.plan.now.watch.now work.now.sources.now number (A_watched leaf) made.old made.new) }
+    ensures shows { OnOk result (ShowsLeaf work.now.sources.now leaf made.old made.new) }
 {
     let spot = emit(alloc, &mut made.draft, work.sources, &Ground::Leaf(leaf))?;
     made.shown.push(spot)?;
@@ -45,7 +47,8 @@ pub fn add_register(
     requires known { Knows work.now.plan.now.net.now (InCone work.now.plan.now.net.now (A_register register)) (sources_table work.now.sources.now) }
     requires ready { IsReady work.now.plan.now.net.now work.now.sources.now made.old.draft }
     requires there { slice_get (sinks work.now.plan.now.net.now work.now.plan.now.watch.now) number ≡ Some (A_register register) }
-    ensures { OnOk result (Adds work.now.plan.now.net.now work.now.plan.now.watch.now work.now.sources.now number (A_register register) made.old made.new) }
+    ensures adds { OnOk result (Adds work.now.plan.now.net.now work.now.plan.now.watch.now work.now.sources.now number (A_register register) made.old made.new) }
+    ensures evaluates { OnOk result (EvaluatesRegister work.now.plan.now.net.now work.now.sources.now register made.old made.new) }
 {
     let net = work.plan.net;
     let words = work.plan.words;

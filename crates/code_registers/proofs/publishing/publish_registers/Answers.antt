@@ -1,4 +1,4 @@
-use Rattle.std.proofs.Common.{◌≡◌, ℕ, ◌+◌, map, flat_map, take, get_or, [], ◌∷◌, sym, subst}
+use Rattle.std.proofs.Common.{ℕ, map, flat_map, take, get_or, [], ◌∷◌, sym, subst}
 use Rattle.std.proofs.lemmas.List.{take_all}
 use Rattle.ground_net.specs.Cones.{A_register}
 use Rattle.code_emit.specs.Spans.{EvaluatesAll}

@@ -1,4 +1,4 @@
-use Rattle.std.proofs.Common.{◌≡◌, map, flat_map, take}
+use Rattle.std.proofs.Common.{map, flat_map, take}
 use Rattle.ground_net.specs.Cones.{A_register}
 use Rattle.code_emit.specs.Spans.{EvaluatesAll}
 use Rattle.code_registers.specs.Telling.{PublishesSinks}

@@ -29,4 +29,4 @@ returns c =
     let place = memory_place net watch c.args.number c.args.memory c.requires.there in
     let ready = c.requires.ready in
     kept_adds net watch S c.args.number (A_memory c.args.memory) c.args.made.now _ place.0
-    (memory_tells net S c.args.memory c.in-Ok.place _ _ c.in-Ok.ensures.1 (c.in_ok-publish_memory.ensures ready.0 ready.1 (one_has_words net _ (A_memory c.in-Ok.place) ready.2))) refl refl c.in_ok-own_memory.ensures
+    (memory_tells net S c.args.memory c.in-Ok.place _ _ c.in-Ok.ensures.1 (c.in_ok-publish_memory.ensures.publishes ready.0 ready.1 (one_has_words net _ (A_memory c.in-Ok.place) ready.2))) refl refl c.in_ok-own_memory.ensures

@@ -15,7 +15,7 @@ show_leaf-requires-clause-there c = subst (λ s. slice_get (sinks c.args.work.no
 pub returns-in-Watched : goal.returns-in-Watched
 returns-in-Watched c =
     subst (λ s. OnOk c.show_leaf.result (Adds c.args.work.now.plan.now.net.now c.args.work.now.plan.now.watch.now c.args.work.now.sources.now c.args.number (sink_of s) c.args.made.now c.show_leaf.new.made))
-    (sym c.in-Watched.is) c.show_leaf.ensures
+    (sym c.in-Watched.is) c.show_leaf.ensures.adds
 
 pub add_register-requires-clause-known : goal.add_register-requires-clause-known
 add_register-requires-clause-known c = subst (λ s. KnowsCone c.args.work.now.plan.now.net.now (sink_of s) c.args.work.now.sources.now) c.in-Register.is c.requires.known
@@ -26,7 +26,7 @@ add_register-requires-clause-there c = subst (λ s. slice_get (sinks c.args.work
 pub returns-in-Register : goal.returns-in-Register
 returns-in-Register c =
     subst (λ s. OnOk c.add_register.result (Adds c.args.work.now.plan.now.net.now c.args.work.now.plan.now.watch.now c.args.work.now.sources.now c.args.number (sink_of s) c.args.made.now c.add_register.new.made))
-    (sym c.in-Register.is) c.add_register.ensures
+    (sym c.in-Register.is) c.add_register.ensures.adds
 
 pub add_memory-requires-clause-known : goal.add_memory-requires-clause-known
 add_memory-requires-clause-known c = subst (λ s. KnowsCone c.args.work.now.plan.now.net.now (sink_of s) c.args.work.now.sources.now) c.in-Memory.is c.requires.known

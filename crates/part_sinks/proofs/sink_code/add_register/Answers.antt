@@ -6,6 +6,9 @@ use Rattle.part_sinks.proofs.Places.{register_place}
 use Rattle.part_sinks.proofs.Shaping.{next_shaped, one_has_words, only_item}
 use Rattle.part_sinks.proofs.Making.{kept_adds}
 use Rattle.part_sinks.proofs.Owning.{found, few_registers}
+use Rattle.std.proofs.lemmas.List.{append-nil}
+use Rattle.code_emit.specs.Spans.{EvaluatesAll}
+use Rattle.code_registers.specs.Groups.{register_groups}
 use Rattle.part_sinks.proofs.sink_code.add_register.Goals as goal
 
 pub overflow_cast-place : goal.overflow_cast-place
@@ -51,11 +54,20 @@ publish_registers-requires-clause-words c = λ k d lt.
 pub own_register-requires-clause-within : goal.own_register-requires-clause-within
 own_register-requires-clause-within c = (register_place c.args.work.now.plan.now.net.now c.args.work.now.plan.now.watch.now c.args.number c.args.register c.requires.there).1
 
-pub returns : goal.returns
-returns c =
+pub returns-clause-adds : goal.returns-clause-adds
+returns-clause-adds c =
     let net = c.args.work.now.plan.now.net.now in
     let watch = c.args.work.now.plan.now.watch.now in
     let place = register_place net watch c.args.number c.args.register c.requires.there in
     let ready = c.requires.ready in
     kept_adds net watch c.args.work.now.sources.now c.args.number (A_register c.args.register) c.args.made.now _ place.0
-    (c.in_ok-publish_registers.ensures ready.0 ready.1 (one_has_words net _ (A_register c.args.register) ready.2)) refl refl c.in_ok-own_register.ensures
+    (c.in_ok-publish_registers.ensures.publishes ready.0 ready.1 (one_has_words net _ (A_register c.args.register) ready.2)) refl refl c.in_ok-own_register.ensures
+
+pub returns-clause-evaluates : goal.returns-clause-evaluates
+returns-clause-evaluates c =
+    let net = c.args.work.now.plan.now.net.now in
+    let S = c.args.work.now.sources.now in
+    record {
+      evaluates = subst (λ gs. EvaluatesAll S gs c.args.made.now.draft c.publish_registers.new.draft) (append-nil (register_groups net c.args.register)) c.in_ok-publish_registers.ensures.evaluates;
+      shown = refl;
+    }
