@@ -1,0 +1,5 @@
+pub mod Counts
+pub mod Staying
+pub mod Standing
+pub mod Greatest
+pub mod Frames

@@ -1,0 +1,58 @@
+//! Laws of frames, and what the definitions say of small nets. The functions do nothing.
+
+ghost use Rattle.std.specs.Prelude.{◌≡◌, ◌⊎◌, ℕ, ◌≤◌, max, true, false, List, [], ◌∷◌, Some, None};
+ghost use Rattle.ground_net.specs.declared.net.Net.{Net as TheNet};
+ghost use Rattle.ground_net.specs.declared.net.CutPart.{CutPart as ThePart};
+ghost use Rattle.ground_net.specs.Cones.{A_register};
+ghost use Rattle.cone_cutter.specs.Examples.{crossing};
+ghost use Rattle.flat_code.specs.declared.code.Code.{Code as TheCode};
+ghost use Rattle.flat_code.specs.Codes.{frame_length};
+ghost use Rattle.code_place.specs.Live.{most_live_of};
+ghost use Rattle.code_place.specs.Placed.{HasFew};
+ghost use Rattle.frame_laws.specs.Frames.{live_behind, most_assignments, most_nodes, frame_bound, sink_nodes, memory_nodes};
+ghost use Rattle.frame_laws.specs.Examples.{chain, whole_chain, gathering, whole_gathering, gathering_alone, resetting, memory, port, writes, reads};
+ghost use Rattle.frame_laws.specs.Stretches.{InStretches};
+
+/// Of a code of a part in stretches no more slots are live at once than two for each assignment that is live at once and two for each
+/// node of the largest driver. So the frame of the placed code is no longer.
+pub fn frames_are_few()
+    ensures live { (net : TheNet) (watch : List ℕ) (part : ThePart) (code : TheCode) → InStretches net watch part code → most_live_of code ≤ frame_bound net watch part }
+    ensures placed { (net : TheNet) (watch : List ℕ) (part : ThePart) (code placed : TheCode) → InStretches net watch part code → HasFew code placed → frame_length placed ≤ max 1 (frame_bound net watch part) }
+    ensures exact { (net : TheNet) (watch : List ℕ) (part : ThePart) (code placed : TheCode) → InStretches net watch part code → HasFew code placed → (code.slots ≡ 0) ⊎ (1 ≤ most_nodes net watch part) → frame_length placed ≤ frame_bound net watch part }
+{}
+
+/// In a chain one assignment is live at a time: only the next one reads it.
+pub fn chains_keep_one_assignment()
+    ensures first { live_behind chain (3 ∷ []) whole_chain 0 ≡ 1 ∷ [] }
+    ensures second { live_behind chain (3 ∷ []) whole_chain 1 ≡ 2 ∷ [] }
+    ensures last { live_behind chain (3 ∷ []) whole_chain 2 ≡ 3 ∷ [] }
+    ensures live { most_assignments chain (3 ∷ []) whole_chain ≡ 1 }
+    ensures nodes { most_nodes chain (3 ∷ []) whole_chain ≡ 2 }
+    ensures bound { frame_bound chain (3 ∷ []) whole_chain ≡ 6 }
+{}
+
+/// Assignments are live until the last one that reads them, and those that a sink reads to the end.
+pub fn read_assignments_stay()
+    ensures gathered { live_behind gathering (4 ∷ []) whole_gathering 2 ≡ 1 ∷ 2 ∷ 3 ∷ [] }
+    ensures held { live_behind gathering (4 ∷ []) whole_gathering 3 ≡ 1 ∷ 4 ∷ [] }
+    ensures shown { live_behind gathering (4 ∷ []) gathering_alone 3 ≡ 4 ∷ [] }
+    ensures live { most_assignments gathering (4 ∷ []) whole_gathering ≡ 3 }
+    ensures nodes { most_nodes gathering (4 ∷ []) whole_gathering ≡ 4 }
+{}
+
+/// A register's reset and `init` count with its driver; a register that nothing drives has its own leaf.
+pub fn registers_count_their_resets()
+    ensures driven { sink_nodes resetting (A_register 0) ≡ 5 ∷ [] }
+    ensures kept { sink_nodes resetting (A_register 1) ≡ 1 ∷ [] }
+    ensures most { most_nodes resetting [] (record { sinks = 0 ∷ 1 ∷ []; assignments = 1 ∷ [] }) ≡ 5 }
+    ensures crossed { frame_bound crossing.net (2 ∷ []) (record { sinks = 0 ∷ 2 ∷ []; assignments = 2 ∷ 6 ∷ [] }) ≡ 10 }
+{}
+
+/// A write counts its leaves, and a captured read what it shows next; what is read at once counts nothing.
+pub fn memories_count_writes_and_captures()
+    ensures writer { memory_nodes 0 (memory (port None writes None ∷ [])) ≡ 4 ∷ [] }
+    ensures readwriter { memory_nodes 0 (memory (port (Some 2) writes None ∷ [])) ≡ 5 ∷ [] }
+    ensures captured { memory_nodes 0 (memory (port None None (reads true false) ∷ [])) ≡ 6 ∷ [] }
+    ensures at_once { memory_nodes 0 (memory (port None None (reads false false) ∷ [])) ≡ [] }
+    ensures after { memory_nodes 0 (memory (port None writes None ∷ port None None (reads true true) ∷ [])) ≡ 4 ∷ 22 ∷ [] }
+{}
