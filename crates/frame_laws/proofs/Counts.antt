@@ -1,6 +1,6 @@
--- How many numbers are in a union, or in a list.
+-- How many numbers are in a list.
 use Rattle.std.proofs.Common.{◌≡◌, ◌==◌, ℕ, zero, suc, ◌+◌, ◌*◌, ◌<◌, ◌≤◌, Bool, true, false, ◌||◌, List, [], ◌∷◌, ◌++◌, length, flat_map, filter, if◌then◌else◌, refl, sym, subst, ap, ◌∙◌, arith, ⊎_elim, length-append, Contains}
-use Rattle.std.proofs.lemmas.Bool.{cases_eq, cases_Bool, cases_lt, false≢true}
+use Rattle.std.proofs.lemmas.Bool.{cases_eq, cases_Bool, false≢true}
 use Rattle.flat_code.specs.Fine.{Known, among, nothing}
 use Rattle.code_place.specs.Live.{how_many}
 use Rattle.code_place.proofs.Counting.{many_le, many_none}
@@ -13,7 +13,7 @@ one_or true false = omega arith
 one_or false true = omega arith
 one_or false false = omega arith
 
-pub many_or : (n : ℕ) (A B : Known) → how_many n (λ k. A k || B k) ≤ how_many n A + how_many n B
+many_or : (n : ℕ) (A B : Known) → how_many n (λ k. A k || B k) ≤ how_many n A + how_many n B
 many_or zero A B = omega arith
 many_or (suc n) A B = let rest = many_or n A B in let here = one_or (A n) (B n) in omega (arith, rest, here)
 
@@ -51,43 +51,16 @@ many_among n (x ∷ xs) =
     let same = many_le n (among (x ∷ xs)) (λ k. (k == x) || among xs k) (λ k e. e) in
     omega (arith, both, first, rest, same)
 
--- one number more
-up : (A : Known) (m n : ℕ) → n ≤ m → how_many n A ≤ how_many m A
-up A zero zero le = omega arith
-up A zero (suc n) le = absurd (omega (arith, le))
-up A (suc m) n le = ⊎_elim
-    (λ e. subst (λ j. how_many j A ≤ how_many (suc m) A) (sym e) (omega arith))
-    (λ ne. let rest = up A m n (omega (arith, le, ne)) in omega (arith, rest))
-    (cases_eq n (suc m))
-
--- no number from m on
-pub many_within : (n m : ℕ) (A : Known) → ((k : ℕ) → A k ≡ true → k < m) → how_many n A ≤ how_many m A
-many_within zero m A inside = omega arith
-many_within (suc n) m A inside = ⊎_elim
-    (λ lt. up A m (suc n) lt)
-    (λ le.
-      let rest = many_within n m A inside in
-      let none : A n ≡ false = ⊎_elim (λ e. absurd (outside n (inside n e) le)) (λ e. e) (cases_Bool (A n)) in
-      let here = not_one (A n) none in
-      omega (arith, rest, here))
-    (cases_lt n m)
-  where
-    outside : (k : ℕ) → k < m → m ≤ k → ⊥
-    outside k lt le = omega (arith, lt, le)
-
 -- Slots of some of these leaves
 
-flat_two : (spots : ℕ → List ℕ) → ((x : ℕ) → length (spots x) ≤ 2) → (xs : List ℕ) → length (flat_map spots xs) ≤ 2 * length xs
+-- they are at most two for each leaf
+pub flat_two : (spots : ℕ → List ℕ) → ((x : ℕ) → length (spots x) ≤ 2) → (xs : List ℕ) → length (flat_map spots xs) ≤ 2 * length xs
 flat_two spots two [] = omega arith
 flat_two spots two (x ∷ xs) =
     let first = two x in
     let rest = flat_two spots two xs in
     let all = length-append (spots x) (flat_map spots xs) in
     omega (arith, first, rest, all)
-
--- they are at most two for each leaf
-pub many_spots : (n : ℕ) (spots : ℕ → List ℕ) → ((x : ℕ) → length (spots x) ≤ 2) → (xs : List ℕ) → how_many n (among (flat_map spots xs)) ≤ 2 * length xs
-many_spots n spots two xs = let first = many_among n (flat_map spots xs) in let rest = flat_two spots two xs in omega (arith, first, rest)
 
 pub among_spots : (spots : ℕ → List ℕ) (xs : List ℕ) (x k : ℕ) → Contains xs x → among (spots x) k ≡ true → among (flat_map spots xs) k ≡ true
 among_spots spots [] x k c e = absurd (none_in x c)

@@ -1,149 +1,136 @@
 -- Few slots are live at once.
-use Rattle.std.proofs.Common.{◌≡◌, ℕ, zero, suc, ◌+◌, ◌*◌, ◌<◌, ◌≤◌, max, true, ◌&&◌, nat_lt, List, [], ◌∷◌, ◌++◌, flat_map, filter, map, length, slice_index_or, Contains, ◌⊎◌, inr, refl, sym, subst, ap, ◌∙◌, arith, ⊎_elim, append-nil}
-use Rattle.std.proofs.lemmas.Bool.{and_parts, ltb-true, false≢true}
-use Rattle.std.proofs.lemmas.List.Elements.{Contains-append_left, Contains-append_right, Contains-push, Contains-push_cases}
+use Rattle.std.proofs.Common.{◌≡◌, ℕ, zero, suc, ◌+◌, ◌*◌, ◌<◌, ◌≤◌, max, true, List, [], ◌∷◌, ◌++◌, flat_map, filter, map, length, slice_index_or, Contains, ◌⊎◌, inr, refl, sym, subst, ap, ◌∙◌, arith, ⊎_elim, append-nil}
+use Rattle.std.proofs.lemmas.Bool.{false≢true}
+use Rattle.std.proofs.lemmas.List.Elements.{Contains-append_left, Contains-append_right, Contains-push_cases}
 use Rattle.ground_net.specs.declared.net.Net.{Net}
 use Rattle.ground_net.specs.declared.net.CutPart.{CutPart}
-use Rattle.ground_net.specs.Reads.{direct_reads}
 use Rattle.ground_net.specs.Cones.{needs}
-use Rattle.flat_code.specs.declared.instr.Instr.{Instr}
 use Rattle.flat_code.specs.declared.code.Code.{Code}
 use Rattle.flat_code.specs.Fine.{Known, among, nothing, slots_of, written}
 use Rattle.partition_code.specs.Codes.{sinks_of_part}
-use Rattle.code_place.specs.Live.{how_many, most_live, most_live_of}
+use Rattle.code_place.specs.Live.{most_live, most_live_of}
 use Rattle.code_place.specs.Placed.{HasFew}
-use Rattle.code_place.proofs.Moving.{either}
 use Rattle.cone_cutter.proofs.Lists.{none_in, filter_to}
-use Rattle.frame_laws.specs.Frames.{sinks_read, assignment_nodes, sink_nodes, most_assignments, most_nodes, frame_bound}
-use Rattle.frame_laws.specs.Stretches.{Stretch, IsStretch, is_needed, most_staying, StandsIn, IsAssigning, IsTelling, Follow, instrs_of, InStretches}
-use Rattle.frame_laws.proofs.Counts.{many_spots, among_spots, among_contained}
-use Rattle.frame_laws.proofs.Staying.{written_or, read_behind, most_behind, below, staying_le}
-use Rattle.frame_laws.proofs.Standing.{contains_first, contains_later, contains_flat, is_later, told_stands, Rest, read_by, first_of_rest, later_rest, stands}
+use Rattle.frame_laws.specs.Frames.{sinks_read, assignment_nodes, sink_nodes, most_nodes, frame_bound}
+use Rattle.frame_laws.specs.Pieces.{Stretch, is_read, Piece, Follow, instrs_of, StandsIn, IsAssigning, IsTelling, InPieces}
+use Rattle.frame_laws.proofs.Counts.{flat_two, among_spots, among_contained}
+use Rattle.frame_laws.proofs.Staying.{written_below, read_behind, live_le}
+use Rattle.frame_laws.proofs.Standing.{contains_first, contains_later, contains_flat, is_later, read_by, Rest, first_of_rest, later_rest, told_stands, stands}
 use Rattle.frame_laws.proofs.Greatest.{in_greatest, few_live}
 
+map_at : (f : ℕ → ℕ) (xs : List ℕ) (x k : ℕ) → k < length xs → slice_index_or xs k x ≡ x → Contains (map f xs) (f x)
+map_at f [] x k lt e = absurd (omega (arith, lt))
+map_at f (y ∷ xs) x zero lt e = (0, omega arith, ap f e)
+map_at f (y ∷ xs) x (suc k) lt e = contains_later (f y) (map f xs) (f x) (map_at f xs x k (omega (arith, lt)) e)
+
 contains_map : (f : ℕ → ℕ) (xs : List ℕ) (x : ℕ) → Contains xs x → Contains (map f xs) (f x)
-contains_map f xs x c = at xs c.0 c.1 c.2
-  where
-    at : (xs : List ℕ) (k : ℕ) → k < length xs → slice_index_or xs k x ≡ x → Contains (map f xs) (f x)
-    at [] k lt e = absurd (omega (arith, lt))
-    at (y ∷ xs) zero lt e = (0, omega arith, ap f e)
-    at (y ∷ xs) (suc k) lt e = contains_later (f y) (map f xs) (f x) (at xs k (omega (arith, lt)) e)
+contains_map f xs x c = map_at f xs x c.0 c.1 c.2
 
 module _ (net : Net) (watch : List ℕ) (part : CutPart) (code : Code) (spots : ℕ → List ℕ) (two : (x : ℕ) → length (spots x) ≤ 2) where
-  abbrev further : List ℕ → Known
-  further live = among (flat_map spots live)
-
-  -- One stretch: its own slots, and those of assignments that are live
-
-  stretch_le : (s : Stretch) (later : List Stretch) (known : Known) (from count : ℕ) (Outside : ℕ → Type 0) (kept : Known) (live : List ℕ) → IsStretch code.ports code.wides s Outside kept count
-      → ((k : ℕ) → known k ≡ true → k < from) → ((k : ℕ) → s.low ≤ k → k < s.high → is_later code later k ≡ true → kept k ≡ true)
-      → ((k : ℕ) → k < from → is_needed code.ports code.wides (is_later code later) s.instrs k ≡ true → further live k ≡ true)
-      → most_staying code.slots known code.ports code.wides (is_later code later) s.instrs ≤ count + 2 * length live
-  stretch_le s later known from count Outside kept live it before keeps needs =
-      let few = it.few (below s.high (is_later code later)) (λ k low e. let parts = and_parts (is_later code later k) (nat_lt k s.high) e in keeps k low (ltb-true k s.high parts.1) parts.0) in
-      let all = staying_le code.ports code.wides code.slots s.high (is_later code later) (further live) s.instrs known nothing known
-      (λ k e. inr e)
-      (λ k e. absurd (false≢true e))
-      (λ k e. (it.writes k e).1)
-      (λ k b e. needs k (before k b) e)
-      in
-      let spots_few = many_spots code.slots spots two live in
-      omega (arith, few, all, spots_few)
-
-  -- what was written behind a stretch
-  written_before : (s : Stretch) (known : Known) (from count : ℕ) (Outside : ℕ → Type 0) (kept : Known) → IsStretch code.ports code.wides s Outside kept count → from ≤ s.low → s.low ≤ s.high
-      → ((k : ℕ) → known k ≡ true → k < from) → (k : ℕ) → written known code.wides s.instrs k ≡ true → k < s.high
-  written_before s known from count Outside kept it low high before k e = ⊎_elim
-      (λ h. let lt = before k h in omega (arith, lt, low, high))
-      (λ w. (it.writes k w).1)
-      (either (known k) (written nothing code.wides s.instrs k) (sym (written_or code.wides s.instrs known k) ∙ e))
-
-  -- live assignments have the slots
+  -- live assignments, where some are done
   abbrev live_of : List ℕ → List ℕ → List ℕ
   live_of done rest = filter (among (read_by net watch part rest)) done
 
-  live_slots : (done rest : List ℕ) (k : ℕ) → StandsIn spots done (read_by net watch part rest) k → further (live_of done rest) k ≡ true
+  live_slots : (done rest : List ℕ) (k : ℕ) → StandsIn spots done (read_by net watch part rest) k → among (flat_map spots (live_of done rest)) k ≡ true
   live_slots done rest k s = among_spots spots (live_of done rest) s.leaf k
       (filter_to (among (read_by net watch part rest)) done s.leaf s.before (among_contained (read_by net watch part rest) s.leaf s.wanted)) s.there
+
+  -- One piece: its own slots, and those of live assignments, and then the rest
+
+  piece_le : (p : Piece) (later : List Piece) (known : Known) (from most count : ℕ) (outer kept done rest : List ℕ) → Stretch p.first p.last outer kept most code.ports code.wides p.instrs
+      → ((k : ℕ) → known k ≡ true → k < from) → ((k : ℕ) → p.first ≤ k → k < p.last → is_later code later k ≡ true → among kept k ≡ true)
+      → ((k : ℕ) → k < from → is_later code (p ∷ later) k ≡ true → StandsIn spots done (read_by net watch part rest) k) → done ++ rest ≡ part.assignments → most ≤ 2 * count → count ≤ most_nodes net watch part
+      → most_live code.slots (written known code.wides p.instrs) code.ports code.wides code.shown (instrs_of later) ≤ frame_bound net watch part
+      → most_live code.slots known code.ports code.wides code.shown (instrs_of (p ∷ later)) ≤ frame_bound net watch part
+  piece_le p later known from most count outer kept done rest it before keeps needs all few driver behind =
+      let slots = flat_two spots two (live_of done rest) in
+      let live = few_live net watch part done rest all in
+      live_le code.ports code.wides code.slots most p.first p.last (flat_map spots (live_of done rest)) code.shown (instrs_of later) (frame_bound net watch part) p.instrs known nothing known
+      (λ k e. inr e)
+      (λ k e. absurd (false≢true e))
+      it.writes
+      (λ k b e. live_slots done rest k (needs k (before k b) (read_behind code.ports code.wides code.shown p.instrs (instrs_of later) k ∙ e)))
+      (it.few (is_later code later) keeps)
+      (omega (arith, slots, live, few, driver))
+      behind
+
+  -- what is written then
+  written_then : (p : Piece) (known : Known) (from most : ℕ) (outer kept : List ℕ) → Stretch p.first p.last outer kept most code.ports code.wides p.instrs → from ≤ p.first → p.first ≤ p.last
+      → ((k : ℕ) → known k ≡ true → k < from) → (k : ℕ) → written known code.wides p.instrs k ≡ true → k < p.last
+  written_then p known from most outer kept it first last before k e =
+      written_below code.wides p.first p.last p.instrs known it.writes (λ m d. let lt = before m d in omega (arith, lt, first, last)) k e
 
   abbrev driver_counts : List ℕ
   driver_counts = map (assignment_nodes net) part.assignments ++ flat_map (sink_nodes net) (sinks_of_part net watch part)
 
-  module _ (telling : List Stretch) (told : (s : Stretch) → Contains telling s → IsTelling net watch part code spots s)
+  module _ (telling : List Piece) (told : (p : Piece) → Contains telling p → IsTelling net watch part code.ports code.wides spots p)
       (shown : (k : ℕ) → among (slots_of code.shown) k ≡ true → StandsIn spots part.assignments (sinks_read net watch part) k) where
     -- Sinks, when all assignments have their code
 
-    telling_le : (stretches : List Stretch) (from : ℕ) (known : Known) → Follow from stretches → ((s : Stretch) → Contains stretches s → Contains telling s)
+    telling_le : (pieces : List Piece) (from : ℕ) (known : Known) → Follow from pieces → ((p : Piece) → Contains pieces p → Contains telling p)
         → ((x k : ℕ) → Contains part.assignments x → among (spots x) k ≡ true → k < from) → ((k : ℕ) → known k ≡ true → k < from)
-        → most_live code.slots known code.ports code.wides code.shown (instrs_of stretches) ≤ frame_bound net watch part
+        → most_live code.slots known code.ports code.wides code.shown (instrs_of pieces) ≤ frame_bound net watch part
     telling_le [] from known follow these spots_before before = omega arith
-    telling_le (s ∷ later) from known follow these spots_before before =
-        let it = told s (these s (contains_first s later)) in
-        let low = follow.0 in
-        let high = follow.1 in
-        let these_later : (t : Stretch) → Contains later t → Contains telling t = λ t c. these t (contains_later s later t c) in
-        let here = stretch_le s later known from (2 * it.count) (StandsIn spots part.assignments (needs net it.sink)) nothing (live_of part.assignments []) it.stretch before
-        (λ k own lt e.
-      let st = told_stands net watch part code spots telling told shown later s.high k follow.2 these_later lt e in
-      let under = spots_before st.leaf k st.before st.there in
-      absurd (omega (arith, own, under, low)))
-        (λ k lt e. live_slots part.assignments [] k
-      (let st = told_stands net watch part code spots telling told shown (s ∷ later) from k follow these lt (read_behind code.ports code.wides code.shown s.instrs (instrs_of later) k ∙ e) in
-      record { leaf = st.leaf; before = st.before; wanted = Contains-append_left (sinks_read net watch part) [] st.leaf st.wanted; there = st.there }))
-        in
-        let split = most_behind code.ports code.wides code.slots code.shown s.instrs (instrs_of later) known in
-        let rest = telling_le later s.high (written known code.wides s.instrs) follow.2 these_later
-        (λ x k c e. let lt = spots_before x k c e in omega (arith, lt, low, high))
-        (written_before s known from (2 * it.count) (StandsIn spots part.assignments (needs net it.sink)) nothing it.stretch low high before)
-        in
-        let live = few_live net watch part part.assignments [] (append-nil part.assignments) in
+    telling_le (p ∷ later) from known follow these spots_before before =
+        let it = told p (these p (contains_first p later)) in
+        let first = follow.0 in
+        let last = follow.1 in
+        let these_later : (q : Piece) → Contains later q → Contains telling q = λ q c. these q (contains_later p later q c) in
         let driver = in_greatest driver_counts it.count
         (Contains-append_right (map (assignment_nodes net) part.assignments) (flat_map (sink_nodes net) (sinks_of_part net watch part)) it.count
-      (contains_flat (sink_nodes net) (sinks_of_part net watch part) it.sink it.count it.there it.counted))
+      (contains_flat (sink_nodes net) (sinks_of_part net watch part) it.sink it.count it.listed it.counted))
         in
-        omega (arith, split, here, rest, live, driver)
+        piece_le p later known from it.most it.count it.outer [] part.assignments [] it.stretch before
+        (λ k own lt e.
+      let s = told_stands net watch part code spots telling told shown later p.last k follow.2 these_later lt e in
+      let under = spots_before s.leaf k s.before s.there in
+      absurd (omega (arith, own, under, first)))
+        (λ k lt e.
+      let s = told_stands net watch part code spots telling told shown (p ∷ later) from k follow these lt e in
+      record { leaf = s.leaf; before = s.before; wanted = Contains-append_left (sinks_read net watch part) [] s.leaf s.wanted; there = s.there })
+        (append-nil part.assignments) it.few driver
+        (telling_le later p.last (written known code.wides p.instrs) follow.2 these_later
+        (λ x k c e. let lt = spots_before x k c e in omega (arith, lt, first, last))
+        (written_then p known from it.most it.outer [] it.stretch first last before))
 
     -- Assignments, and then the sinks
 
-    assigning_le : (rest : List ℕ) (stretches : List Stretch) (done : List ℕ) (from : ℕ) (known : Known) → Rest net part code spots telling rest stretches done from
+    assigning_le : (rest : List ℕ) (pieces : List Piece) (done : List ℕ) (from : ℕ) (known : Known) → Rest net part code spots telling rest pieces done from
         → ((x k : ℕ) → Contains done x → among (spots x) k ≡ true → k < from) → ((k : ℕ) → known k ≡ true → k < from)
-        → most_live code.slots known code.ports code.wides code.shown (instrs_of (stretches ++ telling)) ≤ frame_bound net watch part
+        → most_live code.slots known code.ports code.wides code.shown (instrs_of (pieces ++ telling)) ≤ frame_bound net watch part
     assigning_le [] [] done from known r spots_before before =
-        telling_le telling from known r.follow (λ s c. c) (λ x k c e. spots_before x k (subst (λ xs. Contains xs x) (sym (sym (append-nil done) ∙ r.all)) c) e) before
-    assigning_le [] (s ∷ stretches) done from known r spots_before before = let counted = r.counted in absurd (omega (arith, counted))
+        telling_le telling from known r.follow (λ p c. c) (λ x k c e. spots_before x k (subst (λ xs. Contains xs x) (sym (sym (append-nil done) ∙ r.all)) c) e) before
+    assigning_le [] (p ∷ pieces) done from known r spots_before before = let counted = r.counted in absurd (omega (arith, counted))
     assigning_le (x ∷ rest) [] done from known r spots_before before = let counted = r.counted in absurd (omega (arith, counted))
-    assigning_le (x ∷ rest) (s ∷ stretches) done from known r spots_before before =
-        let it = first_of_rest net part code spots telling x rest s stretches done from r in
-        let further_rest = later_rest net part code spots telling x rest s stretches done from r in
-        let low = r.follow.0 in
-        let high = r.follow.1 in
-        let later : List Stretch = stretches ++ telling in
-        let here = stretch_le s later known from (2 * assignment_nodes net x) (StandsIn spots done (direct_reads net x)) (among (spots x)) (live_of done (x ∷ rest)) it.stretch before
-        (λ k own lt e.
-      let st = stands net watch part code spots telling told shown rest stretches (done ++ x ∷ []) s.high k further_rest lt e in ⊎_elim
-      (λ c. let under = spots_before st.leaf k c st.there in absurd (omega (arith, own, under, low)))
-      (λ same. ap (λ y. among (spots y) k) same ∙ st.there)
-      (Contains-push_cases done x st.leaf st.before))
-        (λ k lt e. live_slots done (x ∷ rest) k
-      (stands net watch part code spots telling told shown (x ∷ rest) (s ∷ stretches) done from k r lt (read_behind code.ports code.wides code.shown s.instrs (instrs_of later) k ∙ e)))
-        in
-        let split = most_behind code.ports code.wides code.slots code.shown s.instrs (instrs_of later) known in
-        let rest_le = assigning_le rest stretches (done ++ x ∷ []) s.high (written known code.wides s.instrs) further_rest
-        (λ y k c e. ⊎_elim
-      (λ d. let lt = spots_before y k d e in omega (arith, lt, low, high))
-      (λ same. it.below k (ap (λ z. among (spots z) k) same ∙ e))
-      (Contains-push_cases done x y c))
-        (written_before s known from (2 * assignment_nodes net x) (StandsIn spots done (direct_reads net x)) (among (spots x)) it.stretch low high before)
-        in
-        let live = few_live net watch part done (x ∷ rest) r.all in
+    assigning_le (x ∷ rest) (p ∷ pieces) done from known r spots_before before =
+        let it = first_of_rest net part code spots telling x rest p pieces done from r in
+        let further = later_rest net part code spots telling x rest p pieces done from r in
+        let first = r.follow.0 in
+        let last = r.follow.1 in
         let driver = in_greatest driver_counts (assignment_nodes net x)
         (Contains-append_left (map (assignment_nodes net) part.assignments) (flat_map (sink_nodes net) (sinks_of_part net watch part)) (assignment_nodes net x)
-      (contains_map (assignment_nodes net) part.assignments x
-      (subst (λ xs. Contains xs x) r.all (Contains-append_right done (x ∷ rest) x (contains_first x rest)))))
+      (contains_map (assignment_nodes net) part.assignments x (subst (λ xs. Contains xs x) r.all (Contains-append_right done (x ∷ rest) x (contains_first x rest)))))
         in
-        omega (arith, split, here, rest_le, live, driver)
+        piece_le p (pieces ++ telling) known from it.most (assignment_nodes net x) it.outer (spots x) done (x ∷ rest) it.stretch before
+        (λ k own lt e.
+      let s = stands net watch part code spots telling told shown rest pieces (done ++ x ∷ []) p.last k further lt e in
+      ⊎_elim
+      (λ c. let under = spots_before s.leaf k c s.there in absurd (omega (arith, own, under, first)))
+      (λ same. ap (λ y. among (spots y) k) same ∙ s.there)
+      (Contains-push_cases done x s.leaf s.before))
+        (λ k lt e. stands net watch part code spots telling told shown (x ∷ rest) (p ∷ pieces) done from k r lt e)
+        r.all it.few driver
+        (assigning_le rest pieces (done ++ x ∷ []) p.last (written known code.wides p.instrs) further
+        (λ y k c e. ⊎_elim
+      (λ d. let lt = spots_before y k d e in omega (arith, lt, first, last))
+      (λ same. ⊎_elim
+      (λ own. own.1)
+      (λ o. let s = it.outside k o in let lt = spots_before s.leaf k s.before s.there in omega (arith, lt, first, last))
+      (it.there k (ap (λ z. among (spots z) k) same ∙ e)))
+      (Contains-push_cases done x y c))
+        (written_then p known from it.most it.outer (spots x) it.stretch first last before))
 
-pub few_live_slots : (net : Net) (watch : List ℕ) (part : CutPart) (code : Code) → InStretches net watch part code → most_live_of code ≤ frame_bound net watch part
+pub few_live_slots : (net : Net) (watch : List ℕ) (part : CutPart) (code : Code) → InPieces net watch part code → most_live_of code ≤ frame_bound net watch part
 few_live_slots net watch part code it =
     subst (λ is. most_live code.slots nothing code.ports code.wides code.shown is ≤ frame_bound net watch part) (sym it.is)
     (assigning_le net watch part code it.spots it.two it.telling it.told it.shown part.assignments it.assigning [] 0 nothing
@@ -151,10 +138,10 @@ few_live_slots net watch part code it =
     (λ x k c e. absurd (none_in x c))
     (λ k e. absurd (false≢true e)))
 
-pub placed_bound : (net : Net) (watch : List ℕ) (part : CutPart) (code placed : Code) → InStretches net watch part code → HasFew code placed → placed.slots ≤ max 1 (frame_bound net watch part)
+pub placed_bound : (net : Net) (watch : List ℕ) (part : CutPart) (code placed : Code) → InPieces net watch part code → HasFew code placed → placed.slots ≤ max 1 (frame_bound net watch part)
 placed_bound net watch part code placed it few = let live = few.live in let bound = few_live_slots net watch part code it in omega (arith, live, bound)
 
-pub placed_exact : (net : Net) (watch : List ℕ) (part : CutPart) (code placed : Code) → InStretches net watch part code → HasFew code placed → (code.slots ≡ 0) ⊎ (1 ≤ most_nodes net watch part)
+pub placed_exact : (net : Net) (watch : List ℕ) (part : CutPart) (code placed : Code) → InPieces net watch part code → HasFew code placed → (code.slots ≡ 0) ⊎ (1 ≤ most_nodes net watch part)
     → placed.slots ≤ frame_bound net watch part
 placed_exact net watch part code placed it few some = ⊎_elim
     (λ none. let fewer = few.fewer in omega (arith, fewer, none))

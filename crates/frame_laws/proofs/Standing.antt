@@ -1,18 +1,17 @@
--- In which slots stands what later stretches need.
+-- In which slots stands what later pieces need.
 use Rattle.std.proofs.Common.{◌≡◌, ℕ, zero, suc, ◌+◌, ◌<◌, ◌≤◌, true, List, [], ◌∷◌, ◌++◌, flat_map, length, get_or, take, slice_get, Some, Contains, refl, sym, subst, ap, ◌∙◌, arith, ⊎_elim, append_assoc, append-nil}
 use Rattle.std.proofs.lemmas.List.Elements.{Contains-append_left, Contains-append_right, Contains-append_cases, Contains-push_cases}
 use Rattle.ground_net.specs.declared.net.Net.{Net}
 use Rattle.ground_net.specs.declared.net.CutPart.{CutPart}
 use Rattle.ground_net.specs.Reads.{direct_reads}
 use Rattle.ground_net.specs.Cones.{needs}
-use Rattle.flat_code.specs.declared.instr.Instr.{Instr}
 use Rattle.flat_code.specs.declared.code.Code.{Code}
-use Rattle.flat_code.specs.Fine.{Known, among, nothing, slots_of}
+use Rattle.flat_code.specs.Fine.{Known, among, slots_of}
 use Rattle.partition_code.specs.Codes.{sinks_of_part}
-use Rattle.code_place.specs.Live.{is_read}
+use Rattle.code_place.specs.Live.{is_read as is_read_or_shown}
 use Rattle.frame_laws.specs.Frames.{sinks_read}
-use Rattle.frame_laws.specs.Stretches.{Stretch, is_needed, StandsIn, IsAssigning, IsTelling, Follow, instrs_of}
-use Rattle.frame_laws.proofs.Staying.{needed_cases, read_behind}
+use Rattle.frame_laws.specs.Pieces.{is_read, Piece, Follow, instrs_of, StandsIn, IsAssigning, IsTelling}
+use Rattle.frame_laws.proofs.Staying.{read_cases, read_behind}
 
 -- Lists
 
@@ -31,59 +30,61 @@ pub contains_flat : {A B : Type 0} (f : A → List B) (xs : List A) (x : A) (y :
 contains_flat f xs x y c d = flat_at f xs x y c.0 c.1 c.2 d
 
 -- more is read, of more leaves
-stands_so : (spots : ℕ → List ℕ) (earlier more_earlier read more_read : List ℕ) (k : ℕ) → ((x : ℕ) → Contains earlier x → Contains more_earlier x) → ((x : ℕ) → Contains read x → Contains more_read x)
-    → StandsIn spots earlier read k → StandsIn spots more_earlier more_read k
-stands_so spots earlier more_earlier read more_read k f g s = record { leaf = s.leaf; before = f s.leaf s.before; wanted = g s.leaf s.wanted; there = s.there }
+stands_so : (spots : ℕ → List ℕ) (earlier further read all : List ℕ) (k : ℕ) → ((x : ℕ) → Contains earlier x → Contains further x) → ((x : ℕ) → Contains read x → Contains all x)
+    → StandsIn spots earlier read k → StandsIn spots further all k
+stands_so spots earlier further read all k f g s = record { leaf = s.leaf; before = f s.leaf s.before; wanted = g s.leaf s.wanted; there = s.there }
 
--- whether a slot is read by these stretches or shown
-abbrev pub is_later : Code → List Stretch → Known
-is_later code stretches = is_read code.ports code.wides code.shown (instrs_of stretches)
+-- whether a slot is read by these pieces or shown
+abbrev pub is_later : Code → List Piece → Known
+is_later code pieces = is_read_or_shown code.ports code.wides code.shown (instrs_of pieces)
 
 -- what the sinks and these assignments read
 abbrev pub read_by : Net → List ℕ → CutPart → List ℕ → List ℕ
 read_by net watch part rest = sinks_read net watch part ++ flat_map (direct_reads net) rest
 
--- read by the first stretch, or later
-first_or_later : (code : Code) (s : Stretch) (further : List Stretch) (k : ℕ) → is_later code (s ∷ further) k ≡ true → is_needed code.ports code.wides (is_later code further) s.instrs k ≡ true
-first_or_later code s further k e = sym (read_behind code.ports code.wides code.shown s.instrs (instrs_of further) k) ∙ e
+-- read by the first piece, or later
+first_or_later : (code : Code) (p : Piece) (further : List Piece) (k : ℕ) → is_later code (p ∷ further) k ≡ true → is_read code.ports code.wides (is_later code further) p.instrs k ≡ true
+first_or_later code p further k e = sym (read_behind code.ports code.wides code.shown p.instrs (instrs_of further) k) ∙ e
 
--- Assignments that have their code, and others with it, before the code of the sinks.
-pub record Rest (net : Net) (part : CutPart) (code : Code) (spots : ℕ → List ℕ) (telling : List Stretch) (rest : List ℕ) (stretches : List Stretch) (done : List ℕ) (from : ℕ) : Type 0 where
-  pub follow : Follow from (stretches ++ telling)
-  pub counted : length stretches ≡ length rest
-  pub each : (k x : ℕ) (s : Stretch) → slice_get rest k ≡ Some x → slice_get stretches k ≡ Some s → IsAssigning net code spots (done ++ take k rest) x s
+-- Assignments that have no code yet in the order, and others before them that have.
+pub record Rest (net : Net) (part : CutPart) (code : Code) (spots : ℕ → List ℕ) (telling : List Piece) (rest : List ℕ) (pieces : List Piece) (done : List ℕ) (from : ℕ) : Type 0 where
+  pub follow : Follow from (pieces ++ telling)
+  pub counted : length pieces ≡ length rest
+  pub each : (k x : ℕ) (p : Piece) → slice_get rest k ≡ Some x → slice_get pieces k ≡ Some p → IsAssigning net code.ports code.wides spots (done ++ take k rest) x p
   pub all : done ++ rest ≡ part.assignments
 
-module _ (net : Net) (part : CutPart) (code : Code) (spots : ℕ → List ℕ) (telling : List Stretch) (x : ℕ) (rest : List ℕ) (s : Stretch) (stretches : List Stretch) (done : List ℕ) (from : ℕ)
-    (r : Rest net part code spots telling (x ∷ rest) (s ∷ stretches) done from) where
-  pub first_of_rest : IsAssigning net code spots done x s
-  first_of_rest = subst (λ earlier. IsAssigning net code spots earlier x s) (append-nil done) (r.each 0 x s refl refl)
+module _ (net : Net) (part : CutPart) (code : Code) (spots : ℕ → List ℕ) (telling : List Piece) (x : ℕ) (rest : List ℕ) (p : Piece) (pieces : List Piece) (done : List ℕ) (from : ℕ)
+    (r : Rest net part code spots telling (x ∷ rest) (p ∷ pieces) done from) where
+  pub first_of_rest : IsAssigning net code.ports code.wides spots done x p
+  first_of_rest = subst (λ earlier. IsAssigning net code.ports code.wides spots earlier x p) (append-nil done) (r.each 0 x p refl refl)
 
-  pub later_rest : Rest net part code spots telling rest stretches (done ++ x ∷ []) s.high
+  pub later_rest : Rest net part code spots telling rest pieces (done ++ x ∷ []) p.last
   later_rest =
       let counted = r.counted in
       record {
         follow = r.follow.2;
         counted = omega (arith, counted);
-        each = λ k y t at there. subst (λ earlier. IsAssigning net code spots earlier y t) (sym (append_assoc done (x ∷ []) (take k rest))) (r.each (suc k) y t at there);
+        each = λ k y q at there. subst (λ earlier. IsAssigning net code.ports code.wides spots earlier y q) (sym (append_assoc done (x ∷ []) (take k rest))) (r.each (suc k) y q at there);
         all = append_assoc done (x ∷ []) rest ∙ r.all;
       }
 
-module _ (net : Net) (watch : List ℕ) (part : CutPart) (code : Code) (spots : ℕ → List ℕ) (telling : List Stretch) (told : (s : Stretch) → Contains telling s → IsTelling net watch part code spots s)
+module _ (net : Net) (watch : List ℕ) (part : CutPart) (code : Code) (spots : ℕ → List ℕ) (telling : List Piece) (told : (p : Piece) → Contains telling p → IsTelling net watch part code.ports code.wides spots p)
     (shown : (k : ℕ) → among (slots_of code.shown) k ≡ true → StandsIn spots part.assignments (sinks_read net watch part) k) where
   -- What the code of sinks reads, and what is shown
 
-  pub told_stands : (stretches : List Stretch) (from k : ℕ) → Follow from stretches → ((s : Stretch) → Contains stretches s → Contains telling s) → k < from → is_later code stretches k ≡ true
+  pub told_stands : (pieces : List Piece) (from k : ℕ) → Follow from pieces → ((p : Piece) → Contains pieces p → Contains telling p) → k < from → is_later code pieces k ≡ true
       → StandsIn spots part.assignments (sinks_read net watch part) k
   told_stands [] from k follow these lt e = shown k e
-  told_stands (s ∷ further) from k follow these lt e =
-      let it = told s (these s (contains_first s further)) in
+  told_stands (p ∷ further) from k follow these lt e =
+      let it = told p (these p (contains_first p further)) in
+      let first = follow.0 in
+      let last = follow.1 in
       ⊎_elim
-      (λ r. stands_so spots part.assignments part.assignments (needs net it.sink) (sinks_read net watch part) k (λ x c. c)
-      (λ x c. contains_flat (needs net) (sinks_of_part net watch part) it.sink x it.there c)
-      (it.stretch.reads k r (let low = follow.0 in omega (arith, lt, low))))
-      (λ l. told_stands further s.high k follow.2 (λ t c. these t (contains_later s further t c)) (let low = follow.0 in let high = follow.1 in omega (arith, lt, low, high)) l)
-      (needed_cases code.ports code.wides (is_later code further) s.instrs k (first_or_later code s further k e))
+      (λ o. stands_so spots part.assignments part.assignments (needs net it.sink) (sinks_read net watch part) k (λ x c. c)
+      (λ x c. contains_flat (needs net) (sinks_of_part net watch part) it.sink x it.listed c)
+      (it.outside k o))
+      (λ l. told_stands further p.last k follow.2 (λ q c. these q (contains_later p further q c)) (omega (arith, lt, first, last)) l)
+      (read_cases code.ports code.wides p.first it.outer (is_later code further) p.instrs k it.stretch.reads (omega (arith, lt, first)) (first_or_later code p further k e))
 
   -- of an assignment it is read by the first of them, or by the others
   read_first : (x : ℕ) (rest : List ℕ) (y : ℕ) → Contains (direct_reads net x) y → Contains (read_by net watch part (x ∷ rest)) y
@@ -97,28 +98,27 @@ module _ (net : Net) (watch : List ℕ) (part : CutPart) (code : Code) (spots : 
       (Contains-append_cases (sinks_read net watch part) (flat_map (direct_reads net) rest) y c)
 
   -- What is needed of the slots before: they are those of assignments that have their code, and that the sinks or the others read.
-  pub stands : (rest : List ℕ) (stretches : List Stretch) (done : List ℕ) (from k : ℕ) → Rest net part code spots telling rest stretches done from → k < from → is_later code (stretches ++ telling) k ≡ true
+  pub stands : (rest : List ℕ) (pieces : List Piece) (done : List ℕ) (from k : ℕ) → Rest net part code spots telling rest pieces done from → k < from → is_later code (pieces ++ telling) k ≡ true
       → StandsIn spots done (read_by net watch part rest) k
   stands [] [] done from k r lt e =
       stands_so spots part.assignments done (sinks_read net watch part) (read_by net watch part []) k
       (λ x c. subst (λ xs. Contains xs x) (sym (sym (append-nil done) ∙ r.all)) c)
       (λ x c. Contains-append_left (sinks_read net watch part) [] x c)
-      (told_stands telling from k r.follow (λ s c. c) lt e)
-  stands [] (s ∷ stretches) done from k r lt e = let counted = r.counted in absurd (omega (arith, counted))
+      (told_stands telling from k r.follow (λ p c. c) lt e)
+  stands [] (p ∷ pieces) done from k r lt e = let counted = r.counted in absurd (omega (arith, counted))
   stands (x ∷ rest) [] done from k r lt e = let counted = r.counted in absurd (omega (arith, counted))
-  stands (x ∷ rest) (s ∷ stretches) done from k r lt e =
-      let it = first_of_rest net part code spots telling x rest s stretches done from r in
-      let low = r.follow.0 in
-      let high = r.follow.1 in
-      let outside : StandsIn spots done (direct_reads net x) k → StandsIn spots done (read_by net watch part (x ∷ rest)) k =
-          stands_so spots done done (direct_reads net x) (read_by net watch part (x ∷ rest)) k (λ y c. c) (read_first x rest)
+  stands (x ∷ rest) (p ∷ pieces) done from k r lt e =
+      let it = first_of_rest net part code spots telling x rest p pieces done from r in
+      let first = r.follow.0 in
+      let last = r.follow.1 in
+      let outside : among it.outer k ≡ true → StandsIn spots done (read_by net watch part (x ∷ rest)) k =
+          λ o. stands_so spots done done (direct_reads net x) (read_by net watch part (x ∷ rest)) k (λ y c. c) (read_first x rest) (it.outside k o)
       in
-      ⊎_elim
-      (λ q. outside (it.stretch.reads k q (omega (arith, lt, low))))
+      ⊎_elim outside
       (λ l.
-        let s' = stands rest stretches (done ++ x ∷ []) s.high k (later_rest net part code spots telling x rest s stretches done from r) (omega (arith, lt, low, high)) l in
+        let s = stands rest pieces (done ++ x ∷ []) p.last k (later_rest net part code spots telling x rest p pieces done from r) (omega (arith, lt, first, last)) l in
         ⊎_elim
-        (λ c. record { leaf = s'.leaf; before = c; wanted = read_later x rest s'.leaf s'.wanted; there = s'.there })
-        (λ same. outside (it.outside k (ap (λ y. among (spots y) k) same ∙ s'.there) (omega (arith, lt, low))))
-        (Contains-push_cases done x s'.leaf s'.before))
-      (needed_cases code.ports code.wides (is_later code (stretches ++ telling)) s.instrs k (first_or_later code s (stretches ++ telling) k e))
+        (λ c. record { leaf = s.leaf; before = c; wanted = read_later x rest s.leaf s.wanted; there = s.there })
+        (λ same. ⊎_elim (λ own. let mine = own.0 in absurd (omega (arith, lt, first, mine))) outside (it.there k (ap (λ y. among (spots y) k) same ∙ s.there)))
+        (Contains-push_cases done x s.leaf s.before))
+      (read_cases code.ports code.wides p.first it.outer (is_later code (pieces ++ telling)) p.instrs k it.stretch.reads (omega (arith, lt, first)) (first_or_later code p (pieces ++ telling) k e))

@@ -2,4 +2,4 @@
 pub mod Frames
 pub mod Examples
 -- what is known of a code
-pub mod Stretches
+pub mod Pieces

@@ -11,14 +11,14 @@ ghost use Rattle.code_place.specs.Live.{most_live_of};
 ghost use Rattle.code_place.specs.Placed.{HasFew};
 ghost use Rattle.frame_laws.specs.Frames.{live_behind, most_assignments, most_nodes, frame_bound, sink_nodes, memory_nodes};
 ghost use Rattle.frame_laws.specs.Examples.{chain, whole_chain, gathering, whole_gathering, gathering_alone, resetting, memory, port, writes, reads};
-ghost use Rattle.frame_laws.specs.Stretches.{InStretches};
+ghost use Rattle.frame_laws.specs.Pieces.{InPieces};
 
-/// Of a code of a part in stretches no more slots are live at once than two for each assignment that is live at once and two for each
+/// Of a code of a part in pieces no more slots are live at once than two for each assignment that is live at once and two for each
 /// node of the largest driver. So the frame of the placed code is no longer.
 pub fn frames_are_few()
-    ensures live { (net : TheNet) (watch : List ℕ) (part : ThePart) (code : TheCode) → InStretches net watch part code → most_live_of code ≤ frame_bound net watch part }
-    ensures placed { (net : TheNet) (watch : List ℕ) (part : ThePart) (code placed : TheCode) → InStretches net watch part code → HasFew code placed → frame_length placed ≤ max 1 (frame_bound net watch part) }
-    ensures exact { (net : TheNet) (watch : List ℕ) (part : ThePart) (code placed : TheCode) → InStretches net watch part code → HasFew code placed → (code.slots ≡ 0) ⊎ (1 ≤ most_nodes net watch part) → frame_length placed ≤ frame_bound net watch part }
+    ensures live { (net : TheNet) (watch : List ℕ) (part : ThePart) (code : TheCode) → InPieces net watch part code → most_live_of code ≤ frame_bound net watch part }
+    ensures placed { (net : TheNet) (watch : List ℕ) (part : ThePart) (code placed : TheCode) → InPieces net watch part code → HasFew code placed → frame_length placed ≤ max 1 (frame_bound net watch part) }
+    ensures exact { (net : TheNet) (watch : List ℕ) (part : ThePart) (code placed : TheCode) → InPieces net watch part code → HasFew code placed → (code.slots ≡ 0) ⊎ (1 ≤ most_nodes net watch part) → frame_length placed ≤ frame_bound net watch part }
 {}
 
 /// In a chain one assignment is live at a time: only the next one reads it.
