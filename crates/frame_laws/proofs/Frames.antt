@@ -78,16 +78,16 @@ module _ (net : Net) (watch : List ℕ) (part : CutPart) (code : Code) (spots : 
         let these_later : (q : Piece) → Contains later q → Contains telling q = λ q c. these q (contains_later p later q c) in
         let driver = in_greatest driver_counts it.count
         (Contains-append_right (map (assignment_nodes net) part.assignments) (flat_map (sink_nodes net) (sinks_of_part net watch part)) it.count
-      (contains_flat (sink_nodes net) (sinks_of_part net watch part) it.sink it.count it.listed it.counted))
+        (contains_flat (sink_nodes net) (sinks_of_part net watch part) it.sink it.count it.listed it.counted))
         in
         piece_le p later known from it.most it.count it.outer [] part.assignments [] it.stretch before
         (λ k own lt e.
-      let s = told_stands net watch part code spots telling told shown later p.last k follow.2 these_later lt e in
-      let under = spots_before s.leaf k s.before s.there in
-      absurd (omega (arith, own, under, first)))
+        let s = told_stands net watch part code spots telling told shown later p.last k follow.2 these_later lt e in
+        let under = spots_before s.leaf k s.before s.there in
+        absurd (omega (arith, own, under, first)))
         (λ k lt e.
-      let s = told_stands net watch part code spots telling told shown (p ∷ later) from k follow these lt e in
-      record { leaf = s.leaf; before = s.before; wanted = Contains-append_left (sinks_read net watch part) [] s.leaf s.wanted; there = s.there })
+        let s = told_stands net watch part code spots telling told shown (p ∷ later) from k follow these lt e in
+        record { leaf = s.leaf; before = s.before; wanted = Contains-append_left (sinks_read net watch part) [] s.leaf s.wanted; there = s.there })
         (append-nil part.assignments) it.few driver
         (telling_le later p.last (written known code.wides p.instrs) follow.2 these_later
         (λ x k c e. let lt = spots_before x k c e in omega (arith, lt, first, last))
@@ -109,25 +109,25 @@ module _ (net : Net) (watch : List ℕ) (part : CutPart) (code : Code) (spots : 
         let last = r.follow.1 in
         let driver = in_greatest driver_counts (assignment_nodes net x)
         (Contains-append_left (map (assignment_nodes net) part.assignments) (flat_map (sink_nodes net) (sinks_of_part net watch part)) (assignment_nodes net x)
-      (contains_map (assignment_nodes net) part.assignments x (subst (λ xs. Contains xs x) r.all (Contains-append_right done (x ∷ rest) x (contains_first x rest)))))
+        (contains_map (assignment_nodes net) part.assignments x (subst (λ xs. Contains xs x) r.all (Contains-append_right done (x ∷ rest) x (contains_first x rest)))))
         in
         piece_le p (pieces ++ telling) known from it.most (assignment_nodes net x) it.outer (spots x) done (x ∷ rest) it.stretch before
         (λ k own lt e.
-      let s = stands net watch part code spots telling told shown rest pieces (done ++ x ∷ []) p.last k further lt e in
-      ⊎_elim
-      (λ c. let under = spots_before s.leaf k c s.there in absurd (omega (arith, own, under, first)))
-      (λ same. ap (λ y. among (spots y) k) same ∙ s.there)
-      (Contains-push_cases done x s.leaf s.before))
+        let s = stands net watch part code spots telling told shown rest pieces (done ++ x ∷ []) p.last k further lt e in
+        ⊎_elim
+        (λ c. let under = spots_before s.leaf k c s.there in absurd (omega (arith, own, under, first)))
+        (λ same. ap (λ y. among (spots y) k) same ∙ s.there)
+        (Contains-push_cases done x s.leaf s.before))
         (λ k lt e. stands net watch part code spots telling told shown (x ∷ rest) (p ∷ pieces) done from k r lt e)
         r.all it.few driver
         (assigning_le rest pieces (done ++ x ∷ []) p.last (written known code.wides p.instrs) further
         (λ y k c e. ⊎_elim
-      (λ d. let lt = spots_before y k d e in omega (arith, lt, first, last))
-      (λ same. ⊎_elim
-      (λ own. own.1)
-      (λ o. let s = it.outside k o in let lt = spots_before s.leaf k s.before s.there in omega (arith, lt, first, last))
-      (it.there k (ap (λ z. among (spots z) k) same ∙ e)))
-      (Contains-push_cases done x y c))
+        (λ d. let lt = spots_before y k d e in omega (arith, lt, first, last))
+        (λ same. ⊎_elim
+        (λ own. own.1)
+        (λ o. let s = it.outside k o in let lt = spots_before s.leaf k s.before s.there in omega (arith, lt, first, last))
+        (it.there k (ap (λ z. among (spots z) k) same ∙ e)))
+        (Contains-push_cases done x y c))
         (written_then p known from it.most it.outer (spots x) it.stretch first last before))
 
 pub few_live_slots : (net : Net) (watch : List ℕ) (part : CutPart) (code : Code) → InPieces net watch part code → most_live_of code ≤ frame_bound net watch part

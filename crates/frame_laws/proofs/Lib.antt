@@ -3,3 +3,4 @@ pub mod Staying
 pub mod Standing
 pub mod Greatest
 pub mod Frames
+pub mod Building

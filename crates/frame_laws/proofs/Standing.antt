@@ -112,13 +112,13 @@ module _ (net : Net) (watch : List ℕ) (part : CutPart) (code : Code) (spots : 
       let first = r.follow.0 in
       let last = r.follow.1 in
       let outside : among it.outer k ≡ true → StandsIn spots done (read_by net watch part (x ∷ rest)) k =
-          λ o. stands_so spots done done (direct_reads net x) (read_by net watch part (x ∷ rest)) k (λ y c. c) (read_first x rest) (it.outside k o)
+      λ o. stands_so spots done done (direct_reads net x) (read_by net watch part (x ∷ rest)) k (λ y c. c) (read_first x rest) (it.outside k o)
       in
       ⊎_elim outside
       (λ l.
-        let s = stands rest pieces (done ++ x ∷ []) p.last k (later_rest net part code spots telling x rest p pieces done from r) (omega (arith, lt, first, last)) l in
-        ⊎_elim
-        (λ c. record { leaf = s.leaf; before = c; wanted = read_later x rest s.leaf s.wanted; there = s.there })
-        (λ same. ⊎_elim (λ own. let mine = own.0 in absurd (omega (arith, lt, first, mine))) outside (it.there k (ap (λ y. among (spots y) k) same ∙ s.there)))
-        (Contains-push_cases done x s.leaf s.before))
+      let s = stands rest pieces (done ++ x ∷ []) p.last k (later_rest net part code spots telling x rest p pieces done from r) (omega (arith, lt, first, last)) l in
+      ⊎_elim
+      (λ c. record { leaf = s.leaf; before = c; wanted = read_later x rest s.leaf s.wanted; there = s.there })
+      (λ same. ⊎_elim (λ own. let mine = own.0 in absurd (omega (arith, lt, first, mine))) outside (it.there k (ap (λ y. among (spots y) k) same ∙ s.there)))
+      (Contains-push_cases done x s.leaf s.before))
       (read_cases code.ports code.wides p.first it.outer (is_later code (pieces ++ telling)) p.instrs k it.stretch.reads (omega (arith, lt, first)) (first_or_later code p (pieces ++ telling) k e))

@@ -53,13 +53,13 @@ module _ (ports : List Port) (wides : List Wide) where
     own_live known own before i is known_by inside writes needs m k e = among_append m.slots further k ∙ ⊎_elim
         (λ w. left (among m.slots k) (among further k) (m.all k (writes k w) (left (among (writes_of wides i) k) (own k && is_read ports wides after is k) w)))
         (λ b.
-      let parts = and_parts (known k) (is_read_or_shown ports wides shown (is ++ ys) k) b in
-      let later = sym (read_behind shown is ys k) ∙ parts.1 in
-      ⊎_elim
-      (λ o. left (among m.slots k) (among further k)
-      (m.all k (inside k o) (right (among (writes_of wides i) k) (own k && is_read ports wides after is k) (and_from (own k) (is_read ports wides after is k) o later))))
-      (λ f. right (among m.slots k) (among further k) (needs k f later))
-      (known_by k parts.0))
+        let parts = and_parts (known k) (is_read_or_shown ports wides shown (is ++ ys) k) b in
+        let later = sym (read_behind shown is ys k) ∙ parts.1 in
+        ⊎_elim
+        (λ o. left (among m.slots k) (among further k)
+        (m.all k (inside k o) (right (among (writes_of wides i) k) (own k && is_read ports wides after is k) (and_from (own k) (is_read ports wides after is k) o later))))
+        (λ f. right (among m.slots k) (among further k) (needs k f later))
+        (known_by k parts.0))
         (either (among (writes_of wides i) k) (known k && is_read_or_shown ports wides shown (is ++ ys) k) e)
 
     -- no more than these are live behind the instructions of a piece, and the rest goes on
@@ -70,16 +70,16 @@ module _ (ports : List Port) (wides : List Wide) where
     live_le bound [] known own before known_by inside writes needs few le rest = rest
     live_le bound (i ∷ is) known own before known_by inside writes needs few le rest =
         let first_writes : (k : ℕ) → among (writes_of wides i) k ≡ true → first ≤ k =
-            λ k w. (All-head (λ j. (m : ℕ) → among (writes_of wides j) m ≡ true → (first ≤ m) × (m < last)) i is writes k w).0
+        λ k w. (All-head (λ j. (m : ℕ) → among (writes_of wides j) m ≡ true → (first ≤ m) × (m < last)) i is writes k w).0
         in
         let later_needs : (k : ℕ) → before k ≡ true → is_read ports wides after is k ≡ true → among further k ≡ true =
-            λ k b e. needs k b (right (among (reads_of ports wides i) k) (is_read ports wides after is k) e)
+        λ k b e. needs k b (right (among (reads_of ports wides i) k) (is_read ports wides after is k) e)
         in
         let later = live_le bound is (more (writes_of wides i) known) (more (writes_of wides i) own) before
         (λ k e. ⊎_elim
-      (λ w. inl (left (among (writes_of wides i) k) (own k) w))
-      (λ h. ⊎_elim (λ o. inl (right (among (writes_of wides i) k) (own k) o)) (λ b. inr b) (known_by k h))
-      (either (among (writes_of wides i) k) (known k) e))
+        (λ w. inl (left (among (writes_of wides i) k) (own k) w))
+        (λ h. ⊎_elim (λ o. inl (right (among (writes_of wides i) k) (own k) o)) (λ b. inr b) (known_by k h))
+        (either (among (writes_of wides i) k) (known k) e))
         (λ k e. ⊎_elim (λ w. first_writes k w) (λ o. inside k o) (either (among (writes_of wides i) k) (own k) e))
         (All-tail (λ j. (m : ℕ) → among (writes_of wides j) m ≡ true → (first ≤ m) × (m < last)) i is writes)
         later_needs few.1 le rest
