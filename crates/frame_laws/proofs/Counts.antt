@@ -1,11 +1,11 @@
 -- How many numbers are in a list.
-use Rattle.std.proofs.Common.{◌≡◌, ◌==◌, ℕ, zero, suc, ◌+◌, ◌*◌, ◌<◌, ◌≤◌, Bool, true, false, ◌||◌, List, [], ◌∷◌, ◌++◌, length, flat_map, filter, if◌then◌else◌, refl, sym, subst, ap, ◌∙◌, arith, ⊎_elim, length-append, Contains}
+use Rattle.std.proofs.Common.{◌≡◌, ◌==◌, ℕ, zero, suc, ◌+◌, ◌*◌, ◌≤◌, Bool, true, false, ◌||◌, List, [], ◌∷◌, length, flat_map, if◌then◌else◌, refl, sym, ap, ◌∙◌, arith, ⊎_elim, length-append, Contains}
 use Rattle.std.proofs.lemmas.Bool.{cases_eq, cases_Bool, false≢true}
 use Rattle.flat_code.specs.Fine.{Known, among, nothing}
 use Rattle.code_place.specs.Live.{how_many}
 use Rattle.code_place.proofs.Counting.{many_le, many_none}
-use Rattle.code_place.proofs.Moving.{either, left, right, among_append, numbers_same, same_number}
-use Rattle.cone_cutter.proofs.Lists.{none_in, cons_cases, filter_to}
+use Rattle.code_place.proofs.Moving.{left, right, among_append, numbers_same, same_number}
+use Rattle.cone_cutter.proofs.Lists.{none_in, cons_cases}
 
 one_or : (a b : Bool) → ◌≤◌ (if a || b then 1 else 0) ((if a then 1 else 0) + (if b then 1 else 0))
 one_or true true = omega arith

@@ -1,5 +1,5 @@
 -- Few slots are live at once.
-use Rattle.std.proofs.Common.{◌≡◌, ℕ, zero, suc, ◌+◌, ◌*◌, ◌<◌, ◌≤◌, max, true, List, [], ◌∷◌, ◌++◌, flat_map, filter, map, length, slice_index_or, Contains, ◌⊎◌, inr, refl, sym, subst, ap, ◌∙◌, arith, ⊎_elim, append-nil}
+use Rattle.std.proofs.Common.{◌≡◌, ℕ, zero, suc, ◌*◌, ◌<◌, ◌≤◌, max, true, List, [], ◌∷◌, ◌++◌, flat_map, filter, map, length, slice_index_or, Contains, ◌⊎◌, inr, refl, sym, subst, ap, ◌∙◌, arith, ⊎_elim, append-nil}
 use Rattle.std.proofs.lemmas.Bool.{false≢true}
 use Rattle.std.proofs.lemmas.List.Elements.{Contains-append_left, Contains-append_right, Contains-push_cases}
 use Rattle.ground_net.specs.declared.net.Net.{Net}
@@ -12,7 +12,7 @@ use Rattle.code_place.specs.Live.{most_live, most_live_of}
 use Rattle.code_place.specs.Placed.{HasFew}
 use Rattle.cone_cutter.proofs.Lists.{none_in, filter_to}
 use Rattle.frame_laws.specs.Frames.{sinks_read, assignment_nodes, sink_nodes, most_nodes, frame_bound}
-use Rattle.frame_laws.specs.Pieces.{Stretch, is_read, Piece, Follow, instrs_of, StandsIn, IsAssigning, IsTelling, InPieces}
+use Rattle.frame_laws.specs.Pieces.{Stretch, Piece, Follow, instrs_of, StandsIn, IsTelling, InPieces}
 use Rattle.frame_laws.proofs.Counts.{flat_two, among_spots, among_contained}
 use Rattle.frame_laws.proofs.Staying.{written_below, read_behind, live_le}
 use Rattle.frame_laws.proofs.Standing.{contains_first, contains_later, contains_flat, is_later, read_by, Rest, first_of_rest, later_rest, told_stands, stands}
@@ -23,7 +23,7 @@ map_at f [] x k lt e = absurd (omega (arith, lt))
 map_at f (y ∷ xs) x zero lt e = (0, omega arith, ap f e)
 map_at f (y ∷ xs) x (suc k) lt e = contains_later (f y) (map f xs) (f x) (map_at f xs x k (omega (arith, lt)) e)
 
-contains_map : (f : ℕ → ℕ) (xs : List ℕ) (x : ℕ) → Contains xs x → Contains (map f xs) (f x)
+pub contains_map : (f : ℕ → ℕ) (xs : List ℕ) (x : ℕ) → Contains xs x → Contains (map f xs) (f x)
 contains_map f xs x c = map_at f xs x c.0 c.1 c.2
 
 module _ (net : Net) (watch : List ℕ) (part : CutPart) (code : Code) (spots : ℕ → List ℕ) (two : (x : ℕ) → length (spots x) ≤ 2) where
@@ -63,7 +63,7 @@ module _ (net : Net) (watch : List ℕ) (part : CutPart) (code : Code) (spots : 
   abbrev driver_counts : List ℕ
   driver_counts = map (assignment_nodes net) part.assignments ++ flat_map (sink_nodes net) (sinks_of_part net watch part)
 
-  module _ (telling : List Piece) (told : (p : Piece) → Contains telling p → IsTelling net watch part code.ports code.wides spots p)
+  module _ (telling : List Piece) (told : (p : Piece) → Contains telling p → IsTelling net watch part code spots p)
       (shown : (k : ℕ) → among (slots_of code.shown) k ≡ true → StandsIn spots part.assignments (sinks_read net watch part) k) where
     -- Sinks, when all assignments have their code
 
@@ -80,7 +80,7 @@ module _ (net : Net) (watch : List ℕ) (part : CutPart) (code : Code) (spots : 
         (Contains-append_right (map (assignment_nodes net) part.assignments) (flat_map (sink_nodes net) (sinks_of_part net watch part)) it.count
         (contains_flat (sink_nodes net) (sinks_of_part net watch part) it.sink it.count it.listed it.counted))
         in
-        piece_le p later known from it.most it.count it.outer [] part.assignments [] it.stretch before
+        piece_le p later known from it.piece.most it.count it.piece.outer [] part.assignments [] it.piece.stretch before
         (λ k own lt e.
         let s = told_stands net watch part code spots telling told shown later p.last k follow.2 these_later lt e in
         let under = spots_before s.leaf k s.before s.there in
@@ -88,10 +88,10 @@ module _ (net : Net) (watch : List ℕ) (part : CutPart) (code : Code) (spots : 
         (λ k lt e.
         let s = told_stands net watch part code spots telling told shown (p ∷ later) from k follow these lt e in
         record { leaf = s.leaf; before = s.before; wanted = Contains-append_left (sinks_read net watch part) [] s.leaf s.wanted; there = s.there })
-        (append-nil part.assignments) it.few driver
+        (append-nil part.assignments) it.piece.few driver
         (telling_le later p.last (written known code.wides p.instrs) follow.2 these_later
         (λ x k c e. let lt = spots_before x k c e in omega (arith, lt, first, last))
-        (written_then p known from it.most it.outer [] it.stretch first last before))
+        (written_then p known from it.piece.most it.piece.outer [] it.piece.stretch first last before))
 
     -- Assignments, and then the sinks
 

@@ -1,5 +1,5 @@
 -- The greatest of numbers, and how many assignments are live at most.
-use Rattle.std.proofs.Common.{◌≡◌, ℕ, zero, suc, ◌+◌, ◌<◌, ◌≤◌, max, List, [], ◌∷◌, ◌++◌, flat_map, filter, map, length, get_or, take, drop, Contains, refl, sym, subst, ap, ap₂, ◌∙◌, arith, ⊎_elim, length-append, take_at, drop_at}
+use Rattle.std.proofs.Common.{◌≡◌, ℕ, zero, suc, ◌+◌, ◌<◌, ◌≤◌, List, [], ◌∷◌, ◌++◌, flat_map, filter, map, length, take, drop, Contains, refl, sym, ap, ap₂, ◌∙◌, arith, ⊎_elim, length-append, take_at, drop_at}
 use Rattle.std.specs.List.{range_with_len}
 use Rattle.ground_net.specs.declared.net.Net.{Net}
 use Rattle.ground_net.specs.declared.net.CutPart.{CutPart}

@@ -4,3 +4,4 @@ pub mod Standing
 pub mod Greatest
 pub mod Frames
 pub mod Building
+pub mod Driving

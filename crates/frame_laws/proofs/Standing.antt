@@ -1,5 +1,5 @@
 -- In which slots stands what later pieces need.
-use Rattle.std.proofs.Common.{◌≡◌, ℕ, zero, suc, ◌+◌, ◌<◌, ◌≤◌, true, List, [], ◌∷◌, ◌++◌, flat_map, length, get_or, take, slice_get, Some, Contains, refl, sym, subst, ap, ◌∙◌, arith, ⊎_elim, append_assoc, append-nil}
+use Rattle.std.proofs.Common.{◌≡◌, ℕ, zero, suc, ◌<◌, true, List, [], ◌∷◌, ◌++◌, flat_map, length, get_or, take, slice_get, Some, Contains, refl, sym, subst, ap, ◌∙◌, arith, ⊎_elim, append_assoc, append-nil}
 use Rattle.std.proofs.lemmas.List.Elements.{Contains-append_left, Contains-append_right, Contains-append_cases, Contains-push_cases}
 use Rattle.ground_net.specs.declared.net.Net.{Net}
 use Rattle.ground_net.specs.declared.net.CutPart.{CutPart}
@@ -50,13 +50,13 @@ first_or_later code p further k e = sym (read_behind code.ports code.wides code.
 pub record Rest (net : Net) (part : CutPart) (code : Code) (spots : ℕ → List ℕ) (telling : List Piece) (rest : List ℕ) (pieces : List Piece) (done : List ℕ) (from : ℕ) : Type 0 where
   pub follow : Follow from (pieces ++ telling)
   pub counted : length pieces ≡ length rest
-  pub each : (k x : ℕ) (p : Piece) → slice_get rest k ≡ Some x → slice_get pieces k ≡ Some p → IsAssigning net code.ports code.wides spots (done ++ take k rest) x p
+  pub each : (k x : ℕ) (p : Piece) → slice_get rest k ≡ Some x → slice_get pieces k ≡ Some p → IsAssigning net code spots (done ++ take k rest) x p
   pub all : done ++ rest ≡ part.assignments
 
 module _ (net : Net) (part : CutPart) (code : Code) (spots : ℕ → List ℕ) (telling : List Piece) (x : ℕ) (rest : List ℕ) (p : Piece) (pieces : List Piece) (done : List ℕ) (from : ℕ)
     (r : Rest net part code spots telling (x ∷ rest) (p ∷ pieces) done from) where
-  pub first_of_rest : IsAssigning net code.ports code.wides spots done x p
-  first_of_rest = subst (λ earlier. IsAssigning net code.ports code.wides spots earlier x p) (append-nil done) (r.each 0 x p refl refl)
+  pub first_of_rest : IsAssigning net code spots done x p
+  first_of_rest = subst (λ earlier. IsAssigning net code spots earlier x p) (append-nil done) (r.each 0 x p refl refl)
 
   pub later_rest : Rest net part code spots telling rest pieces (done ++ x ∷ []) p.last
   later_rest =
@@ -64,11 +64,11 @@ module _ (net : Net) (part : CutPart) (code : Code) (spots : ℕ → List ℕ) (
       record {
         follow = r.follow.2;
         counted = omega (arith, counted);
-        each = λ k y q at there. subst (λ earlier. IsAssigning net code.ports code.wides spots earlier y q) (sym (append_assoc done (x ∷ []) (take k rest))) (r.each (suc k) y q at there);
+        each = λ k y q at there. subst (λ earlier. IsAssigning net code spots earlier y q) (sym (append_assoc done (x ∷ []) (take k rest))) (r.each (suc k) y q at there);
         all = append_assoc done (x ∷ []) rest ∙ r.all;
       }
 
-module _ (net : Net) (watch : List ℕ) (part : CutPart) (code : Code) (spots : ℕ → List ℕ) (telling : List Piece) (told : (p : Piece) → Contains telling p → IsTelling net watch part code.ports code.wides spots p)
+module _ (net : Net) (watch : List ℕ) (part : CutPart) (code : Code) (spots : ℕ → List ℕ) (telling : List Piece) (told : (p : Piece) → Contains telling p → IsTelling net watch part code spots p)
     (shown : (k : ℕ) → among (slots_of code.shown) k ≡ true → StandsIn spots part.assignments (sinks_read net watch part) k) where
   -- What the code of sinks reads, and what is shown
 
@@ -82,9 +82,9 @@ module _ (net : Net) (watch : List ℕ) (part : CutPart) (code : Code) (spots : 
       ⊎_elim
       (λ o. stands_so spots part.assignments part.assignments (needs net it.sink) (sinks_read net watch part) k (λ x c. c)
       (λ x c. contains_flat (needs net) (sinks_of_part net watch part) it.sink x it.listed c)
-      (it.outside k o))
+      (it.piece.outside k o))
       (λ l. told_stands further p.last k follow.2 (λ q c. these q (contains_later p further q c)) (omega (arith, lt, first, last)) l)
-      (read_cases code.ports code.wides p.first it.outer (is_later code further) p.instrs k it.stretch.reads (omega (arith, lt, first)) (first_or_later code p further k e))
+      (read_cases code.ports code.wides p.first it.piece.outer (is_later code further) p.instrs k it.piece.stretch.reads (omega (arith, lt, first)) (first_or_later code p further k e))
 
   -- of an assignment it is read by the first of them, or by the others
   read_first : (x : ℕ) (rest : List ℕ) (y : ℕ) → Contains (direct_reads net x) y → Contains (read_by net watch part (x ∷ rest)) y

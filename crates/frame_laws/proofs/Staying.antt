@@ -1,13 +1,13 @@
 -- Slots that are live behind the instructions of a piece.
-use Rattle.std.proofs.Common.{◌≡◌, ℕ, zero, suc, ◌+◌, ◌<◌, ◌≤◌, max, Bool, true, false, ◌||◌, ◌&&◌, List, [], ◌∷◌, ◌++◌, length, All, ◌⊎◌, inl, inr, refl, sym, ap, ◌∙◌, arith, ⊎_elim, length-append}
+use Rattle.std.proofs.Common.{◌≡◌, ℕ, ◌+◌, ◌<◌, ◌≤◌, true, ◌||◌, ◌&&◌, List, [], ◌∷◌, ◌++◌, length, All, ◌⊎◌, inl, inr, refl, sym, ap, ◌∙◌, arith, ⊎_elim, length-append}
 use Rattle.std.proofs.lemmas.Bool.{and_parts, and_from}
 use Rattle.std.proofs.lemmas.List.Elements.{All-head, All-tail}
 use Rattle.flat_code.specs.declared.instr.Instr.{Instr}
 use Rattle.flat_code.specs.declared.instr.Port.{Port}
 use Rattle.flat_code.specs.declared.instr.Spot.{Spot}
 use Rattle.flat_code.specs.declared.instr.Wide.{Wide}
-use Rattle.flat_code.specs.Fine.{Known, among, more, nothing, reads_of, writes_of, written}
-use Rattle.code_place.specs.Live.{is_read as is_read_or_shown, is_live_behind, how_many, most_live}
+use Rattle.flat_code.specs.Fine.{Known, among, more, reads_of, writes_of, written}
+use Rattle.code_place.specs.Live.{is_read as is_read_or_shown, is_live_behind, most_live}
 use Rattle.code_place.proofs.Counting.{many_le}
 use Rattle.code_place.proofs.Moving.{either, left, right, among_append}
 use Rattle.frame_laws.specs.Pieces.{is_read, is_live, AtMost, FewLive}

@@ -52,11 +52,11 @@ most_assignments net watch part = greatest (map (λ k. length (live_behind net w
 abbrev pub counted : Ground-F ℕ → ℕ
 counted (Ground-F.Const v) = 1
 counted (Ground-F.Leaf x) = 1
-counted (Ground-F.Op prim operands params) = suc (sum operands)
-counted (Ground-F.Mux items) = suc (sum items)
-counted (Ground-F.Select index items) = suc (sum index + sum items)
-counted (Ground-F.Load memory leaf items) = suc (sum items)
-counted (Ground-F.Fit kind width items) = suc (sum items)
+counted (Ground-F.Op prim operands params) = 1 + sum operands
+counted (Ground-F.Mux items) = 1 + sum items
+counted (Ground-F.Select index items) = 1 + (sum index + sum items)
+counted (Ground-F.Load memory leaf items) = 1 + sum items
+counted (Ground-F.Fit kind width items) = 1 + sum items
 
 -- The nodes of an expression.
 abbrev pub nodes : Ground → ℕ

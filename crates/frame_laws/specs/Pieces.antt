@@ -61,28 +61,27 @@ pub record StandsIn (spots : ℕ → List ℕ) (earlier read : List ℕ) (k : �
   pub wanted : Contains read leaf
   pub there : among (spots leaf) k ≡ true
 
--- The code of an assignment reads the slots of the earlier assignments that it reads directly. Its value stands in own slots or in such ones. Of its own
--- slots two for each node of its driver suffice, where behind it only its value is read.
-pub record IsAssigning (net : Net) (ports : List Port) (wides : List Wide) (spots : ℕ → List ℕ) (earlier : List ℕ) (x : ℕ) (p : Piece) : Type 0 where
+-- A piece reads the slots of those earlier assignments that it may read. What is kept of it stands in own slots, or in such ones. Of its own slots
+-- two for each of so many nodes suffice, where behind it only what is kept is read.
+pub record IsPiece (ports : List Port) (wides : List Wide) (spots : ℕ → List ℕ) (earlier read kept : List ℕ) (count : ℕ) (p : Piece) : Type 0 where
   pub outer : List ℕ
-  pub outside : (k : ℕ) → among outer k ≡ true → StandsIn spots earlier (direct_reads net x) k
-  pub there : (k : ℕ) → among (spots x) k ≡ true → ((p.first ≤ k) × (k < p.last)) ⊎ (among outer k ≡ true)
-  pub most : ℕ
-  pub few : most ≤ 2 * assignment_nodes net x
-  pub stretch : Stretch p.first p.last outer (spots x) most ports wides p.instrs
-
--- The code of what a sink evaluates reads the slots of the assignments that the sink needs. Of its own slots two for each node suffice, where
--- behind it none is read.
-pub record IsTelling (net : Net) (watch : List ℕ) (part : CutPart) (ports : List Port) (wides : List Wide) (spots : ℕ → List ℕ) (p : Piece) : Type 0 where
-  pub sink : Sink
-  pub listed : Contains (sinks_of_part net watch part) sink
-  pub outer : List ℕ
-  pub outside : (k : ℕ) → among outer k ≡ true → StandsIn spots part.assignments (needs net sink) k
-  pub count : ℕ
-  pub counted : Contains (sink_nodes net sink) count
+  pub outside : (k : ℕ) → among outer k ≡ true → StandsIn spots earlier read k
+  pub there : (k : ℕ) → among kept k ≡ true → ((p.first ≤ k) × (k < p.last)) ⊎ (among outer k ≡ true)
   pub most : ℕ
   pub few : most ≤ 2 * count
-  pub stretch : Stretch p.first p.last outer [] most ports wides p.instrs
+  pub stretch : Stretch p.first p.last outer kept most ports wides p.instrs
+
+-- The code of an assignment evaluates its driver, and keeps the value.
+abbrev pub IsAssigning : Net → Code → (ℕ → List ℕ) → List ℕ → ℕ → Piece → Type 0
+IsAssigning net code spots earlier x p = IsPiece code.ports code.wides spots earlier (direct_reads net x) (spots x) (assignment_nodes net x) p
+
+-- The code of a sink evaluates something of it when all assignments have their code, and keeps nothing.
+pub record IsTelling (net : Net) (watch : List ℕ) (part : CutPart) (code : Code) (spots : ℕ → List ℕ) (p : Piece) : Type 0 where
+  pub sink : Sink
+  pub listed : Contains (sinks_of_part net watch part) sink
+  pub count : ℕ
+  pub counted : Contains (sink_nodes net sink) count
+  pub piece : IsPiece code.ports code.wides spots part.assignments (needs net sink) [] count p
 
 -- The code of a part is one piece for each assignment, whose value stands in at most two slots, and then pieces for what its sinks evaluate. It shows what
 -- stands in the slots of assignments.
@@ -94,6 +93,6 @@ pub record InPieces (net : Net) (watch : List ℕ) (part : CutPart) (code : Code
   pub is : code.instrs ≡ instrs_of (assigning ++ telling)
   pub follow : Follow 0 (assigning ++ telling)
   pub counted : length assigning ≡ length part.assignments
-  pub assigned : (k x : ℕ) (p : Piece) → slice_get part.assignments k ≡ Some x → slice_get assigning k ≡ Some p → IsAssigning net code.ports code.wides spots (take k part.assignments) x p
-  pub told : (p : Piece) → Contains telling p → IsTelling net watch part code.ports code.wides spots p
+  pub assigned : (k x : ℕ) (p : Piece) → slice_get part.assignments k ≡ Some x → slice_get assigning k ≡ Some p → IsAssigning net code spots (take k part.assignments) x p
+  pub told : (p : Piece) → Contains telling p → IsTelling net watch part code spots p
   pub shown : (k : ℕ) → among (slots_of code.shown) k ≡ true → StandsIn spots part.assignments (sinks_read net watch part) k

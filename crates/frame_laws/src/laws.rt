@@ -1,9 +1,13 @@
 //! Laws of frames, and what the definitions say of small nets. The functions do nothing.
 
-ghost use Rattle.std.specs.Prelude.{◌≡◌, ◌⊎◌, ℕ, ◌≤◌, max, true, false, List, [], ◌∷◌, Some, None};
+ghost use Rattle.std.specs.Prelude.{◌≡◌, ◌⊎◌, ℕ, ◌≤◌, max, true, false, List, [], ◌∷◌, Some, None, slice_get, Contains};
+ghost use Rattle.ground_net.specs.declared.ground.Ground.{Ground as TheGround};
 ghost use Rattle.ground_net.specs.declared.net.Net.{Net as TheNet};
+ghost use Rattle.ground_net.specs.declared.net.NetRegister.{NetRegister as TheRegister};
 ghost use Rattle.ground_net.specs.declared.net.CutPart.{CutPart as ThePart};
+ghost use Rattle.ground_net.specs.Reads.{driver_of};
 ghost use Rattle.ground_net.specs.Cones.{A_register};
+ghost use Rattle.partition_code.specs.Codes.{sinks_of_part};
 ghost use Rattle.cone_cutter.specs.Examples.{crossing};
 ghost use Rattle.flat_code.specs.declared.code.Code.{Code as TheCode};
 ghost use Rattle.flat_code.specs.Codes.{frame_length};
@@ -19,6 +23,12 @@ pub fn frames_are_few()
     ensures live { (net : TheNet) (watch : List ℕ) (part : ThePart) (code : TheCode) → InPieces net watch part code → most_live_of code ≤ frame_bound net watch part }
     ensures placed { (net : TheNet) (watch : List ℕ) (part : ThePart) (code placed : TheCode) → InPieces net watch part code → HasFew code placed → frame_length placed ≤ max 1 (frame_bound net watch part) }
     ensures exact { (net : TheNet) (watch : List ℕ) (part : ThePart) (code placed : TheCode) → InPieces net watch part code → HasFew code placed → (code.slots ≡ 0) ⊎ (1 ≤ most_nodes net watch part) → frame_length placed ≤ frame_bound net watch part }
+{}
+
+/// A part with an assignment that has a driver, or with a register, has a driver with nodes.
+pub fn drivers_have_nodes()
+    ensures assignment { (net : TheNet) (watch : List ℕ) (part : ThePart) (x : ℕ) (driver : TheGround) → Contains part.assignments x → driver_of net x ≡ Some driver → 1 ≤ most_nodes net watch part }
+    ensures register { (net : TheNet) (watch : List ℕ) (part : ThePart) (k : ℕ) (register : TheRegister) → Contains (sinks_of_part net watch part) (A_register k) → slice_get net.registers k ≡ Some register → 1 ≤ most_nodes net watch part }
 {}
 
 /// In a chain one assignment is live at a time: only the next one reads it.
