@@ -6,3 +6,6 @@ pub mod Widened
 pub mod Alone
 pub mod Held
 pub mod Running
+pub mod Segmenting
+pub mod Joining
+pub mod Stepping

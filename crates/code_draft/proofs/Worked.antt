@@ -14,10 +14,10 @@ use Rattle.code_draft.specs.Drafts.{IsDraft, written_in, with_instr, with_slots,
 use Rattle.code_draft.proofs.Growing.{Follows, grows_instr, grows_slots, grows_then, all_last, one_new, one_among, unwritten, written_here, among_first}
 use Rattle.code_draft.proofs.Fetches.{put_there}
 
-not_so : {A : Type 0} → false ≡ true → A
+pub not_so : {A : Type 0} → false ≡ true → A
 not_so e = absurd (true≢false (sym e))
 
-writes_one : (o : Op) (wides : List Wide) (i : Instr) → computes o ≡ true → writes_on o wides i ≡ i.target ∷ []
+pub writes_one : (o : Op) (wides : List Wide) (i : Instr) → computes o ≡ true → writes_on o wides i ≡ i.target ∷ []
 writes_one op.Publish wides i e = not_so e
 writes_one op.PublishAt wides i e = not_so e
 writes_one op.Wide wides i e = not_so e
@@ -35,7 +35,7 @@ puts_word op.PublishAt wides i words inputs F e = not_so e
 puts_word op.Wide wides i words inputs F e = not_so e
 puts_word _ wides i words inputs F e = refl
 
-same_reads : (o : Op) (ports : List Port) (wides : List Wide) (i : Instr) (k : ℕ) → reads_on o ports wides (at_slot k i) ≡ reads_on o ports wides i
+pub same_reads : (o : Op) (ports : List Port) (wides : List Wide) (i : Instr) (k : ℕ) → reads_on o ports wides (at_slot k i) ≡ reads_on o ports wides i
 same_reads op.Wide ports wides i k = refl
 same_reads _ ports wides i k = refl
 

@@ -1,7 +1,7 @@
 //! Words that are computed from words in slots.
 
 ghost use Rattle.std.specs.Prelude.{◌≡◌, ◌+◌, IfOk, OnOk};
-ghost use Rattle.code_draft.specs.Drafts.{IsDraft, Computes, Works, at_slot};
+ghost use Rattle.code_draft.specs.Drafts.{IsDraft, Computes, Works, at_slot, with_instr, with_slots};
 
 use crate::draft::Draft;
 use crate::steps::add_instr;
@@ -13,6 +13,8 @@ use std::alloc::AllocError;
 pub fn computed(draft: &mut Draft, work: Instr) -> Result<u32, AllocError>
     ensures works { IfOk result (λ k. IsDraft draft.old → Computes draft.old work → Works draft.old draft.new work k) }
     ensures slots { OnOk result (draft.new.slots ≡ draft.old.slots + 1) }
+    ensures code { OnOk result (draft.new ≡ with_instr (with_slots draft.old 1) (at_slot draft.old.slots work)) }
+    ensures place { IfOk result (λ k. k ≡ draft.old.slots) }
 {
     let slot = draft.slots;
     let Some(slots) = slot.checked_add(1) else {

@@ -1,9 +1,10 @@
 //! Values that are fetched: constants, shared words and inputs.
 
-ghost use Rattle.std.specs.Prelude.{◌≡◌, ◌≤◌, ◌<◌, ◌+◌, ◌^◌, ◌-◌, IfOk, OnOk};
-ghost use Rattle.flat_code.specs.Fine.{further_words};
+ghost use Rattle.std.specs.Prelude.{◌≡◌, ◌≤◌, ◌<◌, ◌+◌, ◌^◌, ◌-◌, [], IfOk, OnOk};
+ghost use Rattle.flat_code.specs.Fine.{further_words, spot_slots};
 ghost use Rattle.net_meaning.specs.Shapes.{shaped};
 ghost use Rattle.code_draft.specs.Drafts.{IsDraft, Makes, IsConstant, IsWord, IsInput, with_instr};
+ghost use Rattle.code_draft.specs.Segments.{Step};
 
 use crate::draft::Draft;
 use crate::steps::{add_instr, new_spot};
@@ -17,6 +18,7 @@ pub fn constant(draft: &mut Draft, value: Value) -> Result<Spot, AllocError>
     ensures width { IfOk result (λ s. s.width ≡ value.width) }
     ensures slots { OnOk result (draft.new.slots ≤ draft.old.slots + 2) }
     ensures makes { IfOk result (λ s. IsDraft draft.old → Makes draft.old draft.new s (IsConstant value)) }
+    ensures step { IfOk result (λ s. Step draft.old draft.new [] (spot_slots s) 2) }
 {
     let spot = new_spot(draft, value.kind, value.width)?;
     let low = fetch(Op::Constant, 0, spot.low, low_word(value));
@@ -37,6 +39,7 @@ pub fn load(draft: &mut Draft, kind: Kind, width: u8, word: u32) -> Result<Spot,
     ensures width { IfOk result (λ s. s.width ≡ width) }
     ensures slots { OnOk result (draft.new.slots ≤ draft.old.slots + 2) }
     ensures makes { IfOk result (λ s. IsDraft draft.old → word + further_words width < draft.old.words → Makes draft.old draft.new s (IsWord (shaped kind width) word)) }
+    ensures step { IfOk result (λ s. Step draft.old draft.new [] (spot_slots s) 2) }
 {
     let spot = new_spot(draft, kind, width)?;
     let low = fetch(Op::Load, word, spot.low, low_mask(width));
@@ -60,6 +63,7 @@ pub fn input(draft: &mut Draft, kind: Kind, width: u8, number: u32) -> Result<Sp
     ensures width { IfOk result (λ s. s.width ≡ width) }
     ensures slots { OnOk result (draft.new.slots ≤ draft.old.slots + 2) }
     ensures makes { IfOk result (λ s. IsDraft draft.old → Makes draft.old draft.new s (IsInput (shaped kind width) number)) }
+    ensures step { IfOk result (λ s. Step draft.old draft.new [] (spot_slots s) 2) }
 {
     let spot = new_spot(draft, kind, width)?;
     let low = fetch(Op::Input, number, spot.low, low_mask(width));

@@ -2,9 +2,10 @@
 
 ghost use Rattle.std.specs.Prelude.{◌≡◌, ◌≤◌, ◌<◌, ◌+◌, Some, All, IfOk, OnOk};
 ghost use Rattle.flat_code.specs.declared.instr.Op.TheVariants.{Wide as Wide_op};
-ghost use Rattle.flat_code.specs.Fine.{form_shape, spot_shapes, InRegion, region_of};
+ghost use Rattle.flat_code.specs.Fine.{form_shape, spot_shapes, InRegion, region_of, spot_slots, slots_of};
 ghost use Rattle.net_meaning.specs.Shapes.{shaped};
 ghost use Rattle.code_draft.specs.Drafts.{IsDraft, Makes, Stands, IsForm};
+ghost use Rattle.code_draft.specs.Segments.{Step};
 
 use crate::draft::Draft;
 use crate::steps::{add_instr, add_wide, new_spot};
@@ -25,6 +26,7 @@ pub fn wide_value(
     ensures width { IfOk result (λ s. s.width ≡ width) }
     ensures slots { OnOk result (draft.new.slots ≤ draft.old.slots + 2) }
     ensures makes { IfOk result (λ s. IsDraft draft.old → All (Stands draft.old) operands → form_shape form s (spot_shapes operands) ≡ Some (shaped kind width) → InRegion draft.old.words width (region_of form) → Makes draft.old draft.new s (IsForm form s operands (shaped kind width))) }
+    ensures step { IfOk result (λ s. Step draft.old draft.new (slots_of operands) (spot_slots s) 2) }
 {
     let target = new_spot(draft, kind, width)?;
     let number = add_wide(

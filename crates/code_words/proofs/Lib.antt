@@ -3,3 +3,4 @@ pub mod There
 pub mod Making
 pub mod Ones
 pub mod Twos
+pub mod Reading

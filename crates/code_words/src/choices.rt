@@ -2,9 +2,11 @@
 
 ghost use Rattle.std.specs.Prelude.{◌≡◌, ◌≤◌, ◌+◌, ◌∷◌, [], true, Some, None, Ok, IfOk, OnOk, IfSome, All};
 ghost use Rattle.flat_code.specs.Meaning.{spot_shape};
+ghost use Rattle.flat_code.specs.Fine.{spot_slots, slots_of};
 ghost use Rattle.ground_net.specs.Grounds.{chosen};
 ghost use Rattle.net_meaning.specs.Shapes.{shaped};
 ghost use Rattle.code_draft.specs.Drafts.{IsDraft, Stands, Makes};
+ghost use Rattle.code_draft.specs.Segments.{Step};
 ghost use Rattle.flat_code.specs.declared.instr.Op.TheVariants.{Mux};
 ghost use Rattle.code_words.specs.Working.{working};
 ghost use Rattle.code_words.specs.Ways.{IsMade, IsWay};
@@ -26,6 +28,7 @@ pub fn choice_word(
     ensures makes { IfOk result (λ o. IfSome o (λ s. IsDraft draft.old → All (Stands draft.old) items.now → Makes draft.old draft.new s (IsMade chosen items.now (shaped measure.kind measure.width)))) }
     ensures none { result ≡ Ok None → draft.new ≡ draft.old }
     ensures slots { OnOk result (draft.new.slots ≤ draft.old.slots + 2) }
+    ensures step { IfOk result (λ o. IfSome o (λ s. Step draft.old draft.new (slots_of items.now) (spot_slots s) 2)) }
 {
     if measure.width > 64 {
         return Ok(None);

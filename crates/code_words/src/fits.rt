@@ -3,8 +3,10 @@
 ghost use Rattle.std.specs.Prelude.{◌≡◌, ◌<◌, ◌≤◌, ◌+◌, ◌-◌, ◌^◌, ◌∷◌, [], Some, None, Ok, IfOk, OnOk, IfSome, All};
 ghost use Rattle.bit_words.specs.declared.value.Kind.TheVariants.{Signed};
 ghost use Rattle.flat_code.specs.Meaning.{spot_shape};
+ghost use Rattle.flat_code.specs.Fine.{spot_slots, slots_of};
 ghost use Rattle.net_meaning.specs.Shapes.{shaped};
 ghost use Rattle.code_draft.specs.Drafts.{IsDraft, Stands, Makes};
+ghost use Rattle.code_draft.specs.Segments.{Step};
 ghost use Rattle.code_words.specs.Ways.{Given, IsMade, IsWay, Refits, fit_of_one};
 
 use crate::ways::{Measure, Way, made, of_one};
@@ -23,6 +25,7 @@ pub fn fit_word(
     ensures makes { IfOk result (λ o. IfSome o (λ s. IsDraft draft.old → All (Stands draft.old) operands.now → Makes draft.old draft.new s (IsMade (fit_of_one measure.kind measure.width) operands.now (shaped measure.kind measure.width)))) }
     ensures none { result ≡ Ok None → draft.new ≡ draft.old }
     ensures slots { OnOk result (draft.new.slots ≤ draft.old.slots + 2) }
+    ensures step { IfOk result (λ o. IfSome o (λ s. Step draft.old draft.new (slots_of operands.now) (spot_slots s) 2)) }
 {
     if measure.width > 64 {
         return Ok(None);

@@ -3,9 +3,10 @@
 ghost use Rattle.std.specs.Prelude.{◌≡◌, ◌≤◌, ◌+◌, true, Some, None, Ok, IfOk, OnOk, IfSome, All};
 ghost use Rattle.cycle_values.specs.Values.{operation};
 ghost use Rattle.flat_code.specs.Meaning.{spot_shape};
-ghost use Rattle.flat_code.specs.Fine.{spot_shapes};
+ghost use Rattle.flat_code.specs.Fine.{spot_shapes, spot_slots, slots_of};
 ghost use Rattle.net_meaning.specs.Shapes.{shaped, shape_of_row};
 ghost use Rattle.code_draft.specs.Drafts.{IsDraft, Stands, Makes};
+ghost use Rattle.code_draft.specs.Segments.{Step};
 ghost use Rattle.code_words.specs.Ways.{IsMade, IsPlain, GivesRow, row_value};
 
 use crate::on_one::way_on_one;
@@ -30,6 +31,7 @@ pub fn operation_word(
     ensures makes { IfOk result (λ o. IfSome o (λ s. IsDraft draft.old → All (Stands draft.old) operands.now → Makes draft.old draft.new s (IsMade (row_value prim params.now) operands.now (shaped measure.kind measure.width)))) }
     ensures none { result ≡ Ok None → draft.new ≡ draft.old }
     ensures slots { OnOk result (draft.new.slots ≤ draft.old.slots + 2) }
+    ensures step { IfOk result (λ o. IfSome o (λ s. Step draft.old draft.new (slots_of operands.now) (spot_slots s) 2)) }
 {
     if measure.width > 64 {
         return Ok(None);

@@ -3,8 +3,10 @@
 ghost use Rattle.std.specs.Prelude.{◌≡◌, ◌≤◌, ◌+◌, List as TheList, All, IfOk, OnOk};
 ghost use Rattle.flat_code.specs.declared.instr.Spot.{Spot as TheSpot};
 ghost use Rattle.flat_code.specs.Meaning.{spot_shape};
+ghost use Rattle.flat_code.specs.Fine.{spot_slots, slots_of};
 ghost use Rattle.net_meaning.specs.Shapes.{shaped};
 ghost use Rattle.code_draft.specs.Drafts.{IsDraft, Stands, Makes};
+ghost use Rattle.code_draft.specs.Segments.{Step};
 ghost use Rattle.code_words.specs.Working.{working, from_slot, at_one_slot};
 ghost use Rattle.code_words.specs.Ways.{Given, IsMade, IsWay};
 
@@ -38,6 +40,7 @@ pub(crate) fn made(draft: &mut Draft, way: Way, measure: Measure) -> Result<Spot
     ensures shape { IfOk result (λ s. spot_shape s ≡ shaped measure.kind measure.width) }
     ensures makes { IfOk result (λ s. (spots : TheList TheSpot) (R : Given) → IsWay way spots R → IsDraft draft.old → All (Stands draft.old) spots → Makes draft.old draft.new s (IsMade R spots (shaped measure.kind measure.width))) }
     ensures slots { OnOk result (draft.new.slots ≤ draft.old.slots + 2) }
+    ensures step { IfOk result (λ s. (spots : TheList TheSpot) (R : Given) → IsWay way spots R → Step draft.old draft.new (slots_of spots) (spot_slots s) 2) }
 {
     match way {
         Way::Same(slot) => Ok(at_slot(slot, measure)),
