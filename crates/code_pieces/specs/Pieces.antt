@@ -1,9 +1,9 @@
 -- Code that goes on by pieces, each with slots of its own. Between them nothing is read but the slots in which values of leaves stand.
-use Rattle.std.specs.Prelude.{◌≡◌, ℕ, ◌*◌, ◌<◌, ◌≤◌, true, ◌⊎◌, List, [], ◌∷◌, ◌++◌, flat_map, length, take, slice_get, Some, Contains}
+use Rattle.std.specs.Prelude.{◌≡◌, ℕ, ◌*◌, ◌<◌, ◌≤◌, true, ◌⊎◌, List, [], ◌∷◌, ◌++◌, flat_map, length, take, slice_get, Some, Contains, All}
 use Rattle.flat_code.specs.declared.instr.Instr.{Instr}
 use Rattle.flat_code.specs.declared.instr.Port.{Port}
 use Rattle.flat_code.specs.declared.instr.Wide.{Wide}
-use Rattle.flat_code.specs.Fine.{among}
+use Rattle.flat_code.specs.Fine.{among, reads_of, writes_of}
 use Rattle.code_draft.specs.declared.draft.Draft.{Draft}
 use Rattle.code_draft.specs.Segments.{GoesOn, Stretch}
 
@@ -69,3 +69,16 @@ pub record AssignsPieces (spots reads : ℕ → List ℕ) (counts : ℕ → ℕ)
   pub counted : length pieces ≡ length leaves
   pub each : (ports : List Port) (wides : List Wide) → GoesOn new ports wides → (k x : ℕ) (p : Piece) → slice_get leaves k ≡ Some x → slice_get pieces k ≡ Some p
       → IsPiece ports wides spots (take k leaves) (reads x) (spots x) (counts x) p
+
+-- An instruction that writes nothing, and reads no other slots than these.
+pub record IsReader (ports : List Port) (wides : List Wide) (slots : List ℕ) (i : Instr) : Type 0 where
+  pub quiet : (k : ℕ) → among (writes_of wides i) k ≡ true → ⊥
+  pub reads : (k : ℕ) → among (reads_of ports wides i) k ≡ true → among slots k ≡ true
+
+-- Code that goes on by such instructions, and takes no slots.
+pub record OnlyReads (old new : Draft) (slots : List ℕ) : Type 0 where
+  pub instrs : List Instr
+  pub is : new.instrs ≡ old.instrs ++ instrs
+  pub tables : GoesOn old new.ports new.wides
+  pub same : new.slots ≡ old.slots
+  pub each : (ports : List Port) (wides : List Wide) → GoesOn new ports wides → All (IsReader ports wides slots) instrs

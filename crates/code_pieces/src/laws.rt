@@ -4,7 +4,7 @@ ghost use Rattle.std.specs.Prelude.{◌≡◌, ℕ, ◌*◌, ◌≤◌, true, Li
 ghost use Rattle.flat_code.specs.Fine.{among};
 ghost use Rattle.code_draft.specs.declared.draft.Draft.{Draft as TheDraft};
 ghost use Rattle.code_draft.specs.Segments.{Segment};
-ghost use Rattle.code_pieces.specs.Pieces.{StandsIn, AddsPieces, AssignsPieces};
+ghost use Rattle.code_pieces.specs.Pieces.{StandsIn, AddsPieces, AssignsPieces, OnlyReads};
 
 /// No code is no piece, a segment that keeps nothing is one, and pieces go on from pieces.
 pub fn pieces_go_on()
@@ -12,6 +12,11 @@ pub fn pieces_go_on()
     ensures one { (spots : ℕ → List ℕ) (earlier read counts outer : List ℕ) (count n : ℕ) (a b : TheDraft) → Contains counts count → Segment a b outer [] n → ((k : ℕ) → among outer k ≡ true → StandsIn spots earlier read k) → n ≤ 2 * count → AddsPieces spots earlier read counts a b }
     ensures more { (spots : ℕ → List ℕ) (earlier read counts : List ℕ) (a b c : TheDraft) → AddsPieces spots earlier read counts a b → AddsPieces spots earlier read counts b c → AddsPieces spots earlier read counts a c }
     ensures wider { (spots : ℕ → List ℕ) (earlier read counts all more_counts : List ℕ) (a b : TheDraft) → ((x : ℕ) → Contains read x → Contains all x) → ((n : ℕ) → Contains counts n → Contains more_counts n) → AddsPieces spots earlier read counts a b → AddsPieces spots earlier all more_counts a b }
+{}
+
+/// What only reads what a segment keeps belongs to the segment, which then keeps nothing.
+pub fn readers_end_segments()
+    ensures { (outer kept : List ℕ) (n : ℕ) (a b c : TheDraft) → Segment a b outer kept n → OnlyReads b c kept → Segment a c outer [] n }
 {}
 
 /// A leaf's segment comes behind those of other leaves, where it keeps the leaf's slots and reads those of earlier leaves that it may read.
