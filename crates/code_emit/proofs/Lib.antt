@@ -2,3 +2,5 @@ pub mod Rowing
 pub mod Shaped
 pub mod Emitting
 pub mod Arms
+pub mod Counting
+pub mod Spanning

@@ -2,10 +2,12 @@
 
 ghost use Rattle.std.specs.Prelude.{◌≡◌, Some, IsSome, IfOk, All, map};
 ghost use Rattle.flat_code.specs.Meaning.{spot_shape};
-ghost use Rattle.flat_code.specs.Fine.{spot_shapes};
+ghost use Rattle.flat_code.specs.Fine.{spot_shapes, spot_slots};
 ghost use Rattle.net_meaning.specs.Shapes.{shape, all_of};
 ghost use Rattle.code_draft.specs.Drafts.{IsDraft, Makes};
+ghost use Rattle.code_draft.specs.Segments.{Step};
 ghost use Rattle.code_emit.specs.Emits.{sources_table, source_shape, Emits, EmitsAll, AreShaped, shapes_in, Fits, IsOf, leaf_source, element_source};
+ghost use Rattle.code_emit.specs.Spans.{Spans, SpansAll, source_slots};
 
 use crate::forms::{items_measure, joined};
 use crate::sources::{Elements, Source, Sources};
@@ -27,6 +29,7 @@ pub fn emit(
     requires { IsSome (shape ground.now (sources_table sources.now)) }
     ensures shape { IfOk result (λ s. shape ground.now (sources_table sources.now) ≡ Some (spot_shape s)) }
     ensures emits { IfOk result (λ s. Emits sources.now ground.now draft.old draft.new s) }
+    ensures spans { IfOk result (λ s. Spans sources.now ground.now draft.old draft.new s) }
 {
     match ground {
         Ground::Const(value) => constant(draft, *value),
@@ -75,6 +78,7 @@ fn emit_all(
     requires { AreShaped (sources_table sources.now) grounds.now }
     ensures shapes { IfOk result (λ ss. all_of (shapes_in (sources_table sources.now) grounds.now) ≡ Some (spot_shapes ss)) }
     ensures emits { IfOk result (λ ss. EmitsAll sources.now grounds.now draft.old draft.new ss) }
+    ensures spans { IfOk result (λ ss. SpansAll sources.now grounds.now draft.old draft.new ss) }
 {
     let mut spots = List::new(alloc);
     for ground in grounds {
@@ -87,6 +91,7 @@ fn emit_all(
 fn fetch(draft: &mut Draft, source: Source) -> Result<Spot, AllocError>
     ensures shape { IfOk result (λ s. spot_shape s ≡ source_shape source) }
     ensures makes { IfOk result (λ s. IsDraft draft.old → Fits draft.old source → Makes draft.old draft.new s (IsOf source)) }
+    ensures step { IfOk result (λ s. Step draft.old draft.new (source_slots source) (spot_slots s) 2) }
 {
     match source {
         Source::Word(kept) => load(draft, kept.kind, kept.width, kept.number),

@@ -4,8 +4,9 @@ ghost use Rattle.std.specs.Prelude.{◌≡◌, ◌≤◌, Some, IsSome, IfOk, Al
 ghost use Rattle.ground_net.specs.Grounds.{chosen};
 ghost use Rattle.net_meaning.specs.Shapes.{shaped, shape_of_row, shape_of_choice, shape_of_fit};
 ghost use Rattle.flat_code.specs.Meaning.{spot_shape};
-ghost use Rattle.flat_code.specs.Fine.{spot_shapes};
+ghost use Rattle.flat_code.specs.Fine.{spot_shapes, spot_slots, slots_of};
 ghost use Rattle.code_draft.specs.Drafts.{IsDraft, Stands, Makes};
+ghost use Rattle.code_draft.specs.Segments.{Step};
 ghost use Rattle.code_words.specs.Ways.{IsMade, row_value, fit_of_one};
 
 use crate::forms::{choice_measure, row_measure};
@@ -27,6 +28,7 @@ pub(crate) fn emit_operation(
     requires { IsSome (shape_of_row prim params.now (spot_shapes spots)) }
     ensures shape { IfOk result (λ s. shape_of_row prim params.now (spot_shapes spots) ≡ Some (spot_shape s)) }
     ensures makes { IfOk result (λ s. IsDraft draft.old → All (Stands draft.old) spots → Makes draft.old draft.new s (IsMade (row_value prim params.now) spots (spot_shape s))) }
+    ensures step { IfOk result (λ s. Step draft.old draft.new (slots_of spots) (spot_slots s) 2) }
 {
     let measure = row_measure(prim, spots.as_slice(), params);
     match operation_word(draft, prim, spots.as_slice(), params, measure)? {
@@ -43,6 +45,7 @@ pub(crate) fn emit_choice(draft: &mut Draft, spots: List<Spot>) -> Result<Spot, 
     requires { IsSome (shape_of_choice (spot_shapes spots)) }
     ensures shape { IfOk result (λ s. shape_of_choice (spot_shapes spots) ≡ Some (spot_shape s)) }
     ensures makes { IfOk result (λ s. IsDraft draft.old → All (Stands draft.old) spots → Makes draft.old draft.new s (IsMade chosen spots (spot_shape s))) }
+    ensures step { IfOk result (λ s. Step draft.old draft.new (slots_of spots) (spot_slots s) 2) }
 {
     let measure = choice_measure(spots.as_slice());
     match choice_word(draft, spots.as_slice(), measure)? {
@@ -62,6 +65,7 @@ pub(crate) fn emit_fit(
     requires shape { shape_of_fit kind width (spot_shapes spots) ≡ Some (shaped kind width) }
     ensures shape { IfOk result (λ s. spot_shape s ≡ shaped kind width) }
     ensures makes { IfOk result (λ s. IsDraft draft.old → All (Stands draft.old) spots → Makes draft.old draft.new s (IsMade (fit_of_one kind width) spots (shaped kind width))) }
+    ensures step { IfOk result (λ s. Step draft.old draft.new (slots_of spots) (spot_slots s) 2) }
 {
     match fit_word(draft, spots.as_slice(), Measure { kind, width })? {
         Some(spot) => Ok(spot),

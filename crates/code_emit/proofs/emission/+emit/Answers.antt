@@ -8,7 +8,9 @@ use Rattle.flat_code.specs.Fine.{spot_shapes, shape_of_picked}
 use Rattle.code_emit.specs.Emits.{sources_table, AreShaped, EmitsAll, elements_shape, shapes_in}
 use Rattle.code_emit.proofs.Shaped.{ok_so}
 use Rattle.code_emit.proofs.Arms.{ok_both, spot_shape_by, op_shaped, op_row, mux_shaped, mux_row, index_shaped, items_shaped, items_row, index_row, load_row, load_element, fit_shaped, fit_row, fit_is, picked_shape, one_ground, one_more_shape}
-use Rattle.code_emit.proofs.Emitting.{const_emits, leaf_emits, op_emits, mux_emits, fit_emits, select_emits, load_emits, both_emitted, one_more_emitted}
+use Rattle.code_emit.proofs.Emitting.{none_emitted, const_emits, leaf_emits, op_emits, mux_emits, fit_emits, select_emits, load_emits, both_emitted, one_more_emitted}
+use Rattle.code_emit.specs.Spans.{SpansAll}
+use Rattle.code_emit.proofs.Spanning.{none_spans, fetched_spans, leaf_spans, op_spans, mux_spans, load_spans, fit_spans, select_spans, both_span, one_more_spans}
 use Rattle.code_emit.proofs.emission.+emit.Goals as goal
 
 pub emit-emit_all-requires : goal.emit-emit_all-requires
@@ -224,4 +226,82 @@ emit_all-loop-ground-preserved t c =
       emits = subst (λ hs. EmitsAll S hs c.args.draft.now c.emit.new.draft c.push.new.self) (sym longer)
           (subst (λ xs. EmitsAll S (take k gs ++ g ∷ []) c.args.draft.now c.emit.new.draft xs) (sym spots)
           (one_more_emitted S (take k gs) g c.args.draft.now c.loop-ground.draft c.emit.new.draft ss s c.loop-ground.invariant.emits c.in_ok-emit.ensures.emits));
+      spans = subst (λ hs. SpansAll S hs c.args.draft.now c.emit.new.draft c.push.new.self) (sym longer)
+          (subst (λ xs. SpansAll S (take k gs ++ g ∷ []) c.args.draft.now c.emit.new.draft xs) (sym spots)
+          (one_more_spans S (take k gs) g c.args.draft.now c.loop-ground.draft c.emit.new.draft ss s c.loop-ground.invariant.spans c.in_ok-emit.ensures.spans));
+    }
+
+pub emit-returns-in-Const-clause-spans : goal.emit-returns-in-Const-clause-spans
+emit-returns-in-Const-clause-spans t c =
+    ok_so c.constant.result c.constant.ensures.step (λ s st. fetched_spans c.args.sources.now c.args.ground.now c.args.draft.now c.constant.new.draft s st)
+
+pub emit-returns-in-Leaf-clause-spans : goal.emit-returns-in-Leaf-clause-spans
+emit-returns-in-Leaf-clause-spans t c =
+    ok_so c.fetch.result c.fetch.ensures.step (λ s st.
+    leaf_spans c.args.sources.now c.args.ground.now c.in-Leaf.leaf c.source_of.result c.args.draft.now c.fetch.new.draft s c.in-Leaf.is c.source_of.ensures st)
+
+pub emit-returns-in_ok-spots-in-Op-clause-spans : goal.emit-returns-in_ok-spots-in-Op-clause-spans
+emit-returns-in_ok-spots-in-Op-clause-spans t c =
+    let g = c.args.ground.now in
+    let prim = c.in-Op.prim in
+    let gs = c.as_slice.result.now in
+    let ps = c.as_slice-in-Op.result.now in
+    let e : g ≡ Op prim gs ps = c.in-Op.is ∙ ap₂ (λ os qs. Op prim os qs) (sym c.as_slice.ensures) (sym c.as_slice-in-Op.ensures) in
+    ok_so c.emit_operation.result c.emit_operation.ensures.step (λ s st.
+    op_spans c.args.sources.now g gs c.args.draft.now c.emit_all.new.draft c.emit_operation.new.draft c.in_ok-spots-in-Op.spots s c.in_ok-spots-in-Op.ensures.spans st prim ps e)
+
+pub emit-returns-in_ok-spots-in-Mux-clause-spans : goal.emit-returns-in_ok-spots-in-Mux-clause-spans
+emit-returns-in_ok-spots-in-Mux-clause-spans t c =
+    let g = c.args.ground.now in
+    let gs = c.as_slice-in-Mux.result.now in
+    let e : g ≡ Mux gs = c.in-Mux.is ∙ ap Mux (sym c.as_slice-in-Mux.ensures) in
+    ok_so c.emit_choice.result c.emit_choice.ensures.step (λ s st.
+    mux_spans c.args.sources.now g gs c.args.draft.now c.emit_all-in-Mux.new.draft c.emit_choice.new.draft c.in_ok-spots-in-Mux.spots s c.in_ok-spots-in-Mux.ensures.spans st e)
+
+pub emit-returns-in_ok-spots-in-Fit-clause-spans : goal.emit-returns-in_ok-spots-in-Fit-clause-spans
+emit-returns-in_ok-spots-in-Fit-clause-spans t c =
+    let g = c.args.ground.now in
+    let kind = c.in-Fit.kind in
+    let width = c.in-Fit.width in
+    let gs = c.as_slice-in-Fit.result.now in
+    let e : g ≡ Fit kind width gs = c.in-Fit.is ∙ ap (λ xs. Fit kind width xs) (sym c.as_slice-in-Fit.ensures) in
+    ok_so c.emit_fit.result c.emit_fit.ensures.step (λ s st.
+    fit_spans c.args.sources.now g gs c.args.draft.now c.emit_all-in-Fit.new.draft c.emit_fit.new.draft c.in_ok-spots-in-Fit.spots s c.in_ok-spots-in-Fit.ensures.spans st kind width e)
+
+pub emit-returns-in_ok-spots-in-Select-clause-spans : goal.emit-returns-in_ok-spots-in-Select-clause-spans
+emit-returns-in_ok-spots-in-Select-clause-spans t c =
+    let S = c.args.sources.now in
+    let g = c.args.ground.now in
+    let is = c.as_slice-in-Select.result.now in
+    let gs = c.as_slice-in-Select-2.result.now in
+    let front = c.in_ok-front-in-Select.front in
+    let back = c.in_ok-back-in-Select.back in
+    let ss = c.in_ok-spots-in-Select.spots in
+    let d = c.args.draft.now in
+    let b = c.emit_all-in-Select-2.new.draft in
+    let e : g ≡ Select is gs = c.in-Select.is ∙ ap₂ (λ os qs. Select os qs) (sym c.as_slice-in-Select.ensures) (sym c.as_slice-in-Select-2.ensures) in
+    let same : ss ≡ front ++ back = c.in_ok-spots-in-Select.ensures ∙ ap (λ xs. front ++ xs) c.as_slice-in-Select-4.ensures in
+    let both = both_span S is gs d c.emit_all-in-Select.new.draft b front back c.in_ok-front-in-Select.ensures.spans c.in_ok-back-in-Select.ensures.spans in
+    ok_so c.wide_value.result c.wide_value.ensures.step (λ s st.
+    select_spans S g is gs d b c.wide_value.new.draft ss s e (subst (SpansAll S (is ++ gs) d b) (sym same) both) st)
+
+pub emit-returns-in_ok-spots-in-Load-clause-spans : goal.emit-returns-in_ok-spots-in-Load-clause-spans
+emit-returns-in_ok-spots-in-Load-clause-spans t c =
+    let g = c.args.ground.now in
+    let m = c.in-Load.memory in
+    let k = c.in-Load.leaf in
+    let gs = c.as_slice-in-Load.result.now in
+    let e : g ≡ Load m k gs = c.in-Load.is ∙ ap (λ xs. Load m k xs) (sym c.as_slice-in-Load.ensures) in
+    ok_so c.wide_value-in-Load.result c.wide_value-in-Load.ensures.step (λ s st.
+    load_spans c.args.sources.now g gs c.args.draft.now c.emit_all-in-Load.new.draft c.wide_value-in-Load.new.draft c.in_ok-spots-in-Load.spots s c.in_ok-spots-in-Load.ensures.spans st m k e)
+
+pub emit_all-loop-ground-init : goal.emit_all-loop-ground-init
+emit_all-loop-ground-init t c =
+    let S = c.args.sources.now in
+    let d = c.args.draft.now in
+    let none : c.new-spots.result ≡ [] = c.new-spots.ensures in
+    record {
+      shapes = ap (λ xs. Some (spot_shapes xs)) (sym none);
+      emits = subst (EmitsAll S [] d d) (sym none) (none_emitted S d);
+      spans = subst (SpansAll S [] d d) (sym none) (none_spans S d);
     }

@@ -10,6 +10,8 @@ use Rattle.code_words.specs.Ways.{IsMade}
 use Rattle.code_emit.proofs.Shaped.{ok_so}
 use Rattle.code_emit.proofs.Arms.{ok_both, spot_shape_by}
 use Rattle.code_emit.proofs.Emitting.{wide_after}
+use Rattle.flat_code.specs.Fine.{spot_slots, slots_of}
+use Rattle.code_emit.proofs.Spanning.{step_after}
 use Rattle.code_emit.proofs.values.emit_choice.Goals as goal
 
 pub returns-in-None-clause-makes : goal.returns-in-None-clause-makes
@@ -24,3 +26,8 @@ returns-in-None-clause-makes c =
     ok_so c.wide_value.result (ok_both _ _ c.wide_value.result (ok_both _ _ c.wide_value.result e.shape e.width) e.makes) (λ s h.
     subst (λ (t : Shape). IsDraft d → All (Stands d) ss → Makes d c.wide_value.new.draft s (IsMade chosen ss t)) (sym (spot_shape_by s kind width h.0.0 h.0.1))
     (wide_after d c.choice_word.new.draft c.wide_value.new.draft s ss form.Choose chosen (shaped kind width) same (λ words vs. refl) h.1 row refl))
+
+pub returns-in-None-clause-step : goal.returns-in-None-clause-step
+returns-in-None-clause-step c =
+    let same = c.choice_word.ensures.none (c.in_ok-spot.was ∙ ap Ok c.in-None.is) in
+    ok_so c.wide_value.result c.wide_value.ensures.step (λ s st. step_after c.args.draft.now c.choice_word.new.draft c.wide_value.new.draft (slots_of c.args.spots) (spot_slots s) same st)

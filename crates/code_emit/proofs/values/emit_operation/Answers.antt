@@ -10,6 +10,8 @@ use Rattle.code_words.specs.Ways.{IsMade, row_value}
 use Rattle.code_emit.proofs.Shaped.{ok_so}
 use Rattle.code_emit.proofs.Arms.{ok_both, spot_shape_by}
 use Rattle.code_emit.proofs.Emitting.{wide_after}
+use Rattle.flat_code.specs.Fine.{spot_slots, slots_of}
+use Rattle.code_emit.proofs.Spanning.{step_after}
 use Rattle.code_emit.proofs.values.emit_operation.Goals as goal
 
 pub returns-in_ok-from_slice-in-None-clause-makes : goal.returns-in_ok-from_slice-in-None-clause-makes
@@ -29,3 +31,8 @@ returns-in_ok-from_slice-in-None-clause-makes c =
     subst (λ (t : Shape). IsDraft d → All (Stands d) ss → Makes d c.wide_value.new.draft s (IsMade (row_value prim ps) ss t)) (sym (spot_shape_by s kind width h.0.0 h.0.1))
     (wide_after d c.operation_word.new.draft c.wide_value.new.draft s ss (form.Apply prim qs) (row_value prim ps) (shaped kind width) same (λ words vs. ap (operation prim vs) (sym copied)) h.1
     (ap (λ xs. shape_of_row prim xs (spot_shapes ss)) copied ∙ row) refl))
+
+pub returns-in_ok-from_slice-in-None-clause-step : goal.returns-in_ok-from_slice-in-None-clause-step
+returns-in_ok-from_slice-in-None-clause-step c =
+    let same = c.operation_word.ensures.none (c.in_ok-spot.was ∙ ap Ok c.in-None.is) in
+    ok_so c.wide_value.result c.wide_value.ensures.step (λ s st. step_after c.args.draft.now c.operation_word.new.draft c.wide_value.new.draft (slots_of c.args.spots) (spot_slots s) same st)

@@ -1,0 +1,137 @@
+-- The code of expressions as segments.
+use Rattle.std.proofs.Common.{◌≡◌, ℕ, ◌+◌, ◌*◌, ◌<◌, ◌≤◌, max, true, List, [], ◌∷◌, ◌++◌, map, length, flat_map, Option, Some, None, refl, sym, subst, ap, ap₂, ◌∙◌, arith, ⊎_elim}
+use Rattle.std.specs.Prelude.{sum, sum_by}
+use Rattle.std.proofs.lemmas.Grind.{flat_map-append}
+use Rattle.std.proofs.lemmas.List.{length-append}
+use Rattle.std.proofs.lemmas.List.Concat.{flat_map-cons}
+use Rattle.std.proofs.lemmas.List.Sums.{sum-map, sum_by-append}
+use Rattle.bit_words.specs.declared.value.Kind.{Kind}
+use Rattle.prim_ops.specs.declared.operation.PrimOp.{PrimOp}
+use Rattle.ground_net.specs.declared.ground.Ground.{Ground}
+use Rattle.ground_net.specs.declared.ground.Ground.TheVariants.{Leaf, Op, Mux, Select, Load, Fit}
+use Rattle.ground_net.specs.Grounds.{mentions}
+use Rattle.ground_net.proofs.Layers.{all_mentions, mentions-Leaf, mentions-Op, mentions-Mux, mentions-Select, mentions-Load, mentions-Fit}
+use Rattle.flat_code.specs.declared.instr.Spot.{Spot}
+use Rattle.flat_code.specs.Fine.{among, spot_slots, slots_of}
+use Rattle.code_draft.specs.declared.draft.Draft.{Draft}
+use Rattle.code_draft.specs.Segments.{Segment, Step}
+use Rattle.code_draft.proofs.Segmenting.{among_left, among_right, among_either, none_among}
+use Rattle.code_draft.proofs.Joining.{AreBefore, step_then, both_then, segment_weaker, segment_not, step_not}
+use Rattle.code_draft.proofs.Stepping.{spot_few}
+use Rattle.code_emit.specs.declared.sources.Source.{Source}
+use Rattle.code_emit.specs.declared.sources.Sources.{Sources}
+use Rattle.code_emit.specs.Emits.{leaf_source}
+use Rattle.code_emit.specs.Counts.{tips}
+use Rattle.code_emit.specs.Spans.{source_slots, found_slots, leaf_slots, ground_slots, AreFoundBefore, Spans, SpansAll}
+use Rattle.code_emit.proofs.Counting.{tips_some, tips-Op, tips-Mux, tips-Select, tips-Load, tips-Fit}
+
+-- Slots of lists of leaves and expressions
+
+pub among_each : {X : Type 0} (f : X → List ℕ) (xs : List X) (k : ℕ) (P : Type 0) → ((x : X) → among (f x) k ≡ true → P) → among (flat_map f xs) k ≡ true → P
+among_each f [] k P h e = none_among k e
+among_each f (x ∷ xs) k P h e = ⊎_elim (λ here. h x here) (λ later. among_each f xs k P h later) (among_either (f x) (flat_map f xs) k e)
+
+pub ground_before : (S : Sources) (n : ℕ) (g : Ground) → AreFoundBefore S n → AreBefore n (ground_slots S g)
+ground_before S n g before k e = among_each (leaf_slots S) (mentions g) k (k < n) (λ x h. before x k h) e
+
+pub grounds_before : (S : Sources) (n : ℕ) (gs : List Ground) → AreFoundBefore S n → AreBefore n (flat_map (ground_slots S) gs)
+grounds_before S n gs before k e = among_each (ground_slots S) gs k (k < n) (λ g h. ground_before S n g before k h) e
+
+pub found_later : (S : Sources) (n m : ℕ) → n ≤ m → AreFoundBefore S n → AreFoundBefore S m
+found_later S n m le before x k e = let lt = before x k e in omega (arith, lt, le)
+
+slots_each : (S : Sources) (gs : List Ground) → flat_map (ground_slots S) gs ≡ flat_map (leaf_slots S) (all_mentions gs)
+slots_each S [] = refl
+slots_each S (g ∷ gs) = ap (λ xs. ground_slots S g ++ xs) (slots_each S gs)
+    ∙ (sym (flat_map-append (leaf_slots S) (mentions g) (all_mentions gs)) ∙ ap (flat_map (leaf_slots S)) (sym (flat_map-cons (λ l. l) (mentions g) (map mentions gs))))
+
+-- Lists
+
+pub none_spans : (S : Sources) (d : Draft) → SpansAll S [] d d []
+none_spans S d before = segment_not d [] 0
+
+pub both_span : (S : Sources) (gs hs : List Ground) (a b c : Draft) (ss ts : List Spot) → SpansAll S gs a b ss → SpansAll S hs b c ts → SpansAll S (gs ++ hs) a c (ss ++ ts)
+both_span S gs hs a b c ss ts front back before =
+    let f = front before in
+    let g = back (found_later S a.slots b.slots f.slots before) in
+    let O = flat_map (ground_slots S) gs in
+    let P = flat_map (ground_slots S) hs in
+    let all = both_then a b c O (slots_of ss) P (slots_of ts) (2 * sum_by tips gs) (2 * sum_by tips hs) f g (grounds_before S a.slots gs before) (grounds_before S a.slots hs before) in
+    let count : 2 * sum_by tips gs + 2 * sum_by tips hs ≡ 2 * sum_by tips (gs ++ hs) = let sums = sum_by-append tips gs hs in omega (arith, sums) in
+    subst (λ xs. Segment a c xs (slots_of (ss ++ ts)) (2 * sum_by tips (gs ++ hs))) (sym (flat_map-append (ground_slots S) gs hs))
+    (subst (λ xs. Segment a c (O ++ P) xs (2 * sum_by tips (gs ++ hs))) (sym (flat_map-append spot_slots ss ts))
+    (subst (Segment a c (O ++ P) (slots_of ss ++ slots_of ts)) count all))
+
+single_spans : (S : Sources) (g : Ground) (a b : Draft) (s : Spot) → Spans S g a b s → SpansAll S (g ∷ []) a b (s ∷ [])
+single_spans S g a b s h before =
+    let f = h before in
+    let few = f.few in
+    let long = length-append (spot_slots s) [] in
+    segment_weaker a b (ground_slots S g) (spot_slots s) (ground_slots S g ++ []) (spot_slots s ++ []) (2 * tips g) (2 * sum_by tips (g ∷ [])) f
+    (λ k e. among_left (ground_slots S g) [] k e)
+    (λ k e. ⊎_elim (λ here. here) (λ none. none_among k none) (among_either (spot_slots s) [] k e))
+    (omega arith) (omega (arith, few, long))
+
+pub one_more_spans : (S : Sources) (gs : List Ground) (g : Ground) (a b c : Draft) (ss : List Spot) (s : Spot) → SpansAll S gs a b ss → Spans S g b c s → SpansAll S (gs ++ g ∷ []) a c (ss ++ s ∷ [])
+one_more_spans S gs g a b c ss s all one = both_span S gs (g ∷ []) a b c ss (s ∷ []) all (single_spans S g b c s one)
+
+-- Expressions
+
+-- a step that reads nothing but a leaf's slots
+pub step_spans : (S : Sources) (g : Ground) (a b : Draft) (s : Spot) (outer : List ℕ) → ((k : ℕ) → among outer k ≡ true → among (ground_slots S g) k ≡ true) → Step a b outer (spot_slots s) 2 → Spans S g a b s
+step_spans S g a b s outer out st before =
+    let some = tips_some g in
+    let few = spot_few s in
+    segment_weaker a b outer (spot_slots s) (ground_slots S g) (spot_slots s) 2 (2 * tips g) st.segment out (λ k e. e) (omega (arith, some)) (omega (arith, few, some))
+
+pub fetched_spans : (S : Sources) (g : Ground) (a b : Draft) (s : Spot) → Step a b [] (spot_slots s) 2 → Spans S g a b s
+fetched_spans S g a b s st = step_spans S g a b s [] (λ k e. none_among k e) st
+
+pub leaf_spans : (S : Sources) (g : Ground) (x : ℕ) (src : Source) (a b : Draft) (s : Spot) → g ≡ Leaf x → leaf_source S x ≡ Some src → Step a b (source_slots src) (spot_slots s) 2 → Spans S g a b s
+leaf_spans S g x src a b s e at st = step_spans S g a b s (source_slots src) (λ k h.
+    subst (λ xs. among (flat_map (leaf_slots S) xs) k ≡ true) (sym (ap mentions e ∙ mentions-Leaf x))
+    (among_left (leaf_slots S x) [] k (subst (λ o. among (found_slots o) k ≡ true) (sym at) h))) st
+
+-- a step on what was emitted
+module _ (S : Sources) (g : Ground) (gs : List Ground) (a b c : Draft) (ss : List Spot) (s : Spot) (all : SpansAll S gs a b ss) (last : Step b c (slots_of ss) (spot_slots s) 2) where
+  parts_span : sum_by tips gs ≤ tips g → mentions g ≡ all_mentions gs → Spans S g a c s
+  parts_span le same before =
+      let some = tips_some g in
+      subst (λ xs. Segment a c xs (spot_slots s) (2 * tips g)) (slots_each S gs ∙ ap (flat_map (leaf_slots S)) (sym same))
+      (step_then a b c (flat_map (ground_slots S) gs) (slots_of ss) (spot_slots s) (2 * sum_by tips gs) 2 (2 * tips g) (all before) last (omega (arith, le)) (omega (arith, some)))
+
+  counted : tips g ≡ max 1 (sum (map tips gs)) → sum_by tips gs ≤ tips g
+  counted e = let sums = sum-map tips gs in omega (arith, e, sums)
+
+  pub op_spans : (prim : PrimOp) (params : List ℕ) → g ≡ Op prim gs params → Spans S g a c s
+  op_spans prim params e = parts_span (counted (ap tips e ∙ tips-Op prim gs params)) (ap mentions e ∙ mentions-Op prim gs params)
+
+  pub mux_spans : g ≡ Mux gs → Spans S g a c s
+  mux_spans e = parts_span (counted (ap tips e ∙ tips-Mux gs)) (ap mentions e ∙ mentions-Mux gs)
+
+  pub load_spans : (m k : ℕ) → g ≡ Load m k gs → Spans S g a c s
+  load_spans m k e = parts_span (counted (ap tips e ∙ tips-Load m k gs)) (ap mentions e ∙ mentions-Load m k gs)
+
+  pub fit_spans : (kind : Kind) (width : ℕ) → g ≡ Fit kind width gs → Spans S g a c s
+  fit_spans kind width e = parts_span (counted (ap tips e ∙ tips-Fit kind width gs)) (ap mentions e ∙ mentions-Fit kind width gs)
+
+mentions_both : (is gs : List Ground) → all_mentions (is ++ gs) ≡ all_mentions is ++ all_mentions gs
+mentions_both is gs = ap (flat_map (λ l. l)) (maps_both is gs) ∙ flat_map-append (λ l. l) (map mentions is) (map mentions gs)
+  where
+    maps_both : (is gs : List Ground) → map mentions (is ++ gs) ≡ map mentions is ++ map mentions gs
+    maps_both [] gs = refl
+    maps_both (i ∷ is) gs = ap (λ xs. mentions i ∷ xs) (maps_both is gs)
+
+pub select_spans : (S : Sources) (g : Ground) (is gs : List Ground) (a b c : Draft) (ss : List Spot) (s : Spot) → g ≡ Select is gs → SpansAll S (is ++ gs) a b ss → Step b c (slots_of ss) (spot_slots s) 2 → Spans S g a c s
+select_spans S g is gs a b c ss s e all last =
+    parts_span S g (is ++ gs) a b c ss s all last
+    (let count = ap tips e ∙ tips-Select is gs in
+    let first = sum-map tips is in
+    let next = sum-map tips gs in
+    let both = sum_by-append tips is gs in
+    omega (arith, count, first, next, both))
+    (ap mentions e ∙ (mentions-Select is gs ∙ sym (mentions_both is gs)))
+
+-- a step where a try before it left the code as it was
+pub step_after : (old d new : Draft) (outer kept : List ℕ) → d ≡ old → Step d new outer kept 2 → Step old new outer kept 2
+step_after old d new outer kept same st = subst (λ x. Step x new outer kept 2) same st

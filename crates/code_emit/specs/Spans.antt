@@ -1,0 +1,44 @@
+-- The code of an expression reads the slots of the leaves that it mentions and its own, and at most two of its own are live at once for each of its tips.
+use Rattle.std.specs.Prelude.{◌≡◌, ℕ, ◌*◌, ◌<◌, true, List, [], flat_map, sum_by, Option, Some, None}
+use Rattle.ground_net.specs.declared.ground.Ground.{Ground}
+use Rattle.ground_net.specs.Grounds.{mentions}
+use Rattle.flat_code.specs.declared.instr.Spot.{Spot}
+use Rattle.flat_code.specs.Fine.{among, spot_slots, slots_of}
+use Rattle.code_draft.specs.declared.draft.Draft.{Draft}
+use Rattle.code_draft.specs.Segments.{Segment}
+use Rattle.code_emit.specs.declared.sources.Source.{Source}
+use Rattle.code_emit.specs.declared.sources.Source.TheVariants as source
+use Rattle.code_emit.specs.declared.sources.Sources.{Sources}
+use Rattle.code_emit.specs.Emits.{leaf_source}
+use Rattle.code_emit.specs.Counts.{tips}
+
+-- the slots of a source
+abbrev pub source_slots : Source → List ℕ
+source_slots (source.Word k) = []
+source_slots (source.Input k) = []
+source_slots (source.Frame s) = spot_slots s
+source_slots (source.Constant c) = []
+
+abbrev pub found_slots : Option Source → List ℕ
+found_slots (Some src) = source_slots src
+found_slots None = []
+
+-- the slots where a leaf is found
+abbrev pub leaf_slots : Sources → ℕ → List ℕ
+leaf_slots S x = found_slots (leaf_source S x)
+
+-- the slots of the leaves that an expression mentions
+abbrev pub ground_slots : Sources → Ground → List ℕ
+ground_slots S g = flat_map (leaf_slots S) (mentions g)
+
+-- Leaves are found in slots before this one.
+abbrev pub AreFoundBefore : Sources → ℕ → Type 0
+AreFoundBefore S n = (x k : ℕ) → among (leaf_slots S x) k ≡ true → k < n
+
+-- What the code of an expression reads and keeps.
+abbrev pub Spans : Sources → Ground → Draft → Draft → Spot → Type 0
+Spans S g old new s = AreFoundBefore S old.slots → Segment old new (ground_slots S g) (spot_slots s) (2 * tips g)
+
+-- That of expressions, in order, keeps the slots of all.
+abbrev pub SpansAll : Sources → List Ground → Draft → Draft → List Spot → Type 0
+SpansAll S gs old new ss = AreFoundBefore S old.slots → Segment old new (flat_map (ground_slots S) gs) (slots_of ss) (2 * sum_by tips gs)
