@@ -1,12 +1,12 @@
 -- Instructions that only read, behind a segment.
-use Rattle.std.proofs.Common.{◌≡◌, ℕ, ◌+◌, ◌<◌, ◌≤◌, true, ◌&&◌, List, [], ◌∷◌, ◌++◌, length, All, refl, sym, ap, ◌∙◌, arith, ⊎_elim, append_assoc}
+use Rattle.std.proofs.Common.{◌≡◌, ℕ, ◌<◌, ◌≤◌, true, ◌&&◌, List, [], ◌∷◌, ◌++◌, length, All, ap, ◌∙◌, arith, ⊎_elim, append_assoc}
 use Rattle.std.proofs.lemmas.List.Elements.{All-append}
 use Rattle.flat_code.specs.declared.instr.Instr.{Instr}
 use Rattle.flat_code.specs.declared.instr.Port.{Port}
 use Rattle.flat_code.specs.declared.instr.Wide.{Wide}
 use Rattle.flat_code.specs.Fine.{Known, among, more, nothing, reads_of, writes_of, written}
 use Rattle.code_draft.specs.declared.draft.Draft.{Draft}
-use Rattle.code_draft.specs.Segments.{is_read, is_live, FewLive, GoesOn, Segment}
+use Rattle.code_draft.specs.Segments.{is_read, FewLive, Segment}
 use Rattle.code_draft.proofs.Segmenting.{either, both_so, none_among, head_all, tail_all, map_all, read_cases, written_cases, few_append}
 use Rattle.code_draft.proofs.Joining.{goes_then}
 use Rattle.code_pieces.specs.Pieces.{IsReader, OnlyReads}
@@ -23,8 +23,7 @@ module _ (ports : List Port) (wides : List Wide) (n first last : ℕ) (slots : L
   few_read [] known inside all = tt
   few_read (i ∷ is) known inside all =
       let here = head_all (IsReader ports wides slots) i is all in
-      let rest = tail_all (IsReader ports wides slots) i is all in
-      (
+      let rest = tail_all (IsReader ports wides slots) i is all in (
         record {
           slots = slots;
           few = few;
@@ -33,7 +32,7 @@ module _ (ports : List Port) (wides : List Wide) (n first last : ℕ) (slots : L
               (λ b. let parts = both_so (known k) (is_read ports wides after is k) b in read_rest is k rest low (inside k parts.0) parts.1)
               (either (among (writes_of wides i) k) (known k && is_read ports wides after is k) e);
         },
-        few_read is (more (writes_of wides i) known) (λ k e. ⊎_elim (λ w. absurd (here.quiet k w)) (λ h. inside k h) (either (among (writes_of wides i) k) (known k) e)) rest
+        few_read is (more (writes_of wides i) known) (λ k e. ⊎_elim (λ w. absurd (here.quiet k w)) (λ h. inside k h) (either (among (writes_of wides i) k) (known k) e)) rest,
       )
 
 pub segment_read : (outer kept : List ℕ) (n : ℕ) (a b c : Draft) → Segment a b outer kept n → OnlyReads b c kept → Segment a c outer [] n

@@ -3,7 +3,8 @@
 ghost use Rattle.std.specs.Prelude.{◌≡◌, length, OnOk, IfOk};
 ghost use Rattle.flat_code.specs.declared.instr.Op.TheVariants.{PublishAt};
 ghost use Rattle.code_draft.specs.Drafts.{with_instr};
-ghost use Rattle.code_ports.specs.Writing.{with_port, PublishesBy};
+ghost use Rattle.code_pieces.specs.Pieces.{OnlyReads};
+ghost use Rattle.code_ports.specs.Writing.{with_port, PublishesBy, port_slots};
 
 use code_draft::Draft;
 use flat_code::{Instr, Op, Port};
@@ -11,7 +12,8 @@ use std::alloc::AllocError;
 
 /// Publishes what a port writes: the words of its source at the element of its address, where all of its conditions are 1.
 pub fn publish_by(draft: &mut Draft, port: Port) -> Result<(), AllocError>
-    ensures { OnOk result (PublishesBy draft.old draft.new port) }
+    ensures publishes { OnOk result (PublishesBy draft.old draft.new port) }
+    ensures reads { OnOk result (OnlyReads draft.old draft.new (port_slots port)) }
 {
     let number = add_port(draft, port)?;
     add_instr(draft, publication(number))

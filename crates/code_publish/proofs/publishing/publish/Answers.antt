@@ -1,11 +1,14 @@
 use Rattle.std.proofs.Common.{rules, ◌≡◌, ◌+◌, ◌<◌, ◌≤◌, ◌∙◌, sym, subst, ap, arith}
+use Rattle.flat_code.specs.Fine.{spot_slots}
 use Rattle.code_draft.specs.Drafts.{with_instr}
+use Rattle.code_pieces.specs.Pieces.{OnlyReads}
 use Rattle.code_publish.specs.Publishing.{Publishes}
 use Rattle.code_publish.proofs.Loud.{on_ok_so, tells_one, tells_two}
+use Rattle.code_publish.proofs.Readers.{reads_one, reads_two}
 use Rattle.code_publish.proofs.publishing.publish.Goals as goal
 
-pub returns-then-spot-le64 : goal.returns-then-spot-le64
-returns-then-spot-le64 c =
+pub returns-then-spot-le64-clause-publishes : goal.returns-then-spot-le64-clause-publishes
+returns-then-spot-le64-clause-publishes c =
     let d = c.args.draft.now in
     let s = c.args.spot in
     let low = c.publication-low in
@@ -13,8 +16,8 @@ returns-then-spot-le64 c =
     on_ok_so (c.add_instr.new.draft ≡ with_instr d low.result) (Publishes d c.add_instr.new.draft c.args.word s) c.add_instr.result c.add_instr.ensures (λ e.
     subst (λ x. Publishes d x c.args.word s) (sym e) (tells_one d s low.result c.args.word few low.ensures.op low.ensures.first low.ensures.second))
 
-pub returns : goal.returns
-returns c =
+pub returns-clause-publishes : goal.returns-clause-publishes
+returns-clause-publishes c =
     let d = c.args.draft.now in
     let s = c.args.spot in
     let low = c.publication-low in
@@ -24,3 +27,22 @@ returns c =
     on_ok_so (c.add_instr-3.new.draft ≡ with_instr c.add_instr-2.new.draft high.result) (Publishes d c.add_instr-3.new.draft c.args.word s) c.add_instr-3.result c.add_instr-3.ensures (λ e.
     subst (λ x. Publishes d x c.args.word s) (sym (e ∙ ap (λ x. with_instr x high.result) c.in_ok-add_instr.ensures))
     (tells_two d s low.result high.result c.args.word many low.ensures.op high.ensures.op low.ensures.first high.ensures.first low.ensures.second (high.ensures.second ∙ next)))
+
+pub returns-then-spot-le64-clause-reads : goal.returns-then-spot-le64-clause-reads
+returns-then-spot-le64-clause-reads c =
+    let d = c.args.draft.now in
+    let s = c.args.spot in
+    let low = c.publication-low in
+    on_ok_so (c.add_instr.new.draft ≡ with_instr d low.result) (OnlyReads d c.add_instr.new.draft (spot_slots s)) c.add_instr.result c.add_instr.ensures (λ e.
+    subst (λ x. OnlyReads d x (spot_slots s)) (sym e) (reads_one d s low.result low.ensures.op low.ensures.first))
+
+pub returns-clause-reads : goal.returns-clause-reads
+returns-clause-reads c =
+    let d = c.args.draft.now in
+    let s = c.args.spot in
+    let low = c.publication-low in
+    let high = c.publication-high in
+    let many : 64 < s.width = omega (arith, c.if-spot-le64.false) in
+    on_ok_so (c.add_instr-3.new.draft ≡ with_instr c.add_instr-2.new.draft high.result) (OnlyReads d c.add_instr-3.new.draft (spot_slots s)) c.add_instr-3.result c.add_instr-3.ensures (λ e.
+    subst (λ x. OnlyReads d x (spot_slots s)) (sym (e ∙ ap (λ x. with_instr x high.result) c.in_ok-add_instr.ensures))
+    (reads_two d s low.result high.result many low.ensures.op high.ensures.op low.ensures.first high.ensures.first))
