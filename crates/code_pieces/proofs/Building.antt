@@ -23,7 +23,7 @@ end_on : (ps qs : List Piece) (from : ℕ) → end_of from (ps ++ qs) ≡ end_of
 end_on [] qs from = refl
 end_on (p ∷ ps) qs from = end_on ps qs p.last
 
-follow_on : (ps qs : List Piece) (from : ℕ) → Follow from ps → Follow (end_of from ps) qs → Follow from (ps ++ qs)
+pub follow_on : (ps qs : List Piece) (from : ℕ) → Follow from ps → Follow (end_of from ps) qs → Follow from (ps ++ qs)
 follow_on [] qs from f g = g
 follow_on (p ∷ ps) qs from f g = (f.0, f.1, follow_on ps qs p.last f.2 g)
 

@@ -7,15 +7,16 @@ use Rattle.ground_net.specs.declared.net.CutPart.{CutPart}
 use Rattle.ground_net.specs.Cones.{needs}
 use Rattle.flat_code.specs.declared.code.Code.{Code}
 use Rattle.flat_code.specs.Fine.{Known, among, nothing, slots_of, written}
-use Rattle.partition_code.specs.Codes.{sinks_of_part}
 use Rattle.code_place.specs.Live.{most_live, most_live_of}
 use Rattle.code_place.specs.Placed.{HasFew}
 use Rattle.cone_cutter.proofs.Lists.{none_in, filter_to}
-use Rattle.frame_laws.specs.Frames.{sinks_read, assignment_nodes, sink_nodes, most_nodes, frame_bound}
-use Rattle.frame_laws.specs.Pieces.{Stretch, Piece, Follow, instrs_of, StandsIn, IsTelling, InPieces}
+use Rattle.frame_laws.specs.Frames.{sinks_read, assignment_nodes, sinks_nodes, most_nodes, frame_bound}
+use Rattle.code_draft.specs.Segments.{Stretch}
+use Rattle.code_pieces.specs.Pieces.{Piece, Follow, instrs_of, StandsIn}
+use Rattle.frame_laws.specs.Pieces.{IsTelling, InPieces}
 use Rattle.frame_laws.proofs.Counts.{flat_two, among_spots, among_contained}
 use Rattle.frame_laws.proofs.Staying.{written_below, read_behind, live_le}
-use Rattle.frame_laws.proofs.Standing.{contains_first, contains_later, contains_flat, is_later, read_by, Rest, first_of_rest, later_rest, told_stands, stands}
+use Rattle.frame_laws.proofs.Standing.{contains_first, contains_later, is_later, read_by, Rest, first_of_rest, later_rest, told_stands, stands}
 use Rattle.frame_laws.proofs.Greatest.{in_greatest, few_live}
 
 map_at : (f : ℕ → ℕ) (xs : List ℕ) (x k : ℕ) → k < length xs → slice_index_or xs k x ≡ x → Contains (map f xs) (f x)
@@ -61,7 +62,7 @@ module _ (net : Net) (watch : List ℕ) (part : CutPart) (code : Code) (spots : 
       written_below code.wides p.first p.last p.instrs known it.writes (λ m d. let lt = before m d in omega (arith, lt, first, last)) k e
 
   abbrev driver_counts : List ℕ
-  driver_counts = map (assignment_nodes net) part.assignments ++ flat_map (sink_nodes net) (sinks_of_part net watch part)
+  driver_counts = map (assignment_nodes net) part.assignments ++ sinks_nodes net watch part
 
   module _ (telling : List Piece) (told : (p : Piece) → Contains telling p → IsTelling net watch part code spots p)
       (shown : (k : ℕ) → among (slots_of code.shown) k ≡ true → StandsIn spots part.assignments (sinks_read net watch part) k) where
@@ -77,8 +78,7 @@ module _ (net : Net) (watch : List ℕ) (part : CutPart) (code : Code) (spots : 
         let last = follow.1 in
         let these_later : (q : Piece) → Contains later q → Contains telling q = λ q c. these q (contains_later p later q c) in
         let driver = in_greatest driver_counts it.count
-        (Contains-append_right (map (assignment_nodes net) part.assignments) (flat_map (sink_nodes net) (sinks_of_part net watch part)) it.count
-        (contains_flat (sink_nodes net) (sinks_of_part net watch part) it.sink it.count it.listed it.counted))
+        (Contains-append_right (map (assignment_nodes net) part.assignments) (sinks_nodes net watch part) it.count it.counted)
         in
         piece_le p later known from it.piece.most it.count it.piece.outer [] part.assignments [] it.piece.stretch before
         (λ k own lt e.
@@ -108,7 +108,7 @@ module _ (net : Net) (watch : List ℕ) (part : CutPart) (code : Code) (spots : 
         let first = r.follow.0 in
         let last = r.follow.1 in
         let driver = in_greatest driver_counts (assignment_nodes net x)
-        (Contains-append_left (map (assignment_nodes net) part.assignments) (flat_map (sink_nodes net) (sinks_of_part net watch part)) (assignment_nodes net x)
+        (Contains-append_left (map (assignment_nodes net) part.assignments) (sinks_nodes net watch part) (assignment_nodes net x)
         (contains_map (assignment_nodes net) part.assignments x (subst (λ xs. Contains xs x) r.all (Contains-append_right done (x ∷ rest) x (contains_first x rest)))))
         in
         piece_le p (pieces ++ telling) known from it.most (assignment_nodes net x) it.outer (spots x) done (x ∷ rest) it.stretch before

@@ -4,13 +4,13 @@ use Rattle.std.proofs.lemmas.List.Elements.{Contains-append_left, Contains-appen
 use Rattle.ground_net.specs.declared.net.Net.{Net}
 use Rattle.ground_net.specs.declared.net.CutPart.{CutPart}
 use Rattle.ground_net.specs.Reads.{direct_reads}
-use Rattle.ground_net.specs.Cones.{needs}
 use Rattle.flat_code.specs.declared.code.Code.{Code}
 use Rattle.flat_code.specs.Fine.{Known, among, slots_of}
-use Rattle.partition_code.specs.Codes.{sinks_of_part}
 use Rattle.code_place.specs.Live.{is_read as is_read_or_shown}
 use Rattle.frame_laws.specs.Frames.{sinks_read}
-use Rattle.frame_laws.specs.Pieces.{is_read, Piece, Follow, instrs_of, StandsIn, IsAssigning, IsTelling}
+use Rattle.code_draft.specs.Segments.{is_read}
+use Rattle.code_pieces.specs.Pieces.{Piece, Follow, instrs_of, StandsIn}
+use Rattle.frame_laws.specs.Pieces.{IsAssigning, IsTelling}
 use Rattle.frame_laws.proofs.Staying.{read_cases, read_behind}
 
 -- Lists
@@ -80,9 +80,7 @@ module _ (net : Net) (watch : List ℕ) (part : CutPart) (code : Code) (spots : 
       let first = follow.0 in
       let last = follow.1 in
       ⊎_elim
-      (λ o. stands_so spots part.assignments part.assignments (needs net it.sink) (sinks_read net watch part) k (λ x c. c)
-      (λ x c. contains_flat (needs net) (sinks_of_part net watch part) it.sink x it.listed c)
-      (it.piece.outside k o))
+      (λ o. it.piece.outside k o)
       (λ l. told_stands further p.last k follow.2 (λ q c. these q (contains_later p further q c)) (omega (arith, lt, first, last)) l)
       (read_cases code.ports code.wides p.first it.piece.outer (is_later code further) p.instrs k it.piece.stretch.reads (omega (arith, lt, first)) (first_or_later code p further k e))
 

@@ -10,7 +10,7 @@ use Rattle.flat_code.specs.Fine.{Known, among, more, reads_of, writes_of, writte
 use Rattle.code_place.specs.Live.{is_read as is_read_or_shown, is_live_behind, most_live}
 use Rattle.code_place.proofs.Counting.{many_le}
 use Rattle.code_place.proofs.Moving.{either, left, right, among_append}
-use Rattle.frame_laws.specs.Pieces.{is_read, is_live, AtMost, FewLive}
+use Rattle.code_draft.specs.Segments.{is_read, is_live, AtMost, FewLive}
 use Rattle.frame_laws.proofs.Counts.{many_among}
 
 -- what is written behind instructions was written before or is their own

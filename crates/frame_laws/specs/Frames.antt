@@ -112,9 +112,13 @@ sink_nodes net (A_watched x) = []
 sink_nodes net (A_register k) = nodes_of_register net (slice_get net.registers k)
 sink_nodes net (A_memory m) = nodes_of_memory m (slice_get net.memories m)
 
+-- that of all sinks of a part
+abbrev pub sinks_nodes : Net → List ℕ → CutPart → List ℕ
+sinks_nodes net watch part = flat_map (sink_nodes net) (sinks_of_part net watch part)
+
 -- The greatest number of nodes of one driver of a part.
 abbrev pub most_nodes : Net → List ℕ → CutPart → ℕ
-most_nodes net watch part = greatest (map (assignment_nodes net) part.assignments ++ flat_map (sink_nodes net) (sinks_of_part net watch part))
+most_nodes net watch part = greatest (map (assignment_nodes net) part.assignments ++ sinks_nodes net watch part)
 
 -- Two slots for each live assignment, and for each node of the largest driver.
 abbrev pub frame_bound : Net → List ℕ → CutPart → ℕ

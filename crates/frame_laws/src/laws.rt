@@ -1,19 +1,22 @@
 //! Laws of frames, and what the definitions say of small nets. The functions do nothing.
 
-ghost use Rattle.std.specs.Prelude.{◌≡◌, ◌⊎◌, ℕ, ◌≤◌, max, true, false, List, [], ◌∷◌, Some, None, slice_get, Contains};
+ghost use Rattle.std.specs.Prelude.{◌≡◌, ◌⊎◌, ℕ, ◌≤◌, max, true, false, length, List, [], ◌∷◌, Some, None, slice_get, Contains};
 ghost use Rattle.ground_net.specs.declared.ground.Ground.{Ground as TheGround};
 ghost use Rattle.ground_net.specs.declared.net.Net.{Net as TheNet};
 ghost use Rattle.ground_net.specs.declared.net.NetRegister.{NetRegister as TheRegister};
 ghost use Rattle.ground_net.specs.declared.net.CutPart.{CutPart as ThePart};
-ghost use Rattle.ground_net.specs.Reads.{driver_of};
+ghost use Rattle.ground_net.specs.Reads.{direct_reads, driver_of};
 ghost use Rattle.ground_net.specs.Cones.{A_register};
 ghost use Rattle.partition_code.specs.Codes.{sinks_of_part};
 ghost use Rattle.cone_cutter.specs.Examples.{crossing};
 ghost use Rattle.flat_code.specs.declared.code.Code.{Code as TheCode};
 ghost use Rattle.flat_code.specs.Codes.{frame_length};
+ghost use Rattle.flat_code.specs.Fine.{among, slots_of};
+ghost use Rattle.code_draft.specs.declared.draft.Draft.{Draft as TheDraft};
+ghost use Rattle.code_pieces.specs.Pieces.{StandsIn, AssignsPieces, AddsPieces};
 ghost use Rattle.code_place.specs.Live.{most_live_of};
 ghost use Rattle.code_place.specs.Placed.{HasFew};
-ghost use Rattle.frame_laws.specs.Frames.{live_behind, most_assignments, most_nodes, frame_bound, sink_nodes, memory_nodes};
+ghost use Rattle.frame_laws.specs.Frames.{live_behind, most_assignments, most_nodes, frame_bound, sink_nodes, memory_nodes, sinks_read, sinks_nodes, assignment_nodes};
 ghost use Rattle.frame_laws.specs.Examples.{chain, whole_chain, gathering, whole_gathering, gathering_alone, resetting, memory, port, writes, reads};
 ghost use Rattle.frame_laws.specs.Pieces.{InPieces};
 
@@ -23,6 +26,12 @@ pub fn frames_are_few()
     ensures live { (net : TheNet) (watch : List ℕ) (part : ThePart) (code : TheCode) → InPieces net watch part code → most_live_of code ≤ frame_bound net watch part }
     ensures placed { (net : TheNet) (watch : List ℕ) (part : ThePart) (code placed : TheCode) → InPieces net watch part code → HasFew code placed → frame_length placed ≤ max 1 (frame_bound net watch part) }
     ensures exact { (net : TheNet) (watch : List ℕ) (part : ThePart) (code placed : TheCode) → InPieces net watch part code → HasFew code placed → (code.slots ≡ 0) ⊎ (1 ≤ most_nodes net watch part) → frame_length placed ≤ frame_bound net watch part }
+{}
+
+/// The code of a part is in pieces, where its assignments have one each in turn and its sinks add some behind, over slots in which the
+/// values of the assignments stand, and it shows such slots.
+pub fn drafts_are_pieces()
+    ensures { (net : TheNet) (watch : List ℕ) (part : ThePart) (code : TheCode) (spots : ℕ → List ℕ) (start mid last : TheDraft) → ((x : ℕ) → length (spots x) ≤ 2) → start.instrs ≡ [] → start.slots ≡ 0 → AssignsPieces spots (direct_reads net) (assignment_nodes net) part.assignments start mid → AddsPieces spots part.assignments (sinks_read net watch part) (sinks_nodes net watch part) mid last → code.instrs ≡ last.instrs → code.ports ≡ last.ports → code.wides ≡ last.wides → ((k : ℕ) → among (slots_of code.shown) k ≡ true → StandsIn spots part.assignments (sinks_read net watch part) k) → InPieces net watch part code }
 {}
 
 /// A part with an assignment that has a driver, or with a register, has a driver with nodes.
