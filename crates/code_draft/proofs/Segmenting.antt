@@ -1,13 +1,11 @@
 -- Stretches of code one after the other.
-use Rattle.std.proofs.Common.{◌≡◌, ◌==◌, ℕ, zero, suc, ◌+◌, ◌<◌, ◌≤◌, Bool, true, false, ◌||◌, ◌&&◌, List, [], ◌∷◌, ◌++◌, length, All, get_or, refl, sym, subst, ap, ap₂, ◌∙◌, arith, ⊎_elim, ◌⊎◌, inl, inr, length-append, true≢false, append_assoc}
+use Rattle.std.proofs.Common.{◌≡◌, ◌==◌, ℕ, zero, suc, ◌+◌, ◌<◌, ◌≤◌, Bool, true, false, ◌||◌, ◌&&◌, List, [], ◌∷◌, ◌++◌, length, All, get_or, refl, sym, ap, ap₂, ◌∙◌, arith, ⊎_elim, ◌⊎◌, inl, inr, length-append, true≢false}
 use Rattle.std.proofs.lemmas.Bool.{cases_lt}
-use Rattle.std.proofs.lemmas.List.Elements.{All-append}
 use Rattle.flat_code.specs.declared.instr.Instr.{Instr}
 use Rattle.flat_code.specs.declared.instr.Port.{Port}
 use Rattle.flat_code.specs.declared.instr.Wide.{Wide}
-use Rattle.flat_code.specs.Fine.{Known, among, more, nothing, reads_of, writes_of, written}
-use Rattle.code_draft.specs.declared.draft.Draft.{Draft}
-use Rattle.code_draft.specs.Segments.{is_read, is_live, AtMost, FewLive, GoesOn, Stretch, Segment, Step, behind_first}
+use Rattle.flat_code.specs.Fine.{Known, among, more, reads_of, writes_of, written}
+use Rattle.code_draft.specs.Segments.{is_read, FewLive, behind_first}
 
 -- Tests
 
@@ -116,15 +114,14 @@ module _ (ports : List Port) (wides : List Wide) where
       → ((k : ℕ) → known k ≡ true → among xs k ≡ true) → FewLive n first known ports wides after is
   few_written n first after xs few [] known a h = tt
   few_written n first after xs few (i ∷ is) known a h =
-      let here = head_all (λ j. (k : ℕ) → among (writes_of wides j) k ≡ true → among xs k ≡ true) i is a in
-      (
+      let here = head_all (λ j. (k : ℕ) → among (writes_of wides j) k ≡ true → among xs k ≡ true) i is a in (
         record {
           slots = xs;
           few = few;
           all = λ k le e. ⊎_elim (λ w. here k w) (λ r. h k (both_so (known k) (is_read ports wides after is k) r).0) (either (among (writes_of wides i) k) (known k && is_read ports wides after is k) e);
         },
         few_written n first after xs few is (more (writes_of wides i) known) (tail_all (λ j. (k : ℕ) → among (writes_of wides j) k ≡ true → among xs k ≡ true) i is a)
-        (λ k e. ⊎_elim (λ w. here k w) (λ r. h k r) (either (among (writes_of wides i) k) (known k) e)),
+            (λ k e. ⊎_elim (λ w. here k w) (λ r. h k r) (either (among (writes_of wides i) k) (known k) e)),
       )
 
   -- behind other code, of whose slots these are held
@@ -135,8 +132,7 @@ module _ (ports : List Port) (wides : List Wide) where
     few_behind (j ∷ js) known own same w h f =
         let here = head_all (λ i. (k : ℕ) → among (writes_of wides i) k ≡ true → b ≤ k) j js w in
         let few = f.0.few in
-        let long = length-append held f.0.slots in
-        (
+        let long = length-append held f.0.slots in (
           record {
             slots = held ++ f.0.slots;
             few = omega (arith, few, long, room);
@@ -154,11 +150,11 @@ module _ (ports : List Port) (wides : List Wide) where
                 (cases_lt k b);
           },
           few_behind js (more (writes_of wides j) known) (more (writes_of wides j) own)
-          (λ k up e. ⊎_elim
-          (λ at. left_so (among (writes_of wides j) k) (own k) at)
-          (λ r. right_so (among (writes_of wides j) k) (own k) (same k up r))
-          (either (among (writes_of wides j) k) (known k) e))
-          (tail_all (λ i. (k : ℕ) → among (writes_of wides i) k ≡ true → b ≤ k) j js w)
-          (λ k le lt e. h k le lt (read_behind ports wides after js k e))
-          f.1,
+              (λ k up e. ⊎_elim
+              (λ at. left_so (among (writes_of wides j) k) (own k) at)
+              (λ r. right_so (among (writes_of wides j) k) (own k) (same k up r))
+              (either (among (writes_of wides j) k) (known k) e))
+              (tail_all (λ i. (k : ℕ) → among (writes_of wides i) k ≡ true → b ≤ k) j js w)
+              (λ k le lt e. h k le lt (read_behind ports wides after js k e))
+              f.1,
         )

@@ -1,5 +1,5 @@
 -- The single steps of growing as segments.
-use Rattle.std.proofs.Common.{◌≡◌, ◌==◌, ℕ, ◌+◌, ◌<◌, ◌≤◌, Bool, true, false, ◌||◌, nat_lt, if◌then◌else◌, List, [], ◌∷◌, ◌++◌, length, slice_get, Some, All, refl, sym, subst, ap, ◌∙◌, arith, ⊎_elim, length-append, append_assoc, true≢false}
+use Rattle.std.proofs.Common.{◌≡◌, ◌==◌, ℕ, ◌+◌, ◌<◌, ◌≤◌, Bool, true, false, nat_lt, if◌then◌else◌, List, [], ◌∷◌, ◌++◌, length, slice_get, Some, refl, sym, subst, ap, ◌∙◌, arith, ⊎_elim, length-append, append_assoc, true≢false}
 use Rattle.std.proofs.lemmas.List.{append-nil}
 use Rattle.std.proofs.lemmas.List.Elements.{All-cons, All-nil}
 use Rattle.std.proofs.lemmas.Option.{slice_get-get_or}
@@ -15,7 +15,7 @@ use Rattle.flat_code.specs.declared.instr.Wide.{Wide}
 use Rattle.flat_code.specs.Fine.{among, reads_on, reads_of, writes_on, writes_of, wide_reads, wide_writes, slots_of, spot_slots, further_words}
 use Rattle.code_draft.specs.declared.draft.Draft.{Draft}
 use Rattle.code_draft.specs.Drafts.{with_instr, with_wide, with_slots, spot_from, computes, at_slot}
-use Rattle.code_draft.specs.Segments.{GoesOn, Step, behind_first}
+use Rattle.code_draft.specs.Segments.{GoesOn, Step}
 use Rattle.code_draft.proofs.Growing.{two_among, one_among, among_first, among_second}
 use Rattle.code_draft.proofs.Worked.{not_so, writes_one, same_reads}
 use Rattle.code_draft.proofs.Segmenting.{either, left_so, none_among}

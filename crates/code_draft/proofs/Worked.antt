@@ -1,5 +1,5 @@
 -- Words that are computed: what they leave in their slots.
-use Rattle.std.proofs.Common.{◌≡◌, ℕ, zero, suc, ◌+◌, ◌<◌, Bool, true, false, List, [], ◌∷◌, length, slice_index, slice_set, All, refl, sym, subst, ap, ◌∙◌, arith, true≢false}
+use Rattle.std.proofs.Common.{◌≡◌, ℕ, zero, suc, ◌<◌, true, false, List, [], ◌∷◌, length, slice_index, slice_set, All, refl, sym, subst, ap, ◌∙◌, arith, true≢false}
 use Rattle.bit_words.specs.declared.value.Value.{Value}
 use Rattle.flat_code.specs.declared.instr.Op.{Op}
 use Rattle.flat_code.specs.declared.instr.Op.TheVariants as op
@@ -7,10 +7,10 @@ use Rattle.flat_code.specs.declared.instr.Instr.{Instr}
 use Rattle.flat_code.specs.declared.instr.Port.{Port}
 use Rattle.flat_code.specs.declared.instr.Wide.{Wide}
 use Rattle.flat_code.specs.Meaning.{acted_on, pushed_on, word_on}
-use Rattle.flat_code.specs.Fine.{FineOn, AreKnown, among, reads_on, writes_on, writes_of}
+use Rattle.flat_code.specs.Fine.{FineOn, AreKnown, among, reads_on, writes_on}
 use Rattle.flat_code.specs.Orders.{Solves, AreNew}
 use Rattle.code_draft.specs.declared.draft.Draft.{Draft}
-use Rattle.code_draft.specs.Drafts.{IsDraft, written_in, with_instr, with_slots, computes, Computes, word_in, Works, at_slot}
+use Rattle.code_draft.specs.Drafts.{IsDraft, written_in, with_instr, with_slots, computes, Computes, Works, at_slot}
 use Rattle.code_draft.proofs.Growing.{Follows, grows_instr, grows_slots, grows_then, all_last, one_new, one_among, unwritten, written_here, among_first}
 use Rattle.code_draft.proofs.Fetches.{put_there}
 

@@ -1,12 +1,12 @@
 -- What the variants of expressions give, on spots of their parts.
-use Rattle.std.proofs.Common.{◌≡◌, ℕ, ◌≤◌, Bool, true, false, List, [], ◌∷◌, ◌++◌, map, Option, Some, None, option_and_then, option_map, refl, sym, subst, ap, ap₂, ◌∙◌, if◌then◌else◌, true≢false}
+use Rattle.std.proofs.Common.{◌≡◌, ℕ, ◌≤◌, true, List, [], ◌∷◌, ◌++◌, Option, Some, None, option_and_then, option_map, refl, sym, subst, ap, ap₂, ◌∙◌, if◌then◌else◌, true≢false}
 use Rattle.std.specs.Prelude.{IsSome, Result, Ok, Err, IfOk}
 use Rattle.std.proofs.lemmas.List.{map-append}
 use Rattle.bit_words.specs.declared.value.Kind.{Kind}
 use Rattle.prim_ops.specs.declared.operation.PrimOp.{PrimOp}
 use Rattle.ground_net.specs.declared.ground.Ground.{Ground}
 use Rattle.ground_net.specs.declared.ground.Ground.TheVariants.{Leaf, Op, Mux, Select, Load, Fit}
-use Rattle.net_meaning.specs.Shapes.{Shape, shaped, Table, shape, all_of, shape_of_row, shape_of_choice, shape_of_items, is_index, shape_of_load, shape_of_fit, shape_of_selection}
+use Rattle.net_meaning.specs.Shapes.{Shape, shaped, Table, shape, all_of, shape_of_row, shape_of_choice, shape_of_items, is_index, shape_of_load, shape_of_fit}
 use Rattle.net_meaning.proofs.Shaping.{and_then, shape-Leaf}
 use Rattle.flat_code.specs.declared.instr.Spot.{Spot}
 use Rattle.flat_code.specs.Meaning.{spot_shape}
@@ -16,7 +16,7 @@ use Rattle.code_emit.specs.declared.sources.Elements.{Elements}
 use Rattle.code_emit.specs.declared.sources.Sources.{Sources}
 use Rattle.code_emit.specs.Emits.{AreShaped, shapes_in, sources_table, leaf_source, element_source, source_shape, elements_shape}
 use Rattle.code_emit.proofs.Rowing.{some_of}
-use Rattle.code_emit.proofs.Shaped.{some_is, some_same, all_of_push, none_some, all_shaped, op_parts, mux_parts, select_parts, load_parts, fit_parts, spots_are, load_shape, fit_shape_is, index_one}
+use Rattle.code_emit.proofs.Shaped.{some_same, all_of_push, all_shaped, op_parts, mux_parts, select_parts, load_parts, fit_parts, spots_are, load_shape, fit_shape_is}
 
 pub ok_both : {A E : Type 0} (P Q : A → Type 0) (r : Result A E) → IfOk r P → IfOk r Q → IfOk r (λ s. P s × Q s)
 ok_both P Q (Ok s) h k = (h, k)

@@ -1,38 +1,35 @@
 -- Emitted code has the values of its expressions.
-use Rattle.std.proofs.Common.{◌≡◌, ℕ, zero, suc, ◌+◌, ◌*◌, ◌%◌, ◌<◌, ◌≤◌, Bool, true, false, min, nat_lt, List, [], ◌∷◌, ◌++◌, map, length, get_or, slice_get, slice_index, ◌^◌, Option, Some, None, option_map, option_and_then, refl, sym, subst, ap, ap₂, ◌∙◌, arith, All, pos, if◌then◌else◌, ◌&&◌, true≢false}
-use Rattle.std.specs.Prelude.{IsSome}
-use Rattle.std.proofs.lemmas.List.{map-append, length-append}
+use Rattle.std.proofs.Common.{◌≡◌, ℕ, ◌+◌, ◌*◌, ◌%◌, ◌<◌, true, nat_lt, List, [], ◌∷◌, ◌++◌, map, slice_index, ◌^◌, Option, Some, None, option_map, refl, sym, subst, ap, ap₂, ◌∙◌, arith, All, pos, if◌then◌else◌, ◌&&◌, true≢false}
+use Rattle.std.proofs.lemmas.List.{map-append}
 use Rattle.std.proofs.lemmas.List.Elements.{All-push, All-append}
 use Rattle.bit_words.specs.declared.value.Kind.{Kind}
 use Rattle.bit_words.specs.declared.value.Kind.TheVariants.{Unsigned, Signed}
 use Rattle.bit_words.specs.declared.value.Value.{Value}
 use Rattle.bit_words.specs.Values.{integer_of}
-use Rattle.cycle_values.specs.Values.{fitted, lone, operation, is_one}
+use Rattle.cycle_values.specs.Values.{fitted, lone, is_one}
 use Rattle.ground_net.specs.declared.ground.Ground.{Ground}
 use Rattle.ground_net.specs.declared.ground.Ground.TheVariants.{Const, Leaf, Op, Mux, Select, Load, Fit}
 use Rattle.ground_net.specs.Grounds.{Sight, value, chosen, selected, loaded}
 use Rattle.ground_net.proofs.Layers.{value-Const, value-Leaf, value-Op, value-Mux, value-Select, value-Load, value-Fit}
 use Rattle.prim_ops.specs.declared.operation.PrimOp.{PrimOp}
-use Rattle.net_meaning.specs.Shapes.{Shape, shaped, shape_of_value, Table, HasShapes, shape, all_of, is_unsigned, shape_of_load}
+use Rattle.net_meaning.specs.Shapes.{Shape, shaped, shape_of_value, HasShapes, shape, is_unsigned, shape_of_load}
 use Rattle.net_meaning.specs.Words.{value_at, high_at}
 use Rattle.net_meaning.proofs.Shaping.{fitted_shape, shapes_hold, if_some, both_true}
 use Rattle.flat_code.specs.declared.instr.Form.{Form}
 use Rattle.flat_code.specs.declared.instr.Form.TheVariants as form
-use Rattle.flat_code.specs.declared.instr.Region.{Region}
 use Rattle.flat_code.specs.declared.instr.Spot.{Spot}
-use Rattle.flat_code.specs.Meaning.{spot_shape, spot_value, spot_high, spot_values, form_value, element_at, picked, input_word, input_high}
+use Rattle.flat_code.specs.Meaning.{spot_shape, spot_value, spot_values, form_value, element_at, picked, input_word, input_high}
 use Rattle.flat_code.specs.Fine.{spot_shapes, form_shape, InRegion, region_of}
 use Rattle.code_draft.specs.declared.draft.Draft.{Draft}
-use Rattle.code_draft.specs.Drafts.{IsDraft, Solved, Grows, Stands, Makes, Wanted, Holds, IsConstant, IsForm, input_value}
+use Rattle.code_draft.specs.Drafts.{IsDraft, Solved, Grows, Stands, Makes, Wanted, Holds, IsConstant, IsForm}
 use Rattle.code_draft.proofs.Growing.{grows_then, grows_not, stands_on, all_stand_on}
 use Rattle.code_draft.proofs.Held.{held_value}
 use Rattle.code_words.specs.Ways.{Cut, Given, IsMade, row_value, fit_of_one}
-use Rattle.code_emit.specs.declared.sources.Kept.{Kept}
 use Rattle.code_emit.specs.declared.sources.Source.{Source}
 use Rattle.code_emit.specs.declared.sources.Source.TheVariants as source
 use Rattle.code_emit.specs.declared.sources.Elements.{Elements}
 use Rattle.code_emit.specs.declared.sources.Sources.{Sources}
-use Rattle.code_emit.specs.Emits.{leaf_source, element_source, source_shape, elements_shape, sources_table, IsOf, element_value, Sees, Fits, AreSources, ValueOf, Emits, MakesAll, EmitsAll, shapes_in}
+use Rattle.code_emit.specs.Emits.{leaf_source, element_source, source_shape, elements_shape, sources_table, IsOf, Sees, Fits, AreSources, ValueOf, Emits, EmitsAll}
 use Rattle.code_emit.proofs.Shaped.{some_same, none_some}
 
 -- What is seen has its kinds and widths

@@ -1,18 +1,17 @@
 -- Kinds and widths of spots and of expressions.
-use Rattle.std.proofs.Common.{◌≡◌, ℕ, zero, suc, ◌+◌, ◌-◌, ◌<◌, ◌≤◌, Bool, true, false, ◌&&◌, nat_le, List, [], ◌∷◌, ◌++◌, map, length, get_or, Option, Some, None, option_and_then, option_map, refl, sym, subst, ap, ap₂, ◌∙◌, arith, All, if◌then◌else◌, true≢false}
+use Rattle.std.proofs.Common.{◌≡◌, ℕ, zero, suc, ◌-◌, ◌≤◌, Bool, true, false, ◌&&◌, nat_le, List, [], ◌∷◌, ◌++◌, length, get_or, Option, Some, None, option_and_then, refl, sym, subst, ap, ap₂, ◌∙◌, arith, if◌then◌else◌, true≢false}
 use Rattle.std.specs.Prelude.{IsSome, Result, Ok, Err, IfOk}
 use Rattle.std.proofs.lemmas.List.{length-map}
 use Rattle.std.proofs.lemmas.Bool.Decides.{nat_tests}
 use Rattle.bit_words.specs.declared.value.Kind.{Kind}
-use Rattle.bit_words.specs.declared.value.Kind.TheVariants.{Unsigned}
 use Rattle.prim_ops.specs.declared.operation.PrimOp.{PrimOp}
 use Rattle.ground_net.specs.declared.ground.Ground.{Ground}
-use Rattle.ground_net.specs.declared.ground.Ground.TheVariants.{Const, Leaf, Op, Mux, Select, Load, Fit}
-use Rattle.net_meaning.specs.Shapes.{Shape, shaped, shape_of_value, Table, shape, all_of, shape_of_row, shape_of_choice, shape_of_items, shape_of_selection, is_index, shape_of_load, shape_of_fit, is_unsigned, same_shape}
-use Rattle.net_meaning.proofs.Shaping.{and_then, if_some, both_true, shape-Const, shape-Leaf, shape-Op, shape-Mux, shape-Select, shape-Load, shape-Fit}
+use Rattle.ground_net.specs.declared.ground.Ground.TheVariants.{Op, Mux, Select, Load, Fit}
+use Rattle.net_meaning.specs.Shapes.{Shape, shaped, Table, shape, all_of, shape_of_row, shape_of_choice, shape_of_items, shape_of_selection, is_index, shape_of_load, shape_of_fit, is_unsigned, same_shape}
+use Rattle.net_meaning.proofs.Shaping.{and_then, if_some, shape-Op, shape-Mux, shape-Select, shape-Load, shape-Fit}
 use Rattle.flat_code.specs.declared.instr.Spot.{Spot}
 use Rattle.flat_code.specs.Meaning.{spot_shape}
-use Rattle.flat_code.specs.Fine.{spot_shapes, shape_of_picked}
+use Rattle.flat_code.specs.Fine.{spot_shapes}
 use Rattle.code_emit.specs.Emits.{AreShaped, shapes_in}
 use Rattle.code_emit.proofs.Rowing.{some_of}
 

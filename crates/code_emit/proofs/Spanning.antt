@@ -1,5 +1,5 @@
 -- The code of expressions as segments.
-use Rattle.std.proofs.Common.{◌≡◌, ℕ, ◌+◌, ◌*◌, ◌<◌, ◌≤◌, max, true, List, [], ◌∷◌, ◌++◌, map, length, flat_map, Option, Some, None, refl, sym, subst, ap, ap₂, ◌∙◌, arith, ⊎_elim}
+use Rattle.std.proofs.Common.{◌≡◌, ℕ, ◌+◌, ◌*◌, ◌<◌, ◌≤◌, max, true, List, [], ◌∷◌, ◌++◌, map, flat_map, Some, refl, sym, subst, ap, ◌∙◌, arith, ⊎_elim}
 use Rattle.std.specs.Prelude.{sum, sum_by}
 use Rattle.std.proofs.lemmas.Grind.{flat_map-append}
 use Rattle.std.proofs.lemmas.List.{length-append}
@@ -15,8 +15,8 @@ use Rattle.flat_code.specs.declared.instr.Spot.{Spot}
 use Rattle.flat_code.specs.Fine.{among, spot_slots, slots_of}
 use Rattle.code_draft.specs.declared.draft.Draft.{Draft}
 use Rattle.code_draft.specs.Segments.{Segment, Step}
-use Rattle.code_draft.proofs.Segmenting.{among_left, among_right, among_either, none_among}
-use Rattle.code_draft.proofs.Joining.{AreBefore, step_then, both_then, segment_weaker, segment_not, step_not}
+use Rattle.code_draft.proofs.Segmenting.{among_left, among_either, none_among}
+use Rattle.code_draft.proofs.Joining.{AreBefore, step_then, both_then, segment_weaker, segment_not}
 use Rattle.code_draft.proofs.Stepping.{spot_few}
 use Rattle.code_emit.specs.declared.sources.Source.{Source}
 use Rattle.code_emit.specs.declared.sources.Sources.{Sources}

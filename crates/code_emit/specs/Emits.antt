@@ -1,5 +1,5 @@
 -- Where the values of leaves and of memories are found, and code that computes the value of an expression.
-use Rattle.std.specs.Prelude.{◌≡◌, ℕ, ◌+◌, ◌*◌, ◌<◌, List, [], map, slice_get, Option, Some, None, option_map, option_and_then, nat_lt, if◌then◌else◌, pos, All, IsSome}
+use Rattle.std.specs.Prelude.{◌≡◌, ℕ, ◌+◌, ◌*◌, ◌<◌, List, map, slice_get, Option, Some, option_map, option_and_then, nat_lt, if◌then◌else◌, pos, All, IsSome}
 use Rattle.bit_words.specs.declared.value.Kind.TheVariants.{Unsigned}
 use Rattle.bit_words.specs.declared.value.Value.{Value}
 use Rattle.cycle_values.specs.Values.{fitted}

@@ -1,9 +1,9 @@
 //! Publishing by a port.
 
-ghost use Rattle.std.specs.Prelude.{◌≡◌, length, OnOk, IfOk};
+ghost use Rattle.std.specs.Prelude.{◌≡◌, [], length, OnOk, IfOk};
 ghost use Rattle.flat_code.specs.declared.instr.Op.TheVariants.{PublishAt};
 ghost use Rattle.code_draft.specs.Drafts.{with_instr};
-ghost use Rattle.code_pieces.specs.Pieces.{OnlyReads};
+ghost use Rattle.code_draft.specs.Segments.{Segment};
 ghost use Rattle.code_ports.specs.Writing.{with_port, PublishesBy, port_slots};
 
 use code_draft::Draft;
@@ -13,7 +13,7 @@ use std::alloc::AllocError;
 /// Publishes what a port writes: the words of its source at the element of its address, where all of its conditions are 1.
 pub fn publish_by(draft: &mut Draft, port: Port) -> Result<(), AllocError>
     ensures publishes { OnOk result (PublishesBy draft.old draft.new port) }
-    ensures reads { OnOk result (OnlyReads draft.old draft.new (port_slots port)) }
+    ensures segment { OnOk result (Segment draft.old draft.new (port_slots port) [] 0) }
 {
     let number = add_port(draft, port)?;
     add_instr(draft, publication(number))

@@ -1,2 +1,2 @@
 pub mod Loud
-pub mod Readers
+pub mod Reading

@@ -1,10 +1,10 @@
 //! Publishing.
 
-ghost use Rattle.std.specs.Prelude.{◌≡◌, OnOk};
-ghost use Rattle.flat_code.specs.declared.instr.Op.TheVariants.{Publish};
+ghost use Rattle.std.specs.Prelude.{◌≡◌, [], OnOk};
 ghost use Rattle.flat_code.specs.Fine.{spot_slots};
+ghost use Rattle.flat_code.specs.declared.instr.Op.TheVariants.{Publish};
 ghost use Rattle.code_draft.specs.Drafts.{with_instr};
-ghost use Rattle.code_pieces.specs.Pieces.{OnlyReads};
+ghost use Rattle.code_draft.specs.Segments.{Segment};
 ghost use Rattle.code_publish.specs.Publishing.{Publishes};
 
 use code_draft::Draft;
@@ -14,7 +14,7 @@ use std::alloc::AllocError;
 /// Publishes the words of the value at a spot from this shared word on, the low one first.
 pub fn publish(draft: &mut Draft, spot: Spot, word: u32) -> Result<(), AllocError>
     ensures publishes { OnOk result (Publishes draft.old draft.new word spot) }
-    ensures reads { OnOk result (OnlyReads draft.old draft.new (spot_slots spot)) }
+    ensures segment { OnOk result (Segment draft.old draft.new (spot_slots spot) [] 0) }
 {
     let low = publication(spot.low, word);
     if spot.width <= 64 {

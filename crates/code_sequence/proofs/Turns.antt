@@ -21,6 +21,7 @@ use Rattle.code_emit.specs.declared.sources.Sources.{Sources}
 use Rattle.code_emit.specs.Emits.{leaf_source, element_source, source_shape, sources_table, IsOf, Sees, Fits, AreSources, ValueOf, Emits}
 use Rattle.code_emit.proofs.Emitting.{sources_on}
 use Rattle.code_sequence.specs.Sequences.{driver_in, with_leaf, with_shape, turned_table, InTurn, AreAssigned, Turned, Goes, Assigns, StandElsewhere}
+use Rattle.code_sequence.specs.Segmented.{with_frame}
 
 some_same : {A : Type 0} {x y : A} → Some x ≡ Some y → x ≡ y
 some_same e = cc
@@ -39,13 +40,10 @@ slice_get-set_other xs k j x ne = ⊎_elim
     (λ le. let long = length-set xs k x in slice_get_past (slice_set xs k x) j (omega (arith, long, le)) ∙ sym (slice_get_past xs j le))
     (cases_lt j (length xs))
 
-abbrev with_frame : Sources → ℕ → Spot → Sources
-with_frame S x s = record { leaves = slice_set S.leaves x (Some (source.Frame s)); memories = S.memories }
-
-set_source : (S : Sources) (x : ℕ) (s : Spot) → x < length S.leaves → leaf_source (with_frame S x s) x ≡ Some (source.Frame s)
+pub set_source : (S : Sources) (x : ℕ) (s : Spot) → x < length S.leaves → leaf_source (with_frame S x s) x ≡ Some (source.Frame s)
 set_source S x s lt = ap (option_and_then (λ o. o)) (slice_get-set_same S.leaves x (Some (source.Frame s)) lt)
 
-other_source : (S : Sources) (x y : ℕ) (s : Spot) → y ≢ x → leaf_source (with_frame S x s) y ≡ leaf_source S y
+pub other_source : (S : Sources) (x y : ℕ) (s : Spot) → y ≢ x → leaf_source (with_frame S x s) y ≡ leaf_source S y
 other_source S x y s ne = ap (option_and_then (λ o. o)) (slice_get-set_other S.leaves x y (Some (source.Frame s)) ne)
 
 test_same : (x y : ℕ) → y ≡ x → (y == x) ≡ true

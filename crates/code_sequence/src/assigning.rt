@@ -3,6 +3,7 @@
 ghost use Rattle.std.specs.Prelude.{◌≡◌, ◌<◌, [], ◌∷◌, All, length, OnOk};
 ghost use Rattle.code_emit.specs.Emits.{sources_table};
 ghost use Rattle.code_sequence.specs.Sequences.{InTurn, Turned, Assigns, StandElsewhere, turned_table};
+ghost use Rattle.code_sequence.specs.Segmented.{AreSegments};
 
 use code_draft::Draft;
 use code_emit::{Source, Sources, emit};
@@ -23,6 +24,7 @@ pub fn assign_all(
     ensures table { OnOk result (sources_table sources.new ≡ turned_table (sources_table sources.old) drivers.now sequence.now) }
     ensures leaves { OnOk result (length sources.new.leaves ≡ length sources.old.leaves) }
     ensures others { OnOk result (StandElsewhere sequence.now sources.old sources.new) }
+    ensures segments { OnOk result (AreSegments drivers.now sequence.now sources.old draft.old sources.new draft.new) }
 {
     for leaf in sequence {
         assign(alloc, draft, sources, drivers, *leaf)?;
@@ -44,6 +46,7 @@ fn assign(
     ensures others { OnOk result (StandElsewhere (leaf ∷ []) sources.old sources.new) }
     ensures table { OnOk result (Turned drivers.now leaf sources.old sources.new) }
     ensures assigns { OnOk result (Assigns drivers.now (leaf ∷ []) sources.old draft.old sources.new draft.new) }
+    ensures segments { OnOk result (AreSegments drivers.now (leaf ∷ []) sources.old draft.old sources.new draft.new) }
 {
     let Some(Some(driver)) = drivers.get(leaf as usize) else {
         unreachable!();

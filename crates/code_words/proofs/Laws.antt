@@ -1,10 +1,10 @@
 -- Operations of the table on single words. The word of a value is its integer's lowest 64 bits.
-use Rattle.std.proofs.Common.{◌≡◌, ◌==◌, ℕ, zero, suc, ◌+◌, ◌-◌, ◌*◌, ◌/◌, ◌%◌, ◌^◌, ◌<◌, ◌≤◌, min, max, Bool, true, false, not, List, [], ◌∷◌, nat_lt, if◌then◌else◌, ℤ, pos, negsuc, bit_and, bit_or, bit_xor, int_lt, int_le, refl, sym, subst, ap, ap₂, ◌∙◌, arith, pow_mono, pow-add}
+use Rattle.std.proofs.Common.{◌≡◌, ◌==◌, ℕ, zero, suc, ◌+◌, ◌-◌, ◌*◌, ◌%◌, ◌^◌, ◌<◌, ◌≤◌, min, max, Bool, true, false, not, List, [], ◌∷◌, nat_lt, if◌then◌else◌, pos, negsuc, bit_and, bit_or, bit_xor, int_lt, int_le, refl, sym, subst, ap, ap₂, ◌∙◌, arith, pow_mono, pow-add}
 use Rattle.std.specs.Ordering.{int_eq}
 use Rattle.std.proofs.lemmas.Int.{ints}
 use Rattle.std.proofs.lemmas.Grind.{common_steps}
 use Rattle.std.proofs.lemmas.Bool.{ltb-true, ltb-false}
-use Rattle.std.proofs.lemmas.Nat.{and_mask, pow_pos, shl_below, or_shifted, or_lt}
+use Rattle.std.proofs.lemmas.Nat.{pow_pos, shl_below, or_shifted, or_lt}
 use Rattle.std.proofs.Math.Nat.{mod-eq_of_lt}
 use Rattle.bit_words.specs.declared.value.Kind.TheVariants.{Unsigned, Signed}
 use Rattle.bit_words.specs.declared.value.Value.{Value}
@@ -12,8 +12,8 @@ use Rattle.bit_words.specs.Values.{integer, integer_of, bits_of}
 use Rattle.bit_words.proofs.Congruence.{Level}
 use Rattle.prim_ops.specs.declared.operation.PrimOp.TheVariants as op
 use Rattle.prim_ops.specs.Results.{one_if}
-use Rattle.prim_ops.proofs.Residues.{sum_low, difference_low, word_low, same_low}
-use Rattle.prim_ops.proofs.Moves.{and_low, or_low, xor_low, joined}
+use Rattle.prim_ops.proofs.Residues.{sum_low, difference_low, same_low}
+use Rattle.prim_ops.proofs.Moves.{and_low, or_low, xor_low}
 use Rattle.cycle_values.specs.Values.{operation}
 use Rattle.flat_code.specs.Meaning.{minus, extension}
 

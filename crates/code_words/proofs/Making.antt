@@ -1,16 +1,15 @@
 -- Spots of words that are made.
-use Rattle.std.proofs.Common.{◌≡◌, ℕ, ◌+◌, ◌%◌, ◌^◌, ◌<◌, ◌≤◌, true, false, nat_lt, if◌then◌else◌, List, [], ◌∷◌, slice_index, refl, sym, subst, ap, ◌∙◌, arith, mod-eq_of_lt, pow_mono, All}
+use Rattle.std.proofs.Common.{◌≡◌, ℕ, ◌^◌, ◌<◌, ◌≤◌, true, false, nat_lt, if◌then◌else◌, List, [], ◌∷◌, slice_index, sym, subst, ap, ◌∙◌, arith, mod-eq_of_lt, pow_mono, All}
 use Rattle.std.proofs.lemmas.Bool.{le-ltb}
 use Rattle.bit_words.specs.declared.value.Kind.{Kind}
 use Rattle.bit_words.specs.declared.value.Value.{Value}
 use Rattle.net_meaning.specs.Shapes.{Shape, shaped, shape_of_value}
 use Rattle.flat_code.specs.declared.instr.Instr.{Instr}
 use Rattle.flat_code.specs.declared.instr.Spot.{Spot}
-use Rattle.flat_code.specs.Meaning.{spot_shape, spot_values}
 use Rattle.flat_code.specs.Fine.{AreKnown, spot_slots}
 use Rattle.code_draft.specs.declared.draft.Draft.{Draft}
-use Rattle.code_draft.specs.Drafts.{IsDraft, Grows, Solved, Stands, Makes, Holds, Works, written_in, word_in}
-use Rattle.code_draft.proofs.Growing.{grows_not, grows_then, all_stand_on, one_known}
+use Rattle.code_draft.specs.Drafts.{IsDraft, Stands, Makes, Holds, Works, written_in}
+use Rattle.code_draft.proofs.Growing.{grows_not, grows_then, one_known}
 use Rattle.code_words.specs.Working.{from_slot, at_one_slot}
 use Rattle.code_words.specs.Ways.{Given, IsMade, Rests, Operates, Follow}
 

@@ -1,5 +1,5 @@
 -- Ways of one operand.
-use Rattle.std.proofs.Common.{◌≡◌, ℕ, ◌+◌, ◌-◌, ◌*◌, ◌/◌, ◌%◌, ◌^◌, ◌<◌, ◌≤◌, min, true, List, [], ◌∷◌, slice_index, Some, pos, bit_and, refl, sym, ap, ap₂, ◌∙◌, arith, mod-eq_of_lt, pow_mono, pow-add, All}
+use Rattle.std.proofs.Common.{◌≡◌, ℕ, ◌+◌, ◌-◌, ◌*◌, ◌/◌, ◌%◌, ◌^◌, ◌<◌, ◌≤◌, min, true, List, [], ◌∷◌, slice_index, Some, refl, sym, ap, ap₂, ◌∙◌, arith, mod-eq_of_lt, pow_mono, pow-add, All}
 use Rattle.bit_words.specs.declared.value.Kind.{Kind}
 use Rattle.bit_words.specs.declared.value.Kind.TheVariants.{Unsigned, Signed}
 use Rattle.bit_words.specs.declared.value.Value.{Value}
@@ -20,7 +20,7 @@ use Rattle.code_draft.specs.Drafts.{Stands, written_in}
 use Rattle.code_draft.proofs.Cuts.{masked}
 use Rattle.code_words.specs.Working.{working}
 use Rattle.code_words.specs.Ways.{Cut, Given, Rests, Operates, Follow, Refits, Shifts, row_value, fit_of_one}
-use Rattle.code_words.proofs.Laws.{HasWord, plain, not_law, signed_word}
+use Rattle.code_words.proofs.Laws.{plain, not_law, signed_word}
 use Rattle.code_words.proofs.There.{bits_at, width_at, few_at, result_width, written_low, first_there, one_computes}
 
 pub half_double : (w : ℕ) → 0 < w → 2 * 2 ^ (w - 1) ≡ 2 ^ w

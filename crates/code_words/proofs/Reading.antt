@@ -1,5 +1,5 @@
 -- What ways of making words read: they work on every draft where the operands stand, and so also on one that has written nothing else.
-use Rattle.std.proofs.Common.{◌≡◌, ◌==◌, ℕ, zero, suc, ◌+◌, ◌<◌, ◌≤◌, Bool, true, false, ◌||◌, nat_lt, if◌then◌else◌, List, [], ◌∷◌, ◌++◌, map, length, get_or, All, refl, sym, subst, ap, ◌∙◌, arith, ⊎_elim, ◌⊎◌, inl, inr, true≢false, append_assoc}
+use Rattle.std.proofs.Common.{◌≡◌, ◌==◌, ℕ, zero, suc, ◌+◌, ◌<◌, ◌≤◌, true, false, nat_lt, if◌then◌else◌, List, [], ◌∷◌, map, length, get_or, All, sym, subst, ap, ◌∙◌, arith, ⊎_elim, ◌⊎◌, inl, inr, true≢false, append_assoc}
 use Rattle.std.proofs.lemmas.Bool.{le-ltb}
 use Rattle.std.proofs.lemmas.Grind.{common_steps}
 use Rattle.std.proofs.lemmas.List.Elements.{All-cons, All-nil}
@@ -7,15 +7,13 @@ use Rattle.bit_words.specs.declared.value.Kind.{Kind}
 use Rattle.net_meaning.specs.Shapes.{Shape}
 use Rattle.flat_code.specs.declared.instr.Op.TheVariants as op
 use Rattle.flat_code.specs.declared.instr.Instr.{Instr}
-use Rattle.flat_code.specs.declared.instr.Port.{Port}
 use Rattle.flat_code.specs.declared.instr.Spot.{Spot}
-use Rattle.flat_code.specs.declared.instr.Wide.{Wide}
 use Rattle.flat_code.specs.Fine.{Known, AreKnown, IsSpot, among, more, nothing, written, reads_of, writes_of, slots_of, spot_slots}
 use Rattle.flat_code.proofs.Frames.{spot_more}
 use Rattle.code_draft.specs.declared.draft.Draft.{Draft}
 use Rattle.code_draft.specs.Drafts.{Stands, written_in, computes, with_instr, with_slots, at_slot}
 use Rattle.code_draft.specs.Segments.{Step}
-use Rattle.code_draft.proofs.Growing.{one_among, among_first, among_second}
+use Rattle.code_draft.proofs.Growing.{one_among, among_first}
 use Rattle.code_draft.proofs.Segmenting.{either, left_so, right_so, among_left, among_right, none_among, head_all, tail_all}
 use Rattle.code_draft.proofs.Joining.{goes_same, step_not, small_step}
 use Rattle.code_draft.proofs.Stepping.{spot_few, computed_reads, computed_writes, computed_step}

@@ -1,9 +1,8 @@
 -- What stands at spots whose words are cut.
-use Rattle.std.proofs.Common.{◌≡◌, ℕ, zero, suc, ◌+◌, ◌*◌, ◌%◌, ◌^◌, ◌<◌, ◌≤◌, min, Bool, true, false, nat_lt, if◌then◌else◌, List, [], ◌∷◌, length, slice_index, get_or, Option, Some, None, pos, ap₂, refl, sym, subst, ap, ◌∙◌, arith, mod-eq_of_lt, All}
+use Rattle.std.proofs.Common.{◌≡◌, ℕ, zero, suc, ◌+◌, ◌*◌, ◌%◌, ◌^◌, ◌<◌, ◌≤◌, Bool, true, false, nat_lt, if◌then◌else◌, List, [], ◌∷◌, length, slice_index, get_or, Option, Some, None, ap₂, sym, subst, ap, ◌∙◌, arith, mod-eq_of_lt, All}
 use Rattle.std.specs.Prelude.{IfSome}
 use Rattle.std.proofs.lemmas.Bool.{le-ltb}
 use Rattle.bit_words.specs.declared.value.Kind.{Kind}
-use Rattle.bit_words.specs.declared.value.Value.{Value}
 use Rattle.prim_ops.specs.declared.operation.PrimOp.{PrimOp}
 use Rattle.net_meaning.specs.Shapes.{Shape, shaped, shape_of_row}
 use Rattle.net_meaning.proofs.Shaping.{operation_shape}
@@ -13,7 +12,7 @@ use Rattle.flat_code.specs.declared.instr.Port.{Port}
 use Rattle.flat_code.specs.declared.instr.Spot.{Spot}
 use Rattle.flat_code.specs.declared.instr.Wide.{Wide}
 use Rattle.flat_code.specs.Meaning.{spot_value, spot_values, spot_high}
-use Rattle.flat_code.specs.Fine.{spot_shapes, Known, AreKnown, reads_on}
+use Rattle.flat_code.specs.Fine.{spot_shapes, AreKnown, reads_on}
 use Rattle.flat_code.proofs.Evaluating.{spots_fine}
 use Rattle.code_draft.specs.declared.draft.Draft.{Draft}
 use Rattle.code_draft.specs.Drafts.{Stands, written_in, computes, Computes}

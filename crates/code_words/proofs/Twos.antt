@@ -2,7 +2,6 @@
 use Rattle.std.proofs.Common.{◌≡◌, ◌==◌, ℕ, ◌+◌, ◌-◌, ◌*◌, ◌%◌, ◌^◌, ◌<◌, ◌≤◌, min, max, true, false, Bool, nat_lt, if◌then◌else◌, List, [], ◌∷◌, slice_index, Some, bit_and, bit_or, bit_xor, refl, sym, ap, ap₂, ◌∙◌, arith, All}
 use Rattle.std.proofs.lemmas.List.Elements.{All-cons}
 use Rattle.bit_words.specs.declared.value.Kind.{Kind}
-use Rattle.bit_words.specs.declared.value.Kind.TheVariants.{Unsigned}
 use Rattle.bit_words.specs.declared.value.Value.{Value}
 use Rattle.prim_ops.specs.declared.operation.PrimOp.{PrimOp}
 use Rattle.prim_ops.specs.declared.operation.PrimOp.TheVariants as prim
@@ -13,11 +12,11 @@ use Rattle.flat_code.specs.declared.instr.Op.{Op}
 use Rattle.flat_code.specs.declared.instr.Op.TheVariants as op
 use Rattle.flat_code.specs.declared.instr.Instr.{Instr}
 use Rattle.flat_code.specs.declared.instr.Spot.{Spot}
-use Rattle.flat_code.specs.Meaning.{spot_value, spot_values, word_on, minus}
+use Rattle.flat_code.specs.Meaning.{spot_value, word_on, minus}
 use Rattle.flat_code.specs.Fine.{spot_shapes}
 use Rattle.flat_code.proofs.Evaluating.{holds_unsigned}
 use Rattle.code_draft.specs.declared.draft.Draft.{Draft}
-use Rattle.code_draft.specs.Drafts.{Stands, computes, written_in, Computes}
+use Rattle.code_draft.specs.Drafts.{Stands, computes, written_in}
 use Rattle.code_draft.proofs.Growing.{two_known}
 use Rattle.code_draft.proofs.Cuts.{masked}
 use Rattle.code_words.specs.Working.{working}

@@ -1,8 +1,8 @@
-use Rattle.std.proofs.Common.{rules, ◌≡◌, Some, IsSome, true, List, [], ◌∷◌, ◌++◌, ◌+◌, take, option_map, refl, sym, subst, ap, ap₂, ◌∙◌}
+use Rattle.std.proofs.Common.{rules, ◌≡◌, Some, IsSome, true, [], ◌∷◌, ◌++◌, ◌+◌, take, option_map, refl, sym, subst, ap, ap₂, ◌∙◌}
 use Rattle.std.proofs.lemmas.List.{take_more}
-use Rattle.ground_net.specs.declared.ground.Ground.{Ground, the_lemmas}
-use Rattle.ground_net.specs.declared.ground.Ground.TheVariants.{Const, Leaf, Op, Mux, Select, Load, Fit}
-use Rattle.net_meaning.specs.Shapes.{Shape, shaped, shape, shape_of_row, shape_of_choice, shape_of_items, shape_of_load, shape_of_fit, is_index, all_of}
+use Rattle.ground_net.specs.declared.ground.Ground.{the_lemmas}
+use Rattle.ground_net.specs.declared.ground.Ground.TheVariants.{Op, Mux, Select, Load, Fit}
+use Rattle.net_meaning.specs.Shapes.{Shape, shaped, shape, shape_of_items, shape_of_load, is_index, all_of}
 use Rattle.flat_code.specs.Meaning.{spot_shape}
 use Rattle.flat_code.specs.Fine.{spot_shapes, shape_of_picked}
 use Rattle.code_emit.specs.Emits.{sources_table, AreShaped, EmitsAll, elements_shape, shapes_in}

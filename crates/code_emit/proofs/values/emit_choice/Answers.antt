@@ -1,9 +1,8 @@
-use Rattle.std.proofs.Common.{◌≡◌, List, All, Some, None, refl, sym, subst, ap, ◌∙◌}
+use Rattle.std.proofs.Common.{◌≡◌, All, Some, refl, sym, subst, ap, ◌∙◌}
 use Rattle.std.specs.Prelude.{Ok}
 use Rattle.ground_net.specs.Grounds.{chosen}
 use Rattle.net_meaning.specs.Shapes.{Shape, shaped, shape_of_choice}
 use Rattle.flat_code.specs.declared.instr.Form.TheVariants as form
-use Rattle.flat_code.specs.Meaning.{spot_shape}
 use Rattle.flat_code.specs.Fine.{spot_shapes}
 use Rattle.code_draft.specs.Drafts.{IsDraft, Stands, Makes}
 use Rattle.code_words.specs.Ways.{IsMade}

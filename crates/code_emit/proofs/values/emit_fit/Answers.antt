@@ -1,4 +1,4 @@
-use Rattle.std.proofs.Common.{◌≡◌, Some, None, refl, sym, ap, ap₂, ◌∙◌}
+use Rattle.std.proofs.Common.{refl, sym, ap, ap₂, ◌∙◌}
 use Rattle.std.specs.Prelude.{Ok}
 use Rattle.bit_words.specs.Values.{integer_of}
 use Rattle.cycle_values.specs.Values.{fitted, lone}

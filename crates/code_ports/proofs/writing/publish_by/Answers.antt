@@ -1,6 +1,6 @@
-use Rattle.std.proofs.Common.{◌≡◌, ◌∙◌, sym, subst, ap}
+use Rattle.std.proofs.Common.{[], ◌≡◌, ◌∙◌, sym, subst, ap}
 use Rattle.code_draft.specs.Drafts.{with_instr}
-use Rattle.code_pieces.specs.Pieces.{OnlyReads}
+use Rattle.code_draft.specs.Segments.{Segment}
 use Rattle.code_ports.specs.Writing.{PublishesBy, port_slots}
 use Rattle.code_ports.proofs.Written.{on_ok_so, writes_by}
 use Rattle.code_ports.proofs.Readers.{reads_by}
@@ -14,10 +14,10 @@ returns-clause-publishes c =
     on_ok_so (c.add_instr.new.draft ≡ with_instr c.add_port.new.draft i) (PublishesBy d c.add_instr.new.draft p) c.add_instr.result c.add_instr.ensures (λ e.
     subst (λ x. PublishesBy d x p) (sym (e ∙ ap (λ x. with_instr x i) c.in_ok-number.ensures.draft)) (writes_by d p i c.publication.ensures.op (c.publication.ensures.first ∙ c.in_ok-number.ensures.number)))
 
-pub returns-clause-reads : goal.returns-clause-reads
-returns-clause-reads c =
+pub returns-clause-segment : goal.returns-clause-segment
+returns-clause-segment c =
     let d = c.args.draft.now in
     let p = c.args.port in
     let i = c.publication.result in
-    on_ok_so (c.add_instr.new.draft ≡ with_instr c.add_port.new.draft i) (OnlyReads d c.add_instr.new.draft (port_slots p)) c.add_instr.result c.add_instr.ensures (λ e.
-    subst (λ x. OnlyReads d x (port_slots p)) (sym (e ∙ ap (λ x. with_instr x i) c.in_ok-number.ensures.draft)) (reads_by d p i c.publication.ensures.op (c.publication.ensures.first ∙ c.in_ok-number.ensures.number)))
+    on_ok_so (c.add_instr.new.draft ≡ with_instr c.add_port.new.draft i) (Segment d c.add_instr.new.draft (port_slots p) [] 0) c.add_instr.result c.add_instr.ensures (λ e.
+    subst (λ x. Segment d x (port_slots p) [] 0) (sym (e ∙ ap (λ x. with_instr x i) c.in_ok-number.ensures.draft)) (reads_by d p i c.publication.ensures.op (c.publication.ensures.first ∙ c.in_ok-number.ensures.number)))

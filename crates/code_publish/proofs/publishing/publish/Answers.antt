@@ -1,10 +1,10 @@
-use Rattle.std.proofs.Common.{rules, ◌≡◌, ◌+◌, ◌<◌, ◌≤◌, ◌∙◌, sym, subst, ap, arith}
-use Rattle.flat_code.specs.Fine.{spot_slots}
+use Rattle.std.proofs.Common.{[], rules, ◌≡◌, ◌+◌, ◌<◌, ◌≤◌, ◌∙◌, sym, subst, ap, arith}
 use Rattle.code_draft.specs.Drafts.{with_instr}
-use Rattle.code_pieces.specs.Pieces.{OnlyReads}
 use Rattle.code_publish.specs.Publishing.{Publishes}
 use Rattle.code_publish.proofs.Loud.{on_ok_so, tells_one, tells_two}
-use Rattle.code_publish.proofs.Readers.{reads_one, reads_two}
+use Rattle.flat_code.specs.Fine.{spot_slots}
+use Rattle.code_draft.specs.Segments.{Segment}
+use Rattle.code_publish.proofs.Reading.{one_published, two_published}
 use Rattle.code_publish.proofs.publishing.publish.Goals as goal
 
 pub returns-then-spot-le64-clause-publishes : goal.returns-then-spot-le64-clause-publishes
@@ -28,21 +28,20 @@ returns-clause-publishes c =
     subst (λ x. Publishes d x c.args.word s) (sym (e ∙ ap (λ x. with_instr x high.result) c.in_ok-add_instr.ensures))
     (tells_two d s low.result high.result c.args.word many low.ensures.op high.ensures.op low.ensures.first high.ensures.first low.ensures.second (high.ensures.second ∙ next)))
 
-pub returns-then-spot-le64-clause-reads : goal.returns-then-spot-le64-clause-reads
-returns-then-spot-le64-clause-reads c =
+pub returns-then-spot-le64-clause-segment : goal.returns-then-spot-le64-clause-segment
+returns-then-spot-le64-clause-segment c =
     let d = c.args.draft.now in
     let s = c.args.spot in
     let low = c.publication-low in
-    on_ok_so (c.add_instr.new.draft ≡ with_instr d low.result) (OnlyReads d c.add_instr.new.draft (spot_slots s)) c.add_instr.result c.add_instr.ensures (λ e.
-    subst (λ x. OnlyReads d x (spot_slots s)) (sym e) (reads_one d s low.result low.ensures.op low.ensures.first))
+    on_ok_so (c.add_instr.new.draft ≡ with_instr d low.result) (Segment d c.add_instr.new.draft (spot_slots s) [] 0) c.add_instr.result c.add_instr.ensures (λ e.
+    one_published d c.add_instr.new.draft s low.result e low.ensures.op low.ensures.first)
 
-pub returns-clause-reads : goal.returns-clause-reads
-returns-clause-reads c =
+pub returns-clause-segment : goal.returns-clause-segment
+returns-clause-segment c =
     let d = c.args.draft.now in
     let s = c.args.spot in
     let low = c.publication-low in
     let high = c.publication-high in
-    let many : 64 < s.width = omega (arith, c.if-spot-le64.false) in
-    on_ok_so (c.add_instr-3.new.draft ≡ with_instr c.add_instr-2.new.draft high.result) (OnlyReads d c.add_instr-3.new.draft (spot_slots s)) c.add_instr-3.result c.add_instr-3.ensures (λ e.
-    subst (λ x. OnlyReads d x (spot_slots s)) (sym (e ∙ ap (λ x. with_instr x high.result) c.in_ok-add_instr.ensures))
-    (reads_two d s low.result high.result many low.ensures.op high.ensures.op low.ensures.first high.ensures.first))
+    on_ok_so (c.add_instr-3.new.draft ≡ with_instr c.add_instr-2.new.draft high.result) (Segment d c.add_instr-3.new.draft (spot_slots s) [] 0) c.add_instr-3.result c.add_instr-3.ensures (λ e.
+    two_published d c.add_instr-3.new.draft s low.result high.result (omega (arith, c.if-spot-le64.false)) (e ∙ ap (λ x. with_instr x high.result) c.in_ok-add_instr.ensures)
+    low.ensures.op high.ensures.op low.ensures.first high.ensures.first)

@@ -2,6 +2,8 @@ use Rattle.std.proofs.Common.{◌≡◌, Some, [], ◌∷◌, get_or, sym, subst
 use Rattle.code_emit.specs.Emits.{sources_table}
 use Rattle.code_sequence.specs.Sequences.{driver_in, Turned, Assigns, StandElsewhere}
 use Rattle.code_sequence.proofs.Turns.{turned, assigned, elsewhere, driver_is}
+use Rattle.code_sequence.specs.Segmented.{AreSegments}
+use Rattle.code_sequence.proofs.Segmenting.{one_segment}
 use Rattle.code_sequence.proofs.assigning.assign.Goals as goal
 
 pub returns-clause-table : goal.returns-clause-table
@@ -30,3 +32,15 @@ returns-clause-others c =
     let S = c.args.sources.now in
     let x = c.args.leaf in
     subst (λ ls. StandElsewhere (x ∷ []) S (record { leaves = ls; memories = S.memories })) (sym c.set.ensures) (elsewhere x S c.in_ok-spot.spot)
+
+pub returns-clause-segments : goal.returns-clause-segments
+returns-clause-segments c =
+    let S = c.args.sources.now in
+    let drivers = c.args.drivers.now in
+    let x = c.args.leaf in
+    let old = c.args.draft.now in
+    let new = c.emit.new.draft in
+    let got : get_or drivers x c.in-Some-Some.field-0.now ≡ Some c.in-Some-Some.driver = sym c.in-Some-Some.ensures.lookup.1 ∙ c.in-Some-Some.field-0-is in
+    let at : driver_in drivers x ≡ Some c.in-Some-Some.driver = driver_is drivers x c.in-Some-Some.field-0.now c.in-Some-Some.driver (sources_table S) got c.requires.in_turn in
+    subst (λ ls. AreSegments drivers (x ∷ []) S old (record { leaves = ls; memories = S.memories }) new) (sym c.set.ensures)
+    (one_segment drivers x S old new c.in_ok-spot.spot c.in-Some-Some.driver c.requires.within at c.in_ok-spot.ensures.spans)

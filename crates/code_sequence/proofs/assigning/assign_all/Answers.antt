@@ -3,6 +3,8 @@ use Rattle.std.proofs.lemmas.List.{take_more, take_all, drop_more, drop_all}
 use Rattle.code_emit.specs.Emits.{sources_table}
 use Rattle.code_sequence.specs.Sequences.{InTurn, Assigns, StandElsewhere, turned_table}
 use Rattle.code_sequence.proofs.Turns.{in_turn_next, next_table, one_more_assigned, one_more_elsewhere}
+use Rattle.code_sequence.specs.Segmented.{AreSegments}
+use Rattle.code_sequence.proofs.Segmenting.{one_more_segment}
 use Rattle.code_sequence.proofs.assigning.assign_all.Goals as goal
 
 pub loop-leaf-preserved : goal.loop-leaf-preserved
@@ -21,6 +23,8 @@ loop-leaf-preserved c =
       table = next_table S T drivers x (drop (k + 1) xs) turn c.in_ok-assign.ensures.table ∙ (ap (turned_table (sources_table S) drivers) (sym (drop_more xs k 0 lt)) ∙ c.loop-leaf.invariant.table);
       others = subst (λ ys. StandElsewhere ys c.args.sources.now T) (sym (take_more xs k 0 lt))
           (one_more_elsewhere (take k xs) x c.args.sources.now S T c.loop-leaf.invariant.others c.in_ok-assign.ensures.others);
+      segments = subst (λ ys. AreSegments drivers ys c.args.sources.now c.args.draft.now T c.assign.new.draft) (sym (take_more xs k 0 lt))
+          (one_more_segment drivers (take k xs) x c.args.sources.now S T c.args.draft.now c.loop-leaf.draft c.assign.new.draft c.loop-leaf.invariant.segments c.in_ok-assign.ensures.segments);
       assigns = subst (λ ys. Assigns drivers ys c.args.sources.now c.args.draft.now T c.assign.new.draft) (sym (take_more xs k 0 lt))
           (one_more_assigned drivers (take k xs) x c.args.sources.now S T c.args.draft.now c.loop-leaf.draft c.assign.new.draft c.loop-leaf.invariant.assigns c.in_ok-assign.ensures.assigns);
     }
@@ -33,3 +37,8 @@ returns-clause-table c =
 pub returns-clause-others : goal.returns-clause-others
 returns-clause-others c =
     subst (λ ys. StandElsewhere ys c.args.sources.now c.loop-leaf.sources) (take_all c.loop-leaf.leaf-index c.args.sequence.now c.loop-leaf-test.false) c.loop-leaf.invariant.others
+
+pub returns-clause-segments : goal.returns-clause-segments
+returns-clause-segments c =
+    subst (λ ys. AreSegments c.args.drivers.now ys c.args.sources.now c.args.draft.now c.loop-leaf.sources c.loop-leaf.draft)
+    (take_all c.loop-leaf.leaf-index c.args.sequence.now c.loop-leaf-test.false) c.loop-leaf.invariant.segments

@@ -1,6 +1,7 @@
 use Rattle.std.proofs.Common.{◌≡◌, length, take, drop}
 use Rattle.code_emit.specs.Emits.{sources_table}
 use Rattle.code_sequence.specs.Sequences.{InTurn, Assigns, StandElsewhere, turned_table}
+use Rattle.code_sequence.specs.Segmented.{AreSegments}
 use Rattle.code_sequence.proofs.assigning.assign_all.Given as goal
 
 abbrev pub invariant-loop-leaf : goal.invariant-loop-leaf
@@ -10,4 +11,5 @@ invariant-loop-leaf l = record {
   table : turned_table (sources_table l.sources) l.drivers (drop l.leaf-index l.sequence) ≡ turned_table (sources_table l.fn.sources) l.drivers l.sequence;
   others : StandElsewhere (take l.leaf-index l.sequence) l.fn.sources l.sources;
   assigns : Assigns l.drivers (take l.leaf-index l.sequence) l.fn.sources l.fn.draft l.sources l.draft;
+  segments : AreSegments l.drivers (take l.leaf-index l.sequence) l.fn.sources l.fn.draft l.sources l.draft;
 }

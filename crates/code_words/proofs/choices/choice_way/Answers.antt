@@ -1,4 +1,4 @@
-use Rattle.std.proofs.Common.{[], ◌∷◌, ◌≤◌, sym, subst, arith}
+use Rattle.std.proofs.Common.{[], ◌∷◌, sym, subst, arith}
 use Rattle.ground_net.specs.Grounds.{chosen}
 use Rattle.code_words.specs.Ways.{Operates, IsPlain}
 use Rattle.code_words.proofs.Twos.{choice_operates}

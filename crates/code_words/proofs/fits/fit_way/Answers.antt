@@ -1,4 +1,4 @@
-use Rattle.std.proofs.Common.{◌≡◌, [], ◌∷◌, sym, subst, arith}
+use Rattle.std.proofs.Common.{[], ◌∷◌, sym, subst, arith}
 use Rattle.code_words.specs.Ways.{Operates}
 use Rattle.code_words.proofs.Ones.{keep_operates, same_rests, plain_rests}
 use Rattle.code_words.proofs.fits.fit_way.Goals as goal

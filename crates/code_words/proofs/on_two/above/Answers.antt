@@ -1,4 +1,4 @@
-use Rattle.std.proofs.Common.{◌<◌, arith}
+use Rattle.std.proofs.Common.{arith}
 use Rattle.code_words.proofs.Twos.{cat_operates}
 use Rattle.code_words.proofs.on_two.above.Goals as goal
 

@@ -1,7 +1,7 @@
 use Rattle.std.proofs.Common.{sym, subst, ap, ◌∙◌}
 use Rattle.code_draft.specs.Drafts.{Computes, Works}
 use Rattle.code_words.specs.Ways.{IsWay, Operates, Follow}
-use Rattle.code_words.proofs.Making.{rests_makes, word_makes, twice_makes}
+use Rattle.code_words.proofs.Making.{word_makes, twice_makes}
 use Rattle.code_draft.specs.Drafts.{with_instr, with_slots, at_slot}
 use Rattle.code_words.proofs.Reading.{rests_step, word_step, twice_step}
 use Rattle.code_words.proofs.ways.made.Goals as goal
