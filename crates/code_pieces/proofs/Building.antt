@@ -27,10 +27,10 @@ pub follow_on : (ps qs : List Piece) (from : ℕ) → Follow from ps → Follow 
 follow_on [] qs from f g = g
 follow_on (p ∷ ps) qs from f g = (f.0, f.1, follow_on ps qs p.last f.2 g)
 
-goes_not : (d : Draft) → GoesBy d d []
+pub goes_not : (d : Draft) → GoesBy d d []
 goes_not d = record { is = sym (append-nil d.instrs); tables = goes_same d; follow = tt; ends = refl }
 
-goes_further : (a b c : Draft) (ps qs : List Piece) → GoesBy a b ps → GoesBy b c qs → GoesBy a c (ps ++ qs)
+pub goes_further : (a b c : Draft) (ps qs : List Piece) → GoesBy a b ps → GoesBy b c qs → GoesBy a c (ps ++ qs)
 goes_further a b c ps qs f g = record {
   is = g.is ∙ (ap (λ is. is ++ instrs_of qs) f.is ∙ (append_assoc a.instrs (instrs_of ps) (instrs_of qs) ∙ ap (λ is. a.instrs ++ is) (sym (flat_map-append (λ (p : Piece). p.instrs) ps qs))));
   tables = goes_then a b c.ports c.wides f.tables g.tables;
@@ -40,10 +40,10 @@ goes_further a b c ps qs f g = record {
 
 -- A segment as a piece
 
-abbrev piece_of : (a b : Draft) (outer kept : List ℕ) (n : ℕ) → Segment a b outer kept n → Piece
+abbrev pub piece_of : (a b : Draft) (outer kept : List ℕ) (n : ℕ) → Segment a b outer kept n → Piece
 piece_of a b outer kept n s = record { instrs = s.instrs; first = a.slots; last = b.slots }
 
-goes_one : (a b : Draft) (outer kept : List ℕ) (n : ℕ) (s : Segment a b outer kept n) → GoesBy a b (piece_of a b outer kept n s ∷ [])
+pub goes_one : (a b : Draft) (outer kept : List ℕ) (n : ℕ) (s : Segment a b outer kept n) → GoesBy a b (piece_of a b outer kept n s ∷ [])
 goes_one a b outer kept n s = record {
   is = s.is ∙ ap (λ is. a.instrs ++ is) (sym (append-nil s.instrs));
   tables = s.tables;

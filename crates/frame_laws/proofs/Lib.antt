@@ -5,3 +5,4 @@ pub mod Greatest
 pub mod Frames
 pub mod Building
 pub mod Driving
+pub mod Turning

@@ -1,6 +1,6 @@
 -- The code of a part as pieces, each with slots of its own: one for each assignment of the part, in their order, and then those of its
 -- sinks.
-use Rattle.std.specs.Prelude.{◌≡◌, ℕ, ◌≤◌, true, List, ◌++◌, length, take, slice_get, Some, Contains}
+use Rattle.std.specs.Prelude.{◌≡◌, ℕ, ◌≤◌, true, List, [], ◌∷◌, ◌++◌, length, take, slice_get, Some, Contains}
 use Rattle.ground_net.specs.declared.net.Net.{Net}
 use Rattle.ground_net.specs.declared.net.CutPart.{CutPart}
 use Rattle.ground_net.specs.Reads.{direct_reads}
@@ -8,6 +8,11 @@ use Rattle.flat_code.specs.declared.code.Code.{Code}
 use Rattle.flat_code.specs.Fine.{among, slots_of}
 use Rattle.code_pieces.specs.Pieces.{Piece, Follow, instrs_of, StandsIn, IsPiece, IsAside}
 use Rattle.frame_laws.specs.Frames.{sinks_read, assignment_nodes, sinks_nodes}
+
+-- no leaf stands twice
+abbrev pub Once : List ℕ → Type 0
+Once [] = Unit {0}
+Once (x ∷ xs) = (Contains xs x → ⊥) × Once xs
 
 -- The code of an assignment evaluates its driver, and keeps the value.
 abbrev pub IsAssigning : Net → Code → (ℕ → List ℕ) → List ℕ → ℕ → Piece → Type 0

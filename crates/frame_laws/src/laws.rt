@@ -1,6 +1,6 @@
 //! Laws of frames, and what the definitions say of small nets. The functions do nothing.
 
-ghost use Rattle.std.specs.Prelude.{◌≡◌, ◌⊎◌, ℕ, ◌≤◌, max, true, false, length, List, [], ◌∷◌, Some, None, slice_get, Contains};
+ghost use Rattle.std.specs.Prelude.{◌≡◌, ◌⊎◌, ℕ, ◌≤◌, max, true, false, length, List, [], ◌∷◌, Some, None, slice_get, Option, Contains, ◌<◌};
 ghost use Rattle.ground_net.specs.declared.ground.Ground.{Ground as TheGround};
 ghost use Rattle.ground_net.specs.declared.net.Net.{Net as TheNet};
 ghost use Rattle.ground_net.specs.declared.net.NetRegister.{NetRegister as TheRegister};
@@ -13,12 +13,18 @@ ghost use Rattle.flat_code.specs.declared.code.Code.{Code as TheCode};
 ghost use Rattle.flat_code.specs.Codes.{frame_length};
 ghost use Rattle.flat_code.specs.Fine.{among, slots_of};
 ghost use Rattle.code_draft.specs.declared.draft.Draft.{Draft as TheDraft};
+ghost use Rattle.code_emit.specs.declared.sources.Sources.{Sources as TheSources};
+ghost use Rattle.code_emit.specs.Counts.{tips};
+ghost use Rattle.code_emit.specs.Spans.{leaf_slots};
+ghost use Rattle.code_sequence.specs.Sequences.{driver_in};
+ghost use Rattle.code_sequence.specs.Segmented.{InSegments};
+ghost use Rattle.ground_net.specs.Grounds.{mentions};
 ghost use Rattle.code_pieces.specs.Pieces.{StandsIn, AssignsPieces, AddsPieces};
 ghost use Rattle.code_place.specs.Live.{most_live_of};
 ghost use Rattle.code_place.specs.Placed.{HasFew};
 ghost use Rattle.frame_laws.specs.Frames.{live_behind, most_assignments, most_nodes, frame_bound, sink_nodes, memory_nodes, sinks_read, sinks_nodes, assignment_nodes};
 ghost use Rattle.frame_laws.specs.Examples.{chain, whole_chain, gathering, whole_gathering, gathering_alone, resetting, memory, port, writes, reads};
-ghost use Rattle.frame_laws.specs.Pieces.{InPieces};
+ghost use Rattle.frame_laws.specs.Pieces.{Once, InPieces};
 
 /// Of a code of a part in pieces no more slots are live at once than two for each assignment that is live at once and two for each
 /// node of the largest driver. So the frame of the placed code is no longer.
@@ -32,6 +38,12 @@ pub fn frames_are_few()
 /// values of the assignments stand, and it shows such slots.
 pub fn drafts_are_pieces()
     ensures { (net : TheNet) (watch : List ℕ) (part : ThePart) (code : TheCode) (spots : ℕ → List ℕ) (start mid last : TheDraft) → ((x : ℕ) → length (spots x) ≤ 2) → start.instrs ≡ [] → start.slots ≡ 0 → AssignsPieces spots (direct_reads net) (assignment_nodes net) part.assignments start mid → AddsPieces spots part.assignments (sinks_read net watch part) (sinks_nodes net watch part) mid last → code.instrs ≡ last.instrs → code.ports ≡ last.ports → code.wides ≡ last.wides → ((k : ℕ) → among (slots_of code.shown) k ≡ true → StandsIn spots part.assignments (sinks_read net watch part) k) → InPieces net watch part code }
+{}
+
+/// Assignments that have segments in turn have pieces in turn, where each stands once, no leaf is found in the frame before, and each
+/// reads what its driver mentions and has as many nodes as its driver has tips.
+pub fn turns_are_pieces()
+    ensures { (drivers : List (Option TheGround)) (reads : ℕ → List ℕ) (counts : ℕ → ℕ) (leaves : List ℕ) (S T : TheSources) (old new : TheDraft) → ((x : ℕ) (g : TheGround) → driver_in drivers x ≡ Some g → ((y : ℕ) → Contains (mentions g) y → Contains (reads x) y) × (tips g ≤ counts x)) → InSegments drivers leaves S old T new → ((y k : ℕ) → among (leaf_slots S y) k ≡ true → ⊥) → Once leaves → ((y : ℕ) → Contains leaves y → y < length S.leaves) → AssignsPieces (leaf_slots T) reads counts leaves old new }
 {}
 
 /// A part with an assignment that has a driver, or with a register, has a driver with nodes.
