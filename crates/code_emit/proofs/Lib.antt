@@ -4,3 +4,4 @@ pub mod Emitting
 pub mod Arms
 pub mod Counting
 pub mod Spanning
+pub mod Leaves

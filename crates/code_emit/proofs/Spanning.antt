@@ -16,13 +16,13 @@ use Rattle.flat_code.specs.Fine.{among, spot_slots, slots_of}
 use Rattle.code_draft.specs.declared.draft.Draft.{Draft}
 use Rattle.code_draft.specs.Segments.{Segment, Step}
 use Rattle.code_draft.proofs.Segmenting.{among_left, among_either, none_among}
-use Rattle.code_draft.proofs.Joining.{AreBefore, step_then, both_then, segment_weaker, segment_not}
+use Rattle.code_draft.proofs.Joining.{AreBefore, step_then, both_then, segment_weaker, segment_not, segment_then}
 use Rattle.code_draft.proofs.Stepping.{spot_few}
 use Rattle.code_emit.specs.declared.sources.Source.{Source}
 use Rattle.code_emit.specs.declared.sources.Sources.{Sources}
 use Rattle.code_emit.specs.Emits.{leaf_source}
 use Rattle.code_emit.specs.Counts.{tips}
-use Rattle.code_emit.specs.Spans.{source_slots, found_slots, leaf_slots, ground_slots, AreFoundBefore, Spans, SpansAll}
+use Rattle.code_emit.specs.Spans.{source_slots, found_slots, leaf_slots, ground_slots, AreFoundBefore, Spans, SpansAll, Evaluates, EvaluatesAll}
 use Rattle.code_emit.proofs.Counting.{tips_some, tips-Op, tips-Mux, tips-Select, tips-Load, tips-Fit}
 
 -- Slots of lists of leaves and expressions
@@ -62,7 +62,7 @@ both_span S gs hs a b c ss ts front back before =
     (subst (λ xs. Segment a c (O ++ P) xs (2 * sum_by tips (gs ++ hs))) (sym (flat_map-append spot_slots ss ts))
     (subst (Segment a c (O ++ P) (slots_of ss ++ slots_of ts)) count all))
 
-single_spans : (S : Sources) (g : Ground) (a b : Draft) (s : Spot) → Spans S g a b s → SpansAll S (g ∷ []) a b (s ∷ [])
+pub single_spans : (S : Sources) (g : Ground) (a b : Draft) (s : Spot) → Spans S g a b s → SpansAll S (g ∷ []) a b (s ∷ [])
 single_spans S g a b s h before =
     let f = h before in
     let few = f.few in
@@ -135,3 +135,42 @@ select_spans S g is gs a b c ss s e all last =
 -- a step where a try before it left the code as it was
 pub step_after : (old d new : Draft) (outer kept : List ℕ) → d ≡ old → Step d new outer kept 2 → Step old new outer kept 2
 step_after old d new outer kept same st = subst (λ x. Step x new outer kept 2) same st
+
+-- Groups of expressions that are evaluated and not kept
+
+-- code, and other code that reads nothing but what is kept of it
+pub told_segment : (a b c : Draft) (O K : List ℕ) (m : ℕ) → Segment a b O K m → Segment b c K [] 0 → Segment a c O [] m
+told_segment a b c O K m f g =
+    let few = f.few in
+    segment_then a b c O K K [] O [] m 0 m f g (record {
+      lower = f.slots;
+      upper = g.slots;
+      first_outer = λ k lt e. e;
+      second_outer = λ k lt e. ⊎_elim (λ own. let low = own.0 in absurd (omega (arith, low, lt))) (λ out. out) (f.there k e);
+      inside = λ k low up e. e;
+      kept_first = λ k low up e. none_among k e;
+      kept_second = λ k low up e. none_among k e;
+    }) (λ k e. none_among k e) (omega arith) (omega (arith, few)) (omega arith)
+
+pub group_told : (S : Sources) (gs : List Ground) (a b c : Draft) (ss : List Spot) → SpansAll S gs a b ss → Segment b c (slots_of ss) [] 0 → EvaluatesAll S (gs ∷ []) a c
+group_told S gs a b c ss all told before = (c, told_segment a b c (flat_map (ground_slots S) gs) (slots_of ss) (2 * sum_by tips gs) (all before) told, refl)
+
+pub one_told : (S : Sources) (g : Ground) (a b c : Draft) (s : Spot) → Spans S g a b s → Segment b c (spot_slots s) [] 0 → EvaluatesAll S ((g ∷ []) ∷ []) a c
+one_told S g a b c s spans told = group_told S (g ∷ []) a b c (s ∷ []) (single_spans S g a b s spans)
+    (segment_weaker b c (spot_slots s) [] (spot_slots s ++ []) [] 0 0 told (λ k e. among_left (spot_slots s) [] k e) (λ k e. e) (omega arith) (omega arith))
+
+pub evaluates_then : (S : Sources) (gs hs : List (List Ground)) (a b c : Draft) → Evaluates S gs a b → Evaluates S hs b c → Evaluates S (gs ++ hs) a c
+evaluates_then S [] hs a b c f g = subst (λ d. Evaluates S hs d c) f g
+evaluates_then S (group ∷ gs) hs a b c f g = (f.0, f.1, evaluates_then S gs hs f.0 b c f.2 g)
+
+pub evaluated_slots : (S : Sources) (gs : List (List Ground)) (a b : Draft) → Evaluates S gs a b → a.slots ≤ b.slots
+evaluated_slots S [] a b f = let same : b.slots ≡ a.slots = ap (λ (d : Draft). d.slots) f in omega (arith, same)
+evaluated_slots S (group ∷ gs) a b f = let first = f.1.slots in let rest = evaluated_slots S gs f.0 b f.2 in omega (arith, first, rest)
+
+pub none_evaluated : (S : Sources) (d : Draft) → EvaluatesAll S [] d d
+none_evaluated S d before = refl
+
+pub more_evaluated : (S : Sources) (gs hs : List (List Ground)) (a b c : Draft) → EvaluatesAll S gs a b → EvaluatesAll S hs b c → EvaluatesAll S (gs ++ hs) a c
+more_evaluated S gs hs a b c f g before =
+    let first = f before in
+    evaluates_then S gs hs a b c first (g (found_later S a.slots b.slots (evaluated_slots S gs a b first) before))

@@ -1,6 +1,7 @@
 -- The code of an expression reads the slots of the leaves that it mentions and its own, and at most two of its own are live at once for each of its tips.
-use Rattle.std.specs.Prelude.{◌≡◌, ℕ, ◌*◌, ◌<◌, true, List, [], flat_map, sum_by, Option, Some, None}
+use Rattle.std.specs.Prelude.{◌≡◌, ℕ, ◌*◌, ◌<◌, true, List, [], flat_map, sum_by, Option, Some, None, ◌∷◌}
 use Rattle.ground_net.specs.declared.ground.Ground.{Ground}
+use Rattle.ground_net.specs.declared.ground.Ground.TheVariants.{Leaf}
 use Rattle.ground_net.specs.Grounds.{mentions}
 use Rattle.flat_code.specs.declared.instr.Spot.{Spot}
 use Rattle.flat_code.specs.Fine.{among, spot_slots, slots_of}
@@ -42,3 +43,15 @@ Spans S g old new s = AreFoundBefore S old.slots → Segment old new (ground_slo
 -- That of expressions, in order, keeps the slots of all.
 abbrev pub SpansAll : Sources → List Ground → Draft → Draft → List Spot → Type 0
 SpansAll S gs old new ss = AreFoundBefore S old.slots → Segment old new (flat_map (ground_slots S) gs) (slots_of ss) (2 * sum_by tips gs)
+
+-- Code that goes on by a segment for each of these groups of expressions, in order, that evaluates them and keeps nothing.
+abbrev pub Evaluates : Sources → List (List Ground) → Draft → Draft → Type 0
+Evaluates S [] old new = new ≡ old
+Evaluates S (gs ∷ groups) old new = (mid : Draft) × Segment old mid (flat_map (ground_slots S) gs) [] (2 * sum_by tips gs) × Evaluates S groups mid new
+
+abbrev pub EvaluatesAll : Sources → List (List Ground) → Draft → Draft → Type 0
+EvaluatesAll S groups old new = AreFoundBefore S old.slots → Evaluates S groups old new
+
+-- A leaf that is found in the frame stands there, and needs no code.
+abbrev pub StandsThere : Sources → Ground → Draft → Draft → Spot → Type 0
+StandsThere S g old new s = (x : ℕ) (t : Spot) → g ≡ Leaf x → leaf_source S x ≡ Some (source.Frame t) → (s ≡ t) × (new ≡ old)

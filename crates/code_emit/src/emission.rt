@@ -7,7 +7,9 @@ ghost use Rattle.net_meaning.specs.Shapes.{shape, all_of};
 ghost use Rattle.code_draft.specs.Drafts.{IsDraft, Makes};
 ghost use Rattle.code_draft.specs.Segments.{Step};
 ghost use Rattle.code_emit.specs.Emits.{sources_table, source_shape, Emits, EmitsAll, AreShaped, shapes_in, Fits, IsOf, leaf_source, element_source};
-ghost use Rattle.code_emit.specs.Spans.{Spans, SpansAll, source_slots};
+ghost use Rattle.code_emit.specs.Spans.{Spans, SpansAll, StandsThere, source_slots};
+ghost use Rattle.code_emit.specs.declared.sources.Source.TheVariants.{Frame as A_frame};
+ghost use Rattle.flat_code.specs.declared.instr.Spot.{Spot as TheSpot};
 
 use crate::forms::{items_measure, joined};
 use crate::sources::{Elements, Source, Sources};
@@ -30,6 +32,7 @@ pub fn emit(
     ensures shape { IfOk result (λ s. shape ground.now (sources_table sources.now) ≡ Some (spot_shape s)) }
     ensures emits { IfOk result (λ s. Emits sources.now ground.now draft.old draft.new s) }
     ensures spans { IfOk result (λ s. Spans sources.now ground.now draft.old draft.new s) }
+    ensures stands { IfOk result (λ s. StandsThere sources.now ground.now draft.old draft.new s) }
 {
     match ground {
         Ground::Const(value) => constant(draft, *value),
@@ -92,6 +95,7 @@ fn fetch(draft: &mut Draft, source: Source) -> Result<Spot, AllocError>
     ensures shape { IfOk result (λ s. spot_shape s ≡ source_shape source) }
     ensures makes { IfOk result (λ s. IsDraft draft.old → Fits draft.old source → Makes draft.old draft.new s (IsOf source)) }
     ensures step { IfOk result (λ s. Step draft.old draft.new (source_slots source) (spot_slots s) 2) }
+    ensures stands { IfOk result (λ s. (t : TheSpot) → source ≡ A_frame t → (s ≡ t) × (draft.new ≡ draft.old)) }
 {
     match source {
         Source::Word(kept) => load(draft, kept.kind, kept.width, kept.number),

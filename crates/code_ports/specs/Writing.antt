@@ -3,17 +3,13 @@ use Rattle.std.specs.Prelude.{◌≡◌, ℕ, ◌≤◌, true, List, [], ◌∷�
 use Rattle.bit_words.specs.declared.value.Value.{Value}
 use Rattle.flat_code.specs.declared.instr.Port.{Port}
 use Rattle.flat_code.specs.Meaning.{at_port}
-use Rattle.flat_code.specs.Fine.{InRegion, slots_of}
+use Rattle.flat_code.specs.Fine.{InRegion}
 use Rattle.code_draft.specs.declared.draft.Draft.{Draft}
 use Rattle.code_draft.specs.Drafts.{IsDraft, Solved, Stands, written_in, pushed_in}
 
 -- the code with one port more
 abbrev pub with_port : Draft → Port → Draft
 with_port d p = record { instrs = d.instrs; ports = d.ports ++ p ∷ []; wides = d.wides; slots = d.slots; words = d.words }
-
--- the slots that a port reads
-abbrev pub port_slots : Port → List ℕ
-port_slots p = slots_of (p.address ∷ p.source ∷ p.conditions)
 
 -- What a port reads was written, and the words that it may write are there.
 pub record HasPort (d : Draft) (p : Port) : Type 0 where

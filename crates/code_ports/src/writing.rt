@@ -1,10 +1,11 @@
 //! Publishing by a port.
 
-ghost use Rattle.std.specs.Prelude.{◌≡◌, [], length, OnOk, IfOk};
+ghost use Rattle.std.specs.Prelude.{◌≡◌, [], ◌∷◌, length, OnOk, IfOk};
+ghost use Rattle.flat_code.specs.Fine.{slots_of};
 ghost use Rattle.flat_code.specs.declared.instr.Op.TheVariants.{PublishAt};
 ghost use Rattle.code_draft.specs.Drafts.{with_instr};
 ghost use Rattle.code_draft.specs.Segments.{Segment};
-ghost use Rattle.code_ports.specs.Writing.{with_port, PublishesBy, port_slots};
+ghost use Rattle.code_ports.specs.Writing.{with_port, PublishesBy};
 
 use code_draft::Draft;
 use flat_code::{Instr, Op, Port};
@@ -13,7 +14,7 @@ use std::alloc::AllocError;
 /// Publishes what a port writes: the words of its source at the element of its address, where all of its conditions are 1.
 pub fn publish_by(draft: &mut Draft, port: Port) -> Result<(), AllocError>
     ensures publishes { OnOk result (PublishesBy draft.old draft.new port) }
-    ensures segment { OnOk result (Segment draft.old draft.new (port_slots port) [] 0) }
+    ensures segment { OnOk result (Segment draft.old draft.new (slots_of (port.address ∷ port.source ∷ port.conditions)) [] 0) }
 {
     let number = add_port(draft, port)?;
     add_instr(draft, publication(number))

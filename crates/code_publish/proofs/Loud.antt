@@ -1,5 +1,5 @@
 -- Instructions that publish a slot.
-use Rattle.std.proofs.Common.{◌≡◌, ℕ, zero, suc, ◌+◌, ◌/◌, ◌%◌, ◌^◌, ◌<◌, ◌≤◌, Bool, true, false, ◌||◌, nat_lt, if◌then◌else◌, List, [], ◌∷◌, ◌++◌, length, slice_index, All, refl, sym, subst, ap, ap₂, ◌∙◌, arith}
+use Rattle.std.proofs.Common.{◌≡◌, ℕ, ◌+◌, ◌/◌, ◌%◌, ◌^◌, ◌<◌, ◌≤◌, true, ◌||◌, nat_lt, if◌then◌else◌, List, [], ◌∷◌, ◌++◌, length, slice_index, refl, sym, subst, ap, ap₂, ◌∙◌, arith}
 use Rattle.std.specs.Prelude.{Result, Ok, Err, OnOk}
 use Rattle.std.proofs.lemmas.Bool.{lt-ltb, le-ltb}
 use Rattle.std.proofs.lemmas.List.{append_assoc, append-nil}
@@ -7,18 +7,17 @@ use Rattle.std.proofs.lemmas.List.Elements.{All-push}
 use Rattle.bit_words.specs.declared.value.Value.{Value}
 use Rattle.phase_core.specs.declared.model.Publication.{Publication}
 use Rattle.net_meaning.specs.Shapes.{Shape}
-use Rattle.flat_code.specs.declared.instr.Op.{Op}
 use Rattle.flat_code.specs.declared.instr.Op.TheVariants as op
 use Rattle.flat_code.specs.declared.instr.Instr.{Instr}
 use Rattle.flat_code.specs.declared.instr.Port.{Port}
 use Rattle.flat_code.specs.declared.instr.Spot.{Spot}
-use Rattle.flat_code.specs.Meaning.{pushed, pushed_on, stored}
+use Rattle.flat_code.specs.Meaning.{pushed, pushed_on}
 use Rattle.flat_code.specs.Fine.{FineOn, IsFine, AreKnown, nothing, reads_on, writes_on, writes_of, spot_slots, further_words, among}
 use Rattle.flat_code.specs.Orders.{Solves, AreNew, pushed_all}
 use Rattle.code_draft.specs.declared.draft.Draft.{Draft}
-use Rattle.code_draft.specs.Drafts.{IsDraft, Solved, Stands, Holds, written_in, pushed_in, with_instr}
+use Rattle.code_draft.specs.Drafts.{IsDraft, Solved, written_in, pushed_in, with_instr}
 use Rattle.code_draft.proofs.Growing.{written_last, single_last, all_front, one_known}
-use Rattle.code_publish.specs.Publishing.{Tells, Publishes}
+use Rattle.code_publish.specs.Publishing.{Publishes}
 
 told : Instr → List ℕ → List Publication
 told i F = record { word = i.second; value = slice_index F i.first } ∷ []

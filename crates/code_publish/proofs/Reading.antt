@@ -1,5 +1,5 @@
 -- Instructions that publish a slot read it, and write none.
-use Rattle.std.proofs.Common.{◌≡◌, ◌==◌, ℕ, ◌+◌, ◌<◌, ◌≤◌, Bool, true, false, ◌||◌, nat_lt, if◌then◌else◌, List, [], ◌∷◌, ◌++◌, length, All, refl, sym, subst, ap, ◌∙◌, arith, append_assoc, true≢false}
+use Rattle.std.proofs.Common.{◌≡◌, ℕ, ◌<◌, ◌≤◌, Bool, true, false, nat_lt, if◌then◌else◌, List, [], ◌∷◌, ◌++◌, All, refl, sym, subst, ap, ◌∙◌, arith, append_assoc, true≢false}
 use Rattle.std.proofs.lemmas.Bool.{lt-ltb}
 use Rattle.std.proofs.lemmas.List.Elements.{All-cons, All-nil}
 use Rattle.flat_code.specs.declared.instr.Op.TheVariants as op
@@ -29,7 +29,7 @@ silent_segment d new outer is code tables slots all = record {
   slots = slots;
   each = λ ports wides on.
       let writes : All (λ i. (k : ℕ) → among (writes_of wides i) k ≡ true → among [] k ≡ true) is =
-          map_all (Silent outer) (λ i. (k : ℕ) → among (writes_of wides i) k ≡ true → among [] k ≡ true) is (λ i h k e. subst (λ xs. among xs k ≡ true) (h.writes wides) e) all in
+      map_all (Silent outer) (λ i. (k : ℕ) → among (writes_of wides i) k ≡ true → among [] k ≡ true) is (λ i h k e. subst (λ xs. among xs k ≡ true) (h.writes wides) e) all in
       record {
         reads = map_all (Silent outer) (λ i. (k : ℕ) → k < d.slots → among (reads_of ports wides i) k ≡ true → among outer k ≡ true) is (λ i h k lt e. h.reads ports wides k e) all;
         writes = map_all (λ i. (k : ℕ) → among (writes_of wides i) k ≡ true → among [] k ≡ true) (λ i. (k : ℕ) → among (writes_of wides i) k ≡ true → (d.slots ≤ k) × (k < new.slots)) is

@@ -1,9 +1,11 @@
 //! Registers.
 
-ghost use Rattle.std.specs.Prelude.{◌≡◌, [], ◌∷◌, All, map, length, OnOk};
+ghost use Rattle.std.specs.Prelude.{◌≡◌, [], ◌∷◌, All, map, flat_map, length, OnOk};
 ghost use Rattle.net_meaning.specs.Words.{register_word};
 ghost use Rattle.ground_net.specs.Cones.{A_register};
+ghost use Rattle.code_emit.specs.Spans.{EvaluatesAll};
 ghost use Rattle.code_registers.specs.Telling.{IsNextShaped, PublishesSinks};
+ghost use Rattle.code_registers.specs.Groups.{register_groups};
 
 use code_draft::Draft;
 use code_emit::{Sources, emit};
@@ -22,7 +24,8 @@ pub fn publish_registers(
 ) -> Result<(), AllocError>
     requires shaped { All (λ both. IsNextShaped net.now sources.now both.0) registers.now }
     requires words { All (λ both. both.1 ≡ register_word net.now both.0) registers.now }
-    ensures { OnOk result (PublishesSinks net.now sources.now (map (λ both. A_register both.0) registers.now) draft.old draft.new) }
+    ensures publishes { OnOk result (PublishesSinks net.now sources.now (map (λ both. A_register both.0) registers.now) draft.old draft.new) }
+    ensures evaluates { OnOk result (EvaluatesAll sources.now (flat_map (λ both. register_groups net.now both.0) registers.now) draft.old draft.new) }
 {
     for both in registers {
         publish_register(alloc, draft, sources, net, *both)?;
@@ -40,7 +43,8 @@ fn publish_register(
 ) -> Result<(), AllocError>
     requires shaped { IsNextShaped net.now sources.now numbers.0 }
     requires word { numbers.1 ≡ register_word net.now numbers.0 }
-    ensures { OnOk result (PublishesSinks net.now sources.now (A_register numbers.0 ∷ []) draft.old draft.new) }
+    ensures publishes { OnOk result (PublishesSinks net.now sources.now (A_register numbers.0 ∷ []) draft.old draft.new) }
+    ensures evaluates { OnOk result (EvaluatesAll sources.now (register_groups net.now numbers.0) draft.old draft.new) }
 {
     let (number, word) = numbers;
     let Some(register) = net.registers.get(number as usize) else {

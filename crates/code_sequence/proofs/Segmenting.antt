@@ -1,12 +1,12 @@
 -- The code of assignments, segment by segment.
-use Rattle.std.proofs.Common.{◌≡◌, ℕ, ◌+◌, ◌<◌, ◌≤◌, true, List, [], ◌∷◌, ◌++◌, length, Option, Some, refl, sym, subst, ap, ◌∙◌, arith, ⊎_elim}
+use Rattle.std.proofs.Common.{◌≡◌, ℕ, ◌<◌, true, List, [], ◌∷◌, ◌++◌, length, Option, Some, refl, subst, ap, ◌∙◌, arith, ⊎_elim}
 use Rattle.std.proofs.lemmas.Bool.{cases_eq}
 use Rattle.ground_net.specs.declared.ground.Ground.{Ground}
 use Rattle.flat_code.specs.declared.instr.Spot.{Spot}
 use Rattle.flat_code.specs.Fine.{among, spot_slots}
 use Rattle.code_draft.specs.declared.draft.Draft.{Draft}
 use Rattle.code_emit.specs.declared.sources.Sources.{Sources}
-use Rattle.code_emit.specs.Spans.{found_slots, leaf_slots, AreFoundBefore, Spans}
+use Rattle.code_emit.specs.Spans.{found_slots, leaf_slots, Spans}
 use Rattle.code_emit.proofs.Spanning.{ground_before}
 use Rattle.code_sequence.specs.Sequences.{driver_in}
 use Rattle.code_sequence.specs.Segmented.{with_frame, InSegments, AreSegments}
@@ -24,14 +24,16 @@ pub one_segment : (drivers : List (Option Ground)) (x : ℕ) (S : Sources) (old 
     → AreSegments drivers (x ∷ []) S old (with_frame S x s) new
 one_segment drivers x S old new s g lt at spans before =
     let f = spans before in
-    let up = f.slots in
-    ((g, s, new, at, f, (refl, refl)), λ y k e. ⊎_elim
-    (λ q. ⊎_elim
-    (λ own. own.1)
-    (λ out. let below = ground_before S old.slots g before k out in omega (arith, below, up))
-    (f.there k (subst (λ xs. among xs k ≡ true) (ap (leaf_slots (with_frame S x s)) q ∙ leaf_there S x s lt) e)))
-    (λ ne. let below = before y k (subst (λ xs. among xs k ≡ true) (leaf_elsewhere S x y s ne) e) in omega (arith, below, up))
-    (cases_eq y x))
+    let up = f.slots in (
+      (g, s, new, at, f, (refl, refl)),
+      λ y k e. ⊎_elim
+          (λ q. ⊎_elim
+          (λ own. own.1)
+          (λ out. let below = ground_before S old.slots g before k out in omega (arith, below, up))
+          (f.there k (subst (λ xs. among xs k ≡ true) (ap (leaf_slots (with_frame S x s)) q ∙ leaf_there S x s lt) e)))
+          (λ ne. let below = before y k (subst (λ xs. among xs k ≡ true) (leaf_elsewhere S x y s ne) e) in omega (arith, below, up))
+          (cases_eq y x),
+    )
 
 pub none_segmented : (drivers : List (Option Ground)) (S : Sources) (d : Draft) → AreSegments drivers [] S d S d
 none_segmented drivers S d before = ((refl, refl), before)

@@ -1,26 +1,22 @@
 -- One assignment after the other.
-use Rattle.std.proofs.Common.{◌≡◌, ◌≢◌, ◌==◌, ℕ, zero, suc, ◌+◌, ◌<◌, ◌≤◌, Bool, true, false, List, [], ◌∷◌, ◌++◌, length, get_or, slice_get, slice_set, Option, Some, None, option_map, option_and_then, refl, sym, subst, ap, ap₂, ◌∙◌, arith, ⊎_elim, ◌⊎◌, if◌then◌else◌}
+use Rattle.std.proofs.Common.{◌≡◌, ◌≢◌, ◌==◌, ℕ, ◌<◌, true, false, List, [], ◌∷◌, ◌++◌, length, get_or, slice_get, slice_set, Option, Some, None, option_map, option_and_then, refl, sym, subst, ap, ◌∙◌, arith, ⊎_elim, if◌then◌else◌}
 use Rattle.std.specs.Prelude.{Contains}
 use Rattle.std.proofs.lemmas.Bool.{cases_eq, cases_lt}
 use Rattle.std.proofs.lemmas.Grind.{common_steps}
 use Rattle.std.proofs.lemmas.List.{get_or-set_same, get_or-set_other, length-set}
 use Rattle.std.proofs.lemmas.List.Elements.{Contains-append_left, Contains-append_right}
-use Rattle.std.proofs.lemmas.Option.{slice_get-get_or, slice_get_past, slice_get_within, get_or_from_slice_get}
-use Rattle.bit_words.specs.declared.value.Value.{Value}
+use Rattle.std.proofs.lemmas.Option.{slice_get-get_or, slice_get_past, get_or_from_slice_get}
 use Rattle.ground_net.specs.declared.ground.Ground.{Ground}
-use Rattle.ground_net.specs.Grounds.{Sight, value}
 use Rattle.net_meaning.specs.Shapes.{Shape, Table, shape}
 use Rattle.flat_code.specs.declared.instr.Spot.{Spot}
 use Rattle.flat_code.specs.Meaning.{spot_shape}
 use Rattle.code_draft.specs.declared.draft.Draft.{Draft}
-use Rattle.code_draft.specs.Drafts.{IsDraft, Solved, Grows, Stands, Holds, Makes}
 use Rattle.code_draft.proofs.Growing.{grows_then, grows_not}
-use Rattle.code_emit.specs.declared.sources.Source.{Source}
 use Rattle.code_emit.specs.declared.sources.Source.TheVariants as source
 use Rattle.code_emit.specs.declared.sources.Sources.{Sources}
-use Rattle.code_emit.specs.Emits.{leaf_source, element_source, source_shape, sources_table, IsOf, Sees, Fits, AreSources, ValueOf, Emits}
+use Rattle.code_emit.specs.Emits.{leaf_source, source_shape, sources_table, IsOf, Fits, Emits}
 use Rattle.code_emit.proofs.Emitting.{sources_on}
-use Rattle.code_sequence.specs.Sequences.{driver_in, with_leaf, with_shape, turned_table, InTurn, AreAssigned, Turned, Goes, Assigns, StandElsewhere}
+use Rattle.code_sequence.specs.Sequences.{driver_in, with_shape, turned_table, InTurn, Turned, Assigns, StandElsewhere}
 use Rattle.code_sequence.specs.Segmented.{with_frame}
 
 some_same : {A : Type 0} {x y : A} → Some x ≡ Some y → x ≡ y

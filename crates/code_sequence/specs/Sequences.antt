@@ -1,5 +1,5 @@
 -- Code of assignments, one after the other: each leaf is then found in the frame.
-use Rattle.std.specs.Prelude.{◌≡◌, ℕ, ◌==◌, ◌<◌, List, [], ◌∷◌, length, slice_get, slice_index, Option, Some, None, option_and_then, if◌then◌else◌, Contains}
+use Rattle.std.specs.Prelude.{◌≡◌, ℕ, ◌==◌, List, [], ◌∷◌, slice_get, Option, Some, option_and_then, if◌then◌else◌, Contains}
 use Rattle.bit_words.specs.declared.value.Value.{Value}
 use Rattle.ground_net.specs.declared.ground.Ground.{Ground}
 use Rattle.ground_net.specs.Grounds.{Sight, value}

@@ -1,3 +1,4 @@
 pub mod Targets
 pub mod Written
 pub mod Loops
+pub mod Evaluating

@@ -1,11 +1,12 @@
 //! Writes of one leaf.
 
-ghost use Rattle.std.specs.Prelude.{◌≡◌, Some, IsSome, IfOk, OnOk, All, map};
+ghost use Rattle.std.specs.Prelude.{◌≡◌, [], ◌∷◌, Some, IsSome, IfOk, OnOk, All, map};
 ghost use Rattle.ground_net.specs.declared.ground.Ground.TheVariants.{Leaf as A_leaf};
 ghost use Rattle.ground_net.specs.declared.net.Net.{Net as TheNet};
 ghost use Rattle.net_meaning.specs.Shapes.{shape};
 ghost use Rattle.flat_code.specs.Meaning.{spot_shape};
 ghost use Rattle.code_emit.specs.Emits.{sources_table, Emits, EmitsAll};
+ghost use Rattle.code_emit.specs.Spans.{Spans, SpansAll, EvaluatesAll};
 ghost use Rattle.code_writes.specs.Writes.{TellsTarget};
 
 use crate::places::Target;
@@ -28,7 +29,8 @@ pub(crate) fn publish_target(
     requires address { IsSome (shape (A_leaf target.address) (sources_table sources.now)) }
     requires source { IsSome (shape (A_leaf target.source) (sources_table sources.now)) }
     requires conditions { All (λ x. IsSome (shape (A_leaf x) (sources_table sources.now))) conditions.now }
-    ensures { OnOk result ((net : TheNet) → TellsTarget net sources.now target conditions.now draft.old draft.new) }
+    ensures tells { OnOk result ((net : TheNet) → TellsTarget net sources.now target conditions.now draft.old draft.new) }
+    ensures evaluates { OnOk result (EvaluatesAll sources.now ((A_leaf target.address ∷ A_leaf target.source ∷ map (λ x. A_leaf x) conditions.now) ∷ []) draft.old draft.new) }
 {
     let address = emit_leaf(alloc, draft, sources, target.address)?;
     let source = emit_leaf(alloc, draft, sources, target.source)?;
@@ -52,6 +54,7 @@ fn emit_leaf(
     requires { IsSome (shape (A_leaf leaf) (sources_table sources.now)) }
     ensures shape { IfOk result (λ s. shape (A_leaf leaf) (sources_table sources.now) ≡ Some (spot_shape s)) }
     ensures emits { IfOk result (λ s. Emits sources.now (A_leaf leaf) draft.old draft.new s) }
+    ensures spans { IfOk result (λ s. Spans sources.now (A_leaf leaf) draft.old draft.new s) }
 {
     let ground = Ground::Leaf(leaf);
     emit(alloc, draft, sources, &ground)
@@ -65,7 +68,8 @@ fn emit_leaves(
     leaves: &[u32],
 ) -> Result<List<Spot>, AllocError>
     requires { All (λ x. IsSome (shape (A_leaf x) (sources_table sources.now))) leaves.now }
-    ensures { IfOk result (λ ss. EmitsAll sources.now (map (λ x. A_leaf x) leaves.now) draft.old draft.new ss) }
+    ensures emits { IfOk result (λ ss. EmitsAll sources.now (map (λ x. A_leaf x) leaves.now) draft.old draft.new ss) }
+    ensures spans { IfOk result (λ ss. SpansAll sources.now (map (λ x. A_leaf x) leaves.now) draft.old draft.new ss) }
 {
     let mut spots = List::new(alloc);
     for leaf in leaves {

@@ -9,7 +9,9 @@ ghost use Rattle.net_meaning.specs.Cycles.{shown};
 ghost use Rattle.code_emit.specs.Emits.{element_source};
 ghost use Rattle.sink_effects.specs.Effects.{leaf_told, port_told, writes_told};
 ghost use Rattle.memory_sources.specs.Memories.{HasMemory};
+ghost use Rattle.code_registers.specs.Groups.{EvaluatesOnly};
 ghost use Rattle.code_writes.specs.Writes.{IsPortAt, WritesAt, PublishesLeft, conditions_of as conditions_in};
+ghost use Rattle.code_writes.specs.Groups.{IsWriteGroup};
 
 use crate::leaves::publish_target;
 use crate::places::{PortAt, PortLeaf, Target};
@@ -30,7 +32,8 @@ pub fn publish_writes(
 ) -> Result<(), AllocError>
     requires net { IsNet net.now }
     requires memory { HasMemory net.now sources.now number }
-    ensures { OnOk result ((memory : TheMemory) → slice_get net.now.memories number ≡ Some memory → PublishesLeft net.now sources.now (λ st sight. writes_told net.now sight number memory) draft.old draft.new) }
+    ensures left { OnOk result ((memory : TheMemory) → slice_get net.now.memories number ≡ Some memory → PublishesLeft net.now sources.now (λ st sight. writes_told net.now sight number memory) draft.old draft.new) }
+    ensures evaluates { OnOk result (EvaluatesOnly sources.now (IsWriteGroup net.now number) draft.old draft.new) }
 {
     let Some(memory) = net.memories.get(number as usize) else {
         unreachable!();
@@ -56,7 +59,8 @@ fn publish_port(
     requires net { IsNet net.now }
     requires memory { HasMemory net.now sources.now at.memory }
     requires there { IsPortAt net.now at.memory at.port }
-    ensures { OnOk result ((memory : TheMemory) (port : ThePort) → slice_get net.now.memories at.memory ≡ Some memory → slice_get memory.ports at.port ≡ Some port → PublishesLeft net.now sources.now (λ st sight. port_told net.now sight at.memory memory port) draft.old draft.new) }
+    ensures left { OnOk result ((memory : TheMemory) (port : ThePort) → slice_get net.now.memories at.memory ≡ Some memory → slice_get memory.ports at.port ≡ Some port → PublishesLeft net.now sources.now (λ st sight. port_told net.now sight at.memory memory port) draft.old draft.new) }
+    ensures evaluates { OnOk result (EvaluatesOnly sources.now (IsWriteGroup net.now at.memory) draft.old draft.new) }
 {
     let Some(memory) = net.memories.get(at.memory as usize) else {
         unreachable!();
@@ -89,7 +93,8 @@ fn publish_leaf(
     requires net { IsNet net.now }
     requires memory { HasMemory net.now sources.now at.memory }
     requires there { WritesAt net.now at.memory at.port at.leaf }
-    ensures { OnOk result ((memory : TheMemory) (port : ThePort) (leaf : TheLeaf) → slice_get net.now.memories at.memory ≡ Some memory → slice_get memory.ports at.port ≡ Some port → slice_get memory.elements at.leaf ≡ Some leaf → PublishesLeft net.now sources.now (λ st sight. leaf_told net.now at.memory memory (shown sight port) (at.leaf, element_shape leaf)) draft.old draft.new) }
+    ensures left { OnOk result ((memory : TheMemory) (port : ThePort) (leaf : TheLeaf) → slice_get net.now.memories at.memory ≡ Some memory → slice_get memory.ports at.port ≡ Some port → slice_get memory.elements at.leaf ≡ Some leaf → PublishesLeft net.now sources.now (λ st sight. leaf_told net.now at.memory memory (shown sight port) (at.leaf, element_shape leaf)) draft.old draft.new) }
+    ensures evaluates { OnOk result (EvaluatesOnly sources.now (IsWriteGroup net.now at.memory) draft.old draft.new) }
 {
     let Some(memory) = net.memories.get(at.memory as usize) else {
         unreachable!();

@@ -1,7 +1,7 @@
 use Rattle.std.proofs.Common.{rules, ◌≡◌, Some, IsSome, true, [], ◌∷◌, ◌++◌, ◌+◌, take, option_map, refl, sym, subst, ap, ap₂, ◌∙◌}
 use Rattle.std.proofs.lemmas.List.{take_more}
 use Rattle.ground_net.specs.declared.ground.Ground.{the_lemmas}
-use Rattle.ground_net.specs.declared.ground.Ground.TheVariants.{Op, Mux, Select, Load, Fit}
+use Rattle.ground_net.specs.declared.ground.Ground.TheVariants.{Op, Mux, Select, Load, Fit, Const}
 use Rattle.net_meaning.specs.Shapes.{Shape, shaped, shape, shape_of_items, shape_of_load, is_index, all_of}
 use Rattle.flat_code.specs.Meaning.{spot_shape}
 use Rattle.flat_code.specs.Fine.{spot_shapes, shape_of_picked}
@@ -11,6 +11,7 @@ use Rattle.code_emit.proofs.Arms.{ok_both, spot_shape_by, op_shaped, op_row, mux
 use Rattle.code_emit.proofs.Emitting.{none_emitted, const_emits, leaf_emits, op_emits, mux_emits, fit_emits, select_emits, load_emits, both_emitted, one_more_emitted}
 use Rattle.code_emit.specs.Spans.{SpansAll}
 use Rattle.code_emit.proofs.Spanning.{none_spans, fetched_spans, leaf_spans, op_spans, mux_spans, load_spans, fit_spans, select_spans, both_span, one_more_spans}
+use Rattle.code_emit.proofs.Leaves.{no_leaf, leaf_stands, leaf-Const, leaf-Op, leaf-Mux, leaf-Select, leaf-Load, leaf-Fit}
 use Rattle.code_emit.proofs.emission.+emit.Goals as goal
 
 pub emit-emit_all-requires : goal.emit-emit_all-requires
@@ -305,3 +306,26 @@ emit_all-loop-ground-init t c =
       emits = subst (EmitsAll S [] d d) (sym none) (none_emitted S d);
       spans = subst (SpansAll S [] d d) (sym none) (none_spans S d);
     }
+
+pub emit-returns-in-Const-clause-stands : goal.emit-returns-in-Const-clause-stands
+emit-returns-in-Const-clause-stands t c = no_leaf c.args.sources.now c.args.ground.now (Const c.in-Const.value) c.args.draft.now c.constant.new.draft c.constant.result c.in-Const.is (leaf-Const c.in-Const.value)
+
+pub emit-returns-in-Leaf-clause-stands : goal.emit-returns-in-Leaf-clause-stands
+emit-returns-in-Leaf-clause-stands t c =
+    ok_so c.fetch.result c.fetch.ensures.stands (λ s st.
+    leaf_stands c.args.sources.now c.args.ground.now c.in-Leaf.leaf c.source_of.result c.args.draft.now c.fetch.new.draft s c.in-Leaf.is c.source_of.ensures st)
+
+pub emit-returns-in_ok-spots-in-Op-clause-stands : goal.emit-returns-in_ok-spots-in-Op-clause-stands
+emit-returns-in_ok-spots-in-Op-clause-stands t c = no_leaf c.args.sources.now c.args.ground.now (Op c.in-Op.prim c.in-Op.operands c.in-Op.params) c.args.draft.now c.emit_operation.new.draft c.emit_operation.result c.in-Op.is (leaf-Op c.in-Op.prim c.in-Op.operands c.in-Op.params)
+
+pub emit-returns-in_ok-spots-in-Mux-clause-stands : goal.emit-returns-in_ok-spots-in-Mux-clause-stands
+emit-returns-in_ok-spots-in-Mux-clause-stands t c = no_leaf c.args.sources.now c.args.ground.now (Mux c.in-Mux.items) c.args.draft.now c.emit_choice.new.draft c.emit_choice.result c.in-Mux.is (leaf-Mux c.in-Mux.items)
+
+pub emit-returns-in_ok-spots-in-Select-clause-stands : goal.emit-returns-in_ok-spots-in-Select-clause-stands
+emit-returns-in_ok-spots-in-Select-clause-stands t c = no_leaf c.args.sources.now c.args.ground.now (Select c.in-Select.index c.in-Select.items) c.args.draft.now c.wide_value.new.draft c.wide_value.result c.in-Select.is (leaf-Select c.in-Select.index c.in-Select.items)
+
+pub emit-returns-in_ok-spots-in-Load-clause-stands : goal.emit-returns-in_ok-spots-in-Load-clause-stands
+emit-returns-in_ok-spots-in-Load-clause-stands t c = no_leaf c.args.sources.now c.args.ground.now (Load c.in-Load.memory c.in-Load.leaf c.in-Load.items) c.args.draft.now c.wide_value-in-Load.new.draft c.wide_value-in-Load.result c.in-Load.is (leaf-Load c.in-Load.memory c.in-Load.leaf c.in-Load.items)
+
+pub emit-returns-in_ok-spots-in-Fit-clause-stands : goal.emit-returns-in_ok-spots-in-Fit-clause-stands
+emit-returns-in_ok-spots-in-Fit-clause-stands t c = no_leaf c.args.sources.now c.args.ground.now (Fit c.in-Fit.kind c.in-Fit.width c.in-Fit.items) c.args.draft.now c.emit_fit.new.draft c.emit_fit.result c.in-Fit.is (leaf-Fit c.in-Fit.kind c.in-Fit.width c.in-Fit.items)

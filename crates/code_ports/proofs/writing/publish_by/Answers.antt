@@ -1,9 +1,10 @@
-use Rattle.std.proofs.Common.{[], ◌≡◌, ◌∙◌, sym, subst, ap}
+use Rattle.std.proofs.Common.{◌≡◌, [], ◌∷◌, ◌∙◌, sym, subst, ap}
 use Rattle.code_draft.specs.Drafts.{with_instr}
-use Rattle.code_draft.specs.Segments.{Segment}
-use Rattle.code_ports.specs.Writing.{PublishesBy, port_slots}
+use Rattle.code_ports.specs.Writing.{PublishesBy}
 use Rattle.code_ports.proofs.Written.{on_ok_so, writes_by}
-use Rattle.code_ports.proofs.Readers.{reads_by}
+use Rattle.flat_code.specs.Fine.{slots_of}
+use Rattle.code_draft.specs.Segments.{Segment}
+use Rattle.code_ports.proofs.Reading.{port_segment}
 use Rattle.code_ports.proofs.writing.publish_by.Goals as goal
 
 pub returns-clause-publishes : goal.returns-clause-publishes
@@ -19,5 +20,6 @@ returns-clause-segment c =
     let d = c.args.draft.now in
     let p = c.args.port in
     let i = c.publication.result in
-    on_ok_so (c.add_instr.new.draft ≡ with_instr c.add_port.new.draft i) (Segment d c.add_instr.new.draft (port_slots p) [] 0) c.add_instr.result c.add_instr.ensures (λ e.
-    subst (λ x. Segment d x (port_slots p) [] 0) (sym (e ∙ ap (λ x. with_instr x i) c.in_ok-number.ensures.draft)) (reads_by d p i c.publication.ensures.op (c.publication.ensures.first ∙ c.in_ok-number.ensures.number)))
+    let outer = slots_of (p.address ∷ p.source ∷ p.conditions) in
+    on_ok_so (c.add_instr.new.draft ≡ with_instr c.add_port.new.draft i) (Segment d c.add_instr.new.draft outer [] 0) c.add_instr.result c.add_instr.ensures (λ e.
+    subst (λ x. Segment d x outer [] 0) (sym (e ∙ ap (λ x. with_instr x i) c.in_ok-number.ensures.draft)) (port_segment d p i c.publication.ensures.op (c.publication.ensures.first ∙ c.in_ok-number.ensures.number)))

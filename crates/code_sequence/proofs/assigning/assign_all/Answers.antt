@@ -1,4 +1,4 @@
-use Rattle.std.proofs.Common.{◌≡◌, ◌+◌, slice_index, take, drop, sym, subst, ap, ◌∙◌}
+use Rattle.std.proofs.Common.{◌+◌, slice_index, take, drop, sym, subst, ap, ◌∙◌}
 use Rattle.std.proofs.lemmas.List.{take_more, take_all, drop_more, drop_all}
 use Rattle.code_emit.specs.Emits.{sources_table}
 use Rattle.code_sequence.specs.Sequences.{InTurn, Assigns, StandElsewhere, turned_table}

@@ -1,4 +1,4 @@
-use Rattle.std.proofs.Common.{◌≡◌, Some, All, slice_get, sym, subst, ◌∙◌, refl}
+use Rattle.std.proofs.Common.{◌≡◌, ℕ, [], ◌∷◌, map, ap, Some, All, slice_get, sym, subst, ◌∙◌, refl}
 use Rattle.std.specs.Prelude.{IsSome}
 use Rattle.ground_net.specs.declared.net.Net.{Net}
 use Rattle.ground_net.specs.declared.net.NetMemory.{NetMemory}
@@ -14,6 +14,10 @@ use Rattle.sink_effects.specs.Effects.{leaf_told}
 use Rattle.code_writes.specs.Writes.{PublishesLeft, TellsTarget}
 use Rattle.code_writes.proofs.Targets.{on_ok_so}
 use Rattle.code_writes.proofs.Loops.{leaf_done, address_here, source_here, conditions_here}
+use Rattle.code_emit.specs.Spans.{EvaluatesAll}
+use Rattle.code_registers.specs.Groups.{EvaluatesOnly}
+use Rattle.code_registers.proofs.Evaluating.{one_such}
+use Rattle.code_writes.specs.Groups.{IsWriteGroup}
 use Rattle.code_writes.proofs.writes.publish_leaf.Goals as goal
 
 pub publish_target-requires-clause-address : goal.publish_target-requires-clause-address
@@ -26,8 +30,8 @@ pub publish_target-requires-clause-conditions : goal.publish_target-requires-cla
 publish_target-requires-clause-conditions c =
     subst (λ xs. All (λ x. IsSome (shape (Leaf x) (sources_table c.args.sources.now))) xs) (sym (c.as_slice.ensures ∙ c.in_ok-conditions.ensures)) (conditions_here c.args.net.now c.args.sources.now c.args.at.memory c.in-Some.memory.now (sym c.in-Some.ensures.value) c.args.at.port c.in-Some-get.port.now (sym c.in-Some-get.ensures.value) c.requires.net c.requires.memory c.args.at.leaf c.in-Some-write.write c.in-Some-get-2.mask.now c.in-Some-get-3.source.now c.in-Some-write.is (sym c.in-Some-get-2.ensures.value) (sym c.in-Some-get-3.ensures.value) c.requires.there)
 
-pub returns : goal.returns
-returns c =
+pub returns-clause-left : goal.returns-clause-left
+returns-clause-left c =
     let net = c.args.net.now in
     let S = c.args.sources.now in
     let m = c.args.at.memory in
@@ -40,5 +44,34 @@ returns c =
     on_ok_so ((n : Net) → TellsTarget n S target xs a b)
     ((memory : NetMemory) (port : NetPort) (leaf : ElementLeaf) → slice_get net.memories m ≡ Some memory → slice_get memory.ports p ≡ Some port → slice_get memory.elements k ≡ Some leaf
     → PublishesLeft net S (λ st sight. leaf_told net m memory (shown sight port) (k, element_shape leaf)) a b)
-    c.publish_target.result c.publish_target.ensures (λ told.
+    c.publish_target.result c.publish_target.ensures.tells (λ told.
     leaf_done c.args.net.now c.args.sources.now c.args.at.memory c.in-Some.memory.now (sym c.in-Some.ensures.value) c.args.at.port c.in-Some-get.port.now (sym c.in-Some-get.ensures.value) c.requires.net c.requires.memory c.args.at.leaf c.in-Some-write.write c.in-Some-get-2.mask.now c.in-Some-get-3.source.now c.in-Some-write.is (sym c.in-Some-get-2.ensures.value) (sym c.in-Some-get-3.ensures.value) target xs a b refl refl c.region_of.ensures (c.as_slice.ensures ∙ c.in_ok-conditions.ensures) (told net))
+
+pub returns-clause-evaluates : goal.returns-clause-evaluates
+returns-clause-evaluates c =
+    let net = c.args.net.now in
+    let S = c.args.sources.now in
+    let m = c.args.at.memory in
+    let a = c.args.draft.now in
+    let b = c.publish_target.new.draft in
+    let port = c.in-Some-get.port.now in
+    let x = c.in-Some-get-3.source.now in
+    let xs = c.as_slice.result.now in
+    on_ok_so (EvaluatesAll S ((Leaf port.addr ∷ Leaf x ∷ map (λ (y : ℕ). Leaf y) xs) ∷ []) a b) (EvaluatesOnly S (IsWriteGroup net m) a b) c.publish_target.result c.publish_target.ensures.evaluates (λ told.
+    one_such S (IsWriteGroup net m) (Leaf port.addr ∷ Leaf x ∷ map (λ (y : ℕ). Leaf y) xs) a b
+    (record {
+      memory = c.in-Some.memory.now;
+      there = sym c.in-Some.ensures.value;
+      p = c.args.at.port;
+      port = port;
+      listed = sym c.in-Some-get.ensures.value;
+      write = c.in-Some-write.write;
+      writes = c.in-Some-write.is;
+      k = c.args.at.leaf;
+      mask = c.in-Some-get-2.mask.now;
+      masked = sym c.in-Some-get-2.ensures.value;
+      source = x;
+      sourced = sym c.in-Some-get-3.ensures.value;
+      is = ap (λ ys. Leaf port.addr ∷ Leaf x ∷ map (λ (y : ℕ). Leaf y) ys) (c.as_slice.ensures ∙ c.in_ok-conditions.ensures);
+    })
+    told)

@@ -4,10 +4,12 @@ use Rattle.memory_sources.proofs.Numbered.{some_same}
 use Rattle.code_writes.proofs.Targets.{nothing_left_yet}
 use Rattle.code_writes.proofs.Written.{none_by, some_by, writes_at}
 use Rattle.code_writes.proofs.Loops.{leaf_step, port_done, idle_done}
+use Rattle.code_registers.proofs.Evaluating.{none_such, more_such}
+use Rattle.code_writes.specs.Groups.{IsWriteGroup}
 use Rattle.code_writes.proofs.writes.publish_port.Goals as goal
 
-pub returns-then-is_none : goal.returns-then-is_none
-returns-then-is_none c =
+pub returns-then-is_none-clause-left : goal.returns-then-is_none-clause-left
+returns-then-is_none-clause-left c =
     let memory = c.in-Some.memory.now in
     let port = c.in-Some-get.port.now in
     idle_done c.args.net.now c.args.sources.now c.args.at.memory memory (sym c.in-Some.ensures.value) c.args.at.port port (sym c.in-Some-get.ensures.value) c.args.draft.now
@@ -22,16 +24,25 @@ publish_leaf-requires-clause-there c =
     (omega (arith, c.loop-leaf-test.true))
 
 pub loop-leaf-init : goal.loop-leaf-init
-loop-leaf-init c = λ memory port there listed. nothing_left_yet c.args.net.now c.args.sources.now c.args.draft.now
+loop-leaf-init c = record {
+  left = λ memory port there listed. nothing_left_yet c.args.net.now c.args.sources.now c.args.draft.now;
+  evaluates = none_such c.args.sources.now (IsWriteGroup c.args.net.now c.args.at.memory) c.args.draft.now;
+}
 
 pub loop-leaf-preserved : goal.loop-leaf-preserved
-loop-leaf-preserved c = λ memory port there listed.
-    let same = ap (λ (y : NetMemory). length y.elements) (some_same (sym there ∙ sym c.in-Some.ensures.value)) in
-    leaf_step c.args.net.now c.args.sources.now c.args.at.memory memory there c.args.at.port port listed c.loop-leaf.leaf c.args.draft.now c.loop-leaf.draft c.publish_leaf.new.draft (omega (arith, c.loop-leaf-test.true, same))
-    (c.loop-leaf.invariant memory port there listed) c.in_ok-publish_leaf.ensures
+loop-leaf-preserved c = record {
+  left = λ memory port there listed.
+        let same = ap (λ (y : NetMemory). length y.elements) (some_same (sym there ∙ sym c.in-Some.ensures.value)) in
+        leaf_step c.args.net.now c.args.sources.now c.args.at.memory memory there c.args.at.port port listed c.loop-leaf.leaf c.args.draft.now c.loop-leaf.draft c.publish_leaf.new.draft (omega (arith, c.loop-leaf-test.true, same))
+        (c.loop-leaf.invariant.left memory port there listed) c.in_ok-publish_leaf.ensures.left;
+  evaluates = more_such c.args.sources.now (IsWriteGroup c.args.net.now c.args.at.memory) c.args.draft.now c.loop-leaf.draft c.publish_leaf.new.draft c.loop-leaf.invariant.evaluates c.in_ok-publish_leaf.ensures.evaluates;
+}
 
-pub returns : goal.returns
-returns c = λ memory port there listed.
+pub returns-clause-left : goal.returns-clause-left
+returns-clause-left c = λ memory port there listed.
     let same = ap (λ (y : NetMemory). length y.elements) (some_same (sym there ∙ sym c.in-Some.ensures.value)) in
     port_done c.args.net.now c.args.sources.now c.args.at.memory memory there c.args.at.port port listed c.loop-leaf.leaf c.args.draft.now c.loop-leaf.draft (omega (arith, c.loop-leaf-test.false, same))
-    (c.loop-leaf.invariant memory port there listed) memory port there listed
+    (c.loop-leaf.invariant.left memory port there listed) memory port there listed
+
+pub returns-then-is_none-clause-evaluates : goal.returns-then-is_none-clause-evaluates
+returns-then-is_none-clause-evaluates c = none_such c.args.sources.now (IsWriteGroup c.args.net.now c.args.at.memory) c.args.draft.now

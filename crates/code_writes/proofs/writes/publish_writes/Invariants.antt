@@ -2,7 +2,12 @@ use Rattle.std.proofs.Common.{◌≡◌, Some, take, flat_map, slice_get}
 use Rattle.ground_net.specs.declared.net.NetMemory.{NetMemory}
 use Rattle.sink_effects.specs.Effects.{port_told}
 use Rattle.code_writes.specs.Writes.{PublishesLeft}
+use Rattle.code_registers.specs.Groups.{EvaluatesOnly}
+use Rattle.code_writes.specs.Groups.{IsWriteGroup}
 use Rattle.code_writes.proofs.writes.publish_writes.Given as goal
 
 abbrev pub invariant-loop-port : goal.invariant-loop-port
-invariant-loop-port l = (memory : NetMemory) → slice_get l.net.memories l.number ≡ Some memory → PublishesLeft l.net l.sources (λ st sight. flat_map (port_told l.net sight l.number memory) (take l.port memory.ports)) l.fn.draft l.draft
+invariant-loop-port l = record {
+  left : (memory : NetMemory) → slice_get l.net.memories l.number ≡ Some memory → PublishesLeft l.net l.sources (λ st sight. flat_map (port_told l.net sight l.number memory) (take l.port memory.ports)) l.fn.draft l.draft;
+  evaluates : EvaluatesOnly l.sources (IsWriteGroup l.net l.number) l.fn.draft l.draft;
+}
