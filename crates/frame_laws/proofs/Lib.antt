@@ -6,3 +6,4 @@ pub mod Frames
 pub mod Building
 pub mod Driving
 pub mod Turning
+pub mod Telling

@@ -31,7 +31,7 @@ none_some : {A : Type 0} {x : A} → None ≡ Some x → ⊥
 none_some e = cc
 
 -- a slot of some leaves is that of one of them
-among_flat : (slots : ℕ → List ℕ) (ys : List ℕ) (k : ℕ) → among (flat_map slots ys) k ≡ true → (y : ℕ) × Contains ys y × (among (slots y) k ≡ true)
+pub among_flat : (slots : ℕ → List ℕ) (ys : List ℕ) (k : ℕ) → among (flat_map slots ys) k ≡ true → (y : ℕ) × Contains ys y × (among (slots y) k ≡ true)
 among_flat slots [] k e = none_among k e
 among_flat slots (y ∷ ys) k e = ⊎_elim
     (λ h. (y, contains_first y ys, h))

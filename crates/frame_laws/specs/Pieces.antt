@@ -1,11 +1,16 @@
 -- The code of a part as pieces, each with slots of its own: one for each assignment of the part, in their order, and then those of its
 -- sinks.
-use Rattle.std.specs.Prelude.{◌≡◌, ℕ, ◌≤◌, true, List, [], ◌∷◌, ◌++◌, length, take, slice_get, Some, Contains}
+use Rattle.std.specs.Prelude.{◌≡◌, ℕ, ◌≤◌, true, List, [], ◌∷◌, ◌++◌, length, take, slice_get, Some, Contains, sum_by}
 use Rattle.ground_net.specs.declared.net.Net.{Net}
 use Rattle.ground_net.specs.declared.net.CutPart.{CutPart}
 use Rattle.ground_net.specs.Reads.{direct_reads}
 use Rattle.flat_code.specs.declared.code.Code.{Code}
 use Rattle.flat_code.specs.Fine.{among, slots_of}
+use Rattle.ground_net.specs.declared.ground.Ground.{Ground}
+use Rattle.ground_net.specs.Grounds.{mentions}
+use Rattle.code_emit.specs.declared.sources.Sources.{Sources}
+use Rattle.code_emit.specs.Counts.{tips}
+use Rattle.code_emit.specs.Spans.{leaf_slots}
 use Rattle.code_pieces.specs.Pieces.{Piece, Follow, instrs_of, StandsIn, IsPiece, IsAside}
 use Rattle.frame_laws.specs.Frames.{sinks_read, assignment_nodes, sinks_nodes}
 
@@ -13,6 +18,13 @@ use Rattle.frame_laws.specs.Frames.{sinks_read, assignment_nodes, sinks_nodes}
 abbrev pub Once : List ℕ → Type 0
 Once [] = Unit {0}
 Once (x ∷ xs) = (Contains xs x → ⊥) × Once xs
+
+-- A group of expressions has no more tips than one of these numbers, and mentions no leaves in the frame but these.
+pub record GroupFits (S : Sources) (read counts : List ℕ) (gs : List Ground) : Type 0 where
+  pub count : ℕ
+  pub counted : Contains counts count
+  pub few : sum_by tips gs ≤ count
+  pub reads : (g : Ground) (y k : ℕ) → Contains gs g → Contains (mentions g) y → among (leaf_slots S y) k ≡ true → Contains read y
 
 -- The code of an assignment evaluates its driver, and keeps the value.
 abbrev pub IsAssigning : Net → Code → (ℕ → List ℕ) → List ℕ → ℕ → Piece → Type 0

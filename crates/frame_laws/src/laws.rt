@@ -1,6 +1,6 @@
 //! Laws of frames, and what the definitions say of small nets. The functions do nothing.
 
-ghost use Rattle.std.specs.Prelude.{◌≡◌, ◌⊎◌, ℕ, ◌≤◌, max, true, false, length, List, [], ◌∷◌, Some, None, slice_get, Option, Contains, ◌<◌};
+ghost use Rattle.std.specs.Prelude.{◌≡◌, ◌⊎◌, ℕ, ◌≤◌, max, true, false, length, List, [], ◌∷◌, Some, None, slice_get, Option, Contains, ◌<◌, All};
 ghost use Rattle.ground_net.specs.declared.ground.Ground.{Ground as TheGround};
 ghost use Rattle.ground_net.specs.declared.net.Net.{Net as TheNet};
 ghost use Rattle.ground_net.specs.declared.net.NetRegister.{NetRegister as TheRegister};
@@ -15,7 +15,7 @@ ghost use Rattle.flat_code.specs.Fine.{among, slots_of};
 ghost use Rattle.code_draft.specs.declared.draft.Draft.{Draft as TheDraft};
 ghost use Rattle.code_emit.specs.declared.sources.Sources.{Sources as TheSources};
 ghost use Rattle.code_emit.specs.Counts.{tips};
-ghost use Rattle.code_emit.specs.Spans.{leaf_slots};
+ghost use Rattle.code_emit.specs.Spans.{leaf_slots, Evaluates};
 ghost use Rattle.code_sequence.specs.Sequences.{driver_in};
 ghost use Rattle.code_sequence.specs.Segmented.{InSegments};
 ghost use Rattle.ground_net.specs.Grounds.{mentions};
@@ -24,7 +24,7 @@ ghost use Rattle.code_place.specs.Live.{most_live_of};
 ghost use Rattle.code_place.specs.Placed.{HasFew};
 ghost use Rattle.frame_laws.specs.Frames.{live_behind, most_assignments, most_nodes, frame_bound, sink_nodes, memory_nodes, sinks_read, sinks_nodes, assignment_nodes};
 ghost use Rattle.frame_laws.specs.Examples.{chain, whole_chain, gathering, whole_gathering, gathering_alone, resetting, memory, port, writes, reads};
-ghost use Rattle.frame_laws.specs.Pieces.{Once, InPieces};
+ghost use Rattle.frame_laws.specs.Pieces.{Once, GroupFits, InPieces};
 
 /// Of a code of a part in pieces no more slots are live at once than two for each assignment that is live at once and two for each
 /// node of the largest driver. So the frame of the placed code is no longer.
@@ -44,6 +44,11 @@ pub fn drafts_are_pieces()
 /// reads what its driver mentions and has as many nodes as its driver has tips.
 pub fn turns_are_pieces()
     ensures { (drivers : List (Option TheGround)) (reads : ℕ → List ℕ) (counts : ℕ → ℕ) (leaves : List ℕ) (S T : TheSources) (old new : TheDraft) → ((x : ℕ) (g : TheGround) → driver_in drivers x ≡ Some g → ((y : ℕ) → Contains (mentions g) y → Contains (reads x) y) × (tips g ≤ counts x)) → InSegments drivers leaves S old T new → ((y k : ℕ) → among (leaf_slots S y) k ≡ true → ⊥) → Once leaves → ((y : ℕ) → Contains leaves y → y < length S.leaves) → AssignsPieces (leaf_slots T) reads counts leaves old new }
+{}
+
+/// Groups of expressions that are evaluated and not kept are pieces, where each group fits.
+pub fn groups_are_pieces()
+    ensures { (S : TheSources) (earlier read counts : List ℕ) (groups : List (List TheGround)) (old new : TheDraft) → ((y k : ℕ) → among (leaf_slots S y) k ≡ true → Contains earlier y) → Evaluates S groups old new → All (GroupFits S read counts) groups → AddsPieces (leaf_slots S) earlier read counts old new }
 {}
 
 /// A part with an assignment that has a driver, or with a register, has a driver with nodes.
