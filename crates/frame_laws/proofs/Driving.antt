@@ -13,43 +13,17 @@ use Rattle.ground_net.specs.declared.net.CutPart.{CutPart}
 use Rattle.ground_net.specs.Reads.{driver_of}
 use Rattle.ground_net.specs.Cones.{A_register}
 use Rattle.ground_net.proofs.Layers.{ground_induction, maps}
+use Rattle.code_emit.specs.Counts.{nodes}
+use Rattle.code_emit.proofs.Counting.{tips_few, tips_some}
 use Rattle.next_grounds.specs.Nexts.{driven_ground}
 use Rattle.partition_code.specs.Codes.{sinks_of_part}
-use Rattle.frame_laws.specs.Frames.{nodes, nodes_of, nodes_of_register, assignment_nodes, register_nodes, sink_nodes, most_nodes}
+use Rattle.frame_laws.specs.Frames.{nodes_of, nodes_of_register, assignment_nodes, register_nodes, sink_nodes, most_nodes}
 use Rattle.frame_laws.proofs.Standing.{contains_first, contains_flat}
 use Rattle.frame_laws.proofs.Greatest.{in_greatest}
 use Rattle.frame_laws.proofs.Frames.{contains_map}
 
-nodes-Const : (v : Value) → nodes (Const v) ≡ 1
-nodes-Const v = grind (arith, common_steps, the_lemmas)
-
-nodes-Leaf : (x : ℕ) → nodes (Leaf x) ≡ 1
-nodes-Leaf x = grind (arith, common_steps, the_lemmas)
-
-nodes-Op : (prim : PrimOp) (operands : List Ground) (params : List ℕ) → nodes (Op prim operands params) ≡ 1 + sum (map nodes operands)
-nodes-Op prim operands params = grind (arith, common_steps, the_lemmas, maps)
-
-nodes-Mux : (items : List Ground) → nodes (Mux items) ≡ 1 + sum (map nodes items)
-nodes-Mux items = grind (arith, common_steps, the_lemmas, maps)
-
-nodes-Select : (index items : List Ground) → nodes (Select index items) ≡ 1 + (sum (map nodes index) + sum (map nodes items))
-nodes-Select index items = grind (arith, common_steps, the_lemmas, maps)
-
-nodes-Load : (m k : ℕ) (items : List Ground) → nodes (Load m k items) ≡ 1 + sum (map nodes items)
-nodes-Load m k items = grind (arith, common_steps, the_lemmas, maps)
-
-nodes-Fit : (kind : Kind) (width : ℕ) (items : List Ground) → nodes (Fit kind width items) ≡ 1 + sum (map nodes items)
-nodes-Fit kind width items = grind (arith, common_steps, the_lemmas, maps)
-
 pub nodes_some : (g : Ground) → 1 ≤ nodes g
-nodes_some = ground_induction (λ g. 1 ≤ nodes g)
-    (λ v. let e = nodes-Const v in omega (arith, e))
-    (λ x. let e = nodes-Leaf x in omega (arith, e))
-    (λ prim operands params parts. let e = nodes-Op prim operands params in omega (arith, e))
-    (λ items parts. let e = nodes-Mux items in omega (arith, e))
-    (λ index items parts others. let e = nodes-Select index items in omega (arith, e))
-    (λ m k items parts. let e = nodes-Load m k items in omega (arith, e))
-    (λ kind width items parts. let e = nodes-Fit kind width items in omega (arith, e))
+nodes_some g = let some = tips_some g in let few = tips_few g in omega (arith, some, few)
 
 pub assignment_some : (net : Net) (watch : List ℕ) (part : CutPart) (x : ℕ) (driver : Ground) → Contains part.assignments x → driver_of net x ≡ Some driver → 1 ≤ most_nodes net watch part
 assignment_some net watch part x driver c e =

@@ -7,3 +7,4 @@ pub mod Building
 pub mod Driving
 pub mod Turning
 pub mod Telling
+pub mod Fitting

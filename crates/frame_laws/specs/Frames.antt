@@ -1,10 +1,9 @@
 -- How many slots the code of a part may take: by its assignments that are live at once, and by its largest driver.
 --
 -- A slot has 64 bits, and a value at most 128. So an assignment takes at most two slots, and so does each node of a driver.
-use Rattle.std.specs.Prelude.{ℕ, suc, ◌+◌, ◌*◌, max, List, [], ◌∷◌, ◌++◌, map, filter, flat_map, sum, length, take, drop, slice_get, Option, Some, None, if◌then◌else◌}
+use Rattle.std.specs.Prelude.{ℕ, suc, ◌+◌, ◌*◌, max, List, [], ◌∷◌, ◌++◌, map, filter, flat_map, length, take, drop, slice_get, Option, Some, None, if◌then◌else◌}
 use Rattle.std.specs.List.{range_with_len}
-use Rattle.ground_net.specs.declared.ground.Ground.{Ground, fold-Ground}
-use Rattle.ground_net.specs.declared.ground.Ground.TheOpen.{Ground-F}
+use Rattle.ground_net.specs.declared.ground.Ground.{Ground}
 use Rattle.ground_net.specs.declared.net.Net.{Net}
 use Rattle.ground_net.specs.declared.net.NetRegister.{NetRegister}
 use Rattle.ground_net.specs.declared.net.NetReset.{NetReset}
@@ -20,6 +19,7 @@ use Rattle.next_grounds.specs.Nexts.{driven_ground}
 use Rattle.memory_grounds.specs.declared.leaf.MemoryLeaf.{MemoryLeaf}
 use Rattle.memory_grounds.specs.Captures.{captured_ground}
 use Rattle.flat_code.specs.Fine.{among}
+use Rattle.code_emit.specs.Counts.{nodes}
 use Rattle.partition_code.specs.Codes.{sinks_of_part}
 
 -- the greatest of numbers, and 0 where there are none
@@ -47,20 +47,6 @@ abbrev pub most_assignments : Net → List ℕ → CutPart → ℕ
 most_assignments net watch part = greatest (map (λ k. length (live_behind net watch part k)) (range_with_len 0 (length part.assignments)))
 
 -- Nodes
-
--- one for the node, and those of its operands
-abbrev pub counted : Ground-F ℕ → ℕ
-counted (Ground-F.Const v) = 1
-counted (Ground-F.Leaf x) = 1
-counted (Ground-F.Op prim operands params) = 1 + sum operands
-counted (Ground-F.Mux items) = 1 + sum items
-counted (Ground-F.Select index items) = 1 + (sum index + sum items)
-counted (Ground-F.Load memory leaf items) = 1 + sum items
-counted (Ground-F.Fit kind width items) = 1 + sum items
-
--- The nodes of an expression.
-abbrev pub nodes : Ground → ℕ
-nodes = fold-Ground ℕ counted
 
 abbrev pub nodes_of : Option Ground → ℕ
 nodes_of (Some driver) = nodes driver

@@ -6,7 +6,7 @@ ghost use Rattle.ground_net.specs.declared.net.Net.{Net as TheNet};
 ghost use Rattle.ground_net.specs.declared.net.NetRegister.{NetRegister as TheRegister};
 ghost use Rattle.ground_net.specs.declared.net.CutPart.{CutPart as ThePart};
 ghost use Rattle.ground_net.specs.Reads.{direct_reads, driver_of};
-ghost use Rattle.ground_net.specs.Cones.{A_register};
+ghost use Rattle.ground_net.specs.Cones.{A_register, A_memory};
 ghost use Rattle.partition_code.specs.Codes.{sinks_of_part};
 ghost use Rattle.cone_cutter.specs.Examples.{crossing};
 ghost use Rattle.flat_code.specs.declared.code.Code.{Code as TheCode};
@@ -19,6 +19,8 @@ ghost use Rattle.code_emit.specs.Spans.{leaf_slots, Evaluates};
 ghost use Rattle.code_sequence.specs.Sequences.{driver_in};
 ghost use Rattle.code_sequence.specs.Segmented.{InSegments};
 ghost use Rattle.ground_net.specs.Grounds.{mentions};
+ghost use Rattle.next_grounds.specs.Nexts.{next_ground};
+ghost use Rattle.code_writes.specs.Groups.{IsWriteGroup};
 ghost use Rattle.code_pieces.specs.Pieces.{StandsIn, AssignsPieces, AddsPieces};
 ghost use Rattle.code_place.specs.Live.{most_live_of};
 ghost use Rattle.code_place.specs.Placed.{HasFew};
@@ -49,6 +51,12 @@ pub fn turns_are_pieces()
 /// Groups of expressions that are evaluated and not kept are pieces, where each group fits.
 pub fn groups_are_pieces()
     ensures { (S : TheSources) (earlier read counts : List ℕ) (groups : List (List TheGround)) (old new : TheDraft) → ((y k : ℕ) → among (leaf_slots S y) k ≡ true → Contains earlier y) → Evaluates S groups old new → All (GroupFits S read counts) groups → AddsPieces (leaf_slots S) earlier read counts old new }
+{}
+
+/// What a register holds next fits, where its own leaf isn't in the frame, and so do the leaves of each write of a memory.
+pub fn sinks_fit()
+    ensures register { (net : TheNet) (watch : List ℕ) (part : ThePart) (S : TheSources) (n : ℕ) (register : TheRegister) → Contains (sinks_of_part net watch part) (A_register n) → slice_get net.registers n ≡ Some register → ((k : ℕ) → among (leaf_slots S register.leaf) k ≡ true → ⊥) → GroupFits S (sinks_read net watch part) (sinks_nodes net watch part) (next_ground register (driver_of net register.leaf) ∷ []) }
+    ensures write { (net : TheNet) (watch : List ℕ) (part : ThePart) (S : TheSources) (m : ℕ) (gs : List TheGround) → Contains (sinks_of_part net watch part) (A_memory m) → IsWriteGroup net m gs → GroupFits S (sinks_read net watch part) (sinks_nodes net watch part) gs }
 {}
 
 /// A part with an assignment that has a driver, or with a register, has a driver with nodes.

@@ -1,0 +1,8 @@
+use Rattle.frame_laws.proofs.Fitting.{register_fits, write_fits}
+use Rattle.frame_laws.proofs.laws.sinks_fit.Goals as goal
+
+pub returns-clause-register : goal.returns-clause-register
+returns-clause-register c = register_fits
+
+pub returns-clause-write : goal.returns-clause-write
+returns-clause-write c = write_fits
