@@ -9,7 +9,9 @@ ghost use Rattle.net_meaning.specs.Cycles.{captured_by};
 ghost use Rattle.code_emit.specs.Emits.{leaf_source};
 ghost use Rattle.memory_sources.specs.Memories.{HasMemory, word_of as word_in, capture_of, capture_left};
 ghost use Rattle.code_writes.specs.Writes.{IsPortAt, PublishesLeft};
+ghost use Rattle.code_registers.specs.Groups.{EvaluatesOnly};
 ghost use Rattle.code_memories.specs.Captures.{ReadsAt, IsKept};
+ghost use Rattle.code_memories.specs.Groups.{IsCaptureGroup};
 
 use code_draft::Draft;
 use code_emit::{Source, Sources, emit};
@@ -29,7 +31,8 @@ pub(crate) fn publish_captures(
 ) -> Result<(), AllocError>
     requires net { IsNet net.now }
     requires memory { HasMemory net.now sources.now number }
-    ensures { OnOk result ((memory : TheMemory) → slice_get net.now.memories number ≡ Some memory → PublishesLeft net.now sources.now (λ st sight. flat_map (λ port. flat_map (capture_left net.now sources.now st sight number) (captured_by number memory port port.read)) memory.ports) draft.old draft.new) }
+    ensures left { OnOk result ((memory : TheMemory) → slice_get net.now.memories number ≡ Some memory → PublishesLeft net.now sources.now (λ st sight. flat_map (λ port. flat_map (capture_left net.now sources.now st sight number) (captured_by number memory port port.read)) memory.ports) draft.old draft.new) }
+    ensures evaluates { OnOk result (EvaluatesOnly sources.now (IsCaptureGroup net.now number) draft.old draft.new) }
 {
     let Some(memory) = net.memories.get(number as usize) else {
         unreachable!();
@@ -55,7 +58,8 @@ fn publish_reads(
     requires net { IsNet net.now }
     requires memory { HasMemory net.now sources.now at.memory }
     requires there { IsPortAt net.now at.memory at.port }
-    ensures { OnOk result ((memory : TheMemory) (port : ThePort) → slice_get net.now.memories at.memory ≡ Some memory → slice_get memory.ports at.port ≡ Some port → PublishesLeft net.now sources.now (λ st sight. flat_map (capture_left net.now sources.now st sight at.memory) (captured_by at.memory memory port port.read)) draft.old draft.new) }
+    ensures left { OnOk result ((memory : TheMemory) (port : ThePort) → slice_get net.now.memories at.memory ≡ Some memory → slice_get memory.ports at.port ≡ Some port → PublishesLeft net.now sources.now (λ st sight. flat_map (capture_left net.now sources.now st sight at.memory) (captured_by at.memory memory port port.read)) draft.old draft.new) }
+    ensures evaluates { OnOk result (EvaluatesOnly sources.now (IsCaptureGroup net.now at.memory) draft.old draft.new) }
 {
     let Some(memory) = net.memories.get(at.memory as usize) else {
         unreachable!();
@@ -92,7 +96,8 @@ fn publish_capture(
     requires net { IsNet net.now }
     requires memory { HasMemory net.now sources.now at.memory }
     requires there { ReadsAt net.now at.memory at.port at.leaf }
-    ensures { OnOk result ((memory : TheMemory) (port : ThePort) (read : TheRead) (shown : ℕ) → slice_get net.now.memories at.memory ≡ Some memory → slice_get memory.ports at.port ≡ Some port → port.read ≡ Some read → slice_get read.leaves at.leaf ≡ Some shown → PublishesLeft net.now sources.now (λ st sight. capture_left net.now sources.now st sight at.memory (capture_of at.memory memory port read (at.leaf, shown))) draft.old draft.new) }
+    ensures left { OnOk result ((memory : TheMemory) (port : ThePort) (read : TheRead) (shown : ℕ) → slice_get net.now.memories at.memory ≡ Some memory → slice_get memory.ports at.port ≡ Some port → port.read ≡ Some read → slice_get read.leaves at.leaf ≡ Some shown → PublishesLeft net.now sources.now (λ st sight. capture_left net.now sources.now st sight at.memory (capture_of at.memory memory port read (at.leaf, shown))) draft.old draft.new) }
+    ensures evaluates { OnOk result (EvaluatesOnly sources.now (IsCaptureGroup net.now at.memory) draft.old draft.new) }
 {
     let Some(memory) = net.memories.get(at.memory as usize) else {
         unreachable!();

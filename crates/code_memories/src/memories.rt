@@ -5,6 +5,8 @@ ghost use Rattle.ground_net.specs.Cones.{A_memory};
 ghost use Rattle.net_meaning.specs.Nets.{IsNet};
 ghost use Rattle.memory_sources.specs.Memories.{HasMemory};
 ghost use Rattle.code_registers.specs.Telling.{PublishesSinks};
+ghost use Rattle.code_registers.specs.Groups.{EvaluatesOnly};
+ghost use Rattle.code_memories.specs.Groups.{IsMemoryGroup};
 
 use crate::captures::publish_captures;
 use code_draft::Draft;
@@ -23,7 +25,8 @@ pub fn publish_memory(
 ) -> Result<(), AllocError>
     requires net { IsNet net.now }
     requires memory { HasMemory net.now sources.now number }
-    ensures { OnOk result (PublishesSinks net.now sources.now (A_memory number ∷ []) draft.old draft.new) }
+    ensures publishes { OnOk result (PublishesSinks net.now sources.now (A_memory number ∷ []) draft.old draft.new) }
+    ensures evaluates { OnOk result (EvaluatesOnly sources.now (IsMemoryGroup net.now number) draft.old draft.new) }
 {
     publish_writes(alloc, draft, sources, net, number)?;
     publish_captures(alloc, draft, sources, net, number)

@@ -1,4 +1,4 @@
-use Rattle.std.proofs.Common.{◌≡◌, ℕ, Some, slice_get, sym, refl}
+use Rattle.std.proofs.Common.{◌≡◌, ℕ, [], ◌∷◌, ap, Some, slice_get, sym, refl}
 use Rattle.ground_net.specs.declared.net.NetMemory.{NetMemory}
 use Rattle.ground_net.specs.declared.net.NetPort.{NetPort}
 use Rattle.ground_net.specs.declared.net.NetRead.{NetRead}
@@ -10,6 +10,13 @@ use Rattle.code_writes.specs.Writes.{PublishesLeft}
 use Rattle.code_writes.proofs.Targets.{on_ok_so}
 use Rattle.code_writes.proofs.Written.{some_is}
 use Rattle.code_memories.proofs.Loops.{kept_here, has_here, capture_done}
+use Rattle.flat_code.specs.Fine.{spot_slots}
+use Rattle.code_draft.specs.Segments.{Segment}
+use Rattle.code_emit.proofs.Spanning.{one_told}
+use Rattle.code_registers.specs.Groups.{EvaluatesOnly}
+use Rattle.code_registers.proofs.Evaluating.{one_such}
+use Rattle.code_memories.specs.Groups.{IsCaptureGroup}
+use Rattle.code_memories.proofs.Evaluating.{late_here, capture_group}
 use Rattle.code_memories.proofs.captures.publish_capture.Goals as goal
 
 pub word_of-word-requires : goal.word_of-word-requires
@@ -25,8 +32,8 @@ emit-requires c =
     (has_here c.args.net.now S c.args.at.memory c.requires.net c.requires.memory c.in-Some.memory.now (sym c.in-Some.ensures.value) c.args.at.port c.in-Some-get.port.now (sym c.in-Some-get.ensures.value) c.in-Some-read.read c.in-Some-read.is
     c.args.at.leaf c.in-Some-get-2.shown.now element (sym c.in-Some-get-2.ensures.value) (sym c.in-Some-get-3.ensures.value) c.requires.there (record { memory = c.args.at.memory; number = c.in-Ok.number; kind = element.kind; width = element.width; narrow = _ }) refl c.in-Ok.ensures.1 refl))
 
-pub returns : goal.returns
-returns c =
+pub returns-clause-left : goal.returns-clause-left
+returns-clause-left c =
     let net = c.args.net.now in
     let S = c.args.sources.now in
     let m = c.args.at.memory in
@@ -51,7 +58,31 @@ returns c =
     on_ok_so (Publishes mid new c.word_of-word.result s)
     ((other : NetMemory) (its : NetPort) (rd : NetRead) (sh : ℕ) → slice_get net.memories m ≡ Some other → slice_get other.ports p ≡ Some its → its.read ≡ Some rd → slice_get rd.leaves k ≡ Some sh
     → PublishesLeft net S (λ st sight. capture_left net S st sight m (capture_of m other its rd (k, sh))) old new)
-    c.publish.result c.publish.ensures (λ told.
+    c.publish.result c.publish.ensures.publishes (λ told.
     capture_done net S m c.requires.net c.requires.memory memory there p port listed read reads k x element at element_there c.requires.there (record { memory = m; number = c.in-Ok.number; kind = element.kind; width = element.width; narrow = _ }) g old mid new s c.word_of-word.result refl same refl c.in_ok-next.ensures.value
     (c.in_ok-next.ensures.shape (sources_table S) (has_here net S m c.requires.net c.requires.memory memory there p port listed read reads k x element at element_there c.requires.there (record { memory = m; number = c.in-Ok.number; kind = element.kind; width = element.width; narrow = _ }) refl same refl))
     c.in_ok-spot.ensures.shape c.in_ok-spot.ensures.emits told c.word_of-word.ensures)
+
+pub returns-clause-evaluates : goal.returns-clause-evaluates
+returns-clause-evaluates c =
+    let net = c.args.net.now in
+    let S = c.args.sources.now in
+    let m = c.args.at.memory in
+    let p = c.args.at.port in
+    let k = c.args.at.leaf in
+    let memory = c.in-Some.memory.now in
+    let there = sym c.in-Some.ensures.value in
+    let port = c.in-Some-get.port.now in
+    let listed = sym c.in-Some-get.ensures.value in
+    let read = c.in-Some-read.read in
+    let element = c.in-Some-get-3.element.now in
+    let g = c.in_ok-next.next in
+    let s = c.in_ok-spot.spot in
+    let old = c.args.draft.now in
+    let mid = c.emit.new.draft in
+    let new = c.publish.new.draft in
+    on_ok_so (Segment mid new (spot_slots s) [] 0) (EvaluatesOnly S (IsCaptureGroup net m) old new) c.publish.result c.publish.ensures.segment (λ told.
+    one_such S (IsCaptureGroup net m) (g ∷ []) old new
+    (capture_group net m p k memory port read element (record { memory = m; number = c.in-Ok.number; kind = element.kind; width = element.width; narrow = element.narrow }) g there listed c.in-Some-read.is
+    (late_here net m p k c.requires.there memory port read there listed c.in-Some-read.is) (sym c.in-Some-get-3.ensures.value) refl c.in-Ok.ensures.1 refl refl c.in_ok-next.ensures.itself)
+    (one_told S g old mid new s c.in_ok-spot.ensures.spans told))

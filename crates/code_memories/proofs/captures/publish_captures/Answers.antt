@@ -3,10 +3,15 @@ use Rattle.ground_net.specs.declared.net.NetMemory.{NetMemory}
 use Rattle.memory_sources.proofs.Numbered.{some_there, some_same}
 use Rattle.code_writes.proofs.Targets.{nothing_left_yet}
 use Rattle.code_memories.proofs.Loops.{port_step, captures_done}
+use Rattle.code_registers.proofs.Evaluating.{none_such, more_such}
+use Rattle.code_memories.specs.Groups.{IsCaptureGroup}
 use Rattle.code_memories.proofs.captures.publish_captures.Goals as goal
 
 pub loop-port-init : goal.loop-port-init
-loop-port-init c = λ memory there. nothing_left_yet c.args.net.now c.args.sources.now c.args.draft.now
+loop-port-init c = record {
+  left = λ memory there. nothing_left_yet c.args.net.now c.args.sources.now c.args.draft.now;
+  evaluates = none_such c.args.sources.now (IsCaptureGroup c.args.net.now c.args.number) c.args.draft.now;
+}
 
 pub publish_reads-requires-clause-there : goal.publish_reads-requires-clause-there
 publish_reads-requires-clause-there c =
@@ -15,13 +20,16 @@ publish_reads-requires-clause-there c =
     record { memory = memory; there = sym c.in-Some.ensures.value; port = port.0; listed = port.1 }
 
 pub loop-port-preserved : goal.loop-port-preserved
-loop-port-preserved c = λ memory there.
-    let same = ap (λ (y : NetMemory). length y.ports) (some_same (sym there ∙ sym c.in-Some.ensures.value)) in
-    port_step c.args.net.now c.args.sources.now c.args.number c.requires.net c.requires.memory memory there c.loop-port.port c.args.draft.now c.loop-port.draft c.publish_reads.new.draft
-    (omega (arith, c.loop-port-test.true, same)) (c.loop-port.invariant memory there) c.in_ok-publish_reads.ensures
+loop-port-preserved c = record {
+  left = λ memory there.
+        let same = ap (λ (y : NetMemory). length y.ports) (some_same (sym there ∙ sym c.in-Some.ensures.value)) in
+        port_step c.args.net.now c.args.sources.now c.args.number c.requires.net c.requires.memory memory there c.loop-port.port c.args.draft.now c.loop-port.draft c.publish_reads.new.draft
+        (omega (arith, c.loop-port-test.true, same)) (c.loop-port.invariant.left memory there) c.in_ok-publish_reads.ensures.left;
+  evaluates = more_such c.args.sources.now (IsCaptureGroup c.args.net.now c.args.number) c.args.draft.now c.loop-port.draft c.publish_reads.new.draft c.loop-port.invariant.evaluates c.in_ok-publish_reads.ensures.evaluates;
+}
 
-pub returns : goal.returns
-returns c = λ memory there.
+pub returns-clause-left : goal.returns-clause-left
+returns-clause-left c = λ memory there.
     let same = ap (λ (y : NetMemory). length y.ports) (some_same (sym there ∙ sym c.in-Some.ensures.value)) in
     captures_done c.args.net.now c.args.sources.now c.args.number c.requires.net c.requires.memory memory there c.loop-port.port c.args.draft.now c.loop-port.draft (omega (arith, c.loop-port-test.false, same))
-    (c.loop-port.invariant memory there) memory there
+    (c.loop-port.invariant.left memory there) memory there

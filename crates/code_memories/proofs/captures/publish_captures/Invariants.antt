@@ -3,8 +3,13 @@ use Rattle.ground_net.specs.declared.net.NetMemory.{NetMemory}
 use Rattle.net_meaning.specs.Cycles.{captured_by}
 use Rattle.memory_sources.specs.Memories.{capture_left}
 use Rattle.code_writes.specs.Writes.{PublishesLeft}
+use Rattle.code_registers.specs.Groups.{EvaluatesOnly}
+use Rattle.code_memories.specs.Groups.{IsCaptureGroup}
 use Rattle.code_memories.proofs.captures.publish_captures.Given as goal
 
 abbrev pub invariant-loop-port : goal.invariant-loop-port
-invariant-loop-port l = (memory : NetMemory) → slice_get l.net.memories l.number ≡ Some memory
-    → PublishesLeft l.net l.sources (λ st sight. flat_map (λ port. flat_map (capture_left l.net l.sources st sight l.number) (captured_by l.number memory port port.read)) (take l.port memory.ports)) l.fn.draft l.draft
+invariant-loop-port l = record {
+  left : (memory : NetMemory) → slice_get l.net.memories l.number ≡ Some memory
+      → PublishesLeft l.net l.sources (λ st sight. flat_map (λ port. flat_map (capture_left l.net l.sources st sight l.number) (captured_by l.number memory port port.read)) (take l.port memory.ports)) l.fn.draft l.draft;
+  evaluates : EvaluatesOnly l.sources (IsCaptureGroup l.net l.number) l.fn.draft l.draft;
+}

@@ -5,8 +5,13 @@ use Rattle.ground_net.specs.declared.net.NetRead.{NetRead}
 use Rattle.ground_net.specs.Cones.{numbered}
 use Rattle.memory_sources.specs.Memories.{capture_of, capture_left}
 use Rattle.code_writes.specs.Writes.{PublishesLeft}
+use Rattle.code_registers.specs.Groups.{EvaluatesOnly}
+use Rattle.code_memories.specs.Groups.{IsCaptureGroup}
 use Rattle.code_memories.proofs.captures.publish_reads.Given as goal
 
 abbrev pub invariant-loop-leaf : goal.invariant-loop-leaf
-invariant-loop-leaf l = (memory : NetMemory) (port : NetPort) (read : NetRead) → slice_get l.net.memories l.at.memory ≡ Some memory → slice_get memory.ports l.at.port ≡ Some port → port.read ≡ Some read
-    → PublishesLeft l.net l.sources (λ st sight. flat_map (capture_left l.net l.sources st sight l.at.memory) (map (capture_of l.at.memory memory port read) (take l.leaf (numbered read.leaves)))) l.fn.draft l.draft
+invariant-loop-leaf l = record {
+  left : (memory : NetMemory) (port : NetPort) (read : NetRead) → slice_get l.net.memories l.at.memory ≡ Some memory → slice_get memory.ports l.at.port ≡ Some port → port.read ≡ Some read
+      → PublishesLeft l.net l.sources (λ st sight. flat_map (capture_left l.net l.sources st sight l.at.memory) (map (capture_of l.at.memory memory port read) (take l.leaf (numbered read.leaves)))) l.fn.draft l.draft;
+  evaluates : EvaluatesOnly l.sources (IsCaptureGroup l.net l.at.memory) l.fn.draft l.draft;
+}

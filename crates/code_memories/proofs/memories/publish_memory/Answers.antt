@@ -7,10 +7,13 @@ use Rattle.code_registers.specs.Telling.{PublishesSinks}
 use Rattle.code_writes.specs.Writes.{PublishesLeft}
 use Rattle.code_writes.proofs.Targets.{on_ok_so}
 use Rattle.code_memories.proofs.Loops.{memory_done}
+use Rattle.code_registers.specs.Groups.{EvaluatesOnly}
+use Rattle.code_memories.specs.Groups.{IsCaptureGroup, IsMemoryGroup}
+use Rattle.code_memories.proofs.Evaluating.{memory_evaluated}
 use Rattle.code_memories.proofs.memories.publish_memory.Goals as goal
 
-pub returns : goal.returns
-returns c =
+pub returns-clause-publishes : goal.returns-clause-publishes
+returns-clause-publishes c =
     let net = c.args.net.now in
     let S = c.args.sources.now in
     let m = c.args.number in
@@ -18,5 +21,16 @@ returns c =
     let b = c.publish_writes.new.draft in
     let d = c.publish_captures.new.draft in
     on_ok_so ((memory : NetMemory) → slice_get net.memories m ≡ Some memory → PublishesLeft net S (λ st sight. flat_map (λ port. flat_map (capture_left net S st sight m) (captured_by m memory port port.read)) memory.ports) b d)
-    (PublishesSinks net S (A_memory m ∷ []) a d) c.publish_captures.result c.publish_captures.ensures (λ reads.
-    memory_done net S m c.requires.memory a b d c.in_ok-publish_writes.ensures reads)
+    (PublishesSinks net S (A_memory m ∷ []) a d) c.publish_captures.result c.publish_captures.ensures.left (λ reads.
+    memory_done net S m c.requires.memory a b d c.in_ok-publish_writes.ensures.left reads)
+
+pub returns-clause-evaluates : goal.returns-clause-evaluates
+returns-clause-evaluates c =
+    let net = c.args.net.now in
+    let S = c.args.sources.now in
+    let m = c.args.number in
+    let a = c.args.draft.now in
+    let b = c.publish_writes.new.draft in
+    let d = c.publish_captures.new.draft in
+    on_ok_so (EvaluatesOnly S (IsCaptureGroup net m) b d) (EvaluatesOnly S (IsMemoryGroup net m) a d) c.publish_captures.result c.publish_captures.ensures.evaluates (λ reads.
+    memory_evaluated net S m a b d c.in_ok-publish_writes.ensures.evaluates reads)
