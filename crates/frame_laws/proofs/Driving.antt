@@ -1,18 +1,12 @@
 -- Expressions have nodes.
-use Rattle.std.proofs.Common.{◌≡◌, ℕ, ◌+◌, ◌≤◌, List, [], ◌++◌, map, flat_map, slice_get, Some, Contains, sym, subst, ap, arith, sum}
-use Rattle.std.proofs.lemmas.Grind.{common_steps}
+use Rattle.std.proofs.Common.{◌≡◌, ℕ, ◌≤◌, List, [], ◌++◌, map, flat_map, slice_get, Some, Contains, sym, subst, ap, arith}
 use Rattle.std.proofs.lemmas.List.Elements.{Contains-append_left, Contains-append_right}
-use Rattle.bit_words.specs.declared.value.Kind.{Kind}
-use Rattle.bit_words.specs.declared.value.Value.{Value}
-use Rattle.prim_ops.specs.declared.operation.PrimOp.{PrimOp}
-use Rattle.ground_net.specs.declared.ground.Ground.{Ground, the_lemmas}
-use Rattle.ground_net.specs.declared.ground.Ground.TheVariants.{Const, Leaf, Op, Mux, Select, Load, Fit}
+use Rattle.ground_net.specs.declared.ground.Ground.{Ground}
 use Rattle.ground_net.specs.declared.net.Net.{Net}
 use Rattle.ground_net.specs.declared.net.NetRegister.{NetRegister}
 use Rattle.ground_net.specs.declared.net.CutPart.{CutPart}
 use Rattle.ground_net.specs.Reads.{driver_of}
 use Rattle.ground_net.specs.Cones.{A_register}
-use Rattle.ground_net.proofs.Layers.{ground_induction, maps}
 use Rattle.code_emit.specs.Counts.{nodes}
 use Rattle.code_emit.proofs.Counting.{tips_few, tips_some}
 use Rattle.next_grounds.specs.Nexts.{driven_ground}

@@ -1,20 +1,19 @@
 -- What registers and writes evaluate fits.
-use Rattle.std.proofs.Common.{◌≡◌, ℕ, zero, suc, ◌+◌, ◌<◌, ◌≤◌, true, List, [], ◌∷◌, ◌++◌, map, flat_map, length, slice_get, Option, Some, None, Contains, sum, sum_by, ◌⊎◌, inl, inr, refl, sym, subst, ap, ◌∙◌, arith, ⊎_elim, length-append}
+use Rattle.std.proofs.Common.{◌≡◌, ℕ, zero, suc, ◌+◌, ◌<◌, ◌≤◌, true, List, [], ◌∷◌, ◌++◌, map, length, slice_get, Option, Some, None, Contains, sum_by, ◌⊎◌, inl, inr, refl, sym, subst, ap, ◌∙◌, arith, ⊎_elim, length-append}
 use Rattle.std.proofs.lemmas.List.Sums.{sum_by-cons}
 use Rattle.std.proofs.lemmas.List.Elements.{Contains-append_left, Contains-append_right, Contains-append_cases}
 use Rattle.std.proofs.lemmas.Option.{slice_get_within, get_or_from_slice_get, slice_get-get_or}
 use Rattle.ground_net.specs.declared.ground.Ground.{Ground}
-use Rattle.ground_net.specs.declared.ground.Ground.TheVariants.{Leaf, Mux}
+use Rattle.ground_net.specs.declared.ground.Ground.TheVariants.{Leaf}
 use Rattle.ground_net.specs.declared.net.Net.{Net}
 use Rattle.ground_net.specs.declared.net.NetRegister.{NetRegister}
 use Rattle.ground_net.specs.declared.net.NetReset.{NetReset}
-use Rattle.ground_net.specs.declared.net.NetMemory.{NetMemory}
 use Rattle.ground_net.specs.declared.net.NetPort.{NetPort}
 use Rattle.ground_net.specs.declared.net.NetWrite.{NetWrite}
 use Rattle.ground_net.specs.declared.net.CutPart.{CutPart}
 use Rattle.ground_net.specs.Grounds.{mentions}
 use Rattle.ground_net.specs.Reads.{driver_of}
-use Rattle.ground_net.specs.Cones.{Sink, A_register, A_memory, needs, needs_of_register, needs_of_memory, register_needs, mentioned_by, mentioned_by_reset, or_no_leaf, port_needs, memory_needs}
+use Rattle.ground_net.specs.Cones.{Sink, A_register, A_memory, needs, needs_of_register, needs_of_memory, register_needs, mentioned_by, mentioned_by_reset, or_no_leaf, port_needs}
 use Rattle.ground_net.proofs.Layers.{mentions-Leaf, mentions-Mux}
 use Rattle.flat_code.specs.Fine.{among}
 use Rattle.next_grounds.specs.Nexts.{driven_ground, reset_ground, next_ground}
@@ -26,22 +25,22 @@ use Rattle.code_writes.specs.Writes.{conditions_of}
 use Rattle.code_writes.specs.Groups.{IsWriteGroup}
 use Rattle.partition_code.specs.Codes.{sinks_of_part}
 use Rattle.cone_cutter.proofs.Lists.{cons_cases}
-use Rattle.frame_laws.specs.Frames.{sinks_read, sinks_nodes, sink_nodes, nodes_of_reset, register_nodes, nodes_of_register, write_nodes, read_nodes, memory_nodes, nodes_of_memory}
+use Rattle.frame_laws.specs.Frames.{sinks_read, sinks_nodes, sink_nodes, nodes_of_reset, register_nodes, nodes_of_register, write_nodes, read_nodes, nodes_of_memory}
 use Rattle.frame_laws.specs.Pieces.{GroupFits}
 use Rattle.frame_laws.proofs.Standing.{contains_first, contains_later, contains_flat}
 
-only : {A : Type 0} (x y : A) → Contains (x ∷ []) y → x ≡ y
+pub only : {A : Type 0} (x y : A) → Contains (x ∷ []) y → x ≡ y
 only x y (zero, lt, e) = e
 only x y (suc k, lt, e) = absurd (omega (arith, lt))
 
-item_there : {A : Type 0} (xs : List A) (k : ℕ) (x : A) → slice_get xs k ≡ Some x → Contains xs x
+pub item_there : {A : Type 0} (xs : List A) (k : ℕ) (x : A) → slice_get xs k ≡ Some x → Contains xs x
 item_there xs k x e = (k, slice_get_within xs k x e, get_or_from_slice_get xs k x x e)
 
 module _ (net : Net) (watch : List ℕ) (part : CutPart) (sink : Sink) (there : Contains (sinks_of_part net watch part) sink) where
-  all_read : (y : ℕ) → Contains (needs net sink) y → Contains (sinks_read net watch part) y
+  pub all_read : (y : ℕ) → Contains (needs net sink) y → Contains (sinks_read net watch part) y
   all_read y c = contains_flat (needs net) (sinks_of_part net watch part) sink y there c
 
-  all_counted : (n : ℕ) → Contains (sink_nodes net sink) n → Contains (sinks_nodes net watch part) n
+  pub all_counted : (n : ℕ) → Contains (sink_nodes net sink) n → Contains (sinks_nodes net watch part) n
   all_counted n c = contains_flat (sink_nodes net) (sinks_of_part net watch part) sink n there c
 
 -- Registers
@@ -86,7 +85,7 @@ register_fits net watch part S n register there found own =
       reads = λ g y k c m e.
           let mention = subst (λ h. Contains (mentions h) y) (sym (only next g c)) m in
           let needed : Contains (register_needs net register) y → Contains (sinks_read net watch part) y =
-              λ r. all_read net watch part (A_register n) there y (subst (λ o. Contains (needs_of_register net o) y) (sym found) r)
+          λ r. all_read net watch part (A_register n) there y (subst (λ o. Contains (needs_of_register net o) y) (sym found) r)
           in
           ⊎_elim
           (λ d. ⊎_elim

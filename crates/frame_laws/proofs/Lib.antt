@@ -8,3 +8,4 @@ pub mod Driving
 pub mod Turning
 pub mod Telling
 pub mod Fitting
+pub mod Capturing

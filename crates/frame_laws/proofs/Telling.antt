@@ -1,5 +1,5 @@
 -- What sinks evaluate, group by group, are pieces.
-use Rattle.std.proofs.Common.{◌≡◌, ℕ, zero, suc, ◌+◌, ◌*◌, ◌<◌, ◌≤◌, true, List, [], ◌∷◌, ◌++◌, flat_map, length, Contains, All, sum_by, refl, sym, subst, ap, ◌∙◌, arith, ⊎_elim}
+use Rattle.std.proofs.Common.{◌≡◌, ℕ, ◌*◌, true, List, [], ◌∷◌, flat_map, Contains, All, sum_by, sym, subst, arith, ⊎_elim}
 use Rattle.ground_net.specs.declared.ground.Ground.{Ground}
 use Rattle.ground_net.specs.Grounds.{mentions}
 use Rattle.flat_code.specs.Fine.{among}

@@ -1,16 +1,15 @@
 -- Segments of assignments in turn are pieces.
-use Rattle.std.proofs.Common.{◌≡◌, ◌≢◌, ℕ, zero, suc, ◌+◌, ◌*◌, ◌<◌, ◌≤◌, true, List, [], ◌∷◌, ◌++◌, flat_map, length, take, slice_get, slice_index, slice_index_or, Option, Some, None, Contains, inl, inr, ◌⊎◌, refl, sym, subst, ap, ◌∙◌, arith, ⊎_elim, append_assoc, append-nil, All, length-set}
+use Rattle.std.proofs.Common.{◌≡◌, ℕ, zero, suc, ◌*◌, ◌<◌, ◌≤◌, true, List, [], ◌∷◌, ◌++◌, flat_map, length, take, slice_get, Option, Some, None, Contains, refl, sym, subst, ap, ◌∙◌, arith, ⊎_elim, append_assoc, append-nil, length-set}
 use Rattle.std.proofs.lemmas.Bool.{cases_eq}
 use Rattle.std.proofs.lemmas.List.Elements.{Contains-append_left, Contains-append_right, Contains-append_cases}
 use Rattle.ground_net.specs.declared.ground.Ground.{Ground}
 use Rattle.ground_net.specs.Grounds.{mentions}
 use Rattle.flat_code.specs.declared.instr.Port.{Port}
-use Rattle.flat_code.specs.declared.instr.Spot.{Spot}
 use Rattle.flat_code.specs.declared.instr.Wide.{Wide}
 use Rattle.flat_code.specs.Fine.{among, spot_slots}
 use Rattle.code_draft.specs.declared.draft.Draft.{Draft}
-use Rattle.code_draft.specs.Segments.{GoesOn, Segment, Stretch}
-use Rattle.code_draft.proofs.Joining.{goes_same, goes_then}
+use Rattle.code_draft.specs.Segments.{GoesOn}
+use Rattle.code_draft.proofs.Joining.{goes_then}
 use Rattle.code_draft.proofs.Segmenting.{none_among, among_either}
 use Rattle.code_emit.specs.declared.sources.Source.TheVariants as source
 use Rattle.code_emit.specs.declared.sources.Sources.{Sources}
@@ -83,14 +82,14 @@ module _ (drivers : List (Option Ground)) (reads : ℕ → List ℕ) (counts : �
       (λ y c. let long = length-set S.leaves x (Some (source.Frame s)) in let below = within y (contains_later x rest y c) in omega (arith, long, below))
       in
       let outside : (k : ℕ) → among (ground_slots S g) k ≡ true → StandsIn (leaf_slots T) done (reads x) k =
-          λ k e. let one = among_flat (leaf_slots S) (mentions g) k e in
-          let before = found one.0 k one.2 in
-          record { leaf = one.0; before = before; wanted = says.0 one.0 one.1; there = subst (λ ks. among ks k ≡ true) (sym (stays drivers (x ∷ rest) S T old new one.0 h (λ c. apart one.0 before c))) one.2 }
+      λ k e. let one = among_flat (leaf_slots S) (mentions g) k e in
+      let before = found one.0 k one.2 in
+      record { leaf = one.0; before = before; wanted = says.0 one.0 one.1; there = subst (λ ks. among ks k ≡ true) (sym (stays drivers (x ∷ rest) S T old new one.0 h (λ c. apart one.0 before c))) one.2 }
       in
       let piece : (ports : List Port) (wides : List Wide) → GoesOn new ports wides → IsPiece ports wides (leaf_slots T) (done ++ []) (reads x) (leaf_slots T x) (counts x) p =
-          λ ports wides on. subst (λ earlier. IsPiece ports wides (leaf_slots T) earlier (reads x) (leaf_slots T x) (counts x) p) (sym (append-nil done))
-          (subst (λ kept. IsPiece ports wides (leaf_slots T) done (reads x) kept (counts x) p) (sym here)
-          (record { outer = ground_slots S g; outside = outside; there = seg.there; most = 2 * tips g; few = let le = says.1 in omega (arith, le); stretch = seg.each ports wides (goes_then mid new ports wides later.goes.tables on) }))
+      λ ports wides on. subst (λ earlier. IsPiece ports wides (leaf_slots T) earlier (reads x) (leaf_slots T x) (counts x) p) (sym (append-nil done))
+      (subst (λ kept. IsPiece ports wides (leaf_slots T) done (reads x) kept (counts x) p) (sym here)
+      (record { outer = ground_slots S g; outside = outside; there = seg.there; most = 2 * tips g; few = let le = says.1 in omega (arith, le); stretch = seg.each ports wides (goes_then mid new ports wides later.goes.tables on) }))
       in
       let counted = later.counted in
       record {

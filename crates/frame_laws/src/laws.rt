@@ -20,7 +20,11 @@ ghost use Rattle.code_sequence.specs.Sequences.{driver_in};
 ghost use Rattle.code_sequence.specs.Segmented.{InSegments};
 ghost use Rattle.ground_net.specs.Grounds.{mentions};
 ghost use Rattle.next_grounds.specs.Nexts.{next_ground};
+ghost use Rattle.net_meaning.specs.Nets.{IsPort};
+ghost use Rattle.ground_net.specs.declared.net.NetMemory.{NetMemory as TheMemory};
+ghost use Rattle.ground_net.specs.declared.net.NetPort.{NetPort as ThePort};
 ghost use Rattle.code_writes.specs.Groups.{IsWriteGroup};
+ghost use Rattle.code_memories.specs.Groups.{IsCaptureGroup};
 ghost use Rattle.code_pieces.specs.Pieces.{StandsIn, AssignsPieces, AddsPieces};
 ghost use Rattle.code_place.specs.Live.{most_live_of};
 ghost use Rattle.code_place.specs.Placed.{HasFew};
@@ -53,9 +57,11 @@ pub fn groups_are_pieces()
     ensures { (S : TheSources) (earlier read counts : List ℕ) (groups : List (List TheGround)) (old new : TheDraft) → ((y k : ℕ) → among (leaf_slots S y) k ≡ true → Contains earlier y) → Evaluates S groups old new → All (GroupFits S read counts) groups → AddsPieces (leaf_slots S) earlier read counts old new }
 {}
 
-/// What a register holds next fits, where its own leaf isn't in the frame, and so do the leaves of each write of a memory.
+/// What a register holds next fits, where its own leaf isn't in the frame, and so do the leaves of each write of a memory and
+/// what each of its captured reads shows next.
 pub fn sinks_fit()
     ensures register { (net : TheNet) (watch : List ℕ) (part : ThePart) (S : TheSources) (n : ℕ) (register : TheRegister) → Contains (sinks_of_part net watch part) (A_register n) → slice_get net.registers n ≡ Some register → ((k : ℕ) → among (leaf_slots S register.leaf) k ≡ true → ⊥) → GroupFits S (sinks_read net watch part) (sinks_nodes net watch part) (next_ground register (driver_of net register.leaf) ∷ []) }
+    ensures capture { (net : TheNet) (watch : List ℕ) (part : ThePart) (S : TheSources) (m : ℕ) (gs : List TheGround) → Contains (sinks_of_part net watch part) (A_memory m) → ((p : ℕ) (memory : TheMemory) (port : ThePort) → slice_get net.memories m ≡ Some memory → slice_get memory.ports p ≡ Some port → IsPort net memory port) → IsCaptureGroup net m gs → GroupFits S (sinks_read net watch part) (sinks_nodes net watch part) gs }
     ensures write { (net : TheNet) (watch : List ℕ) (part : ThePart) (S : TheSources) (m : ℕ) (gs : List TheGround) → Contains (sinks_of_part net watch part) (A_memory m) → IsWriteGroup net m gs → GroupFits S (sinks_read net watch part) (sinks_nodes net watch part) gs }
 {}
 
