@@ -93,9 +93,9 @@ frame_stays : (drivers : List (Option Ground)) (xs : List ℕ) (S T : Sources) (
 frame_stays drivers [] S T a b h within y f = (f.0, ap (λ V. leaf_source V y) h.0 ∙ f.1)
 frame_stays drivers (x ∷ xs) S T a b h within y f =
     let now : (t : Spot) × (leaf_source (with_frame S x h.1) y ≡ Some (source.Frame t)) = ⊎_elim
-        (λ q. (h.1, ap (leaf_source (with_frame S x h.1)) q ∙ set_source S x h.1 (within x (contains_first x xs))))
-        (λ ne. (f.0, other_source S x y h.1 ne ∙ f.1))
-        (cases_eq y x)
+    (λ q. (h.1, ap (leaf_source (with_frame S x h.1)) q ∙ set_source S x h.1 (within x (contains_first x xs))))
+    (λ ne. (f.0, other_source S x y h.1 ne ∙ f.1))
+    (cases_eq y x)
     in
     frame_stays drivers xs (with_frame S x h.1) T h.2 b h.5 (within_further S x xs h.1 within) y now
 
@@ -168,7 +168,7 @@ module _ (net : Net) (w : IsNet net) (watch : List ℕ) (part : CutPart) (sequen
   are_found : InSegments net.drivers part.assignments first start later assigned → AreFoundBefore later assigned.slots → WatchesAssignments net watch part → AreFound net watch part later assigned.slots
   are_found h before watches =
       let assigned_there : (y k : ℕ) → among (leaf_slots later y) k ≡ true → Contains part.assignments y = λ y k e.
-          ⊎_elim (λ old. absurd (none_before y k old)) (λ c. c) (found_by net.drivers part.assignments first later start assigned h y k e)
+      ⊎_elim (λ old. absurd (none_before y k old)) (λ c. c) (found_by net.drivers part.assignments first later start assigned h y k e)
       in
       record {
         before = before;

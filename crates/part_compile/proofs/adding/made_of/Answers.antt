@@ -69,7 +69,7 @@ loop-number-preserved c =
     let had = c.loop-number.invariant in (
       sinks_more net watch S c.args.draft part.sinks xs i sink c.loop-number.made c.add_sink.new.made c.as_slice-number-items.ensures below there had.0 c.in_ok-add_sink.ensures.adds,
       (λ found. told_more net c.requires.plan.is_net watch part S c.args.draft found sink c.loop-number.made c.add_sink.new.made
-      (to_filter (slice_get (sinks net watch)) part.sinks (slice_index xs i) sink (part_has part xs i c.as_slice-number-items.ensures below) there) had.0.tells.slots c.in_ok-add_sink.ensures.evaluates (had.1 found)),
+          (to_filter (slice_get (sinks net watch)) part.sinks (slice_index xs i) sink (part_has part xs i c.as_slice-number-items.ensures below) there) had.0.tells.slots c.in_ok-add_sink.ensures.evaluates (had.1 found)),
     )
 
 pub returns-clause-so_far : goal.returns-clause-so_far
