@@ -26,6 +26,10 @@ pub fn finish(
     ensures effects { IfOk result (λ code. IsCodeOf code draft shown) }
     ensures positions { IfOk result (λ code. code.positions ≡ positions) }
     ensures owned { IfOk result (λ code. code.owned ≡ owned) }
+    ensures instrs { IfOk result (λ code. code.instrs ≡ draft.instrs) }
+    ensures ports { IfOk result (λ code. code.ports ≡ draft.ports) }
+    ensures wides { IfOk result (λ code. code.wides ≡ draft.wides) }
+    ensures shown { IfOk result (λ code. code.shown ≡ shown) }
     ensures words { IfOk result (λ code. code.words ≡ draft.words) }
     ensures slots { IfOk result (λ code. code.slots ≡ draft.slots) }
     ensures single { IfOk result (λ code. Single nothing code.ports code.wides code.instrs) }

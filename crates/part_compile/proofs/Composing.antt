@@ -39,6 +39,7 @@ use Rattle.part_laws.proofs.Composed.{publishes, shows}
 use Rattle.partition_code.specs.Codes.{is_among, HasWordAmong, IsCodeOf, AreCodesOf}
 use Rattle.part_sinks.specs.declared.work.Made.{Made}
 use Rattle.part_sinks.specs.Rows.{sinks_of, IsWork, SoFar}
+use Rattle.part_compile.specs.Frames.{TakesFewSlots, TakeFewSlots}
 use Rattle.part_compile.proofs.StateWords.{behind_all}
 
 false_true : false ≡ true → ⊥
@@ -146,3 +147,12 @@ codes_more net watch parts i part codes code there so is =
       counted = length-append codes (code ∷ []) ∙ (ap (λ n. n + 1) so.counted ∙ sym (length-append (take i parts) (part ∷ [])));
       each = λ p a c. push_at (IsCodeOf net watch) part code (take i parts) codes so.counted is (λ k. so.each k) p a c;
     })
+
+pub few_none : (net : Net) (watch : List ℕ) (codes : List Code) → TakeFewSlots net watch [] codes
+few_none net watch codes = λ p a c at here. absurd (none_some at)
+
+pub few_more : (net : Net) (watch : List ℕ) (parts : List CutPart) (i : ℕ) (part : CutPart) (codes : List Code) (code : Code) → slice_get parts i ≡ Some part → length codes ≡ length (take i parts) → TakeFewSlots net watch (take i parts) codes
+    → TakesFewSlots net watch part code → TakeFewSlots net watch (take (i + 1) parts) (codes ++ code ∷ [])
+few_more net watch parts i part codes code there counted so few =
+    let more : take (i + 1) parts ≡ take i parts ++ part ∷ [] = take_more parts i part (slice_get_within parts i part there) ∙ ap (λ p. take i parts ++ p ∷ []) (get_or_from_slice_get parts i part part there) in
+    subst (λ ps. TakeFewSlots net watch ps (codes ++ code ∷ [])) (sym more) (push_at (TakesFewSlots net watch) part code (take i parts) codes counted few so)

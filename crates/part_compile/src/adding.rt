@@ -5,6 +5,7 @@ ghost use Rattle.ground_net.specs.Cones.{sinks as sinks_in, A_memory};
 ghost use Rattle.cone_cutter.specs.Rows.{sink_of};
 ghost use Rattle.part_sinks.specs.Rows.{IsPlan, IsWork, IsReady, Adds, SoFar};
 ghost use Rattle.part_compile.specs.Rows.{KnowsCone, AreKept};
+ghost use Rattle.part_compile.specs.Telling.{EvaluatesSink, TellsInPieces};
 
 use bit_words::List;
 use code_draft::Draft;
@@ -29,7 +30,8 @@ pub(crate) fn made_of(
     requires kept { AreKept work.now.plan.now.net.now work.now.sources.now }
     requires memories { length work.now.plan.now.net.now.memories < 2 ^ 32 }
     requires ready { IsReady work.now.plan.now.net.now work.now.sources.now draft }
-    ensures { IfOk result (SoFar work.now.plan.now.net.now work.now.plan.now.watch.now work.now.sources.now draft part.now.sinks) }
+    ensures so_far { IfOk result (SoFar work.now.plan.now.net.now work.now.plan.now.watch.now work.now.sources.now draft part.now.sinks) }
+    ensures pieces { IfOk result (TellsInPieces work.now.plan.now.net.now work.now.plan.now.watch.now part.now work.now.sources.now draft) }
 {
     let mut made = Made {
         draft,
@@ -60,7 +62,8 @@ fn add_sink(
     requires memories { length work.now.plan.now.net.now.memories < 2 ^ 32 }
     requires ready { IsReady work.now.plan.now.net.now work.now.sources.now made.old.draft }
     requires there { slice_get (sinks_in work.now.plan.now.net.now work.now.plan.now.watch.now) number ≡ Some (sink_of sink) }
-    ensures { OnOk result (Adds work.now.plan.now.net.now work.now.plan.now.watch.now work.now.sources.now number (sink_of sink) made.old made.new) }
+    ensures adds { OnOk result (Adds work.now.plan.now.net.now work.now.plan.now.watch.now work.now.sources.now number (sink_of sink) made.old made.new) }
+    ensures evaluates { OnOk result (EvaluatesSink work.now.plan.now.net.now work.now.sources.now (sink_of sink) made.old made.new) }
 {
     match sink {
         SinkAt::Watched(leaf) => show_leaf(alloc, work, made, leaf, number),
@@ -83,7 +86,8 @@ fn add_memory(
     requires memories { length work.now.plan.now.net.now.memories < 2 ^ 32 }
     requires ready { IsReady work.now.plan.now.net.now work.now.sources.now made.old.draft }
     requires there { slice_get (sinks_in work.now.plan.now.net.now work.now.plan.now.watch.now) number ≡ Some (A_memory memory) }
-    ensures { OnOk result (Adds work.now.plan.now.net.now work.now.plan.now.watch.now work.now.sources.now number (A_memory memory) made.old made.new) }
+    ensures adds { OnOk result (Adds work.now.plan.now.net.now work.now.plan.now.watch.now work.now.sources.now number (A_memory memory) made.old made.new) }
+    ensures evaluates { OnOk result (EvaluatesSink work.now.plan.now.net.now work.now.sources.now (A_memory memory) made.old made.new) }
 {
     let net = work.plan.net;
     let words = work.plan.words;

@@ -6,6 +6,7 @@ ghost use Rattle.net_meaning.specs.Nets.{IsNet};
 ghost use Rattle.net_meaning.specs.Words.{SaysItsWords};
 ghost use Rattle.cone_cutter.specs.Splits.{IsSplit};
 ghost use Rattle.partition_code.specs.Codes.{AreCodesOf};
+ghost use Rattle.part_compile.specs.Frames.{TakeFewSlots};
 
 use crate::counting::has_few_words;
 use crate::part_code::code_of;
@@ -23,6 +24,9 @@ const NUMBERS: usize = 4_294_967_296;
 
 /// The codes of the parts of a cut of a net whose assignments have an order, one for each part, for these watched leaves.
 ///
+/// Where the watched leaves of a part are assignments, its code takes at most two slots for each assignment that is live at once and
+/// for each node of the largest driver.
+///
 /// More leaves, words of a state or memories than a `u32` numbers are a want of memory. Takes memory in proportion to the net and to
 /// the codes, and time in proportion to the codes, and to the net for each part.
 pub fn compile(
@@ -36,7 +40,8 @@ pub fn compile(
     requires split { IsSplit ordered.now watch.now cut.now.parts }
     requires said { SaysItsWords ordered.now.net }
     requires watched { All (λ x. x < length ordered.now.net.leaves) watch.now }
-    ensures { IfOk result (AreCodesOf ordered.now.net watch.now cut.now.parts) }
+    ensures codes { IfOk result (AreCodesOf ordered.now.net watch.now cut.now.parts) }
+    ensures few { IfOk result (TakeFewSlots ordered.now.net watch.now cut.now.parts) }
 {
     let net = &ordered.net;
     let reads = captured_reads(alloc, net)?;

@@ -6,6 +6,8 @@ ghost use Rattle.cone_cutter.specs.Rows.{sink_of};
 ghost use Rattle.partition_code.specs.Codes.{IsCodeOf};
 ghost use Rattle.code_place.specs.Live.{IsSingle};
 ghost use Rattle.part_sinks.specs.Rows.{IsPlan};
+ghost use Rattle.frame_laws.specs.Pieces.{InPieces};
+ghost use Rattle.part_compile.specs.Frames.{WatchesAssignments};
 ghost use Rattle.part_compile.specs.Rows.{IsUnionInOrder};
 
 use crate::adding::made_of;
@@ -34,6 +36,7 @@ pub(crate) fn code_of(
     requires part { IsUnionInOrder plan.now.net.now plan.now.watch.now part.now }
     ensures code { IfOk result (IsCodeOf plan.now.net.now plan.now.watch.now part.now) }
     ensures single { IfOk result IsSingle }
+    ensures pieces { IfOk result (λ code. WatchesAssignments plan.now.net.now plan.now.watch.now part.now → InPieces plan.now.net.now plan.now.watch.now part.now code) }
 {
     let net = plan.net;
     let words = plan.words;

@@ -1,5 +1,7 @@
-use Rattle.std.proofs.Common.{refl, arith}
+use Rattle.std.proofs.Common.{refl, subst, arith}
 use Rattle.ground_net.specs.Cones.{A_memory}
+use Rattle.code_registers.specs.Groups.{EvaluatesOnly}
+use Rattle.code_memories.specs.Groups.{IsMemoryGroup}
 use Rattle.part_sinks.proofs.Places.{memory_place}
 use Rattle.part_sinks.proofs.Shaping.{one_has_words}
 use Rattle.part_sinks.proofs.Making.{kept_adds}
@@ -21,8 +23,8 @@ publish_memory-requires-clause-memory c =
 pub own_memory-requires-clause-within : goal.own_memory-requires-clause-within
 own_memory-requires-clause-within c = (memory_place c.args.work.now.plan.now.net.now c.args.work.now.plan.now.watch.now c.args.number c.args.memory c.requires.there).1
 
-pub returns : goal.returns
-returns c =
+pub returns-clause-adds : goal.returns-clause-adds
+returns-clause-adds c =
     let net = c.args.work.now.plan.now.net.now in
     let watch = c.args.work.now.plan.now.watch.now in
     let S = c.args.work.now.sources.now in
@@ -30,3 +32,9 @@ returns c =
     let ready = c.requires.ready in
     kept_adds net watch S c.args.number (A_memory c.args.memory) c.args.made.now _ place.0
     (memory_tells net S c.args.memory c.in-Ok.place _ _ c.in-Ok.ensures.1 (c.in_ok-publish_memory.ensures.publishes ready.0 ready.1 (one_has_words net _ (A_memory c.in-Ok.place) ready.2))) refl refl c.in_ok-own_memory.ensures
+
+pub returns-clause-evaluates : goal.returns-clause-evaluates
+returns-clause-evaluates c =
+    let net = c.args.work.now.plan.now.net.now in
+    let S = c.args.work.now.sources.now in
+    (subst (λ m. EvaluatesOnly S (IsMemoryGroup net m) c.args.made.now.draft c.publish_memory.new.draft) c.in-Ok.ensures.1 c.in_ok-publish_memory.ensures.evaluates, refl)

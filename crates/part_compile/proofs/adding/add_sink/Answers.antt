@@ -4,6 +4,7 @@ use Rattle.ground_net.specs.Cones.{sinks}
 use Rattle.cone_cutter.specs.Rows.{sink_of}
 use Rattle.part_sinks.specs.Rows.{Adds}
 use Rattle.part_compile.specs.Rows.{KnowsCone}
+use Rattle.part_compile.specs.Telling.{EvaluatesSink}
 use Rattle.part_compile.proofs.adding.add_sink.Goals as goal
 
 pub show_leaf-requires-clause-known : goal.show_leaf-requires-clause-known
@@ -12,8 +13,8 @@ show_leaf-requires-clause-known c = subst (λ s. KnowsCone c.args.work.now.plan.
 pub show_leaf-requires-clause-there : goal.show_leaf-requires-clause-there
 show_leaf-requires-clause-there c = subst (λ s. slice_get (sinks c.args.work.now.plan.now.net.now c.args.work.now.plan.now.watch.now) c.args.number ≡ Some (sink_of s)) c.in-Watched.is c.requires.there
 
-pub returns-in-Watched : goal.returns-in-Watched
-returns-in-Watched c =
+pub returns-in-Watched-clause-adds : goal.returns-in-Watched-clause-adds
+returns-in-Watched-clause-adds c =
     subst (λ s. OnOk c.show_leaf.result (Adds c.args.work.now.plan.now.net.now c.args.work.now.plan.now.watch.now c.args.work.now.sources.now c.args.number (sink_of s) c.args.made.now c.show_leaf.new.made))
     (sym c.in-Watched.is) c.show_leaf.ensures.adds
 
@@ -23,8 +24,8 @@ add_register-requires-clause-known c = subst (λ s. KnowsCone c.args.work.now.pl
 pub add_register-requires-clause-there : goal.add_register-requires-clause-there
 add_register-requires-clause-there c = subst (λ s. slice_get (sinks c.args.work.now.plan.now.net.now c.args.work.now.plan.now.watch.now) c.args.number ≡ Some (sink_of s)) c.in-Register.is c.requires.there
 
-pub returns-in-Register : goal.returns-in-Register
-returns-in-Register c =
+pub returns-in-Register-clause-adds : goal.returns-in-Register-clause-adds
+returns-in-Register-clause-adds c =
     subst (λ s. OnOk c.add_register.result (Adds c.args.work.now.plan.now.net.now c.args.work.now.plan.now.watch.now c.args.work.now.sources.now c.args.number (sink_of s) c.args.made.now c.add_register.new.made))
     (sym c.in-Register.is) c.add_register.ensures.adds
 
@@ -34,7 +35,22 @@ add_memory-requires-clause-known c = subst (λ s. KnowsCone c.args.work.now.plan
 pub add_memory-requires-clause-there : goal.add_memory-requires-clause-there
 add_memory-requires-clause-there c = subst (λ s. slice_get (sinks c.args.work.now.plan.now.net.now c.args.work.now.plan.now.watch.now) c.args.number ≡ Some (sink_of s)) c.in-Memory.is c.requires.there
 
-pub returns-in-Memory : goal.returns-in-Memory
-returns-in-Memory c =
+pub returns-in-Memory-clause-adds : goal.returns-in-Memory-clause-adds
+returns-in-Memory-clause-adds c =
     subst (λ s. OnOk c.add_memory.result (Adds c.args.work.now.plan.now.net.now c.args.work.now.plan.now.watch.now c.args.work.now.sources.now c.args.number (sink_of s) c.args.made.now c.add_memory.new.made))
-    (sym c.in-Memory.is) c.add_memory.ensures
+    (sym c.in-Memory.is) c.add_memory.ensures.adds
+
+pub returns-in-Watched-clause-evaluates : goal.returns-in-Watched-clause-evaluates
+returns-in-Watched-clause-evaluates c =
+    subst (λ s. OnOk c.show_leaf.result (EvaluatesSink c.args.work.now.plan.now.net.now c.args.work.now.sources.now (sink_of s) c.args.made.now c.show_leaf.new.made))
+    (sym c.in-Watched.is) c.show_leaf.ensures.shows
+
+pub returns-in-Register-clause-evaluates : goal.returns-in-Register-clause-evaluates
+returns-in-Register-clause-evaluates c =
+    subst (λ s. OnOk c.add_register.result (EvaluatesSink c.args.work.now.plan.now.net.now c.args.work.now.sources.now (sink_of s) c.args.made.now c.add_register.new.made))
+    (sym c.in-Register.is) c.add_register.ensures.evaluates
+
+pub returns-in-Memory-clause-evaluates : goal.returns-in-Memory-clause-evaluates
+returns-in-Memory-clause-evaluates c =
+    subst (λ s. OnOk c.add_memory.result (EvaluatesSink c.args.work.now.plan.now.net.now c.args.work.now.sources.now (sink_of s) c.args.made.now c.add_memory.new.made))
+    (sym c.in-Memory.is) c.add_memory.ensures.evaluates

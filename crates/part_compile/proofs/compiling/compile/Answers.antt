@@ -2,12 +2,14 @@ use Rattle.std.proofs.Common.{◌≡◌, ◌+◌, ◌<◌, length, take, slice_g
 use Rattle.std.proofs.lemmas.List.{take_all}
 use Rattle.std.proofs.lemmas.Option.{slice_get-get_or}
 use Rattle.partition_code.specs.Codes.{AreCodesOf}
+use Rattle.frame_laws.proofs.Frames.{placed_bound}
 use Rattle.place_laws.proofs.Placed.{placed_is_code}
-use Rattle.part_compile.proofs.Composing.{codes_none, codes_more}
+use Rattle.part_compile.specs.Frames.{TakesFewSlots, TakeFewSlots}
+use Rattle.part_compile.proofs.Composing.{codes_none, codes_more, few_none, few_more}
 use Rattle.part_compile.proofs.compiling.compile.Goals as goal
 
 pub loop-part-init : goal.loop-part-init
-loop-part-init c = codes_none c.args.ordered.now.net c.args.watch.now _ c.new-codes.ensures
+loop-part-init c = (codes_none c.args.ordered.now.net c.args.watch.now _ c.new-codes.ensures, few_none c.args.ordered.now.net c.args.watch.now _)
 
 pub code_of-requires-clause-part : goal.code_of-requires-clause-part
 code_of-requires-clause-part c =
@@ -33,10 +35,20 @@ loop-part-preserved c =
     let watch = c.args.watch.now in
     let new = c.in_ok-arrange.field-0 in
     let is = placed_is_code net watch part c.in_ok-code.code new c.in_ok-code.ensures.code c.in_ok-arrange.ensures.placed in
-    subst (AreCodesOf net watch (take (i + 1) parts)) (sym c.in_ok-push.ensures.ok) (codes_more net watch parts i part c.loop-part.codes new there c.loop-part.invariant is)
+    let had = c.loop-part.invariant in
+    let few : TakesFewSlots net watch part new = λ watches. placed_bound net watch part c.in_ok-code.code new (c.in_ok-code.ensures.pieces watches) c.in_ok-arrange.ensures.few in (
+      subst (AreCodesOf net watch (take (i + 1) parts)) (sym c.in_ok-push.ensures.ok) (codes_more net watch parts i part c.loop-part.codes new there had.0 is),
+      subst (TakeFewSlots net watch (take (i + 1) parts)) (sym c.in_ok-push.ensures.ok) (few_more net watch parts i part c.loop-part.codes new there had.0.counted had.1 few),
+    )
 
-pub returns : goal.returns
-returns c =
+pub returns-clause-codes : goal.returns-clause-codes
+returns-clause-codes c =
     let test = c.loop-part-test.false in
     let same = ap length c.as_slice-part-items.ensures in
-    subst (λ ps. AreCodesOf c.args.ordered.now.net c.args.watch.now ps c.loop-part.codes) (take_all c.loop-part.part-index c.args.cut.now.parts (omega (arith, test, same))) c.loop-part.invariant
+    subst (λ ps. AreCodesOf c.args.ordered.now.net c.args.watch.now ps c.loop-part.codes) (take_all c.loop-part.part-index c.args.cut.now.parts (omega (arith, test, same))) c.loop-part.invariant.0
+
+pub returns-clause-few : goal.returns-clause-few
+returns-clause-few c =
+    let test = c.loop-part-test.false in
+    let same = ap length c.as_slice-part-items.ensures in
+    subst (λ ps. TakeFewSlots c.args.ordered.now.net c.args.watch.now ps c.loop-part.codes) (take_all c.loop-part.part-index c.args.cut.now.parts (omega (arith, test, same))) c.loop-part.invariant.1

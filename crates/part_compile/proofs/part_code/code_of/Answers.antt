@@ -1,9 +1,11 @@
 use Rattle.std.proofs.Common.{◌<◌, length, All, sym, subst, ap, ap₂, ◌∙◌, arith}
 use Rattle.code_emit.specs.Emits.{sources_table}
 use Rattle.code_sequence.specs.Sequences.{InTurn, StandElsewhere, turned_table}
+use Rattle.code_sequence.specs.Segmented.{AreSegments}
 use Rattle.turn_laws.proofs.Turning.{part_turn}
 use Rattle.part_compile.proofs.Keeping.{are_kept}
 use Rattle.part_compile.proofs.Composing.{at_both, reads_long, words_counted, are_assignments, all_within, goes_on, is_work, code_is}
+use Rattle.part_compile.proofs.Framing.{code_in_pieces}
 use Rattle.part_compile.proofs.part_code.code_of.Goals as goal
 
 pub bounds-as_slice-last : goal.bounds-as_slice-last
@@ -68,7 +70,19 @@ returns-clause-code c =
     c.as_slice-2.ensures c.as_slice-3.ensures c.in_ok-assign_all.ensures.assigns in
     let code = c.in_ok-code.ensures in
     code_is net w watch part c.in_ok-sources.sources c.assign_all.new.sources c.empty-draft.result c.assign_all.new.draft c.in_ok-made.made c.in_ok-code.code c.in_ok-sources.ensures start.instrs counted goes
-    (are_assignments net w watch part u.sequence u.union) c.in_ok-made.ensures code.effects code.positions code.owned code.words
+    (are_assignments net w watch part u.sequence u.union) c.in_ok-made.ensures.so_far code.effects code.positions code.owned code.words
 
 pub returns-clause-single : goal.returns-clause-single
 returns-clause-single c = c.in_ok-code.ensures.single
+
+pub returns-clause-pieces : goal.returns-clause-pieces
+returns-clause-pieces c =
+    let net = c.args.plan.now.net.now in
+    let u = c.requires.part in
+    let S = c.in_ok-sources.sources in
+    let T = c.assign_all.new.sources in
+    let start = c.empty-draft.ensures in
+    let code = c.in_ok-code.ensures in
+    let segments = at_both (λ ds xs. AreSegments ds xs S c.empty-draft.result T c.assign_all.new.draft) _ net.drivers _ c.args.part.now.assignments c.as_slice-2.ensures c.as_slice-3.ensures c.in_ok-assign_all.ensures.segments in
+    code_in_pieces net c.requires.plan.is_net c.args.plan.now.watch.now c.args.part.now u.sequence u.union S T c.in_ok-sources.ensures c.empty-draft.result c.assign_all.new.draft c.in_ok-made.made c.in_ok-code.code start.instrs start.slots
+    segments c.in_ok-made.ensures.pieces code.instrs code.ports code.wides code.shown
