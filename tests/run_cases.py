@@ -1,9 +1,10 @@
 """Runs a program on end-to-end cases and compares what it writes and its status.
 
-usage: run_cases.py PROGRAM FOLDER
+usage: run_cases.py PROGRAM WITNESS FOLDER
 
 A case is a line of JSON in FOLDER/cases.jsonl: its name, the words of the command line, the bytes of standard input
 (each character is a byte), the bytes that are written and the status, and where it has files the texts that they hold.
+The witness runs a circuit as it is written, and compares the trace with that of the compiled run.
 """
 import json
 import re
@@ -11,6 +12,10 @@ import subprocess
 import sys
 import tempfile
 from pathlib import Path
+
+# The witness runs each circuit for so many cycles, but not those with so many leaves that it would take too long.
+CYCLES = 20
+SLOW = ("aes_sbox",)
 
 
 def run(program, words, text, folder=None):
@@ -48,6 +53,26 @@ def other_trace(program, path, runs):
         if done.returncode != 0 or done.stdout != trace:
             return f"run {number}: status {done.returncode}, wrote {done.stdout[:200]!r}"
     return None
+
+
+def cut_stimulus(text, cycles):
+    """A stimulus's text with so many cycles, without the settings behind them."""
+    lines = []
+    for line in text.splitlines():
+        words = line.split()
+        if words[:1] == ["cycles"]:
+            line = f"cycles {cycles}"
+        if not (words and words[0].isdigit() and int(words[0]) >= cycles):
+            lines.append(line + "\n")
+    return "".join(lines)
+
+
+def other_witness(witness, path, cycles):
+    """Why the witness doesn't give so many cycles of a circuit's trace, and say that the compiled run has the same one; or none."""
+    stimulus = cut_stimulus(path.with_suffix(".stim").read_text("latin-1"), cycles)
+    trace = path.with_suffix(".expect").read_text("latin-1").splitlines(keepends=True)[: cycles + 1]
+    text = path.read_text("latin-1") + "%stimulus\n" + stimulus
+    return fault_of(witness, {"words": [], "stdin": text, "status": 0, "stdout": "".join(trace) + "same\n"})
 
 
 def tower(depth, below):
@@ -103,7 +128,7 @@ def told_faults(page):
 
 
 def main():
-    program, folder = str(Path(sys.argv[1]).resolve()), Path(sys.argv[2])
+    program, witness, folder = str(Path(sys.argv[1]).resolve()), str(Path(sys.argv[2]).resolve()), Path(sys.argv[3])
     cases = [json.loads(line) for line in (folder / "cases.jsonl").read_text().splitlines()]
     run(program, ["check"], b"")  # builds the program where that has still to be done
     faults = [(case["name"], fault_of(program, case)) for case in cases]
@@ -120,6 +145,8 @@ def main():
         for workers in ("1", "2", "7"):
             case = {"words": ["run", "--workers", workers], "stdin": text, "status": 0, "stdout": trace}
             faults.append((f"the trace of {path.stem} by {workers} workers", fault_of(program, case)))
+        if path.stem not in SLOW:
+            faults.append((f"{CYCLES} cycles of {path.stem} as it is written", other_witness(witness, path, CYCLES)))
     faults.append(("1,000 runs by 8 workers give one trace", other_trace(program, folder / "corpus/fifo_mem.fir", 1_000)))
     for path in sorted(examples.glob("*.fir")):
         circuit, stimulus, trace = (path.with_suffix(suffix).read_text("latin-1") for suffix in (".fir", ".stim", ".expect"))
