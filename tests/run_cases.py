@@ -15,7 +15,7 @@ from pathlib import Path
 
 # The witness runs each circuit for so many cycles, but not those with so many leaves that it would take too long.
 CYCLES = 20
-SLOW = ("aes_sbox",)
+SLOW = ("aes_sbox", "bf_machine", "riscish", "sha256_round")
 
 
 def run(program, words, text, folder=None):
