@@ -1,7 +1,6 @@
 -- The effects of a code are those of the frame that its run leaves.
-use Rattle.std.proofs.Common.{◌≡◌, ℕ, ◌^◌, ◌<◌, ◌≤◌, List, length, replicate, slice_index, refl, sym, subst, ap, ap₂, ◌∙◌, arith, All}
+use Rattle.std.proofs.Common.{◌≡◌, ℕ, List, length, replicate, ap, ap₂, ◌∙◌, arith}
 use lib.ListN.{length-replicate}
-use Rattle.bit_words.specs.declared.value.Value.{Value}
 use Rattle.flat_code.specs.declared.code.Code.{Code}
 use Rattle.flat_code.specs.declared.instr.Spot.{Spot}
 use Rattle.flat_code.specs.Meaning.{ran, published, spot_values}
@@ -9,9 +8,9 @@ use Rattle.flat_code.specs.Codes.{zeros}
 use Rattle.flat_code.specs.Fine.{nothing}
 use Rattle.flat_code.proofs.Solving.{late}
 use Rattle.code_draft.specs.declared.draft.Draft.{Draft}
-use Rattle.code_draft.specs.Drafts.{IsDraft, Solved, pushed_in}
+use Rattle.code_draft.specs.Drafts.{IsDraft}
 use Rattle.code_draft.proofs.Running.{run_solves}
-use Rattle.code_finish.specs.Finishing.{HasEffects, IsCodeOf}
+use Rattle.code_finish.specs.Finishing.{IsCodeOf}
 
 pub has_effects : (code : Code) (d : Draft) (shown : List Spot) → IsDraft d → code.instrs ≡ d.instrs → code.ports ≡ d.ports → code.wides ≡ d.wides → code.shown ≡ shown → code.slots ≡ d.slots → IsCodeOf code d shown
 has_effects code d shown is instrs ports wides spots slots = λ words inputs plain.

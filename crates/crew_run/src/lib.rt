@@ -4,11 +4,12 @@
 //! every number of workers; and that the tables of all epochs were closed behind the cycles of the run.
 #![tactic(auto)]
 
-mod crew;
+pub mod crew;
 mod cycles;
 pub mod laws;
 mod plan;
 pub mod running;
 
+pub use crew::codes_of;
 pub use plan::Plan;
 pub use running::simulate;

@@ -5,7 +5,6 @@ use Rattle.std.proofs.lemmas.List.{take_more, length-append, length-map}
 use Rattle.std.proofs.lemmas.List.Elements.{Contains-get_or}
 use Rattle.std.proofs.lemmas.Simd.{map-map}
 use Rattle.std.proofs.lemmas.Option.{slice_get_within, get_or_from_slice_get}
-use Rattle.bit_words.specs.declared.value.Value.{Value}
 use Rattle.ground_net.specs.declared.ground.Ground.{Ground}
 use Rattle.ground_net.specs.declared.net.Net.{Net}
 use Rattle.ground_net.specs.declared.net.CutPart.{CutPart}
@@ -18,7 +17,6 @@ use Rattle.flat_code.specs.declared.code.Span.{Span}
 use Rattle.flat_code.specs.declared.instr.Instr.{Instr}
 use Rattle.flat_code.specs.Fine.{AreFine, IsPort, IsWide, nothing, written}
 use Rattle.flat_code.specs.Orders.{Single}
-use Rattle.flat_code.specs.Codes.{published_by, outputs_by}
 use Rattle.cone_cutter.specs.Splits.{IsUnion}
 use Rattle.cone_cutter.proofs.Assembly.{cone_assigned, assigned_within}
 use Rattle.code_draft.specs.declared.draft.Draft.{Draft}
