@@ -1,5 +1,5 @@
 -- What the bodies keep of a net and of its parts.
-use Rattle.std.specs.Prelude.{◌≡◌, ℕ, List, slice_get, Some}
+use Rattle.std.specs.Prelude.{◌≡◌, ◌<◌, ◌^◌, ℕ, List, length, slice_get, Some}
 use Rattle.ground_net.specs.declared.net.Net.{Net}
 use Rattle.ground_net.specs.declared.net.NetMemory.{NetMemory}
 use Rattle.ground_net.specs.declared.net.ElementLeaf.{ElementLeaf}
@@ -12,6 +12,7 @@ use Rattle.code_emit.specs.Emits.{sources_table}
 use Rattle.cone_cutter.specs.Splits.{IsUnion}
 use Rattle.turn_laws.specs.Knowing.{Knows}
 use Rattle.memory_sources.specs.Memories.{StandsInMemory, StandsCaptured}
+use Rattle.code_memories.specs.Captures.{HaveFewLeaves}
 
 -- the assignments in a sink's cone are known
 abbrev pub KnowsCone : Net → Sink → Sources → Type 0
@@ -21,6 +22,11 @@ KnowsCone net sink S = Knows net (InCone net sink) (sources_table S)
 pub record AreKept (net : Net) (S : Sources) : Type 0 where
   pub elements : (m k : ℕ) (memory : NetMemory) (leaf : ElementLeaf) → slice_get net.memories m ≡ Some memory → slice_get memory.elements k ≡ Some leaf → StandsInMemory net S m k
   pub captured : (n : ℕ) (c : Capture) → slice_get (captures net) n ≡ Some c → StandsCaptured net S n c
+
+-- A net's memories have numbers of 32 bits, and so have the leaves of an element of each.
+pub record AreNumbered (net : Net) : Type 0 where
+  pub memories : length net.memories < 2 ^ 32
+  pub leaves : HaveFewLeaves net.memories
 
 -- A part of a split, under some order of the net's assignments.
 pub record IsUnionInOrder (net : Net) (watch : List ℕ) (part : CutPart) : Type 0 where

@@ -1,10 +1,10 @@
 //! The code of sinks, one after the other.
 
-ghost use Rattle.std.specs.Prelude.{◌≡◌, ◌<◌, ◌^◌, Some, length, slice_get, map, IfOk, OnOk};
+ghost use Rattle.std.specs.Prelude.{◌≡◌, Some, slice_get, map, IfOk, OnOk};
 ghost use Rattle.ground_net.specs.Cones.{sinks as sinks_in, A_memory};
 ghost use Rattle.cone_cutter.specs.Rows.{sink_of};
 ghost use Rattle.part_sinks.specs.Rows.{IsPlan, IsWork, IsReady, Adds, SoFar};
-ghost use Rattle.part_compile.specs.Rows.{KnowsCone, AreKept};
+ghost use Rattle.part_compile.specs.Rows.{KnowsCone, AreKept, AreNumbered};
 
 use bit_words::List;
 use code_draft::Draft;
@@ -27,7 +27,7 @@ pub(crate) fn made_of(
     requires sinks { map sink_of sinks.now ≡ sinks_in work.now.plan.now.net.now work.now.plan.now.watch.now }
     requires part { IsWork work.now.plan.now.net.now work.now.plan.now.watch.now part.now work.now.sources.now }
     requires kept { AreKept work.now.plan.now.net.now work.now.sources.now }
-    requires memories { length work.now.plan.now.net.now.memories < 2 ^ 32 }
+    requires numbered { AreNumbered work.now.plan.now.net.now }
     requires ready { IsReady work.now.plan.now.net.now work.now.sources.now draft }
     ensures { IfOk result (SoFar work.now.plan.now.net.now work.now.plan.now.watch.now work.now.sources.now draft part.now.sinks) }
 {
@@ -57,7 +57,7 @@ fn add_sink(
     requires plan { IsPlan work.now.plan.now.net.now work.now.plan.now.watch.now work.now.plan.now.words.now work.now.plan.now.reads.now }
     requires known { KnowsCone work.now.plan.now.net.now (sink_of sink) work.now.sources.now }
     requires kept { AreKept work.now.plan.now.net.now work.now.sources.now }
-    requires memories { length work.now.plan.now.net.now.memories < 2 ^ 32 }
+    requires numbered { AreNumbered work.now.plan.now.net.now }
     requires ready { IsReady work.now.plan.now.net.now work.now.sources.now made.old.draft }
     requires there { slice_get (sinks_in work.now.plan.now.net.now work.now.plan.now.watch.now) number ≡ Some (sink_of sink) }
     ensures { OnOk result (Adds work.now.plan.now.net.now work.now.plan.now.watch.now work.now.sources.now number (sink_of sink) made.old made.new) }
@@ -80,7 +80,7 @@ fn add_memory(
     requires plan { IsPlan work.now.plan.now.net.now work.now.plan.now.watch.now work.now.plan.now.words.now work.now.plan.now.reads.now }
     requires known { KnowsCone work.now.plan.now.net.now (A_memory memory) work.now.sources.now }
     requires kept { AreKept work.now.plan.now.net.now work.now.sources.now }
-    requires memories { length work.now.plan.now.net.now.memories < 2 ^ 32 }
+    requires numbered { AreNumbered work.now.plan.now.net.now }
     requires ready { IsReady work.now.plan.now.net.now work.now.sources.now made.old.draft }
     requires there { slice_get (sinks_in work.now.plan.now.net.now work.now.plan.now.watch.now) number ≡ Some (A_memory memory) }
     ensures { OnOk result (Adds work.now.plan.now.net.now work.now.plan.now.watch.now work.now.sources.now number (A_memory memory) made.old made.new) }

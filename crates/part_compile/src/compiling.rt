@@ -7,7 +7,7 @@ ghost use Rattle.net_meaning.specs.Words.{SaysItsWords};
 ghost use Rattle.cone_cutter.specs.Splits.{IsSplit};
 ghost use Rattle.partition_code.specs.Codes.{AreCodesOf};
 
-use crate::counting::has_few_words;
+use crate::counting::{are_numbered, has_few_words};
 use crate::part_code::code_of;
 use bit_words::List;
 use code_arrange::arrange;
@@ -18,12 +18,12 @@ use net_sources::{captured_reads, first_words};
 use part_sinks::Plan;
 use std::alloc::{AllocError, Global};
 
-/// There are fewer leaves and memories than this.
+/// There are fewer leaves than this.
 const NUMBERS: usize = 4_294_967_296;
 
 /// The codes of the parts of a cut of a net whose assignments have an order, one for each part, for these watched leaves.
 ///
-/// More leaves, words of a state or memories than a `u32` numbers are a want of memory. Takes memory in proportion to the net and to
+/// More leaves, words of a state, memories or leaves of an element than a `u32` numbers are a want of memory. Takes memory in proportion to the net and to
 /// the codes, and time in proportion to the codes, and to the net for each part.
 pub fn compile(
     alloc: Global,
@@ -41,9 +41,9 @@ pub fn compile(
     let net = &ordered.net;
     let reads = captured_reads(alloc, net)?;
     let leaves = net.leaves.len();
-    let memories = net.memories.len();
+    let numbered = are_numbered(net.memories.as_slice());
     let few = has_few_words(net, reads.len());
-    if leaves >= NUMBERS || memories >= NUMBERS || !few {
+    if leaves >= NUMBERS || !numbered || !few {
         return Err(AllocError);
     }
     let words = first_words(alloc, net)?;

@@ -1,11 +1,12 @@
-//! How many words a state has.
+//! How many words a state has, and how many memories there are.
 
 ghost use Rattle.std.specs.Prelude.{◌≡◌, ◌<◌, ◌≤◌, ◌+◌, ◌^◌, IsTrue, length, sum_by};
 ghost use Rattle.net_meaning.specs.Nets.{register_shapes};
 ghost use Rattle.net_meaning.specs.Cycles.{captures};
+ghost use Rattle.code_memories.specs.Captures.{HaveFewLeaves};
 ghost use Rattle.net_meaning.specs.Words.{count_words, memory_words, state_words, SaysItsWords};
 
-use ground_net::Net;
+use ground_net::{Net, NetMemory};
 use net_sources::element_words;
 
 /// Words have numbers below this.
@@ -19,6 +20,19 @@ pub(crate) fn has_few_words(net: &Net, reads: usize) -> bool
     ensures { IsTrue result → state_words net.now < 2 ^ 32 }
 {
     behind_memories(net).saturating_add(2 * reads as u128) < NUMBERS
+}
+
+/// Whether memories have numbers of 32 bits, and the leaves of an element of each.
+pub(crate) fn are_numbered(memories: &[NetMemory]) -> bool
+    ensures count { IsTrue result → length memories.now < 2 ^ 32 }
+    ensures leaves { IsTrue result → HaveFewLeaves memories.now }
+{
+    for memory in memories {
+        if memory.elements.len() as u128 >= NUMBERS {
+            return false;
+        }
+    }
+    (memories.len() as u128) < NUMBERS
 }
 
 /// A number that the words of the registers and the memories don't exceed, where it is small.

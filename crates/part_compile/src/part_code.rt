@@ -1,12 +1,12 @@
 //! The code of a part.
 
-ghost use Rattle.std.specs.Prelude.{◌≡◌, ◌<◌, ◌^◌, length, map, IfOk};
+ghost use Rattle.std.specs.Prelude.{◌≡◌, map, IfOk};
 ghost use Rattle.ground_net.specs.Cones.{sinks as sinks_in};
 ghost use Rattle.cone_cutter.specs.Rows.{sink_of};
 ghost use Rattle.partition_code.specs.Codes.{IsCodeOf};
 ghost use Rattle.code_place.specs.Live.{IsSingle};
 ghost use Rattle.part_sinks.specs.Rows.{IsPlan};
-ghost use Rattle.part_compile.specs.Rows.{IsUnionInOrder};
+ghost use Rattle.part_compile.specs.Rows.{IsUnionInOrder, AreNumbered};
 
 use crate::adding::made_of;
 use code_draft::steps::empty;
@@ -30,7 +30,7 @@ pub(crate) fn code_of(
 ) -> Result<Code, AllocError>
     requires plan { IsPlan plan.now.net.now plan.now.watch.now plan.now.words.now plan.now.reads.now }
     requires sinks { map sink_of sinks.now ≡ sinks_in plan.now.net.now plan.now.watch.now }
-    requires memories { length plan.now.net.now.memories < 2 ^ 32 }
+    requires numbered { AreNumbered plan.now.net.now }
     requires part { IsUnionInOrder plan.now.net.now plan.now.watch.now part.now }
     ensures code { IfOk result (IsCodeOf plan.now.net.now plan.now.watch.now part.now) }
     ensures single { IfOk result IsSingle }

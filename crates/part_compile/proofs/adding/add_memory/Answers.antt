@@ -10,7 +10,7 @@ use Rattle.part_compile.proofs.adding.add_memory.Goals as goal
 pub unreachable-requires : goal.unreachable-requires
 unreachable-requires c =
     let within = (memory_place c.args.work.now.plan.now.net.now c.args.work.now.plan.now.watch.now c.args.number c.args.memory c.requires.there).1 in
-    let few = c.requires.memories in
+    let few = c.requires.numbered.memories in
     c.in_default.ensures (omega (arith, within, few))
 
 pub publish_memory-requires-clause-memory : goal.publish_memory-requires-clause-memory
