@@ -1,5 +1,5 @@
 -- Captured reads that stand in a net.
-use Rattle.std.specs.Prelude.{◌≡◌, ℕ, true, slice_get, Some}
+use Rattle.std.specs.Prelude.{◌≡◌, ◌<◌, ◌^◌, ℕ, List, All, length, true, slice_get, Some}
 use Rattle.ground_net.specs.declared.net.Net.{Net}
 use Rattle.ground_net.specs.declared.net.NetMemory.{NetMemory}
 use Rattle.ground_net.specs.declared.net.NetPort.{NetPort}
@@ -28,3 +28,7 @@ pub record ReadsAt (net : Net) (m p k : ℕ) : Type 0 where
 pub record IsKept (S : Sources) (x : ℕ) : Type 0 where
   pub kept : Kept
   pub there : leaf_source S x ≡ Some (source.Word kept)
+
+-- the leaves of an element have numbers of 32 bits, in each memory
+abbrev pub HaveFewLeaves : List NetMemory → Type 0
+HaveFewLeaves memories = All (λ m. length m.elements < 2 ^ 32) memories

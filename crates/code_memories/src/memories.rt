@@ -5,6 +5,7 @@ ghost use Rattle.ground_net.specs.Cones.{A_memory};
 ghost use Rattle.net_meaning.specs.Nets.{IsNet};
 ghost use Rattle.memory_sources.specs.Memories.{HasMemory};
 ghost use Rattle.code_registers.specs.Telling.{PublishesSinks};
+ghost use Rattle.code_memories.specs.Captures.{HaveFewLeaves};
 
 use crate::captures::publish_captures;
 use code_draft::Draft;
@@ -22,6 +23,7 @@ pub fn publish_memory(
     number: u32,
 ) -> Result<(), AllocError>
     requires net { IsNet net.now }
+    requires few { HaveFewLeaves net.now.memories }
     requires memory { HasMemory net.now sources.now number }
     ensures { OnOk result (PublishesSinks net.now sources.now (A_memory number ∷ []) draft.old draft.new) }
 {

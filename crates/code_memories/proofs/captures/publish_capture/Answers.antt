@@ -9,8 +9,14 @@ use Rattle.memory_sources.specs.Memories.{capture_of, capture_left}
 use Rattle.code_writes.specs.Writes.{PublishesLeft}
 use Rattle.code_writes.proofs.Targets.{on_ok_so}
 use Rattle.code_writes.proofs.Written.{some_is}
+use Rattle.code_memories.proofs.Numbers.{leaf_small}
 use Rattle.code_memories.proofs.Loops.{kept_here, has_here, capture_done}
 use Rattle.code_memories.proofs.captures.publish_capture.Goals as goal
+
+pub unreachable-requires-in_default-try_from : goal.unreachable-requires-in_default-try_from
+unreachable-requires-in_default-try_from c =
+    let small = leaf_small c.args.net.now.memories c.args.at.memory c.args.at.leaf c.in-Some.memory.now c.in-Some-get-3.element.now c.requires.few (sym c.in-Some.ensures.value) (sym c.in-Some-get-3.ensures.value) in
+    c.in_default-try_from.ensures small
 
 pub word_of-word-requires : goal.word_of-word-requires
 word_of-word-requires c =
