@@ -1,11 +1,8 @@
-//! Cases of runs by workers in threads: short circuits whose traces are written by hand, whatever threads are there, and frames that stay
-//! short.
+//! Cases of runs by workers in threads: short circuits whose traces are written by hand, whatever threads are there.
 #![tactic(auto)]
 
 #[cfg(test)]
 mod circuits;
-#[cfg(test)]
-mod frames;
 #[cfg(test)]
 mod gates;
 #[cfg(test)]

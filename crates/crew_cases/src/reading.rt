@@ -4,7 +4,7 @@ ghost use Rattle.std.specs.Prelude.{IfSome};
 ghost use Rattle.net_meaning.specs.Words.{SaysItsWords};
 ghost use Rattle.circuit_run.specs.NetRuns.{IsPlanned};
 
-use crew_run::{Plan, codes_of};
+use crew_run::Plan;
 use crew_workers::Gate;
 use shelf_io::SinkMemory;
 use sim_engine::{Built, CIRCUIT_LIMIT, compile_text};
@@ -92,21 +92,4 @@ pub fn traced_by<R: Threads + Wait + Sync, G: Gate + Sync>(
     let mut sink = SinkMemory::new(alloc, ROOM, STEP, Vec::new(alloc)).ok()?;
     crew_run::simulate(alloc, rt, gate, &plan, &mut sink).ok()?;
     Vec::from_slice(alloc, sink.bytes()).ok()
-}
-
-/// How many words the frame of one worker has, whose code is that of the whole circuit.
-pub fn frame_length(alloc: Global, given: &Given) -> Option<usize>
-    requires planned { IsPlanned given.now.built.ordered given.now.built.ports given.now.stimulus }
-    requires said { SaysItsWords given.now.built.ordered.net }
-{
-    let plan = Plan {
-        ordered: &given.built.ordered,
-        ports: &given.built.ports,
-        stimulus: &given.stimulus,
-        workers: 1,
-        threads: 0,
-    };
-    let codes = codes_of(alloc, &plan).ok()?;
-    let code = codes.get(0)?;
-    Some(code.frame_length())
 }
