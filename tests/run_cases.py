@@ -132,6 +132,10 @@ def main():
     cases = [json.loads(line) for line in (folder / "cases.jsonl").read_text().splitlines()]
     run(program, ["check"], b"")  # builds the program where that has still to be done
     faults = [(case["name"], fault_of(program, case)) for case in cases]
+    for case in cases:
+        if case["words"] in (["run"], ["run", "-"]) and case["status"] == 0:
+            written = {**case, "words": [], "stdout": case["stdout"] + "same\n"}
+            faults.append((f"{case['name']}, as it is written", fault_of(witness, written)))
     examples = folder / "../examples"
     for name in ("counter.fir", "gcd.fir"):
         text = (examples / name).read_bytes()
