@@ -1,5 +1,5 @@
-"""Prints how long an instruction and a cycle of code over a mix of all operations take, in the order that it is made in and in order in
-windows, and the same for a loop in C over the same instructions that tests no number, and the ratio.
+"""Prints how long an instruction and a cycle of code over a mix of all operations take, in the order that it is made in, in the order and
+the slots that a run gives it, and in order in windows, and the same for a loop in C over the same instructions that tests no number, and the ratio.
 
 usage: steps.py PROGRAM
 """
@@ -10,7 +10,7 @@ import tempfile
 import time
 
 BLOCKS = (100, 1_000, 10_000)
-WINDOWS = (0, 256, 2_048, 16_384)
+WINDOWS = (0, 1, 256, 2_048, 16_384)
 INSTRUCTIONS = 40_000_000
 
 
@@ -48,7 +48,7 @@ def main():
                 plain, same = nanoseconds([theirs, listing], cycles)
                 first = word if first is None else first
                 assert word == same == first, (word, same, first)
-                shown = f"{window:,}" if window else "-"
+                shown = {0: "-", 1: "a run"}.get(window, f"{window:,}")
                 print(f"{count:12,} {shown:>7} {cycle / 1000:11.1f} {cycle / count:8.2f} {plain / count:8.2f} {cycle / plain:6.2f}", flush=True)
 
 

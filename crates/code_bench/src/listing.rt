@@ -88,6 +88,16 @@ fn op_number(op: Op) -> u32 {
         Op::Publish => 18,
         Op::PublishAt => 19,
         Op::Wide => 20,
+        Op::Mul => 21,
+        Op::Quotient => 22,
+        Op::Remainder => 23,
+        Op::IsMask => 24,
+        Op::Below => 25,
+        Op::Parity => 26,
+        Op::RightBy => 27,
+        Op::RightSigned => 28,
+        Op::Left => 29,
+        Op::LeftBy => 30,
     }
 }
 

@@ -1,6 +1,6 @@
 //! Runs or lists code over a mix of all operations, to be timed from outside. The words are how many blocks of 21 instructions there are,
-//! how many instructions a window has in which they are put in order, 0 for the order that they are made in, and how many cycles are run.
-//! It writes a word that all publications go into, and with no third word the code itself.
+//! how many instructions a window has in which they are put in order, 0 for the order that they are made in and 1 for order and places as a
+//! run has them, and how many cycles are run. It writes a word that all publications go into, and with no third word the code itself.
 #![tactic(auto)]
 
 mod listing;
@@ -9,6 +9,7 @@ mod running;
 
 ghost use Rattle.std.specs.Prelude.{◌<◌, ◌≤◌};
 
+use code_arrange::arrange;
 use code_order::reorder;
 use flat_code::Code;
 use listing::list;
@@ -41,14 +42,15 @@ fn run(rt: &HostRuntime) -> Option<()> {
     println!(rt; "{word}").ok()
 }
 
-/// The code, in order where a window has instructions.
+/// The code, in order where a window has instructions, and in few slots too where it has one.
 fn code_of(alloc: Global, blocks: u32, window: usize) -> Option<Code>
     requires some { 0 < blocks }
     requires few { blocks ≤ 1000000 }
 {
     let code = mixed(alloc, blocks).ok()??;
-    if window == 0 {
-        return Some(code);
+    match window {
+        0 => Some(code),
+        1 => arrange(alloc, code).ok(),
+        _ => reorder(alloc, code, window).ok(),
     }
-    reorder(alloc, code, window).ok()
 }

@@ -1,8 +1,9 @@
 //! Code over a mix of all operations. A block has 18 instructions on words, a publication, the write of a port and a wide value.
 
-ghost use Rattle.std.specs.Prelude.{◌≡◌, ℕ, ◌+◌, ◌*◌, ◌<◌, ◌≤◌, List as Listed, length, All, IfOk, [], ◌∷◌};
+ghost use Rattle.std.specs.Prelude.{◌≡◌, ℕ, ◌+◌, ◌*◌, ◌<◌, ◌≤◌, List as Listed, length, All, IfOk, IfSome, [], ◌∷◌};
 ghost use Rattle.bit_words.specs.declared.value.Kind.TheVariants.{Unsigned as unsigned};
 ghost use Rattle.flat_code.specs.Fine.{IsFine, AreFine, IsSpot, IsWide, IsPort};
+ghost use Rattle.code_place.specs.Live.{IsSingle};
 
 use bit_words::{Kind, List};
 use code_order::writes_once;
@@ -29,6 +30,7 @@ struct Trio {
 pub fn mixed(alloc: Global, blocks: u32) -> Result<Option<Code>, AllocError>
     requires some { 0 < blocks }
     requires few { blocks ≤ 1000000 }
+    ensures { IfOk result (λ o. IfSome o IsSingle) }
 {
     let ports = ports_of(alloc, blocks)?;
     let wides = wides_of(alloc, blocks)?;

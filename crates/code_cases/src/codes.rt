@@ -17,16 +17,30 @@ pub type Row = (Op, u32, u32, u32);
 pub fn code_of(alloc: Global, slots: u32, words: u32, rows: &[Row]) -> Option<Code>
     ensures { IfSome result IsSingle }
 {
-    match made_of(alloc, slots, words, rows) {
+    match instrs_of(alloc, rows) {
+        Ok(instrs) => code_with(alloc, slots, words, instrs),
+        Err(_) => None,
+    }
+}
+
+/// The same of instructions.
+pub fn code_with(alloc: Global, slots: u32, words: u32, instrs: List<Instr>) -> Option<Code>
+    ensures { IfSome result IsSingle }
+{
+    match made_of(alloc, slots, words, instrs) {
         Ok(made) => made,
         Err(_) => None,
     }
 }
 
-fn made_of(alloc: Global, slots: u32, words: u32, rows: &[Row]) -> Result<Option<Code>, AllocError>
+fn made_of(
+    alloc: Global,
+    slots: u32,
+    words: u32,
+    instrs: List<Instr>,
+) -> Result<Option<Code>, AllocError>
     ensures { IfOk result (λ made. IfSome made IsSingle) }
 {
-    let instrs = instrs_of(alloc, rows)?;
     if instrs.len() > 1_000_000 || !are_fine(instrs.as_slice(), slots, words) {
         return Ok(None);
     }
@@ -83,9 +97,17 @@ fn is_fine(instr: Instr, slots: u32, words: u32) -> bool
     match instr.op {
         Op::Constant => instr.target < slots,
         Op::Load => instr.target < slots && instr.first < words,
-        Op::Not => instr.target < slots && instr.first < slots,
-        Op::Add => instr.target < slots && instr.first < slots && instr.second < slots,
         Op::Publish => instr.first < slots && instr.second < words,
+        Op::Not | Op::IsMask | Op::Parity => instr.target < slots && instr.first < slots,
+        Op::Left => instr.target < slots && instr.first < slots && instr.shift < 64,
+        Op::Add
+        | Op::Mul
+        | Op::Quotient
+        | Op::Remainder
+        | Op::Below
+        | Op::RightBy
+        | Op::RightSigned
+        | Op::LeftBy => instr.target < slots && instr.first < slots && instr.second < slots,
         _ => false,
     }
 }

@@ -9,3 +9,5 @@ mod codes;
 mod steps;
 #[cfg(test)]
 mod telling;
+#[cfg(test)]
+mod words;

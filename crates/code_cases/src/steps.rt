@@ -38,7 +38,7 @@ impl<'a> Loads for Words<'a> {
 }
 
 /// The word and the value of each publication of a step in a frame of ones.
-fn published(alloc: Global, code: &Code, words: &[u64]) -> Option<Vec<u8>> {
+pub fn published(alloc: Global, code: &Code, words: &[u64]) -> Option<Vec<u8>> {
     if words.len() != code.words as usize {
         return None;
     }

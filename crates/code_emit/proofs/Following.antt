@@ -1,107 +1,34 @@
 -- Code behind code that keeps the slots of its operands.
-use Rattle.std.proofs.Common.{◌≡◌, ℕ, suc, ◌*◌, ◌<◌, ◌≤◌, true, true≢false, nat_le, if◌then◌else◌, List, [], ◌∷◌, ◌++◌, length, flat_map, Option, Some, option_and_then, All, refl, sym, subst, ap, ap₂, ◌∙◌, arith, ⊎_elim, ◌⊎◌, inl, inr, append_assoc}
-use Rattle.std.specs.Prelude.{IsSome, sum_by}
-use Rattle.std.proofs.lemmas.Bool.{cases_lt, le-ltb}
+use Rattle.std.proofs.Common.{◌≡◌, ℕ, suc, ◌+◌, ◌*◌, ◌<◌, ◌≤◌, max, Bool, true, false, true≢false, nat_le, if◌then◌else◌, List, [], ◌∷◌, ◌++◌, length, map, flat_map, Option, Some, None, option_and_then, refl, sym, subst, ap, ◌∙◌, arith, ⊎_elim, inl, inr}
+use Rattle.std.specs.Prelude.{IsSome, sum, sum_by}
+use Rattle.std.proofs.lemmas.Bool.{le-ltb}
 use Rattle.std.proofs.lemmas.Bool.Decides.{nat_tests}
 use Rattle.std.proofs.lemmas.List.{append-nil, length-map}
-use Rattle.std.proofs.lemmas.List.Elements.{All-append, All-nil}
 use Rattle.std.proofs.lemmas.List.Sums.{sum-map, sum_by-cons}
 use Rattle.prim_ops.specs.declared.operation.PrimOp.{PrimOp}
 use Rattle.ground_net.specs.declared.ground.Ground.{Ground}
 use Rattle.ground_net.specs.declared.ground.Ground.TheVariants.{Op, Mux}
 use Rattle.ground_net.specs.Grounds.{mentions}
-use Rattle.ground_net.proofs.Layers.{mentions-Op, mentions-Mux}
-use Rattle.net_meaning.specs.Shapes.{Shape, Table, shape, all_of, shape_of_choice}
+use Rattle.ground_net.proofs.Layers.{all_mentions, mentions-Op, mentions-Mux}
+use Rattle.net_meaning.specs.Shapes.{Shape, Table, shape, all_of, shape_of_choice, shape_of_row, is_row, width_of_row}
 use Rattle.net_meaning.proofs.Shaping.{and_then}
-use Rattle.flat_code.specs.declared.instr.Instr.{Instr}
 use Rattle.flat_code.specs.declared.instr.Spot.{Spot}
-use Rattle.flat_code.specs.Fine.{among, nothing, reads_of, written, spot_slots, slots_of, spot_shapes}
+use Rattle.flat_code.specs.Fine.{among, spot_slots, slots_of, spot_shapes}
 use Rattle.flat_code.specs.Meaning.{spot_shape}
 use Rattle.code_draft.specs.declared.draft.Draft.{Draft}
-use Rattle.code_draft.specs.Segments.{FewLive, Segment, Step, behind_first}
-use Rattle.code_draft.proofs.Segmenting.{among_left, among_right, among_either, none_among, both_so, tail_all, map_all}
-use Rattle.code_draft.proofs.Joining.{Joins, goes_then, stretch_then, fresh_few, segment_then, segment_weaker, step_then}
+use Rattle.code_draft.specs.Segments.{Segment, Step}
+use Rattle.code_draft.proofs.Segmenting.{among_left, among_right, among_either, none_among, both_so}
+use Rattle.code_draft.proofs.Joining.{segment_then, segment_weaker, step_then}
 use Rattle.code_draft.proofs.Stepping.{spot_few}
+use Rattle.code_words.specs.Ways.{Reckons}
+use Rattle.code_words.proofs.Behind.{then_step}
 use Rattle.code_emit.specs.declared.sources.Sources.{Sources}
 use Rattle.code_emit.specs.Emits.{shapes_in}
 use Rattle.code_emit.specs.Counts.{tips}
 use Rattle.code_emit.specs.Spans.{leaf_slots, ground_slots, Spans, SpansAll, ComeBefore, Follows, are_words}
 use Rattle.code_emit.proofs.Counting.{tips_some, tips-Op, tips-Mux}
 use Rattle.code_emit.proofs.Shaped.{some_same}
-use Rattle.code_emit.proofs.Spanning.{grounds_before, slots_each, parts_span}
-
--- A step on what code keeps and on what stands there before
-then_step : (a b c : Draft) (O K P Q W : List ℕ) (m n t : ℕ) → Segment a b O K m → Step b c P Q n → ((k : ℕ) → among P k ≡ true → (among K k ≡ true) ⊎ ((k < a.slots) × (among W k ≡ true)))
-    → ((k : ℕ) → among O k ≡ true → among W k ≡ true) → m ≤ t → n ≤ t → Segment a c W Q t
-then_step a b c O K P Q W m n t f s within outer le next =
-    let g = s.segment in
-    let lower = f.slots in
-    let upper = g.slots in
-    let in_first : (k : ℕ) → a.slots ≤ k → among P k ≡ true → among K k ≡ true = λ k low e. ⊎_elim (λ h. h) (λ h. let lt = h.0 in absurd (omega (arith, lt, low))) (within k e) in
-    let join : Joins a.slots b.slots c.slots O K P Q W Q = record {
-      lower = lower;
-      upper = upper;
-      first_outer = λ k lt e. outer k e;
-      second_outer = λ k lt e. ⊎_elim (λ h. ⊎_elim (λ own. let low = own.0 in absurd (omega (arith, low, lt))) (λ out. outer k out) (f.there k h)) (λ h. h.1) (within k e);
-      inside = λ k low up e. in_first k low e;
-      kept_first = λ k low up e. ⊎_elim (λ h. let out = h.0 in absurd (omega (arith, out, up))) (λ h. in_first k low h) (g.there k e);
-      kept_second = λ k low up e. e;
-    } in
-    record {
-      instrs = f.instrs ++ g.instrs;
-      is = g.is ∙ (ap (λ xs. xs ++ g.instrs) f.is ∙ append_assoc a.instrs f.instrs g.instrs);
-      tables = goes_then a b c.ports c.wides f.tables g.tables;
-      slots = omega (arith, lower, upper);
-      each = λ ports wides on.
-          let first = f.each ports wides (goes_then b c ports wides g.tables on) in
-          let second = g.each ports wides on in
-          stretch_then a.slots b.slots c.slots O K P Q W Q m n t join ports wides f.instrs g.instrs first second le (λ after ok. ⊎_elim
-          (λ none. subst (λ xs. FewLive t a.slots (written nothing wides f.instrs) ports wides after xs) (sym none) tt)
-          (λ own. fresh_few a.slots b.slots c.slots O K P Q W Q m n t join ports wides f.instrs g.instrs first second next (s.once ports wides on) own after ok)
-          s.fresh);
-      there = λ k e. ⊎_elim
-          (λ h. let low = h.0 in inl (omega (arith, low, lower), h.1))
-          (λ h. ⊎_elim
-          (λ kept. ⊎_elim (λ own. let up = own.1 in inl (own.0, omega (arith, up, upper))) (λ out. inr (outer k out)) (f.there k kept))
-          (λ old. inr old.1)
-          (within k h))
-          (g.there k e);
-      few = (let some = g.few in omega (arith, some, next));
-    }
-
--- A step behind a step
-
-behind_both : (P : Instr → Type 0) (is js : List Instr) → All P (behind_first is) → All P js → All P (behind_first (is ++ js))
-behind_both P [] [] first all = All-nil P
-behind_both P [] (j ∷ js) first all = tail_all P j js all
-behind_both P (i ∷ is) js first all = All-append P is js first all
-
-pub steps_then : (a b c : Draft) (O K Q : List ℕ) (m n t : ℕ) → Step a b O K m → Step b c K Q n → m ≤ t → n ≤ t → Step a c O Q t
-unfolding then_step
-steps_then a b c O K Q m n t f g le next =
-    let p = f.segment in
-    let q = g.segment in
-    let lower = p.slots in
-    record {
-      segment = then_step a b c O K K Q O m n t p g (λ k e. inl e) (λ k e. e) le next;
-      once = λ ports wides on. ⊎_elim
-          (λ none. subst (λ is. All (λ i. (k : ℕ) → among (reads_of ports wides i) k ≡ true → a.slots ≤ k) (behind_first (is ++ q.instrs))) (sym none)
-          (map_all (λ i. (k : ℕ) → among (reads_of ports wides i) k ≡ true → b.slots ≤ k) (λ i. (k : ℕ) → among (reads_of ports wides i) k ≡ true → a.slots ≤ k) (behind_first q.instrs)
-          (λ i h k e. let low = h k e in omega (arith, low, lower)) (g.once ports wides on)))
-          (λ own.
-          let second = q.each ports wides on in
-          behind_both (λ i. (k : ℕ) → among (reads_of ports wides i) k ≡ true → a.slots ≤ k) p.instrs q.instrs (f.once ports wides (goes_then b c ports wides q.tables on))
-          (map_all (λ i. (k : ℕ) → k < b.slots → among (reads_of ports wides i) k ≡ true → among K k ≡ true) (λ i. (k : ℕ) → among (reads_of ports wides i) k ≡ true → a.slots ≤ k) q.instrs
-          (λ i h k e. ⊎_elim (λ lt. own k (h k lt e)) (λ up. omega (arith, up, lower)) (cases_lt k b.slots)) second.reads))
-          f.fresh;
-      fresh = ⊎_elim
-          (λ none. ⊎_elim
-          (λ empty. inl (ap₂ (λ xs ys. xs ++ ys) empty none))
-          (λ own. inr (λ k e. ⊎_elim (λ h. let low = h.0 in omega (arith, low, lower)) (λ h. own k h) (q.there k e)))
-          f.fresh)
-          (λ own. inr (λ k e. let low = own k e in omega (arith, low, lower)))
-          g.fresh;
-    }
+use Rattle.code_emit.proofs.Spanning.{grounds_before, slots_each}
 
 -- Choices one behind the other
 
@@ -136,23 +63,21 @@ words_long (s ∷ ss) e =
     at_most : (w : ℕ) → nat_le w 64 ≡ true → w ≤ 64
     at_most w h = grind (arith, nat_tests)
 
-choice_some : (ss : List Spot) → IsSome (shape_of_choice (spot_shapes ss)) → 1 ≤ length ss
+pub choice_some : (ss : List Spot) → IsSome (shape_of_choice (spot_shapes ss)) → 1 ≤ length ss
 choice_some [] h = absurd (true≢false (sym h))
 choice_some (s ∷ ss) h = omega arith
 
-pub step_follows : (ss : List Spot) (old new : Draft) (s : Spot) → IsSome (shape_of_choice (spot_shapes ss)) → Step old new (slots_of ss) (spot_slots s) 2 → Follows ss old new s
-step_follows ss old new s shaped st start outer n before room seg =
-    let some = choice_some ss shaped in
-    step_then start old new outer (slots_of ss) (spot_slots s) n 2 n seg st (omega arith) (omega (arith, some, room))
+pub step_follows : (ss : List Spot) (old new : Draft) (s : Spot) → 1 ≤ length ss → Step old new (slots_of ss) (spot_slots s) 2 → Follows ss old new s
+step_follows ss old new s some st start outer n before room seg = step_then start old new outer (slots_of ss) (spot_slots s) n 2 n seg st (omega arith) (omega (arith, some, room))
 
-pub chain_follows : (ss : List Spot) (old new : Draft) (s : Spot) → are_words ss ≡ true → 3 < length ss → (ComeBefore old.slots (slots_of ss) → Segment old new (slots_of ss) (spot_slots s) 2) → Follows ss old new s
-chain_follows ss old new s words many h start outer n before room seg =
+-- code of which two slots are live at once, beside the slots of the operands
+pub segment_follows : (ss : List Spot) (old new : Draft) (s : Spot) → length (slots_of ss) + 2 ≤ 2 * length ss → (ComeBefore old.slots (slots_of ss) → Segment old new (slots_of ss) (spot_slots s) 2) → Follows ss old new s
+segment_follows ss old new s fits h start outer n before room seg =
     let K = slots_of ss in
     let Q = spot_slots s in
     let lower = seg.slots in
     let g = h (λ k e. ⊎_elim (λ own. own.1) (λ out. let lt = before k out in omega (arith, lt, lower)) (seg.there k e)) in
     let upper = g.slots in
-    let long = words_long ss words in
     let few = spot_few s in
     segment_then start old new outer K K Q outer Q n 2 n seg g (record {
       lower = lower;
@@ -167,7 +92,34 @@ chain_follows ss old new s words many h start outer n before room seg =
     (λ own. let low = own.0 in inl (omega (arith, low, lower), own.1))
     (λ kept. ⊎_elim (λ own. let up = own.1 in inl (own.0, omega (arith, up, upper))) (λ out. inr out) (seg.there k kept))
     (g.there k e))
-    (omega arith) (omega (arith, long, many, room)) (omega (arith, few, many, room))
+    (omega arith) (omega (arith, fits, room)) (omega (arith, few, fits, room))
+
+pub chain_follows : (ss : List Spot) (old new : Draft) (s : Spot) → are_words ss ≡ true → 3 < length ss → (ComeBefore old.slots (slots_of ss) → Segment old new (slots_of ss) (spot_slots s) 2) → Follows ss old new s
+chain_follows ss old new s words many h = let long = words_long ss words in segment_follows ss old new s (omega (arith, long, many)) h
+
+-- Operations
+
+abbrev shape_there : Option Shape → Type 0
+shape_there o = IsSome o
+
+none_there : {A : Type 0} (b : Bool) → shape_there (if b then None else None) → A
+none_there true h = absurd (true≢false (sym h))
+none_there false h = absurd (true≢false (sym h))
+
+pub row_some : (prim : PrimOp) (params : List ℕ) (ss : List Spot) → IsSome (shape_of_row prim params (spot_shapes ss)) → 1 ≤ length ss
+row_some prim params [] h = none_there (is_row prim [] params (width_of_row prim [] params)) h
+row_some prim params (s ∷ ss) h = omega arith
+
+pub reckons_follow : (ss : List Spot) (old new : Draft) (s : Spot) → 1 ≤ length ss → Reckons ss old new s → Follows ss old new s
+reckons_follow ss old new s some r = ⊎_elim
+    (λ st. step_follows ss old new s some st)
+    (λ both. let two = both.0.two in let each = both.0.one_each in segment_follows ss old new s (omega (arith, two, each)) (λ come. both.1))
+    r
+
+-- a value of one that follows
+pub follows_then : (ss : List Spot) (a b c : Draft) (m s : Spot) → 1 ≤ length ss → Follows ss a b m → Follows (m ∷ []) b c s → Follows ss a c s
+follows_then ss a b c m s some first next start outer n before room seg =
+    next start outer n before (omega (arith, some, room)) (subst (λ xs. Segment start b outer xs n) (sym (append-nil (spot_slots m))) (first start outer n before room seg))
 
 -- Expressions
 
@@ -189,27 +141,34 @@ tips_each (g ∷ gs) =
     let both = sum_by-cons tips g gs in
     omega (arith, one, rest, both)
 
-pub mux_spans : (S : Sources) (table : Table) (g : Ground) (gs : List Ground) (a b c : Draft) (ss : List Spot) (s : Spot) → g ≡ Mux gs → all_of (shapes_in table gs) ≡ Some (spot_shapes ss) → SpansAll S gs a b ss → Follows ss b c s
-    → Spans S g a c s
-mux_spans S table g gs a b c ss s e shapes all last before =
-    let O = flat_map (ground_slots S) gs in
-    let Q = spot_slots s in
-    let some = tips_some g in
-    let few = spot_few s in
-    let each = tips_each gs in
-    let same = spots_long table gs ss shapes in
-    let sums = sum-map tips gs in
-    let count = ap tips e ∙ tips-Mux gs in
-    subst (λ xs. Segment a c xs Q (2 * tips g)) (slots_each S gs ∙ ap (flat_map (leaf_slots S)) (sym (ap mentions e ∙ mentions-Mux gs)))
-    (segment_weaker a c O Q O Q (2 * sum_by tips gs) (2 * tips g) (last a O (2 * sum_by tips gs) (grounds_before S a.slots gs before) (omega (arith, each, same)) (all before))
-    (λ k h. h) (λ k h. h) (omega (arith, count, sums)) (omega (arith, few, some)))
+-- an expression whose operation follows the code of its parts
+module _ (S : Sources) (table : Table) (g : Ground) (gs : List Ground) (a b c : Draft) (ss : List Spot) (s : Spot) (shapes : all_of (shapes_in table gs) ≡ Some (spot_shapes ss)) (all : SpansAll S gs a b ss)
+    (last : Follows ss b c s) where
+  followed_spans : sum_by tips gs ≤ tips g → mentions g ≡ all_mentions gs → Spans S g a c s
+  followed_spans le told before =
+      let O = flat_map (ground_slots S) gs in
+      let Q = spot_slots s in
+      let some = tips_some g in
+      let few = spot_few s in
+      let each = tips_each gs in
+      let same = spots_long table gs ss shapes in
+      subst (λ xs. Segment a c xs Q (2 * tips g)) (slots_each S gs ∙ ap (flat_map (leaf_slots S)) (sym told))
+      (segment_weaker a c O Q O Q (2 * sum_by tips gs) (2 * tips g) (last a O (2 * sum_by tips gs) (grounds_before S a.slots gs before) (omega (arith, each, same)) (all before))
+      (λ k h. h) (λ k h. h) (omega (arith, le)) (omega (arith, few, some)))
 
-pub nested_spans : (S : Sources) (g : Ground) (gs : List Ground) (a b c : Draft) (ss : List Spot) (s : Spot) (o : PrimOp) (ps : List ℕ) (p : PrimOp) (qs : List ℕ) → g ≡ Op o (Op p gs qs ∷ []) ps → SpansAll S gs a b ss
-    → Step b c (slots_of ss) (spot_slots s) 2 → Spans S g a c s
-nested_spans S g gs a b c ss s o ps p qs e all last =
-    parts_span S g gs a b c ss s all last
-    (let outer = ap tips e ∙ tips-Op o (Op p gs qs ∷ []) ps in
-    let inner = tips-Op p gs qs in
-    let sums = sum-map tips gs in
-    omega (arith, outer, inner, sums))
-    (ap mentions e ∙ (mentions-Op o (Op p gs qs ∷ []) ps ∙ (append-nil (mentions (Op p gs qs)) ∙ mentions-Op p gs qs)))
+  counted : tips g ≡ max 1 (sum (map tips gs)) → sum_by tips gs ≤ tips g
+  counted e = let sums = sum-map tips gs in omega (arith, e, sums)
+
+  pub mux_spans : g ≡ Mux gs → Spans S g a c s
+  mux_spans e = followed_spans (counted (ap tips e ∙ tips-Mux gs)) (ap mentions e ∙ mentions-Mux gs)
+
+  pub op_spans : (prim : PrimOp) (params : List ℕ) → g ≡ Op prim gs params → Spans S g a c s
+  op_spans prim params e = followed_spans (counted (ap tips e ∙ tips-Op prim gs params)) (ap mentions e ∙ mentions-Op prim gs params)
+
+  pub nested_spans : (o : PrimOp) (ps : List ℕ) (p : PrimOp) (qs : List ℕ) → g ≡ Op o (Op p gs qs ∷ []) ps → Spans S g a c s
+  nested_spans o ps p qs e = followed_spans
+      (let outer = ap tips e ∙ tips-Op o (Op p gs qs ∷ []) ps in
+      let inner = tips-Op p gs qs in
+      let sums = sum-map tips gs in
+      omega (arith, outer, inner, sums))
+      (ap mentions e ∙ (mentions-Op o (Op p gs qs ∷ []) ps ∙ (append-nil (mentions (Op p gs qs)) ∙ mentions-Op p gs qs)))

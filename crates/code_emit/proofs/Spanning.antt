@@ -6,11 +6,10 @@ use Rattle.std.proofs.lemmas.List.{length-append}
 use Rattle.std.proofs.lemmas.List.Concat.{flat_map-cons}
 use Rattle.std.proofs.lemmas.List.Sums.{sum-map, sum_by-append}
 use Rattle.bit_words.specs.declared.value.Kind.{Kind}
-use Rattle.prim_ops.specs.declared.operation.PrimOp.{PrimOp}
 use Rattle.ground_net.specs.declared.ground.Ground.{Ground}
-use Rattle.ground_net.specs.declared.ground.Ground.TheVariants.{Leaf, Op, Select, Load, Fit}
+use Rattle.ground_net.specs.declared.ground.Ground.TheVariants.{Leaf, Select, Load, Fit}
 use Rattle.ground_net.specs.Grounds.{mentions}
-use Rattle.ground_net.proofs.Layers.{all_mentions, mentions-Leaf, mentions-Op, mentions-Select, mentions-Load, mentions-Fit}
+use Rattle.ground_net.proofs.Layers.{all_mentions, mentions-Leaf, mentions-Select, mentions-Load, mentions-Fit}
 use Rattle.flat_code.specs.declared.instr.Spot.{Spot}
 use Rattle.flat_code.specs.Fine.{among, spot_slots, slots_of}
 use Rattle.code_draft.specs.declared.draft.Draft.{Draft}
@@ -23,7 +22,7 @@ use Rattle.code_emit.specs.declared.sources.Sources.{Sources}
 use Rattle.code_emit.specs.Emits.{leaf_source}
 use Rattle.code_emit.specs.Counts.{tips}
 use Rattle.code_emit.specs.Spans.{source_slots, found_slots, leaf_slots, ground_slots, AreFoundBefore, Spans, SpansAll, Evaluates, EvaluatesAll}
-use Rattle.code_emit.proofs.Counting.{tips_some, tips-Op, tips-Mux, tips-Select, tips-Load, tips-Fit}
+use Rattle.code_emit.proofs.Counting.{tips_some, tips-Select, tips-Load, tips-Fit}
 
 -- Slots of lists of leaves and expressions
 
@@ -102,9 +101,6 @@ module _ (S : Sources) (g : Ground) (gs : List Ground) (a b c : Draft) (ss : Lis
 
   counted : tips g ≡ max 1 (sum (map tips gs)) → sum_by tips gs ≤ tips g
   counted e = let sums = sum-map tips gs in omega (arith, e, sums)
-
-  pub op_spans : (prim : PrimOp) (params : List ℕ) → g ≡ Op prim gs params → Spans S g a c s
-  op_spans prim params e = parts_span (counted (ap tips e ∙ tips-Op prim gs params)) (ap mentions e ∙ mentions-Op prim gs params)
 
   pub load_spans : (m k : ℕ) → g ≡ Load m k gs → Spans S g a c s
   load_spans m k e = parts_span (counted (ap tips e ∙ tips-Load m k gs)) (ap mentions e ∙ mentions-Load m k gs)

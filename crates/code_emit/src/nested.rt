@@ -10,6 +10,7 @@ ghost use Rattle.code_draft.specs.Drafts.{IsDraft, Stands, Makes};
 ghost use Rattle.code_draft.specs.Segments.{Step};
 ghost use Rattle.code_words.specs.Ways.{IsMade};
 ghost use Rattle.code_emit.specs.Nested.{nested_shape, nested_value, TakesLowest};
+ghost use Rattle.code_emit.specs.Spans.{Follows};
 
 use crate::forms::row_measure;
 use crate::values::emit_operation;
@@ -66,7 +67,7 @@ pub(crate) fn emit_nested(
     requires { IsSome (nested_shape inner.prim inner.params.now outer.prim outer.params.now (spot_shapes spots)) }
     ensures shape { IfOk result (λ s. nested_shape inner.entry.prim inner.entry.params.now outer.entry.prim outer.entry.params.now (spot_shapes spots) ≡ Some (spot_shape s)) }
     ensures makes { IfOk result (λ s. IsDraft draft.old → All (Stands draft.old) spots → Makes draft.old draft.new s (IsMade (nested_value inner.entry.prim inner.entry.params.now outer.entry.prim outer.entry.params.now) spots (spot_shape s))) }
-    ensures step { IfOk result (λ s. Step draft.old draft.new (slots_of spots) (spot_slots s) 2) }
+    ensures follows { IfOk result (λ s. Follows spots draft.old draft.new s) }
 {
     match lowest(draft, spots.as_slice(), inner, outer)? {
         Some(spot) => Ok(spot),
@@ -105,7 +106,7 @@ fn emit_both(
     requires { IsSome (nested_shape inner.prim inner.params.now outer.prim outer.params.now (spot_shapes spots)) }
     ensures shape { IfOk result (λ s. nested_shape inner.entry.prim inner.entry.params.now outer.entry.prim outer.entry.params.now (spot_shapes spots) ≡ Some (spot_shape s)) }
     ensures makes { IfOk result (λ s. IsDraft draft.old → All (Stands draft.old) spots → Makes draft.old draft.new s (IsMade (nested_value inner.entry.prim inner.entry.params.now outer.entry.prim outer.entry.params.now) spots (spot_shape s))) }
-    ensures step { IfOk result (λ s. Step draft.old draft.new (slots_of spots) (spot_slots s) 2) }
+    ensures follows { IfOk result (λ s. Follows spots draft.old draft.new s) }
 {
     let between = emit_operation(alloc, draft, inner.prim, spots, inner.params)?;
     let mut one = List::new(alloc);

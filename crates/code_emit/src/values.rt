@@ -8,6 +8,7 @@ ghost use Rattle.flat_code.specs.Fine.{spot_shapes, spot_slots, slots_of};
 ghost use Rattle.code_draft.specs.Drafts.{IsDraft, Stands, Makes};
 ghost use Rattle.code_draft.specs.Segments.{Step};
 ghost use Rattle.code_words.specs.Ways.{IsMade, row_value, fit_of_one};
+ghost use Rattle.code_emit.specs.Spans.{Follows};
 
 use crate::forms::{choice_measure, row_measure};
 use bit_words::{Kind, List};
@@ -28,7 +29,7 @@ pub(crate) fn emit_operation(
     requires { IsSome (shape_of_row prim params.now (spot_shapes spots)) }
     ensures shape { IfOk result (λ s. shape_of_row prim params.now (spot_shapes spots) ≡ Some (spot_shape s)) }
     ensures makes { IfOk result (λ s. IsDraft draft.old → All (Stands draft.old) spots → Makes draft.old draft.new s (IsMade (row_value prim params.now) spots (spot_shape s))) }
-    ensures step { IfOk result (λ s. Step draft.old draft.new (slots_of spots) (spot_slots s) 2) }
+    ensures follows { IfOk result (λ s. Follows spots draft.old draft.new s) }
 {
     let measure = row_measure(prim, spots.as_slice(), params);
     match operation_word(draft, prim, spots.as_slice(), params, measure)? {

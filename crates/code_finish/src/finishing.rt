@@ -32,6 +32,7 @@ pub fn finish(
     ensures shown { IfOk result (λ code. code.shown ≡ shown) }
     ensures words { IfOk result (λ code. code.words ≡ draft.words) }
     ensures slots { IfOk result (λ code. code.slots ≡ draft.slots) }
+    ensures most { IfOk result (λ code. code.most ≡ pushes draft.instrs) }
     ensures single { IfOk result (λ code. Single nothing code.ports code.wides code.instrs) }
 {
     let most = publications(draft.instrs.as_slice())?;

@@ -1,3 +1,4 @@
 pub mod Published
 pub mod Loops
 pub mod Evaluating
+pub mod Numbers

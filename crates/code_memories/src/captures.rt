@@ -1,11 +1,12 @@
 //! Captured reads of memories.
 
-ghost use Rattle.std.specs.Prelude.{◌≡◌, ℕ, Some, OnOk, slice_get, flat_map};
+ghost use Rattle.std.specs.Prelude.{◌≡◌, ◌<◌, ◌^◌, ℕ, Some, OnOk, slice_get, flat_map};
 ghost use Rattle.ground_net.specs.declared.net.NetMemory.{NetMemory as TheMemory};
 ghost use Rattle.ground_net.specs.declared.net.NetPort.{NetPort as ThePort};
 ghost use Rattle.ground_net.specs.declared.net.NetRead.{NetRead as TheRead};
 ghost use Rattle.net_meaning.specs.Nets.{IsNet};
 ghost use Rattle.net_meaning.specs.Cycles.{captured_by};
+ghost use Rattle.net_meaning.specs.Words.{state_words};
 ghost use Rattle.code_emit.specs.Emits.{leaf_source};
 ghost use Rattle.memory_sources.specs.Memories.{HasMemory, word_of as word_in, capture_of, capture_left};
 ghost use Rattle.code_writes.specs.Writes.{IsPortAt, PublishesLeft};
@@ -30,6 +31,7 @@ pub(crate) fn publish_captures(
     number: u32,
 ) -> Result<(), AllocError>
     requires net { IsNet net.now }
+    requires few { state_words net.now < 2 ^ 32 }
     requires memory { HasMemory net.now sources.now number }
     ensures left { OnOk result ((memory : TheMemory) → slice_get net.now.memories number ≡ Some memory → PublishesLeft net.now sources.now (λ st sight. flat_map (λ port. flat_map (capture_left net.now sources.now st sight number) (captured_by number memory port port.read)) memory.ports) draft.old draft.new) }
     ensures evaluates { OnOk result (EvaluatesOnly sources.now (IsCaptureGroup net.now number) draft.old draft.new) }
@@ -56,6 +58,7 @@ fn publish_reads(
     at: PortAt,
 ) -> Result<(), AllocError>
     requires net { IsNet net.now }
+    requires few { state_words net.now < 2 ^ 32 }
     requires memory { HasMemory net.now sources.now at.memory }
     requires there { IsPortAt net.now at.memory at.port }
     ensures left { OnOk result ((memory : TheMemory) (port : ThePort) → slice_get net.now.memories at.memory ≡ Some memory → slice_get memory.ports at.port ≡ Some port → PublishesLeft net.now sources.now (λ st sight. flat_map (capture_left net.now sources.now st sight at.memory) (captured_by at.memory memory port port.read)) draft.old draft.new) }
@@ -84,8 +87,7 @@ fn publish_reads(
     Ok(())
 }
 
-/// Adds code that publishes what the captured read of a leaf of an element shows next. Where leaves have no more numbers of 32 bits it
-/// is want of memory.
+/// Adds code that publishes what the captured read of a leaf of an element shows next.
 fn publish_capture(
     alloc: Global,
     draft: &mut Draft,
@@ -94,6 +96,7 @@ fn publish_capture(
     at: PortLeaf,
 ) -> Result<(), AllocError>
     requires net { IsNet net.now }
+    requires few { state_words net.now < 2 ^ 32 }
     requires memory { HasMemory net.now sources.now at.memory }
     requires there { ReadsAt net.now at.memory at.port at.leaf }
     ensures left { OnOk result ((memory : TheMemory) (port : ThePort) (read : TheRead) (shown : ℕ) → slice_get net.now.memories at.memory ≡ Some memory → slice_get memory.ports at.port ≡ Some port → port.read ≡ Some read → slice_get read.leaves at.leaf ≡ Some shown → PublishesLeft net.now sources.now (λ st sight. capture_left net.now sources.now st sight at.memory (capture_of at.memory memory port read (at.leaf, shown))) draft.old draft.new) }
@@ -114,12 +117,9 @@ fn publish_capture(
     let Some(element) = memory.elements.get(at.leaf) else {
         unreachable!();
     };
-    let Ok(number) = u32::try_from(at.leaf) else {
-        return Err(AllocError);
-    };
     let of = MemoryLeaf {
         memory: at.memory,
-        number,
+        number: at.leaf as u32,
         kind: element.kind,
         width: element.width,
     };

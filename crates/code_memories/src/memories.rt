@@ -1,8 +1,9 @@
 //! Memories.
 
-ghost use Rattle.std.specs.Prelude.{◌≡◌, [], ◌∷◌, OnOk};
+ghost use Rattle.std.specs.Prelude.{◌≡◌, ◌<◌, ◌^◌, [], ◌∷◌, OnOk};
 ghost use Rattle.ground_net.specs.Cones.{A_memory};
 ghost use Rattle.net_meaning.specs.Nets.{IsNet};
+ghost use Rattle.net_meaning.specs.Words.{state_words};
 ghost use Rattle.memory_sources.specs.Memories.{HasMemory};
 ghost use Rattle.code_registers.specs.Telling.{PublishesSinks};
 ghost use Rattle.code_registers.specs.Groups.{EvaluatesOnly};
@@ -24,6 +25,7 @@ pub fn publish_memory(
     number: u32,
 ) -> Result<(), AllocError>
     requires net { IsNet net.now }
+    requires few { state_words net.now < 2 ^ 32 }
     requires memory { HasMemory net.now sources.now number }
     ensures publishes { OnOk result (PublishesSinks net.now sources.now (A_memory number ∷ []) draft.old draft.new) }
     ensures evaluates { OnOk result (EvaluatesOnly sources.now (IsMemoryGroup net.now number) draft.old draft.new) }

@@ -1,5 +1,5 @@
 -- Operations of the table on single words. The word of a value is its integer's lowest 64 bits.
-use Rattle.std.proofs.Common.{◌≡◌, ◌==◌, ℕ, zero, suc, ◌+◌, ◌-◌, ◌*◌, ◌%◌, ◌^◌, ◌<◌, ◌≤◌, min, max, Bool, true, false, not, List, [], ◌∷◌, nat_lt, if◌then◌else◌, pos, negsuc, bit_and, bit_or, bit_xor, int_lt, int_le, refl, sym, subst, ap, ap₂, ◌∙◌, arith, pow_mono, pow-add}
+use Rattle.std.proofs.Common.{◌≡◌, ◌==◌, ℕ, zero, suc, ◌+◌, ◌-◌, ◌*◌, ◌/◌, ◌%◌, ◌^◌, ◌<◌, ◌≤◌, min, max, Bool, true, false, not, List, [], ◌∷◌, nat_lt, if◌then◌else◌, pos, negsuc, ◌*ℤ◌, bit_and, bit_or, bit_xor, int_lt, int_le, refl, sym, subst, ap, ap₂, ◌∙◌, arith, pow_mono, pow-add}
 use Rattle.std.specs.Ordering.{int_eq}
 use Rattle.std.proofs.lemmas.Int.{ints}
 use Rattle.std.proofs.lemmas.Grind.{common_steps}
@@ -11,11 +11,11 @@ use Rattle.bit_words.specs.declared.value.Value.{Value}
 use Rattle.bit_words.specs.Values.{integer, integer_of, bits_of}
 use Rattle.bit_words.proofs.Congruence.{Level}
 use Rattle.prim_ops.specs.declared.operation.PrimOp.TheVariants as op
-use Rattle.prim_ops.specs.Results.{one_if}
-use Rattle.prim_ops.proofs.Residues.{sum_low, difference_low, same_low}
+use Rattle.prim_ops.specs.Results.{one_if, quotient, remainder, floor_div}
+use Rattle.prim_ops.proofs.Residues.{sum_low, difference_low, product_low, raised_low, shifted_low, same_low}
 use Rattle.prim_ops.proofs.Moves.{and_low, or_low, xor_low}
 use Rattle.cycle_values.specs.Values.{operation}
-use Rattle.flat_code.specs.Meaning.{minus, extension}
+use Rattle.flat_code.specs.Meaning.{minus, extension, over, left_over}
 
 -- a is the word of x
 pub record HasWord (a : ℕ) (x : Value) : Type 0 where
@@ -68,7 +68,7 @@ not_law params x h =
     let same : min x.width 128 ≡ x.width = omega arith in
     ap (λ n. (2 ^ 64 - 1 - x.bits) % 2 ^ n) same ∙ same_low x.width _ _ (turned x.width x.bits h x.within) ∙ ap (λ n. (2 ^ x.width - 1 - x.bits) % 2 ^ n) (sym same)
 
-by_test : (b : Bool) → (if b then 1 else 0) ≡ bits_of 1 (one_if b)
+pub by_test : (b : Bool) → (if b then 1 else 0) ≡ bits_of 1 (one_if b)
 by_test true = refl
 by_test false = refl
 
@@ -82,7 +82,7 @@ pub equal_law : (params : List ℕ) (x y : Value) → x.kind ≡ Unsigned → y.
 equal_law params x y k l = by_test (x.bits == y.bits) ∙ ap (λ t. bits_of 1 (one_if t)) (same_test x.bits y.bits) ∙ ap₂ (λ n m. bits_of 1 (one_if (int_eq n m))) (sym (plain x k)) (sym (plain y l))
 
 -- a test turned round
-turned_test : (b : Bool) → bit_and (2 ^ 64 - 1 - (if b then 1 else 0)) 1 ≡ (if not b then 1 else 0)
+pub turned_test : (b : Bool) → bit_and (2 ^ 64 - 1 - (if b then 1 else 0)) 1 ≡ (if not b then 1 else 0)
 turned_test true = refl
 turned_test false = refl
 
@@ -141,3 +141,29 @@ pub signed_word : (x : Value) (half : ℕ) → x.kind ≡ Signed → 2 * half �
 signed_word x half e h narrow =
     let most : 2 ^ x.width ≤ 2 ^ 64 = pow_mono narrow in
     record { is = by_sign (nat_lt x.bits half) (nat_lt (2 * x.bits) (2 ^ x.width)) x.bits half (2 ^ x.width) refl refl h most x.within ∙ ap (λ k. bits_of 64 (integer k x.width x.bits)) (sym e) }
+
+-- Products, quotients and moved bits
+
+pub mul_law : (params : List ℕ) (a b : ℕ) (x y : Value) → HasWord a x → HasWord b y → (operation op.Mul (x ∷ y ∷ []) params).width ≤ 64
+    → (a * b) % 2 ^ 64 % 2 ^ (operation op.Mul (x ∷ y ∷ []) params).width ≡ (operation op.Mul (x ∷ y ∷ []) params).bits
+mul_law params a b x y v w narrow = product_low _ 64 a b (integer_of x) (integer_of y) narrow v.is w.is
+
+over_by : (t : Bool) (a b w : ℕ) → (if t then 0 else a / b) % 2 ^ w ≡ bits_of w (if t then pos 0 else pos (a / b))
+over_by true a b w = refl
+over_by false a b w = refl
+
+left_by : (t : Bool) (a b w : ℕ) → (if t then 0 else a % b) % 2 ^ w ≡ bits_of w (if t then pos 0 else pos (a % b))
+left_by true a b w = refl
+left_by false a b w = refl
+
+pub div_law : (params : List ℕ) (x y : Value) → x.kind ≡ Unsigned → y.kind ≡ Unsigned → over x.bits y.bits % 2 ^ (operation op.Div (x ∷ y ∷ []) params).width ≡ (operation op.Div (x ∷ y ∷ []) params).bits
+div_law params x y k l = let w = (operation op.Div (x ∷ y ∷ []) params).width in over_by (y.bits == 0) x.bits y.bits w ∙ ap₂ (λ n m. bits_of w (quotient n m)) (sym (plain x k)) (sym (plain y l))
+
+pub rem_law : (params : List ℕ) (x y : Value) → x.kind ≡ Unsigned → y.kind ≡ Unsigned → left_over x.bits y.bits % 2 ^ (operation op.Rem (x ∷ y ∷ []) params).width ≡ (operation op.Rem (x ∷ y ∷ []) params).bits
+rem_law params x y k l = let w = (operation op.Rem (x ∷ y ∷ []) params).width in left_by (y.bits == 0) x.bits y.bits w ∙ ap₂ (λ n m. bits_of w (remainder n m)) (sym (plain x k)) (sym (plain y l))
+
+pub raised : (w a n : ℕ) (x : Value) → HasWord a x → w ≤ 64 → (a * 2 ^ n) % 2 ^ 64 % 2 ^ w ≡ bits_of w (integer_of x *ℤ pos (2 ^ n))
+raised w a n x h narrow = raised_low w 64 a n narrow ∙ shifted_low w 64 a (2 ^ n) (integer_of x) narrow h.is
+
+pub dshr_law : (params : List ℕ) (x y : Value) → x.kind ≡ Unsigned → x.bits / 2 ^ y.bits % 2 ^ (operation op.Dshr (x ∷ y ∷ []) params).width ≡ (operation op.Dshr (x ∷ y ∷ []) params).bits
+dshr_law params x y k = ap (λ n. bits_of (operation op.Dshr (x ∷ y ∷ []) params).width (floor_div n (2 ^ y.bits))) (sym (plain x k))

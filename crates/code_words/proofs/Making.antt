@@ -6,12 +6,15 @@ use Rattle.bit_words.specs.declared.value.Value.{Value}
 use Rattle.net_meaning.specs.Shapes.{Shape, shaped, shape_of_value}
 use Rattle.flat_code.specs.declared.instr.Instr.{Instr}
 use Rattle.flat_code.specs.declared.instr.Spot.{Spot}
+use Rattle.flat_code.specs.Meaning.{spot_values}
 use Rattle.flat_code.specs.Fine.{AreKnown, spot_slots}
 use Rattle.code_draft.specs.declared.draft.Draft.{Draft}
-use Rattle.code_draft.specs.Drafts.{IsDraft, Stands, Makes, Holds, Works, written_in}
+use Rattle.code_draft.specs.Drafts.{IsDraft, Stands, Makes, Holds, Works, Grows, Solved, written_in}
 use Rattle.code_draft.proofs.Growing.{grows_not, grows_then, one_known}
-use Rattle.code_words.specs.Working.{from_slot, at_one_slot}
-use Rattle.code_words.specs.Ways.{Given, IsMade, Rests, Operates, Follow}
+use Rattle.flat_code.specs.declared.instr.Op.TheVariants as op
+use Rattle.code_words.specs.declared.pairs.Pair.{Pair}
+use Rattle.code_words.specs.Working.{working, from_slot, from_slots, at_one_slot}
+use Rattle.code_words.specs.Ways.{Given, Cut, IsMade, Rests, Operates, Follow, IsPair, turned_if}
 
 module _ (kind : Kind) (width slot : ℕ) (s : Spot) (few : width ≤ 64) (at : at_one_slot kind width slot s) where
   width_is : s.width ≡ width
@@ -67,3 +70,32 @@ module _ (kind : Kind) (width slot : ℕ) (s : Spot) (few : width ≤ 64) (at : 
           holds_at F v wanted.1 (u.holds words inputs F sol
           ∙ (o.gives words inputs F k wanted.2 (w.holds words inputs F (u.grows.back words inputs F sol)) ∙ ap (λ (u : Value). u.bits) (sym wanted.0)));
     }
+
+    -- of two words, and of those the other bit
+    module _ (d e f g : Draft) (p : Pair) (j k third : ℕ) (is : IsPair p spots R) (one : Works d e p.first j) (other : Works e f p.second k) (last : Works f g (from_slots j k p.last) third) where
+      grown : Grows d g
+      grown = grows_then d e g one.grows (grows_then e f g other.grows last.grows)
+
+      gives_word : (words : List ℕ) (inputs : List Value) (F : List ℕ) → Solved g words inputs F → All (Cut F) spots → turned_if p.turned (slice_index F third) ≡ (R (spot_values F spots)).bits
+      gives_word words inputs F sol cut =
+          let later = last.grows.back words inputs F sol in
+          ap (turned_if p.turned) (last.holds words inputs F sol)
+          ∙ is.gives words inputs F j k cut (one.holds words inputs F (other.grows.back words inputs F later)) (other.holds words inputs F later)
+
+      pub pair_makes : p.turned ≡ false → slot ≡ third → Makes d g s (IsMade R spots (shaped kind width))
+      pair_makes turned here = record {
+        grows = grown;
+        stands = stands_at g (subst (λ n. n < g.slots) (sym here) last.within) (ap (written_in g) here ∙ last.written);
+        holds = λ words inputs F v sol wanted.
+            holds_at F v wanted.1 (ap (slice_index F) here
+            ∙ (ap (λ b. turned_if b (slice_index F third)) (sym turned) ∙ (gives_word words inputs F sol wanted.2 ∙ ap (λ (u : Value). u.bits) (sym wanted.0))));
+      }
+
+      pub turned_makes : (h : Draft) → p.turned ≡ true → Works g h (working op.Not 0 third 0 0 1) slot → Makes d h s (IsMade R spots (shaped kind width))
+      turned_makes h turned w = record {
+        grows = grows_then d g h grown w.grows;
+        stands = stands_at h w.within w.written;
+        holds = λ words inputs F v sol wanted.
+            holds_at F v wanted.1 (w.holds words inputs F sol
+            ∙ (ap (λ b. turned_if b (slice_index F third)) (sym turned) ∙ (gives_word words inputs F (w.grows.back words inputs F sol) wanted.2 ∙ ap (λ (u : Value). u.bits) (sym wanted.0))));
+      }

@@ -1,9 +1,9 @@
 -- Ways of one operand.
-use Rattle.std.proofs.Common.{◌≡◌, ℕ, ◌+◌, ◌-◌, ◌*◌, ◌/◌, ◌%◌, ◌^◌, ◌<◌, ◌≤◌, min, true, List, [], ◌∷◌, slice_index, Some, refl, sym, ap, ap₂, ◌∙◌, arith, mod-eq_of_lt, pow_mono, pow-add, All}
+use Rattle.std.proofs.Common.{◌≡◌, ℕ, ◌+◌, ◌-◌, ◌*◌, ◌/◌, ◌%◌, ◌^◌, ◌<◌, ◌≤◌, min, max, true, not, ◌==◌, if◌then◌else◌, pos, ◌*ℤ◌, bit_and, count_ones, List, [], ◌∷◌, slice_index, Some, refl, sym, ap, ap₂, ◌∙◌, arith, mod-eq_of_lt, pow_mono, pow-add, All}
 use Rattle.bit_words.specs.declared.value.Kind.{Kind}
 use Rattle.bit_words.specs.declared.value.Kind.TheVariants.{Unsigned, Signed}
 use Rattle.bit_words.specs.declared.value.Value.{Value}
-use Rattle.bit_words.specs.Values.{integer_of, bits_of}
+use Rattle.bit_words.specs.Values.{integer, integer_of, bits_of}
 use Rattle.bit_words.proofs.Congruence.{bits_back}
 use Rattle.prim_ops.specs.declared.operation.PrimOp.{PrimOp}
 use Rattle.prim_ops.specs.declared.operation.PrimOp.TheVariants as prim
@@ -20,7 +20,8 @@ use Rattle.code_draft.specs.Drafts.{Stands, written_in}
 use Rattle.code_draft.proofs.Cuts.{masked}
 use Rattle.code_words.specs.Working.{working}
 use Rattle.code_words.specs.Ways.{Cut, Given, Rests, Operates, Follow, Refits, Shifts, row_value, fit_of_one}
-use Rattle.code_words.proofs.Laws.{plain, not_law, signed_word}
+use Rattle.code_words.proofs.Shifting.{shifted_signed}
+use Rattle.code_words.proofs.Laws.{plain, plain_word, not_law, signed_word, raised, by_test, turned_test}
 use Rattle.code_words.proofs.There.{bits_at, width_at, few_at, result_width, written_low, first_there, one_computes}
 
 pub half_double : (w : ℕ) → 0 < w → 2 * 2 ^ (w - 1) ≡ 2 ^ w
@@ -141,3 +142,71 @@ module _ (x : Spot) (few : x.width ≤ 64) where
 
     pub shr_shifts : Row prim.Shr → x.kind ≡ Unsigned → Shifts x (slice_index params 0) width (row_value prim.Shr params)
     shr_shifts h e F = ap₂ (λ n w. bits_of w (floor_div n (2 ^ slice_index params 0))) (plain (spot_value F x) e) (width_of prim.Shr F h)
+
+    pub shr_signed : Row prim.Shr → x.kind ≡ Signed → 0 < x.width → Shifts x (min (slice_index params 0) (x.width - 1)) width (row_value prim.Shr params)
+    shr_signed h e some F =
+        let v = spot_value F x in
+        let n = slice_index params 0 in
+        let within : v.bits < 2 ^ v.width = v.within in
+        let same = width_at F x in
+        let wide = width_of prim.Shr F h in
+        let narrow : v.width ≤ 64 = few_at F x few in
+        let least : v.width - n ≤ 64 = omega (arith, narrow) in
+        let count : width ≡ max (v.width - n) 1 = sym wide ∙ cut_width (v.width - n) least in
+        ap₂ (λ k w. bits_of w (floor_div (integer k v.width v.bits) (2 ^ n))) e wide
+        ∙ (shifted_signed v.width n v.bits width (omega (arith, some, same)) within count ∙ ap (λ w. v.bits / 2 ^ min n (w - 1) % 2 ^ width) same)
+      where
+        cut_width : (m : ℕ) → m ≤ 64 → min (max m 1) 128 ≡ max m 1
+        cut_width m h = omega (arith, h)
+
+    -- tests of all bits
+    pub andr_operates : (mask : ℕ) → mask ≡ 2 ^ x.width - 1 → Operates (working op.IsMask 0 x.low 0 0 mask) (x ∷ []) (row_value prim.Andr params)
+    andr_operates mask m = record {
+      computes = λ d a. one_computes op.IsMask 0 mask x.low d refl (λ ports wides i. refl) (omega arith) (low_written d a);
+      gives = λ words inputs F cut.
+          let v = spot_value F x in
+          ap₂ (λ n k. if n == k then 1 else 0) (low_at F cut) (m ∙ ap (λ w. 2 ^ w - 1) (sym (width_at F x))) ∙ by_test (v.bits == 2 ^ v.width - 1);
+    }
+
+    pub orr_follow : Follow (working op.IsMask 0 x.low 0 0 0) (working op.Not 0 x.low 0 0 1) (x ∷ []) (row_value prim.Orr params)
+    orr_follow = record {
+      computes = λ d a. one_computes op.IsMask 0 0 x.low d refl (λ ports wides i. refl) (omega arith) (low_written d a);
+      then_computes = λ d k h. one_computes op.Not 0 1 k d refl (λ ports wides i. refl) (omega arith) h;
+      gives = λ words inputs F k cut first.
+          let v = spot_value F x in
+          ap (λ n. bit_and (2 ^ 64 - 1 - n) 1) (first ∙ ap (λ n. if n == 0 then 1 else 0) (low_at F cut)) ∙ (turned_test (v.bits == 0) ∙ by_test (not (v.bits == 0)));
+    }
+
+    pub xorr_operates : Operates (working op.Parity 0 x.low 0 0 0) (x ∷ []) (row_value prim.Xorr params)
+    xorr_operates = record {
+      computes = λ d a. one_computes op.Parity 0 0 x.low d refl (λ ports wides i. refl) (omega arith) (low_written d a);
+      gives = λ words inputs F cut. ap (λ n. count_ones n % 2) (low_at F cut) ∙ twice_two (count_ones (spot_value F x).bits);
+    }
+      where
+        twice_two : (n : ℕ) → n % 2 ≡ n % 2 % 2 ^ 1
+        twice_two n = omega arith
+
+    -- bits that are moved up
+    pub shl_operates : (shift mask : ℕ) → Row prim.Shl → x.kind ≡ Unsigned → shift ≡ slice_index params 0 → shift < 64 → width ≤ 64 → mask ≡ 2 ^ width - 1
+        → Operates (working op.Left shift x.low 0 0 mask) (x ∷ []) (row_value prim.Shl params)
+    shl_operates shift mask h kind is lt le m = record {
+      computes = λ d a. one_computes op.Left shift mask x.low d refl (λ ports wides i. refl) lt (low_written d a);
+      gives = λ words inputs F cut.
+          let v = spot_value F x in
+          masked ((slice_index F x.low * 2 ^ shift) % 2 ^ 64) width mask m
+          ∙ (ap (λ n. (n * 2 ^ shift) % 2 ^ 64 % 2 ^ width) (low_at F cut)
+          ∙ (raised width v.bits shift v (plain_word v kind (few_at F x few)) le ∙ ap₂ (λ n w. bits_of w (integer_of v *ℤ pos (2 ^ n))) is (sym (width_of prim.Shl F h))));
+    }
+
+    pub shl_follow : (half shift mask : ℕ) → Row prim.Shl → x.kind ≡ Signed → 2 * half ≡ 2 ^ x.width → shift ≡ slice_index params 0 → shift < 64 → width ≤ 64 → mask ≡ 2 ^ width - 1
+        → Follow (working op.Extend 0 x.low 0 0 half) (working op.Left shift x.low 0 0 mask) (x ∷ []) (row_value prim.Shl params)
+    shl_follow half shift mask h kind double is lt le m = record {
+      computes = λ d a. one_computes op.Extend 0 half x.low d refl (λ ports wides i. refl) (omega arith) (low_written d a);
+      then_computes = λ d k e. one_computes op.Left shift mask k d refl (λ ports wides i. refl) lt e;
+      gives = λ words inputs F k cut first.
+          let v = spot_value F x in
+          let word = signed_word v half kind (double ∙ ap (λ n. 2 ^ n) (sym (width_at F x))) (few_at F x few) in
+          masked ((slice_index F k * 2 ^ shift) % 2 ^ 64) width mask m
+          ∙ (ap (λ n. (n * 2 ^ shift) % 2 ^ 64 % 2 ^ width) (first ∙ ap (λ n. extension n half) (low_at F cut))
+          ∙ (raised width (extension v.bits half) shift v word le ∙ ap₂ (λ n w. bits_of w (integer_of v *ℤ pos (2 ^ n))) is (sym (width_of prim.Shl F h))));
+    }

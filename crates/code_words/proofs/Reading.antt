@@ -11,13 +11,13 @@ use Rattle.flat_code.specs.declared.instr.Spot.{Spot}
 use Rattle.flat_code.specs.Fine.{Known, AreKnown, IsSpot, among, more, nothing, written, reads_of, writes_of, slots_of, spot_slots}
 use Rattle.flat_code.proofs.Frames.{spot_more}
 use Rattle.code_draft.specs.declared.draft.Draft.{Draft}
-use Rattle.code_draft.specs.Drafts.{Stands, written_in, computes, with_instr, with_slots, at_slot}
+use Rattle.code_draft.specs.Drafts.{Stands, Computes, written_in, computes, with_instr, with_slots, at_slot}
 use Rattle.code_draft.specs.Segments.{Step}
-use Rattle.code_draft.proofs.Growing.{one_among, among_first}
+use Rattle.code_draft.proofs.Growing.{one_among, among_first, among_second}
 use Rattle.code_draft.proofs.Segmenting.{either, left_so, right_so, among_left, among_right, none_among, head_all, tail_all}
 use Rattle.code_draft.proofs.Joining.{goes_same, step_not, small_step}
 use Rattle.code_draft.proofs.Stepping.{spot_few, computed_reads, computed_writes, computed_step}
-use Rattle.code_words.specs.Working.{from_slot, at_one_slot}
+use Rattle.code_words.specs.Working.{from_slot, from_slots, at_one_slot}
 use Rattle.code_words.specs.Ways.{Given, Rests, Operates, Follow}
 
 -- Known slots
@@ -86,6 +86,15 @@ all_stand n xs (s ∷ ss) a h = All-cons (Stands (holding n xs)) s ss
     })
     (all_stand n xs ss (tail_all (IsSpot n) s ss a) (λ k e. h k (among_right (spot_slots s) (slots_of ss) k e)))
 
+-- the last of three instructions reads the slots of the two before it only
+pub last_reads : (i : Instr) (k l : ℕ) → ((d : Draft) (k l : ℕ) → written_in d k ≡ true → written_in d l ≡ true → Computes d (from_slots k l i))
+    → (computes i.op ≡ true) × ((m : ℕ) → among (reads_of [] [] (from_slots k l i)) m ≡ true → among (k ∷ l ∷ []) m ≡ true)
+last_reads i k l on =
+    let xs = k ∷ l ∷ [] in
+    let d = holding 0 xs in
+    let c = on d k l (writes_these xs nothing k (inl (among_first k (l ∷ [])))) (writes_these xs nothing l (inl (among_second k l))) in
+    (c.plain, λ m e. only_these 0 xs m (known_among (written_in d) (reads_of [] [] (from_slots k l i)) m c.known e))
+
 module _ (spots : List Spot) (R : Given) where
   abbrev own_room : ℕ
   own_room = (room_for spots).0
@@ -101,16 +110,17 @@ module _ (spots : List Spot) (R : Given) where
   rests_there slot r = only_these own_room (slots_of spots) slot (r.written lone they_stand)
 
   -- an instruction reads the operands' slots only
-  pub operates_reads : (i : Instr) → Operates i spots R → (computes i.op ≡ true) × ((k : ℕ) → among (reads_of [] [] i) k ≡ true → among (slots_of spots) k ≡ true)
-  operates_reads i o =
-      let c = o.computes lone they_stand in
+  pub given_reads : (i : Instr) → ((d : Draft) → All (Stands d) spots → Computes d i) → (computes i.op ≡ true) × ((k : ℕ) → among (reads_of [] [] i) k ≡ true → among (slots_of spots) k ≡ true)
+  given_reads i on =
+      let c = on lone they_stand in
       (c.plain, λ k e. only_these own_room (slots_of spots) k (known_among (written_in lone) (reads_of [] [] i) k c.known e))
+
+  pub operates_reads : (i : Instr) → Operates i spots R → (computes i.op ≡ true) × ((k : ℕ) → among (reads_of [] [] i) k ≡ true → among (slots_of spots) k ≡ true)
+  operates_reads i o = given_reads i o.computes
 
   -- and so does the first one of two, while the second one reads the slot of the first one only
   pub first_reads : (i next : Instr) → Follow i next spots R → (computes i.op ≡ true) × ((k : ℕ) → among (reads_of [] [] i) k ≡ true → among (slots_of spots) k ≡ true)
-  first_reads i next f =
-      let c = f.computes lone they_stand in
-      (c.plain, λ k e. only_these own_room (slots_of spots) k (known_among (written_in lone) (reads_of [] [] i) k c.known e))
+  first_reads i next f = given_reads i f.computes
 
   pub second_reads : (i next : Instr) (slot : ℕ) → Follow i next spots R → (computes next.op ≡ true) × ((k : ℕ) → among (reads_of [] [] (from_slot slot next)) k ≡ true → among (slot ∷ []) k ≡ true)
   second_reads i next slot f =
@@ -119,7 +129,7 @@ module _ (spots : List Spot) (R : Given) where
       (c.plain, λ k e. only_these 0 (slot ∷ []) k (known_among (written_in d) (reads_of [] [] (from_slot slot next)) k c.known e))
 
   module _ (kind : Kind) (width slot : ℕ) (s : Spot) (few : width ≤ 64) (at : at_one_slot kind width slot s) where
-    one_slot : spot_slots s ≡ slot ∷ []
+    pub one_slot : spot_slots s ≡ slot ∷ []
     one_slot =
         let narrow : nat_lt 64 s.width ≡ false = ap (nat_lt 64) (ap (λ (t : Shape). t.width) at.0) ∙ le-ltb 64 width few in
         ap (λ b. if b then s.low ∷ s.high ∷ [] else s.low ∷ []) narrow ∙ ap (λ k. k ∷ []) at.1

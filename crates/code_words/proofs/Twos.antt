@@ -1,5 +1,5 @@
 -- Ways of two operands, and of a choice.
-use Rattle.std.proofs.Common.{◌≡◌, ◌==◌, ℕ, ◌+◌, ◌-◌, ◌*◌, ◌%◌, ◌^◌, ◌<◌, ◌≤◌, min, max, true, false, Bool, nat_lt, if◌then◌else◌, List, [], ◌∷◌, slice_index, Some, bit_and, bit_or, bit_xor, refl, sym, ap, ap₂, ◌∙◌, arith, All}
+use Rattle.std.proofs.Common.{◌≡◌, ◌==◌, ℕ, ◌+◌, ◌-◌, ◌*◌, ◌/◌, ◌%◌, ◌^◌, ◌<◌, ◌≤◌, min, max, true, false, Bool, nat_lt, if◌then◌else◌, List, [], ◌∷◌, slice_index, Some, bit_and, bit_or, bit_xor, refl, sym, ap, ap₂, ◌∙◌, arith, All}
 use Rattle.std.proofs.lemmas.List.Elements.{All-cons}
 use Rattle.bit_words.specs.declared.value.Kind.{Kind}
 use Rattle.bit_words.specs.declared.value.Value.{Value}
@@ -12,7 +12,7 @@ use Rattle.flat_code.specs.declared.instr.Op.{Op}
 use Rattle.flat_code.specs.declared.instr.Op.TheVariants as op
 use Rattle.flat_code.specs.declared.instr.Instr.{Instr}
 use Rattle.flat_code.specs.declared.instr.Spot.{Spot}
-use Rattle.flat_code.specs.Meaning.{spot_value, word_on, minus}
+use Rattle.flat_code.specs.Meaning.{spot_value, word_on, minus, over, left_over}
 use Rattle.flat_code.specs.Fine.{spot_shapes}
 use Rattle.flat_code.proofs.Evaluating.{holds_unsigned}
 use Rattle.code_draft.specs.declared.draft.Draft.{Draft}
@@ -21,7 +21,7 @@ use Rattle.code_draft.proofs.Growing.{two_known}
 use Rattle.code_draft.proofs.Cuts.{masked}
 use Rattle.code_words.specs.Working.{working}
 use Rattle.code_words.specs.Ways.{Cut, Operates, Follow, IsPlain, row_value}
-use Rattle.code_words.proofs.Laws.{plain_word, add_law, sub_law, and_law, or_law, xor_law, less_law, greater_law, equal_law, unequal_law, at_most_law, at_least_law, cat_law}
+use Rattle.code_words.proofs.Laws.{plain_word, add_law, sub_law, and_law, or_law, xor_law, less_law, greater_law, equal_law, unequal_law, at_most_law, at_least_law, cat_law, mul_law, div_law, rem_law, raised, dshr_law}
 use Rattle.code_words.proofs.There.{ReadsTwo, bits_at, width_at, few_at, result_width, written_low, first_there, second_there, one_computes, two_computes}
 
 module _ (x y : Spot) (a : IsPlain x) (b : IsPlain y) (params : List ℕ) where
@@ -88,6 +88,26 @@ module _ (x y : Spot) (a : IsPlain x) (b : IsPlain y) (params : List ℕ) where
         masked_operates prim.Xor op.Xor bit_xor mask h m refl (λ ports wides i. refl) (λ i words inputs n k c. refl) (λ F.
         xor_law params (spot_value F x).bits (spot_value F y).bits (spot_value F x) (spot_value F y) (plain_word (spot_value F x) a.kind (few_x F)) (plain_word (spot_value F y) b.kind (few_y F)) (most (spot_value F x).width (spot_value F y).width (few_x F) (few_y F)))
 
+    pub mul_operates : (mask : ℕ) → Row prim.Mul → mask ≡ 2 ^ width - 1 → Operates (working op.Mul 0 x.low y.low 0 mask) (x ∷ y ∷ []) (row_value prim.Mul params)
+    mul_operates mask h m =
+        masked_operates prim.Mul op.Mul (λ n k. (n * k) % 2 ^ 64) mask h m refl (λ ports wides i. refl) (λ i words inputs n k c. refl) (λ F.
+        mul_law params (spot_value F x).bits (spot_value F y).bits (spot_value F x) (spot_value F y) (plain_word (spot_value F x) a.kind (few_x F)) (plain_word (spot_value F y) b.kind (few_y F)) (few_of prim.Mul F h))
+
+    pub div_operates : (mask : ℕ) → Row prim.Div → mask ≡ 2 ^ width - 1 → Operates (working op.Quotient 0 x.low y.low 0 mask) (x ∷ y ∷ []) (row_value prim.Div params)
+    div_operates mask h m = masked_operates prim.Div op.Quotient over mask h m refl (λ ports wides i. refl) (λ i words inputs n k c. refl) (λ F. div_law params (spot_value F x) (spot_value F y) a.kind b.kind)
+
+    pub rem_operates : (mask : ℕ) → Row prim.Rem → mask ≡ 2 ^ width - 1 → Operates (working op.Remainder 0 x.low y.low 0 mask) (x ∷ y ∷ []) (row_value prim.Rem params)
+    rem_operates mask h m = masked_operates prim.Rem op.Remainder left_over mask h m refl (λ ports wides i. refl) (λ i words inputs n k c. refl) (λ F. rem_law params (spot_value F x) (spot_value F y) a.kind b.kind)
+
+    pub dshl_operates : (mask : ℕ) → Row prim.Dshl → mask ≡ 2 ^ width - 1 → Operates (working op.LeftBy 0 x.low y.low 0 mask) (x ∷ y ∷ []) (row_value prim.Dshl params)
+    dshl_operates mask h m =
+        masked_operates prim.Dshl op.LeftBy (λ n k. (n * 2 ^ k) % 2 ^ 64) mask h m refl (λ ports wides i. refl) (λ i words inputs n k c. refl) (λ F.
+        raised (operation prim.Dshl (spot_value F x ∷ spot_value F y ∷ []) params).width (spot_value F x).bits (spot_value F y).bits (spot_value F x) (plain_word (spot_value F x) a.kind (few_x F)) (few_of prim.Dshl F h))
+
+    pub dshr_operates : (mask : ℕ) → Row prim.Dshr → mask ≡ 2 ^ width - 1 → Operates (working op.RightBy 0 x.low y.low 0 mask) (x ∷ y ∷ []) (row_value prim.Dshr params)
+    dshr_operates mask h m =
+        masked_operates prim.Dshr op.RightBy (λ n k. n / 2 ^ k) mask h m refl (λ ports wides i. refl) (λ i words inputs n k c. refl) (λ F. dshr_law params (spot_value F x) (spot_value F y) a.kind)
+
   -- a test of both words
   pub equal_operates : Operates (working op.Equal 0 x.low y.low 0 1) (x ∷ y ∷ []) (row_value prim.Eq params)
   equal_operates = record {
@@ -132,7 +152,8 @@ module _ (x y : Spot) (a : IsPlain x) (b : IsPlain y) (params : List ℕ) where
         ap (λ n. bit_and (2 ^ 64 - 1 - n) 1) (first ∙ ap₂ (λ n k. if nat_lt n k then 1 else 0) (first_at F cut) (second_at F cut)) ∙ at_least_law params (spot_value F x) (spot_value F y) a.kind b.kind;
   }
 
-  -- one number above another
+-- One number above another
+module _ (x y : Spot) (a : x.width ≤ 64) (b : y.width ≤ 64) (params : List ℕ) where
   pub cat_operates : (kind : Kind) (width : ℕ) → width ≤ 64 → y.width < 64 → shape_of_row prim.Cat params (spot_shapes (x ∷ y ∷ [])) ≡ Some (shaped kind width)
       → Operates (working op.Join y.width x.low y.low 0 0) (x ∷ y ∷ []) (row_value prim.Cat params)
   cat_operates kind width few lt h = record {
@@ -141,7 +162,7 @@ module _ (x y : Spot) (a : IsPlain x) (b : IsPlain y) (params : List ℕ) where
         let e = result_width prim.Cat params (x ∷ y ∷ []) kind width F h in
         let v = width_at F x in
         let w = width_at F y in
-        ap₂ (λ n k. bit_or ((n * 2 ^ y.width) % 2 ^ 64) k) (first_at F cut) (second_at F cut)
+        ap₂ (λ n k. bit_or ((n * 2 ^ y.width) % 2 ^ 64) k) (sym (bits_at F x a (first_there (Cut F) x (y ∷ []) cut))) (sym (bits_at F y b (second_there (Cut F) x y [] cut)))
         ∙ (ap (λ t. bit_or (((spot_value F x).bits * 2 ^ t) % 2 ^ 64) (spot_value F y).bits) (sym w) ∙ cat_law params (spot_value F x) (spot_value F y) (sum_few (spot_value F x).width (spot_value F y).width width e few));
   }
     where

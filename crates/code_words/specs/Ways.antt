@@ -1,5 +1,5 @@
 -- Words that are made of words, and the values that they are.
-use Rattle.std.specs.Prelude.{◌≡◌, ℕ, ◌/◌, ◌%◌, ◌^◌, ◌<◌, ◌≤◌, ◌⊎◌, true, List, [], ◌∷◌, slice_index, Some, All}
+use Rattle.std.specs.Prelude.{◌≡◌, ℕ, ◌-◌, ◌/◌, ◌%◌, ◌^◌, ◌<◌, ◌≤◌, ◌⊎◌, Bool, true, if◌then◌else◌, List, [], ◌∷◌, length, slice_index, Some, All, bit_and}
 use Rattle.bit_words.specs.declared.value.Kind.{Kind}
 use Rattle.bit_words.specs.declared.value.Kind.TheVariants.{Unsigned}
 use Rattle.bit_words.specs.declared.value.Value.{Value}
@@ -8,15 +8,18 @@ use Rattle.prim_ops.specs.declared.operation.PrimOp.{PrimOp}
 use Rattle.prim_ops.specs.Results.{integer_result}
 use Rattle.cycle_values.specs.Values.{fitted, lone, operation}
 use Rattle.net_meaning.specs.Shapes.{Shape, shaped, shape_of_value, shape_of_row}
+use Rattle.flat_code.specs.declared.instr.Op.{Op}
 use Rattle.flat_code.specs.declared.instr.Instr.{Instr}
 use Rattle.flat_code.specs.declared.instr.Spot.{Spot}
 use Rattle.flat_code.specs.Meaning.{spot_value, spot_values}
-use Rattle.flat_code.specs.Fine.{spot_shapes}
+use Rattle.flat_code.specs.Fine.{spot_shapes, spot_slots, slots_of}
 use Rattle.code_draft.specs.declared.draft.Draft.{Draft}
+use Rattle.code_draft.specs.Segments.{Segment, Step}
 use Rattle.code_draft.specs.Drafts.{Stands, Wanted, written_in, Computes, word_in}
 use Rattle.code_words.specs.declared.ways.Way.{Way}
 use Rattle.code_words.specs.declared.ways.Way.TheVariants as way
-use Rattle.code_words.specs.Working.{from_slot}
+use Rattle.code_words.specs.declared.pairs.Pair.{Pair}
+use Rattle.code_words.specs.Working.{working, from_slot, from_slots}
 
 -- The low word of a spot is below 2 to the power of its width, as that of a value is.
 abbrev pub Cut : List ℕ → Spot → Type 0
@@ -59,6 +62,43 @@ abbrev pub IsWay : Way → List Spot → Given → Type 0
 IsWay (way.Same slot) spots R = Rests slot spots R
 IsWay (way.Word i) spots R = Operates i spots R
 IsWay (way.Twice i next) spots R = Follow i next spots R
+
+-- An instruction that computes the word of a spot's value: the lowest 64 bits of its integer.
+pub record GivesWord (i : Instr) (x : Spot) : Type 0 where
+  pub computes : (d : Draft) → Stands d x → Computes d i
+  pub gives : (words : List ℕ) (inputs : List Value) (F : List ℕ) → Cut F x → word_in i words inputs F ≡ bits_of 64 (integer_of (spot_value F x))
+
+-- A pair whose first two instructions give the words of two spots' values, and whose last one is this operation.
+pub record IsBoth (p : Pair) (x y : Spot) (o : Op) (mask : ℕ) (turned : Bool) : Type 0 where
+  pub first : GivesWord p.first x
+  pub second : GivesWord p.second y
+  pub last : p.last ≡ working o 0 0 0 0 mask
+  pub is_turned : p.turned ≡ turned
+
+-- the other bit, where it is turned round
+abbrev pub turned_if : Bool → ℕ → ℕ
+turned_if turned word = if turned then bit_and (2 ^ 64 - 1 - word) 1 else word
+
+-- Two instructions, and a last one that computes it from the words that they give.
+pub record IsPair (p : Pair) (spots : List Spot) (R : Given) : Type 0 where
+  pub first_computes : (d : Draft) → All (Stands d) spots → Computes d p.first
+  pub second_computes : (d : Draft) → All (Stands d) spots → Computes d p.second
+  pub last_computes : (d : Draft) (k l : ℕ) → written_in d k ≡ true → written_in d l ≡ true → Computes d (from_slots k l p.last)
+  pub gives : (words : List ℕ) (inputs : List Value) (F : List ℕ) (k l : ℕ) → All (Cut F) spots → slice_index F k ≡ word_in p.first words inputs F → slice_index F l ≡ word_in p.second words inputs F
+      → turned_if p.turned (word_in (from_slots k l p.last) words inputs F) ≡ (R (spot_values F spots)).bits
+
+-- It is a pair of an operation, where that has a row of this width.
+abbrev pub PairsRow : Pair → PrimOp → List ℕ → List Spot → ℕ → Type 0
+PairsRow p prim params spots width = (kind : Kind) → shape_of_row prim params (spot_shapes spots) ≡ Some (shaped kind width) → IsPair p spots (row_value prim params)
+
+-- Two operands, of one slot each.
+pub record AreTwo (spots : List Spot) : Type 0 where
+  pub two : length spots ≡ 2
+  pub one_each : length (slots_of spots) ≡ 2
+
+-- What is computed of operands is a step, or a segment of two operands of one slot each: so at most two slots for each operand are live at once.
+abbrev pub Reckons : List Spot → Draft → Draft → Spot → Type 0
+Reckons spots old new s = Step old new (slots_of spots) (spot_slots s) 2 ⊎ (AreTwo spots × Segment old new (slots_of spots) (spot_slots s) 2)
 
 -- It is a way of an operation, where that has a row of this width.
 abbrev pub GivesRow : Way → PrimOp → List ℕ → List Spot → ℕ → Type 0

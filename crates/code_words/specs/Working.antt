@@ -14,6 +14,10 @@ working op shift first second third mask = record { op = op; shift = shift; firs
 abbrev pub from_slot : ℕ → Instr → Instr
 from_slot slot i = record { op = i.op; shift = i.shift; first = slot; second = i.second; third = i.third; target = i.target; mask = i.mask }
 
+-- the instruction with other first and second slots
+abbrev pub from_slots : ℕ → ℕ → Instr → Instr
+from_slots first second i = record { op = i.op; shift = i.shift; first = first; second = second; third = i.third; target = i.target; mask = i.mask }
+
 -- the spot of a kind and a width in one slot
 abbrev pub at_one_slot : Kind → ℕ → ℕ → Spot → Type 0
 at_one_slot kind width slot s = (spot_shape s ≡ shaped kind width) × (s.low ≡ slot) × (s.high ≡ slot)

@@ -79,7 +79,7 @@ fn signed_way(x: Spot, width: u8) -> Option<Way>
 }
 
 /// The sign's bit of a width from 1 to 64.
-fn sign_of(width: u8) -> u64
+pub(crate) fn sign_of(width: u8) -> u64
     requires some { 0 < width }
     requires few { width ≤ 64 }
     ensures { result ≡ 2 ^ (width - 1) }

@@ -1,4 +1,4 @@
-//! Values of at most 64 bits by single instructions on words, where one or two of them suffice. Keeps the contract that the word in the
+//! Values of at most 64 bits by single instructions on words, where a few of them suffice. Keeps the contract that the word in the
 //! new slot is that of the operation's value wherever the operands' words are those of values of their widths (FIRRTL specification
 //! 3.0, "Primitive Operations").
 #![tactic(auto)]
@@ -8,6 +8,8 @@ pub mod fits;
 pub mod on_one;
 pub mod on_two;
 pub mod operations;
+pub mod pairs;
+pub mod signed;
 pub mod sums;
 pub mod ways;
 

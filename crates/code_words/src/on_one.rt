@@ -1,14 +1,15 @@
 //! Operations on one operand.
 
-ghost use Rattle.std.specs.Prelude.{◌≡◌, ◌≤◌, ◌∷◌, [], Some, IfSome, slice_index};
+ghost use Rattle.std.specs.Prelude.{◌≡◌, ℕ, ◌<◌, ◌≤◌, ◌-◌, min, ◌∷◌, [], List, Some, IfSome, slice_index};
 ghost use Rattle.bit_words.specs.declared.value.Kind.{Kind as TheKind};
-ghost use Rattle.bit_words.specs.declared.value.Kind.TheVariants.{Unsigned};
+ghost use Rattle.bit_words.specs.declared.value.Kind.TheVariants.{Unsigned, Signed};
+ghost use Rattle.prim_ops.specs.declared.operation.PrimOp.TheVariants.{Shl as ShlOf};
 ghost use Rattle.cycle_values.specs.Values.{operation};
 ghost use Rattle.flat_code.specs.Meaning.{spot_shape};
 ghost use Rattle.net_meaning.specs.Shapes.{shaped, shape_of_row};
 ghost use Rattle.code_words.specs.Ways.{Given, IsWay, Shifts, GivesRow};
 
-use crate::fits::fit_way;
+use crate::fits::{fit_way, sign_of};
 use crate::ways::{Way, of_one};
 use bit_words::Kind;
 use code_draft::low_mask;
@@ -34,9 +35,45 @@ pub(crate) fn way_on_one(prim: Prim, x: Spot, params: &[u128], width: u8) -> Opt
             u128::from(x.width).saturating_sub(parameter(params, 0)),
             width,
         ),
-        Prim::Shr => plain_from_bit(x, parameter(params, 0), width),
+        Prim::Andr => Some(Way::Word(of_one(Op::IsMask, x, 0, low_mask(x.width)))),
+        Prim::Orr => Some(Way::Twice(of_one(Op::IsMask, x, 0, 0), of_one(Op::Not, x, 0, 1))),
+        Prim::Xorr => Some(Way::Word(of_one(Op::Parity, x, 0, 0))),
+        Prim::Shl => raised(x, parameter(params, 0), width),
+        Prim::Shr => shifted(x, parameter(params, 0), width),
         _ => None,
     }
+}
+
+/// The way of the value moved up by a number of bits.
+fn raised(x: Spot, shift: u128, width: u8) -> Option<Way>
+    requires operand { x.width ≤ 64 }
+    requires result { width ≤ 64 }
+    ensures { IfSome result (λ way. (params : List ℕ) → shift ≡ slice_index params 0 → GivesRow way ShlOf params (x ∷ []) width) }
+{
+    if shift >= 64 {
+        return None;
+    }
+    match x.kind {
+        Kind::Unsigned => Some(Way::Word(of_one(Op::Left, x, shift as u8, low_mask(width)))),
+        Kind::Signed => raised_signed(x, shift as u8, width),
+    }
+}
+
+/// The same of a value with a sign.
+fn raised_signed(x: Spot, shift: u8, width: u8) -> Option<Way>
+    requires operand { x.width ≤ 64 }
+    requires result { width ≤ 64 }
+    requires kind { x.kind ≡ Signed }
+    requires few { shift < 64 }
+    ensures { IfSome result (λ way. (params : List ℕ) → shift ≡ slice_index params 0 → GivesRow way ShlOf params (x ∷ []) width) }
+{
+    if x.width == 0 {
+        return None;
+    }
+    Some(Way::Twice(
+        of_one(Op::Extend, x, 0, sign_of(x.width)),
+        of_one(Op::Left, x, shift, low_mask(width)),
+    ))
 }
 
 /// The way of the bits from this one on.
@@ -51,15 +88,20 @@ fn from_bit(x: Spot, low: u128, width: u8) -> Option<Way>
     Some(Way::Word(of_one(Op::Right, x, low as u8, low_mask(width))))
 }
 
-/// The way of the bits of a UInt from this one on.
-fn plain_from_bit(x: Spot, low: u128, width: u8) -> Option<Way>
+/// The way of the bits from this one on, and of the sign of an SInt where there are no more.
+fn shifted(x: Spot, low: u128, width: u8) -> Option<Way>
     requires operand { x.width ≤ 64 }
     requires result { width ≤ 64 }
-    ensures { IfSome result (λ way. (R : Given) → (x.kind ≡ Unsigned → Shifts x low width R) → IsWay way (x ∷ []) R) }
+    ensures { IfSome result (λ way. (R : Given) → (x.kind ≡ Unsigned → Shifts x low width R) → (x.kind ≡ Signed → 0 < x.width → Shifts x (min low (x.width - 1)) width R) → IsWay way (x ∷ []) R) }
 {
     match x.kind {
         Kind::Unsigned => from_bit(x, low, width),
-        Kind::Signed => None,
+        Kind::Signed => {
+            if x.width == 0 {
+                return None;
+            }
+            from_bit(x, low.min(u128::from(x.width - 1)), width)
+        }
     }
 }
 

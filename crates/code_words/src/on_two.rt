@@ -1,6 +1,6 @@
 //! Operations on two operands.
 
-ghost use Rattle.std.specs.Prelude.{◌≡◌, ℕ, ◌≤◌, ◌∷◌, [], List, IfSome};
+ghost use Rattle.std.specs.Prelude.{◌≡◌, ℕ, ◌≤◌, ◌∷◌, [], true, List, IfSome};
 ghost use Rattle.prim_ops.specs.declared.operation.PrimOp.TheVariants.{Cat};
 ghost use Rattle.flat_code.specs.declared.instr.Op.TheVariants.{Not};
 ghost use Rattle.code_words.specs.declared.ways.Way.TheVariants.{Twice};
@@ -8,12 +8,43 @@ ghost use Rattle.code_words.specs.Working.{working};
 ghost use Rattle.code_words.specs.Ways.{IsPlain, GivesRow};
 
 use crate::ways::{Way, of_one, of_two};
+use bit_words::Kind;
 use code_draft::low_mask;
 use flat_code::{Instr, Op, Spot};
 use prim_ops::Prim;
 
+/// The way of an operation on two operands of at most 64 bits to a result of at most 64 bits.
+pub(crate) fn way_on_words(prim: Prim, x: Spot, y: Spot, width: u8) -> Option<Way>
+    requires first { x.width ≤ 64 }
+    requires second { y.width ≤ 64 }
+    requires result { width ≤ 64 }
+    ensures { IfSome result (λ way. (params : List ℕ) → GivesRow way prim params (x ∷ y ∷ []) width) }
+{
+    match prim {
+        Prim::Cat => above(x, y),
+        _ => {
+            if is_plain(x) && is_plain(y) {
+                way_on_two(prim, x, y, width)
+            } else {
+                None
+            }
+        }
+    }
+}
+
+/// Whether a UInt of at most 64 bits stands there.
+fn is_plain(x: Spot) -> bool
+    requires { x.width ≤ 64 }
+    ensures { result ≡ true → IsPlain x }
+{
+    match x.kind {
+        Kind::Unsigned => true,
+        Kind::Signed => false,
+    }
+}
+
 /// The way of an operation on two UInts of at most 64 bits to a result of at most 64 bits.
-pub(crate) fn way_on_two(prim: Prim, x: Spot, y: Spot, width: u8) -> Option<Way>
+fn way_on_two(prim: Prim, x: Spot, y: Spot, width: u8) -> Option<Way>
     requires first { IsPlain x }
     requires second { IsPlain y }
     requires result { width ≤ 64 }
@@ -25,13 +56,17 @@ pub(crate) fn way_on_two(prim: Prim, x: Spot, y: Spot, width: u8) -> Option<Way>
         Prim::And => Some(Way::Word(of_two(Op::And, x, y, low_mask(width)))),
         Prim::Or => Some(Way::Word(of_two(Op::Or, x, y, low_mask(width)))),
         Prim::Xor => Some(Way::Word(of_two(Op::Xor, x, y, low_mask(width)))),
+        Prim::Mul => Some(Way::Word(of_two(Op::Mul, x, y, low_mask(width)))),
+        Prim::Div => Some(Way::Word(of_two(Op::Quotient, x, y, low_mask(width)))),
+        Prim::Rem => Some(Way::Word(of_two(Op::Remainder, x, y, low_mask(width)))),
+        Prim::Dshl => Some(Way::Word(of_two(Op::LeftBy, x, y, low_mask(width)))),
+        Prim::Dshr => Some(Way::Word(of_two(Op::RightBy, x, y, low_mask(width)))),
         Prim::Eq => Some(Way::Word(of_two(Op::Equal, x, y, 1))),
         Prim::Lt => Some(Way::Word(of_two(Op::Less, x, y, 1))),
         Prim::Gt => Some(Way::Word(of_two(Op::Less, y, x, 1))),
         Prim::Neq => Some(turned(of_two(Op::Equal, x, y, 1), x)),
         Prim::Leq => Some(turned(of_two(Op::Less, y, x, 1), x)),
         Prim::Geq => Some(turned(of_two(Op::Less, x, y, 1), x)),
-        Prim::Cat => above(x, y),
         _ => None,
     }
 }
@@ -45,8 +80,8 @@ fn turned(test: Instr, x: Spot) -> Way
 
 /// The way of one number above another.
 fn above(x: Spot, y: Spot) -> Option<Way>
-    requires first { IsPlain x }
-    requires second { IsPlain y }
+    requires first { x.width ≤ 64 }
+    requires second { y.width ≤ 64 }
     ensures { IfSome result (λ way. (params : List ℕ) (width : ℕ) → width ≤ 64 → GivesRow way Cat params (x ∷ y ∷ []) width) }
 {
     if y.width >= 64 {

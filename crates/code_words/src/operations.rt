@@ -1,16 +1,17 @@
 //! Operations of the table.
 
-ghost use Rattle.std.specs.Prelude.{◌≡◌, ◌≤◌, ◌+◌, true, Some, None, Ok, IfOk, OnOk, IfSome, All};
+ghost use Rattle.std.specs.Prelude.{◌≡◌, ℕ, ◌≤◌, ◌+◌, List, Some, None, Ok, IfOk, OnOk, IfSome, All};
 ghost use Rattle.cycle_values.specs.Values.{operation};
 ghost use Rattle.flat_code.specs.Meaning.{spot_shape};
-ghost use Rattle.flat_code.specs.Fine.{spot_shapes, spot_slots, slots_of};
+ghost use Rattle.flat_code.specs.Fine.{spot_shapes};
 ghost use Rattle.net_meaning.specs.Shapes.{shaped, shape_of_row};
 ghost use Rattle.code_draft.specs.Drafts.{IsDraft, Stands, Makes};
-ghost use Rattle.code_draft.specs.Segments.{Step};
-ghost use Rattle.code_words.specs.Ways.{IsMade, IsPlain, GivesRow, row_value};
+ghost use Rattle.code_words.specs.Ways.{IsMade, GivesRow, PairsRow, AreTwo, Reckons, row_value};
 
 use crate::on_one::way_on_one;
-use crate::on_two::way_on_two;
+use crate::on_two::way_on_words;
+use crate::pairs::{Pair, paired};
+use crate::signed::pair_on_two;
 use crate::ways::{Measure, Way, made};
 use bit_words::Kind;
 use code_draft::Draft;
@@ -30,15 +31,18 @@ pub fn operation_word(
     ensures shape { IfOk result (λ o. IfSome o (λ s. spot_shape s ≡ shaped measure.kind measure.width)) }
     ensures makes { IfOk result (λ o. IfSome o (λ s. IsDraft draft.old → All (Stands draft.old) operands.now → Makes draft.old draft.new s (IsMade (row_value prim params.now) operands.now (shaped measure.kind measure.width)))) }
     ensures none { result ≡ Ok None → draft.new ≡ draft.old }
-    ensures slots { OnOk result (draft.new.slots ≤ draft.old.slots + 2) }
-    ensures step { IfOk result (λ o. IfSome o (λ s. Step draft.old draft.new (slots_of operands.now) (spot_slots s) 2)) }
+    ensures slots { OnOk result (draft.new.slots ≤ draft.old.slots + 4) }
+    ensures reckons { IfOk result (λ o. IfSome o (λ s. Reckons operands.now draft.old draft.new s)) }
 {
     if measure.width > 64 {
         return Ok(None);
     }
     match operation_way(prim, operands, params, measure.width) {
         Some(way) => Ok(Some(made(draft, way, measure)?)),
-        None => Ok(None),
+        None => match operation_pair(prim, operands, measure.width) {
+            Some(pair) => Ok(Some(paired(draft, pair, measure)?)),
+            None => Ok(None),
+        },
     }
 }
 
@@ -55,21 +59,31 @@ fn operation_way(prim: Prim, operands: &[Spot], params: &[u128], width: u8) -> O
             way_on_one(prim, *x, params, width)
         }
         [x, y] => {
-            if !is_plain(*x) || !is_plain(*y) {
+            if x.width > 64 || y.width > 64 {
                 return None;
             }
-            way_on_two(prim, *x, *y, width)
+            way_on_words(prim, *x, *y, width)
         }
         _ => None,
     }
 }
 
-/// Whether a UInt of at most 64 bits stands there.
-fn is_plain(x: Spot) -> bool
-    ensures { result ≡ true → IsPlain x }
+/// The pair of an operation to a result of at most 64 bits.
+fn operation_pair(prim: Prim, operands: &[Spot], width: u8) -> Option<Pair>
+    requires { width ≤ 64 }
+    ensures two { IfSome result (λ p. AreTwo operands.now) }
+    ensures pair { IfSome result (λ p. (params : List ℕ) → PairsRow p prim params operands.now width) }
 {
-    match x.kind {
-        Kind::Unsigned => x.width <= 64,
-        Kind::Signed => false,
+    match operands {
+        [x, y] => {
+            if x.width > 64 || y.width > 64 {
+                return None;
+            }
+            match x.kind {
+                Kind::Signed => pair_on_two(prim, *x, *y, width),
+                Kind::Unsigned => None,
+            }
+        }
+        _ => None,
     }
 }

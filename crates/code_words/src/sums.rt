@@ -1,4 +1,4 @@
-//! Lowest bits of sums and differences.
+//! Lowest bits of sums, differences and products, and of bits that are moved up.
 
 ghost use Rattle.std.specs.Prelude.{◌≡◌, ℕ, ◌≤◌, ◌+◌, ◌∷◌, [], true, Some, None, Ok, IfOk, OnOk, IfSome, All, List as TheList};
 ghost use Rattle.flat_code.specs.Meaning.{spot_shape};
@@ -15,8 +15,8 @@ use flat_code::{Op, Spot};
 use prim_ops::Prim;
 use std::alloc::AllocError;
 
-/// The lowest bits of a sum or a difference of what stands at two spots, where words suffice for it, however wide the sum itself is;
-/// else none, and the code stays as it is.
+/// The lowest bits of a sum, a difference or a product of what stands at two spots, or of the first moved up by the second, where words
+/// suffice for it, however wide that itself is; else none, and the code stays as it is.
 pub fn lowest_word(
     draft: &mut Draft,
     prim: Prim,
@@ -43,7 +43,7 @@ pub fn lowest_word(
     }
 }
 
-/// The way of the lowest bits of a sum or a difference.
+/// The way of such lowest bits.
 fn lowest_way(prim: Prim, x: Spot, y: Spot, width: u8) -> Option<Way>
     requires { width ≤ 64 }
     ensures { IfSome result (λ way. (R : Given) (params : TheList ℕ) → IsLowest prim params width (x ∷ y ∷ []) R → IsWay way (x ∷ y ∷ []) R) }
@@ -54,6 +54,8 @@ fn lowest_way(prim: Prim, x: Spot, y: Spot, width: u8) -> Option<Way>
     match prim {
         Prim::Add => Some(Way::Word(of_two(Op::Add, x, y, low_mask(width)))),
         Prim::Sub => Some(Way::Word(of_two(Op::Sub, x, y, low_mask(width)))),
+        Prim::Mul => Some(Way::Word(of_two(Op::Mul, x, y, low_mask(width)))),
+        Prim::Dshl => Some(Way::Word(of_two(Op::LeftBy, x, y, low_mask(width)))),
         _ => None,
     }
 }

@@ -57,7 +57,7 @@ pub(crate) fn made(draft: &mut Draft, way: Way, measure: Measure) -> Result<Spot
 }
 
 /// The spot of one slot.
-fn at_slot(slot: u32, measure: Measure) -> Spot
+pub(crate) fn at_slot(slot: u32, measure: Measure) -> Spot
     ensures { at_one_slot measure.kind measure.width slot result }
 {
     Spot {

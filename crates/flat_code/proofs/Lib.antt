@@ -1,3 +1,4 @@
 pub mod Frames
 pub mod Solving
 pub mod Evaluating
+pub mod Words

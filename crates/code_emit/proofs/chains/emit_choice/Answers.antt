@@ -3,7 +3,7 @@ use Rattle.flat_code.specs.Fine.{spot_slots, slots_of}
 use Rattle.code_draft.specs.Segments.{Segment}
 use Rattle.code_emit.specs.Spans.{ComeBefore, are_words}
 use Rattle.code_emit.proofs.Shaped.{ok_so}
-use Rattle.code_emit.proofs.Following.{step_follows, chain_follows}
+use Rattle.code_emit.proofs.Following.{choice_some, step_follows, chain_follows}
 use Rattle.code_emit.proofs.chains.emit_choice.Goals as goal
 
 pub returns-then-are_words-clause-follows : goal.returns-then-are_words-clause-follows
@@ -18,4 +18,4 @@ returns-then-are_words-clause-follows c =
 
 pub returns-else-len-gt3-clause-follows : goal.returns-else-len-gt3-clause-follows
 returns-else-len-gt3-clause-follows c =
-    ok_so c.emit_one_choice.result c.emit_one_choice.ensures.step (λ s st. step_follows c.args.spots c.args.draft.now c.emit_one_choice.new.draft s c.requires st)
+    ok_so c.emit_one_choice.result c.emit_one_choice.ensures.step (λ s st. step_follows c.args.spots c.args.draft.now c.emit_one_choice.new.draft s (choice_some c.args.spots c.requires) st)

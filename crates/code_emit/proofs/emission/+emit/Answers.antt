@@ -10,10 +10,10 @@ use Rattle.code_emit.proofs.Shaped.{ok_so}
 use Rattle.code_emit.proofs.Arms.{ok_both, spot_shape_by, op_shaped, op_row, mux_shaped, mux_row, index_shaped, items_shaped, items_row, index_row, load_row, load_element, fit_shaped, fit_row, fit_is, picked_shape, one_ground, one_more_shape}
 use Rattle.code_emit.proofs.Emitting.{none_emitted, const_emits, leaf_emits, op_emits, mux_emits, fit_emits, select_emits, load_emits, both_emitted, one_more_emitted}
 use Rattle.code_emit.specs.Spans.{SpansAll}
-use Rattle.code_emit.proofs.Spanning.{none_spans, fetched_spans, leaf_spans, op_spans, load_spans, fit_spans, select_spans, both_span, one_more_spans}
+use Rattle.code_emit.proofs.Spanning.{none_spans, fetched_spans, leaf_spans, load_spans, fit_spans, select_spans, both_span, one_more_spans}
 use Rattle.code_emit.proofs.Leaves.{no_leaf, leaf_stands, leaf-Const, leaf-Op, leaf-Mux, leaf-Select, leaf-Load, leaf-Fit}
 use Rattle.code_emit.proofs.Nesting.{nested_shaped, nested_row, nested_emits}
-use Rattle.code_emit.proofs.Following.{mux_spans, nested_spans}
+use Rattle.code_emit.proofs.Following.{mux_spans, op_spans, nested_spans}
 use Rattle.code_emit.proofs.emission.+emit.Goals as goal
 
 pub emit-emit_all-requires : goal.emit-emit_all-requires
@@ -313,8 +313,9 @@ emit-returns-in_ok-spots-in-Some-clause-spans t c =
     let gs = c.in-Some.inner.operands.now in
     let e : g ≡ Op o (Op p gs qs ∷ []) ps =
     c.in-Op.is ∙ (ap (λ os. Op o os c.in-Op.params) (sym c.as_slice.ensures ∙ c.in-Some.ensures) ∙ ap (Op o (Op p gs qs ∷ [])) (sym c.as_slice-in-Some.ensures)) in
-    ok_so c.emit_nested.result c.emit_nested.ensures.step (λ s st.
-    nested_spans c.args.sources.now g gs c.args.draft.now c.emit_all.new.draft c.emit_nested.new.draft c.in_ok-spots-in-Some.spots s o ps p qs e c.in_ok-spots-in-Some.ensures.spans st)
+    let S = c.args.sources.now in
+    ok_so c.emit_nested.result c.emit_nested.ensures.follows (λ s st.
+    nested_spans S (sources_table S) g gs c.args.draft.now c.emit_all.new.draft c.emit_nested.new.draft c.in_ok-spots-in-Some.spots s c.in_ok-spots-in-Some.ensures.shapes c.in_ok-spots-in-Some.ensures.spans st o ps p qs e)
 
 pub emit-returns-in_ok-spots-in-None-clause-spans : goal.emit-returns-in_ok-spots-in-None-clause-spans
 emit-returns-in_ok-spots-in-None-clause-spans t c =
@@ -323,8 +324,9 @@ emit-returns-in_ok-spots-in-None-clause-spans t c =
     let gs = c.as_slice-in-None.result.now in
     let ps = c.as_slice-in-None-2.result.now in
     let e : g ≡ Op prim gs ps = c.in-Op.is ∙ ap₂ (λ os qs. Op prim os qs) (sym c.as_slice-in-None.ensures) (sym c.as_slice-in-None-2.ensures) in
-    ok_so c.emit_operation.result c.emit_operation.ensures.step (λ s st.
-    op_spans c.args.sources.now g gs c.args.draft.now c.emit_all-in-None.new.draft c.emit_operation.new.draft c.in_ok-spots-in-None.spots s c.in_ok-spots-in-None.ensures.spans st prim ps e)
+    let S = c.args.sources.now in
+    ok_so c.emit_operation.result c.emit_operation.ensures.follows (λ s st.
+    op_spans S (sources_table S) g gs c.args.draft.now c.emit_all-in-None.new.draft c.emit_operation.new.draft c.in_ok-spots-in-None.spots s c.in_ok-spots-in-None.ensures.shapes c.in_ok-spots-in-None.ensures.spans st prim ps e)
 
 pub emit-returns-in_ok-spots-in-Mux-clause-spans : goal.emit-returns-in_ok-spots-in-Mux-clause-spans
 emit-returns-in_ok-spots-in-Mux-clause-spans t c =
@@ -333,7 +335,7 @@ emit-returns-in_ok-spots-in-Mux-clause-spans t c =
     let gs = c.as_slice-in-Mux.result.now in
     let e : g ≡ Mux gs = c.in-Mux.is ∙ ap Mux (sym c.as_slice-in-Mux.ensures) in
     ok_so c.emit_choice.result c.emit_choice.ensures.follows (λ s last.
-    mux_spans S (sources_table S) g gs c.args.draft.now c.emit_all-in-Mux.new.draft c.emit_choice.new.draft c.in_ok-spots-in-Mux.spots s e c.in_ok-spots-in-Mux.ensures.shapes c.in_ok-spots-in-Mux.ensures.spans last)
+    mux_spans S (sources_table S) g gs c.args.draft.now c.emit_all-in-Mux.new.draft c.emit_choice.new.draft c.in_ok-spots-in-Mux.spots s c.in_ok-spots-in-Mux.ensures.shapes c.in_ok-spots-in-Mux.ensures.spans last e)
 
 pub emit-returns-in_ok-spots-in-Fit-clause-spans : goal.emit-returns-in_ok-spots-in-Fit-clause-spans
 emit-returns-in_ok-spots-in-Fit-clause-spans t c =

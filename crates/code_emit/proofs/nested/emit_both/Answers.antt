@@ -1,14 +1,13 @@
-use Rattle.std.proofs.Common.{◌≡◌, [], ◌∷◌, ◌++◌, All, subst, ap, ◌∙◌, arith}
-use Rattle.std.proofs.lemmas.List.{append-nil}
+use Rattle.std.proofs.Common.{◌≡◌, [], ◌∷◌, ◌++◌, All, subst, ap, ◌∙◌}
 use Rattle.net_meaning.specs.Shapes.{shape_of_row}
 use Rattle.flat_code.specs.Meaning.{spot_shape}
-use Rattle.flat_code.specs.Fine.{spot_shapes, spot_slots, slots_of}
+use Rattle.flat_code.specs.Fine.{spot_shapes}
 use Rattle.code_draft.specs.Drafts.{IsDraft, Stands, Makes}
-use Rattle.code_draft.specs.Segments.{Step}
 use Rattle.code_words.specs.Ways.{IsMade, row_value}
 use Rattle.code_emit.proofs.Shaped.{ok_so}
 use Rattle.code_emit.proofs.Nesting.{some_inner, both_make}
-use Rattle.code_emit.proofs.Following.{steps_then}
+use Rattle.code_emit.specs.Spans.{Follows}
+use Rattle.code_emit.proofs.Following.{row_some, follows_then}
 use Rattle.code_emit.proofs.nested.emit_both.Goals as goal
 
 pub emit_operation-requires : goal.emit_operation-requires
@@ -31,13 +30,15 @@ returns-clause-makes c =
     both_make p qs o ps d e f ss m s c.in_ok-between.ensures.makes
     (subst (λ xs. IsDraft e → All (Stands e) xs → Makes e f s (IsMade (row_value o ps) xs (spot_shape s))) one next) c.in_ok-between.ensures.shape)
 
-pub returns-clause-step : goal.returns-clause-step
-returns-clause-step c =
+pub returns-clause-follows : goal.returns-clause-follows
+returns-clause-follows c =
+    let qs = c.args.inner.params.now in
     let ss = c.args.spots in
     let d = c.args.draft.now in
     let e = c.emit_operation.new.draft in
     let f = c.emit_operation-2.new.draft in
     let m = c.in_ok-between.between in
     let one : c.push.new.self ≡ m ∷ [] = c.in_ok-push.ensures.ok ∙ ap (λ xs. xs ++ m ∷ []) c.new-one.ensures in
-    ok_so c.emit_operation-2.result c.emit_operation-2.ensures.step (λ s next.
-    steps_then d e f (slots_of ss) (spot_slots m) (spot_slots s) 2 2 2 c.in_ok-between.ensures.step (subst (λ xs. Step e f xs (spot_slots s) 2) (ap slots_of one ∙ append-nil (spot_slots m)) next) (omega arith) (omega arith))
+    let row = some_inner (λ s. shape_of_row c.args.outer.prim c.args.outer.params.now (s ∷ [])) (shape_of_row c.args.inner.prim qs (spot_shapes ss)) c.requires in
+    ok_so c.emit_operation-2.result c.emit_operation-2.ensures.follows (λ s next.
+    follows_then ss d e f m s (row_some c.args.inner.prim qs ss row) c.in_ok-between.ensures.follows (subst (λ xs. Follows xs e f s) one next))

@@ -1,4 +1,4 @@
-use Rattle.std.proofs.Common.{◌≡◌, ℕ, [], ◌∷◌, Some, slice_get, sym, refl}
+use Rattle.std.proofs.Common.{◌≡◌, ℕ, [], ◌∷◌, Some, slice_get, sym, refl, arith}
 use Rattle.ground_net.specs.declared.net.NetMemory.{NetMemory}
 use Rattle.ground_net.specs.declared.net.NetPort.{NetPort}
 use Rattle.ground_net.specs.declared.net.NetRead.{NetRead}
@@ -17,7 +17,22 @@ use Rattle.code_registers.specs.Groups.{EvaluatesOnly}
 use Rattle.code_registers.proofs.Evaluating.{one_such}
 use Rattle.code_memories.specs.Groups.{IsCaptureGroup}
 use Rattle.code_memories.proofs.Evaluating.{late_here, capture_group}
+use Rattle.code_memories.proofs.Numbers.{leaf_small}
 use Rattle.code_memories.proofs.captures.publish_capture.Goals as goal
+
+pub overflow_cast-of : goal.overflow_cast-of
+overflow_cast-of c =
+    let net = c.args.net.now in
+    let at = c.args.at in
+    let memory = c.in-Some.memory.now in
+    let there = sym c.in-Some.ensures.value in
+    let port = c.in-Some-get.port.now in
+    let listed = sym c.in-Some-get.ensures.value in
+    let read = c.in-Some-read.read in
+    let reads = c.in-Some-read.is in
+    let small = leaf_small net at.memory at.port at.leaf memory port read c.in-Some-get-2.shown.now c.requires.few there listed reads (late_here net at.memory at.port at.leaf c.requires.there memory port read there listed reads)
+    (sym c.in-Some-get-2.ensures.value) in
+    omega (arith, small)
 
 pub word_of-word-requires : goal.word_of-word-requires
 word_of-word-requires c =
@@ -30,7 +45,7 @@ emit-requires c =
     let element = c.in-Some-get-3.element.now in
     some_is (shape c.in_ok-next.next (sources_table S)) (shaped element.kind element.width) (c.in_ok-next.ensures.shape (sources_table S)
     (has_here c.args.net.now S c.args.at.memory c.requires.net c.requires.memory c.in-Some.memory.now (sym c.in-Some.ensures.value) c.args.at.port c.in-Some-get.port.now (sym c.in-Some-get.ensures.value) c.in-Some-read.read c.in-Some-read.is
-    c.args.at.leaf c.in-Some-get-2.shown.now element (sym c.in-Some-get-2.ensures.value) (sym c.in-Some-get-3.ensures.value) c.requires.there (record { memory = c.args.at.memory; number = c.in-Ok.number; kind = element.kind; width = element.width; narrow = _ }) refl c.in-Ok.ensures.1 refl))
+    c.args.at.leaf c.in-Some-get-2.shown.now element (sym c.in-Some-get-2.ensures.value) (sym c.in-Some-get-3.ensures.value) c.requires.there (record { memory = c.args.at.memory; number = c.args.at.leaf; kind = element.kind; width = element.width; narrow = _ }) refl refl refl))
 
 pub returns-clause-left : goal.returns-clause-left
 returns-clause-left c =
@@ -49,7 +64,6 @@ returns-clause-left c =
     let at = sym c.in-Some-get-2.ensures.value in
     let element = c.in-Some-get-3.element.now in
     let element_there = sym c.in-Some-get-3.ensures.value in
-    let same = c.in-Ok.ensures.1 in
     let g = c.in_ok-next.next in
     let s = c.in_ok-spot.spot in
     let mid = c.emit.new.draft in
@@ -59,8 +73,8 @@ returns-clause-left c =
     ((other : NetMemory) (its : NetPort) (rd : NetRead) (sh : ℕ) → slice_get net.memories m ≡ Some other → slice_get other.ports p ≡ Some its → its.read ≡ Some rd → slice_get rd.leaves k ≡ Some sh
     → PublishesLeft net S (λ st sight. capture_left net S st sight m (capture_of m other its rd (k, sh))) old new)
     c.publish.result c.publish.ensures.publishes (λ told.
-    capture_done net S m c.requires.net c.requires.memory memory there p port listed read reads k x element at element_there c.requires.there (record { memory = m; number = c.in-Ok.number; kind = element.kind; width = element.width; narrow = _ }) g old mid new s c.word_of-word.result refl same refl c.in_ok-next.ensures.value
-    (c.in_ok-next.ensures.shape (sources_table S) (has_here net S m c.requires.net c.requires.memory memory there p port listed read reads k x element at element_there c.requires.there (record { memory = m; number = c.in-Ok.number; kind = element.kind; width = element.width; narrow = _ }) refl same refl))
+    capture_done net S m c.requires.net c.requires.memory memory there p port listed read reads k x element at element_there c.requires.there (record { memory = m; number = c.args.at.leaf; kind = element.kind; width = element.width; narrow = _ }) g old mid new s c.word_of-word.result refl refl refl c.in_ok-next.ensures.value
+    (c.in_ok-next.ensures.shape (sources_table S) (has_here net S m c.requires.net c.requires.memory memory there p port listed read reads k x element at element_there c.requires.there (record { memory = m; number = c.args.at.leaf; kind = element.kind; width = element.width; narrow = _ }) refl refl refl))
     c.in_ok-spot.ensures.shape c.in_ok-spot.ensures.emits told c.word_of-word.ensures)
 
 pub returns-clause-evaluates : goal.returns-clause-evaluates
@@ -83,6 +97,6 @@ returns-clause-evaluates c =
     let new = c.publish.new.draft in
     on_ok_so (Segment mid new (spot_slots s) [] 0) (EvaluatesOnly S (IsCaptureGroup net m) old new) c.publish.result c.publish.ensures.segment (λ told.
     one_such S (IsCaptureGroup net m) (g ∷ []) old new
-    (capture_group net m p k memory port read element (record { memory = m; number = c.in-Ok.number; kind = element.kind; width = element.width; narrow = element.narrow }) g there listed c.in-Some-read.is
-    (late_here net m p k c.requires.there memory port read there listed c.in-Some-read.is) (sym c.in-Some-get-3.ensures.value) refl c.in-Ok.ensures.1 refl refl c.in_ok-next.ensures.itself)
+    (capture_group net m p k memory port read element (record { memory = m; number = c.args.at.leaf; kind = element.kind; width = element.width; narrow = element.narrow }) g there listed c.in-Some-read.is
+    (late_here net m p k c.requires.there memory port read there listed c.in-Some-read.is) (sym c.in-Some-get-3.ensures.value) refl refl refl refl c.in_ok-next.ensures.itself)
     (one_told S g old mid new s c.in_ok-spot.ensures.spans told))

@@ -1,12 +1,11 @@
-use Rattle.std.proofs.Common.{◌≡◌, ◌-◌, [], ◌∷◌, slice_index, sym, subst, ap, ap₂, ◌∙◌}
-use Rattle.bit_words.specs.declared.value.Kind.TheVariants.{Unsigned}
+use Rattle.std.proofs.Common.{◌≡◌, ◌-◌, min, [], ◌∷◌, slice_index, sym, subst, ap, ap₂, ◌∙◌}
 use Rattle.prim_ops.specs.declared.operation.PrimOp.TheVariants as prim
 use Rattle.flat_code.specs.declared.instr.Op.TheVariants as op
-use Rattle.code_words.specs.declared.ways.Way.TheVariants.{Word}
+use Rattle.code_words.specs.declared.ways.Way.TheVariants.{Word, Twice}
 use Rattle.code_words.specs.Working.{working}
-use Rattle.code_words.specs.Ways.{Rests, Refits, Shifts, row_value}
-use Rattle.code_words.proofs.There.{row_for, way_row}
-use Rattle.code_words.proofs.Ones.{pad_refits, cvt_refits, as_uint_rests, as_sint_rests, not_operates, tail_operates, bits_shifts, head_shifts, shr_shifts}
+use Rattle.code_words.specs.Ways.{Rests, Refits, Shifts, GivesRow, row_value}
+use Rattle.code_words.proofs.There.{some_so, row_for, way_row}
+use Rattle.code_words.proofs.Ones.{pad_refits, cvt_refits, as_uint_rests, as_sint_rests, not_operates, tail_operates, bits_shifts, head_shifts, shr_shifts, shr_signed, andr_operates, orr_follow, xorr_operates}
 use Rattle.code_words.proofs.on_one.way_on_one.Goals as goal
 
 pub returns-in-Pad : goal.returns-in-Pad
@@ -62,5 +61,33 @@ pub returns-in-Shr : goal.returns-in-Shr
 returns-in-Shr c =
     let x = c.args.x in
     let ps = c.args.params.now in
-    way_row c.plain_from_bit.result c.args.prim prim.Shr ps x c.args.width (λ R. x.kind ≡ Unsigned → Shifts x c.parameter-in-Shr.result c.args.width R) c.in-Shr.is c.plain_from_bit.ensures (λ kind h e.
-    subst (λ n. Shifts x n c.args.width (row_value prim.Shr ps)) (sym c.parameter-in-Shr.ensures) (shr_shifts x c.requires.operand ps kind c.args.width h e))
+    let width = c.args.width in
+    let R = row_value prim.Shr ps in
+    let n = c.parameter-in-Shr.ensures in
+    some_so c.shifted.result c.shifted.ensures (λ way f. subst (λ p. GivesRow way p ps (x ∷ []) width) (sym c.in-Shr.is) (λ kind h.
+    f R (λ e. subst (λ m. Shifts x m width R) (sym n) (shr_shifts x c.requires.operand ps kind width h e))
+    (λ e some. subst (λ m. Shifts x (min m (x.width - 1)) width R) (sym n) (shr_signed x c.requires.operand ps kind width h e some))))
+
+pub returns-in-Andr : goal.returns-in-Andr
+returns-in-Andr c =
+    let x = c.args.x in
+    let mask = c.low_mask-in-Andr.result in
+    row_for c.args.prim prim.Andr (Word c.of_one-in-Andr.result) (Word (working op.IsMask 0 x.low 0 0 mask)) c.args.params.now (x ∷ []) c.args.width c.in-Andr.is (ap Word c.of_one-in-Andr.ensures) (λ kind h.
+    andr_operates x c.requires.operand c.args.params.now kind c.args.width mask (c.low_mask-in-Andr.ensures.narrow c.requires.operand))
+
+pub returns-in-Orr : goal.returns-in-Orr
+returns-in-Orr c =
+    let x = c.args.x in
+    row_for c.args.prim prim.Orr (Twice c.of_one-in-Orr.result c.of_one-in-Orr-2.result) (Twice (working op.IsMask 0 x.low 0 0 0) (working op.Not 0 x.low 0 0 1)) c.args.params.now (x ∷ []) c.args.width c.in-Orr.is
+    (ap₂ Twice c.of_one-in-Orr.ensures c.of_one-in-Orr-2.ensures) (λ kind h. orr_follow x c.requires.operand c.args.params.now kind c.args.width)
+
+pub returns-in-Xorr : goal.returns-in-Xorr
+returns-in-Xorr c =
+    let x = c.args.x in
+    row_for c.args.prim prim.Xorr (Word c.of_one-in-Xorr.result) (Word (working op.Parity 0 x.low 0 0 0)) c.args.params.now (x ∷ []) c.args.width c.in-Xorr.is (ap Word c.of_one-in-Xorr.ensures) (λ kind h.
+    xorr_operates x c.requires.operand c.args.params.now kind c.args.width)
+
+pub returns-in-Shl : goal.returns-in-Shl
+returns-in-Shl c =
+    let ps = c.args.params.now in
+    some_so c.raised.result c.raised.ensures (λ way h. subst (λ p. GivesRow way p ps (c.args.x ∷ []) c.args.width) (sym c.in-Shl.is) (h ps c.parameter-in-Shl.ensures))

@@ -1,11 +1,10 @@
-use Rattle.std.proofs.Common.{[], ◌∷◌, ◌∙◌, sym, subst, ap}
+use Rattle.std.proofs.Common.{[], ◌∷◌, ◌∙◌, ap}
 use Rattle.prim_ops.specs.declared.operation.PrimOp.TheVariants as prim
 use Rattle.flat_code.specs.declared.instr.Op.TheVariants as op
 use Rattle.code_words.specs.declared.ways.Way.TheVariants.{Word, Twice}
 use Rattle.code_words.specs.Working.{working}
-use Rattle.code_words.specs.Ways.{GivesRow}
-use Rattle.code_words.proofs.There.{some_so, row_for}
-use Rattle.code_words.proofs.Twos.{add_operates, sub_operates, and_operates, or_operates, xor_operates, equal_operates, less_operates, greater_operates, unequal_follow, at_most_follow, at_least_follow}
+use Rattle.code_words.proofs.There.{row_for}
+use Rattle.code_words.proofs.Twos.{add_operates, sub_operates, and_operates, or_operates, xor_operates, equal_operates, less_operates, greater_operates, unequal_follow, at_most_follow, at_least_follow, mul_operates, div_operates, rem_operates, dshl_operates, dshr_operates}
 use Rattle.code_words.proofs.on_two.way_on_two.Goals as goal
 
 pub returns-in-Add : goal.returns-in-Add
@@ -90,8 +89,42 @@ returns-in-Geq c = λ params.
     row_for c.args.prim prim.Geq c.turned-in-Geq.result (Twice (working op.Less 0 x.low y.low 0 1) (working op.Not 0 x.low 0 0 1)) params (x ∷ y ∷ []) c.args.width c.in-Geq.is
     (c.turned-in-Geq.ensures ∙ ap (λ i. Twice i (working op.Not 0 x.low 0 0 1)) c.of_two-in-Geq.ensures) (λ kind h. at_least_follow x y c.requires.first c.requires.second params)
 
-pub returns-in-Cat : goal.returns-in-Cat
-returns-in-Cat c =
+pub returns-in-Mul : goal.returns-in-Mul
+returns-in-Mul c = λ params.
     let x = c.args.x in
     let y = c.args.y in
-    some_so c.above.result c.above.ensures (λ way h params. subst (λ p. GivesRow way p params (x ∷ y ∷ []) c.args.width) (sym c.in-Cat.is) (h params c.args.width c.requires.result))
+    let mask = c.low_mask-in-Mul.result in
+    row_for c.args.prim prim.Mul (Word c.of_two-in-Mul.result) (Word (working op.Mul 0 x.low y.low 0 mask)) params (x ∷ y ∷ []) c.args.width c.in-Mul.is (ap Word c.of_two-in-Mul.ensures) (λ kind h.
+    mul_operates x y c.requires.first c.requires.second params kind c.args.width c.requires.result mask h (c.low_mask-in-Mul.ensures.narrow c.requires.result))
+
+pub returns-in-Div : goal.returns-in-Div
+returns-in-Div c = λ params.
+    let x = c.args.x in
+    let y = c.args.y in
+    let mask = c.low_mask-in-Div.result in
+    row_for c.args.prim prim.Div (Word c.of_two-in-Div.result) (Word (working op.Quotient 0 x.low y.low 0 mask)) params (x ∷ y ∷ []) c.args.width c.in-Div.is (ap Word c.of_two-in-Div.ensures) (λ kind h.
+    div_operates x y c.requires.first c.requires.second params kind c.args.width c.requires.result mask h (c.low_mask-in-Div.ensures.narrow c.requires.result))
+
+pub returns-in-Rem : goal.returns-in-Rem
+returns-in-Rem c = λ params.
+    let x = c.args.x in
+    let y = c.args.y in
+    let mask = c.low_mask-in-Rem.result in
+    row_for c.args.prim prim.Rem (Word c.of_two-in-Rem.result) (Word (working op.Remainder 0 x.low y.low 0 mask)) params (x ∷ y ∷ []) c.args.width c.in-Rem.is (ap Word c.of_two-in-Rem.ensures) (λ kind h.
+    rem_operates x y c.requires.first c.requires.second params kind c.args.width c.requires.result mask h (c.low_mask-in-Rem.ensures.narrow c.requires.result))
+
+pub returns-in-Dshl : goal.returns-in-Dshl
+returns-in-Dshl c = λ params.
+    let x = c.args.x in
+    let y = c.args.y in
+    let mask = c.low_mask-in-Dshl.result in
+    row_for c.args.prim prim.Dshl (Word c.of_two-in-Dshl.result) (Word (working op.LeftBy 0 x.low y.low 0 mask)) params (x ∷ y ∷ []) c.args.width c.in-Dshl.is (ap Word c.of_two-in-Dshl.ensures) (λ kind h.
+    dshl_operates x y c.requires.first c.requires.second params kind c.args.width c.requires.result mask h (c.low_mask-in-Dshl.ensures.narrow c.requires.result))
+
+pub returns-in-Dshr : goal.returns-in-Dshr
+returns-in-Dshr c = λ params.
+    let x = c.args.x in
+    let y = c.args.y in
+    let mask = c.low_mask-in-Dshr.result in
+    row_for c.args.prim prim.Dshr (Word c.of_two-in-Dshr.result) (Word (working op.RightBy 0 x.low y.low 0 mask)) params (x ∷ y ∷ []) c.args.width c.in-Dshr.is (ap Word c.of_two-in-Dshr.ensures) (λ kind h.
+    dshr_operates x y c.requires.first c.requires.second params kind c.args.width c.requires.result mask h (c.low_mask-in-Dshr.ensures.narrow c.requires.result))

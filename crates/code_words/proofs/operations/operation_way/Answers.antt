@@ -3,8 +3,8 @@ use Rattle.code_words.specs.Ways.{GivesRow}
 use Rattle.code_words.proofs.There.{some_so, two_items}
 use Rattle.code_words.proofs.operations.operation_way.Goals as goal
 
-pub returns-else-not-is_plain-2 : goal.returns-else-not-is_plain-2
-returns-else-not-is_plain-2 c =
+pub returns-else-y-gt64 : goal.returns-else-y-gt64
+returns-else-y-gt64 c =
     let ss = c.args.operands.now in
     let items = two_items ss c.x-item-then-operands-lt3.result c.y-item.result c.in-len2.len_at_least c.in-len2.len_below c.x-item-then-operands-lt3.is c.y-item.is in
-    some_so c.way_on_two.result c.way_on_two.ensures (λ way h. subst (λ ts. GivesRow way c.args.prim c.args.params.now ts c.args.width) (sym items) (h c.args.params.now))
+    some_so c.way_on_words.result c.way_on_words.ensures (λ way h. subst (λ ts. GivesRow way c.args.prim c.args.params.now ts c.args.width) (sym items) (h c.args.params.now))

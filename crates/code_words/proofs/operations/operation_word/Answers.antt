@@ -1,6 +1,7 @@
 use Rattle.code_words.specs.Ways.{row_value}
 use Rattle.code_words.proofs.operations.operation_word.Goals as goal
 
-pub returns-in_ok-made-in-Some-clause-step : goal.returns-in_ok-made-in-Some-clause-step
-returns-in_ok-made-in-Some-clause-step c =
-    c.in_ok-made-in-Some.ensures.step c.args.operands.now (row_value c.args.prim c.args.params.now) (c.in-Some.ensures c.args.measure.kind c.requires)
+pub returns-in_ok-paired-in-Some-operation_pair-clause-makes : goal.returns-in_ok-paired-in-Some-operation_pair-clause-makes
+returns-in_ok-paired-in-Some-operation_pair-clause-makes c = λ is there.
+    let ps = c.args.params.now in
+    c.in_ok-paired-in-Some-operation_pair.ensures.makes c.args.operands.now (row_value c.args.prim ps) (c.in-Some-operation_pair.ensures.pair ps c.args.measure.kind c.requires) is there
