@@ -1,5 +1,5 @@
 -- Few slots are live at once.
-use Rattle.std.proofs.Common.{◌≡◌, ℕ, zero, suc, ◌*◌, ◌<◌, ◌≤◌, max, true, List, [], ◌∷◌, ◌++◌, flat_map, filter, map, length, slice_index_or, Contains, ◌⊎◌, inr, refl, sym, subst, ap, ◌∙◌, arith, ⊎_elim, append-nil}
+use Rattle.std.proofs.Common.{◌≡◌, ℕ, zero, suc, ◌*◌, ◌<◌, ◌≤◌, true, List, [], ◌∷◌, ◌++◌, flat_map, filter, map, length, slice_index_or, Contains, inr, refl, sym, subst, ap, ◌∙◌, arith, ⊎_elim, append-nil}
 use Rattle.std.proofs.lemmas.Bool.{false≢true}
 use Rattle.std.proofs.lemmas.List.Elements.{Contains-append_left, Contains-append_right, Contains-push_cases}
 use Rattle.ground_net.specs.declared.net.Net.{Net}
@@ -8,7 +8,6 @@ use Rattle.ground_net.specs.Cones.{needs}
 use Rattle.flat_code.specs.declared.code.Code.{Code}
 use Rattle.flat_code.specs.Fine.{Known, among, nothing, slots_of, written}
 use Rattle.code_place.specs.Live.{most_live, most_live_of}
-use Rattle.code_place.specs.Placed.{HasFew}
 use Rattle.cone_cutter.proofs.Lists.{none_in, filter_to}
 use Rattle.frame_laws.specs.Frames.{sinks_read, assignment_nodes, sinks_nodes, most_nodes, frame_bound}
 use Rattle.code_draft.specs.Segments.{Stretch}
@@ -137,13 +136,3 @@ few_live_slots net watch part code it =
     (record { follow = it.follow; counted = it.counted; each = it.assigned; all = refl })
     (λ x k c e. absurd (none_in x c))
     (λ k e. absurd (false≢true e)))
-
-pub placed_bound : (net : Net) (watch : List ℕ) (part : CutPart) (code placed : Code) → InPieces net watch part code → HasFew code placed → placed.slots ≤ max 1 (frame_bound net watch part)
-placed_bound net watch part code placed it few = let live = few.live in let bound = few_live_slots net watch part code it in omega (arith, live, bound)
-
-pub placed_exact : (net : Net) (watch : List ℕ) (part : CutPart) (code placed : Code) → InPieces net watch part code → HasFew code placed → (code.slots ≡ 0) ⊎ (1 ≤ most_nodes net watch part)
-    → placed.slots ≤ frame_bound net watch part
-placed_exact net watch part code placed it few some = ⊎_elim
-    (λ none. let fewer = few.fewer in omega (arith, fewer, none))
-    (λ driver. let live = few.live in let bound = few_live_slots net watch part code it in omega (arith, live, bound, driver))
-    some

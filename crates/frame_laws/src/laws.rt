@@ -1,6 +1,6 @@
 //! Laws of frames, and what the definitions say of small nets. The functions do nothing.
 
-ghost use Rattle.std.specs.Prelude.{◌≡◌, ◌⊎◌, ℕ, ◌≤◌, max, true, false, length, List, [], ◌∷◌, Some, None, slice_get, Option, Contains, ◌<◌, All};
+ghost use Rattle.std.specs.Prelude.{◌≡◌, ℕ, ◌≤◌, true, false, length, List, [], ◌∷◌, Some, None, slice_get, Option, Contains, ◌<◌, All};
 ghost use Rattle.ground_net.specs.declared.ground.Ground.{Ground as TheGround};
 ghost use Rattle.ground_net.specs.declared.net.Net.{Net as TheNet};
 ghost use Rattle.ground_net.specs.declared.net.NetRegister.{NetRegister as TheRegister};
@@ -30,20 +30,19 @@ ghost use Rattle.code_place.specs.Live.{most_live_of};
 ghost use Rattle.code_place.specs.Placed.{HasFew};
 ghost use Rattle.frame_laws.specs.Frames.{live_behind, most_assignments, most_nodes, frame_bound, sink_nodes, memory_nodes, sinks_read, sinks_nodes, assignment_nodes};
 ghost use Rattle.frame_laws.specs.Examples.{chain, whole_chain, gathering, whole_gathering, gathering_alone, resetting, memory, port, writes, reads};
-ghost use Rattle.frame_laws.specs.Pieces.{Once, GroupFits, InPieces};
+ghost use Rattle.frame_laws.specs.Pieces.{Once, GroupFits, HasDrivers, InPieces};
 
 /// Of a code of a part in pieces no more slots are live at once than two for each assignment that is live at once and two for each
-/// node of the largest driver. So the frame of the placed code is no longer.
+/// node of the largest driver. So the frame of the placed code is no longer, where each assignment has a driver.
 pub fn frames_are_few()
     ensures live { (net : TheNet) (watch : List ℕ) (part : ThePart) (code : TheCode) → InPieces net watch part code → most_live_of code ≤ frame_bound net watch part }
-    ensures placed { (net : TheNet) (watch : List ℕ) (part : ThePart) (code placed : TheCode) → InPieces net watch part code → HasFew code placed → frame_length placed ≤ max 1 (frame_bound net watch part) }
-    ensures exact { (net : TheNet) (watch : List ℕ) (part : ThePart) (code placed : TheCode) → InPieces net watch part code → HasFew code placed → (code.slots ≡ 0) ⊎ (1 ≤ most_nodes net watch part) → frame_length placed ≤ frame_bound net watch part }
+    ensures placed { (net : TheNet) (watch : List ℕ) (part : ThePart) (code placed : TheCode) → HasDrivers net part → InPieces net watch part code → HasFew code placed → frame_length placed ≤ frame_bound net watch part }
 {}
 
 /// The code of a part is in pieces, where its assignments have one each in turn and its sinks add some behind, over slots in which the
-/// values of the assignments stand, and it shows such slots.
+/// values of the assignments stand, and it has no slots but theirs and shows such slots.
 pub fn drafts_are_pieces()
-    ensures { (net : TheNet) (watch : List ℕ) (part : ThePart) (code : TheCode) (spots : ℕ → List ℕ) (start mid last : TheDraft) → ((x : ℕ) → length (spots x) ≤ 2) → start.instrs ≡ [] → start.slots ≡ 0 → AssignsPieces spots (direct_reads net) (assignment_nodes net) part.assignments start mid → AddsPieces spots part.assignments (sinks_read net watch part) (sinks_nodes net watch part) mid last → code.instrs ≡ last.instrs → code.ports ≡ last.ports → code.wides ≡ last.wides → ((k : ℕ) → among (slots_of code.shown) k ≡ true → StandsIn spots part.assignments (sinks_read net watch part) k) → InPieces net watch part code }
+    ensures { (net : TheNet) (watch : List ℕ) (part : ThePart) (code : TheCode) (spots : ℕ → List ℕ) (start mid last : TheDraft) → ((x : ℕ) → length (spots x) ≤ 2) → start.instrs ≡ [] → start.slots ≡ 0 → AssignsPieces spots (direct_reads net) (assignment_nodes net) part.assignments start mid → AddsPieces spots part.assignments (sinks_read net watch part) (sinks_nodes net watch part) mid last → code.instrs ≡ last.instrs → code.ports ≡ last.ports → code.wides ≡ last.wides → code.slots ≡ last.slots → ((k : ℕ) → among (slots_of code.shown) k ≡ true → StandsIn spots part.assignments (sinks_read net watch part) k) → InPieces net watch part code }
 {}
 
 /// Assignments that have segments in turn have pieces in turn, where each stands once, no leaf is found in the frame before, and each
@@ -69,6 +68,11 @@ pub fn sinks_fit()
 pub fn drivers_have_nodes()
     ensures assignment { (net : TheNet) (watch : List ℕ) (part : ThePart) (x : ℕ) (driver : TheGround) → Contains part.assignments x → driver_of net x ≡ Some driver → 1 ≤ most_nodes net watch part }
     ensures register { (net : TheNet) (watch : List ℕ) (part : ThePart) (k : ℕ) (register : TheRegister) → Contains (sinks_of_part net watch part) (A_register k) → slice_get net.registers k ≡ Some register → 1 ≤ most_nodes net watch part }
+{}
+
+/// A part of nothing has no slots.
+pub fn empty_parts_take_nothing()
+    ensures { (net : TheNet) (watch : List ℕ) → frame_bound net watch (record { sinks = []; assignments = [] }) ≡ 0 }
 {}
 
 /// In a chain one assignment is live at a time: only the next one reads it.

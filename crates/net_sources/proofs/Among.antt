@@ -1,15 +1,14 @@
 -- The words of sources are among those of a state.
-use Rattle.std.proofs.Common.{◌≡◌, ◌⊎◌, ⊎_elim, ℕ, ◌+◌, ◌*◌, ◌<◌, ◌≤◌, take, slice_get, Some, option_map, refl, sym, subst, ap, ◌∙◌, arith}
+use Rattle.std.proofs.Common.{◌≡◌, ⊎_elim, ℕ, ◌+◌, ◌*◌, ◌<◌, ◌≤◌, take, slice_get, Some, option_map, sym, subst, ap, ◌∙◌, arith}
 use Rattle.std.proofs.lemmas.Option.{slice_get-map}
 use Rattle.ground_net.specs.declared.net.Net.{Net}
 use Rattle.ground_net.specs.declared.net.Leaf.{Leaf}
-use Rattle.ground_net.specs.declared.net.NetMemory.{NetMemory}
 use Rattle.ground_net.specs.declared.net.NetRegister.{NetRegister}
 use Rattle.ground_net.specs.declared.net.Role.TheVariants as role
 use Rattle.net_meaning.specs.Shapes.{Shape}
 use Rattle.net_meaning.specs.Cycles.{Capture, captures}
 use Rattle.net_meaning.specs.Nets.{IsNet, leaf_shape, element_shape, element_shapes, register_shapes, captured_shapes, shape_or_none}
-use Rattle.net_meaning.specs.Words.{word_count, count_words, register_word, captured_word, memory_word, memory_words, element_word, element_words, state_words}
+use Rattle.net_meaning.specs.Words.{word_count, count_words, register_word, captured_word, memory_word, memory_words, element_words, state_words}
 use Rattle.flat_code.specs.Fine.{InRegion, further_words}
 use Rattle.sink_laws.proofs.Parts.{further_is, register_part, memory_part, captured_part, element_part}
 use Rattle.code_draft.specs.declared.draft.Draft.{Draft}
@@ -17,7 +16,7 @@ use Rattle.code_emit.specs.declared.sources.Source.{Source}
 use Rattle.code_emit.specs.declared.sources.Source.TheVariants as source
 use Rattle.code_emit.specs.declared.sources.Sources.{Sources}
 use Rattle.code_emit.specs.declared.sources.Elements.{Elements}
-use Rattle.code_emit.specs.Emits.{kept_shape, elements_shape, Fits, AreSources}
+use Rattle.code_emit.specs.Emits.{kept_shape, Fits, AreSources}
 use Rattle.source_laws.specs.FromNets.{IsFrom, HasElements, AreOf}
 
 module _ (net : Net) (w : IsNet net) (d : Draft) (counted : d.words ≡ state_words net) where

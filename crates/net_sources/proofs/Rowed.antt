@@ -1,11 +1,11 @@
 -- Lists that grow beside the net's lists.
-use Rattle.std.proofs.Common.{◌≡◌, ◌⊎◌, inl, inr, ⊎_elim, ℕ, zero, suc, ◌+◌, ◌*◌, ◌^◌, ◌<◌, ◌≤◌, List, [], ◌∷◌, ◌++◌, map, take, length, slice_get, slice_index, get_or, sum_by, Option, Some, None, option_and_then, pos, refl, sym, subst, ap, ap₂, ◌∙◌, arith}
+use Rattle.std.proofs.Common.{◌≡◌, ◌⊎◌, inl, inr, ⊎_elim, ℕ, zero, suc, ◌+◌, ◌*◌, ◌^◌, ◌<◌, ◌≤◌, List, [], ◌∷◌, ◌++◌, map, take, length, slice_get, slice_index, get_or, sum_by, Option, Some, None, option_and_then, option_map, pos, refl, sym, subst, ap, ap₂, ◌∙◌, arith}
 use Rattle.std.proofs.lemmas.Bool.{cases_lt}
 use Rattle.std.proofs.Math.Seq.{get_or-append_seam}
 use Rattle.std.proofs.lemmas.List.{length-map, length-append, get_or-map, get_or_append_left, take_all}
 use Rattle.std.proofs.lemmas.List.Sums.{sum_by-cons, sum_by_more, sum_by_more_le}
 use Rattle.std.proofs.Math.Nat.{le-mul_of_pos_right}
-use Rattle.std.proofs.lemmas.Option.{slice_get_within, slice_get_cases, get_or_from_slice_get}
+use Rattle.std.proofs.lemmas.Option.{slice_get-map, slice_get_within, slice_get_cases, get_or_from_slice_get}
 use Rattle.std.specs.Prelude.{IsSome}
 use Rattle.ground_net.specs.declared.net.Net.{Net}
 use Rattle.ground_net.specs.declared.net.Leaf.{Leaf}
@@ -29,9 +29,9 @@ use Rattle.code_emit.specs.Emits.{leaf_source, element_source}
 use Rattle.code_emit.proofs.Rowing.{some_of}
 use Rattle.code_emit.proofs.Shaped.{some_is}
 use Rattle.source_laws.specs.FromNets.{IsFrom, HasSource, HasElements}
-use Rattle.sink_laws.proofs.Parts.{further_is}
+use Rattle.sink_laws.proofs.Parts.{sum_part, further_is}
 use Rattle.net_sources.specs.declared.captured.CapturedRead.{CapturedRead}
-use Rattle.net_sources.specs.FirstWords.{told_of, AreFirst}
+use Rattle.net_sources.specs.FirstWords.{told_of, AreFirst, HaveNumbers}
 use Rattle.net_sources.specs.Complete.{AreAllOf}
 use Rattle.net_sources.specs.Rows.{kept_as, shapes_at, IsSourceOf, AreSourcesOf, IsElementOf, AreElementsOf, AreMemoriesOf}
 
@@ -122,6 +122,13 @@ element_more memory k leaf e =
 
 pub element_all : (memory : NetMemory) (k : ℕ) → length memory.elements ≤ k → count_words (take k (element_shapes memory)) ≡ element_words memory
 element_all memory k le = let long = length-map memory.elements element_shape in ap count_words (take_all k (element_shapes memory) (omega (arith, long, le)))
+
+pub element_within : (memory : NetMemory) (k : ℕ) (leaf : ElementLeaf) → slice_get memory.elements k ≡ Some leaf → count_words (take k (element_shapes memory)) + word_count (element_shape leaf) ≤ element_words memory
+element_within memory k leaf e = sum_part word_count (element_shapes memory) k (element_shape leaf) (slice_get-map element_shape memory.elements k ∙ ap (option_map element_shape) e)
+
+pub number_there : (memories : List NetMemory) (m : ℕ) (memory : NetMemory) → HaveNumbers memories → slice_get memories m ≡ Some memory → memory.word + element_words memory < 2 ^ 32
+number_there memories m memory have e =
+    subst (λ (x : NetMemory). x.word + element_words x < 2 ^ 32) (get_or_from_slice_get memories m memory memory e) (have m memory (slice_get_within memories m memory e))
 
 -- first words so far
 pub record AreStarts (net : Net) (leaves : List ℕ) (first i now : ℕ) (words : List ℕ) : Type 0 where

@@ -1,5 +1,5 @@
 -- Captured reads, one memory after the other.
-use Rattle.std.proofs.Common.{◌≡◌, ℕ, zero, suc, ◌+◌, ◌<◌, ◌≤◌, Bool, true, false, List, [], ◌∷◌, ◌++◌, map, take, length, slice_get, zip, Option, Some, None, if◌then◌else◌, refl, sym, ap, ap₂, ◌∙◌, arith}
+use Rattle.std.proofs.Common.{◌≡◌, ℕ, zero, suc, ◌+◌, ◌≤◌, Bool, true, false, List, [], ◌∷◌, ◌++◌, map, take, length, slice_get, zip, Option, Some, None, if◌then◌else◌, refl, sym, ap, ap₂, ◌∙◌, arith}
 use Rattle.std.specs.Prelude.{flat_map}
 use Rattle.std.specs.List.{range_with_len}
 use Rattle.std.proofs.lemmas.Grind.{flat_map-append}
@@ -11,7 +11,7 @@ use Rattle.ground_net.specs.declared.net.NetPort.{NetPort}
 use Rattle.ground_net.specs.declared.net.NetRead.{NetRead}
 use Rattle.ground_net.specs.Cones.{numbered}
 use Rattle.ground_net.proofs.Layers.{maps}
-use Rattle.net_meaning.specs.Cycles.{Capture, captures, captured_by}
+use Rattle.net_meaning.specs.Cycles.{captures, captured_by}
 use Rattle.net_sources.specs.declared.captured.CapturedRead.{CapturedRead}
 use Rattle.net_sources.specs.FirstWords.{told_of}
 use Rattle.net_sources.specs.Rows.{told_by, told_by_ports}

@@ -1,5 +1,5 @@
 -- What the bodies keep.
-use Rattle.std.specs.Prelude.{◌≡◌, ℕ, ◌+◌, ◌<◌, List, [], map, flat_map, take, length, slice_get, Option, Some, None, IsSome, if◌then◌else◌}
+use Rattle.std.specs.Prelude.{◌≡◌, ℕ, ◌+◌, List, [], map, flat_map, take, length, slice_get, Option, Some, None, IsSome, if◌then◌else◌}
 use Rattle.ground_net.specs.declared.net.Net.{Net}
 use Rattle.ground_net.specs.declared.net.Leaf.{Leaf}
 use Rattle.ground_net.specs.declared.net.NetMemory.{NetMemory}
@@ -7,7 +7,7 @@ use Rattle.ground_net.specs.declared.net.NetPort.{NetPort}
 use Rattle.ground_net.specs.declared.net.NetRead.{NetRead}
 use Rattle.ground_net.specs.declared.net.ElementLeaf.{ElementLeaf}
 use Rattle.ground_net.specs.declared.net.Role.TheVariants as role
-use Rattle.net_meaning.specs.Shapes.{Shape, shaped}
+use Rattle.net_meaning.specs.Shapes.{Shape}
 use Rattle.net_meaning.specs.Nets.{shape_or_none, leaf_shape, element_shape, element_shapes}
 use Rattle.net_meaning.specs.Words.{count_words, element_words}
 use Rattle.code_emit.specs.declared.sources.Kept.{Kept}

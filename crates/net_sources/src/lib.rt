@@ -10,4 +10,4 @@ pub mod words;
 
 pub use captured::{CapturedRead, captured_reads};
 pub use sources::sources_of;
-pub use words::{FirstWords, element_words, first_words, memory_words};
+pub use words::{FirstWords, element_words, first_words, have_numbers, memory_words};

@@ -1,10 +1,10 @@
 //! The sources of a net.
 
-ghost use Rattle.std.specs.Prelude.{◌≡◌, ◌+◌, ◌*◌, ◌^◌, ◌<◌, ◌≤◌, ℕ, IfOk, length, nat_lt, if◌then◌else◌, pos};
+ghost use Rattle.std.specs.Prelude.{◌≡◌, ◌+◌, ◌*◌, ◌^◌, ◌<◌, ◌≤◌, ℕ, IfOk, length, pos};
 ghost use Rattle.cycle_values.specs.Values.{fitted};
 ghost use Rattle.net_meaning.specs.Nets.{IsNet};
 ghost use Rattle.net_meaning.specs.Words.{element_words as words_in_element, memory_words, state_words, SaysItsWords};
-ghost use Rattle.net_sources.specs.FirstWords.{AreFirst};
+ghost use Rattle.net_sources.specs.FirstWords.{AreFirst, HaveNumbers};
 ghost use Rattle.net_sources.specs.Complete.{AreAllOf};
 ghost use Rattle.net_sources.specs.Rows.{IsLeafOf, IsSourceOf, AreSourcesOf, AreElementsOf, AreMemoriesOf, kept_as};
 
@@ -16,11 +16,12 @@ use ground_net::{Leaf, Net, NetMemory, Role};
 use std::alloc::{AllocError, Global};
 
 /// The sources of a net whose words have numbers of 32 bits: of each leaf but the assignments, by its role, and of each leaf of an
-/// element of a memory. Where the words of a memory of no elements had no number of 32 bits it is want of memory.
+/// element of a memory.
 pub fn sources_of(alloc: Global, net: &Net, words: &FirstWords) -> Result<Sources, AllocError>
     requires net { IsNet net.now }
     requires said { SaysItsWords net.now }
     requires few { state_words net.now < 2 ^ 32 }
+    requires elements { HaveNumbers net.now.memories }
     requires words { AreFirst net.now words.now }
     ensures { IfOk result (AreAllOf net.now) }
 {
@@ -89,6 +90,7 @@ fn kept(leaf: &Leaf, number: u32) -> Kept
 /// The sources of the memories' elements.
 fn memory_sources(alloc: Global, net: &Net) -> Result<List<List<Elements>>, AllocError>
     requires few { state_words net.now < 2 ^ 32 }
+    requires elements { HaveNumbers net.now.memories }
     ensures { IfOk result (AreMemoriesOf net.now.memories (length net.now.memories)) }
 {
     let mut sources = List::new(alloc);
@@ -101,6 +103,7 @@ fn memory_sources(alloc: Global, net: &Net) -> Result<List<List<Elements>>, Allo
 /// The sources of the leaves of a memory's elements.
 fn elements_of(alloc: Global, memory: &NetMemory) -> Result<List<Elements>, AllocError>
     requires few { memory_words memory.now < 2 ^ 32 }
+    requires first { memory.now.word + words_in_element memory.now < 2 ^ 32 }
     ensures { IfOk result (AreElementsOf memory.now (length memory.now.elements)) }
 {
     let mut sources = List::new(alloc);
@@ -108,7 +111,7 @@ fn elements_of(alloc: Global, memory: &NetMemory) -> Result<List<Elements>, Allo
         return Ok(sources);
     }
     let depth = memory.depth as u32;
-    let stride = stride_of(memory)?;
+    let stride = element_words(memory) as u32;
     let mut base = memory.word;
     for leaf in memory.elements.as_slice() {
         sources.push(Elements {
@@ -120,28 +123,7 @@ fn elements_of(alloc: Global, memory: &NetMemory) -> Result<List<Elements>, Allo
                 depth,
             },
         })?;
-        base = behind(base, leaf.width)?;
+        base += words_of_width(leaf.width);
     }
     Ok(sources)
-}
-
-/// How many words lie from element to element. Where they have no number of 32 bits it is want of memory.
-fn stride_of(memory: &NetMemory) -> Result<u32, AllocError>
-    ensures { IfOk result (λ n. n ≡ words_in_element memory.now) }
-{
-    let words = element_words(memory);
-    if words >= 4294967296 {
-        return Err(AllocError);
-    }
-    Ok(words as u32)
-}
-
-/// The word behind a leaf of this width. Where it has no number of 32 bits it is want of memory.
-fn behind(word: u32, width: u8) -> Result<u32, AllocError>
-    ensures { IfOk result (λ n. n ≡ word + (if nat_lt 64 width then 2 else 1)) }
-{
-    match word.checked_add(words_of_width(width)) {
-        Some(next) => Ok(next),
-        None => Err(AllocError),
-    }
 }

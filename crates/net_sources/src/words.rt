@@ -1,15 +1,18 @@
 //! The first words of what is kept from cycle to cycle.
 
-ghost use Rattle.std.specs.Prelude.{◌≡◌, ◌+◌, ◌*◌, ◌^◌, ◌<◌, ◌≤◌, ℕ, length, map, take, slice_get, slice_index, sum_by, nat_lt, if◌then◌else◌, IfOk};
+ghost use Rattle.std.specs.Prelude.{◌≡◌, ◌+◌, ◌*◌, ◌^◌, ◌<◌, ◌≤◌, ℕ, length, map, take, slice_get, slice_index, sum_by, nat_lt, if◌then◌else◌, IsTrue, ◌↔◌, IfOk};
 ghost use Rattle.net_meaning.specs.Nets.{shape_or_none, register_shapes};
 ghost use Rattle.net_meaning.specs.Words.{word_count, count_words, element_words as words_in_element, memory_words as words_in_memory, state_words, SaysItsWords};
-ghost use Rattle.net_sources.specs.FirstWords.{AreFirst};
+ghost use Rattle.net_sources.specs.FirstWords.{AreFirst, HaveNumbers};
 ghost use Rattle.net_sources.specs.Rows.{shapes_at};
 
 use crate::captured::{CapturedRead, captured_reads};
 use bit_words::List;
 use ground_net::{Net, NetMemory};
 use std::alloc::{AllocError, Global};
+
+/// Words have numbers below this.
+const NUMBERS: u128 = 4_294_967_296;
 
 /// The first words of a net's registers and of its captured reads, by their numbers, and behind each list the word behind its last.
 #[derive(Debug, Drop)]
@@ -119,6 +122,19 @@ pub fn element_words(memory: &NetMemory) -> u128
         words += words_of_width(leaf.width) as u128;
     }
     words
+}
+
+/// Whether from each memory's first word on the words of an element have numbers of 32 bits.
+pub fn have_numbers(memories: &[NetMemory]) -> bool
+    ensures { IsTrue result ↔ HaveNumbers memories.now }
+{
+    for memory in memories {
+        let behind = memory.word as u128 + element_words(memory);
+        if behind >= NUMBERS {
+            return false;
+        }
+    }
+    true
 }
 
 /// How many words a memory takes, of fewer than 2^32.

@@ -39,6 +39,7 @@ use Rattle.part_laws.proofs.Composed.{publishes, shows}
 use Rattle.partition_code.specs.Codes.{is_among, HasWordAmong, IsCodeOf, AreCodesOf}
 use Rattle.part_sinks.specs.declared.work.Made.{Made}
 use Rattle.part_sinks.specs.Rows.{sinks_of, IsWork, SoFar}
+use Rattle.frame_laws.specs.Pieces.{HasDrivers}
 use Rattle.part_compile.specs.Frames.{TakesFewSlots, TakeFewSlots}
 use Rattle.part_compile.proofs.StateWords.{behind_all}
 
@@ -77,6 +78,9 @@ module _ (net : Net) (w : IsNet net) (watch : List ℕ) (part : CutPart) where
   module _ (sequence : List ℕ) (union : IsUnion net watch sequence part) where
     pub are_assignments : (x : ℕ) → Contains part.assignments x → IsAssigned net.leaves x
     are_assignments x c = let n = union.exactly.only x c in cone_assigned net n.inside.sink x n.inside.inside
+
+    pub have_drivers : HasDrivers net part
+    have_drivers x c = w.assigned x (are_assignments x c)
 
     pub all_within : (n : ℕ) → n ≡ length net.leaves → All (λ x. x < n) part.assignments
     all_within n e k d lt =

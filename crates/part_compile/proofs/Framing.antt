@@ -184,9 +184,9 @@ module _ (net : Net) (w : IsNet net) (watch : List ℕ) (part : CutPart) (sequen
       }
 
   pub code_in_pieces : (made : Made) (code : Code) → start.instrs ≡ [] → start.slots ≡ 0 → AreSegments net.drivers part.assignments first start later assigned → TellsInPieces net watch part later assigned made
-      → code.instrs ≡ made.draft.instrs → code.ports ≡ made.draft.ports → code.wides ≡ made.draft.wides → code.shown ≡ made.shown → WatchesAssignments net watch part → InPieces net watch part code
-  code_in_pieces made code none zero_slots segments tells instrs ports wides shown watches =
+      → code.instrs ≡ made.draft.instrs → code.ports ≡ made.draft.ports → code.wides ≡ made.draft.wides → code.slots ≡ made.draft.slots → code.shown ≡ made.shown → WatchesAssignments net watch part → InPieces net watch part code
+  code_in_pieces made code none zero_slots segments tells instrs ports wides slots shown watches =
       let s = segments_there segments in
       let told = tells (are_found s.0 s.1 watches) in
-      in_pieces net watch part code (leaf_slots later) start assigned made.draft (λ x. source_two (leaf_source later x)) none zero_slots (assigns s.0) told.adds instrs ports wides
+      in_pieces net watch part code (leaf_slots later) start assigned made.draft (λ x. source_two (leaf_source later x)) none zero_slots (assigns s.0) told.adds instrs ports wides slots
       (λ k e. told.shown k (ap (λ ss. among (slots_of ss) k) (sym shown) ∙ e))

@@ -1,5 +1,5 @@
 -- How many slots the codes of parts take.
-use Rattle.std.specs.Prelude.{◌≡◌, ℕ, ◌≤◌, max, List, slice_get, Some, Contains}
+use Rattle.std.specs.Prelude.{◌≡◌, ℕ, ◌≤◌, List, slice_get, Some, Contains}
 use Rattle.ground_net.specs.declared.net.Net.{Net}
 use Rattle.ground_net.specs.declared.net.CutPart.{CutPart}
 use Rattle.ground_net.specs.Cones.{A_watched}
@@ -13,9 +13,9 @@ use Rattle.frame_laws.specs.Frames.{frame_bound}
 abbrev pub WatchesAssignments : Net → List ℕ → CutPart → Type 0
 WatchesAssignments net watch part = (x : ℕ) → Contains (sinks_of_part net watch part) (A_watched x) → IsAssigned net.leaves x
 
--- Two slots for each assignment of the part that is live at once and for each node of its largest driver suffice. One is there in any case.
+-- Two slots for each assignment of the part that is live at once and for each node of its largest driver suffice.
 abbrev pub TakesFewSlots : Net → List ℕ → CutPart → Code → Type 0
-TakesFewSlots net watch part code = WatchesAssignments net watch part → frame_length code ≤ max 1 (frame_bound net watch part)
+TakesFewSlots net watch part code = WatchesAssignments net watch part → frame_length code ≤ frame_bound net watch part
 
 -- So it is of the code of each part.
 abbrev pub TakeFewSlots : Net → List ℕ → List CutPart → List Code → Type 0

@@ -15,7 +15,7 @@ use code_arrange::arrange;
 use cone_cutter::sinks_of;
 use flat_code::Code;
 use ground_net::{Cut, Ordered};
-use net_sources::{captured_reads, first_words};
+use net_sources::{captured_reads, first_words, have_numbers};
 use part_sinks::Plan;
 use std::alloc::{AllocError, Global};
 
@@ -27,8 +27,9 @@ const NUMBERS: usize = 4_294_967_296;
 /// Where the watched leaves of a part are assignments, its code takes at most two slots for each assignment that is live at once and
 /// for each node of the largest driver.
 ///
-/// More leaves, words of a state or memories than a `u32` numbers are a want of memory. Takes memory in proportion to the net and to
-/// the codes, and time in proportion to the codes, and to the net for each part.
+/// More leaves, words of a state or memories than a `u32` numbers are a want of memory; a memory that has no element needs numbers for
+/// the words of one. Takes memory in proportion to the net and to the codes, and time in proportion to the codes, and to the net for
+/// each part.
 pub fn compile(
     alloc: Global,
     ordered: &Ordered,
@@ -48,7 +49,8 @@ pub fn compile(
     let leaves = net.leaves.len();
     let memories = net.memories.len();
     let few = has_few_words(net, reads.len());
-    if leaves >= NUMBERS || memories >= NUMBERS || !few {
+    let numbered = have_numbers(net.memories.as_slice());
+    if leaves >= NUMBERS || memories >= NUMBERS || !few || !numbered {
         return Err(AllocError);
     }
     let words = first_words(alloc, net)?;

@@ -5,6 +5,7 @@ ghost use Rattle.ground_net.specs.Cones.{sinks as sinks_in};
 ghost use Rattle.cone_cutter.specs.Rows.{sink_of};
 ghost use Rattle.partition_code.specs.Codes.{IsCodeOf};
 ghost use Rattle.code_place.specs.Live.{IsSingle};
+ghost use Rattle.net_sources.specs.FirstWords.{HaveNumbers};
 ghost use Rattle.part_sinks.specs.Rows.{IsPlan};
 ghost use Rattle.frame_laws.specs.Pieces.{InPieces};
 ghost use Rattle.part_compile.specs.Frames.{WatchesAssignments};
@@ -33,6 +34,7 @@ pub(crate) fn code_of(
     requires plan { IsPlan plan.now.net.now plan.now.watch.now plan.now.words.now plan.now.reads.now }
     requires sinks { map sink_of sinks.now ≡ sinks_in plan.now.net.now plan.now.watch.now }
     requires memories { length plan.now.net.now.memories < 2 ^ 32 }
+    requires elements { HaveNumbers plan.now.net.now.memories }
     requires part { IsUnionInOrder plan.now.net.now plan.now.watch.now part.now }
     ensures code { IfOk result (IsCodeOf plan.now.net.now plan.now.watch.now part.now) }
     ensures single { IfOk result IsSingle }

@@ -1,4 +1,4 @@
-use Rattle.std.proofs.Common.{◌≡◌, ℕ, ◌+◌, ◌<◌, ◌≤◌, length, slice_get, slice_index, ap, ◌∙◌, arith}
+use Rattle.std.proofs.Common.{length, slice_index, ap, ◌∙◌, arith}
 use Rattle.std.proofs.lemmas.Option.{slice_get_within}
 use Rattle.net_meaning.specs.Cycles.{captures}
 use Rattle.net_sources.proofs.Rowed.{register_source, captured_source, clock_source}

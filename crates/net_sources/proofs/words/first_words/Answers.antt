@@ -1,4 +1,4 @@
-use Rattle.std.proofs.Common.{◌≡◌, map, refl, ap, ◌∙◌}
+use Rattle.std.proofs.Common.{map, refl, ap, ◌∙◌}
 use Rattle.net_sources.specs.declared.captured.CapturedRead.{CapturedRead}
 use Rattle.net_sources.proofs.Rowed.{first_are}
 use Rattle.net_sources.proofs.words.first_words.Goals as goal

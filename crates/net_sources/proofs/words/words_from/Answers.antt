@@ -1,5 +1,5 @@
-use Rattle.std.proofs.Common.{◌≡◌, ℕ, ◌+◌, ◌≤◌, ◌<◌, length, take, slice_index, ap, sym, ◌∙◌, arith}
-use Rattle.net_sources.proofs.Rowed.{words_more, words_within, starts_more}
+use Rattle.std.proofs.Common.{arith}
+use Rattle.net_sources.proofs.Rowed.{words_within, starts_more}
 use Rattle.net_sources.proofs.words.words_from.Goals as goal
 
 pub overflow_add-next : goal.overflow_add-next

@@ -2,10 +2,10 @@ use Rattle.std.proofs.Common.{◌≡◌, ◌+◌, ◌<◌, length, take, slice_g
 use Rattle.std.proofs.lemmas.List.{take_all}
 use Rattle.std.proofs.lemmas.Option.{slice_get-get_or}
 use Rattle.partition_code.specs.Codes.{AreCodesOf}
-use Rattle.frame_laws.proofs.Frames.{placed_bound}
+use Rattle.frame_laws.proofs.Driving.{placed_few}
 use Rattle.place_laws.proofs.Placed.{placed_is_code}
 use Rattle.part_compile.specs.Frames.{TakesFewSlots, TakeFewSlots}
-use Rattle.part_compile.proofs.Composing.{codes_none, codes_more, few_none, few_more}
+use Rattle.part_compile.proofs.Composing.{have_drivers, codes_none, codes_more, few_none, few_more}
 use Rattle.part_compile.proofs.compiling.compile.Goals as goal
 
 pub loop-part-init : goal.loop-part-init
@@ -36,7 +36,8 @@ loop-part-preserved c =
     let new = c.in_ok-arrange.field-0 in
     let is = placed_is_code net watch part c.in_ok-code.code new c.in_ok-code.ensures.code c.in_ok-arrange.ensures.placed in
     let had = c.loop-part.invariant in
-    let few : TakesFewSlots net watch part new = λ watches. placed_bound net watch part c.in_ok-code.code new (c.in_ok-code.ensures.pieces watches) c.in_ok-arrange.ensures.few in (
+    let drivers = have_drivers net c.requires.net watch part c.args.ordered.now.sequence (c.requires.split.unions i part there) in
+    let few : TakesFewSlots net watch part new = λ watches. placed_few net watch part drivers c.in_ok-code.code new (c.in_ok-code.ensures.pieces watches) c.in_ok-arrange.ensures.few in (
       subst (AreCodesOf net watch (take (i + 1) parts)) (sym c.in_ok-push.ensures.ok) (codes_more net watch parts i part c.loop-part.codes new there had.0 is),
       subst (TakeFewSlots net watch (take (i + 1) parts)) (sym c.in_ok-push.ensures.ok) (few_more net watch parts i part c.loop-part.codes new there had.0.counted had.1 few),
     )

@@ -85,4 +85,4 @@ returns-clause-pieces c =
     let code = c.in_ok-code.ensures in
     let segments = at_both (λ ds xs. AreSegments ds xs S c.empty-draft.result T c.assign_all.new.draft) _ net.drivers _ c.args.part.now.assignments c.as_slice-2.ensures c.as_slice-3.ensures c.in_ok-assign_all.ensures.segments in
     code_in_pieces net c.requires.plan.is_net c.args.plan.now.watch.now c.args.part.now u.sequence u.union S T c.in_ok-sources.ensures c.empty-draft.result c.assign_all.new.draft c.in_ok-made.made c.in_ok-code.code start.instrs start.slots
-    segments c.in_ok-made.ensures.pieces code.instrs code.ports code.wides code.shown
+    segments c.in_ok-made.ensures.pieces code.instrs code.ports code.wides code.slots code.shown
