@@ -1,7 +1,12 @@
--- what leaves read
+-- what leaves read, and what the edge takes
+pub mod Typing
 pub mod Mentioning
 pub mod MemoryLeaves
+pub mod MemoryWays
 pub mod Reading
+-- all leaves
+pub mod Listing
+pub mod Traces
 -- what is left in driven leaves
 pub mod Inside
 pub mod Driven

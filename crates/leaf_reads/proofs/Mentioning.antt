@@ -1,5 +1,5 @@
 -- What the live connects of well typed statements mention, where what well typed expressions mention has a property.
-use Rattle.std.proofs.Common.{◌≡◌, zero, suc, Bool, true, false, ◌&&◌, List, [], ◌∷◌, ◌++◌, map, filter_map, Option, Some, None, refl, sym, ap, ◌∙◌, subst, arith, true≢false, if◌then◌else◌, ⊎_elim}
+use Rattle.std.proofs.Common.{◌≡◌, ℕ, zero, suc, Bool, true, false, ◌&&◌, List, [], ◌∷◌, ◌++◌, map, filter_map, Option, Some, None, refl, sym, ap, ◌∙◌, subst, arith, true≢false, if◌then◌else◌, ⊎_elim}
 use Rattle.std.specs.Prelude.{Contains}
 use Rattle.std.specs.List.{list_any, list_all}
 use Rattle.std.proofs.lemmas.Grind.{common_steps}
@@ -22,7 +22,7 @@ use Rattle.cycle_values.specs.Shapes.{Shape}
 use Rattle.fir_meaning.specs.Components.{Leaf}
 use Rattle.fir_meaning.specs.Values.{beside}
 use Rattle.fir_meaning.specs.Mentions as mention
-use Rattle.fir_meaning.specs.Mentions.{Scope, Region, InScope, Onward, joined, mentions, suffix_onward, leaves_at, region_of, region_of_form}
+use Rattle.fir_meaning.specs.Mentions.{Scope, Region, InScope, Onward, joined, mentions, suffix_onward, leaves_at, whole_region, region_of, region_of_form}
 use Rattle.fir_meaning.specs.Certain.{may_be}
 use Rattle.fir_meaning.specs.Loops as loop
 use Rattle.fir_meaning.specs.Loops.{Driving, DrivingArm, Mentioned, driving, driven_from, live, live_from, crossing, through_arms}
@@ -37,7 +37,7 @@ both_true true q e = (refl, e)
 both_true false q e = absurd (true≢false (sym e))
 
 -- a condition is well typed
-condition_typed : (o : Option (List Shape)) → is_one_unsigned o ≡ true → Rattle.std.specs.Prelude.is_some o ≡ true
+pub condition_typed : (o : Option (List Shape)) → is_one_unsigned o ≡ true → Rattle.std.specs.Prelude.is_some o ≡ true
 condition_typed (Some ss) e = refl
 condition_typed None e = absurd (true≢false (sym e))
 
@@ -115,6 +115,22 @@ module _ (P : Leaf → Type 0) where
   either_live true l h = all_none
   either_live false l h = h
 
+  -- what a part of a region is driven from
+  of_region : (flip : Bool) (leaf : Leaf) (region : Region) (sources : List Mentioned) → ((part : TypeLeaf) → Contains (leaves region.typ) part → AllOf region.indices) → AllOf (joined sources)
+      → AllOf (joined (driven_from flip leaf sources (Some region)))
+  of_region flip leaf region sources indexed h = λ y c.
+      let pairs = beside [] (leaves region.typ) sources in
+      let test : TypeLeaf × Mentioned → Option Mentioned = λ both. if may_be flip region leaf both.0 then Some (region.indices ++ both.1) else None in
+      let list = from_flat_map (λ (ls : Mentioned). ls) (filter_map test pairs) y c in
+      let pair = from_filter_map test pairs list.0 list.1 in
+      let part = beside_in (leaves region.typ) sources pair.0 pair.1 in
+      let among : Contains (region.indices ++ pair.0.1) y = subst (λ l. Contains l y) (sym (taken_is (may_be flip region leaf pair.0.0) (region.indices ++ pair.0.1) list.0 pair.2)) list.2 in
+      ⊎_elim (λ index. indexed pair.0.0 part.0 y index) (λ source. h y (part.1 y source)) (Contains-append_cases region.indices pair.0.1 y among)
+
+  -- What a whole component is driven from.
+  pub whole_reads : (leaf : Leaf) (types : Scope) (component : ℕ) (sources : List Mentioned) → AllOf (joined sources) → AllOf (joined (driven_from false leaf sources (Some (whole_region types component))))
+  whole_reads leaf types component sources h = of_region false leaf (whole_region types component) sources (λ part there. all_none) h
+
   module _ (known : Known) (types : Scope) (said : (e : Expr) → is_typed known e ≡ true → AllOf (joined (mentions e types))) (leaf : Leaf) where
     abbrev arm_live : Arm → DrivingArm
     arm_live = fold-Arm Driving DrivingArm (loop.of_stmt types leaf) (loop.of_arm types leaf)
@@ -128,20 +144,12 @@ module _ (P : Leaf → Type 0) where
       where
         by : (o : Option Region) → region_of types e ≡ o → AllOf (joined (driven_from flip leaf sources o))
         by None is = all_none
-        by (Some region) is = λ y c.
-            let pairs = beside [] (leaves region.typ) sources in
-            let test : TypeLeaf × Mentioned → Option Mentioned = λ both. if may_be flip region leaf both.0 then Some (region.indices ++ both.1) else None in
-            let list = from_flat_map (λ (ls : Mentioned). ls) (filter_map test pairs) y c in
-            let pair = from_filter_map test pairs list.0 list.1 in
-            let part = beside_in (leaves region.typ) sources pair.0 pair.1 in
-            let among : Contains (region.indices ++ pair.0.1) y = subst (λ l. Contains l y) (sym (taken_is (may_be flip region leaf pair.0.0) (region.indices ++ pair.0.1) list.0 pair.2)) list.2 in
+        by (Some region) is =
             let reads : TypeLeaf → Mentioned = λ l. region.indices ++ leaves_at region l.path in
-            ⊎_elim
-            (λ index. said e t y (subst (λ ms. Contains (joined ms) y) (sym (reference_reads types e region is))
-            (Contains-flat_map (λ (ls : Mentioned). ls) (map reads (leaves region.typ)) (reads pair.0.0) y (Contains-map reads (leaves region.typ) pair.0.0 part.0)
-            (Contains-append_left region.indices (leaves_at region pair.0.0.path) y index))))
-            (λ source. h y (part.1 y source))
-            (Contains-append_cases region.indices pair.0.1 y among)
+            of_region flip leaf region sources (λ part there y index.
+            said e t y (subst (λ ms. Contains (joined ms) y) (sym (reference_reads types e region is))
+            (Contains-flat_map (λ (ls : Mentioned). ls) (map reads (leaves region.typ)) (reads part) y (Contains-map reads (leaves region.typ) part there)
+            (Contains-append_left region.indices (leaves_at region part.path) y index)))) h
 
     abbrev Reads : Stmt → Type 0
     Reads s = is_typed_stmt known s ≡ true → AllOf (joined (driving types leaf s).live)

@@ -7,17 +7,32 @@ ghost use Rattle.fir_types.specs.declared.leaf.TypeLeaf.{TypeLeaf as TheLeaf};
 ghost use Rattle.fir_types.specs.Leaves.{leaves};
 ghost use Rattle.fir_tree.specs.declared.scope.Fitted.{Fitted as FittedCircuit};
 ghost use Rattle.fir_tree.specs.declared.stmt.Stmt.{Stmt as TheStmt};
-ghost use Rattle.fir_meaning.specs.Components.{TypedModule, Component, Leaf, FlatLeaf, design_of, module_at, component_named};
+ghost use Rattle.fir_meaning.specs.Components.{Leaf, FlatLeaf, design_of};
 ghost use Rattle.fir_meaning.specs.Values.{Scene, fitted_to};
 ghost use Rattle.fir_meaning.specs.Drives.{drives};
-ghost use Rattle.fir_meaning.specs.States.{IsLeafOf};
-ghost use Rattle.fir_meaning.specs.Loops.{ReadsLeaf};
-ghost use Rattle.fir_meaning.specs.WellTyped.{Known, known_in, are_typed};
+ghost use Rattle.fir_meaning.specs.States.{State, Inputs, Trace, IsLeafOf};
+ghost use Rattle.fir_meaning.specs.Loops.{ReadsLeaf, HasNoLoop, HasLeaves, TakesLeaves};
+ghost use Rattle.fir_meaning.specs.WellTyped.{Known, are_typed};
 ghost use Rattle.circuit_laws.specs.WellFormed.{IsWellFormed};
 
-/// Where the blocks of its components are well typed, what a leaf of a well formed circuit reads is a leaf of the run.
+/// What a leaf of a well formed circuit reads is a leaf of the run.
 pub fn reads_are_of_leaves()
-    ensures { (fitted : FittedCircuit) → IsWellFormed fitted → ((path : List ℕ) (m : TypedModule) (c : Component) → module_at (design_of fitted) path ≡ Some m → component_named m c.declaration.name ≡ Some c → are_typed (known_in m) c.declaration.block ≡ true) → (x y : FlatLeaf) → ReadsLeaf (design_of fitted) x y → IsLeafOf (design_of fitted) y }
+    ensures { (fitted : FittedCircuit) → IsWellFormed fitted → (x y : FlatLeaf) → ReadsLeaf (design_of fitted) x y → IsLeafOf (design_of fitted) y }
+{}
+
+/// And so is what the edge takes: of leaves of the run alone the next state is made.
+pub fn edges_take_leaves()
+    ensures { (fitted : FittedCircuit) → IsWellFormed fitted → TakesLeaves (design_of fitted) }
+{}
+
+/// The leaves of its run are finitely many.
+pub fn leaves_are_finitely_many()
+    ensures { (fitted : FittedCircuit) → IsWellFormed fitted → (all : List FlatLeaf) × HasLeaves (design_of fitted) all }
+{}
+
+/// A well formed circuit without a loop has at most one trace from a state under given inputs.
+pub fn circuits_have_one_trace()
+    ensures { (fitted : FittedCircuit) → IsWellFormed fitted → HasNoLoop (design_of fitted) → (state : State) (given : List Inputs) (rows other : List (List ℤ)) → Trace (design_of fitted) state given rows → Trace (design_of fitted) state given other → rows ≡ other }
 {}
 
 /// What the statements of a well typed block leave in a leaf has the leaf's kind and width, where no other leaf of the component has its

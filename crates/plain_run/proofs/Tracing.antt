@@ -16,7 +16,7 @@ use Rattle.fir_meaning.specs.Components.{Design, TypedModule, Component, Leaf, S
 use Rattle.fir_meaning.specs.Values.{Valuation, scene_of, seen_through}
 use Rattle.fir_meaning.specs.States as trace
 use Rattle.fir_meaning.specs.States.{State, Inputs, Settled, Stands, Trace, next, row, watched, watched_of, watched_of_component, seen, leaf_of, is_port, is_source, is_register, is_driven}
-use Rattle.fir_meaning.specs.WellTyped.{known_in, are_typed}
+use Rattle.fir_meaning.specs.WellTyped.{known_in}
 use Rattle.fir_meaning.proofs.Ports.{component_found, one_later, from_map, from_flat_map}
 use Rattle.fir_meaning.proofs.Settling.{port_target}
 use Rattle.fir_meaning.proofs.Tracking.{some_same}
@@ -26,6 +26,7 @@ use Rattle.circuit_laws.proofs.Reached.{known_module}
 use Rattle.drive_check.proofs.Telling.{contains_get}
 use Rattle.sweep_runs.specs.Runs.{Watched, value_of, row_of, Runs, ended, cycle}
 use Rattle.plain_run.specs.Leaves.{leaf_of_main, sinks_of_port, sinks_of, sinks}
+use Rattle.leaf_reads.proofs.Typing.{block_typed_there}
 use Rattle.leaf_reads.proofs.Driven.{IsFit, block_fits, from_filter}
 
 both_true : (p q : Bool) → (p && q) ≡ true → (p ≡ true) × (q ≡ true)
@@ -82,8 +83,7 @@ each_is : (rho : Valuation) (ws : List Watched) → ((w : Watched) → Contains 
 each_is rho [] h = refl
 each_is rho (w ∷ ws) h = ap₂ (λ x xs. x ∷ xs) (h w (0, omega arith, refl)) (each_is rho ws (λ v c. h v (one_later w ws v c)))
 
-module _ (fitted : Fitted) (well : IsWellFormed fitted)
-    (blocks : (path : List ℕ) (m : TypedModule) (c : Component) → module_at (design_of fitted) path ≡ Some m → component_named m c.declaration.name ≡ Some c → are_typed (known_in m) c.declaration.block ≡ true) where
+module _ (fitted : Fitted) (well : IsWellFormed fitted) where
   abbrev design : Design
   design = design_of fitted
 
@@ -105,7 +105,7 @@ module _ (fitted : Fitted) (well : IsWellFormed fitted)
 
     driven_fits : (s : State) (given : Inputs) (rho : Valuation) → Settled design s given rho → is_driven c part ≡ true → IsFit part (seen m path rho c part)
     driven_fits s given rho settled driven =
-        block_fits (known_in m) (scene_of m path rho) fits_known (leaf_of c part) part one_leaf c.declaration.block (blocks path m c stands.reached stands.declared) (seen m path rho c part)
+        block_fits (known_in m) (scene_of m path rho) fits_known (leaf_of c part) part one_leaf c.declaration.block (block_typed_there fitted well path m c stands.reached stands.declared) (seen m path rho c part)
         (settled.driven path m c part stands driven)
 
   module _ (s : State) (given : Inputs) (rho : Valuation) (settled : Settled design s given rho) where

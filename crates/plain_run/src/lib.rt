@@ -2,6 +2,7 @@
 //! Keeps the contract that its rows are those of a run of the circuit, each of a settled valuation.
 #![tactic(auto)]
 
+pub mod laws;
 pub mod leaves;
 pub mod running;
 pub mod settling;

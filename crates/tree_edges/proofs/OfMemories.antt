@@ -20,7 +20,7 @@ use Rattle.fir_meaning.specs.States.{State, taken}
 use Rattle.fir_meaning.proofs.Settling.{read_contents}
 use Rattle.tree_drives.specs.Contents.{contents_of, stored_leaves, inner_leaf}
 use Rattle.tree_sites.specs.declared.declarations.Sort.TheVariants as sort
-use Rattle.tree_sites.specs.Typed.{is_named}
+use Rattle.leaf_reads.specs.Typed.{is_named}
 use Rattle.tree_sites.specs.Layouts.{Located}
 use Rattle.tree_sweep.specs.declared.run.Run.{Run}
 use Rattle.tree_sweep.specs.declared.run.Part.{Part}

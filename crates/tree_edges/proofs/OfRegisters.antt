@@ -11,7 +11,7 @@ use Rattle.tree_values.specs.Sites.{valuation_of, known_at}
 use Rattle.tree_drives.specs.declared.register.Reset.{Reset}
 use Rattle.tree_drives.specs.declared.register.Register.{Register}
 use Rattle.tree_drives.specs.Registers.{is_typed_reset, sort_by_reset, sort_of}
-use Rattle.tree_sites.specs.Typed.{is_typed_sort}
+use Rattle.leaf_reads.specs.Typed.{is_typed_sort}
 use Rattle.tree_sites.specs.Layouts.{Located}
 use Rattle.tree_sweep.specs.declared.run.Run.{Run}
 use Rattle.tree_sweep.specs.declared.run.Part.{Part}

@@ -5,5 +5,4 @@ pub mod Modules
 pub mod Placing
 pub mod Laying
 pub mod Seeing
-pub mod Typing
 pub mod Valuing

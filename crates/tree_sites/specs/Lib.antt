@@ -1,6 +1,5 @@
 -- declarations as they are held, with their types
 pub mod Held
-pub mod Typed
 pub mod Parts
 -- lists in which nothing stands twice
 pub mod Apart

@@ -19,7 +19,7 @@ ghost use Rattle.tree_values.specs.Sites.{site_at, valuation_of, scene_at, known
 ghost use Rattle.tree_sites.specs.declared.declarations.Declaration.{Declaration as ADeclaration};
 ghost use Rattle.tree_sites.specs.Layouts.{Located, IsLocated, AreAll, IsLayout, site_with, site_of, all_flat};
 ghost use Rattle.tree_sites.specs.Parts.{bare};
-ghost use Rattle.tree_sites.specs.Typed.{is_typed_declaration};
+ghost use Rattle.leaf_reads.specs.Typed.{is_typed_declaration};
 
 /// The first component of a name at a path is the one that the circuit has there.
 pub fn layouts_find_components()

@@ -22,7 +22,7 @@ use Rattle.tree_sites.specs.declared.declarations.Sort.{Sort}
 use Rattle.tree_sites.specs.declared.declarations.Sort.TheVariants as sort
 use Rattle.tree_sites.specs.Held.{held_sort}
 use Rattle.tree_sites.specs.Parts.{bare}
-use Rattle.tree_sites.specs.Typed.{is_named}
+use Rattle.leaf_reads.specs.Typed.{is_named}
 use Rattle.tree_sites.specs.Layouts.{Located, site_with}
 use Rattle.tree_sites.proofs.Seeing.{found_at, located_is}
 use Rattle.tree_sweep.specs.declared.run.Run.{Run}

@@ -18,10 +18,10 @@ use Rattle.tree_values.specs.declared.site.Site.{Site}
 use Rattle.tree_values.specs.Sites.{beside_leaf, integer_or_zero, valuation_of, scene_at, known_at, AreNarrow}
 use Rattle.sweep_laws.specs.Sweeps.{integer_beside}
 use Rattle.tree_sites.specs.Held.{Kept, held_sort}
-use Rattle.tree_sites.specs.Typed.{is_typed_sort, is_named}
+use Rattle.leaf_reads.specs.Typed.{is_typed_sort, is_named}
+use Rattle.leaf_reads.proofs.Typing.{declared_typed}
 use Rattle.tree_sites.specs.Layouts.{Located}
 use Rattle.tree_sites.proofs.Seeing.{and_parts, scene_is, known_is, sites_narrow}
-use Rattle.tree_sites.proofs.Typing.{located_typed}
 use Rattle.tree_sweep.specs.declared.run.Run.{Run}
 use Rattle.tree_sweep.specs.declared.run.Part.{Part}
 use Rattle.tree_sweep.specs.Runs.{IsRun, IsPart, design_in}
@@ -85,7 +85,7 @@ module _ (run : Run) (ok : IsRun run) (x : Located) (part : Part) (is : IsPart (
   typed_there : (are_typed (known_in x.m) x.c.declaration.block ≡ true) × ((is_typed_sort (known_in x.m) x.c.declaration.sort && is_named x.c.declaration.name x.c.declaration.sort) ≡ true)
   typed_there =
       and_parts (are_typed (known_in x.m) x.c.declaration.block) (is_typed_sort (known_in x.m) x.c.declaration.sort && is_named x.c.declaration.name x.c.declaration.sort)
-      (located_typed run.fitted.now ok.well x is.located)
+      (declared_typed run.fitted.now ok.well x.path x.m x.c is.located.reached is.located.declared)
 
   sort_there : (is_typed_sort (known_in x.m) x.c.declaration.sort ≡ true) × (is_named x.c.declaration.name x.c.declaration.sort ≡ true)
   sort_there = and_parts (is_typed_sort (known_in x.m) x.c.declaration.sort) (is_named x.c.declaration.name x.c.declaration.sort) typed_there.1

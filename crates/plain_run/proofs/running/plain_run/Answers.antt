@@ -8,7 +8,6 @@ use Rattle.sweep_runs.specs.Runs.{Runs}
 use Rattle.tree_sites.specs.Layouts.{IsLayout}
 use Rattle.tree_sweep.specs.Given.{given_by, inputs_in}
 use Rattle.plain_run.specs.Leaves.{leaf_held, port_leaves}
-use Rattle.plain_run.proofs.AllLeaves.{block_there}
 use Rattle.plain_run.proofs.Leading.{run_of}
 use Rattle.plain_run.proofs.Tracing.{runs_trace}
 use Rattle.plain_run.proofs.running.plain_run.Goals as goal
@@ -37,7 +36,7 @@ returns-clause-traced c = λ same.
     let main = c.in_ok-inputs in
     let inputs = map (given_by (inputs_in design)) c.args.rows.now in
     IfOk-weaker c.run_for.result _ _
-    (λ (outputs : List (List Value)) h. runs_trace fitted c.requires.well (block_there fitted c.requires.well) first_state inputs
+    (λ (outputs : List (List Value)) h. runs_trace fitted c.requires.well first_state inputs
     (subst (λ ws. Runs design ws first_state inputs outputs) same
     (run_of design (map leaf_of_key c.as_slice-3.result.now) (inputs_in design) (map leaf_held main.field-0.ports) (port_leaves design) c.args.watch.now c.as_slice-4.result.now c.args.rows.now outputs
     (ap (map leaf_of_key) c.as_slice-3.ensures ∙ main.ensures.inputs) main.ensures.ports c.as_slice-4.ensures h)))

@@ -1,5 +1,5 @@
-use Rattle.tree_sites.proofs.Typing.{located_typed}
+use Rattle.leaf_reads.proofs.Typing.{declared_typed}
 use Rattle.tree_sites.proofs.laws.declarations_are_typed.Goals as goal
 
 pub returns : goal.returns
-returns c = λ fitted well x is. located_typed fitted well x is
+returns c = λ fitted well x is. declared_typed fitted well x.path x.m x.c is.reached is.declared

@@ -1,5 +1,5 @@
 -- In a well typed body the block of each declaration is well typed, and so are the expressions in what it makes.
-use Rattle.std.proofs.Common.{◌≡◌, zero, suc, ◌==◌, eq-eqb, Bool, true, false, ◌&&◌, List, [], ◌∷◌, ◌++◌, map, refl, sym, ap, ap₂, ◌∙◌, subst, arith, true≢false}
+use Rattle.std.proofs.Common.{◌≡◌, ℕ, zero, suc, ◌==◌, eq-eqb, Bool, true, false, ◌&&◌, List, [], ◌∷◌, ◌++◌, map, Some, refl, sym, ap, ap₂, ◌∙◌, subst, arith, true≢false}
 use Rattle.std.specs.Prelude.{Contains}
 use Rattle.std.specs.List.{flat_map, list_all}
 use Rattle.std.proofs.lemmas.List.Concat.{flat_map-cons}
@@ -12,18 +12,16 @@ use Rattle.fir_tree.specs.declared.stmt.Stmt.TheOpen.{Stmt-F, Arm-F}
 use Rattle.fir_tree.specs.declared.stmt.Stmt.TheFolds.{map-Stmt, map-Arm, fold-roll-Stmt, fold-roll-Arm}
 use Rattle.fir_tree.specs.declared.stmt.Stmt.TheViews.{roll-Stmt, roll-Arm}
 use Rattle.fir_tree.specs.declared.scope.Fitted.{Fitted}
-use Rattle.fir_meaning.specs.Components.{Component, design_of, Declaration, Told, ToldArm, told, of_told, of_told_arm, declared_from, declared_in_block, declarations_of, declared_by_port}
+use Rattle.fir_meaning.specs.Components.{TypedModule, Component, design_of, module_at, component_named, Declaration, Told, ToldArm, told, of_told, of_told_arm, declared_from, declared_in_block, declarations_of, declared_by_port}
 use Rattle.fir_meaning.specs.WellTyped as kinds
 use Rattle.fir_meaning.specs.WellTyped.{Known, known_in, is_typed_stmt, are_typed}
 use Rattle.fir_meaning.proofs.Ports.{component_found}
 use Rattle.fir_meaning.proofs.Tracking.{Contains-map}
 use Rattle.circuit_laws.specs.WellFormed.{IsWellFormed}
 use Rattle.circuit_laws.proofs.Reached.{known_module}
-use Rattle.tree_sites.specs.Layouts.{Located, IsLocated}
-use Rattle.tree_sites.specs.Typed.{is_typed_declaration}
-use Rattle.tree_sites.proofs.Telling.{itself_in}
+use Rattle.leaf_reads.specs.Typed.{is_typed_sort, is_named, is_typed_declaration}
 
-both_true : (p q : Bool) → (p && q) ≡ true → (p ≡ true) × (q ≡ true)
+pub both_true : (p q : Bool) → (p && q) ≡ true → (p ≡ true) × (q ≡ true)
 both_true true q e = (refl, e)
 both_true false q e = absurd (true≢false (sym e))
 
@@ -32,8 +30,54 @@ all_at p [] h x (k, below, is) = absurd (omega arith)
 all_at p (y ∷ xs) h x (zero, below, is) = ap p (sym is) ∙ (both_true (p y) (list_all p xs) h).0
 all_at p (y ∷ xs) h x (suc k, below, is) = all_at p xs (both_true (p y) (list_all p xs) h).1 x (k, omega (arith, below), is)
 
+-- The statements that declare are those of the text.
+
 abbrev told_arm : Arm → ToldArm
 told_arm = fold-Arm Told ToldArm of_told of_told_arm
+
+abbrev IsTold : Stmt → Type 0
+IsTold s = (told s).itself ≡ s
+
+abbrev ArmIsTold : Arm → Type 0
+ArmIsTold a = (told_arm a).itself ≡ a
+
+told_at : (z : Stmt-F Stmt Arm) → (of_told (map-Stmt Stmt Arm Told ToldArm told told_arm z)).itself ≡ roll-Stmt z → IsTold (roll-Stmt z)
+told_at z h = ap (λ (t : Told). t.itself) (fold-roll-Stmt Told ToldArm of_told of_told_arm z) ∙ h
+
+each_told : (ps : List ((s : Stmt) × IsTold s)) → map (λ t. t.itself) (map told (map (λ e. e.0) ps)) ≡ map (λ e. e.0) ps
+each_told [] = refl
+each_told (p ∷ ps) = ap₂ (λ (s : Stmt) (ss : List Stmt). s ∷ ss) p.1 (each_told ps)
+
+arms_told : (ps : List ((a : Arm) × ArmIsTold a)) → map (λ t. t.itself) (map told_arm (map (λ e. e.0) ps)) ≡ map (λ e. e.0) ps
+arms_told [] = refl
+arms_told (p ∷ ps) = ap₂ (λ (a : Arm) (rest : List Arm). a ∷ rest) p.1 (arms_told ps)
+
+told_case : (y : Stmt-F ((s : Stmt) × IsTold s) ((a : Arm) × ArmIsTold a)) → IsTold (roll-Stmt (map-Stmt _ _ Stmt Arm (λ e. e.0) (λ e. e.0) y))
+told_case (Stmt-F.Wire name typ) = told_at (Stmt-F.Wire name typ) refl
+told_case (Stmt-F.Reg name typ clock) = told_at (Stmt-F.Reg name typ clock) refl
+told_case (Stmt-F.RegReset name typ clock reset init) = told_at (Stmt-F.RegReset name typ clock reset init) refl
+told_case (Stmt-F.Mem memory) = told_at (Stmt-F.Mem memory) refl
+told_case (Stmt-F.Inst name target) = told_at (Stmt-F.Inst name target) refl
+told_case (Stmt-F.Node name expr) = told_at (Stmt-F.Node name expr) refl
+told_case (Stmt-F.Connect left right) = told_at (Stmt-F.Connect left right) refl
+told_case (Stmt-F.Invalidate target) = told_at (Stmt-F.Invalidate target) refl
+told_case (Stmt-F.Skip place) = told_at (Stmt-F.Skip place) refl
+told_case (Stmt-F.When arms other) = told_at (Stmt-F.When (map (λ e. e.0) arms) (map (λ e. e.0) other))
+    (ap₂ (λ (x : List Arm) (y : List Stmt). roll-Stmt (Stmt-F.When x y)) (arms_told arms) (each_told other))
+
+told_arm_case : (y : Arm-F ((s : Stmt) × IsTold s) ((a : Arm) × ArmIsTold a)) → ArmIsTold (roll-Arm (map-Arm _ _ Stmt Arm (λ e. e.0) (λ e. e.0) y))
+told_arm_case y =
+    ap (λ (t : ToldArm). t.itself) (fold-roll-Arm Told ToldArm of_told of_told_arm (record { condition = y.condition; body = map (λ e. e.0) y.body }))
+    ∙ ap (λ (b : List Stmt). roll-Arm (record { condition = y.condition; body = b })) (each_told y.body)
+
+itself : (s : Stmt) → IsTold s
+itself = ind-Stmt IsTold ArmIsTold (λ x y is. subst (λ z. IsTold (roll-Stmt z)) is (told_case y)) (λ x y is. subst (λ z. ArmIsTold (roll-Arm z)) is (told_arm_case y))
+
+itself_in : (ss : List Stmt) → map (λ t. t.itself) (map told ss) ≡ ss
+itself_in [] = refl
+itself_in (s ∷ ss) = ap₂ (λ (x : Stmt) (xs : List Stmt). x ∷ xs) (itself s) (itself_in ss)
+
+-- What they declare is well typed.
 
 module _ (known : Known) where
   abbrev all_typed : List Declaration → Bool
@@ -138,9 +182,24 @@ module _ (known : Known) where
       all_at (is_typed_declaration known) (declarations_of holder)
       (together (map (declared_by_port holder.body) holder.ports) (declared_in_block (map told holder.body)) (ports_typed holder.body h holder.ports) (body_typed holder.body h))
 
-pub located_typed : (fitted : Fitted) → IsWellFormed fitted → (x : Located) → IsLocated (design_of fitted) x → is_typed_declaration (known_in x.m) x.c.declaration ≡ true
-located_typed fitted well x is =
-    let its = known_module fitted well x.path x.m is.reached in
-    let among = (component_found x.m x.c.declaration.name x.c is.declared).1 in
-    declarations_typed (known_in x.m) its.holder its.typed.statements x.c.declaration
-    (subst (λ ds. Contains ds x.c.declaration) its.typed.components (Contains-map (λ (c : Component). c.declaration) x.m.components x.c among))
+-- So it is in a well formed circuit.
+pub declared_typed : (fitted : Fitted) → IsWellFormed fitted → (path : List ℕ) (m : TypedModule) (c : Component) → module_at (design_of fitted) path ≡ Some m → component_named m c.declaration.name ≡ Some c
+    → is_typed_declaration (known_in m) c.declaration ≡ true
+declared_typed fitted well path m c at named =
+    let its = known_module fitted well path m at in
+    let among = (component_found m c.declaration.name c named).1 in
+    declarations_typed (known_in m) its.holder its.typed.statements c.declaration
+    (subst (λ ds. Contains ds c.declaration) its.typed.components (Contains-map (λ (x : Component). x.declaration) m.components c among))
+
+-- the block of a component
+pub block_typed_there : (fitted : Fitted) → IsWellFormed fitted → (path : List ℕ) (m : TypedModule) (c : Component) → module_at (design_of fitted) path ≡ Some m → component_named m c.declaration.name ≡ Some c
+    → are_typed (known_in m) c.declaration.block ≡ true
+block_typed_there fitted well path m c at named =
+    (both_true (are_typed (known_in m) c.declaration.block) (is_typed_sort (known_in m) c.declaration.sort && is_named c.declaration.name c.declaration.sort) (declared_typed fitted well path m c at named)).0
+
+-- what it makes
+pub sort_typed_there : (fitted : Fitted) → IsWellFormed fitted → (path : List ℕ) (m : TypedModule) (c : Component) → module_at (design_of fitted) path ≡ Some m → component_named m c.declaration.name ≡ Some c
+    → is_typed_sort (known_in m) c.declaration.sort ≡ true
+sort_typed_there fitted well path m c at named =
+    (both_true (is_typed_sort (known_in m) c.declaration.sort) (is_named c.declaration.name c.declaration.sort)
+    (both_true (are_typed (known_in m) c.declaration.block) (is_typed_sort (known_in m) c.declaration.sort && is_named c.declaration.name c.declaration.sort) (declared_typed fitted well path m c at named)).1).0
