@@ -1,6 +1,6 @@
 //! The whole run.
 
-ghost use Rattle.std.specs.Prelude.{◌≡◌, ℕ, List, Err, OnOk, OnErr, take};
+ghost use Rattle.std.specs.Prelude.{◌≡◌, ◌≢◌, ℕ, List, Err, OnOk, OnErr, take};
 ghost use Rattle.shelf_io.specs.Outside.{Appends, Rose};
 ghost use Rattle.leaf_names.specs.LeafNames.{Texts};
 ghost use Rattle.fir_meaning.specs.Components.{Design};
@@ -49,6 +49,7 @@ pub fn simulate<K: Sink>(
         × (OnOk result (Appends (K.written sink.old) (K.written sink.new) bytes))
         × (OnErr result ((n : ℕ) × Appends (K.written sink.old) (K.written sink.new) (take n bytes))) }
     ensures rose { result ≡ Err RunFault.WriteFault → Rose (K.faults sink.old) (K.faults sink.new) }
+    ensures spared { result ≢ Err RunFault.WriteFault → K.faults sink.new ≡ K.faults sink.old }
 {
     let names = names_of(alloc, ports.watched.as_slice())?;
     let head = header(alloc, &names)?;
@@ -75,6 +76,7 @@ fn write_cycles<K: Sink>(
         × (OnOk result (Appends (K.written sink.old) (K.written sink.new) bytes))
         × (OnErr result ((n : ℕ) × Appends (K.written sink.old) (K.written sink.new) (take n bytes))) }
     ensures rose { result ≡ Err RunFault.WriteFault → Rose (K.faults sink.old) (K.faults sink.new) }
+    ensures spared { result ≢ Err RunFault.WriteFault → K.faults sink.new ≡ K.faults sink.old }
 {
     let cycles = plan.stimulus.cycles;
     let mut kept = kept;

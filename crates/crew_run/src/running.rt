@@ -1,6 +1,6 @@
 //! The whole run.
 
-ghost use Rattle.std.specs.Prelude.{◌≡◌, ℕ, ◌≤◌, List as Listed, map, Err, IfOk, OnOk, OnErr, take};
+ghost use Rattle.std.specs.Prelude.{◌≡◌, ◌≢◌, ℕ, ◌≤◌, List as Listed, map, Err, IfOk, OnOk, OnErr, take};
 ghost use Rattle.shelf_io.specs.Outside.{Appends, Rose};
 ghost use Rattle.leaf_names.specs.LeafNames.{Texts};
 ghost use Rattle.fir_meaning.specs.Components.{Design};
@@ -54,6 +54,7 @@ pub fn simulate<R: Threads + Wait + Sync, G: Gate + Sync, K: Sink>(
         × (OnOk result (Appends (K.written sink.old) (K.written sink.new) bytes))
         × (OnErr result ((n : ℕ) × Appends (K.written sink.old) (K.written sink.new) (take n bytes))) }
     ensures rose { result ≡ Err WriteFault → Rose (K.faults sink.old) (K.faults sink.new) }
+    ensures spared { result ≢ Err WriteFault → K.faults sink.new ≡ K.faults sink.old }
     ensures closed { IfOk result (λ tables. AreTables plan.now.ordered.now plan.now.stimulus.now plan.now.workers tables) }
 {
     let names = names_of(alloc, plan.ports.watched.as_slice())?;
@@ -86,6 +87,7 @@ fn write_epochs<R: Threads + Wait + Sync, G: Gate + Sync, K: Sink>(
         × (OnOk result (Appends (K.written sink.old) (K.written sink.new) bytes))
         × (OnErr result ((n : ℕ) × Appends (K.written sink.old) (K.written sink.new) (take n bytes))) }
     ensures rose { result ≡ Err WriteFault → Rose (K.faults sink.old) (K.faults sink.new) }
+    ensures spared { result ≢ Err WriteFault → K.faults sink.new ≡ K.faults sink.old }
     ensures closed { (it : OneCut) → AreCodesOfCut crew.now.plan.now.ordered.now crew.now.plan.now.workers crew.now.codes it
         → IfOk result (λ tables. AreEpochs crew.now.plan.now.ordered.now.net crew.now.plan.now.stimulus.now it.parts 0 (map closed_script tables) crew.now.plan.now.stimulus.now.cycles) }
 {

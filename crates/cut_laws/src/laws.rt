@@ -38,7 +38,7 @@ pub fn components_stand_once()
     ensures { (fitted : FittedCircuit) → IsWellFormed fitted → (main : TypedModule) → module_named (design_of fitted) (design_of fitted).main ≡ Some main → (placed : List Placed) → InFlatOrder (design_of fitted) [] main main.components placed → StandOnce placed }
 {}
 
-/// A well formed circuit that a net serves has one cut.
+/// A well formed circuit has at most one cut.
 pub fn cuts_of_a_well_formed_circuit_are_one()
-    ensures { (texts : Texts) (fitted : FittedCircuit) (net : TheNet) → IsWellFormed fitted → Serves texts (design_of fitted) net → (workers : ℕ) (bytes other : List ℕ) → IsCutText texts (design_of fitted) workers bytes → IsCutText texts (design_of fitted) workers other → bytes ≡ other }
+    ensures { (texts : Texts) (fitted : FittedCircuit) → IsWellFormed fitted → (workers : ℕ) (bytes other : List ℕ) → IsCutText texts (design_of fitted) workers bytes → IsCutText texts (design_of fitted) workers other → bytes ≡ other }
 {}

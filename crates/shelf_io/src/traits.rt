@@ -66,6 +66,7 @@ pub trait Sink {
         ensures appended { IfOk result (λ n. Appends (written self.old) (written self.new) (take n bytes.now)) }
         ensures unwritten { OnErr result (written self.new ≡ written self.old) }
         ensures rose { OnErr result (Rose (faults self.old) (faults self.new)) }
+        ensures no_fault { OnOk result (faults self.new ≡ faults self.old) }
         ensures never_falls { faults self.old ≤ faults self.new };
 }
 
@@ -74,6 +75,7 @@ pub fn put_all<K: Sink>(sink: &mut K, bytes: &[u8]) -> Result<(), SinkFailed>
     ensures all { OnOk result (Appends (K.written sink.old) (K.written sink.new) bytes.now) }
     ensures prefix { OnErr result ((n : ℕ) × Appends (K.written sink.old) (K.written sink.new) (take n bytes.now)) }
     ensures rose { OnErr result (Rose (K.faults sink.old) (K.faults sink.new)) }
+    ensures no_fault { OnOk result (K.faults sink.new ≡ K.faults sink.old) }
     ensures never_falls { K.faults sink.old ≤ K.faults sink.new }
 {
     let mut done = 0;

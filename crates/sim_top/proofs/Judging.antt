@@ -20,54 +20,30 @@ use Rattle.sim_engine.specs.Faults.{fault_place}
 use Rattle.sim_engine.specs.declared.compile.Built.{Built}
 use Rattle.sim_engine.specs.declared.fault.CircuitFault.{CircuitFault}
 use Rattle.sim_engine.specs.declared.fault.CircuitFault.TheVariants.{NoMemory}
-use Rattle.sim_engine.proofs.Once.{no_fault}
 use Rattle.sim_top.specs.declared.words.Command.{Command}
 use Rattle.sim_top.specs.declared.words.Command.TheVariants.{Run, Check, Widths, Cut}
 use Rattle.sim_top.specs.declared.texts.WholeFault.TheVariants.{TooLong, NoStimulus}
 use Rattle.sim_top.specs.declared.judge.Decision.{Decision}
 use Rattle.sim_top.specs.declared.judge.Decision.TheVariants as decision
 use Rattle.sim_top.specs.Texts.{HasNone, IsPart, joined_limit, stimulus_limit}
-use Rattle.sim_top.specs.Answers.{fault_bytes, whole_bytes, stimulus_bytes, whole_stimulus_bytes, Runs, stimulus_too_long, stimulus_refused, traced, refused, accepted, listed, divided, ran, no_stimulus, circuit_too_long, taken, IsServed, SettlesTexts, Settles}
+use Rattle.sim_top.specs.Answers.{fault_bytes, whole_bytes, stimulus_bytes, whole_stimulus_bytes, Runs, stimulus_too_long, stimulus_refused, traced, JudgesTexts, refused, accepted, listed, divided, ran, Judges, no_stimulus, circuit_too_long, taken}
 use Rattle.sim_top.specs.Endings.{Gives}
-use Rattle.sim_top.proofs.Splitting.{part_once, run_has_line}
-
--- a net serves what was built, and nothing is to be served where there is a fault, or no run
-built_serves : (command : Command) (text : List ℕ) (built : Built) → IsBuilt text built → IsServed command text
-built_serves command text built b takes fitted a = (built, b)
-
-faulty_served : (command : Command) (text : List ℕ) (fault : CircuitFault) → IsFirstFault text fault → IsServed command text
-faulty_served command text fault f takes fitted a = absurd (no_fault text fault fitted f a)
 
 -- the parts of a joined text, the circuit's within its limit
-settled_part : (command : Command) (joined circuit stimulus : List ℕ) → length joined ≤ joined_limit → IsPart command joined circuit stimulus → length circuit ≤ circuit_limit
-    → (status : ℕ) (bytes : List ℕ) → SettlesTexts command circuit stimulus status bytes → Settles command joined status bytes
-settled_part command joined circuit stimulus within part short status bytes s = record {
-  judges = taken command joined circuit stimulus status bytes (record { within = within; part = part; short = short }) s.judges;
-  served = λ other more t. subst (λ x. IsServed command x) (part_once command joined circuit stimulus other more part t.part).0 s.served;
-}
-
 pub gives_part : (command : Command) (joined circuit stimulus : List ℕ) (d : Decision) → length joined ≤ joined_limit → IsPart command joined circuit stimulus
-    → length circuit ≤ circuit_limit → Gives (SettlesTexts command circuit stimulus) d → Gives (Settles command joined) d
-gives_part command joined circuit stimulus (decision.Say reply) within part short s = settled_part command joined circuit stimulus within part short _ _ s
-gives_part command joined circuit stimulus (decision.Run built settings) within part short s =
-    λ bytes t. settled_part command joined circuit stimulus within part short _ _ (s bytes t)
+    → length circuit ≤ circuit_limit → Gives (JudgesTexts command circuit stimulus) d → Gives (Judges command joined) d
+gives_part command joined circuit stimulus (decision.Say reply) within part short j =
+    taken command joined circuit stimulus _ _ (record { within = within; part = part; short = short }) j
+gives_part command joined circuit stimulus (decision.Run built settings) within part short j =
+    λ bytes t. taken command joined circuit stimulus _ _ (record { within = within; part = part; short = short }) (j bytes t)
 
 pub long_part : (command : Command) (joined circuit stimulus : List ℕ) → length joined ≤ joined_limit → IsPart command joined circuit stimulus → circuit_limit < length circuit
-    → (status : ℕ) (bytes : List ℕ) → status ≡ 2 → bytes ≡ whole_bytes TooLong first_place → Settles command joined status bytes
-long_part command joined circuit stimulus within part long status bytes two e = rw (two, e) (record {
-  judges = circuit_too_long command joined circuit stimulus within part long;
-  served = λ other more t.
-      let same = (part_once command joined circuit stimulus other more part t.part).0 in
-      let short = t.short in
-      let counted : length circuit ≡ length other = ap length same in absurd (omega (arith, long, short, counted));
-})
+    → (status : ℕ) (bytes : List ℕ) → status ≡ 2 → bytes ≡ whole_bytes TooLong first_place → Judges command joined status bytes
+long_part command joined circuit stimulus within part long status bytes two e = rw (two, e) (circuit_too_long command joined circuit stimulus within part long)
 
 pub lacks_line : (joined : List ℕ) → length joined ≤ joined_limit → HasNone joined → (status : ℕ) (bytes : List ℕ) → status ≡ 2 → bytes ≡ whole_bytes NoStimulus first_place
-    → Settles Run joined status bytes
-lacks_line joined within none status bytes two e = rw (two, e) (record {
-  judges = no_stimulus joined within none;
-  served = λ other more t. absurd (run_has_line joined other more t.part none);
-})
+    → Judges Run joined status bytes
+lacks_line joined within none status bytes two e = rw (two, e) (no_stimulus joined within none)
 
 -- of a run no reply has the status 0
 pub no_trace : (command : Command) (status n : ℕ) → 1 ≤ n → status ≡ n → command ≡ Run → status ≢ 0
@@ -84,36 +60,36 @@ no_run_cut command status workers cut run zero = let e : Cut workers ≡ Run = s
 
 -- a fault that has a place isn't want of memory
 pub refused_from : (command : Command) (text stimulus : List ℕ) (fault : CircuitFault) (place : Place) (status : ℕ) (bytes : List ℕ) → (fault ≡ NoMemory) ⊎ IsFirstFault text fault
-    → fault_place fault ≡ Some place → status ≡ 2 → bytes ≡ fault_bytes fault place → SettlesTexts command text stimulus status bytes
+    → fault_place fault ≡ Some place → status ≡ 2 → bytes ≡ fault_bytes fault place → JudgesTexts command text stimulus status bytes
 refused_from command text stimulus fault place status bytes found at two e = rw (two, e)
     (⊎_elim (λ m. absurd (let n : None ≡ Some place = sym (ap fault_place m) ∙ at in cc))
-    (λ f. record { judges = refused command text stimulus fault place f at; served = faulty_served command text fault f }) found)
+    (λ f. refused command text stimulus fault place f at) found)
 
 -- what `check`, `widths` and `cut` answer to what was built
-pub checked : (text stimulus : List ℕ) (built : Built) (status : ℕ) (bytes : List ℕ) → IsBuilt text built → status ≡ 0 → bytes ≡ codes "ok\n" → SettlesTexts Check text stimulus status bytes
+pub checked : (text stimulus : List ℕ) (built : Built) (status : ℕ) (bytes : List ℕ) → IsBuilt text built → status ≡ 0 → bytes ≡ codes "ok\n" → JudgesTexts Check text stimulus status bytes
 checked text stimulus built status bytes b zero e =
-    rw (zero, e) (record { judges = accepted text stimulus built.fitted b.accepted; served = built_serves Check text built b })
+    rw (zero, e) (accepted text stimulus built.fitted b.accepted)
 
 pub widths : (text stimulus : List ℕ) (built : Built) (status : ℕ) (bytes : List ℕ) → IsBuilt text built → status ≡ 0 → bytes ≡ listing_of built.fitted
-    → SettlesTexts Widths text stimulus status bytes
+    → JudgesTexts Widths text stimulus status bytes
 widths text stimulus built status bytes b zero e =
-    rw (zero, e) (record { judges = listed text stimulus built.fitted b.accepted; served = built_serves Widths text built b })
+    rw (zero, e) (listed text stimulus built.fitted b.accepted)
 
 pub divided_of : (workers : ℕ) (text stimulus : List ℕ) (built : Built) (status : ℕ) (bytes : List ℕ) → IsBuilt text built → status ≡ 0
-    → IsCutText built.fitted.checked.circuit.names (design_of built.fitted) workers bytes → SettlesTexts (Cut workers) text stimulus status bytes
+    → IsCutText built.fitted.checked.circuit.names (design_of built.fitted) workers bytes → JudgesTexts (Cut workers) text stimulus status bytes
 divided_of workers text stimulus built status bytes b zero cuts =
-    rw zero (record { judges = divided workers text stimulus built.fitted bytes b.accepted cuts; served = built_serves (Cut workers) text built b })
+    rw zero (divided workers text stimulus built.fitted bytes b.accepted cuts)
 
 -- a run of what was built
 ran_of : (text stimulus : List ℕ) (built : Built) (status : ℕ) (bytes : List ℕ) → IsBuilt text built
-    → Runs built.fitted.checked.circuit.names (design_of built.fitted) stimulus status bytes → SettlesTexts Run text stimulus status bytes
-ran_of text stimulus built status bytes b r = record { judges = ran text stimulus built.fitted status bytes b.accepted r; served = built_serves Run text built b }
+    → Runs built.fitted.checked.circuit.names (design_of built.fitted) stimulus status bytes → JudgesTexts Run text stimulus status bytes
+ran_of text stimulus built status bytes b r = ran text stimulus built.fitted status bytes b.accepted r
 
 ports_are : (text : List ℕ) (built : Built) → IsBuilt text built → ArePortsOf built.fitted.checked.circuit.names (design_of built.fitted) built.ports
 ports_are text built b = ports_of_circuit built.fitted.checked.circuit.names (design_of built.fitted) built.ordered.net b.ordered.serves built.ports b.inputs b.watched b.names
 
 pub ran_long : (text stimulus : List ℕ) (built : Built) (status : ℕ) (bytes : List ℕ) → IsBuilt text built → stimulus_limit < length stimulus → status ≡ 3
-    → bytes ≡ whole_stimulus_bytes TooLong first_place → SettlesTexts Run text stimulus status bytes
+    → bytes ≡ whole_stimulus_bytes TooLong first_place → JudgesTexts Run text stimulus status bytes
 ran_long text stimulus built status bytes b long three e = rw (three, e) (ran_of text stimulus built _ _ b (stimulus_too_long long))
 
 -- what the reading of the stimulus answered
@@ -122,14 +98,14 @@ IsRead stimulus built watched result = IsVerdict place_of rank_of (IsFault stimu
 
 pub ran_refused : (text stimulus : List ℕ) (built : Built) (watched : ℕ) (fault : StimFault) (place : Place) (status : ℕ) (bytes : List ℕ) → IsBuilt text built
     → length stimulus ≤ stimulus_limit → watched ≡ length built.ports.watched → IsRead stimulus built watched (Err fault) → place_of fault ≡ Some place → status ≡ 3
-    → bytes ≡ stimulus_bytes fault place → SettlesTexts Run text stimulus status bytes
+    → bytes ≡ stimulus_bytes fault place → JudgesTexts Run text stimulus status bytes
 ran_refused text stimulus built watched fault place status bytes b short counted v at three e = rw (three, e)
     (⊎_elim (λ m. absurd (let n : None ≡ Some place = sym m ∙ at in cc))
     (λ f. ran_of text stimulus built _ _ b (stimulus_refused built.ports fault place short (ports_are text built b)
     (subst (λ n. IsFirst place_of rank_of (IsFault stimulus built.ports n) fault) counted f) at)) v.fault)
 
 pub ran_traced : (text stimulus : List ℕ) (built : Built) (watched : ℕ) (settings : Stimulus) → IsBuilt text built → length stimulus ≤ stimulus_limit
-    → watched ≡ length built.ports.watched → IsRead stimulus built watched (Ok settings) → Gives (SettlesTexts Run text stimulus) (decision.Run built settings)
+    → watched ≡ length built.ports.watched → IsRead stimulus built watched (Ok settings) → Gives (JudgesTexts Run text stimulus) (decision.Run built settings)
 ran_traced text stimulus built watched settings b short counted v = λ bytes t.
     ran_of text stimulus built 0 bytes b (traced built.ports settings bytes short (ports_are text built b)
     (subst (λ n. HasNoFault (IsFault stimulus built.ports n)) counted v.none) v.ok t)

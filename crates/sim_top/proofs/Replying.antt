@@ -23,9 +23,9 @@ use Rattle.sim_top.specs.declared.judge.Decision.{Decision}
 use Rattle.sim_top.specs.declared.judge.Decision.TheVariants as decision
 use Rattle.sim_top.specs.Commands.{Question, Of_joined, Of_two, Of_made, asked_by, NeedsFor, the_joined, the_circuit, the_stimulus, Needs}
 use Rattle.sim_top.specs.Texts.{joined_limit}
-use Rattle.sim_top.specs.Answers.{whole_bytes, Runs, stimulus_too_long, stimulus_refused, traced, JudgesTexts, refused, accepted, listed, divided, ran, Judges, joined_too_long, no_stimulus, circuit_too_long, taken, AnswersTo, of_joined, of_long_circuit, of_two, of_made, of_made_refused, Answers, no_command, answered, IsServed, IsServedIn, IsServedFor, SettlesTexts, Settles, SettlesAsked, IsSettled}
+use Rattle.sim_top.specs.Answers.{whole_bytes, Runs, stimulus_too_long, stimulus_refused, traced, JudgesTexts, refused, accepted, listed, divided, ran, Judges, joined_too_long, no_stimulus, circuit_too_long, taken, AnswersTo, of_joined, of_long_circuit, of_two, of_made, of_made_refused, Answers, no_command, answered}
 use Rattle.sim_top.specs.Endings.{Ends, IsSaid, IsRun, IsFaultLine, of_circuit, of_whole, of_stimulus, of_whole_stimulus, IsReply, Gives, IsFor, IsReady, IsRunnable, status_of}
-use Rattle.sim_top.proofs.AnswersOnce.{some_same, no_reading, settled_once}
+use Rattle.sim_top.proofs.AnswersOnce.{some_same, no_reading, answers_once}
 
 -- what a command answers has the status 0, or is a line that names a fault
 abbrev Told : ℕ → List ℕ → Type 0
@@ -69,23 +69,23 @@ reply_few s b reply = ⊎_elim (λ zero. omega arith)
     (λ more. ⊎_elim (λ (u : (s ≡ 1) × (b ≡ codes "usage\n")). let one = u.0 in omega arith) (λ line. (line_status s b line).1) more) reply
 
 -- what is decided for a joined text
-pub ready_decision : (command : Command) (joined : List ℕ) (d : Decision) → Gives (Settles command joined) d → IsFor command d → IsReady d
-ready_decision command joined (decision.Say reply) s run = judged_reply command joined _ _ s.judges
+pub ready_decision : (command : Command) (joined : List ℕ) (d : Decision) → Gives (Judges command joined) d → IsFor command d → IsReady d
+ready_decision command joined (decision.Say reply) s run = judged_reply command joined _ _ s
 ready_decision command joined (decision.Run built settings) s run = run
 
-pub no_usage : (command : Command) (joined : List ℕ) (d : Decision) → Gives (Settles command joined) d → status_of d ≡ 1 → ⊥
-no_usage command joined (decision.Say reply) s one = told_usage _ _ (judged_told command joined _ _ s.judges) one
+pub no_usage : (command : Command) (joined : List ℕ) (d : Decision) → Gives (Judges command joined) d → status_of d ≡ 1 → ⊥
+no_usage command joined (decision.Say reply) s one = told_usage _ _ (judged_told command joined _ _ s) one
 no_usage command joined (decision.Run built settings) s one = cc
 
 texts_ready : (text stimulus : List ℕ) (s : ℕ) (b : List ℕ) → JudgesTexts Run text stimulus s b → IsReply s b
 texts_ready text stimulus s b j = ⊎_elim (λ zero. inl zero) (λ line. inr (inr line)) (texts_told Run text stimulus s b j)
 
-pub ready_texts : (text stimulus : List ℕ) (d : Decision) → Gives (SettlesTexts Run text stimulus) d → IsFor Run d → IsReady d
-ready_texts text stimulus (decision.Say reply) s run = texts_ready text stimulus _ _ s.judges
+pub ready_texts : (text stimulus : List ℕ) (d : Decision) → Gives (JudgesTexts Run text stimulus) d → IsFor Run d → IsReady d
+ready_texts text stimulus (decision.Say reply) s run = texts_ready text stimulus _ _ s
 ready_texts text stimulus (decision.Run built settings) s run = run
 
-pub no_usage_texts : (text stimulus : List ℕ) (d : Decision) → Gives (SettlesTexts Run text stimulus) d → status_of d ≡ 1 → ⊥
-no_usage_texts text stimulus (decision.Say reply) s one = told_usage _ _ (texts_told Run text stimulus _ _ s.judges) one
+pub no_usage_texts : (text stimulus : List ℕ) (d : Decision) → Gives (JudgesTexts Run text stimulus) d → status_of d ≡ 1 → ⊥
+no_usage_texts text stimulus (decision.Say reply) s one = told_usage _ _ (texts_told Run text stimulus _ _ s) one
 no_usage_texts text stimulus (decision.Run built settings) s one = cc
 
 pub usage_ready : (b : List ℕ) → b ≡ codes "usage\n" → IsReply 1 b
@@ -95,97 +95,60 @@ pub whole_ready : (b : List ℕ) (s : ℕ) (fault : WholeFault) → s ≡ 2 → 
 whole_ready b s fault two e = inr (inr (rw (two, e) (of_whole fault first_place)))
 
 -- for what is asked
-of_name : (texts : List ℕ → Option (List ℕ)) (command : Command) (name joined : List ℕ) → texts name ≡ Some joined → (s : ℕ) (b : List ℕ) → Settles command joined s b
-    → SettlesAsked texts (Of_joined command name) s b
-of_name texts command name joined held s b settles = record {
-  answers = of_joined command name joined s b held settles.judges;
-  served = λ text told. subst (λ y. IsServedIn command y) (some_same joined text (sym held ∙ told)) settles.served;
-}
+pub name_answers : (texts : List ℕ → Option (List ℕ)) (command : Command) (name joined : List ℕ) (d : Decision) → texts name ≡ Some joined → Gives (Judges command joined) d
+    → Gives (AnswersTo texts (Of_joined command name)) d
+name_answers texts command name joined (decision.Say reply) held j = of_joined command name joined _ _ held j
+name_answers texts command name joined (decision.Run built settings) held j = λ bytes t. of_joined command name joined _ _ held (j bytes t)
 
-pub settled_name : (texts : List ℕ → Option (List ℕ)) (command : Command) (name joined : List ℕ) (d : Decision) → texts name ≡ Some joined → Gives (Settles command joined) d
-    → Gives (SettlesAsked texts (Of_joined command name)) d
-settled_name texts command name joined (decision.Say reply) held s = of_name texts command name joined held _ _ s
-settled_name texts command name joined (decision.Run built settings) held s = λ bytes t. of_name texts command name joined held _ _ (s bytes t)
+pub long_answers : (texts : List ℕ → Option (List ℕ)) (command : Command) (name joined : List ℕ) (s : ℕ) (b : List ℕ) → texts name ≡ Some joined → joined_limit < length joined
+    → s ≡ 2 → b ≡ whole_bytes TooLong first_place → AnswersTo texts (Of_joined command name) s b
+long_answers texts command name joined s b held long two e = rw (two, e) (of_joined command name joined _ _ held (joined_too_long command joined long))
 
-pub settled_long : (texts : List ℕ → Option (List ℕ)) (command : Command) (name joined : List ℕ) (s : ℕ) (b : List ℕ) → texts name ≡ Some joined → joined_limit < length joined
-    → s ≡ 2 → b ≡ whole_bytes TooLong first_place → SettlesAsked texts (Of_joined command name) s b
-settled_long texts command name joined s b held long two e = rw (two, e) (of_name texts command name joined held _ _ (record {
-  judges = joined_too_long command joined long;
-  served = λ circuit stimulus t. let within = t.within in absurd (omega (arith, long, within));
-}))
+pub texts_answer : (texts : List ℕ → Option (List ℕ)) (circuit stimulus text given : List ℕ) (d : Decision) → texts circuit ≡ Some text → length text ≤ circuit_limit
+    → texts stimulus ≡ Some given → Gives (JudgesTexts Run text given) d → Gives (AnswersTo texts (Of_two circuit stimulus)) d
+texts_answer texts circuit stimulus text given (decision.Say reply) held short told j = of_two circuit stimulus text given _ _ held short told j
+texts_answer texts circuit stimulus text given (decision.Run built settings) held short told j = λ bytes t. of_two circuit stimulus text given _ _ held short told (j bytes t)
 
-of_texts : (texts : List ℕ → Option (List ℕ)) (circuit stimulus text given : List ℕ) → texts circuit ≡ Some text → length text ≤ circuit_limit → texts stimulus ≡ Some given
-    → (s : ℕ) (b : List ℕ) → SettlesTexts Run text given s b → SettlesAsked texts (Of_two circuit stimulus) s b
-of_texts texts circuit stimulus text given held short told s b settles = record {
-  answers = of_two circuit stimulus text given s b held short told settles.judges;
-  served = λ other k m. subst (λ y. IsServed Run y) (some_same text other (sym held ∙ k)) settles.served;
-}
-
-pub settled_texts : (texts : List ℕ → Option (List ℕ)) (circuit stimulus text given : List ℕ) (d : Decision) → texts circuit ≡ Some text → length text ≤ circuit_limit
-    → texts stimulus ≡ Some given → Gives (SettlesTexts Run text given) d → Gives (SettlesAsked texts (Of_two circuit stimulus)) d
-settled_texts texts circuit stimulus text given (decision.Say reply) held short told s = of_texts texts circuit stimulus text given held short told _ _ s
-settled_texts texts circuit stimulus text given (decision.Run built settings) held short told s = λ bytes t. of_texts texts circuit stimulus text given held short told _ _ (s bytes t)
-
-pub settled_circuit : (texts : List ℕ → Option (List ℕ)) (circuit stimulus text : List ℕ) (s : ℕ) (b : List ℕ) → texts circuit ≡ Some text → circuit_limit < length text → s ≡ 2
-    → b ≡ whole_bytes TooLong first_place → SettlesAsked texts (Of_two circuit stimulus) s b
-settled_circuit texts circuit stimulus text s b held long two e = rw (two, e) (record {
-  answers = of_long_circuit circuit stimulus text held long;
-  served = λ other k m. let same : length text ≡ length other = ap length (some_same text other (sym held ∙ k)) in absurd (omega (arith, long, m, same));
-})
-
-made_refused : (texts : List ℕ → Option (List ℕ)) (cycles size s : ℕ) (b : List ℕ) → Settles Run (ring_text size cycles) s b → s ≢ 0 → SettlesAsked texts (Of_made cycles size) s b
-made_refused texts cycles size s b settles n = record { answers = of_made_refused cycles size s b settles.judges n; served = settles.served }
-
-made_told : (texts : List ℕ → Option (List ℕ)) (cycles size : ℕ) (trace b : List ℕ) → Settles Run (ring_text size cycles) 0 trace → IsSummary trace b
-    → SettlesAsked texts (Of_made cycles size) 0 b
-made_told texts cycles size trace b settles sums = record { answers = of_made cycles size trace b settles.judges sums; served = settles.served }
+pub circuit_answers : (texts : List ℕ → Option (List ℕ)) (circuit stimulus text : List ℕ) (s : ℕ) (b : List ℕ) → texts circuit ≡ Some text → circuit_limit < length text → s ≡ 2
+    → b ≡ whole_bytes TooLong first_place → AnswersTo texts (Of_two circuit stimulus) s b
+circuit_answers texts circuit stimulus text s b held long two e = rw (two, e) (of_long_circuit circuit stimulus text held long)
 
 -- what is decided for a text that is made
 abbrev pub IsMade : ℕ → ℕ → Decision → Type 0
-IsMade cycles size d = Gives (Settles Run (ring_text size cycles)) d × IsFor Run d
+IsMade cycles size d = Gives (Judges Run (ring_text size cycles)) d × IsFor Run d
 
-pub made_gives : (cycles size : ℕ) (joined : List ℕ) (d : Decision) → joined ≡ ring_text size cycles → Gives (Settles Run joined) d
-    → Gives (Settles Run (ring_text size cycles)) d
-made_gives cycles size joined d e gives = subst (λ (text : List ℕ). Gives (Settles Run text) d) e gives
+pub made_gives : (cycles size : ℕ) (joined : List ℕ) (d : Decision) → joined ≡ ring_text size cycles → Gives (Judges Run joined) d
+    → Gives (Judges Run (ring_text size cycles)) d
+made_gives cycles size joined d e gives = subst (λ (text : List ℕ). Gives (Judges Run text) d) e gives
 
 pub made_said : (texts : List ℕ → Option (List ℕ)) (cycles size : ℕ) (d : Decision) (reply : Reply) → d ≡ decision.Say reply → IsMade cycles size d
-    → SettlesAsked texts (Of_made cycles size) reply.status reply.bytes.items
+    → AnswersTo texts (Of_made cycles size) reply.status reply.bytes.items
 made_said texts cycles size d reply e made =
-    let said = subst (IsMade cycles size) e made in made_refused texts cycles size _ _ said.0 (said.1 refl)
+    let said = subst (IsMade cycles size) e made in of_made_refused cycles size _ _ said.0 (said.1 refl)
 
 pub made_reply : (cycles size : ℕ) (d : Decision) (reply : Reply) → d ≡ decision.Say reply → IsMade cycles size d → IsReply reply.status reply.bytes.items
 made_reply cycles size d reply e made =
-    let said = subst (IsMade cycles size) e made in judged_reply Run (ring_text size cycles) _ _ said.0.judges
+    let said = subst (IsMade cycles size) e made in judged_reply Run (ring_text size cycles) _ _ said.0
 
 pub made_usage : (cycles size : ℕ) (d : Decision) (reply : Reply) → d ≡ decision.Say reply → IsMade cycles size d → reply.status ≢ 1
 made_usage cycles size d reply e made one =
-    let said = subst (IsMade cycles size) e made in told_usage _ _ (judged_told Run (ring_text size cycles) _ _ said.0.judges) one
+    let said = subst (IsMade cycles size) e made in told_usage _ _ (judged_told Run (ring_text size cycles) _ _ said.0) one
 
 pub made_run : (texts : List ℕ → Option (List ℕ)) (cycles size : ℕ) (d : Decision) (built : Built) (settings : Stimulus) (trace b : List ℕ) (s : ℕ) → d ≡ decision.Run built settings
     → IsMade cycles size d → s ≡ 0 → IsTraceText built.fitted.checked.circuit.names (design_of built.fitted) settings trace → IsSummary trace b
-    → SettlesAsked texts (Of_made cycles size) s b
+    → AnswersTo texts (Of_made cycles size) s b
 made_run texts cycles size d built settings trace b s e made zero told sums =
     let ran = subst (IsMade cycles size) e made in
-    subst (λ (k : ℕ). SettlesAsked texts (Of_made cycles size) k b) (sym zero) (made_told texts cycles size trace b (ran.0 trace told) sums)
+    subst (λ (k : ℕ). AnswersTo texts (Of_made cycles size) k b) (sym zero) (of_made cycles size trace b (ran.0 trace told) sums)
 
 -- and for words
-pub settled_usage : (words : List (List ℕ)) (texts : List ℕ → Option (List ℕ)) (b : List ℕ) → asked_by words ≡ None → b ≡ codes "usage\n" → IsSettled words texts 1 b
-settled_usage words texts b none e = rw e (record {
-  answers = no_command words texts none;
-  served = λ question asked. absurd (no_reading words question none asked);
-})
+pub usage_answers : (words : List (List ℕ)) (texts : List ℕ → Option (List ℕ)) (b : List ℕ) → asked_by words ≡ None → b ≡ codes "usage\n" → Answers words texts 1 b
+usage_answers words texts b none e = rw e (no_command words texts none)
 
-pub of_words : (words : List (List ℕ)) (texts : List ℕ → Option (List ℕ)) (question : Question) → asked_by words ≡ Some question → (s : ℕ) (b : List ℕ) → SettlesAsked texts question s b
-    → IsSettled words texts s b
-of_words words texts question asked s b settles = record {
-  answers = answered words texts question s b asked settles.answers;
-  served = λ other read. subst (λ q. IsServedFor texts q) (some_same question other (sym asked ∙ read)) settles.served;
-}
-
-pub settled_words : (words : List (List ℕ)) (texts : List ℕ → Option (List ℕ)) (question : Question) (d : Decision) → asked_by words ≡ Some question
-    → Gives (SettlesAsked texts question) d → Gives (IsSettled words texts) d
-settled_words words texts question (decision.Say reply) asked s = of_words words texts question asked _ _ s
-settled_words words texts question (decision.Run built settings) asked s = λ bytes t. of_words words texts question asked _ _ (s bytes t)
+pub words_answer : (words : List (List ℕ)) (texts : List ℕ → Option (List ℕ)) (question : Question) (d : Decision) → asked_by words ≡ Some question
+    → Gives (AnswersTo texts question) d → Gives (Answers words texts) d
+words_answer words texts question (decision.Say reply) asked a = answered words texts question _ _ asked a
+words_answer words texts question (decision.Run built settings) asked a = λ bytes t. answered words texts question _ _ asked (a bytes t)
 
 -- what was appended
 appended : (old new : Option (List ℕ)) (before xs : List ℕ) → old ≡ Some before → Appends old new xs → new ≡ Some (before ++ xs)
@@ -193,34 +156,34 @@ appended old new before xs told a = rw (a, told) refl
 
 -- the reply was written, or a prefix of it
 pub ends_said : (words : List (List ℕ)) (texts : List ℕ → Option (List ℕ)) (status result : ℕ) (bytes before : List ℕ) (old new : Option (List ℕ))
-    → IsSettled words texts status bytes → status ≤ 3 → IsSaid result status bytes old new → old ≡ Some before → Ends words texts result before new
-ends_said words texts status result bytes before old new settled few said told =
+    → Answers words texts status bytes → status ≤ 3 → IsSaid result status bytes old new → old ≡ Some before → Ends words texts result before new
+ends_said words texts status result bytes before old new answers few said told =
     let same : result ≢ 5 → result ≡ status = λ n. (said.all n).0 in
     record {
-      answered = λ le. let n : result ≢ 5 = omega arith in (bytes, rw (same n) settled.answers, appended old new before bytes told (said.all n).1);
-      only = λ le other others a. let n : result ≢ 5 = omega arith in let o = settled_once words texts status other bytes others settled a in
+      answered = λ le. let n : result ≢ 5 = omega arith in (bytes, rw (same n) answers, appended old new before bytes told (said.all n).1);
+      only = λ le other others a. let n : result ≢ 5 = omega arith in let o = answers_once words texts status other bytes others answers a in
           (sym o.0 ∙ sym (same n), appended old new before bytes told (said.all n).1 ∙ ap (λ xs. Some (before ++ xs)) o.1);
       shelf_faulted = λ e. let n : result ≢ 5 = omega arith in let s = same n in absurd (omega arith);
-      sink_faulted = λ e. let p = said.part e in (status, bytes, p.0, settled.answers, appended old new before _ told p.1);
+      sink_faulted = λ e. let p = said.part e in (status, bytes, p.0, answers, appended old new before _ told p.1);
       memory_wanted = λ e. let n : result ≢ 5 = omega arith in let s = same n in absurd (omega arith);
       within = ⊎_elim (λ five. omega arith) (λ n. let s = same n in omega arith) (cases_eq result 5);
     }
 
 -- the trace was written, or a prefix of it
 pub ends_run : (words : List (List ℕ)) (texts : List ℕ → Option (List ℕ)) (result : ℕ) (bytes before : List ℕ) (old new : Option (List ℕ))
-    → IsSettled words texts 0 bytes → IsRun result bytes old new → old ≡ Some before → Ends words texts result before new
-ends_run words texts result bytes before old new settled run told = record {
-  answered = λ le. let z = zero le in (bytes, rw z settled.answers, appended old new before bytes told (run.all z));
-  only = λ le other others a. let z = zero le in let o = settled_once words texts 0 other bytes others settled a in
+    → Answers words texts 0 bytes → IsRun result bytes old new → old ≡ Some before → Ends words texts result before new
+ends_run words texts result bytes before old new answers run told = record {
+  answered = λ le. let z = zero le in (bytes, rw z answers, appended old new before bytes told (run.all z));
+  only = λ le other others a. let z = zero le in let o = answers_once words texts 0 other bytes others answers a in
       (sym o.0 ∙ sym z, appended old new before bytes told (run.all z) ∙ ap (λ xs. Some (before ++ xs)) o.1);
   shelf_faulted = λ e. absurd (⊎_elim (λ z. omega (arith, e, z)) (λ more. ⊎_elim (λ five. omega (arith, e, five)) (λ six. omega (arith, e, six)) more) run.status);
-  sink_faulted = λ e. let n : result ≢ 0 = omega (arith, e) in let p = run.part n in (0, bytes, p.0, settled.answers, appended old new before _ told p.1);
+  sink_faulted = λ e. let n : result ≢ 0 = omega (arith, e) in let p = run.part n in (0, bytes, p.0, answers, appended old new before _ told p.1);
   memory_wanted = λ e. let n : result ≢ 0 = omega (arith, e) in let p = run.part n in (
     p.0,
     take p.0 bytes,
     appended old new before _ told p.1,
-    (λ code others a. ap (take p.0) (settled_once words texts 0 code bytes others settled a).1),
-    (λ none. absurd (none 0 bytes settled.answers)),
+    (λ code others a. ap (take p.0) (answers_once words texts 0 code bytes others answers a).1),
+    (λ none. absurd (none 0 bytes answers)),
   );
   within = ⊎_elim (λ z. omega (arith, z)) (λ more. ⊎_elim (λ five. omega (arith, five)) (λ six. omega (arith, six)) more) run.status;
 }
@@ -265,10 +228,10 @@ said_line status result bytes before old new reply said told fault =
     let s = (said.all n).0 in
     (bytes, subst (λ x. IsFaultLine x bytes) (sym s) (fault_bytes_line status bytes reply (subst (λ x. (x ≡ 2) ⊎ (x ≡ 3)) s fault)), appended old new before bytes told (said.all n).1)
 
-pub said_answered : (words : List (List ℕ)) (texts : List ℕ → Option (List ℕ)) (status result : ℕ) (bytes : List ℕ) (old new : Option (List ℕ)) → IsSettled words texts status bytes
+pub said_answered : (words : List (List ℕ)) (texts : List ℕ → Option (List ℕ)) (status result : ℕ) (bytes : List ℕ) (old new : Option (List ℕ)) → Answers words texts status bytes
     → IsSaid result status bytes old new → result ≤ 3 → (others : List ℕ) × Answers words texts result others
-said_answered words texts status result bytes old new settled said few =
-    let n : result ≢ 5 = omega arith in (bytes, subst (λ x. Answers words texts x bytes) (sym (said.all n).0) settled.answers)
+said_answered words texts status result bytes old new answers said few =
+    let n : result ≢ 5 = omega arith in (bytes, subst (λ x. Answers words texts x bytes) (sym (said.all n).0) answers)
 
 -- what a run's status can't be, and what it may be
 pub run_other : (result other : ℕ) (bytes : List ℕ) (old new : Option (List ℕ)) → IsRun result bytes old new → 1 ≤ other → other ≤ 4 → result ≡ other → ⊥
@@ -278,9 +241,9 @@ run_other result other bytes old new run least most e =
 pub run_few : (result : ℕ) (bytes : List ℕ) (old new : Option (List ℕ)) → IsRun result bytes old new → result ≤ 6
 run_few result bytes old new run = ⊎_elim (λ z. omega (arith, z)) (λ more. ⊎_elim (λ five. omega (arith, five)) (λ six. omega (arith, six)) more) run.status
 
-pub run_answered : (words : List (List ℕ)) (texts : List ℕ → Option (List ℕ)) (result : ℕ) (bytes : List ℕ) (old new : Option (List ℕ)) → IsSettled words texts 0 bytes
+pub run_answered : (words : List (List ℕ)) (texts : List ℕ → Option (List ℕ)) (result : ℕ) (bytes : List ℕ) (old new : Option (List ℕ)) → Answers words texts 0 bytes
     → IsRun result bytes old new → result ≤ 3 → (others : List ℕ) × Answers words texts result others
-run_answered words texts result bytes old new settled run few = (bytes, subst (λ x. Answers words texts x bytes) (sym zero) settled.answers)
+run_answered words texts result bytes old new answers run few = (bytes, subst (λ x. Answers words texts x bytes) (sym zero) answers)
   where
     zero : result ≡ 0
     zero = ⊎_elim (λ z. z) (λ more. ⊎_elim (λ five. absurd (omega (arith, few, five))) (λ six. absurd (omega (arith, few, six))) more) run.status

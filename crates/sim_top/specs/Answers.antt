@@ -1,5 +1,5 @@
 -- What the program is to answer: a status and the bytes that are written.
-use Rattle.std.specs.Prelude.{◌≡◌, ◌≢◌, ℕ, ◌<◌, ◌≤◌, Bool, true, false, List, length, Option, Some, None, codes}
+use Rattle.std.specs.Prelude.{◌≡◌, ◌≢◌, ℕ, ◌<◌, ◌≤◌, List, length, Option, Some, None, codes}
 use Rattle.place_text.specs.Places.{fault_line_bytes, first_place}
 use Rattle.place_text.specs.declared.place.Place.{Place}
 use Rattle.place_text.specs.declared.place.TextPart.TheVariants.{Circuit as Circuit_part, Stimulus as Stimulus_part}
@@ -19,9 +19,7 @@ use Rattle.trace_summary.specs.Summaries.{IsSummary}
 use Rattle.circuit_make.specs.Rings.{ring_text}
 use Rattle.cut_laws.specs.CircuitCuts.{IsCutText}
 use Rattle.sim_engine.specs.Stages.{circuit_limit, IsAccepted, IsFirstFault}
-use Rattle.sim_engine.specs.Building.{IsBuilt}
 use Rattle.sim_engine.specs.Faults.{kind_name, fault_place}
-use Rattle.sim_engine.specs.declared.compile.Built.{Built}
 use Rattle.sim_engine.specs.declared.fault.CircuitFault.{CircuitFault}
 use Rattle.sim_top.specs.declared.words.Command.{Command}
 use Rattle.sim_top.specs.declared.words.Command.TheVariants.{Run, Check, Widths, Cut}
@@ -91,42 +89,3 @@ pub data Answers : List (List ℕ) → (List ℕ → Option (List ℕ)) → ℕ 
   no_command : (words : List (List ℕ)) (texts : List ℕ → Option (List ℕ)) → asked_by words ≡ None → Answers words texts 1 (codes "usage\n")
   answered : (words : List (List ℕ)) (texts : List ℕ → Option (List ℕ)) (question : Question) (status : ℕ) (bytes : List ℕ)
       → asked_by words ≡ Some question → AnswersTo texts question status bytes → Answers words texts status bytes
-
--- Where a run or a cut is asked for and the circuit's text is accepted, a net serves the circuit. Its trace and its cut are one then.
-abbrev pub takes_net : Command → Bool
-takes_net Run = true
-takes_net Check = false
-takes_net Widths = false
-takes_net (Cut workers) = true
-
-abbrev pub IsServed : Command → List ℕ → Type 0
-IsServed command text = takes_net command ≡ true → (fitted : Fitted) → IsAccepted text fitted → (built : Built) × IsBuilt text built
-
--- the same of the circuit's part of a joined text, of what is asked, and of the words
-abbrev pub IsServedIn : Command → List ℕ → Type 0
-IsServedIn command joined = (circuit stimulus : List ℕ) → IsTaken command joined circuit stimulus → IsServed command circuit
-
-abbrev pub IsServedFor : (List ℕ → Option (List ℕ)) → Question → Type 0
-IsServedFor texts (Of_joined command name) = (joined : List ℕ) → texts name ≡ Some joined → IsServedIn command joined
-IsServedFor texts (Of_two circuit stimulus) = (text : List ℕ) → texts circuit ≡ Some text → length text ≤ circuit_limit → IsServed Run text
-IsServedFor texts (Of_made cycles size) = IsServedIn Run (ring_text size cycles)
-
-abbrev pub AreServed : List (List ℕ) → (List ℕ → Option (List ℕ)) → Type 0
-AreServed words texts = (question : Question) → asked_by words ≡ Some question → IsServedFor texts question
-
--- An answer, and a net where one is taken.
-pub record SettlesTexts (command : Command) (text stimulus : List ℕ) (status : ℕ) (bytes : List ℕ) : Type 0 where
-  pub judges : JudgesTexts command text stimulus status bytes
-  pub served : IsServed command text
-
-pub record Settles (command : Command) (joined : List ℕ) (status : ℕ) (bytes : List ℕ) : Type 0 where
-  pub judges : Judges command joined status bytes
-  pub served : IsServedIn command joined
-
-pub record SettlesAsked (texts : List ℕ → Option (List ℕ)) (question : Question) (status : ℕ) (bytes : List ℕ) : Type 0 where
-  pub answers : AnswersTo texts question status bytes
-  pub served : IsServedFor texts question
-
-pub record IsSettled (words : List (List ℕ)) (texts : List ℕ → Option (List ℕ)) (status : ℕ) (bytes : List ℕ) : Type 0 where
-  pub answers : Answers words texts status bytes
-  pub served : AreServed words texts

@@ -1,4 +1,4 @@
--- what a reader must believe, and at the end of Answers and of Endings what the bodies keep
+-- what a reader must believe, and at the end of Endings what the bodies keep
 pub mod Commands
 pub mod Texts
 pub mod Answers

@@ -12,7 +12,7 @@ ghost use Rattle.fir_meaning.specs.Components.{design_of};
 ghost use Rattle.cut_laws.specs.CircuitCuts.{IsCutText};
 ghost use Rattle.sim_top.specs.Commands.{AreWorkers};
 ghost use Rattle.sim_top.specs.Texts.{joined_limit, stimulus_limit, HasNone, IsPart};
-ghost use Rattle.sim_top.specs.Answers.{fault_bytes, whole_bytes, stimulus_bytes, whole_stimulus_bytes, SettlesTexts, Settles};
+ghost use Rattle.sim_top.specs.Answers.{fault_bytes, whole_bytes, stimulus_bytes, whole_stimulus_bytes, JudgesTexts, Judges};
 ghost use Rattle.sim_top.specs.Endings.{IsFaultLine, Gives, IsFor};
 
 use crate::texts::{STIMULUS_LIMIT, WholeFault, split};
@@ -47,7 +47,7 @@ pub struct Reply {
 pub fn judge(alloc: Global, command: Command, text: &[u8]) -> Result<Decision, AllocError>
     requires within { length text.now ≤ joined_limit }
     requires workers { AreWorkers command }
-    ensures settles { IfOk result (Gives (Settles command text.now)) }
+    ensures judges { IfOk result (Gives (Judges command text.now)) }
     ensures fits { IfOk result (IsFor command) }
 {
     match split(text) {
@@ -61,7 +61,7 @@ fn judge_whole(alloc: Global, command: Command, text: &[u8]) -> Result<Decision,
     requires within { length text.now ≤ joined_limit }
     requires none { HasNone text.now }
     requires workers { AreWorkers command }
-    ensures settles { IfOk result (Gives (Settles command text.now)) }
+    ensures judges { IfOk result (Gives (Judges command text.now)) }
     ensures fits { IfOk result (IsFor command) }
 {
     match command {
@@ -83,7 +83,7 @@ fn judge_part(
     stimulus: &[u8],
 ) -> Result<Decision, AllocError>
     requires workers { AreWorkers command }
-    ensures settles { IfOk result (λ d. (joined : List ℕ) → length joined ≤ joined_limit → IsPart command joined circuit.now stimulus.now → Gives (Settles command joined) d) }
+    ensures judges { IfOk result (λ d. (joined : List ℕ) → length joined ≤ joined_limit → IsPart command joined circuit.now stimulus.now → Gives (Judges command joined) d) }
     ensures fits { IfOk result (IsFor command) }
 {
     if circuit.len() > CIRCUIT_LIMIT {
@@ -102,7 +102,7 @@ pub fn judge_texts(
 ) -> Result<Decision, AllocError>
     requires within { length circuit.now ≤ circuit_limit }
     requires workers { AreWorkers command }
-    ensures settles { IfOk result (Gives (SettlesTexts command circuit.now stimulus.now)) }
+    ensures judges { IfOk result (Gives (JudgesTexts command circuit.now stimulus.now)) }
     ensures fits { IfOk result (IsFor command) }
 {
     match compile_text(alloc, circuit) {
@@ -117,7 +117,7 @@ pub fn judge_texts(
 /// What `run` answers to a circuit's text, within its limit, under a stimulus's text that is longer than its own.
 pub fn judge_under_long(alloc: Global, text: &[u8]) -> Result<Reply, AllocError>
     requires { length text.now ≤ circuit_limit }
-    ensures settles { IfOk result (λ r. (stimulus : List ℕ) → stimulus_limit < length stimulus → SettlesTexts Command.Run text.now stimulus r.status r.bytes.items) }
+    ensures judges { IfOk result (λ r. (stimulus : List ℕ) → stimulus_limit < length stimulus → JudgesTexts Command.Run text.now stimulus r.status r.bytes.items) }
     ensures line { IfOk result (λ r. IsFaultLine r.status r.bytes.items) }
 {
     match compile_text(alloc, text) {
@@ -135,7 +135,7 @@ fn judge_built(
 ) -> Result<Decision, AllocError>
     requires built { (text : List ℕ) × IsBuilt text built }
     requires workers { AreWorkers command }
-    ensures settles { IfOk result (λ d. (text : List ℕ) → IsBuilt text built → Gives (SettlesTexts command text stimulus.now) d) }
+    ensures judges { IfOk result (λ d. (text : List ℕ) → IsBuilt text built → Gives (JudgesTexts command text stimulus.now) d) }
     ensures fits { IfOk result (IsFor command) }
 {
     match command {
@@ -193,7 +193,7 @@ fn divide(alloc: Global, built: &Built, workers: u32) -> Result<Reply, AllocErro
 /// More watched leaves than a `u32` numbers are a want of memory.
 fn run(alloc: Global, built: Built, stimulus: &[u8]) -> Result<Decision, AllocError>
     requires { (text : List ℕ) × IsBuilt text built }
-    ensures settles { IfOk result (λ d. (text : List ℕ) → IsBuilt text built → Gives (SettlesTexts Command.Run text stimulus.now) d) }
+    ensures judges { IfOk result (λ d. (text : List ℕ) → IsBuilt text built → Gives (JudgesTexts Command.Run text stimulus.now) d) }
     ensures fits { IfOk result (IsFor Command.Run) }
 {
     if stimulus.len() > STIMULUS_LIMIT {

@@ -2,15 +2,14 @@
 
 ghost use Rattle.std.specs.Prelude.{◌≡◌, ℕ, List, Option, Some};
 ghost use Rattle.command_words.specs.Commands.{Run, Make, command_of};
-ghost use Rattle.sim_top.specs.Answers.{Answers, AreServed};
+ghost use Rattle.sim_top.specs.Answers.{Answers};
 
-/// A command line has at most one status over the texts that are held, and at most one answer: of a run one where a net serves the
-/// circuit.
+/// A command line has at most one answer over the texts that are held: one status, and the same bytes.
 pub fn the_answer_is_one()
     ensures status { (words : List (List ℕ)) (texts : List ℕ → Option (List ℕ)) (status other : ℕ) (bytes others : List ℕ) → Answers words texts status bytes
         → Answers words texts other others → status ≡ other }
-    ensures bytes { (words : List (List ℕ)) (texts : List ℕ → Option (List ℕ)) (status other : ℕ) (bytes others : List ℕ) → AreServed words texts
-        → Answers words texts status bytes → Answers words texts other others → bytes ≡ others }
+    ensures bytes { (words : List (List ℕ)) (texts : List ℕ → Option (List ℕ)) (status other : ℕ) (bytes others : List ℕ) → Answers words texts status bytes
+        → Answers words texts other others → bytes ≡ others }
 {}
 
 /// Two command lines that differ in the number of workers of a run alone have the same answers.

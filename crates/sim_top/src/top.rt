@@ -9,7 +9,7 @@ ghost use Rattle.trace_summary.specs.Summaries.{IsSummary};
 ghost use Rattle.sim_engine.specs.Stages.{circuit_limit};
 ghost use Rattle.sim_top.specs.Commands.{AreWorkers, Of_joined, Of_two, Of_made, asked_by, NeedsFor, Needs};
 ghost use Rattle.sim_top.specs.Texts.{joined_limit};
-ghost use Rattle.sim_top.specs.Answers.{Answers, SettlesTexts, Settles, SettlesAsked, IsSettled};
+ghost use Rattle.sim_top.specs.Answers.{JudgesTexts, Judges, AnswersTo, Answers};
 ghost use Rattle.sim_top.specs.Endings.{Ends, IsSaid, IsRun, IsFaultLine, IsReply, Gives, IsFor, IsReady, IsRunnable, status_of};
 
 use crate::judge::{Decision, Reply, judge, judge_texts, judge_under_long, refuse_whole};
@@ -59,6 +59,7 @@ pub fn run_program<R: Threads + Wait + Sync, H: Shelf, K: Sink, G: Gate + Sync>(
     ensures no_command { asked_by (map string_bytes words.now) ≡ None → (result ≡ 1) ⊎ (result ≡ 5) ⊎ (result ≡ 6) }
     ensures shelf_fault { result ≡ 4 → (name : List ℕ) × Needs (map string_bytes words.now) (H.held shelf.old) name × Rose (H.faults shelf.old name) (H.faults shelf.new name) }
     ensures sink_fault { result ≡ 5 → Rose (K.faults sink.old) (K.faults sink.new) }
+    ensures sink_spared { result ≢ 5 → K.faults sink.new ≡ K.faults sink.old }
     ensures few { result ≤ 6 }
     // Where the shelf failed, the sink was left alone.
     ensures untouched { result ≡ 4 → sink.new ≡ sink.old }
@@ -97,7 +98,7 @@ fn decide<R: Threads + Wait + Sync, H: Shelf, G: Gate + Sync>(
     words: &[String],
     shelf: &mut H,
 ) -> Result<Decision, TakeFault>
-    ensures settled { IfOk result (λ d. (texts : List ℕ → Option (List ℕ)) → H.held shelf.old ≡ Some texts → Gives (IsSettled (map string_bytes words.now) texts) d) }
+    ensures answers { IfOk result (λ d. (texts : List ℕ → Option (List ℕ)) → H.held shelf.old ≡ Some texts → Gives (Answers (map string_bytes words.now) texts) d) }
     ensures ready { IfOk result IsReady }
     ensures usage { IfOk result (λ d. status_of d ≡ 1 → asked_by (map string_bytes words.now) ≡ None) }
     ensures no_command { asked_by (map string_bytes words.now) ≡ None → IfOk result (λ d. status_of d ≡ 1) }
@@ -129,7 +130,7 @@ fn decide_joined<H: Shelf>(
     shelf: &mut H,
 ) -> Result<Decision, TakeFault>
     requires { AreWorkers command }
-    ensures settled { IfOk result (λ d. (texts : List ℕ → Option (List ℕ)) → H.held shelf.old ≡ Some texts → Gives (SettlesAsked texts (Of_joined command name.now)) d) }
+    ensures answers { IfOk result (λ d. (texts : List ℕ → Option (List ℕ)) → H.held shelf.old ≡ Some texts → Gives (AnswersTo texts (Of_joined command name.now)) d) }
     ensures ready { IfOk result IsReady }
     ensures usage { IfOk result (λ d. status_of d ≢ 1) }
     ensures fault { result ≡ Err TakeFault.ReadFault → Rose (H.faults shelf.old name.now) (H.faults shelf.new name.now) }
@@ -153,7 +154,7 @@ fn decide_two<H: Shelf>(
     stimulus: &str,
     shelf: &mut H,
 ) -> Result<Decision, TakeFault>
-    ensures settled { IfOk result (λ d. (texts : List ℕ → Option (List ℕ)) → H.held shelf.old ≡ Some texts → Gives (SettlesAsked texts (Of_two circuit.now stimulus.now)) d) }
+    ensures answers { IfOk result (λ d. (texts : List ℕ → Option (List ℕ)) → H.held shelf.old ≡ Some texts → Gives (AnswersTo texts (Of_two circuit.now stimulus.now)) d) }
     ensures ready { IfOk result IsReady }
     ensures usage { IfOk result (λ d. status_of d ≢ 1) }
     ensures fault { result ≡ Err TakeFault.ReadFault → (name : List ℕ) × NeedsFor (H.held shelf.old) (Of_two circuit.now stimulus.now) name × Rose (H.faults shelf.old name) (H.faults shelf.new name) }
@@ -177,8 +178,8 @@ fn decide_under<H: Shelf>(
     shelf: &mut H,
 ) -> Result<Decision, TakeFault>
     requires { length circuit.now ≤ circuit_limit }
-    ensures settled { IfOk result (λ d. (texts : List ℕ → Option (List ℕ)) → H.held shelf.old ≡ Some texts
-        → (given : List ℕ) × (texts stimulus.now ≡ Some given) × Gives (SettlesTexts Command.Run circuit.now given) d) }
+    ensures answers { IfOk result (λ d. (texts : List ℕ → Option (List ℕ)) → H.held shelf.old ≡ Some texts
+        → (given : List ℕ) × (texts stimulus.now ≡ Some given) × Gives (JudgesTexts Command.Run circuit.now given) d) }
     ensures ready { IfOk result IsReady }
     ensures usage { IfOk result (λ d. status_of d ≢ 1) }
     ensures fault { result ≡ Err TakeFault.ReadFault → Rose (H.faults shelf.old stimulus.now) (H.faults shelf.new stimulus.now) }
@@ -205,7 +206,7 @@ fn decide_made<R: Threads + Wait + Sync, G: Gate + Sync>(
     requires most { crew.now.workers ≤ 64 }
     requires cycles { InRange cycles }
     requires size { InRange size }
-    ensures settled { IfOk result (λ r. (texts : List ℕ → Option (List ℕ)) → SettlesAsked texts (Of_made cycles size) r.status r.bytes.items) }
+    ensures answers { IfOk result (λ r. (texts : List ℕ → Option (List ℕ)) → AnswersTo texts (Of_made cycles size) r.status r.bytes.items) }
     ensures ready { IfOk result (λ r. IsReply r.status r.bytes.items) }
     ensures usage { IfOk result (λ r. r.status ≢ 1) }
 {
@@ -220,7 +221,7 @@ fn decide_made<R: Threads + Wait + Sync, G: Gate + Sync>(
 fn judge_made(alloc: Global, cycles: u32, size: u32) -> Result<Decision, AllocError>
     requires cycles { InRange cycles }
     requires size { InRange size }
-    ensures settles { IfOk result (Gives (Settles Command.Run (ring_text size cycles))) }
+    ensures judges { IfOk result (Gives (Judges Command.Run (ring_text size cycles))) }
     ensures fits { IfOk result (IsFor Command.Run) }
 {
     let text = make_text(alloc, cycles, size)?;
@@ -272,6 +273,7 @@ fn say<K: Sink>(sink: &mut K, reply: &Reply) -> u8
     requires { reply.now.status ≤ 3 }
     ensures said { IsSaid result reply.now.status reply.now.bytes.items (K.written sink.old) (K.written sink.new) }
     ensures rose { result ≢ reply.now.status → Rose (K.faults sink.old) (K.faults sink.new) }
+    ensures spared { result ≢ 5 → K.faults sink.new ≡ K.faults sink.old }
 {
     match put_all(sink, &reply.bytes) {
         Ok(()) => reply.status,
@@ -293,6 +295,7 @@ fn run<R: Threads + Wait + Sync, G: Gate + Sync, K: Sink>(
     ensures ran { (bytes : List ℕ) × IsTraceText built.now.fitted.checked.circuit.names (design_of built.now.fitted) stimulus.now bytes
         × IsRun result bytes (K.written sink.old) (K.written sink.new) }
     ensures rose { result ≡ 5 → Rose (K.faults sink.old) (K.faults sink.new) }
+    ensures spared { result ≢ 5 → K.faults sink.new ≡ K.faults sink.old }
 {
     let plan = Plan {
         ordered: &built.ordered,

@@ -217,6 +217,30 @@ fn in_threads<'t, 'a, N: Plan + Send + Sync, R: Threads + Wait + Sync, G: Gate +
     )
 }
 
+// What the threads of an epoch go by, over all of its rows.
+fn orders_of<'t, 'a, N: Plan, R, G>(
+    machine: &'t Machine<'t, R, G>,
+    shared: &'t Shared<'t, 'a, N>,
+    starts: &'t [AtomicU64],
+) -> Orders<'t, 'a, N, R, G>
+    ensures shared { result.shared.now ≡ shared.now }
+    ensures first { result.stint.first ≡ machine.now.first }
+    ensures cycles { result.stint.cycles ≡ length shared.now.rows.now }
+    ensures starts { result.starts.now ≡ starts.now }
+{
+    Orders {
+        rt: machine.rt,
+        shared,
+        stint: Stint {
+            first: machine.first,
+            cycles: shared.rows.len() as u64,
+            gate: machine.gate,
+        },
+        starts,
+        most: machine.threads,
+    }
+}
+
 fn named_epoch<'a, N: Plan + Send + Sync, R: Threads + Wait + Sync, G: Gate + Sync>(
     alloc: Global,
     machine: &Machine<'_, R, G>,
@@ -251,17 +275,7 @@ fn named_epoch<'a, N: Plan + Send + Sync, R: Threads + Wait + Sync, G: Gate + Sy
     let grid = new_grid(alloc, codes, rows.len(), width)?;
     let mut last = Vec::from_elem(alloc, 0u64, words.len())?;
     let starts = start_words(alloc, many)?;
-    let orders = Orders {
-        rt: machine.rt,
-        shared: &shared,
-        stint: Stint {
-            first: machine.first,
-            cycles,
-            gate: machine.gate,
-        },
-        starts: starts.as_slice(),
-        most: machine.threads,
-    };
+    let orders = orders_of(machine, &shared, starts.as_slice());
     let job = Job {
         orders: &orders,
         hired,

@@ -1,4 +1,4 @@
-use Rattle.std.proofs.Common.{◌≡◌, ◌+◌, ◌≤◌, [], ◌++◌, length, take, sym, subst, arith}
+use Rattle.std.proofs.Common.{◌≡◌, ◌+◌, ◌≤◌, [], ◌++◌, length, take, refl, sym, subst, ◌∙◌, arith}
 use Rattle.std.proofs.lemmas.Grind.{common_steps}
 use Rattle.std.proofs.Math.Seq.{take-append_seam}
 use Rattle.std.proofs.lemmas.Result.{err_from_is_err_and}
@@ -16,7 +16,7 @@ pub loop-first-init : goal.loop-first-init
 loop-first-init g c = record {
   within = omega arith;
   told = ([], no_cycle c.args.plan.now.ordered.now.net c.args.plan.now.stimulus.now (λ t. IsKept c.args.plan.now.ordered.now.net t c.args.kept) first_state 0 c.requires.kept, nothing_written (g.K.Sink.written c.args.sink.now));
-  never_falls = omega arith;
+  spared = refl;
 }
 
 pub returns-in_err-told-clause-lines : goal.returns-in_err-told-clause-lines
@@ -77,7 +77,7 @@ loop-first-preserved g c =
     record {
       within = grind (arith, common_steps, c.min-count.ensures, c.loop-first-test.true);
       told = (before.0 ++ told.lines.items, leads, Appends-trans old middle new before.0 told.lines.items before.2 (subst (Appends middle new) c.as_slice.ensures.value c.in_ok-put_all.ensures.all));
-      never_falls = omega (arith, c.loop-first.invariant.never_falls, c.in_ok-put_all.ensures.never_falls);
+      spared = c.in_ok-put_all.ensures.no_fault ∙ c.loop-first.invariant.spared;
     }
 
 pub returns-clause-lines : goal.returns-clause-lines

@@ -1,4 +1,4 @@
-use Rattle.std.proofs.Common.{ℕ, ◌-◌, ◌≤◌, List}
+use Rattle.std.proofs.Common.{ℕ, ◌≡◌, ◌-◌, ◌≤◌, List}
 use Rattle.shelf_io.specs.Outside.{Appends}
 use Rattle.net_meaning.specs.Cycles.{first_state}
 use Rattle.circuit_run.specs.NetRuns.{LeadsOn}
@@ -8,7 +8,7 @@ abbrev pub invariant-loop-first : goal.invariant-loop-first
 invariant-loop-first g l = record {
   within : l.first ≤ l.plan.stimulus.now.cycles;
   told : (lines : List ℕ) × LeadsOn l.plan.ordered.now.net l.plan.stimulus.now first_state 0 l.first l.kept lines × Appends (g.K.Sink.written l.fn.sink) (g.K.Sink.written l.sink) lines;
-  never_falls : g.K.Sink.faults l.fn.sink ≤ g.K.Sink.faults l.sink;
+  spared : g.K.Sink.faults l.sink ≡ g.K.Sink.faults l.fn.sink;
 }
 
 abbrev pub decreases-loop-first : goal.decreases-loop-first

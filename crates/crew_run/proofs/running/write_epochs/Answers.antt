@@ -27,7 +27,7 @@ loop-first-init g c = record {
     nothing_written (g.K.Sink.written c.args.sink.now),
   );
   epochs = λ it of. subst (λ ts. AreEpochs c.args.crew.now.plan.now.ordered.now.net c.args.crew.now.plan.now.stimulus.now it.parts 0 (map closed_script ts) 0) (sym c.new-tables.ensures) refl;
-  never_falls = omega arith;
+  spared = refl;
 }
 
 pub returns-in_err-told-clause-lines : goal.returns-in_err-told-clause-lines
@@ -113,7 +113,7 @@ loop-first-preserved g c =
           ap (map closed_script) c.in_ok-push.ensures.ok ∙ (map-append closed_script c.loop-first.tables (told.closed ∷ []) ∙ ap (λ s. map closed_script c.loop-first.tables ++ s ∷ []) c.in_ok-told.ensures.closed) in
           subst (λ ts. AreEpochs net stimulus it.parts 0 ts (first + count)) (sym tables)
           (subst (λ n. AreEpochs net stimulus it.parts 0 (map closed_script c.loop-first.tables ++ script ∷ []) (first + n)) (rows_long ports stimulus first count) both);
-      never_falls = omega (arith, c.loop-first.invariant.never_falls, c.in_ok-put_all.ensures.never_falls);
+      spared = c.in_ok-put_all.ensures.no_fault ∙ c.loop-first.invariant.spared;
     }
 
 pub returns-clause-lines : goal.returns-clause-lines

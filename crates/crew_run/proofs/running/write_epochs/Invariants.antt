@@ -1,4 +1,4 @@
-use Rattle.std.proofs.Common.{ℕ, ◌-◌, ◌≤◌, List, map}
+use Rattle.std.proofs.Common.{ℕ, ◌≡◌, ◌-◌, ◌≤◌, List, map}
 use Rattle.shelf_io.specs.Outside.{Appends}
 use Rattle.ground_net.specs.declared.net.Cut.{Cut}
 use Rattle.net_meaning.specs.Cycles.{first_state}
@@ -15,7 +15,7 @@ invariant-loop-first g l = record {
       × Appends (g.K.Sink.written l.fn.sink) (g.K.Sink.written l.sink) lines;
   epochs : (it : Cut) → AreCodesOfCut l.crew.plan.now.ordered.now l.crew.plan.now.workers l.crew.codes it
       → AreEpochs l.crew.plan.now.ordered.now.net l.crew.plan.now.stimulus.now it.parts 0 (map closed_script l.tables) l.first;
-  never_falls : g.K.Sink.faults l.fn.sink ≤ g.K.Sink.faults l.sink;
+  spared : g.K.Sink.faults l.sink ≡ g.K.Sink.faults l.fn.sink;
 }
 
 abbrev pub decreases-loop-first : goal.decreases-loop-first

@@ -3,15 +3,15 @@ use Rattle.sim_top.specs.Commands.{AreWorkers}
 use Rattle.sim_top.proofs.Judging.{checked, widths, divided_of, no_run_check, no_run_widths, no_run_cut}
 use Rattle.sim_top.proofs.judge.judge_built.Goals as goal
 
-pub returns-in_ok-run-in-Run-clause-settles : goal.returns-in_ok-run-in-Run-clause-settles
-returns-in_ok-run-in-Run-clause-settles c = λ text b. rw c.in-Run.is (c.in_ok-run-in-Run.ensures.settles text b)
+pub returns-in_ok-run-in-Run-clause-judges : goal.returns-in_ok-run-in-Run-clause-judges
+returns-in_ok-run-in-Run-clause-judges c = λ text b. rw c.in-Run.is (c.in_ok-run-in-Run.ensures.judges text b)
 
-pub returns-in_ok-reply-in-Check-clause-settles : goal.returns-in_ok-reply-in-Check-clause-settles
-returns-in_ok-reply-in-Check-clause-settles c = λ text b.
+pub returns-in_ok-reply-in-Check-clause-judges : goal.returns-in_ok-reply-in-Check-clause-judges
+returns-in_ok-reply-in-Check-clause-judges c = λ text b.
     rw c.in-Check.is (checked text _ c.args.built _ _ b c.in_ok-reply-in-Check.ensures.0 c.in_ok-reply-in-Check.ensures.1)
 
-pub returns-in_ok-reply-in-Widths-clause-settles : goal.returns-in_ok-reply-in-Widths-clause-settles
-returns-in_ok-reply-in-Widths-clause-settles c = λ text b.
+pub returns-in_ok-reply-in-Widths-clause-judges : goal.returns-in_ok-reply-in-Widths-clause-judges
+returns-in_ok-reply-in-Widths-clause-judges c = λ text b.
     rw c.in-Widths.is (widths text _ c.args.built _ _ b c.in_ok-reply-in-Widths.ensures.0 c.in_ok-reply-in-Widths.ensures.1)
 
 pub divide-requires-clause-some : goal.divide-requires-clause-some
@@ -20,8 +20,8 @@ divide-requires-clause-some c = (subst AreWorkers c.in-Cut.is c.requires.workers
 pub divide-requires-clause-most : goal.divide-requires-clause-most
 divide-requires-clause-most c = (subst AreWorkers c.in-Cut.is c.requires.workers).1
 
-pub returns-in_ok-reply-in-Cut-clause-settles : goal.returns-in_ok-reply-in-Cut-clause-settles
-returns-in_ok-reply-in-Cut-clause-settles c = λ text b.
+pub returns-in_ok-reply-in-Cut-clause-judges : goal.returns-in_ok-reply-in-Cut-clause-judges
+returns-in_ok-reply-in-Cut-clause-judges c = λ text b.
     rw c.in-Cut.is (divided_of _ text _ c.args.built _ _ b c.in_ok-reply-in-Cut.ensures.0 c.in_ok-reply-in-Cut.ensures.1)
 
 pub returns-in_ok-run-in-Run-clause-fits : goal.returns-in_ok-run-in-Run-clause-fits

@@ -3,17 +3,17 @@ use Rattle.sim_top.specs.declared.words.Command.TheVariants.{Run}
 use Rattle.sim_top.proofs.Judging.{no_trace, ran_long, ran_refused, ran_traced}
 use Rattle.sim_top.proofs.judge.run.Goals as goal
 
-pub returns-then-stimulus-gt-STIMULUS_LIMIT-clause-settles : goal.returns-then-stimulus-gt-STIMULUS_LIMIT-clause-settles
-returns-then-stimulus-gt-STIMULUS_LIMIT-clause-settles c = λ text b.
+pub returns-then-stimulus-gt-STIMULUS_LIMIT-clause-judges : goal.returns-then-stimulus-gt-STIMULUS_LIMIT-clause-judges
+returns-then-stimulus-gt-STIMULUS_LIMIT-clause-judges c = λ text b.
     ran_long text _ c.args.built _ _ b c.if-stimulus-gt-STIMULUS_LIMIT.true c.in_ok-reply.ensures.0 c.in_ok-reply.ensures.1
 
-pub returns-in-Ok-read_stimulus-clause-settles : goal.returns-in-Ok-read_stimulus-clause-settles
-returns-in-Ok-read_stimulus-clause-settles c = λ text b.
+pub returns-in-Ok-read_stimulus-clause-judges : goal.returns-in-Ok-read_stimulus-clause-judges
+returns-in-Ok-read_stimulus-clause-judges c = λ text b.
     let counted : c.in-Ok-try_from.watched ≡ length c.args.built.ports.watched = omega (arith, c.in-Ok-try_from.ensures, c.len-2.ensures) in
     ran_traced text _ c.args.built _ _ b (omega (arith, c.if-stimulus-gt-STIMULUS_LIMIT.false)) counted c.in-Ok-read_stimulus.ensures.verdict
 
-pub returns-in_ok-reply-in-Err-clause-settles : goal.returns-in_ok-reply-in-Err-clause-settles
-returns-in_ok-reply-in-Err-clause-settles c = λ text b.
+pub returns-in_ok-reply-in-Err-clause-judges : goal.returns-in_ok-reply-in-Err-clause-judges
+returns-in_ok-reply-in-Err-clause-judges c = λ text b.
     let counted : c.in-Ok-try_from.watched ≡ length c.args.built.ports.watched = omega (arith, c.in-Ok-try_from.ensures, c.len-2.ensures) in
     let told = c.in_ok-reply-in-Err.ensures in
     ran_refused text _ c.args.built _ _ told.1.0 _ _ b (omega (arith, c.if-stimulus-gt-STIMULUS_LIMIT.false)) counted c.in-Err.ensures.verdict told.1.1 told.0 told.1.2

@@ -4,22 +4,22 @@ use Rattle.sim_engine.specs.Stages.{circuit_limit}
 use Rattle.sim_top.specs.Commands.{the_circuit, the_stimulus}
 use Rattle.sim_top.proofs.AnswersOnce.{some_same}
 use Rattle.sim_top.specs.declared.texts.WholeFault.TheVariants.{TooLong}
-use Rattle.sim_top.proofs.Replying.{whole_ready, settled_texts, settled_circuit, rose_behind, err_same}
+use Rattle.sim_top.proofs.Replying.{whole_ready, texts_answer, circuit_answers, rose_behind, err_same}
 use Rattle.sim_top.proofs.top.decide_two.Goals as goal
 
-pub returns-in_ok-reply-in-Err-TooLong-clause-settled : goal.returns-in_ok-reply-in-Err-TooLong-clause-settled
-returns-in_ok-reply-in-Err-TooLong-clause-settled g c = λ texts held.
+pub returns-in_ok-reply-in-Err-TooLong-clause-answers : goal.returns-in_ok-reply-in-Err-TooLong-clause-answers
+returns-in_ok-reply-in-Err-TooLong-clause-answers g c = λ texts held.
     let long = c.in-Err-TooLong.ensures.too_long (ap Err c.in-Err-TooLong.field-0-is) texts held in
-    settled_circuit texts _ _ long.0 _ _ long.1 long.2 c.in_ok-reply-in-Err-TooLong.ensures.0 c.in_ok-reply-in-Err-TooLong.ensures.1
+    circuit_answers texts _ _ long.0 _ _ long.1 long.2 c.in_ok-reply-in-Err-TooLong.ensures.0 c.in_ok-reply-in-Err-TooLong.ensures.1
 
 pub returns-in_ok-reply-in-Err-TooLong-clause-ready : goal.returns-in_ok-reply-in-Err-TooLong-clause-ready
 returns-in_ok-reply-in-Err-TooLong-clause-ready g c =
     whole_ready _ _ TooLong c.in_ok-reply-in-Err-TooLong.ensures.0 c.in_ok-reply-in-Err-TooLong.ensures.1
 
-pub returns-in-Ok-clause-settled : goal.returns-in-Ok-clause-settled
-returns-in-Ok-clause-settled g c = IfOk-weaker c.decide_under.result _ _ (λ d h. λ texts held.
+pub returns-in-Ok-clause-answers : goal.returns-in-Ok-clause-answers
+returns-in-Ok-clause-answers g c = IfOk-weaker c.decide_under.result _ _ (λ d h. λ texts held.
     let s = h texts (c.in-Ok.ensures.holds ∙ held) in
-    settled_texts texts _ _ c.in-Ok.text.items s.0 d (c.in-Ok.ensures.text texts held) c.in-Ok.ensures.short s.1 (rw c.deref.ensures.value at s.2)) c.decide_under.ensures.settled
+    texts_answer texts _ _ c.in-Ok.text.items s.0 d (c.in-Ok.ensures.text texts held) c.in-Ok.ensures.short s.1 (rw c.deref.ensures.value at s.2)) c.decide_under.ensures.answers
 
 pub returns-in-Ok-clause-fault : goal.returns-in-Ok-clause-fault
 returns-in-Ok-clause-fault g c = λ e. (

@@ -3,31 +3,31 @@ use Rattle.sim_top.proofs.top.run_program.Goals as goal
 
 pub returns-in-Ok-Say-clause-ends : goal.returns-in-Ok-Say-clause-ends
 returns-in-Ok-Say-clause-ends g c = λ texts before held written.
-    ends_said _ texts _ _ _ before _ _ (rw c.in-Ok-Say.field-0-is at c.in-Ok-Say.ensures.settled texts held) (reply_few _ _ (rw c.in-Ok-Say.field-0-is at c.in-Ok-Say.ensures.ready)) c.say.ensures.said written
+    ends_said _ texts _ _ _ before _ _ (rw c.in-Ok-Say.field-0-is at c.in-Ok-Say.ensures.answers texts held) (reply_few _ _ (rw c.in-Ok-Say.field-0-is at c.in-Ok-Say.ensures.ready)) c.say.ensures.said written
 
 pub returns-in-Ok-Run-clause-ends : goal.returns-in-Ok-Run-clause-ends
 returns-in-Ok-Run-clause-ends g c = λ texts before held written.
     let ran = c.run.ensures.ran in
-    ends_run _ texts _ _ before _ _ ((rw c.in-Ok-Run.field-0-is at c.in-Ok-Run.ensures.settled texts held) ran.0 ran.1) ran.2 written
+    ends_run _ texts _ _ before _ _ ((rw c.in-Ok-Run.field-0-is at c.in-Ok-Run.ensures.answers texts held) ran.0 ran.1) ran.2 written
 
 pub returns-in-Ok-Run-clause-answered : goal.returns-in-Ok-Run-clause-answered
 returns-in-Ok-Run-clause-answered g c = λ texts held few.
     let ran = c.run.ensures.ran in
-    run_answered _ texts _ _ _ _ ((rw c.in-Ok-Run.field-0-is at c.in-Ok-Run.ensures.settled texts held) ran.0 ran.1) ran.2 few
+    run_answered _ texts _ _ _ _ ((rw c.in-Ok-Run.field-0-is at c.in-Ok-Run.ensures.answers texts held) ran.0 ran.1) ran.2 few
 
 pub returns-in-Ok-Run-clause-unheld : goal.returns-in-Ok-Run-clause-unheld
 returns-in-Ok-Run-clause-unheld g c = λ texts name held needs none.
     let ran = c.run.ensures.ran in
-    let settled = (rw c.in-Ok-Run.field-0-is at c.in-Ok-Run.ensures.settled texts held) ran.0 ran.1 in
-    absurd (unheld_unanswered _ texts _ name _ _ held needs none settled.answers)
+    let answers = (rw c.in-Ok-Run.field-0-is at c.in-Ok-Run.ensures.answers texts held) ran.0 ran.1 in
+    absurd (unheld_unanswered _ texts _ name _ _ held needs none answers)
 
 pub returns-in-Err-NoMemory-clause-ends : goal.returns-in-Err-NoMemory-clause-ends
 returns-in-Err-NoMemory-clause-ends g c = λ texts before held written. ends_wanting _ texts before _ written
 
 pub returns-in-Ok-Say-clause-unheld : goal.returns-in-Ok-Say-clause-unheld
 returns-in-Ok-Say-clause-unheld g c = λ texts name held needs none.
-    let settled = rw c.in-Ok-Say.field-0-is at c.in-Ok-Say.ensures.settled texts held in
-    absurd (unheld_unanswered _ texts _ name _ _ held needs none settled.answers)
+    let answers = rw c.in-Ok-Say.field-0-is at c.in-Ok-Say.ensures.answers texts held in
+    absurd (unheld_unanswered _ texts _ name _ _ held needs none answers)
 
 pub returns-in-Ok-Say-clause-shelf_fault : goal.returns-in-Ok-Say-clause-shelf_fault
 returns-in-Ok-Say-clause-shelf_fault g c = λ four.
