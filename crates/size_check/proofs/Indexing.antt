@@ -1,13 +1,15 @@
 -- The numbers of modules by name, one module after another.
-use Rattle.std.proofs.Common.{◌≡◌, ℕ, ◌+◌, ◌<◌, Bool, true, false, List, [], ◌∷◌, ◌++◌, length, take, get_or, refl, sym, ap, ◌∙◌, subst, if◌then◌else◌, true≢false}
+use Rattle.std.proofs.Common.{◌≡◌, ℕ, ◌+◌, ◌<◌, Bool, true, false, List, [], ◌∷◌, ◌++◌, map, length, take, get_or, refl, sym, ap, ◌∙◌, subst, if◌then◌else◌, true≢false}
 use Rattle.std.specs.Prelude.{is_some, cond, nat_eq, Option, Some, None, option_map, slice_get, ◌==◌}
 use Rattle.std.specs.Map.{lookup}
 use Rattle.std.proofs.lemmas.List.{take_more}
-use Rattle.std.proofs.lemmas.Option.{slice_get-get_or}
+use Rattle.std.proofs.lemmas.Option.{slice_get-get_or, slice_get-map}
 use Rattle.std.proofs.lemmas.Bool.{eqb-true, eqb-false}
 use Rattle.fir_tree.specs.declared.circuit.Module.{Module}
-use Rattle.size_check.specs.Indexes.{with_new, IsIndexOf}
-use Rattle.size_check.specs.Typings.{named}
+use Rattle.fir_types.specs.declared.fir_type.FirType.{FirType}
+use Rattle.size_check.specs.Indexes.{with_new, IsIndex, IsIndexOf, bundle_of}
+use Rattle.size_check.specs.Typings.{named, instance_type}
+use Rattle.size_check.specs.Weights.{no_type}
 
 abbrev or_else : {X : Type 0} → Option X → Option X → Option X
 or_else (Some x) o = Some x
@@ -92,3 +94,33 @@ index_more all i d numbers after lt h e name =
         = ap (lookup (nat_eq name)) more ∙ lookup-append numbers ((key, i) ∷ []) name ∙ ap (λ b. or_else (lookup (nat_eq name) numbers) (cond b (Some i) None)) (sym (same_test key name)) in
         subst (λ o. Fits all o (or_else (named (take i all) name) last)) (sym looked)
         (fits_else all (lookup (nat_eq name) numbers) (cond (key == name) (Some i) None) (named (take i all) name) last (h name) (own (key == name)))
+
+-- the bundle with the number of a name is that of the first module of the name
+
+found_at : (o m : Option Module) → ◌≡◌ {A = Option (Option Module)} (Some o) (option_map Some m) → o ≡ m
+found_at o (Some x) h = by o h
+  where
+    by : (o : Option Module) → ◌≡◌ {A = Option (Option Module)} (Some o) (Some (Some x)) → o ≡ Some x
+    by o h = cc
+found_at o None h = absurd (true≢false (ap is_some h))
+
+pub bundle_at : (all : List Module) (numbers : List (ℕ × ℕ)) (name number : ℕ) → IsIndex all numbers → lookup (nat_eq name) numbers ≡ Some number
+    → slice_get (map bundle_of all) number ≡ option_map bundle_of (named all name)
+bundle_at all numbers name number h is =
+    slice_get-map bundle_of all number ∙ ap (option_map bundle_of) (found_at (slice_get all number) (named all name) (ap (option_map (slice_get all)) (sym is) ∙ h name))
+
+pub bundle_of_none : (all : List Module) (numbers : List (ℕ × ℕ)) (name : ℕ) → IsIndex all numbers → lookup (nat_eq name) numbers ≡ None
+    → ◌≡◌ {A = Option FirType} None (option_map bundle_of (named all name))
+bundle_of_none all numbers name h is = by (named all name) (ap (option_map (slice_get all)) (sym is) ∙ h name)
+  where
+    by : (m : Option Module) → ◌≡◌ {A = Option (Option Module)} None (option_map Some m) → ◌≡◌ {A = Option FirType} None (option_map bundle_of m)
+    by (Some x) h = absurd (true≢false (sym (ap is_some h)))
+    by None h = refl
+
+pub instance_found : (target : Option Module) (bundle : FirType) → ◌≡◌ {A = Option FirType} (Some bundle) (option_map bundle_of target) → bundle ≡ instance_type target
+instance_found (Some m) bundle h = cc
+instance_found None bundle h = absurd (true≢false (ap is_some h))
+
+pub no_instance : (target : Option Module) → ◌≡◌ {A = Option FirType} None (option_map bundle_of target) → no_type ≡ instance_type target
+no_instance (Some m) h = absurd (true≢false (sym (ap is_some h)))
+no_instance None h = refl

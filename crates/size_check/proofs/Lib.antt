@@ -3,6 +3,8 @@ mod Capping
 mod Weighing
 mod Calling
 mod Noting
+mod Kept
+mod Covering
 mod Wording
 mod Lines
 mod Owning

@@ -165,6 +165,13 @@ pub wire_sums : (texts : Texts) (types : Typing) (s : Stmt) (name : Name) (typ :
 wire_sums texts types s name typ around most size leaves after is m z f a =
     sized_plus 0 (count typ) around size leaves (flat texts name.id typ) after (z ∙ ap (λ x. capped (sized 0 x around)) m) f a ∙ sym (ap capped (own-wire texts types s name typ around is))
 
+no_more : (n : ℕ) → n + 0 ≡ n
+no_more n = omega arith
+
+-- the leaves of a register
+pub register_leaves : (texts : Texts) (id : ℕ) (typ : FirType) (kept : Sums) → kept ≡ capped (plus (flat texts id typ) (stored (count typ))) → kept.leaves ≡ cap (count typ)
+register_leaves texts id typ kept h = ap (λ (s : Sums). s.leaves) h ∙ ap cap (no_more (count typ))
+
 pub reg_sums : (texts : Texts) (types : Typing) (s : Stmt) (name : Name) (typ : FirType) (clock : Expr) (around leaves own asked top : ℕ) (size kept after : Sums) → s ≡ stmt.Reg name typ clock
     → leaves ≡ cap (count typ) → asked ≡ cap (weight clock types).most → top ≡ max leaves asked → own ≡ nodes clock → size ≡ capped (sized own top around)
     → kept ≡ capped (plus (flat texts name.id typ) (stored (count typ))) → after ≡ capped (plus size kept) → after ≡ capped (stmt_own texts types s around)

@@ -16,7 +16,7 @@ use Rattle.fir_types.specs.declared.leaf.PathStep.{PathStep}
 use Rattle.fir_types.specs.declared.leaf.PathStep.TheVariants as step
 use Rattle.fir_types.specs.Leaves.{leaves, count, field_leaves, elements, under}
 use Rattle.fir_types.proofs.Counts.{counted}
-use Rattle.fir_types.proofs.Layers.{leaves-bundle, leaves-vector, leaves-field}
+use Rattle.fir_types.proofs.Layers.{leaves-bundle, leaves-vector, leaves-field, count-vector}
 use Rattle.leaf_names.specs.LeafNames.{Texts, text_of, step_text, way_text, leaf_text}
 use Rattle.size_check.specs.Caps.{cap}
 use Rattle.size_check.specs.Owns.{name_bytes}
@@ -138,10 +138,67 @@ pub field_capped : (n w t : ℕ) (count dotted product way total : ℕ) → coun
 field_capped n w t count dotted product way total c d p h e =
     e ∙ ap₂ (λ a b. cap (a + b)) (p ∙ ap₂ (λ x y. cap (x * y)) c d ∙ cap_product n (t + 1)) h ∙ cap_plus (n * (t + 1)) w
 
-pub vector_capped : (n w c b : ℕ) (way first count index second total : ℕ) → way ≡ cap w → first ≡ cap (n * way) → count ≡ cap c → index ≡ cap b → second ≡ cap (count * index) → total ≡ cap (first + second)
-    → total ≡ cap (n * w + c * b)
-vector_capped n w c b way first count index second total h f k i s e =
-    e ∙ ap₂ (λ x y. cap (x + y)) (f ∙ ap (λ x. cap (n * x)) h ∙ cap_times n w) (s ∙ ap₂ (λ x y. cap (x * y)) k i ∙ cap_product c b) ∙ cap_plus (n * w) (c * b)
+-- runs of vectors
+
+pub longer_capped : (i l e b : ℕ) (first index second total : ℕ) → first ≡ cap (i * l) → index ≡ cap b → second ≡ cap (e * index) → total ≡ cap (first + second)
+    → total ≡ cap (i * l + e * b)
+longer_capped i l e b first index second total f x s t =
+    t ∙ ap₂ (λ x y. cap (x + y)) f (s ∙ ap (λ y. cap (e * y)) x ∙ cap_times e b) ∙ cap_plus (i * l) (e * b)
+
+pub pair_plus : (a b : ℕ) (first second total : ℕ) → first ≡ cap a → second ≡ cap b → total ≡ cap (first + second) → total ≡ cap (a + b)
+pair_plus a b first second total f s t = t ∙ ap₂ (λ x y. cap (x + y)) f s ∙ cap_plus a b
+
+pair_front : (x w y c : ℕ) → cap (cap x * w + cap y * c) ≡ cap (x * w + y * c)
+pair_front x w y c = sym (cap_plus (cap x * w) (cap y * c)) ∙ ap₂ (λ a b. cap (a + b)) (cap_front x w) (cap_front y c) ∙ cap_plus (x * w) (y * c)
+
+pair_behind : (x w y c : ℕ) → cap (x * cap w + y * cap c) ≡ cap (x * w + y * c)
+pair_behind x w y c = sym (cap_plus (x * cap w) (y * cap c)) ∙ ap₂ (λ a b. cap (a + b)) (cap_times x w) (cap_times y c) ∙ cap_plus (x * w) (y * c)
+
+later_times : (a b c : ℕ) → a * (b * c) ≡ a * b * c
+later_times a b c = grind (arith, common_steps)
+
+turned_in : (e n w c b i : ℕ) → e * (n * w + c * b) + i * (n * c) ≡ e * n * w + (i * n + e * b) * c
+turned_in e n w c b i = grind (arith, common_steps)
+
+-- what holds of a vector's elements, all of them in each vector around
+pub leaves_on : (typ inside element : FirType) (length elements after : ℕ) → inside.shape ≡ shape.Vector element length → cap (count typ) ≡ cap (elements * count inside)
+    → after ≡ cap (elements * length) → cap (count typ) ≡ cap (after * count element)
+leaves_on typ inside element length elements after is h e =
+    h ∙ ap (λ n. cap (elements * n)) (count-vector inside element length is) ∙ ap cap (later_times elements length (count element))
+    ∙ sym (ap (λ n. cap (n * count element)) e ∙ cap_front (elements * length) (count element))
+
+pub bytes_on : (texts : Texts) (typ inside element : FirType) (length elements indices after next : ℕ) → inside.shape ≡ shape.Vector element length
+    → cap (way_bytes texts typ) ≡ cap (elements * way_bytes texts inside + indices * count inside)
+    → after ≡ cap (elements * length) → next ≡ cap (indices * length + elements * index_bytes length)
+    → cap (way_bytes texts typ) ≡ cap (after * way_bytes texts element + next * count element)
+bytes_on texts typ inside element length elements indices after next is h e n =
+    let w = way_bytes texts element in
+    let c = count element in
+    h ∙ ap₂ (λ x y. cap (elements * x + indices * y)) (ways-vector texts inside element length is) (count-vector inside element length is)
+    ∙ ap cap (turned_in elements length w c (index_bytes length) indices)
+    ∙ sym (ap₂ (λ x y. cap (x * w + y * c)) e n ∙ pair_front (elements * length) w (indices * length + elements * index_bytes length) c)
+
+pub leaves_around : (typ inside : FirType) (elements leaves after : ℕ) → cap (count typ) ≡ cap (elements * count inside) → leaves ≡ cap (count inside)
+    → after ≡ cap (elements * leaves) → after ≡ cap (count typ)
+leaves_around typ inside elements leaves after h l a = a ∙ ap (λ n. cap (elements * n)) l ∙ cap_times elements (count inside) ∙ sym h
+
+pub bytes_around : (texts : Texts) (typ inside : FirType) (elements indices leaves bytes after : ℕ)
+    → cap (way_bytes texts typ) ≡ cap (elements * way_bytes texts inside + indices * count inside) → leaves ≡ cap (count inside) → bytes ≡ cap (way_bytes texts inside)
+    → after ≡ cap (elements * bytes + indices * leaves) → after ≡ cap (way_bytes texts typ)
+bytes_around texts typ inside elements indices leaves bytes after h l b a =
+    a ∙ ap₂ (λ x y. cap (elements * x + indices * y)) b l ∙ pair_behind elements (way_bytes texts inside) indices (count inside) ∙ sym h
+
+once : (n : ℕ) → n ≡ 1 * n
+once n = omega arith
+
+pub leaves_begin : (typ : FirType) → cap (count typ) ≡ cap (1 * count typ)
+leaves_begin typ = ap cap (once (count typ))
+
+begins : (w c : ℕ) → w ≡ 1 * w + 0 * c
+begins w c = omega arith
+
+pub bytes_begin : (texts : Texts) (typ : FirType) → cap (way_bytes texts typ) ≡ cap (1 * way_bytes texts typ + 0 * count typ)
+bytes_begin texts typ = ap cap (begins (way_bytes texts typ) (count typ))
 
 -- The digits of numbers
 

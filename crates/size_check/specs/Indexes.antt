@@ -2,6 +2,8 @@
 use Rattle.std.specs.Prelude.{◌≡◌, ℕ, List, [], ◌∷◌, ◌++◌, nat_eq, slice_get, is_some, Some, option_map, if◌then◌else◌}
 use Rattle.std.specs.Map.{lookup}
 use Rattle.fir_tree.specs.declared.circuit.Module.{Module}
+use Rattle.fir_types.specs.declared.fir_type.FirType.{FirType}
+use Rattle.fir_types.specs.Bundles.{instance_of}
 use Rattle.size_check.specs.Typings.{named}
 
 -- the entries with one more, unless there is one of its name
@@ -14,3 +16,7 @@ IsIndexOf all numbers modules = (name : ℕ) → option_map (slice_get all) (loo
 
 abbrev pub IsIndex : List Module → List (ℕ × ℕ) → Type 0
 IsIndex modules numbers = IsIndexOf modules numbers modules
+
+-- the type of the instances of a module
+abbrev pub bundle_of : Module → FirType
+bundle_of m = instance_of m.ports

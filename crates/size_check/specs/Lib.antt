@@ -10,6 +10,7 @@ pub mod Limits
 pub mod Ranks
 pub mod Caps
 pub mod Rounds
+pub mod Kept
 pub mod Reaching
 pub mod Texts
 pub mod Indexes

@@ -1,14 +1,16 @@
 //! The types of a module's components.
 
 ghost use Rattle.std.specs.Prelude.{◌≡◌, [], map, IfOk, OnOk};
+ghost use Rattle.size_check.specs.Kept.{types_of};
 ghost use Rattle.size_check.specs.Typings.{known_with, known_in, stmt_notes, arm_notes, port_notes, in_turn, named, instance_type as instance_type_of};
 ghost use Rattle.size_check.specs.Weights.{one_bit, no_type};
 
+use crate::counted::Counted;
 use crate::modules::Modules;
 use crate::weights::weigh;
 use bit_words::{List, Shared};
 use fir_tree::{Arm, Expr, Module, Stmt};
-use fir_types::{FirType, Memory, Name, Port, Shape, copy, instance_type, memory_type};
+use fir_types::{FirType, Memory, Name, Port, Shape, copy, instance_type, leaf_count, memory_type};
 use indexmap::IndexMap;
 use place_text::Place;
 use std::alloc::{AllocError, Global};
@@ -17,7 +19,7 @@ use std::alloc::{AllocError, Global};
 #[derive(Drop)]
 pub struct Known {
     /// By the numbers of their names: of each name the first.
-    pub types: IndexMap<u32, FirType>,
+    pub types: IndexMap<u32, Counted>,
     /// The type of what is one leaf.
     pub bit: FirType,
     /// The type of what is nothing.
@@ -27,11 +29,13 @@ pub struct Known {
 }
 
 impl Known {
+    ghost use Rattle.fir_types.specs.Leaves.{count};
+    ghost use Rattle.size_check.specs.Caps.{cap};
     ghost use Rattle.size_check.specs.Reaching.{types_in};
 
     /// No component.
     pub fn new(alloc: Global) -> Result<Known, AllocError>
-        ensures { IfOk result (λ known. known.types.entries ≡ []) }
+        ensures { IfOk result (λ known. types_of known.types.entries ≡ []) }
     {
         let place = Place { line: 1, column: 1 };
         let none = FirType {
@@ -53,17 +57,28 @@ impl Known {
         ensures { result.now ≡ types_in self.now id }
     {
         match self.types.get(&id) {
-            Some(typ) => typ,
+            Some(known) => &known.typ,
             None => &self.none,
+        }
+    }
+
+    /// How many leaves it has.
+    pub fn leaves(&self, id: u32) -> u128
+        ensures { result ≡ cap (count (types_in self.now id)) }
+    {
+        match self.types.get(&id) {
+            Some(known) => known.leaves,
+            None => 0,
         }
     }
 
     /// Notes the type of a name, unless there is one.
     fn insert_new(&mut self, name: Name, typ: FirType) -> Result<(), AllocError>
-        ensures { OnOk result (self.new.types.entries ≡ known_with self.old.types.entries name.id typ) }
+        ensures { OnOk result (types_of self.new.types.entries ≡ known_with (types_of self.old.types.entries) name.id typ) }
     {
         if self.types.get(&name.id).is_none() {
-            self.types.insert(name.id, typ)?;
+            let leaves = leaf_count(&typ);
+            self.types.insert(name.id, Counted { typ, leaves })?;
         }
         Ok(())
     }
@@ -71,7 +86,7 @@ impl Known {
 
 /// The components of a module, where these are all modules.
 pub fn known_of(alloc: Global, modules: &Modules<'_>, holder: &Module) -> Result<Known, AllocError>
-    ensures { IfOk result (λ known. known.types.entries ≡ known_in modules.now.all.now holder.now) }
+    ensures { IfOk result (λ known. types_of known.types.entries ≡ known_in modules.now.all.now holder.now) }
 {
     let mut known = Known::new(alloc)?;
     note_ports(&mut known, holder.ports.as_slice())?;
@@ -80,7 +95,7 @@ pub fn known_of(alloc: Global, modules: &Modules<'_>, holder: &Module) -> Result
 }
 
 fn note_ports(known: &mut Known, ports: &[Port]) -> Result<(), AllocError>
-    ensures { OnOk result (known.new.types.entries ≡ in_turn (map port_notes ports.now) known.old.types.entries) }
+    ensures { OnOk result (types_of known.new.types.entries ≡ in_turn (map port_notes ports.now) (types_of known.old.types.entries)) }
 {
     for port in ports {
         known.insert_new(port.name, copy(&port.typ)?)?;
@@ -95,7 +110,7 @@ fn note_statements(
     known: &mut Known,
     statements: &[Stmt],
 ) -> Result<(), AllocError>
-    ensures { OnOk result (known.new.types.entries ≡ in_turn (map (stmt_notes modules.now.all.now) statements.now) known.old.types.entries) }
+    ensures { OnOk result (types_of known.new.types.entries ≡ in_turn (map (stmt_notes modules.now.all.now) statements.now) (types_of known.old.types.entries)) }
 {
     for statement in statements {
         note_statement(alloc, modules, known, statement)?;
@@ -110,7 +125,7 @@ fn note_statement(
     known: &mut Known,
     statement: &Stmt,
 ) -> Result<(), AllocError>
-    ensures { OnOk result (known.new.types.entries ≡ stmt_notes modules.now.all.now statement.now known.old.types.entries) }
+    ensures { OnOk result (types_of known.new.types.entries ≡ stmt_notes modules.now.all.now statement.now (types_of known.old.types.entries)) }
 {
     match statement {
         Stmt::Wire(name, typ) | Stmt::Reg(name, typ, _) | Stmt::RegReset(name, typ, _, _, _) => {
@@ -140,7 +155,7 @@ fn note_arms(
     known: &mut Known,
     arms: &[Arm],
 ) -> Result<(), AllocError>
-    ensures { OnOk result (known.new.types.entries ≡ in_turn (map (arm_notes modules.now.all.now) arms.now) known.old.types.entries) }
+    ensures { OnOk result (types_of known.new.types.entries ≡ in_turn (map (arm_notes modules.now.all.now) arms.now) (types_of known.old.types.entries)) }
 {
     for arm in arms {
         note_statements(alloc, modules, known, arm.body.as_slice())?;
@@ -156,8 +171,8 @@ fn type_of_instance(
 ) -> Result<FirType, AllocError>
     ensures { IfOk result (λ typ. typ ≡ instance_type_of (named modules.now.all.now target.id)) }
 {
-    match modules.first(target.id) {
-        Some(holder) => instance_type(alloc, holder.ports.as_slice()),
+    match modules.bundle(target.id) {
+        Some(bundle) => copy(bundle),
         None => instance_type(alloc, &[]),
     }
 }

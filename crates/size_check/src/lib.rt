@@ -4,6 +4,7 @@
 #![tactic(auto)]
 
 mod calls;
+mod counted;
 pub mod fault;
 mod known;
 pub mod laws;
@@ -12,6 +13,7 @@ mod measuring;
 mod modules;
 mod names;
 mod owns;
+mod reached;
 mod rounds;
 pub mod sums;
 mod weights;

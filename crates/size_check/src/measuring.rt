@@ -19,8 +19,8 @@ use std::alloc::Global;
 
 /// The measure of a circuit. A circuit that passes a limit is too large, at its name.
 ///
-/// A module is measured once, however often it stands. Memory is in proportion to the circuit; time too, but that each reference counts
-/// the leaves of its component's type anew.
+/// A module is measured once, however often it stands. Memory is in proportion to the circuit; time too, but that each reference looks
+/// its fields up one after the other.
 pub fn flat_measure(alloc: Global, checked: &Checked) -> Result<Measure, SizeFault>
     ensures { IsVerdict place_of rank_of (IsFault checked.now.circuit) (IsMeasure checked.now.circuit) result }
 {

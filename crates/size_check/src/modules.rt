@@ -1,29 +1,37 @@
 //! The modules of a circuit, by name.
 
-ghost use Rattle.std.specs.Prelude.{◌≡◌, Some, option_map, slice_get, IfOk, OnOk};
+ghost use Rattle.std.specs.Prelude.{◌≡◌, Some, map, option_map, slice_get, IfOk, OnOk};
 ghost use Rattle.std.specs.Option.{option_copied};
-ghost use Rattle.size_check.specs.Indexes.{IsIndex, with_new};
+ghost use Rattle.size_check.specs.Indexes.{IsIndex, with_new, bundle_of};
 ghost use Rattle.size_check.specs.Typings.{named};
 
 use fir_tree::Module;
+use fir_types::{FirType, instance_type};
 use indexmap::IndexMap;
 use std::alloc::{AllocError, Global};
 
-/// The modules of a circuit, with the number of the first of each name.
+/// The modules of a circuit, with the number of the first of each name, and with the type that the instances of each share.
 #[derive(Drop)]
 pub struct Modules<'a> {
     pub all: &'a [Module],
     numbers: IndexMap<u32, usize>,
+    bundles: Vec<FirType>,
     ghost indexed: { IsIndex all.now numbers.entries },
+    ghost bundled: { bundles.items ≡ map bundle_of all.now },
 }
 
 impl<'a> Modules<'a> {
-    /// These modules. Takes time and memory in proportion to their number.
+    /// These modules. Takes time and memory in proportion to their number and to that of their ports.
     pub fn new(alloc: Global, all: &'a [Module]) -> Result<Modules<'a>, AllocError>
         ensures { IfOk result (λ modules. modules.all.now ≡ all.now) }
     {
         let numbers = numbers_of(alloc, all)?;
-        Ok(Modules { all, numbers })
+        let bundles = bundles_of(alloc, all)?;
+        Ok(Modules {
+            all,
+            numbers,
+            bundles,
+        })
     }
 
     /// The number of the first module of a name, given by the number of its text.
@@ -40,6 +48,25 @@ impl<'a> Modules<'a> {
         let number = self.numbers.get(&name)?;
         self.all.get(*number)
     }
+
+    /// The type of the instances of the first module of a name, given by the number of its text.
+    pub fn bundle(&self, name: u32) -> Option<&FirType>
+        ensures { option_copied result ≡ option_map bundle_of (named self.now.all.now name) }
+    {
+        let number = self.numbers.get(&name)?;
+        self.bundles.get(*number)
+    }
+}
+
+/// The types of the modules' instances.
+fn bundles_of(alloc: Global, modules: &[Module]) -> Result<Vec<FirType>, AllocError>
+    ensures { IfOk result (λ bundles. bundles.items ≡ map bundle_of modules.now) }
+{
+    let mut bundles = Vec::new(alloc);
+    for module in modules {
+        bundles.push(instance_type(alloc, module.ports.as_slice())?)?;
+    }
+    Ok(bundles)
 }
 
 /// The numbers of modules by name, of each name the first.

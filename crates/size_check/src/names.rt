@@ -1,13 +1,14 @@
-//! The bytes of leaves' names, without a list of them.
+//! The leaves of types and the bytes of their names, without a list of them.
 
-ghost use Rattle.std.specs.Prelude.{◌≡◌, length, sum, map};
+ghost use Rattle.std.specs.Prelude.{◌≡◌, ◌+◌, ◌*◌, length, sum, map};
+ghost use Rattle.fir_types.specs.Leaves.{count, field_count};
 ghost use Rattle.leaf_names.specs.LeafNames.{text_of};
 ghost use Rattle.size_check.specs.Caps.{cap};
 ghost use Rattle.size_check.specs.Owns.{name_bytes};
 ghost use Rattle.size_check.specs.Texts.{way_bytes, field_bytes, index_bytes};
 
 use fir_tree::Names;
-use fir_types::{Field, FirType, Shape, leaf_count};
+use fir_types::{Field, FirType, Shape};
 
 /// How many numbers with more than one digit stand for all of those that have so many digits, up to 2^128 - 1: 10 to 10^38.
 const POWERS: u32 = 38;
@@ -22,48 +23,121 @@ pub fn name_length(names: &Names, id: u32) -> u128
     }
 }
 
-/// The bytes of the names of all leaves of a component.
-pub fn name_bytes(names: &Names, id: u32, typ: &FirType) -> u128
-    ensures { result ≡ cap (name_bytes names.now id typ.now) }
-{
-    leaf_count(typ)
-        .saturating_mul(name_length(names, id))
-        .saturating_add(way_bytes(names, typ))
+/// Some leaves, and the bytes of the ways to them, or of their names.
+#[derive(Clone, Copy)]
+pub struct Ways {
+    pub leaves: u128,
+    pub bytes: u128,
 }
 
-/// The bytes of the ways to all leaves of a type.
-#[cycle(ways)]
-fn way_bytes(names: &Names, typ: &FirType) -> u128
-    ensures { result ≡ cap (way_bytes names.now typ.now) }
+/// The leaves of a component, and the bytes of their names.
+pub fn names_of(names: &Names, id: u32, typ: &FirType) -> Ways
+    ensures leaves { result.leaves ≡ cap (count typ.now) }
+    ensures bytes { result.bytes ≡ cap (name_bytes names.now id typ.now) }
 {
-    match &typ.shape {
-        Shape::Unsigned(_) | Shape::Signed(_) | Shape::Clock | Shape::Reset => 0,
-        Shape::Bundle(fields) => bytes_of_fields(names, fields.as_slice()),
-        Shape::Vector(element, length) => length
-            .saturating_mul(way_bytes(names, element.get()))
-            .saturating_add(leaf_count(element.get()).saturating_mul(index_bytes(*length))),
+    let Ways { leaves, bytes } = ways_of(names, typ);
+    Ways {
+        leaves,
+        bytes: leaves
+            .saturating_mul(name_length(names, id))
+            .saturating_add(bytes),
+    }
+}
+
+/// Vectors in one another, from the outermost on: the number of innermost elements, and the bytes of the indices of the ways to all of
+/// them.
+#[derive(Clone, Copy)]
+struct Run {
+    elements: u128,
+    indices: u128,
+}
+
+impl Run {
+    /// With a vector of this length in each element.
+    fn longer(self, length: u128) -> Run
+        ensures elements { result.elements ≡ cap (self.elements * length) }
+        ensures indices { result.indices ≡ cap (self.indices * length + self.elements * index_bytes length) }
+    {
+        Run {
+            elements: self.elements.saturating_mul(length),
+            indices: self
+                .indices
+                .saturating_mul(length)
+                .saturating_add(self.elements.saturating_mul(index_bytes(length))),
+        }
+    }
+
+    /// The leaves of all elements, where one has these.
+    fn around(self, element: Ways) -> Ways
+        ensures leaves { result.leaves ≡ cap (self.elements * element.leaves) }
+        ensures bytes { result.bytes ≡ cap (self.elements * element.bytes + self.indices * element.leaves) }
+    {
+        Ways {
+            leaves: self.elements.saturating_mul(element.leaves),
+            bytes: self
+                .elements
+                .saturating_mul(element.bytes)
+                .saturating_add(self.indices.saturating_mul(element.leaves)),
+        }
+    }
+}
+
+/// The leaves of a type, and the bytes of the ways to them.
+#[cycle(ways)]
+fn ways_of(names: &Names, typ: &FirType) -> Ways
+    ensures leaves { result.leaves ≡ cap (count typ.now) }
+    ensures bytes { result.bytes ≡ cap (way_bytes names.now typ.now) }
+{
+    let mut run = Run {
+        elements: 1,
+        indices: 0,
+    };
+    let mut inside = typ;
+    loop {
+        match &inside.shape {
+            Shape::Unsigned(_) | Shape::Signed(_) | Shape::Clock | Shape::Reset => {
+                return run.around(Ways {
+                    leaves: 1,
+                    bytes: 0,
+                });
+            }
+            Shape::Bundle(fields) => return run.around(ways_of_fields(names, fields.as_slice())),
+            Shape::Vector(element, length) => {
+                run = run.longer(*length);
+                inside = element.get();
+            }
+        }
     }
 }
 
 #[cycle(ways)]
-fn bytes_of_fields(names: &Names, fields: &[Field]) -> u128
-    ensures { result ≡ cap (sum (map (field_bytes names.now) fields.now)) }
+fn ways_of_fields(names: &Names, fields: &[Field]) -> Ways
+    ensures leaves { result.leaves ≡ cap (sum (map field_count fields.now)) }
+    ensures bytes { result.bytes ≡ cap (sum (map (field_bytes names.now) fields.now)) }
 {
-    let mut total: u128 = 0;
+    let mut leaves: u128 = 0;
+    let mut bytes: u128 = 0;
     for field in fields {
-        total = total.saturating_add(bytes_of_field(names, field));
+        let part = ways_of_field(names, field);
+        leaves = leaves.saturating_add(part.leaves);
+        bytes = bytes.saturating_add(part.bytes);
     }
-    total
+    Ways { leaves, bytes }
 }
 
-/// The bytes of the ways to all leaves of a field: each begins with a dot and the field's name.
+/// The leaves of a field, and the bytes of the ways to them: each begins with a dot and the field's name.
 #[cycle(ways)]
-fn bytes_of_field(names: &Names, field: &Field) -> u128
-    ensures { result ≡ cap (field_bytes names.now field.now) }
+fn ways_of_field(names: &Names, field: &Field) -> Ways
+    ensures leaves { result.leaves ≡ cap (field_count field.now) }
+    ensures bytes { result.bytes ≡ cap (field_bytes names.now field.now) }
 {
-    leaf_count(&field.typ)
-        .saturating_mul(name_length(names, field.name.id).saturating_add(1))
-        .saturating_add(way_bytes(names, &field.typ))
+    let Ways { leaves, bytes } = ways_of(names, &field.typ);
+    Ways {
+        leaves,
+        bytes: leaves
+            .saturating_mul(name_length(names, field.name.id).saturating_add(1))
+            .saturating_add(bytes),
+    }
 }
 
 /// The bytes of `[0]`, `[1]` and so on, below a number.

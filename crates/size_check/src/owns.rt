@@ -11,7 +11,7 @@ ghost use Rattle.size_check.specs.Owns.{sized, flat, stored, celled, vector_of, 
 
 use crate::known::{Known, known_of};
 use crate::modules::Modules;
-use crate::names::name_bytes;
+use crate::names::names_of;
 use crate::sums::Sums;
 use crate::weights::{more, nodes, weigh};
 use bit_words::Shared;
@@ -42,8 +42,9 @@ fn ports_own(names: &Names, ports: &[Port]) -> Result<Sums, AllocError>
 {
     let mut total = Sums::none();
     for port in ports {
-        let size = sized(0, leaf_count(&port.typ), 0)?;
-        total = total.plus(size.plus(flat(names, port.name, &port.typ)));
+        let leaves = flat(names, port.name, &port.typ);
+        let size = sized(0, leaves.leaves, 0)?;
+        total = total.plus(size.plus(leaves));
     }
     Ok(total)
 }
@@ -79,28 +80,31 @@ fn statement_own(
 {
     match statement {
         Stmt::Wire(name, typ) => {
-            let size = sized(0, leaf_count(typ), around)?;
-            Ok(size.plus(flat(names, *name, typ)))
+            let leaves = flat(names, *name, typ);
+            let size = sized(0, leaves.leaves, around)?;
+            Ok(size.plus(leaves))
         }
         Stmt::Reg(name, typ, clock) => {
-            let most = leaf_count(typ).max(weigh(known, clock).most);
+            let kept = register(names, *name, typ);
+            let most = kept.leaves.max(weigh(known, clock).most);
             let size = sized(nodes(clock)?, most, around)?;
-            Ok(size.plus(register(names, *name, typ)))
+            Ok(size.plus(kept))
         }
         Stmt::RegReset(name, typ, clock, reset, init) => {
-            let first = leaf_count(typ).max(weigh(known, clock).most);
+            let kept = register(names, *name, typ);
+            let first = kept.leaves.max(weigh(known, clock).most);
             let second = weigh(known, reset).most.max(weigh(known, init).most);
             let own = more(more(nodes(clock)?, nodes(reset)?)?, nodes(init)?)?;
             let size = sized(own, first.max(second), around)?;
-            Ok(size.plus(register(names, *name, typ)))
+            Ok(size.plus(kept))
         }
         Stmt::Mem(memory) => memory_own(alloc, names, known, memory, around),
-        Stmt::Inst(name, _) => sized(0, leaf_count(known.of(name.id)), around),
+        Stmt::Inst(name, _) => sized(0, known.leaves(name.id), around),
         Stmt::Node(name, expr) => {
-            let typ = known.of(name.id);
-            let most = leaf_count(typ).max(weigh(known, expr).most);
+            let leaves = flat(names, *name, known.of(name.id));
+            let most = leaves.leaves.max(weigh(known, expr).most);
             let size = sized(nodes(expr)?, most, around)?;
-            Ok(size.plus(flat(names, *name, typ)))
+            Ok(size.plus(leaves))
         }
         Stmt::Connect(left, right) => {
             let most = weigh(known, left).most.max(weigh(known, right).most);
@@ -171,14 +175,14 @@ fn memory_own(
 ) -> Result<Sums, AllocError>
     ensures { IfOk result (λ own. own ≡ capped (of_memory names.now (types_in known.now) memory.now around)) }
 {
-    let typ = known.of(memory.name.id);
-    let size = sized(0, leaf_count(typ), around)?;
+    let ports = flat(names, memory.name, known.of(memory.name.id));
+    let size = sized(0, ports.leaves, around)?;
     let lines = memory.lines.as_slice();
     let element = element_of(lines, &known.none);
     let vector = vector_of(alloc, element, depth_of(lines))?;
     let elements = celled(names, memory.name, &vector);
     let kept = stored(captured(lines, element));
-    Ok(size.plus(flat(names, memory.name, typ).plus(elements.plus(kept))))
+    Ok(size.plus(ports.plus(elements.plus(kept))))
 }
 
 /// The size of a statement with so many nodes, under conditions with so many, whose types have at most so many leaves.
@@ -199,12 +203,12 @@ fn sized(own: u128, most: u128, around: u128) -> Result<Sums, AllocError>
 fn flat(names: &Names, name: Name, typ: &FirType) -> Sums
     ensures { result ≡ capped (flat names.now name.id typ.now) }
 {
-    let count = leaf_count(typ);
+    let named = names_of(names, name.id, typ);
     Sums {
         size: 0,
-        leaves: count,
-        names: count,
-        bytes: name_bytes(names, name.id, typ),
+        leaves: named.leaves,
+        names: named.leaves,
+        bytes: named.bytes,
         words: 0,
     }
 }
@@ -213,7 +217,8 @@ fn flat(names: &Names, name: Name, typ: &FirType) -> Sums
 fn register(names: &Names, name: Name, typ: &FirType) -> Sums
     ensures { result ≡ capped (plus (flat names.now name.id typ.now) (stored (count typ.now))) }
 {
-    flat(names, name, typ).plus(stored(leaf_count(typ)))
+    let leaves = flat(names, name, typ);
+    leaves.plus(stored(leaves.leaves))
 }
 
 /// The words of so many leaves of the state, whatever their width.
@@ -233,13 +238,13 @@ fn stored(count: u128) -> Sums
 fn celled(names: &Names, name: Name, typ: &FirType) -> Sums
     ensures { result ≡ capped (celled names.now name.id typ.now) }
 {
-    let count = leaf_count(typ);
+    let named = names_of(names, name.id, typ);
     Sums {
         size: 0,
         leaves: 0,
-        names: count,
-        bytes: name_bytes(names, name.id, typ),
-        words: count.saturating_mul(2),
+        names: named.leaves,
+        bytes: named.bytes,
+        words: named.leaves.saturating_mul(2),
     }
 }
 

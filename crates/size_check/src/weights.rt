@@ -1,12 +1,14 @@
 //! The nodes of expressions, and the leaves of their types.
 
-ghost use Rattle.std.specs.Prelude.{◌≡◌, ◌+◌, map, sum, IfOk};
+ghost use Rattle.std.specs.Prelude.{◌≡◌, ◌≤◌, ◌+◌, max, map, sum, IfOk};
+ghost use Rattle.fir_types.specs.Leaves.{count};
 ghost use Rattle.fir_meaning.specs.Values.{field_type, element_type};
 ghost use Rattle.size_check.specs.Caps.{cap};
 ghost use Rattle.size_check.specs.Reaching.{types_in, weight_of, capped_weight};
-ghost use Rattle.size_check.specs.Weights.{nodes, suffix_nodes, weight, suffix_step, along, whole, reach, most_of, of_choice};
+ghost use Rattle.size_check.specs.Weights.{nodes, suffix_nodes, weight, suffix_step, along, whole, reach, most_of, of_choice, one_bit};
 
 use crate::known::Known;
+use crate::reached::Reached;
 use fir_tree::{Expr, Form, Suffix};
 use fir_types::{FirType, Shape, field_of, leaf_count};
 use std::alloc::AllocError;
@@ -67,13 +69,6 @@ pub fn more(count: u128, other: u128) -> Result<u128, AllocError>
     }
 }
 
-/// An expression, or a reference up to some suffix: its type, and the greatest number of leaves that a node of it has.
-#[derive(Clone, Copy)]
-pub struct Reached<'a> {
-    pub typ: &'a FirType,
-    pub most: u128,
-}
-
 /// An expression among the components that are known.
 #[cycle(weigh)]
 pub fn weigh<'a>(known: &'a Known, expr: &Expr) -> Reached<'a>
@@ -81,11 +76,8 @@ pub fn weigh<'a>(known: &'a Known, expr: &Expr) -> Reached<'a>
 {
     match &expr.form {
         Form::Ref(name, suffixes) => follow(known, name.id, suffixes.as_slice()),
-        Form::Literal(_, _, _) => start(&known.bit),
-        Form::Prim(_, operands, _) => Reached {
-            typ: &known.bit,
-            most: most_in(known, operands.as_slice()).max(1),
-        },
+        Form::Literal(_, _, _) => one_leaf(known),
+        Form::Prim(_, operands, _) => operation(known, most_in(known, operands.as_slice())),
         Form::Mux(operands) => choose(known, operands.as_slice()),
     }
 }
@@ -106,19 +98,28 @@ fn most_in(known: &Known, exprs: &[Expr]) -> u128
 fn choose<'a>(known: &'a Known, operands: &[Expr]) -> Reached<'a>
     ensures { weight_of result ≡ capped_weight (of_choice (map (λ e. weight e (types_in known.now)) operands.now)) }
 {
-    match operands {
-        [condition, first, rest @ ..] => {
-            let asked = weigh(known, condition).most;
-            let reached = weigh(known, first);
-            Reached {
-                typ: reached.typ,
-                most: asked.max(reached.most.max(most_in(known, rest))),
-            }
-        }
-        _ => Reached {
+    let [condition, first, rest @ ..] = operands else {
+        return Reached {
             typ: &known.none,
             most: most_in(known, operands),
-        },
+        };
+    };
+    let asked = weigh(known, condition).most;
+    let reached = weigh(known, first);
+    Reached {
+        typ: reached.typ,
+        most: asked.max(reached.most.max(most_in(known, rest))),
+    }
+}
+
+/// The result of an operation, of whose operands a node has at most so many leaves.
+fn operation(known: &Known, most: u128) -> Reached<'_>
+    ensures typ { result.typ.now ≡ one_bit }
+    ensures most { result.most ≡ max most 1 }
+{
+    Reached {
+        typ: &known.bit,
+        most: most.max(1),
     }
 }
 
@@ -127,7 +128,7 @@ fn choose<'a>(known: &'a Known, operands: &[Expr]) -> Reached<'a>
 fn follow<'a>(known: &'a Known, name: u32, suffixes: &[Suffix]) -> Reached<'a>
     ensures { weight_of result ≡ capped_weight (along (types_in known.now) name (map suffix_step suffixes.now)) }
 {
-    let mut reached = start(known.of(name));
+    let mut reached = start(known, name);
     for suffix in suffixes {
         reached = take_step(known, reached, suffix);
     }
@@ -139,38 +140,69 @@ fn take_step<'a>(known: &'a Known, before: Reached<'a>, suffix: &Suffix) -> Reac
     ensures { weight_of result ≡ capped_weight (suffix_step suffix.now (types_in known.now) (weight_of before.entry)) }
 {
     match suffix {
-        Suffix::Field(name) => onward(before, field_type(before.typ, name.id), 0),
-        Suffix::At(_, _, _) => onward(before, element_type(before.typ), 0),
-        Suffix::Index(_, index) => {
-            let beside = weigh(known, index).most;
-            onward(before, element_type(before.typ), beside)
-        }
+        Suffix::Field(name) => to_field(before, name.id),
+        Suffix::At(_, _, _) => to_element(before, 0),
+        Suffix::Index(_, index) => to_element(before, weigh(known, index).most),
     }
 }
 
 /// A component as a whole.
-fn start(typ: &FirType) -> Reached<'_>
-    ensures { weight_of result ≡ capped_weight (whole typ.now) }
+fn start(known: &Known, name: u32) -> Reached<'_>
+    ensures { weight_of result ≡ capped_weight (whole (types_in known.now name)) }
 {
     Reached {
-        typ,
-        most: leaf_count(typ),
+        typ: known.of(name),
+        most: known.leaves(name),
     }
 }
 
-/// A part of this type, beside which an index stands.
-fn onward<'a>(before: Reached<'a>, typ: &'a FirType, index: u128) -> Reached<'a>
-    ensures { weight_of result ≡ capped_weight (reach typ.now index (weight_of before.entry)) }
+/// What is one leaf.
+fn one_leaf(known: &Known) -> Reached<'_>
+    ensures { weight_of result ≡ capped_weight (whole one_bit) }
 {
     Reached {
-        typ,
-        most: before.most.max(index).max(leaf_count(typ)),
+        typ: &known.bit,
+        most: 1,
+    }
+}
+
+/// The field of a name. It has no more leaves than its bundle.
+fn to_field(before: Reached<'_>, id: u32) -> Reached<'_>
+    ensures { weight_of result ≡ capped_weight (reach (field_type id before.entry.typ.now) 0 (weight_of before.entry)) }
+{
+    Reached {
+        typ: field_type(before.typ, id),
+        most: before.most,
+    }
+}
+
+/// An element, beside which an index stands. It has no more leaves than its vector, unless that has no element.
+fn to_element(before: Reached<'_>, index: u128) -> Reached<'_>
+    ensures { weight_of result ≡ capped_weight (reach (element_type before.entry.typ.now) index (weight_of before.entry)) }
+{
+    let most = before.most.max(index);
+    let Shape::Vector(element, length) = &before.typ.shape else {
+        return Reached {
+            typ: before.typ,
+            most,
+        };
+    };
+    if *length == 0 {
+        return Reached {
+            typ: element.get(),
+            most: most.max(leaf_count(element.get())),
+        };
+    }
+    Reached {
+        typ: element.get(),
+        most,
     }
 }
 
 /// The type of a bundle's first field of a name. What has no such field stays.
 fn field_type(typ: &FirType, id: u32) -> &FirType
-    ensures { result.now ≡ field_type id typ.now }
+    ensures typ { result.now ≡ field_type id typ.now }
+    ensures leaves { count result.now ≤ count typ.now }
 {
     let Shape::Bundle(fields) = &typ.shape else {
         return typ;
@@ -178,15 +210,5 @@ fn field_type(typ: &FirType, id: u32) -> &FirType
     match field_of(fields.as_slice(), id) {
         Some(field) => &field.typ,
         None => typ,
-    }
-}
-
-/// The type of a vector's elements. What is no vector stays.
-fn element_type(typ: &FirType) -> &FirType
-    ensures { result.now ≡ element_type typ.now }
-{
-    match &typ.shape {
-        Shape::Vector(element, _) => element.get(),
-        _ => typ,
     }
 }

@@ -1,5 +1,5 @@
 -- The lines of leaves behind a front that grows by the steps to them.
-use Rattle.std.proofs.Common.{◌≡◌, ℕ, zero, suc, ◌+◌, ◌<◌, Bool, false, List, [], ◌∷◌, ◌++◌, map, length, take, get_or, refl, sym, ap, ap₂, ◌∙◌, subst, arith, append_assoc, add-one, decimal}
+use Rattle.std.proofs.Common.{◌≡◌, ℕ, ◌+◌, ◌<◌, Bool, false, List, [], ◌∷◌, ◌++◌, map, length, take, get_or, refl, sym, ap, ap₂, ◌∙◌, subst, arith, append_assoc, add-one, decimal}
 use Rattle.std.specs.List.{flat_map}
 use Rattle.std.proofs.lemmas.Grind.{common_steps, flat_map-append}
 use Rattle.std.proofs.Math.Seq.{take-append_seam}
@@ -48,11 +48,6 @@ fields_more texts fs i f front way start text after l q h w a =
     let split : flat_map field_leaves (take (i + 1) fs) ≡ flat_map field_leaves (take i fs) ++ field_leaves f = grind (arith, common_steps) in
     let whole = added texts front way (step.Field f.name.id) f.flip (leaves f.typ) (flat_map field_leaves (take i fs)) start text after h w a in
     whole ∙ ap (λ x. start ++ flat_map (leaf_line texts front) x) (ap (λ x. flat_map field_leaves (take i fs) ++ x) (sym (leaves-field f)) ∙ sym split)
-
--- an element without leaves
-pub no_elements : (ls : List TypeLeaf) (n : ℕ) → ls ≡ [] → elements ls n ≡ []
-no_elements ls zero e = refl
-no_elements ls (suc n) e = ap₂ (λ xs ys. xs ++ map (under (step.Element n ∷ []) false) ys) (no_elements ls n e) e
 
 -- the front with an element's number
 pub at_element : (front walked opened digits numbered way : List ℕ) (i : ℕ) → walked ≡ front → opened ≡ walked ++ 91 ∷ [] → numbered ≡ opened ++ digits → digits ≡ decimal i → way ≡ numbered ++ 93 ∷ []

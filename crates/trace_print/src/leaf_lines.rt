@@ -10,9 +10,26 @@ use itoa::Buffer;
 use leaf_names::push_name;
 use std::alloc::AllocError;
 
-/// Adds the lines of the leaves of a type, which all begin with this front.
+/// Adds the lines of the leaves of a type, which all begin with this front. Of vectors in one another the leaves are counted once.
 #[cycle(push)]
 pub fn push_lines(
+    text: &mut Vec<u8>,
+    front: &mut Vec<u8>,
+    names: &Names,
+    typ: &FirType,
+) -> Result<(), AllocError>
+    ensures text { OnOk result (text.new.items ≡ text.old.items ++ flat_map (leaf_line names.now front.old.items) (leaves typ.now)) }
+    ensures front { OnOk result (front.new.items ≡ front.old.items) }
+{
+    if matches!(&typ.shape, Shape::Vector(_, _)) && leaf_count(typ) == 0 {
+        return Ok(());
+    }
+    push_counted(text, front, names, typ)
+}
+
+/// The same of a type that isn't a vector without leaves.
+#[cycle(push)]
+fn push_counted(
     text: &mut Vec<u8>,
     front: &mut Vec<u8>,
     names: &Names,
@@ -28,10 +45,7 @@ pub fn push_lines(
         Shape::Clock => Ok(()),
         Shape::Bundle(fields) => push_field_lines(text, front, names, fields.as_slice()),
         Shape::Vector(element, length) => {
-            if leaf_count(element.get()) > 0 {
-                push_element_lines(text, front, names, element.get(), *length)?;
-            }
-            Ok(())
+            push_element_lines(text, front, names, element.get(), *length)
         }
     }
 }
@@ -94,7 +108,7 @@ fn push_element_lines(
         front.push(b'[')?;
         front.extend_from_slice(digits.format(index).as_bytes())?;
         front.push(b']')?;
-        push_lines(text, front, names, element)?;
+        push_counted(text, front, names, element)?;
         front.truncate(before);
     }
     Ok(())

@@ -1,15 +1,16 @@
 use Rattle.std.proofs.Common.{rules, ◌∙◌, sym}
+use Rattle.size_check.specs.Kept.{types_of}
 use Rattle.size_check.specs.Typings.{stmt_notes, arm_notes}
 use Rattle.size_check.proofs.Noting.{notes_more, arm_notes_are}
 use Rattle.size_check.proofs.known.+note.Goals as goal
 
 pub note_statements-loop-statement-preserved : goal.note_statements-loop-statement-preserved
 note_statements-loop-statement-preserved t c =
-    notes_more (stmt_notes c.args.modules.now.all.now) c.args.statements.now c.loop-statement.statement-index c.statement-item.result c.args.known.now.types.entries _ _
+    notes_more (stmt_notes c.args.modules.now.all.now) c.args.statements.now c.loop-statement.statement-index c.statement-item.result (types_of c.args.known.now.types.entries) _ _
     (search rules) (search rules) c.loop-statement.invariant c.in_ok-note_statement.ensures
 
 pub note_arms-loop-arm-preserved : goal.note_arms-loop-arm-preserved
 note_arms-loop-arm-preserved t c =
-    notes_more (arm_notes c.args.modules.now.all.now) c.args.arms.now c.loop-arm.arm-index c.arm-item.result c.args.known.now.types.entries _ _
+    notes_more (arm_notes c.args.modules.now.all.now) c.args.arms.now c.loop-arm.arm-index c.arm-item.result (types_of c.args.known.now.types.entries) _ _
     (search rules) (search rules) c.loop-arm.invariant
-    (rw c.as_slice.ensures at c.in_ok-note_statements.ensures ∙ sym (arm_notes_are c.args.modules.now.all.now c.arm-item.result c.loop-arm.known.types.entries))
+    (rw c.as_slice.ensures at c.in_ok-note_statements.ensures ∙ sym (arm_notes_are c.args.modules.now.all.now c.arm-item.result (types_of c.loop-arm.known.types.entries)))

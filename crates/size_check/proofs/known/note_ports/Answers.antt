@@ -1,9 +1,10 @@
 use Rattle.std.proofs.Common.{rules}
+use Rattle.size_check.specs.Kept.{types_of}
 use Rattle.size_check.specs.Typings.{port_notes}
 use Rattle.size_check.proofs.Noting.{notes_more}
 use Rattle.size_check.proofs.known.note_ports.Goals as goal
 
 pub loop-port-preserved : goal.loop-port-preserved
 loop-port-preserved c =
-    notes_more port_notes c.args.ports.now c.loop-port.port-index c.port-item.result c.args.known.now.types.entries c.loop-port.known.types.entries _
+    notes_more port_notes c.args.ports.now c.loop-port.port-index c.port-item.result (types_of c.args.known.now.types.entries) (types_of c.loop-port.known.types.entries) _
     (search rules) (search rules) c.loop-port.invariant (search rules)

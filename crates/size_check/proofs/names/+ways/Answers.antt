@@ -1,27 +1,37 @@
 use Rattle.std.proofs.Common.{◌∙◌, sym, ap}
+use Rattle.std.specs.Prelude.{length}
 use Rattle.fir_types.specs.Leaves.{count}
 use Rattle.leaf_names.specs.LeafNames.{text_of}
-use Rattle.std.specs.Prelude.{length}
+use Rattle.size_check.specs.Texts.{way_bytes}
+use Rattle.fir_types.proofs.Layers.{count-bundle}
+use Rattle.fir_types.proofs.Runs.{element_falls}
 use Rattle.size_check.specs.Caps.{cap}
-use Rattle.size_check.specs.Texts.{way_bytes, index_bytes}
-use Rattle.size_check.proofs.Wording.{ways-field, ways-bundle, ways-vector, field_capped, vector_capped}
+use Rattle.size_check.proofs.Wording.{ways-field, ways-bundle, field_capped, leaves_on, bytes_on, bytes_around}
 use Rattle.size_check.proofs.names.+ways.Goals as goal
 
-pub bytes_of_field-returns : goal.bytes_of_field-returns
-bytes_of_field-returns t c =
-    field_capped (count c.args.field.now.typ) (way_bytes c.args.names.now c.args.field.now.typ) (length (text_of c.args.names.now c.args.field.now.name.id))
-    c.leaf_count.result c.saturating_add.result c.saturating_mul.result c.way_bytes.result c.saturating_add-2.result
-    c.leaf_count.ensures (rw c.name_length.ensures at c.saturating_add.ensures) c.saturating_mul.ensures c.way_bytes.ensures c.saturating_add-2.ensures
-    ∙ sym (ap cap (ways-field c.args.names.now c.args.field.now))
+pub ways_of-loop-inside-preserved : goal.ways_of-loop-inside-preserved
+ways_of-loop-inside-preserved t c =
+    let inside = c.loop-inside.inside.now in
+    let at = c.in-Vector.is in
+    rw (c.get-inside.ensures) (record {
+      leaves = leaves_on c.args.typ.now inside _ c.in-Vector.length c.loop-inside.run.elements _ at c.loop-inside.invariant.leaves c.longer-run.ensures.elements;
+      bytes = bytes_on c.args.names.now c.args.typ.now inside _ c.in-Vector.length c.loop-inside.run.elements c.loop-inside.run.indices _ _ at c.loop-inside.invariant.bytes
+          c.longer-run.ensures.elements c.longer-run.ensures.indices;
+      inner = element_falls inside _ _ _ at c.loop-inside.invariant.inner;
+    })
 
-pub way_bytes-returns-in-Bundle : goal.way_bytes-returns-in-Bundle
-way_bytes-returns-in-Bundle t c =
-    rw c.as_slice.ensures at c.bytes_of_fields.ensures ∙ sym (ap cap (ways-bundle c.args.names.now c.args.typ.now c.in-Bundle.fields c.in-Bundle.is))
+pub ways_of-returns-in-Bundle-clause-bytes : goal.ways_of-returns-in-Bundle-clause-bytes
+ways_of-returns-in-Bundle-clause-bytes t c =
+    let inside = c.loop-inside.inside.now in
+    let leaves = rw c.as_slice.ensures at c.ways_of_fields.ensures.leaves ∙ sym (ap cap (count-bundle inside c.in-Bundle.fields c.in-Bundle.is)) in
+    let bytes = rw c.as_slice.ensures at c.ways_of_fields.ensures.bytes ∙ sym (ap cap (ways-bundle c.args.names.now inside c.in-Bundle.fields c.in-Bundle.is)) in
+    bytes_around c.args.names.now c.args.typ.now inside c.loop-inside.run.elements c.loop-inside.run.indices c.ways_of_fields.result.leaves c.ways_of_fields.result.bytes _
+    c.loop-inside.invariant.bytes leaves bytes c.around.ensures.bytes
 
-pub way_bytes-returns-in-Vector : goal.way_bytes-returns-in-Vector
-way_bytes-returns-in-Vector t c =
-    vector_capped c.in-Vector.length (way_bytes c.args.names.now c.in-Vector.element) (count c.in-Vector.element) (index_bytes c.in-Vector.length)
-    c.way_bytes.result c.saturating_mul.result c.leaf_count.result c.index_bytes.result c.saturating_mul-in-Vector.result c.saturating_add.result
-    (rw c.get.ensures at c.way_bytes.ensures) c.saturating_mul.ensures (rw c.get-in-Vector.ensures at c.leaf_count.ensures) c.index_bytes.ensures
-    c.saturating_mul-in-Vector.ensures c.saturating_add.ensures
-    ∙ sym (ap cap (ways-vector c.args.names.now c.args.typ.now c.in-Vector.element c.in-Vector.length c.in-Vector.is))
+pub ways_of_field-returns-clause-bytes : goal.ways_of_field-returns-clause-bytes
+ways_of_field-returns-clause-bytes t c =
+    let field = c.args.field.now in
+    field_capped (count field.typ) (way_bytes c.args.names.now field.typ) (length (text_of c.args.names.now field.name.id))
+    c.ways_of-leaves.result.leaves c.saturating_add.result c.saturating_mul.result c.ways_of-leaves.result.bytes c.saturating_add-2.result
+    c.ways_of-leaves.ensures.leaves (rw c.name_length.ensures at c.saturating_add.ensures) c.saturating_mul.ensures c.ways_of-leaves.ensures.bytes c.saturating_add-2.ensures
+    ∙ sym (ap cap (ways-field c.args.names.now field))

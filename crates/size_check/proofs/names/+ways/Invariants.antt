@@ -1,7 +1,19 @@
-use Rattle.std.proofs.Common.{◌≡◌, map, sum, take}
+use Rattle.std.proofs.Common.{◌≡◌, ◌≤◌, ◌+◌, ◌*◌, map, sum, take}
+use Rattle.fir_types.specs.declared.fir_type.FirType.{size-FirType}
+use Rattle.fir_types.specs.Leaves.{count, field_count}
 use Rattle.size_check.specs.Caps.{cap}
-use Rattle.size_check.specs.Texts.{field_bytes}
+use Rattle.size_check.specs.Texts.{way_bytes, field_bytes}
 use Rattle.size_check.proofs.names.+ways.Given as goal
 
-abbrev pub invariant-bytes_of_fields-loop-field : goal.invariant-bytes_of_fields-loop-field
-invariant-bytes_of_fields-loop-field l = l.total ≡ cap (sum (map (field_bytes l.names) (take l.field-index l.fields)))
+abbrev pub invariant-ways_of-loop-inside : goal.invariant-ways_of-loop-inside
+invariant-ways_of-loop-inside l = record {
+  leaves : cap (count l.typ) ≡ cap (l.run.elements * count l.inside);
+  bytes : cap (way_bytes l.names l.typ) ≡ cap (l.run.elements * way_bytes l.names l.inside + l.run.indices * count l.inside);
+  inner : size-FirType l.inside ≤ size-FirType l.typ;
+}
+
+abbrev pub invariant-ways_of_fields-loop-field : goal.invariant-ways_of_fields-loop-field
+invariant-ways_of_fields-loop-field l = record {
+  leaves : l.leaves ≡ cap (sum (map field_count (take l.field-index l.fields)));
+  bytes : l.bytes ≡ cap (sum (map (field_bytes l.names) (take l.field-index l.fields)));
+}

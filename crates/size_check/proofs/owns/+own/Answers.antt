@@ -2,7 +2,7 @@ use Rattle.std.proofs.Common.{◌+◌, ap, ap₂, ◌∙◌, sym}
 use Rattle.size_check.specs.Reaching.{types_in}
 use Rattle.size_check.specs.Owns.{stmt_own}
 use Rattle.size_check.specs.Caps.{capped}
-use Rattle.size_check.proofs.Owning.{all_more, arms_begin, arms_more, arms_end, small_more, reg_sums, reset_sums, node_sums, connect_sums, when_sums, ok_then}
+use Rattle.size_check.proofs.Owning.{all_more, arms_begin, arms_more, arms_end, small_more, register_leaves, reg_sums, reset_sums, node_sums, connect_sums, when_sums, ok_then}
 use Rattle.size_check.proofs.owns.+own.Goals as goal
 
 pub block_own-loop-statement-preserved : goal.block_own-loop-statement-preserved
@@ -31,25 +31,26 @@ arms_own-returns t c =
 pub statement_own-returns-in_ok-size-in-Reg : goal.statement_own-returns-in_ok-size-in-Reg
 statement_own-returns-in_ok-size-in-Reg t c =
     reg_sums c.args.names.now (types_in c.args.known.now) c.args.statement.now c.in-Reg.name c.in-Reg.typ c.in-Reg.clock c.args.around
-    c.leaf_count-in-Reg.result c.in_ok-nodes-in-Reg.field-0 c.weigh.result.most c.max-most.result c.in_ok-size-in-Reg.size c.register.result c.plus-in-Reg.result
-    c.in-Reg.is c.leaf_count-in-Reg.ensures (ap (λ w. w.most) c.weigh.ensures) c.max-most.ensures c.in_ok-nodes-in-Reg.ensures c.in_ok-size-in-Reg.ensures c.register.ensures c.plus-in-Reg.ensures
+    c.register-kept.result.leaves c.in_ok-nodes-in-Reg.field-0 c.weigh.result.most c.max-most.result c.in_ok-size-in-Reg.size c.register-kept.result c.plus-in-Reg.result
+    c.in-Reg.is (register_leaves c.args.names.now c.in-Reg.name.id c.in-Reg.typ c.register-kept.result c.register-kept.ensures) (ap (λ w. w.most) c.weigh.ensures) c.max-most.ensures c.in_ok-nodes-in-Reg.ensures c.in_ok-size-in-Reg.ensures c.register-kept.ensures c.plus-in-Reg.ensures
 
 pub statement_own-returns-in_ok-size-in-RegReset : goal.statement_own-returns-in_ok-size-in-RegReset
 statement_own-returns-in_ok-size-in-RegReset t c =
     let inner = c.in_ok-more-in-RegReset.ensures ∙ ap₂ (λ x y. x + y) c.in_ok-nodes-in-RegReset.ensures c.in_ok-nodes-in-RegReset-2.ensures in
     let own = c.in_ok-own-in-RegReset.ensures ∙ ap₂ (λ x y. x + y) inner c.in_ok-nodes-in-RegReset-3.ensures in
     reset_sums c.args.names.now (types_in c.args.known.now) c.args.statement.now c.in-RegReset.name c.in-RegReset.typ c.in-RegReset.clock c.in-RegReset.reset c.in-RegReset.init c.args.around
-    c.leaf_count-in-RegReset.result c.weigh-in-RegReset.result.most c.max-first.result c.weigh-in-RegReset-2.result.most c.weigh-in-RegReset-3.result.most c.max-second.result c.max.result
-    c.in_ok-own-in-RegReset.own c.in_ok-size-in-RegReset.size c.register-in-RegReset.result c.plus-in-RegReset.result
-    c.in-RegReset.is c.leaf_count-in-RegReset.ensures (ap (λ w. w.most) c.weigh-in-RegReset.ensures) c.max-first.ensures (ap (λ w. w.most) c.weigh-in-RegReset-2.ensures)
-    (ap (λ w. w.most) c.weigh-in-RegReset-3.ensures) c.max-second.ensures c.max.ensures own c.in_ok-size-in-RegReset.ensures c.register-in-RegReset.ensures c.plus-in-RegReset.ensures
+    c.register-kept-in-RegReset.result.leaves c.weigh-in-RegReset.result.most c.max-first.result c.weigh-in-RegReset-2.result.most c.weigh-in-RegReset-3.result.most c.max-second.result c.max.result
+    c.in_ok-own-in-RegReset.own c.in_ok-size-in-RegReset.size c.register-kept-in-RegReset.result c.plus-in-RegReset.result
+    c.in-RegReset.is (register_leaves c.args.names.now c.in-RegReset.name.id c.in-RegReset.typ c.register-kept-in-RegReset.result c.register-kept-in-RegReset.ensures) (ap (λ w. w.most) c.weigh-in-RegReset.ensures) c.max-first.ensures (ap (λ w. w.most) c.weigh-in-RegReset-2.ensures)
+    (ap (λ w. w.most) c.weigh-in-RegReset-3.ensures) c.max-second.ensures c.max.ensures own c.in_ok-size-in-RegReset.ensures c.register-kept-in-RegReset.ensures c.plus-in-RegReset.ensures
 
 pub statement_own-returns-in_ok-size-in-Node : goal.statement_own-returns-in_ok-size-in-Node
 statement_own-returns-in_ok-size-in-Node t c =
+    let leaves = rw c.of.ensures at c.flat-leaves-in-Node.ensures in
     node_sums c.args.names.now (types_in c.args.known.now) c.args.statement.now c.in-Node.name c.in-Node.expr c.args.around
-    c.leaf_count-in-Node.result c.weigh-in-Node.result.most c.max-most-in-Node.result c.in_ok-nodes-in-Node.field-0 c.in_ok-size-in-Node.size c.flat-in-Node.result c.plus-in-Node.result
-    c.in-Node.is (rw c.of-typ.ensures at c.leaf_count-in-Node.ensures) (ap (λ w. w.most) c.weigh-in-Node.ensures) c.max-most-in-Node.ensures c.in_ok-nodes-in-Node.ensures
-    c.in_ok-size-in-Node.ensures (rw c.of-typ.ensures at c.flat-in-Node.ensures) c.plus-in-Node.ensures
+    c.flat-leaves-in-Node.result.leaves c.weigh-in-Node.result.most c.max-most-in-Node.result c.in_ok-nodes-in-Node.field-0 c.in_ok-size-in-Node.size c.flat-leaves-in-Node.result c.plus-in-Node.result
+    c.in-Node.is (ap (λ s. s.leaves) leaves) (ap (λ w. w.most) c.weigh-in-Node.ensures) c.max-most-in-Node.ensures c.in_ok-nodes-in-Node.ensures
+    c.in_ok-size-in-Node.ensures leaves c.plus-in-Node.ensures
 
 pub statement_own-returns-in_ok-more-in-Connect : goal.statement_own-returns-in_ok-more-in-Connect
 statement_own-returns-in_ok-more-in-Connect t c =

@@ -11,8 +11,8 @@ most_in-loop-expr-preserved t c =
 
 pub weigh-returns-in-Prim : goal.weigh-returns-in-Prim
 weigh-returns-in-Prim t c =
-    weigh_prim c.args.expr.now c.in-Prim.field-0 c.in-Prim.operands c.in-Prim.field-2 (types_in c.args.known.now) c.args.known.now.bit c.most_in.result c.max.result
-    c.in-Prim.is c.args.known.now.is_bit (rw c.as_slice-in-Prim.ensures at c.most_in.ensures) c.max.ensures
+    weigh_prim c.args.expr.now c.in-Prim.field-0 c.in-Prim.operands c.in-Prim.field-2 (types_in c.args.known.now) c.operation.result.typ.now c.most_in.result c.operation.result.most
+    c.in-Prim.is c.operation.ensures.typ (rw c.as_slice-in-Prim.ensures at c.most_in.ensures) c.operation.ensures.most
 
 pub weigh-returns-in-Mux : goal.weigh-returns-in-Mux
 weigh-returns-in-Mux t c =

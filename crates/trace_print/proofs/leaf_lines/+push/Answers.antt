@@ -1,22 +1,21 @@
 use Rattle.std.proofs.Common.{◌∙◌, arith}
 use Rattle.std.proofs.lemmas.Grind.{common_steps}
 use Rattle.fir_types.specs.Leaves.{leaves}
-use Rattle.fir_types.proofs.Layers.{leaves-bundle, leaves-vector}
+use Rattle.fir_types.proofs.Layers.{leaves-bundle}
 use Rattle.fir_types.proofs.Walks.{no_leaves}
 use Rattle.leaf_names.specs.LeafNames.{text_of}
-use Rattle.trace_print.proofs.LeafLines.{elements_more, fields_more, no_elements, at_element, at_field, cut_back}
+use Rattle.trace_print.proofs.LeafLines.{elements_more, fields_more, at_element, at_field, cut_back}
 use Rattle.trace_print.proofs.leaf_lines.+push.Goals as goal
 
-pub push_lines-returns-in-Bundle-clause-text : goal.push_lines-returns-in-Bundle-clause-text
-push_lines-returns-in-Bundle-clause-text t c =
+pub push_counted-returns-in-Bundle-clause-text : goal.push_counted-returns-in-Bundle-clause-text
+push_counted-returns-in-Bundle-clause-text t c =
     let e = leaves-bundle c.args.typ.now c.in-Bundle.fields c.in-Bundle.is in
     grind (arith, common_steps, e)
 
-pub push_lines-returns-else-leaf_count-gt0-clause-text : goal.push_lines-returns-else-leaf_count-gt0-clause-text
-push_lines-returns-else-leaf_count-gt0-clause-text t c =
-    let e = leaves-vector c.args.typ.now c.in-Vector.element c.in-Vector.length c.in-Vector.is in
-    let none = no_elements (leaves c.in-Vector.element) c.in-Vector.length (no_leaves c.in-Vector.element (grind (arith, common_steps))) in
-    grind (arith, common_steps, e, none)
+pub push_lines-returns-then-leaf_count-eq0-clause-text : goal.push_lines-returns-then-leaf_count-eq0-clause-text
+push_lines-returns-then-leaf_count-eq0-clause-text t c =
+    let none = no_leaves c.args.typ.now (grind (arith, common_steps)) in
+    grind (arith, common_steps, none)
 
 pub push_element_lines-loop-index-preserved : goal.push_element_lines-loop-index-preserved
 push_element_lines-loop-index-preserved t c =
@@ -24,8 +23,8 @@ push_element_lines-loop-index-preserved t c =
     c.loop-index.invariant.front c.in_ok-push.ensures.items c.in_ok-extend_from_slice.ensures.items (c.as_bytes.ensures.value ∙ c.format.ensures.text) c.in_ok-push-2.ensures.items in
     record {
       text = elements_more c.args.names.now (leaves c.args.element.now) c.loop-index.index c.args.front.now.items c.push-in-loop-index.new.self.items c.args.text.now.items c.loop-index.text.items
-          c.push_lines.new.text.items c.loop-index.invariant.text way c.in_ok-push_lines.ensures.text;
-      front = cut_back c.args.front.now.items _ c.push-in-loop-index.new.self.items c.push_lines.new.front.items c.truncate.new.self.items c.len-before.result way c.in_ok-push_lines.ensures.front
+          c.push_counted.new.text.items c.loop-index.invariant.text way c.in_ok-push_counted.ensures.text;
+      front = cut_back c.args.front.now.items _ c.push-in-loop-index.new.self.items c.push_counted.new.front.items c.truncate.new.self.items c.len-before.result way c.in_ok-push_counted.ensures.front
           (grind (arith, common_steps)) c.truncate.ensures.items;
     }
 
