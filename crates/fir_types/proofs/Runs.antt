@@ -1,5 +1,5 @@
 -- Runs of vector lengths: a walk goes from a vector to its element, and what it answers for the element is its answer for the vector.
-use Rattle.std.proofs.Common.{◌≡◌, ℕ, zero, suc, ◌+◌, ◌*◌, ◌^◌, ◌-◌, ◌<◌, ◌≤◌, min, Bool, true, false, List, [], ◌∷◌, ◌++◌, map, sum, refl, sym, ap, ◌∙◌, subst, arith, inl, inr}
+use Rattle.std.proofs.Common.{◌≡◌, ℕ, zero, suc, ◌*◌, ◌<◌, ◌≤◌, min, false, List, [], ◌∷◌, ◌++◌, refl, sym, ap, ◌∙◌, subst, arith, inl, inr}
 use Rattle.std.specs.List.{list_any}
 use Rattle.std.proofs.Math.Nat.{min-eq_left, min-eq_right, min-le_right}
 use Rattle.std.proofs.lemmas.Bool.Decides.{leb_tells}
@@ -8,7 +8,6 @@ use Rattle.place_text.specs.declared.place.Place.{Place}
 use Rattle.fir_types.specs.declared.fir_type.FirType.{FirType, size-FirType, the_lemmas}
 use Rattle.fir_types.specs.declared.fir_type.Shape.{Shape}
 use Rattle.fir_types.specs.declared.fir_type.Shape.TheVariants as shape
-use Rattle.fir_types.specs.declared.fir_type.Field.{Field}
 use Rattle.fir_types.specs.Bundles.{mask_of, mask_of_shape}
 use Rattle.fir_types.specs.Equivalence.{Equivalent}
 use Rattle.fir_types.specs.Leaves.{count, leaves, is_clock}

@@ -90,6 +90,16 @@ no_leaves t h = let c = counted t in grind (arith, common_steps)
 pub element_within : (n c m : ℕ) → 0 < n → n * c ≤ m → c ≤ m
 element_within n c m h k = grind (arith, common_steps)
 
+-- where a vector has a leaf, its element has one, and it has an element
+
+pub element_has_one : (n c : ℕ) → 1 ≤ n * c → 1 ≤ c
+element_has_one n zero h = grind (arith, common_steps)
+element_has_one n (suc c) h = omega arith
+
+pub length_is_some : (n c : ℕ) → 1 ≤ n * c → 1 ≤ n
+length_is_some zero c h = grind (arith, common_steps)
+length_is_some (suc n) c h = omega arith
+
 -- no way at all leads to the whole
 pub from_the_whole : (ls : List TypeLeaf) → map (under [] false) ls ≡ ls
 from_the_whole [] = refl

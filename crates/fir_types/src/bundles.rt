@@ -61,7 +61,14 @@ pub fn memory_type(alloc: Global, memory: &Memory) -> Result<FirType, AllocError
         place: NOWHERE,
         shape: Shape::Bundle(Shared::new(alloc, List::new(alloc))?),
     };
-    let fields = port_fields(alloc, lines, element_of(lines, &empty), depth_of(lines))?;
+    let element = element_of(lines, &empty);
+    let mask = mask(alloc, element)?;
+    let elements = Elements {
+        typ: element,
+        mask: &mask,
+        depth: depth_of(lines),
+    };
+    let fields = port_fields(alloc, lines, elements)?;
     Ok(FirType {
         place: NOWHERE,
         shape: Shape::Bundle(Shared::new(alloc, fields)?),
@@ -94,17 +101,25 @@ pub fn depth_of(lines: &[MemLine]) -> u128
     1
 }
 
+/// What the ports of a memory share: the type of its elements, the mask of that type, and how many elements there are.
+#[derive(Clone, Copy)]
+struct Elements<'a> {
+    typ: &'a FirType,
+    mask: &'a FirType,
+    depth: u128,
+}
+
 fn port_fields(
     alloc: Global,
     lines: &[MemLine],
-    element: &FirType,
-    depth: u128,
+    elements: Elements<'_>,
 ) -> Result<List<Field>, AllocError>
-    ensures { IfOk result (λ fields. fields ≡ filter_map (port_field element.now depth) lines.now) }
+    requires { elements.mask.now ≡ mask_of elements.typ.now }
+    ensures { IfOk result (λ fields. fields ≡ filter_map (port_field elements.entry.typ.now elements.entry.depth) lines.now) }
 {
     let mut fields = List::new(alloc);
     for line in lines {
-        push_port_field(alloc, &mut fields, line, element, depth)?;
+        push_port_field(alloc, &mut fields, line, elements)?;
     }
     Ok(fields)
 }
@@ -114,16 +129,16 @@ fn push_port_field(
     alloc: Global,
     fields: &mut List<Field>,
     line: &MemLine,
-    element: &FirType,
-    depth: u128,
+    elements: Elements<'_>,
 ) -> Result<(), AllocError>
-    ensures { OnOk result (fields.new ≡ fields.old ++ option_to_list (port_field element.now depth line.now)) }
+    requires { elements.mask.now ≡ mask_of elements.typ.now }
+    ensures { OnOk result (fields.new ≡ fields.old ++ option_to_list (port_field elements.entry.typ.now elements.entry.depth line.now)) }
 {
     if let MemLine::MemPort(_, mode, name) = line {
         fields.push(Field {
             flip: true,
             name: *name,
-            typ: port_bundle(alloc, element, depth, *mode, name.place)?,
+            typ: port_bundle(alloc, elements, *mode, name.place)?,
         })?;
     }
     Ok(())
@@ -132,18 +147,18 @@ fn push_port_field(
 /// The bundle of a port of a memory, whose name stands at this place.
 fn port_bundle(
     alloc: Global,
-    element: &FirType,
-    depth: u128,
+    elements: Elements<'_>,
     mode: PortMode,
     place: Place,
 ) -> Result<FirType, AllocError>
-    ensures { IfOk result (λ typ. typ ≡ port_type element.now depth mode place) }
+    requires { elements.mask.now ≡ mask_of elements.typ.now }
+    ensures { IfOk result (λ typ. typ ≡ port_type elements.entry.typ.now elements.entry.depth mode place) }
 {
     let mut fields = List::new(alloc);
-    fields.push(plain(place, ADDR, uint(place, address_width(depth))))?;
+    fields.push(plain(place, ADDR, uint(place, address_width(elements.depth))))?;
     fields.push(plain(place, EN, uint(place, 1)))?;
     fields.push(plain(place, CLK, clock(place)))?;
-    push_mode_fields(alloc, &mut fields, element, mode, place)?;
+    push_mode_fields(&mut fields, elements, mode, place)?;
     Ok(FirType {
         place,
         shape: Shape::Bundle(Shared::new(alloc, fields)?),
@@ -151,25 +166,25 @@ fn port_bundle(
 }
 
 fn push_mode_fields(
-    alloc: Global,
     fields: &mut List<Field>,
-    element: &FirType,
+    elements: Elements<'_>,
     mode: PortMode,
     place: Place,
 ) -> Result<(), AllocError>
-    ensures { OnOk result (fields.new ≡ fields.old ++ fields_of_mode place element.now mode) }
+    requires { elements.mask.now ≡ mask_of elements.typ.now }
+    ensures { OnOk result (fields.new ≡ fields.old ++ fields_of_mode place elements.entry.typ.now mode) }
 {
     match mode {
-        PortMode::Reader => fields.push(flipped(place, DATA, copy(element)?))?,
+        PortMode::Reader => fields.push(flipped(place, DATA, copy(elements.typ)?))?,
         PortMode::Writer => {
-            fields.push(plain(place, DATA, copy(element)?))?;
-            fields.push(plain(place, MASK, mask(alloc, element)?))?;
+            fields.push(plain(place, DATA, copy(elements.typ)?))?;
+            fields.push(plain(place, MASK, copy(elements.mask)?))?;
         }
         PortMode::ReadWriter => {
-            fields.push(flipped(place, RDATA, copy(element)?))?;
+            fields.push(flipped(place, RDATA, copy(elements.typ)?))?;
             fields.push(plain(place, WMODE, uint(place, 1)))?;
-            fields.push(plain(place, WDATA, copy(element)?))?;
-            fields.push(plain(place, WMASK, mask(alloc, element)?))?;
+            fields.push(plain(place, WDATA, copy(elements.typ)?))?;
+            fields.push(plain(place, WMASK, copy(elements.mask)?))?;
         }
     }
     Ok(())

@@ -53,6 +53,28 @@ fn push_leaves(
     }
 }
 
+/// As above, for a part that is known to have a leaf: the lengths of a run of vectors are counted once.
+#[cycle(push)]
+fn push_element_leaves(
+    alloc: Global,
+    listed: &mut Vec<TypeLeaf>,
+    path: &mut Vec<PathStep>,
+    flip: bool,
+    typ: &FirType,
+) -> Result<(), AllocError>
+    requires few { count typ.now ≤ 65536 }
+    requires some { 1 ≤ count typ.now }
+    ensures listed { OnOk result (listed.new.items ≡ listed.old.items ++ map (under path.old.items flip) (leaves typ.now)) }
+    ensures path { OnOk result (path.new.items ≡ path.old.items) }
+{
+    match &typ.shape {
+        Shape::Vector(element, length) => {
+            push_elements(alloc, listed, path, flip, element.get(), *length as u32)
+        }
+        _ => push_leaves(alloc, listed, path, flip, typ),
+    }
+}
+
 #[cycle(push)]
 fn push_field_leaves(
     alloc: Global,
@@ -82,13 +104,14 @@ fn push_elements(
     element: &FirType,
     length: u32,
 ) -> Result<(), AllocError>
-    requires { count element.now ≤ 65536 }
+    requires few { count element.now ≤ 65536 }
+    requires some { 1 ≤ count element.now }
     ensures listed { OnOk result (listed.new.items ≡ listed.old.items ++ map (under path.old.items flip) (elements (leaves element.now) length)) }
     ensures path { OnOk result (path.new.items ≡ path.old.items) }
 {
     for index in 0..length {
         path.push(PathStep::Element(index))?;
-        push_leaves(alloc, listed, path, flip, element)?;
+        push_element_leaves(alloc, listed, path, flip, element)?;
         path.pop();
     }
     Ok(())
