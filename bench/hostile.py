@@ -122,6 +122,19 @@ def one_bundle(size):
     return FRONT + module([f"input w : {fields(size)}"])
 
 
+def nested_vectors(size):
+    return FRONT + module([f"wire w{k} : UInt<1>{'[1]' * 100}" for k in range(size)] + [f"invalidate w{k}" for k in range(size)])
+
+
+def one_line(size):
+    return FRONT + module(["input a : UInt<1>", "node n = " + sum_of(["a"] * size)])
+
+
+def dense_statements(size):
+    lines = [line for k in range(size) for line in (f"wire w{k} : UInt<8>", f"connect w{k}, a", f"node n{k} = tail(add(w{k}, a), 1)")]
+    return FRONT + module(["input a : UInt<8>"] + lines)
+
+
 def wide_instances(size):
     return FRONT + module([f"input p{k} : UInt<1>" for k in range(200)], "N") + module(
         [line for k in range(size) for line in (f"inst i{k} of N", f"invalidate i{k}")]
@@ -150,6 +163,9 @@ ROWS = {
     "n declarations of long names": (long_names, 250),
     "n infos": (infos, 15_000),
     "one bundle of n fields": (one_bundle, 30_000),
+    "n wires of 100 vectors in one another": (nested_vectors, 1_500),
+    "n operands on one line": (one_line, 65_000),
+    "n wires, connects and nodes": (dense_statements, 6_000),
     "n instances of a module with 200 ports": (wide_instances, 1_000),
 }
 
