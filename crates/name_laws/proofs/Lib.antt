@@ -1,0 +1,4 @@
+mod References
+mod Meaning
+mod Agreeing
+mod Examples

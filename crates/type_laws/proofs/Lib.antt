@@ -1,0 +1,4 @@
+mod Sorts
+mod Apart
+mod Ports
+mod Examples

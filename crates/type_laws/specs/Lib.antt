@@ -1,0 +1,3 @@
+pub mod GroundKinds
+pub mod DoubledFields
+pub mod Paths
