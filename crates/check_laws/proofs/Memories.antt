@@ -1,5 +1,5 @@
 -- A memory is valid exactly where no fault of its lines is found.
-use Rattle.std.proofs.Common.{◌≡◌, ℕ, zero, suc, ◌<◌, ◌≤◌, Bool, true, false, ◌||◌, List, [], ◌∷◌, ◌++◌, map, length, Option, Some, None, refl, sym, ap, ap₂, ◌∙◌, subst, arith, append_assoc, ⊎_elim}
+use Rattle.std.proofs.Common.{◌≡◌, ℕ, zero, suc, ◌≤◌, Bool, true, false, ◌||◌, List, [], ◌∷◌, ◌++◌, map, Option, Some, None, refl, sym, ap, ap₂, ◌∙◌, subst, arith, append_assoc, ⊎_elim}
 use Rattle.std.specs.Prelude.{⊤, ◌≢◌, ◌↔◌, nat_le, nat_eq, is_some, Contains, All, filter_map, flat_map}
 use Rattle.std.specs.List.{list_any, cons_option}
 use Rattle.std.proofs.lemmas.Grind.{common_steps}
@@ -19,8 +19,7 @@ use Rattle.fir_types.specs.declared.memory.Memory.{Memory}
 use Rattle.fir_types.specs.declared.memory.MemLine.{MemLine}
 use Rattle.fir_types.specs.declared.memory.MemLine.TheVariants as line
 use Rattle.fir_types.specs.declared.memory.PortMode.{PortMode}
-use Rattle.fir_types.specs.declared.memory.Under.{Under}
-use Rattle.fir_types.specs.Memories.{element_in, depth_in, read_latency_in, write_latency_in, under_in, port_name_in, Once, AreDifferent, IsValid}
+use Rattle.fir_types.specs.Memories.{element_in, depth_in, read_latency_in, write_latency_in, under_in, port_name_in, AreDifferent, IsValid}
 use Rattle.type_check.specs.declared.fault.TypeFault.{TypeFault}
 use Rattle.type_check.specs.declared.fault.TypeFault.TheVariants.{FieldTwice, OperandKind, NotPassive, MemoryField}
 use Rattle.type_check.specs.Parts.{unless, when}
