@@ -18,9 +18,28 @@ pub fn list_leaves(alloc: Global, typ: &FirType) -> Result<Vec<TypeLeaf>, AllocE
     Ok(listed)
 }
 
-/// Adds the leaves of a part of a type, to which this path leads. On the way `flip`s an odd number of times, or not.
+/// Adds the leaves of a part of a type, to which this path leads. On the way `flip`s an odd number of times, or not. Of vectors in
+/// one another the leaves are counted once.
 #[cycle(push)]
 fn push_leaves(
+    alloc: Global,
+    listed: &mut Vec<TypeLeaf>,
+    path: &mut Vec<PathStep>,
+    flip: bool,
+    typ: &FirType,
+) -> Result<(), AllocError>
+    ensures listed { OnOk result (listed.new.items ≡ listed.old.items ++ map (under path.old.items flip) (leaves typ.now)) }
+    ensures path { OnOk result (path.new.items ≡ path.old.items) }
+{
+    if matches!(&typ.shape, Shape::Vector(_, _)) && leaf_count(typ) == 0 {
+        return Ok(());
+    }
+    push_counted(alloc, listed, path, flip, typ)
+}
+
+/// The same of a type that isn't a vector without leaves.
+#[cycle(push)]
+fn push_counted(
     alloc: Global,
     listed: &mut Vec<TypeLeaf>,
     path: &mut Vec<PathStep>,
@@ -41,9 +60,6 @@ fn push_leaves(
         }
         Shape::Bundle(fields) => push_field_leaves(alloc, listed, path, flip, fields.as_slice()),
         Shape::Vector(element, length) => {
-            if leaf_count(typ) == 0 {
-                return Ok(());
-            }
             let Ok(length) = u32::try_from(*length) else {
                 return Err(AllocError);
             };
@@ -85,7 +101,7 @@ fn push_elements(
 {
     for index in 0..length {
         path.push(PathStep::Element(index))?;
-        push_leaves(alloc, listed, path, flip, element)?;
+        push_counted(alloc, listed, path, flip, element)?;
         path.pop();
     }
     Ok(())

@@ -8,7 +8,7 @@ use Rattle.drive_check.proofs.listing.+push.Goals as goal
 pub push_elements-loop-index-preserved : goal.push_elements-loop-index-preserved
 push_elements-loop-index-preserved t c = record {
   listed = elements_more (leaves c.args.element.now) c.loop-index.index c.args.path.now.items c.push.new.self.items c.loop-index.path.items c.args.flip c.args.listed.now.items
-      c.loop-index.listed.items c.push_leaves.new.listed.items c.loop-index.invariant.listed c.loop-index.invariant.path c.in_ok-push.ensures.items c.in_ok-push_leaves.ensures.listed;
+      c.loop-index.listed.items c.push_counted.new.listed.items c.loop-index.invariant.listed c.loop-index.invariant.path c.in_ok-push.ensures.items c.in_ok-push_counted.ensures.listed;
   path = grind (arith, common_steps);
 }
 
@@ -20,8 +20,8 @@ push_field_leaves-loop-field-preserved t c = record {
   path = grind (arith, common_steps);
 }
 
-pub push_leaves-returns-in-Bundle-clause-listed : goal.push_leaves-returns-in-Bundle-clause-listed
-push_leaves-returns-in-Bundle-clause-listed t c =
+pub push_counted-returns-in-Bundle-clause-listed : goal.push_counted-returns-in-Bundle-clause-listed
+push_counted-returns-in-Bundle-clause-listed t c =
     let e = leaves-bundle c.args.typ.now c.in-Bundle.fields c.in-Bundle.is in
     grind (arith, common_steps, e)
 
