@@ -1,3 +1,5 @@
 pub mod Samples
 pub mod Sides
 pub mod Memories
+pub mod Registers
+pub mod Clocks

@@ -1,8 +1,9 @@
 -- Bundles with a leaf of each orientation. Names: o is 20, a is 21, b is 22, v is 23, the index i is 24 and the condition c is 25; the
 -- field x is 30, and the flipped field y is 31.
-use Rattle.std.specs.Prelude.{ℕ, ◌==◌, [], ◌∷◌, List, if◌then◌else◌}
+use Rattle.std.specs.Prelude.{ℕ, ◌==◌, [], ◌∷◌, List, false, if◌then◌else◌}
 use Rattle.fir_types.specs.declared.fir_type.FirType.{FirType}
 use Rattle.fir_types.specs.declared.leaf.PathStep.TheVariants as step
+use Rattle.fir_types.specs.declared.leaf.TypeLeaf.{TypeLeaf}
 use Rattle.fir_tree.specs.declared.expr.Expr.{Expr}
 use Rattle.fir_tree.specs.declared.stmt.Stmt.{Stmt}
 use Rattle.fir_meaning.specs.Components.{Leaf}
@@ -48,3 +49,7 @@ x_of_first = leaf 23 (step.Element 0 ∷ step.Field 30 ∷ [])
 
 abbrev pub y_of_first : Leaf
 y_of_first = leaf 23 (step.Element 0 ∷ step.Field 31 ∷ [])
+
+-- the leaf x of a pair
+abbrev pub x_leaf : TypeLeaf
+x_leaf = record { path = step.Field 30 ∷ []; flip = false; typ = uint 1 }

@@ -3,5 +3,7 @@
 //! here do nothing: their contracts are the facts.
 #![tactic(auto)]
 
+pub mod clocks;
 pub mod memories;
+pub mod registers;
 pub mod sides;
