@@ -1,10 +1,9 @@
 -- What the edge takes for a register's leaf is what the leaf is made of.
-use Rattle.std.proofs.Common.{◌≡◌, ℕ, true, false, List, Option, Some, None, option_and_then, refl, sym, ap, ◌∙◌, subst, true≢false}
+use Rattle.std.proofs.Common.{◌≡◌, ℕ, true, false, List, Some, None, option_and_then, refl, sym, ap, ◌∙◌, subst, true≢false}
 use Rattle.std.specs.Prelude.{Contains}
 use Rattle.fir_types.specs.declared.leaf.TypeLeaf.{TypeLeaf}
 use Rattle.fir_types.specs.declared.leaf.PathStep.{PathStep}
-use Rattle.fir_tree.specs.declared.expr.Expr.{Expr}
-use Rattle.fir_meaning.specs.Components.{Design, TypedModule, Component, Leaf, FlatLeaf, Sort, An_input, An_output, A_wire, A_register, A_reset_register, A_memory, An_instance, A_node, flat, flat_through, type_in, module_at, component_named, target_of, target_in}
+use Rattle.fir_meaning.specs.Components.{Design, TypedModule, Component, Leaf, FlatLeaf, Sort, An_input, An_output, A_wire, A_register, A_reset_register, A_memory, An_instance, A_node, flat, flat_through, type_in, module_at, component_named, target_in}
 use Rattle.fir_meaning.specs.Mentions.{joined, mentions, whole_region}
 use Rattle.fir_meaning.specs.Loops.{live, driven_from, TakesFrom, by_live_connect, by_reset, by_init, by_write, by_read}
 use Rattle.fir_meaning.specs.States.{Stands, leaf_of, is_register}

@@ -1,5 +1,5 @@
 -- What the leaf x of a register of two leaves is made of.
-use Rattle.std.proofs.Common.{◌≡◌, ℕ, zero, suc, false, List, [], ◌∷◌, Some, arith, subst, ap, sym, ◌∙◌, ◌⊎◌, inl, inr}
+use Rattle.std.proofs.Common.{◌≡◌, zero, suc, false, List, [], ◌∷◌, Some, arith, subst, ap, sym, ◌∙◌, ◌⊎◌, inl, inr}
 use Rattle.std.specs.Prelude.{Contains}
 use Rattle.std.proofs.lemmas.Grind.{common_steps}
 use Rattle.fir_types.specs.declared.fir_type.FirType.{the_lemmas as type_lemmas}

@@ -2,7 +2,7 @@
 use Rattle.std.proofs.Common.{◌≡◌, ℕ, zero, suc, List, [], ◌∷◌, Option, Some, None, option_and_then, refl, sym, ap, ◌∙◌, subst, arith, ◌⊎◌, inl, inr}
 use Rattle.std.specs.Prelude.{Contains}
 use Rattle.fir_meaning.specs.Components.{Design, TypedModule, Component, module_at, module_within, module_named, component_named, target_of, target_in}
-use Rattle.fir_meaning.proofs.Ports.{component_found, and_some}
+use Rattle.fir_meaning.proofs.Ports.{component_found}
 use Rattle.fir_meaning.proofs.Tracking.{none_some, some_same}
 
 -- it is so of each item

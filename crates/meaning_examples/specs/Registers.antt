@@ -1,6 +1,6 @@
 -- What a register's leaf holds next is made of (FIRRTL specification 3.0, "Registers" and "Combinational Loops"), told within its
 -- module: what its live connects mention, its reset, and of `init` what stands at the leaf's own place.
-use Rattle.std.specs.Prelude.{◌≡◌, ◌==◌, false, List, [], ◌∷◌, Contains, Some, pos, if◌then◌else◌}
+use Rattle.std.specs.Prelude.{◌≡◌, ◌==◌, false, [], Contains, Some, pos, if◌then◌else◌}
 use Rattle.fir_types.specs.declared.leaf.TypeLeaf.{TypeLeaf}
 use Rattle.fir_tree.specs.declared.expr.Expr.{Expr}
 use Rattle.fir_meaning.specs.Components.{Component, Leaf, A_reset_register}
