@@ -15,17 +15,8 @@ use Rattle.fir_meaning.proofs.Ports.{component_found}
 use Rattle.fir_meaning.proofs.Tracking.{none_some, some_same}
 use Rattle.meaning_examples.specs.Samples.{clock_type, ref, leaf, whole_leaf}
 use Rattle.meaning_examples.specs.Clocks.{alone, at_main, clocked_by, ticking, through_node, through_instance, caller, called, instance}
-use Rattle.meaning_examples.proofs.Places.{Each, each_there, IsLeast, only_main, two_places}
-
-pub clock_leaves : leaves clock_type ≡ whole_leaf clock_type ∷ []
-clock_leaves = grind (arith, common_steps, type_lemmas)
-
-pub clock_is_clock : is_clock (whole_leaf clock_type) ≡ true
-clock_is_clock = grind (arith, common_steps, type_lemmas)
-
-abbrev pub is_memory : Sort → Bool
-is_memory (A_memory memory) = true
-is_memory _ = false
+use Rattle.meaning_examples.proofs.Places.{Each, each_there, IsLeast, in_module, only_main, at_each}
+use Rattle.meaning_examples.proofs.Grounds.{clock_leaves, clock_is_clock, is_memory}
 
 -- The clock of the component, where it has one, leads to the root.
 abbrev Leads : Design → List ℕ → TypedModule → Component → Type 0
@@ -33,9 +24,6 @@ Leads design path m c = (clock : Expr) → clock_of c.declaration.sort ≡ Some 
 
 abbrev Holds_none : Component → Type 0
 Holds_none c = is_memory c.declaration.sort ≡ false
-
-pub in_module : (m : TypedModule) (c : Component) → component_named m c.declaration.name ≡ Some c → Contains m.components c
-in_module m c e = (component_found m c.declaration.name c e).1
 
 module _ (components : List Component) where
   abbrev pub main : TypedModule
@@ -159,15 +147,9 @@ caller_leads = (λ clock e. absurd (none_some e), (λ clock e. absurd (none_some
 called_leads : Each (Leads through_instance (26 ∷ []) called) called.components
 called_leads = (λ clock e. absurd (none_some e), (known_clock through_instance (26 ∷ []) called (ref 30) (leaf 30 [], named_called, input_leads), tt))
 
-place_of : (path : List ℕ) (m : TypedModule) → module_at through_instance path ≡ Some m → ((path ≡ []) × (m ≡ caller)) ⊎ ((path ≡ 26 ∷ []) × (m ≡ called))
-place_of path m at = two_places through_instance caller refl 26 101 called (inl refl, (inr (refl, refl), tt)) refl (refl, (refl, tt)) path m at
-
 there : (P : List ℕ → TypedModule → Component → Type 0) → Each (P [] caller) caller.components → Each (P (26 ∷ []) called) called.components → (path : List ℕ) (m : TypedModule) (c : Component)
     → module_at through_instance path ≡ Some m → component_named m c.declaration.name ≡ Some c → P path m c
-there P outer inner path m c at declared = ⊎_elim
-    (λ e. subst (λ p. P p m c) (sym e.0) (subst (λ x. P [] x c) (sym e.1) (each_there (P [] caller) caller.components c outer (in_module caller c (subst (λ x. component_named x c.declaration.name ≡ Some c) e.1 declared)))))
-    (λ e. subst (λ p. P p m c) (sym e.0) (subst (λ x. P (26 ∷ []) x c) (sym e.1) (each_there (P (26 ∷ []) called) called.components c inner (in_module called c (subst (λ x. component_named x c.declaration.name ≡ Some c) e.1 declared)))))
-    (place_of path m at)
+there = at_each through_instance caller refl 26 101 called (inl refl, (inr (refl, refl), tt)) refl (refl, (refl, tt))
 
 pub instance_clocked : HasOneClock through_instance
 instance_clocked = record {

@@ -21,12 +21,9 @@ use Rattle.fir_meaning.specs.ClockRoot.{IsRooted, at_root, onward, ClockFrom, by
 use Rattle.fir_meaning.proofs.Tracking.{some_same}
 use Rattle.meaning_examples.specs.Samples.{place, clock_type, uint, ref, leaf, whole_leaf}
 use Rattle.meaning_examples.specs.Clocks.{alone, at_main, clocked_by, gated, gated_body, with_memory, memory, with_wire, idle_wire}
-use Rattle.meaning_examples.proofs.Places.{Each, each_there, IsLeast, only_main}
-use Rattle.meaning_examples.proofs.Leading.{main, main_of, in_module, clock_leaves, root_late}
-
-abbrev is_node : Sort → Bool
-is_node (A_node e) = true
-is_node _ = false
+use Rattle.meaning_examples.proofs.Places.{Each, each_there, IsLeast, only_main, in_module}
+use Rattle.meaning_examples.proofs.Leading.{main, main_of, root_late}
+use Rattle.meaning_examples.proofs.Grounds.{clock_leaves, uint_leaves, uint_no_clock, is_node}
 
 abbrev is_from : Driver → Bool
 is_from (From y) = true
@@ -90,12 +87,6 @@ late_refused h =
     third_in _ = idle_wire clock_type
 
 -- A condition
-
-uint_leaves : (width : ℕ) → leaves (uint width) ≡ whole_leaf (uint width) ∷ []
-uint_leaves width = grind (arith, common_steps, type_lemmas)
-
-uint_no_clock : (width : ℕ) → is_clock (whole_leaf (uint width)) ≡ false
-uint_no_clock width = grind (arith, common_steps, type_lemmas)
 
 no_clock : (width : ℕ) (l : TypeLeaf) → Contains (leaves (uint width)) l → is_clock l ≡ true → ⊥
 no_clock width l among clock =

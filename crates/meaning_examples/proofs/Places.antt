@@ -1,5 +1,5 @@
 -- Where modules stand in a design of one module, and in one with a single instance.
-use Rattle.std.proofs.Common.{◌≡◌, ℕ, zero, suc, List, [], ◌∷◌, Option, Some, None, option_and_then, refl, sym, ap, ◌∙◌, subst, arith, ◌⊎◌, inl, inr}
+use Rattle.std.proofs.Common.{◌≡◌, ℕ, zero, suc, List, [], ◌∷◌, Option, Some, None, option_and_then, refl, sym, ap, ◌∙◌, subst, arith, ◌⊎◌, inl, inr, ⊎_elim}
 use Rattle.std.specs.Prelude.{Contains}
 use Rattle.fir_meaning.specs.Components.{Design, TypedModule, Component, module_at, module_within, module_named, component_named, target_of, target_in}
 use Rattle.fir_meaning.proofs.Ports.{component_found}
@@ -25,6 +25,9 @@ no_target m least i = by (component_named m i) refl where
   by None e = refl
   by (Some c) e = each_there (λ (c : Component). target_in c.declaration.sort ≡ None) m.components c least (component_found m i c e).1
 
+pub in_module : (m : TypedModule) (c : Component) → component_named m c.declaration.name ≡ Some c → Contains m.components c
+in_module m c e = (component_found m c.declaration.name c e).1
+
 module _ (design : Design) where
   least_within : (m : TypedModule) → IsLeast m → (path : List ℕ) (n : TypedModule) → module_within design m path ≡ Some n → (path ≡ []) × (n ≡ m)
   least_within m least [] n e = (refl, sym (some_same m n e))
@@ -40,7 +43,7 @@ module _ (design : Design) where
     only_main least path m e = least_within main least path m (from_main path m e)
 
     -- With one instance, of a module without any, there are two.
-    pub two_places : (i t : ℕ) (called : TypedModule) → Each (λ (c : Component). (target_in c.declaration.sort ≡ None) ⊎ ((c.declaration.name ≡ i) × (target_in c.declaration.sort ≡ Some t))) main.components
+    two_places : (i t : ℕ) (called : TypedModule) → Each (λ (c : Component). (target_in c.declaration.sort ≡ None) ⊎ ((c.declaration.name ≡ i) × (target_in c.declaration.sort ≡ Some t))) main.components
         → module_named design t ≡ Some called → IsLeast called → (path : List ℕ) (m : TypedModule) → module_at design path ≡ Some m
         → ((path ≡ []) × (m ≡ main)) ⊎ ((path ≡ i ∷ []) × (m ≡ called))
     two_places i t called parts named least [] m e = inl (refl, sym (some_same main m (from_main [] m e)))
@@ -61,3 +64,13 @@ module _ (design : Design) where
           let found = component_found main j c q in
           of_sort c found.0 (each_there (λ (c : Component). (target_in c.declaration.sort ≡ None) ⊎ ((c.declaration.name ≡ i) × (target_in c.declaration.sort ≡ Some t))) main.components c parts found.1)
           (sym (ap (λ o. behind (option_and_then (λ (c : Component). target_in c.declaration.sort) o)) q) ∙ w)
+
+    -- so what is so of each component of the two is so of every component of the run
+    pub at_each : (i t : ℕ) (called : TypedModule) → Each (λ (c : Component). (target_in c.declaration.sort ≡ None) ⊎ ((c.declaration.name ≡ i) × (target_in c.declaration.sort ≡ Some t))) main.components
+        → module_named design t ≡ Some called → IsLeast called → (P : List ℕ → TypedModule → Component → Type 0) → Each (P [] main) main.components → Each (P (i ∷ []) called) called.components
+        → (path : List ℕ) (m : TypedModule) (c : Component) → module_at design path ≡ Some m → component_named m c.declaration.name ≡ Some c → P path m c
+    at_each i t called parts named least P outer inner path m c at declared = ⊎_elim
+        (λ e. subst (λ p. P p m c) (sym e.0) (subst (λ x. P [] x c) (sym e.1) (each_there (P [] main) main.components c outer (in_module main c (subst (λ x. component_named x c.declaration.name ≡ Some c) e.1 declared)))))
+        (λ e. subst (λ p. P p m c) (sym e.0)
+        (subst (λ x. P (i ∷ []) x c) (sym e.1) (each_there (P (i ∷ []) called) called.components c inner (in_module called c (subst (λ x. component_named x c.declaration.name ≡ Some c) e.1 declared)))))
+        (two_places i t called parts named least path m at)

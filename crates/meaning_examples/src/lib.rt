@@ -6,4 +6,5 @@
 pub mod clocks;
 pub mod memories;
 pub mod registers;
+pub mod runs;
 pub mod sides;
