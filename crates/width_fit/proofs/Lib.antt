@@ -1,3 +1,4 @@
+mod Behind
 mod Declaring
 pub mod Filled
 mod Formulas

@@ -115,7 +115,7 @@ fn fill_fields<'a>(
 }
 
 /// The number of the first width, where there is one, and the widths behind it.
-fn take_first(widths: &[Width]) -> (Option<u128>, &[Width])
+pub fn take_first(widths: &[Width]) -> (Option<u128>, &[Width])
     ensures number { result.0 ≡ first_number widths.now }
     ensures rest { result.1.now ≡ behind_first widths.now }
 {

@@ -1,17 +1,19 @@
 //! What a survey has come to.
 
 use crate::fault::WidthFault;
+use crate::made::Made;
 use bit_words::List;
 use circuit_parts::Part;
 use fir_types::FirType;
 use place_text::Place;
 use prim_ops::Width;
 
-/// The fitted types of expression nodes in text order, and the faults.
+/// The fitted types of expression nodes in text order, the faults, and the types at hand.
 #[derive(Drop)]
 pub struct Findings {
     pub nodes: Vec<FirType>,
     pub faults: Vec<WidthFault>,
+    pub made: Made,
 }
 
 /// An expression: its place, its type with its flow, and the widths of its type's places.

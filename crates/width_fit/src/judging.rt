@@ -32,7 +32,12 @@ pub fn judge(
     requires widths { IsLeast rules.now.rules (length rules.now.places) widths.now }
     ensures { IsVerdict place_of rank_of (IsFault checked widths.now) (IsFitted checked widths.now) result }
 {
-    let (declared, Findings { nodes, faults }) = tell(alloc, &checked, rules, widths)?;
+    let (declared, found) = tell(alloc, &checked, rules, widths)?;
+    let Findings {
+        nodes,
+        faults,
+        made: _,
+    } = found;
     match earliest(faults.as_slice()) {
         Some(first) => Err(first),
         None => Ok(Fitted {

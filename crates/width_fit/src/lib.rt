@@ -9,6 +9,8 @@ mod found;
 mod given;
 mod judging;
 pub mod laws;
+mod made;
+mod sharing;
 mod survey;
 mod telling;
 mod walk;

@@ -10,7 +10,6 @@ ghost use Rattle.width_fit.specs.Surveys.{kept, all_surveys, index_surveys, refe
 
 use crate::fault::WidthFault;
 use crate::faults::{push_condition, push_over, push_parameters};
-use crate::filling::filled;
 use crate::found::{Findings, Surveyed};
 use crate::widths::{kinds_of, lone_widths, slot_widths, wider_each, width_in_row};
 use bit_words::{Kind, List, Number};
@@ -44,7 +43,9 @@ pub fn survey_expr(
     let at = found.nodes.len();
     found.nodes.push(no_type(alloc, expr.place)?)?;
     let surveyed = survey_form(alloc, widths, known, found, expr)?;
-    found.nodes[at] = filled(alloc, &surveyed.part.typ, surveyed.widths.as_slice())?;
+    let typ = &surveyed.part.typ;
+    let fitted = found.made.fit(alloc, typ, surveyed.widths.as_slice())?;
+    found.nodes[at] = fitted;
     Ok(surveyed)
 }
 

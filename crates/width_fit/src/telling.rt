@@ -11,6 +11,7 @@ use crate::fault::WidthFault;
 use crate::filling::filled;
 use crate::found::Findings;
 use crate::given::Given;
+use crate::made::Made;
 use crate::walk::{Walk, push_component, walk_statements};
 use crate::widths::slot_widths;
 use bit_words::List;
@@ -43,6 +44,7 @@ pub fn tell(
         found: Findings {
             nodes: Vec::new(alloc),
             faults: Vec::new(alloc),
+            made: Made::new(alloc),
         },
     };
     let modules = with_ports(alloc, &mut walk.places, checked.circuit.modules.as_slice())?;

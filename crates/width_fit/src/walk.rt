@@ -10,7 +10,6 @@ ghost use Rattle.width_fit.specs.Walks.{Walks, solved, of_instance_among, stmt_a
 
 use crate::fault::WidthFault;
 use crate::faults::{push_condition, push_over, push_where};
-use crate::filling::filled;
 use crate::found::Findings;
 use crate::given::Given;
 use crate::survey::survey_expr;
@@ -161,7 +160,8 @@ fn declare_storage(
 {
     let slots = slots_of_type(alloc, &mut walk.places, name.place, typ)?;
     let widths = slot_widths(alloc, given.widths, slots.as_slice())?;
-    walk.declared.push(filled(alloc, typ, widths.as_slice())?)?;
+    let fitted = walk.found.made.fit(alloc, typ, widths.as_slice())?;
+    walk.declared.push(fitted)?;
     push_component(
         &mut walk.found.faults,
         given,
@@ -194,7 +194,8 @@ fn declare_memory(
     )?;
     let typ = memory_type(alloc, memory)?;
     let widths = slot_widths(alloc, given.widths, slots.as_slice())?;
-    walk.declared.push(filled(alloc, &typ, widths.as_slice())?)?;
+    let fitted = walk.found.made.fit(alloc, &typ, widths.as_slice())?;
+    walk.declared.push(fitted)?;
     let part = source(typ);
     note(&mut walk.known, memory.name.id, Component { part, slots })
 }
@@ -231,8 +232,9 @@ fn declare_instance(
     let nothing = no_component(alloc)?;
     let instance = copy_component(alloc, look_up(instances, target.id, &nothing))?;
     let widths = slot_widths(alloc, given.widths, instance.slots.as_slice())?;
-    walk.declared
-        .push(filled(alloc, &instance.part.typ, widths.as_slice())?)?;
+    let typ = &instance.part.typ;
+    let fitted = walk.found.made.fit(alloc, typ, widths.as_slice())?;
+    walk.declared.push(fitted)?;
     note(&mut walk.known, name.id, instance)
 }
 
@@ -249,8 +251,8 @@ fn declare_node(
     let part = survey_expr(alloc, given.widths, &walk.known, &mut walk.found, expr)?.part;
     let slots = variables(alloc, &mut walk.places, name.place, &part.typ)?;
     let widths = slot_widths(alloc, given.widths, slots.as_slice())?;
-    walk.declared
-        .push(filled(alloc, &part.typ, widths.as_slice())?)?;
+    let fitted = walk.found.made.fit(alloc, &part.typ, widths.as_slice())?;
+    walk.declared.push(fitted)?;
     push_component(
         &mut walk.found.faults,
         given,

@@ -14,8 +14,8 @@ survey_all-loop-expr-preserved t c = record {
 
 pub survey_expr-returns-clause-found : goal.survey_expr-returns-clause-found
 survey_expr-returns-clause-found t c =
-    adds_filled c.args.widths.now (survey c.args.widths.now c.args.expr.now c.args.known.now.entries) c.args.expr.now.place c.len-at.result c.in_ok-found.field-0 c.in_ok-surveyed.surveyed
-    c.args.found.now (record { nodes = c.push.new.self; faults = c.args.found.now.faults }) c.survey_form.new.found _
+    adds_filled c.args.widths.now (survey c.args.widths.now c.args.expr.now c.args.known.now.entries) c.args.expr.now.place c.len-at.result c.in_ok-fitted.fitted c.in_ok-surveyed.surveyed
+    c.args.found.now (record { nodes = c.push.new.self; faults = c.args.found.now.faults; made = c.args.found.now.made }) c.survey_form.new.found _
     (search rules) (search rules) refl c.in_ok-surveyed.ensures.found c.in_ok-surveyed.ensures.is (search rules) refl refl
 
 pub survey_form-returns-in-Ref-clause-is : goal.survey_form-returns-in-Ref-clause-is

@@ -10,9 +10,9 @@ pub returns : goal.returns
 returns c =
     let all = solved c.args.given.now in
     on_ok_weaker c.note.result
-    (memory_walks all c.args.memory.now c.in_ok-element.element c.in_ok-element.slots c.in_ok-typ.typ c.in_ok-filled.field-0 c.source-part.result c.args.walk.now _
+    (memory_walks all c.args.memory.now c.in_ok-element.element c.in_ok-element.slots c.in_ok-typ.typ c.in_ok-fitted.fitted c.source-part.result c.args.walk.now _
     c.in_ok-element.ensures.element c.in_ok-element.ensures.ports c.in_ok-element.ensures.places c.in_ok-typ.ensures
-    (c.in_ok-filled.ensures ∙ ap (filled c.in_ok-typ.typ) (c.as_slice-5.ensures ∙ c.in_ok-widths-2.ensures ∙ ap (map (slot_width all.widths)) c.as_slice-4.ensures))
+    (c.in_ok-fitted.ensures ∙ ap (filled c.in_ok-typ.typ) (c.as_slice-5.ensures ∙ c.in_ok-widths-2.ensures ∙ ap (map (slot_width all.widths)) c.as_slice-4.ensures))
     c.in_ok-push.ensures.items refl
     (c.in_ok-push_component.ensures ∙ ap (λ s. c.args.walk.now.found.faults.items ++ component_faults all c.args.memory.now.name.place s) c.as_slice-2.ensures)
     c.source-part.ensures)

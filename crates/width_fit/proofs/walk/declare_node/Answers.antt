@@ -10,9 +10,9 @@ pub returns : goal.returns
 returns c =
     let all = solved c.args.given.now in
     on_ok_weaker c.note.result
-    (node_walks all c.args.name c.args.expr.now c.in_ok-part.field-0 c.survey_expr.new.found c.in_ok-slots.slots c.in_ok-filled.field-0 c.source-part.result c.args.walk.now _
+    (node_walks all c.args.name c.args.expr.now c.in_ok-part.field-0 c.survey_expr.new.found c.in_ok-slots.slots c.in_ok-fitted.fitted c.source-part.result c.args.walk.now _
     c.in_ok-part.ensures.is c.in_ok-part.ensures.found c.in_ok-slots.ensures.slots c.in_ok-slots.ensures.places
-    (c.in_ok-filled.ensures ∙ ap (filled c.in_ok-part.field-0.part.typ) (c.as_slice-2.ensures ∙ c.in_ok-widths.ensures ∙ ap (map (slot_width all.widths)) c.as_slice.ensures))
+    (c.in_ok-fitted.ensures ∙ ap (filled c.in_ok-part.field-0.part.typ) (c.as_slice-2.ensures ∙ c.in_ok-widths.ensures ∙ ap (map (slot_width all.widths)) c.as_slice.ensures))
     c.in_ok-push.ensures.items refl
     (c.in_ok-push_component.ensures ∙ ap (λ s. c.survey_expr.new.found.faults.items ++ component_faults all c.args.name.place s) c.as_slice-3.ensures)
     c.source-part.ensures)
