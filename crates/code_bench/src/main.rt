@@ -42,7 +42,8 @@ fn run(rt: &HostRuntime) -> Option<()> {
     println!(rt; "{word}").ok()
 }
 
-/// The code, in order where a window has instructions, and in few slots too where it has one.
+/// The code, in order where a window has instructions, and in few slots too where it has one: two for each block, as if it were an
+/// assignment that is live to the end, or as many as are live at once.
 fn code_of(alloc: Global, blocks: u32, window: usize) -> Option<Code>
     requires some { 0 < blocks }
     requires few { blocks ≤ 1000000 }
@@ -50,7 +51,7 @@ fn code_of(alloc: Global, blocks: u32, window: usize) -> Option<Code>
     let code = mixed(alloc, blocks).ok()??;
     match window {
         0 => Some(code),
-        1 => arrange(alloc, code).ok(),
+        1 => arrange(alloc, code, 2 * blocks).ok(),
         _ => reorder(alloc, code, window).ok(),
     }
 }

@@ -76,7 +76,7 @@ fn published_thrice(alloc: Global, rows: &[Row], words: &[u64]) -> Option<Vec<u8
     let mut text = published(alloc, &plain, words)?;
     let other = published(alloc, &reordered(alloc, rows, 8)?, words)?;
     text.extend_from_slice(other.as_slice()).ok()?;
-    let few = published(alloc, &arranged(alloc, rows)?, words)?;
+    let few = published(alloc, &arranged(alloc, rows, 7)?, words)?;
     text.extend_from_slice(few.as_slice()).ok()?;
     Some(text)
 }

@@ -107,7 +107,7 @@ fn plain(alloc: Global, case: &Case) -> Option<Vec<u8>> {
 
 /// What it publishes in another order and in few slots.
 fn arranged(alloc: Global, case: &Case) -> Option<Vec<u8>> {
-    let few = arrange(alloc, code_of_case(alloc, case)?).ok()?;
+    let few = arrange(alloc, code_of_case(alloc, case)?, 3).ok()?;
     published(alloc, &few, &[case.3, case.4, 0])
 }
 

@@ -1,5 +1,5 @@
 -- Expressions have nodes. So a code with slots has a driver with nodes.
-use Rattle.std.proofs.Common.{◌≡◌, ◌⊎◌, inl, inr, ℕ, ◌+◌, ◌≤◌, Bool, true, false, if◌then◌else◌, List, [], ◌∷◌, ◌++◌, map, flat_map, length, slice_get, Option, Some, None, Contains, refl, sym, subst, ap, arith, ⊎_elim}
+use Rattle.std.proofs.Common.{◌≡◌, ◌⊎◌, inl, inr, ℕ, ◌+◌, ◌≤◌, Bool, true, false, if◌then◌else◌, max, List, [], ◌∷◌, ◌++◌, map, flat_map, length, slice_get, Option, Some, None, Contains, refl, sym, subst, ap, arith, ⊎_elim}
 use Rattle.std.proofs.lemmas.List.Elements.{Contains-append_left, Contains-append_right, Contains-append_cases}
 use Rattle.ground_net.specs.declared.ground.Ground.{Ground}
 use Rattle.ground_net.specs.declared.net.Net.{Net}
@@ -15,7 +15,7 @@ use Rattle.flat_code.specs.declared.code.Code.{Code}
 use Rattle.code_emit.specs.Counts.{nodes}
 use Rattle.code_emit.proofs.Counting.{tips_few, tips_some}
 use Rattle.code_pieces.specs.Pieces.{Piece, end_of}
-use Rattle.code_place.specs.Placed.{HasFew}
+use Rattle.code_place.specs.Live.{most_live_of}
 use Rattle.next_grounds.specs.Nexts.{driven_ground}
 use Rattle.memory_grounds.specs.Captures.{captured_ground}
 use Rattle.partition_code.specs.Codes.{sinks_of_part}
@@ -124,8 +124,8 @@ module _ (net : Net) (watch : List ℕ) (part : CutPart) (drivers : HasDrivers n
       let driver = drivers x c in
       inr (assignment_some net watch part x driver.0 c driver.1)
 
-  pub placed_few : (placed : Code) → InPieces net watch part code → HasFew code placed → placed.slots ≤ frame_bound net watch part
-  placed_few placed it few = ⊎_elim
-      (λ none. let fewer = few.fewer in omega (arith, fewer, none))
-      (λ some. let live = few.live in let bound = few_live_slots net watch part code it in omega (arith, live, bound, some))
+  pub placed_few : (placed : Code) (most : ℕ) → InPieces net watch part code → most ≤ frame_bound net watch part → placed.slots ≤ max most (max 1 (most_live_of code)) → placed.slots ≤ code.slots → placed.slots ≤ frame_bound net watch part
+  placed_few placed most it room few fewer = ⊎_elim
+      (λ none. omega (arith, fewer, none))
+      (λ some. let bound = few_live_slots net watch part code it in omega (arith, few, room, bound, some))
       (slots_some it.spots part.assignments it.assigning it.telling refl it.counted it.ends it.told)

@@ -1,12 +1,12 @@
 -- The greatest of numbers, and how many assignments are live at most.
-use Rattle.std.proofs.Common.{◌≡◌, ℕ, zero, suc, ◌+◌, ◌<◌, ◌≤◌, List, [], ◌∷◌, ◌++◌, flat_map, filter, map, length, take, drop, Contains, refl, sym, ap, ap₂, ◌∙◌, arith, ⊎_elim, length-append, take_at, drop_at}
+use Rattle.std.proofs.Common.{◌≡◌, ℕ, zero, suc, ◌+◌, ◌*◌, ◌<◌, ◌≤◌, List, [], ◌∷◌, ◌++◌, flat_map, filter, map, length, take, drop, Contains, refl, sym, ap, ap₂, ◌∙◌, arith, ⊎_elim, length-append, take_at, drop_at}
 use Rattle.std.specs.List.{range_with_len}
 use Rattle.ground_net.specs.declared.net.Net.{Net}
 use Rattle.ground_net.specs.declared.net.CutPart.{CutPart}
 use Rattle.ground_net.specs.Reads.{direct_reads}
 use Rattle.flat_code.specs.Fine.{among}
 use Rattle.cone_cutter.proofs.Lists.{none_in, cons_cases}
-use Rattle.frame_laws.specs.Frames.{greatest, sinks_read, live_behind, most_assignments}
+use Rattle.frame_laws.specs.Frames.{greatest, sinks_read, live_behind, most_assignments, frame_bound}
 
 pub in_greatest : (ns : List ℕ) (n : ℕ) → Contains ns n → n ≤ greatest ns
 in_greatest [] n c = absurd (none_in n c)
@@ -39,3 +39,7 @@ module _ (net : Net) (watch : List ℕ) (part : CutPart) where
       let here = at_greatest (λ k. length (live_behind net watch part k)) (length part.assignments) 0 (length done) (omega (arith, split, long)) in
       let there : length (live_behind net watch part (0 + length done)) ≡ length (live_behind net watch part (length done)) = ap (λ k. length (live_behind net watch part k)) (omega arith) in
       omega (arith, same, here, there)
+
+  -- So two slots for each of them are in the bound.
+  pub live_room : (done rest : List ℕ) → done ++ rest ≡ part.assignments → 2 * live_in done rest ≤ frame_bound net watch part
+  live_room done rest all = let few = few_live done rest all in omega (arith, few)

@@ -1,6 +1,6 @@
 //! Laws of frames, and what the definitions say of small nets. The functions do nothing.
 
-ghost use Rattle.std.specs.Prelude.{◌≡◌, ℕ, ◌≤◌, true, false, length, List, [], ◌∷◌, Some, None, slice_get, Option, Contains, ◌<◌, All};
+ghost use Rattle.std.specs.Prelude.{◌≡◌, ℕ, ◌≤◌, ◌*◌, ◌++◌, max, true, false, length, filter, flat_map, List, [], ◌∷◌, Some, None, slice_get, Option, Contains, ◌<◌, All};
 ghost use Rattle.ground_net.specs.declared.ground.Ground.{Ground as TheGround};
 ghost use Rattle.ground_net.specs.declared.net.Net.{Net as TheNet};
 ghost use Rattle.ground_net.specs.declared.net.NetRegister.{NetRegister as TheRegister};
@@ -27,16 +27,22 @@ ghost use Rattle.code_writes.specs.Groups.{IsWriteGroup};
 ghost use Rattle.code_memories.specs.Groups.{IsCaptureGroup};
 ghost use Rattle.code_pieces.specs.Pieces.{StandsIn, AssignsPieces, AddsPieces};
 ghost use Rattle.code_place.specs.Live.{most_live_of};
-ghost use Rattle.code_place.specs.Placed.{HasFew};
 ghost use Rattle.frame_laws.specs.Frames.{live_behind, most_assignments, most_nodes, frame_bound, sink_nodes, memory_nodes, sinks_read, sinks_nodes, assignment_nodes};
 ghost use Rattle.frame_laws.specs.Examples.{chain, whole_chain, gathering, whole_gathering, gathering_alone, resetting, memory, port, writes, reads};
 ghost use Rattle.frame_laws.specs.Pieces.{Once, GroupFits, HasDrivers, InPieces};
 
 /// Of a code of a part in pieces no more slots are live at once than two for each assignment that is live at once and two for each
-/// node of the largest driver. So the frame of the placed code is no longer, where each assignment has a driver.
+/// node of the largest driver. So the frame of a code that is placed in as many slots, or in some number that is no greater than this
+/// bound, is no longer, where each assignment has a driver.
 pub fn frames_are_few()
     ensures live { (net : TheNet) (watch : List ℕ) (part : ThePart) (code : TheCode) → InPieces net watch part code → most_live_of code ≤ frame_bound net watch part }
-    ensures placed { (net : TheNet) (watch : List ℕ) (part : ThePart) (code placed : TheCode) → HasDrivers net part → InPieces net watch part code → HasFew code placed → frame_length placed ≤ frame_bound net watch part }
+    ensures placed { (net : TheNet) (watch : List ℕ) (part : ThePart) (code placed : TheCode) (most : ℕ) → HasDrivers net part → InPieces net watch part code → most ≤ frame_bound net watch part → placed.slots ≤ max most (max 1 (most_live_of code)) → placed.slots ≤ code.slots → frame_length placed ≤ frame_bound net watch part }
+{}
+
+/// Behind each position of a part's sequence, two slots for each assignment that stands at or before it and that a sink or an assignment
+/// behind it reads directly are no more than the code of the part may take.
+pub fn live_assignments_have_room()
+    ensures { (net : TheNet) (watch : List ℕ) (part : ThePart) (done rest : List ℕ) → done ++ rest ≡ part.assignments → 2 * length (filter (among (sinks_read net watch part ++ flat_map (direct_reads net) rest)) done) ≤ frame_bound net watch part }
 {}
 
 /// The code of a part is in pieces, where its assignments have one each in turn and its sinks add some behind, over slots in which the

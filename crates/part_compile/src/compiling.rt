@@ -64,7 +64,7 @@ pub fn compile(
     let mut codes = List::new(alloc);
     for part in cut.parts.as_slice() {
         let code = code_of(alloc, &plan, sinks.as_slice(), part)?;
-        codes.push(arrange(alloc, code)?)?;
+        codes.push(arrange(alloc, code, 0)?)?;
     }
     Ok(codes)
 }

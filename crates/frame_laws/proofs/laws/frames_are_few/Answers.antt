@@ -6,4 +6,4 @@ pub returns-clause-live : goal.returns-clause-live
 returns-clause-live c = few_live_slots
 
 pub returns-clause-placed : goal.returns-clause-placed
-returns-clause-placed c = λ net watch part code placed drivers. placed_few net watch part drivers code placed
+returns-clause-placed c = λ net watch part code placed most drivers. placed_few net watch part drivers code placed most
