@@ -1,5 +1,5 @@
 -- A cycle of the design with a memory.
-use Rattle.std.proofs.Common.{◌≡◌, ◌≢◌, ℕ, ◌<◌, true, false, not, Bool, List, [], ◌∷◌, Some, refl, sym, ap, ◌∙◌, subst, arith, true≢false, ℤ, pos, drop}
+use Rattle.std.proofs.Common.{◌≡◌, ◌≢◌, ℕ, true, false, not, List, [], ◌∷◌, Some, refl, sym, ap, ◌∙◌, subst, arith, true≢false, ℤ, pos, drop}
 use Rattle.std.specs.Prelude.{Contains}
 use Rattle.std.proofs.lemmas.Grind.{common_steps}
 use Rattle.fir_types.specs.declared.fir_type.FirType.{FirType, the_lemmas as type_lemmas}
