@@ -1,5 +1,5 @@
 -- What leads to the root.
-use Rattle.std.proofs.Common.{◌≡◌, ℕ, true, false, Bool, List, [], ◌∷◌, Some, refl, sym, ap, ◌∙◌, subst, arith, true≢false, ◌⊎◌, inl, inr, ⊎_elim}
+use Rattle.std.proofs.Common.{◌≡◌, ℕ, true, false, List, [], ◌∷◌, Some, refl, sym, ap, ◌∙◌, subst, arith, true≢false, inl, inr}
 use Rattle.std.specs.Prelude.{Contains, slice_get}
 use Rattle.std.proofs.lemmas.Grind.{common_steps}
 use Rattle.fir_types.specs.declared.fir_type.FirType.{the_lemmas as type_lemmas}
@@ -8,10 +8,9 @@ use Rattle.fir_types.specs.declared.leaf.PathStep.TheVariants as step
 use Rattle.fir_types.specs.Leaves.{leaves}
 use Rattle.fir_tree.specs.declared.expr.Expr.{Expr, the_lemmas as expr_lemmas}
 use Rattle.fir_tree.specs.declared.stmt.Stmt.{the_lemmas as stmt_lemmas}
-use Rattle.fir_meaning.specs.Components.{Design, TypedModule, Component, Leaf, Sort, A_memory, flat, type_in, is_clock, module_at, component_named}
+use Rattle.fir_meaning.specs.Components.{Design, TypedModule, Component, Leaf, flat, type_in, is_clock, module_at, component_named}
 use Rattle.fir_meaning.specs.States.{Stands}
 use Rattle.fir_meaning.specs.ClockRoot.{IsRooted, at_root, onward, by_connect, by_node, From, HasOneClock, clock_of, clock_root, named_leaves, driver_in}
-use Rattle.fir_meaning.proofs.Ports.{component_found}
 use Rattle.fir_meaning.proofs.Tracking.{none_some, some_same}
 use Rattle.meaning_examples.specs.Samples.{clock_type, ref, leaf, whole_leaf}
 use Rattle.meaning_examples.specs.Clocks.{alone, at_main, clocked_by, ticking, through_node, through_instance, caller, called, instance}

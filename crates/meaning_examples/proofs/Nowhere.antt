@@ -13,7 +13,7 @@ use Rattle.fir_types.specs.Bundles.{clk_name}
 use Rattle.fir_tree.specs.declared.expr.Expr.{Expr, the_lemmas as expr_lemmas}
 use Rattle.fir_tree.specs.declared.stmt.Stmt.{the_lemmas as stmt_lemmas}
 use Rattle.fir_tree.specs.declared.stmt.Stmt.TheVariants as stmt
-use Rattle.fir_meaning.specs.Components.{TypedModule, Component, Leaf, FlatLeaf, Sort, An_input, A_node, flat, flow_of, type_in, is_clock, component_named}
+use Rattle.fir_meaning.specs.Components.{TypedModule, Component, Leaf, FlatLeaf, An_input, flat, flow_of, type_in, is_clock, component_named}
 use Rattle.fir_meaning.specs.Mentions.{Scope}
 use Rattle.fir_meaning.specs.Certain.{IsInitialized}
 use Rattle.fir_meaning.specs.States.{Stands, leaf_of, is_source}

@@ -1,5 +1,5 @@
 -- A cycle of the design with a memory.
-use Rattle.std.proofs.Common.{◌≡◌, ◌≢◌, ℕ, ◌<◌, true, false, not, Bool, List, [], ◌∷◌, Some, refl, sym, ap, ◌∙◌, subst, arith, true≢false, ℤ, pos, drop}
+use Rattle.std.proofs.Common.{◌≡◌, ◌≢◌, ℕ, true, false, not, List, [], ◌∷◌, Some, refl, sym, ap, ◌∙◌, subst, arith, true≢false, ℤ, pos, drop}
 use Rattle.std.specs.Prelude.{Contains}
 use Rattle.std.proofs.lemmas.Grind.{common_steps}
 use Rattle.fir_types.specs.declared.fir_type.FirType.{FirType, the_lemmas as type_lemmas}
@@ -9,7 +9,7 @@ use Rattle.fir_types.specs.declared.leaf.PathStep.TheVariants as step
 use Rattle.fir_types.specs.declared.memory.Memory.{Memory}
 use Rattle.fir_types.specs.Leaves.{leaves}
 use Rattle.fir_types.specs.Memories.{read_latency_of}
-use Rattle.fir_types.specs.Bundles.{addr_name, en_name, clk_name, data_name, mask_name}
+use Rattle.fir_types.specs.Bundles.{addr_name, en_name, clk_name, data_name, mask_name, address_bits, least_reaching, memory_of}
 use Rattle.fir_tree.specs.declared.expr.Expr.{the_lemmas as expr_lemmas}
 use Rattle.fir_tree.specs.declared.stmt.Stmt.{the_lemmas as stmt_lemmas}
 use Rattle.fir_meaning.specs.Components.{TypedModule, Component, Sort, A_memory, flow_of, is_clock, module_at, component_named}
@@ -38,6 +38,16 @@ of_memory =
 
 its_leaves : leaves ports_type ≡ of_memory
 its_leaves = grind (arith, common_steps, type_lemmas)
+
+two_bits : address_bits 4 ≡ 2
+unfolding address_bits least_reaching
+two_bits = refl
+
+-- So has the bundle of the memory's ports.
+pub ports_have : (latency : ℕ) → leaves ports_type ≡ leaves (memory_of (held latency))
+ports_have latency = its_leaves ∙ sym of_bundle where
+  of_bundle : leaves (memory_of (held latency)) ≡ of_memory
+  of_bundle = grind (arith, common_steps, type_lemmas, two_bits)
 
 number : {A : Type 0} (port field width : ℕ) → is_clock (turned port field (uint width)) ≡ true → A
 number port field width e = absurd (true≢false (sym e ∙ there)) where

@@ -7,7 +7,6 @@
 --                                      connect m.q.mask, UInt<1>(1)
 use Rattle.std.specs.Prelude.{ℕ, ◌==◌, List, [], ◌∷◌, pos, if◌then◌else◌}
 use Rattle.fir_types.specs.declared.fir_type.FirType.{FirType}
-use Rattle.fir_types.specs.declared.leaf.PathStep.{PathStep}
 use Rattle.fir_types.specs.declared.leaf.PathStep.TheVariants as step
 use Rattle.fir_types.specs.declared.memory.Memory.{Memory}
 use Rattle.fir_types.specs.declared.memory.MemLine.TheVariants as line

@@ -1,5 +1,8 @@
-use Rattle.meaning_examples.proofs.OneMemory.{settles_now, settles_later, next_written, next_kept, next_captured}
+use Rattle.meaning_examples.proofs.OneMemory.{ports_have, settles_now, settles_later, next_written, next_kept, next_captured}
 use Rattle.meaning_examples.proofs.runs.memories_write_behind_their_reads.Goals as goal
+
+pub returns-clause-ports : goal.returns-clause-ports
+returns-clause-ports c = ports_have
 
 pub returns-clause-latency_0 : goal.returns-clause-latency_0
 returns-clause-latency_0 c = settles_now
