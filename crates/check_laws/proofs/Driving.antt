@@ -1,5 +1,5 @@
 -- A connect without a fault drives no leaf that can only be read.
-use Rattle.std.proofs.Common.{◌≡◌, ℕ, zero, suc, Bool, true, false, ◌&&◌, if◌then◌else◌, List, [], ◌∷◌, ◌++◌, map, slice_get, Option, Some, None, refl, sym, ap, ap₂, ◌∙◌, subst, arith}
+use Rattle.std.proofs.Common.{◌≡◌, ℕ, zero, suc, Bool, true, false, ◌&&◌, if◌then◌else◌, List, [], ◌∷◌, ◌++◌, map, slice_get, Some, refl, sym, ap, ap₂, ◌∙◌, subst}
 use Rattle.std.specs.Prelude.{◌≢◌}
 use Rattle.std.specs.List.{AllByRecursion}
 use Rattle.fir_types.specs.declared.fir_type.FirType.{FirType}
@@ -14,9 +14,8 @@ use Rattle.circuit_parts.specs.declared.part.Flow.{Flow}
 use Rattle.circuit_parts.specs.declared.part.Flow.TheVariants.{Source, Sink, Duplex}
 use Rattle.circuit_parts.specs.declared.part.Part.{Part}
 use Rattle.circuit_parts.specs.Parts.{flow_through}
-use Rattle.type_check.specs.declared.fault.TypeFault.{TypeFault}
 use Rattle.type_check.specs.declared.fault.TypeFault.TheVariants.{NotEquivalent, FlowSink, FlowSource}
-use Rattle.type_check.specs.Parts.{Known, unless, when, where_typed}
+use Rattle.type_check.specs.Parts.{Known, where_typed}
 use Rattle.type_check.specs.Texts.{are_equivalent}
 use Rattle.type_check.specs.Expressions.{Judgement, found_of}
 use Rattle.type_check.specs.Statements.{connects, sink_faults, source_faults, equal_faults, is_source, is_sink}
