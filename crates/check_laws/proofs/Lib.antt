@@ -1,2 +1,3 @@
 mod Memories
 mod Typing
+mod Driving

@@ -40,10 +40,10 @@ use Rattle.check_laws.specs.Typing.{IsPart, reference, literal, operation as an_
 
 -- Lists and answers
 
-some_same : {A : Type 0} {x y : A} → Some x ≡ Some y → x ≡ y
+pub some_same : {A : Type 0} {x y : A} → Some x ≡ Some y → x ≡ y
 some_same e = cc
 
-none_some : {A : Type 0} {x : A} → None ≡ Some x → ⊥
+pub none_some : {A : Type 0} {x : A} → None ≡ Some x → ⊥
 none_some e = cc
 
 heads : {A : Type 0} {x y : A} {xs ys : List A} → x ∷ xs ≡ y ∷ ys → x ≡ y
@@ -123,19 +123,19 @@ signs_back [] (s ∷ signs) e = absurd cc
 signs_back (o ∷ os) [] e = absurd cc
 signs_back (o ∷ os) (s ∷ signs) e = ap₂ with_sign (heads e) (signs_back os signs (tails e))
 
-unless_none : (b : Bool) (fault : TypeFault) → unless b fault ≡ [] → b ≡ true
+pub unless_none : (b : Bool) (fault : TypeFault) → unless b fault ≡ [] → b ≡ true
 unless_none true fault e = refl
 unless_none false fault e = absurd cc
 
-when_none : (b : Bool) (fault : TypeFault) → when b fault ≡ [] → b ≡ false
+pub when_none : (b : Bool) (fault : TypeFault) → when b fault ≡ [] → b ≡ false
 when_none false fault e = refl
 when_none true fault e = absurd cc
 
-left_empty : {X : Type 0} (xs ys : List X) → xs ++ ys ≡ [] → xs ≡ []
+pub left_empty : {X : Type 0} (xs ys : List X) → xs ++ ys ≡ [] → xs ≡ []
 left_empty [] ys e = refl
 left_empty (x ∷ xs) ys e = absurd cc
 
-right_empty : {X : Type 0} (xs ys : List X) → xs ++ ys ≡ [] → ys ≡ []
+pub right_empty : {X : Type 0} (xs ys : List X) → xs ++ ys ≡ [] → ys ≡ []
 right_empty [] ys e = e
 right_empty (x ∷ xs) ys e = absurd cc
 

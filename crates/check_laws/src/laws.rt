@@ -1,6 +1,6 @@
 //! Laws of checked circuits. The functions do nothing.
 
-ghost use Rattle.std.specs.Prelude.{◌≡◌, ◌↔◌, Contains, Some};
+ghost use Rattle.std.specs.Prelude.{◌≡◌, ◌≢◌, ◌↔◌, ℕ, Contains, [], map, slice_get, Some};
 ghost use Rattle.place_text.specs.declared.place.Place.{Place as ThePlace};
 ghost use Rattle.fir_types.specs.declared.memory.Memory.{Memory as AMemory};
 ghost use Rattle.fir_types.specs.Memories.{IsValid};
@@ -12,6 +12,11 @@ ghost use Rattle.circuit_parts.specs.declared.part.Part.{Part as APart};
 ghost use Rattle.type_check.specs.Parts.{Known};
 ghost use Rattle.type_check.specs.Expressions.{found_of, Has};
 ghost use Rattle.check_laws.specs.Typing.{IsPart};
+ghost use Rattle.fir_types.specs.declared.leaf.TypeLeaf.{TypeLeaf as ALeaf};
+ghost use Rattle.fir_types.specs.Leaves.{leaves, way_of};
+ghost use Rattle.circuit_parts.specs.declared.part.Flow.TheVariants.{Source as source_flow};
+ghost use Rattle.type_check.specs.Statements.{connects};
+ghost use Rattle.check_laws.specs.Driving.{driven_flow};
 
 /// An expression is found to be a part exactly where its operands are parts and meet the conditions on them; so it has exactly the
 /// type that the relation tells, and at most one.
@@ -24,4 +29,11 @@ pub fn expressions_have_types()
 /// elements.)
 pub fn checked_memories_are_valid()
     ensures { (memory : AMemory) → IsValid memory ↔ ((at : ThePlace) → ¬ (Contains (memory_faults memory) (MemoryField at))) }
+{}
+
+/// The sides of a connect without a fault have as many leaves, at the same places and turned round alike, and of each pair the one
+/// that is driven is no source: the left one, or the right one where they are turned round.
+pub fn connects_drive_no_source()
+    ensures ways { (known : Known) (left right : AnExpr) (l r : APart) → (connects left right known).faults ≡ [] → (found_of known left).part ≡ Some l → (found_of known right).part ≡ Some r → map way_of (leaves l.typ) ≡ map way_of (leaves r.typ) }
+    ensures driven { (known : Known) (left right : AnExpr) (l r : APart) → (connects left right known).faults ≡ [] → (found_of known left).part ≡ Some l → (found_of known right).part ≡ Some r → (k : ℕ) (x y : ALeaf) → slice_get (leaves l.typ) k ≡ Some x → slice_get (leaves r.typ) k ≡ Some y → driven_flow l r x y ≢ source_flow }
 {}
