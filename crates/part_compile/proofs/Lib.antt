@@ -5,3 +5,4 @@ pub mod Composing
 pub mod Filtered
 pub mod Told
 pub mod Framing
+pub mod Rooming

@@ -16,6 +16,7 @@ use cone_cutter::sinks_of;
 use flat_code::Code;
 use ground_net::{Cut, Ordered};
 use net_sources::{captured_reads, first_words, have_numbers};
+use part_room::room_of;
 use part_sinks::Plan;
 use std::alloc::{AllocError, Global};
 
@@ -64,7 +65,8 @@ pub fn compile(
     let mut codes = List::new(alloc);
     for part in cut.parts.as_slice() {
         let code = code_of(alloc, &plan, sinks.as_slice(), part)?;
-        codes.push(arrange(alloc, code, 0)?)?;
+        let room = room_of(alloc, net, watch, sinks.as_slice(), part)?;
+        codes.push(arrange(alloc, code, room)?)?;
     }
     Ok(codes)
 }

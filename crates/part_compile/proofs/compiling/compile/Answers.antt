@@ -6,6 +6,7 @@ use Rattle.frame_laws.proofs.Driving.{placed_few}
 use Rattle.place_laws.proofs.Placed.{placed_is_code}
 use Rattle.part_compile.specs.Frames.{TakesFewSlots, TakeFewSlots}
 use Rattle.part_compile.proofs.Composing.{have_drivers, codes_none, codes_more, few_none, few_more}
+use Rattle.part_compile.proofs.Rooming.{room_fits}
 use Rattle.part_compile.proofs.compiling.compile.Goals as goal
 
 pub loop-part-init : goal.loop-part-init
@@ -37,7 +38,7 @@ loop-part-preserved c =
     let is = placed_is_code net watch part c.in_ok-code.code new c.in_ok-code.ensures.code c.in_ok-arrange.ensures.placed in
     let had = c.loop-part.invariant in
     let drivers = have_drivers net c.requires.net watch part c.args.ordered.now.sequence (c.requires.split.unions i part there) in
-    let few : TakesFewSlots net watch part new = λ watches. placed_few net watch part drivers c.in_ok-code.code new 0 (c.in_ok-code.ensures.pieces watches) (omega arith)
+    let few : TakesFewSlots net watch part new = λ watches. placed_few net watch part drivers c.in_ok-code.code new c.in_ok-room.room (c.in_ok-code.ensures.pieces watches) (room_fits net watch part c.in_ok-room.room c.in_ok-room.ensures)
     c.in_ok-arrange.ensures.few.few c.in_ok-arrange.ensures.few.fewer in (
       subst (AreCodesOf net watch (take (i + 1) parts)) (sym c.in_ok-push.ensures.ok) (codes_more net watch parts i part c.loop-part.codes new there had.0 is),
       subst (TakeFewSlots net watch (take (i + 1) parts)) (sym c.in_ok-push.ensures.ok) (few_more net watch parts i part c.loop-part.codes new there had.0.counted had.1 few),
