@@ -1,0 +1,3 @@
+mod Shallow
+mod Nested
+mod Examples
