@@ -1,3 +1,5 @@
+mod Members
 mod Memories
+mod Circuits
 mod Typing
 mod Driving

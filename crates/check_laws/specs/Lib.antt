@@ -1,2 +1,3 @@
 pub mod Typing
 pub mod Driving
+pub mod Blocks
