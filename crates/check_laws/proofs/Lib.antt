@@ -3,3 +3,4 @@ mod Memories
 mod Circuits
 mod Typing
 mod Driving
+mod Faults

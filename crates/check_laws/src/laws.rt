@@ -17,6 +17,8 @@ ghost use Rattle.circuit_parts.specs.declared.part.Part.{Part as APart};
 ghost use Rattle.type_check.specs.Parts.{Known};
 ghost use Rattle.type_check.specs.Expressions.{found_of, Has};
 ghost use Rattle.check_laws.specs.Typing.{IsPart};
+ghost use Rattle.type_check.specs.declared.fault.TypeFault.{TypeFault as AFault};
+ghost use Rattle.check_laws.specs.Faults.{StandsIn, IsAtFault};
 ghost use Rattle.fir_types.specs.declared.leaf.TypeLeaf.{TypeLeaf as ALeaf};
 ghost use Rattle.fir_types.specs.Leaves.{leaves, way_of};
 ghost use Rattle.circuit_parts.specs.declared.part.Flow.TheVariants.{Source as source_flow};
@@ -28,6 +30,13 @@ ghost use Rattle.check_laws.specs.Driving.{driven_flow};
 pub fn expressions_have_types()
     ensures parts { (known : Known) (e : AnExpr) (part : APart) → ((found_of known e).part ≡ Some part) ↔ IsPart known e part }
     ensures types { (known : Known) (e : AnExpr) (typ : TheType) → Has known e typ ↔ ((part : APart) × IsPart known e part × (part.typ ≡ typ)) }
+{}
+
+/// The faults that are found of an expression are exactly those that it, or an expression that stands in it as an operand or an
+/// index, has of its own: at a reference, a literal, an operation or a choice whose operands are parts and miss a condition, of that
+/// condition's kind and at its place.
+pub fn expressions_are_at_fault()
+    ensures { (known : Known) (e : AnExpr) (fault : AFault) → Contains (found_of known e).faults fault ↔ ((inner : AnExpr) × StandsIn inner e × IsAtFault known inner fault) }
 {}
 
 /// A memory is valid exactly where none of its faults is one of its lines. (Its other faults are those of the type of its
