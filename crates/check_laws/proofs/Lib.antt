@@ -1,3 +1,6 @@
+mod Members
 mod Memories
+mod Circuits
 mod Typing
 mod Driving
+mod Faults

@@ -46,55 +46,55 @@ some_same e = cc
 pub none_some : {A : Type 0} {x : A} → None ≡ Some x → ⊥
 none_some e = cc
 
-heads : {A : Type 0} {x y : A} {xs ys : List A} → x ∷ xs ≡ y ∷ ys → x ≡ y
+pub heads : {A : Type 0} {x y : A} {xs ys : List A} → x ∷ xs ≡ y ∷ ys → x ≡ y
 heads e = cc
 
-tails : {A : Type 0} {x y : A} {xs ys : List A} → x ∷ xs ≡ y ∷ ys → xs ≡ ys
+pub tails : {A : Type 0} {x y : A} {xs ys : List A} → x ∷ xs ≡ y ∷ ys → xs ≡ ys
 tails e = cc
 
 -- Each form of an expression, and each step
 
-ref_is : (known : Known) (e : Expr) (name : Name) (ss : List Suffix) → e.form ≡ form.Ref name ss
+pub ref_is : (known : Known) (e : Expr) (name : Name) (ss : List Suffix) → e.form ≡ form.Ref name ss
     → found_of known e ≡ as_node e.place (along (map suffix_step ss) known (component known name.id))
 ref_is known e name ss is = grind (arith, common_steps, the_lemmas)
 
-literal_is : (known : Known) (e : Expr) (sign : Sign) (width : Option ℕ) (number : Number) → e.form ≡ form.Literal sign width number
+pub literal_is : (known : Known) (e : Expr) (sign : Sign) (width : Option ℕ) (number : Number) → e.form ≡ form.Literal sign width number
     → found_of known e ≡ node e.place (unless (fits_literal sign width (integer_of_number number)) (LiteralFit e.place)) (ground e.place sign width) []
 literal_is known e sign width number is = grind (arith, common_steps, the_lemmas)
 
-prim_is : (known : Known) (e : Expr) (op : PrimOp) (operands : List Expr) (params : List ℕ) → e.form ≡ form.Prim op operands params
+pub prim_is : (known : Known) (e : Expr) (op : PrimOp) (operands : List Expr) (params : List ℕ) → e.form ≡ form.Prim op operands params
     → found_of known e ≡ over e.place (operation op e.place) (all_among known (map judged operands)) (typed_operands known (map judged operands))
 prim_is known e op operands params is = grind (arith, common_steps, the_lemmas)
 
-mux_is : (known : Known) (e : Expr) (operands : List Expr) → e.form ≡ form.Mux operands
+pub mux_is : (known : Known) (e : Expr) (operands : List Expr) → e.form ≡ form.Mux operands
     → found_of known e ≡ over e.place (choice e.place) (all_among known (map judged operands)) (typed_operands known (map judged operands))
 mux_is known e operands is = grind (arith, common_steps, the_lemmas)
 
-field_is : (known : Known) (s : Suffix) (name : Name) (base : Part) → s ≡ suffix.Field name
+pub field_is : (known : Known) (s : Suffix) (name : Name) (base : Part) → s ≡ suffix.Field name
     → suffix_step s known (Some base) ≡ field_step name base (out-Shape base.typ.shape)
 field_is known s name base is = grind (arith, common_steps, the_lemmas)
 
-at_is : (known : Known) (s : Suffix) (bracket at : Place) (n : ℕ) (base : Part) → s ≡ suffix.At bracket at n
+pub at_is : (known : Known) (s : Suffix) (bracket at : Place) (n : ℕ) (base : Part) → s ≡ suffix.At bracket at n
     → suffix_step s known (Some base) ≡ element_step bracket at n base (out-Shape base.typ.shape)
 at_is known s bracket at n base is = grind (arith, common_steps, the_lemmas)
 
-index_is : (known : Known) (s : Suffix) (bracket : Place) (index : Expr) (base : Part) → s ≡ suffix.Index bracket index
+pub index_is : (known : Known) (s : Suffix) (bracket : Place) (index : Expr) (base : Part) → s ≡ suffix.Index bracket index
     → suffix_step s known (Some base) ≡ behind (found_of known index) (from_index bracket (judged index).place (found_of known index).part (Some base))
 index_is known s bracket index base is = grind (arith, common_steps, the_lemmas)
 
-field_out : (known : Known) (s : Suffix) (name : Name) → s ≡ suffix.Field name → suffix_step s known None ≡ unjudged
+pub field_out : (known : Known) (s : Suffix) (name : Name) → s ≡ suffix.Field name → suffix_step s known None ≡ unjudged
 field_out known s name is = grind (arith, common_steps, the_lemmas)
 
-at_out : (known : Known) (s : Suffix) (bracket at : Place) (n : ℕ) → s ≡ suffix.At bracket at n → suffix_step s known None ≡ unjudged
+pub at_out : (known : Known) (s : Suffix) (bracket at : Place) (n : ℕ) → s ≡ suffix.At bracket at n → suffix_step s known None ≡ unjudged
 at_out known s bracket at n is = grind (arith, common_steps, the_lemmas)
 
-index_out : (known : Known) (s : Suffix) (bracket : Place) (index : Expr) → s ≡ suffix.Index bracket index
+pub index_out : (known : Known) (s : Suffix) (bracket : Place) (index : Expr) → s ≡ suffix.Index bracket index
     → suffix_step s known None ≡ behind (found_of known index) (from_index bracket (judged index).place (found_of known index).part None)
 index_out known s bracket index is = grind (arith, common_steps, the_lemmas)
 
 -- Conditions
 
-unsigned_is : (t : FirType) → is_unsigned t ≡ true → IsUnsigned t
+pub unsigned_is : (t : FirType) → is_unsigned t ≡ true → IsUnsigned t
 unsigned_is t y = by (case_of t.shape) where
   by : ShapeCase t.shape → IsUnsigned t
   by (shape_uint w e) = a_uint w e
@@ -104,11 +104,11 @@ unsigned_is t y = by (case_of t.shape) where
   by (shape_bundle fs e) = absurd (grind (arith, common_steps, type_lemmas))
   by (shape_vector o n e) = absurd (grind (arith, common_steps, type_lemmas))
 
-is_unsigned_yes : {t : FirType} → IsUnsigned t → is_unsigned t ≡ true
+pub is_unsigned_yes : {t : FirType} → IsUnsigned t → is_unsigned t ≡ true
 is_unsigned_yes {t} (a_uint w e) = grind (arith, common_steps, type_lemmas)
 is_unsigned_yes {t} (a_reset e) = grind (arith, common_steps, type_lemmas)
 
-signs_some : (os : List Operand) (signs : List Sign) → signs_of os ≡ Some signs → map sign_of (map (λ (o : Operand). o.typ) os) ≡ map Some signs
+pub signs_some : (os : List Operand) (signs : List Sign) → signs_of os ≡ Some signs → map sign_of (map (λ (o : Operand). o.typ) os) ≡ map Some signs
 signs_some [] signs e = ap (map Some) (some_same e)
 signs_some (o ∷ os) signs e = by (sign_of o.typ) (signs_of os) refl refl e (signs_some os) where
   by : (a : Option Sign) (b : Option (List Sign)) → sign_of o.typ ≡ a → signs_of os ≡ b → with_sign a b ≡ Some signs
@@ -117,7 +117,7 @@ signs_some (o ∷ os) signs e = by (sign_of o.typ) (signs_of os) refl refl e (si
   by (Some a) None p q e more = absurd cc
   by None b p q e more = absurd cc
 
-signs_back : (os : List Operand) (signs : List Sign) → map sign_of (map (λ (o : Operand). o.typ) os) ≡ map Some signs → signs_of os ≡ Some signs
+pub signs_back : (os : List Operand) (signs : List Sign) → map sign_of (map (λ (o : Operand). o.typ) os) ≡ map Some signs → signs_of os ≡ Some signs
 signs_back [] [] e = refl
 signs_back [] (s ∷ signs) e = absurd cc
 signs_back (o ∷ os) [] e = absurd cc
@@ -200,14 +200,14 @@ choice_quiet place c a b h =
 module _ (known : Known) where
   -- From what is found to the relation
 
-  abbrev ExprIs : Expr → Type 0
+  abbrev pub ExprIs : Expr → Type 0
   ExprIs e = (part : Part) → (found_of known e).part ≡ Some part → IsPart known e part
 
-  abbrev FormIs : Form → Type 0
+  abbrev pub FormIs : Form → Type 0
   FormIs φ = (place : Place) → ExprIs (record { place = place; form = φ })
 
   -- a step leads on from a part as the relation says, and from nothing it leads nowhere
-  abbrev SuffixIs : Suffix → Type 0
+  abbrev pub SuffixIs : Suffix → Type 0
   SuffixIs s = ((base next : Part) → (suffix_step s known (Some base)).part ≡ Some next → Steps known base s next)
       × ((next : Part) → (suffix_step s known None).part ≡ Some next → ⊥)
 
@@ -257,7 +257,7 @@ module _ (known : Known) where
   nothing_picked bracket at (Some inner) next e = none_some e
   nothing_picked bracket at None next e = none_some e
 
-  suffix_case : (y : Suffix-F ((φ : Form) × FormIs φ) ((s : Suffix) × SuffixIs s) ((e : Expr) × ExprIs e))
+  pub suffix_case : (y : Suffix-F ((φ : Form) × FormIs φ) ((s : Suffix) × SuffixIs s) ((e : Expr) × ExprIs e))
       → SuffixIs (roll-Suffix (map-Suffix _ _ _ Form Suffix Expr (λ e. e.0) (λ e. e.0) (λ e. e.0) y))
   suffix_case (Suffix-F.Field name) = subst SuffixIs (sym (rolls-Field name)) (
     (λ base next e. field_by name base next (case_of base.typ.shape) (sym (ap (λ (j : Judgement). j.part) (field_is known (suffix.Field name) name base refl)) ∙ e)),
@@ -384,7 +384,7 @@ module _ (known : Known) where
   form_case (Form-F.Prim op ps params) = subst FormIs (sym (rolls-Prim op (map (λ e. e.0) ps) params)) (operation_by op ps params)
   form_case (Form-F.Mux ps) = subst FormIs (sym (rolls-Mux (map (λ e. e.0) ps))) (choice_by ps)
 
-  is_part : (e : Expr) → ExprIs e
+  pub is_part : (e : Expr) → ExprIs e
   is_part = ind-Expr FormIs SuffixIs ExprIs
       (λ x y is. subst (λ z. FormIs (roll-Form z)) is (form_case y))
       (λ x y is. subst (λ z. SuffixIs (roll-Suffix z)) is (suffix_case y))
@@ -406,7 +406,7 @@ module _ (known : Known) where
       node_found place (choice_faults place x y z) y.typ js (choice_quiet place x y z m) ∙ ap (λ t. Some (source_of t)) q
 
   mutual
-    found_is : {e : Expr} {part : Part} → IsPart known e part → (found_of known e).part ≡ Some part
+    pub found_is : {e : Expr} {part : Part} → IsPart known e part → (found_of known e).part ≡ Some part
     found_is {e = e} (reference name ss base is there' leads) =
         ap (λ (j : Judgement). j.part) (ref_is known e name ss is) ∙ ap (λ o. (along (map suffix_step ss) known o).part) there' ∙ leads_found leads
     found_is {e = e} (literal sign width number is fits) =
@@ -427,7 +427,7 @@ module _ (known : Known) where
     leads_found nowhere_else = refl
     leads_found (one_step {rest = rest} step leads) = ap (λ o. (along (map suffix_step rest) known o).part) (step_found step) ∙ leads_found leads
 
-    step_found : {base next : Part} {s : Suffix} → Steps known base s next → (suffix_step s known (Some base)).part ≡ Some next
+    pub step_found : {base next : Part} {s : Suffix} → Steps known base s next → (suffix_step s known (Some base)).part ≡ Some next
     step_found {base = base} {s = s} (to_field name fs f is k q) =
         ap (λ (j : Judgement). j.part) (field_is known s name base is) ∙ ap (λ x. (field_step name base x).part) (ap out-Shape k ∙ outs-Bundle fs) ∙ ap (λ o. (field_found name base o).part) q
     step_found {base = base} {s = s} (to_element bracket at n o m is k below) =
@@ -437,7 +437,7 @@ module _ (known : Known) where
         ap (λ (j : Judgement). j.part) (index_is known s bracket index base is) ∙ ap (λ x. (from_index bracket (judged index).place x (Some base)).part) (found_is its)
         ∙ ap (λ x. (index_step bracket (judged index).place inner base x).part) (ap out-Shape k ∙ outs-Vector o m) ∙ ap (λ b. (indexed (judged index).place base o b).part) (is_unsigned_yes kind)
 
-    types_found : {es : List Expr} {types : List FirType} → HaveTypes known es types
+    pub types_found : {es : List Expr} {types : List FirType} → HaveTypes known es types
         → (os : List Operand) × (typed_operands known (map judged es) ≡ Some os) × (map (λ (o : Operand). o.typ) os ≡ types)
     types_found no_operands = ([], refl, refl)
     types_found (one_operand {e = e} {part = part} its have) =

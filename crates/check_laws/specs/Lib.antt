@@ -1,2 +1,4 @@
 pub mod Typing
 pub mod Driving
+pub mod Blocks
+pub mod Faults

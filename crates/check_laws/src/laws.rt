@@ -6,12 +6,19 @@ ghost use Rattle.fir_types.specs.declared.memory.Memory.{Memory as AMemory};
 ghost use Rattle.fir_types.specs.Memories.{IsValid};
 ghost use Rattle.type_check.specs.declared.fault.TypeFault.TheVariants.{MemoryField};
 ghost use Rattle.type_check.specs.Memories.{memory_faults};
+ghost use Rattle.type_check.specs.Faults.{IsFault};
+ghost use Rattle.fault_order.specs.First.{HasNone};
+ghost use Rattle.fir_tree.specs.declared.circuit.Circuit.{Circuit as ACircuit};
+ghost use Rattle.fir_tree.specs.declared.circuit.Module.{Module as AModule};
+ghost use Rattle.check_laws.specs.Blocks.{Declares};
 ghost use Rattle.fir_tree.specs.declared.expr.Expr.{Expr as AnExpr};
 ghost use Rattle.fir_types.specs.declared.fir_type.FirType.{FirType as TheType};
 ghost use Rattle.circuit_parts.specs.declared.part.Part.{Part as APart};
 ghost use Rattle.type_check.specs.Parts.{Known};
 ghost use Rattle.type_check.specs.Expressions.{found_of, Has};
 ghost use Rattle.check_laws.specs.Typing.{IsPart};
+ghost use Rattle.type_check.specs.declared.fault.TypeFault.{TypeFault as AFault};
+ghost use Rattle.check_laws.specs.Faults.{StandsIn, IsAtFault};
 ghost use Rattle.fir_types.specs.declared.leaf.TypeLeaf.{TypeLeaf as ALeaf};
 ghost use Rattle.fir_types.specs.Leaves.{leaves, way_of};
 ghost use Rattle.circuit_parts.specs.declared.part.Flow.TheVariants.{Source as source_flow};
@@ -25,10 +32,18 @@ pub fn expressions_have_types()
     ensures types { (known : Known) (e : AnExpr) (typ : TheType) → Has known e typ ↔ ((part : APart) × IsPart known e part × (part.typ ≡ typ)) }
 {}
 
+/// The faults that are found of an expression are exactly those that it, or an expression that stands in it as an operand or an
+/// index, has of its own: at a reference, a literal, an operation or a choice whose operands are parts and miss a condition, of that
+/// condition's kind and at its place.
+pub fn expressions_are_at_fault()
+    ensures { (known : Known) (e : AnExpr) (fault : AFault) → Contains (found_of known e).faults fault ↔ ((inner : AnExpr) × StandsIn inner e × IsAtFault known inner fault) }
+{}
+
 /// A memory is valid exactly where none of its faults is one of its lines. (Its other faults are those of the type of its
-/// elements.)
+/// elements.) So in a circuit without faults each memory that a module's body declares, in any block, is valid.
 pub fn checked_memories_are_valid()
-    ensures { (memory : AMemory) → IsValid memory ↔ ((at : ThePlace) → ¬ (Contains (memory_faults memory) (MemoryField at))) }
+    ensures memories { (memory : AMemory) → IsValid memory ↔ ((at : ThePlace) → ¬ (Contains (memory_faults memory) (MemoryField at))) }
+    ensures circuits { (circuit : ACircuit) (m : AModule) (memory : AMemory) → HasNone (IsFault circuit) → Contains circuit.modules m → Declares memory m.body → IsValid memory }
 {}
 
 /// The sides of a connect without a fault have as many leaves, at the same places and turned round alike, and of each pair the one
