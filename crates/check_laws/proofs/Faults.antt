@@ -322,7 +322,7 @@ module _ (known : Known) where
         by Shape-F.Reset q h = none (not_vector base.typ Shape-F.Reset q refl) h
         by (Shape-F.Bundle fs) q h = none (not_vector base.typ (Shape-F.Bundle fs) q refl) h
 
-  index_any : (s : Suffix) (bracket : Place) (index : Expr) (o : Option Part) → s ≡ suffix.Index bracket index
+  pub index_any : (s : Suffix) (bracket : Place) (index : Expr) (o : Option Part) → s ≡ suffix.Index bracket index
       → suffix_step s known o ≡ behind (found_of known index) (from_index bracket (judged index).place (found_of known index).part o)
   index_any s bracket index None is = index_out known s bracket index is
   index_any s bracket index (Some base) is = index_is known s bracket index base is
