@@ -19,7 +19,7 @@ use Rattle.type_check.specs.declared.fault.TypeFault.{TypeFault}
 use Rattle.type_check.specs.declared.fault.TypeFault.TheVariants.{MemoryField}
 use Rattle.type_check.specs.Parts.{Known}
 use Rattle.type_check.specs.Memories.{memory_faults}
-use Rattle.type_check.specs.Statements.{Walk, and_then, in_turn, notes, declares, expects, condition_faults, of_stmt, of_arm, stmt_walk, arm_walk, port_walk, module_walk, faults_of}
+use Rattle.type_check.specs.Statements.{Walk, and_then, in_turn, notes, declares, expects, condition_faults, of_stmt, of_arm, stmt_walk, arm_walk, port_walk, module_walk}
 use Rattle.type_check.specs.Faults.{IsFault}
 use Rattle.check_laws.specs.Blocks.{Declares, directly, in_an_arm, otherwise}
 use Rattle.check_laws.proofs.Members.{nothing_in, in_cases, given_in}

@@ -1,5 +1,5 @@
 -- The faults that are found of an expression are its own, and those of the expressions that stand in it.
-use Rattle.std.proofs.Common.{◌≡◌, ◌≢◌, ◌⊎◌, ℕ, ◌≤◌, Bool, true, false, not, ◌||◌, List, [], ◌∷◌, ◌++◌, map, Option, Some, None, refl, sym, ap, ap₂, ◌∙◌, subst, inl, inr, arith, ⊎_elim}
+use Rattle.std.proofs.Common.{◌≡◌, ◌⊎◌, ℕ, Bool, true, false, not, ◌||◌, List, [], ◌∷◌, ◌++◌, map, Option, Some, None, refl, sym, ap, ap₂, ◌∙◌, subst, inl, inr, arith, ⊎_elim}
 use Rattle.std.specs.Prelude.{◌↔◌, nat_lt, find, ◌==◌, is_some, Contains, flat_map}
 use Rattle.std.proofs.lemmas.Grind.{common_steps}
 use Rattle.std.proofs.lemmas.Bool.{ltb-false, le-ltb}
@@ -18,8 +18,7 @@ use Rattle.fir_types.specs.declared.fir_type.Shape.TheVariants as shape
 use Rattle.fir_types.specs.declared.fir_type.Shape.TheVariants.{outs-Unsigned, outs-Signed, outs-Clock, outs-Reset, outs-Bundle, outs-Vector, rolls-Unsigned, rolls-Signed, rolls-Clock, rolls-Reset, rolls-Bundle, rolls-Vector}
 use Rattle.fir_types.specs.declared.fir_type.Field.{Field}
 use Rattle.fir_types.specs.declared.name.Name.{Name}
-use Rattle.fir_types.specs.Equivalence.{Equivalent, IsUnsigned}
-use Rattle.fir_types.specs.Passivity.{IsPassive, has_flip}
+use Rattle.fir_types.specs.Passivity.{has_flip}
 use Rattle.fir_tree.specs.declared.expr.Expr.{Expr, ind-Expr, the_lemmas}
 use Rattle.fir_tree.specs.declared.expr.Form.{Form}
 use Rattle.fir_tree.specs.declared.expr.Suffix.{Suffix}
@@ -323,7 +322,7 @@ module _ (known : Known) where
         by Shape-F.Reset q h = none (not_vector base.typ Shape-F.Reset q refl) h
         by (Shape-F.Bundle fs) q h = none (not_vector base.typ (Shape-F.Bundle fs) q refl) h
 
-  index_any : (s : Suffix) (bracket : Place) (index : Expr) (o : Option Part) → s ≡ suffix.Index bracket index
+  pub index_any : (s : Suffix) (bracket : Place) (index : Expr) (o : Option Part) → s ≡ suffix.Index bracket index
       → suffix_step s known o ≡ behind (found_of known index) (from_index bracket (judged index).place (found_of known index).part o)
   index_any s bracket index None is = index_out known s bracket index is
   index_any s bracket index (Some base) is = index_is known s bracket index base is

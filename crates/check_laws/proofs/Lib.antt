@@ -4,3 +4,4 @@ mod Circuits
 mod Typing
 mod Driving
 mod Faults
+mod Nodes

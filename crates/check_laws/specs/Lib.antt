@@ -2,3 +2,4 @@ pub mod Typing
 pub mod Driving
 pub mod Blocks
 pub mod Faults
+pub mod Nodes

@@ -19,6 +19,8 @@ ghost use Rattle.type_check.specs.Expressions.{found_of, Has};
 ghost use Rattle.check_laws.specs.Typing.{IsPart};
 ghost use Rattle.type_check.specs.declared.fault.TypeFault.{TypeFault as AFault};
 ghost use Rattle.check_laws.specs.Faults.{StandsIn, IsAtFault};
+ghost use Rattle.std.specs.Prelude.{List};
+ghost use Rattle.check_laws.specs.Nodes.{NodesOf, ListTypes};
 ghost use Rattle.fir_types.specs.declared.leaf.TypeLeaf.{TypeLeaf as ALeaf};
 ghost use Rattle.fir_types.specs.Leaves.{leaves, way_of};
 ghost use Rattle.circuit_parts.specs.declared.part.Flow.TheVariants.{Source as source_flow};
@@ -37,6 +39,13 @@ pub fn expressions_have_types()
 /// condition's kind and at its place.
 pub fn expressions_are_at_fault()
     ensures { (known : Known) (e : AnExpr) (fault : AFault) → Contains (found_of known e).faults fault ↔ ((inner : AnExpr) × StandsIn inner e × IsAtFault known inner fault) }
+{}
+
+/// The types that are found of an expression are those of its nodes in text order, one for each: the type of the part that it is,
+/// or an empty bundle at its place where it is none. Each expression has such nodes.
+pub fn nodes_have_types()
+    ensures types { (known : Known) (e : AnExpr) (nodes : List AnExpr) → NodesOf e nodes → ListTypes known nodes (found_of known e).nodes }
+    ensures nodes { (e : AnExpr) → ((nodes : List AnExpr) × NodesOf e nodes) }
 {}
 
 /// A memory is valid exactly where none of its faults is one of its lines. (Its other faults are those of the type of its
