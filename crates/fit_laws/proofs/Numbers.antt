@@ -7,7 +7,6 @@ use Rattle.place_text.specs.declared.place.Place.{Place}
 use Rattle.fir_types.specs.declared.memory.Memory.{Memory}
 use Rattle.fir_types.specs.declared.memory.MemLine.{MemLine}
 use Rattle.fir_types.specs.declared.memory.MemLine.TheVariants as line
-use Rattle.fir_types.specs.declared.memory.PortMode.{PortMode}
 use Rattle.fir_types.specs.declared.memory.PortMode.TheVariants as mode
 use Rattle.fir_types.specs.Memories.{element_of}
 use Rattle.fir_types.specs.Bundles.{address_bits, least_reaching, mask_of}

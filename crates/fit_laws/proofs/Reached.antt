@@ -1,8 +1,8 @@
 -- In a module that main reaches each place of each declared type has a number.
-use Rattle.std.proofs.Common.{◌≡◌, ℕ, zero, suc, ◌+◌, ◌==◌, ◌<◌, ◌≤◌, Bool, true, false, cond, List, [], ◌∷◌, ◌++◌, map, zip, length, drop, get_or, Option, Some, None, refl, sym, ap, ap₂, ◌∙◌, subst, arith, slice_get, ◌⊎◌, inl, inr, ⊎_elim, append_assoc, append-nil}
-use Rattle.std.specs.Prelude.{find, option_map, Contains, nat_le, ◌&&◌}
+use Rattle.std.proofs.Common.{◌≡◌, ℕ, zero, suc, ◌+◌, ◌==◌, ◌<◌, Bool, true, false, cond, List, [], ◌∷◌, ◌++◌, map, zip, length, drop, get_or, Some, refl, sym, ap, ap₂, ◌∙◌, subst, arith, slice_get, ⊎_elim, append_assoc, append-nil}
+use Rattle.std.specs.Prelude.{find, option_map, Contains, ◌&&◌}
 use Rattle.std.specs.List.{AllZip, flat_map, list_all}
-use Rattle.std.proofs.lemmas.Bool.{eqb-false, eqb-true, eq-eqb, le-leb}
+use Rattle.std.proofs.lemmas.Bool.{eqb-true, eq-eqb, le-leb}
 use Rattle.std.proofs.lemmas.List.{length-map}
 use Rattle.std.proofs.lemmas.Option.{get_or_from_slice_get}
 use Rattle.fir_types.specs.declared.fir_type.FirType.{FirType}
@@ -13,9 +13,9 @@ use Rattle.prim_ops.specs.declared.widths.Width.TheVariants.{Bits, Over}
 use Rattle.fir_tree.specs.declared.circuit.Circuit.{Circuit}
 use Rattle.fir_tree.specs.declared.circuit.Module.{Module}
 use Rattle.fir_tree.specs.declared.scope.Fitted.{Fitted}
-use Rattle.fir_meaning.specs.Components.{Declaration, Component, TypedModule, An_instance, target_in, declarations_of, with_types, modules_of}
+use Rattle.fir_meaning.specs.Components.{Declaration, Component, TypedModule, target_in, declarations_of, with_types, modules_of}
 use Rattle.fir_names.specs.Extents.{instances_in}
-use Rattle.fir_names.specs.Scopes.{In, here, there, texts, FirstOf, Means, Reaches, through, Instance, IsScope}
+use Rattle.fir_names.specs.Scopes.{In, texts, FirstOf, Means, Reaches, through, IsScope}
 use Rattle.fir_names.proofs.Graphs.{In-either, In-one, In-get, some_same}
 use Rattle.circuit_laws.proofs.Instances.{declared_instance}
 use Rattle.circuit_laws.proofs.Pieces.{In-among, In-contained}
@@ -23,9 +23,9 @@ use Rattle.width_rules.specs.declared.slot.Slot.{Slot}
 use Rattle.width_rules.specs.Places.{spots, size, slots_from, open_spots}
 use Rattle.width_rules.specs.Solutions.{IsWidth}
 use Rattle.width_rules.specs.Sources.{formula_of, component_or_none}
-use Rattle.width_rules.specs.Circuits.{WithPorts, ports_from, open_ports, modules_from, all_open, instance_in, instance_component, rules_in}
+use Rattle.width_rules.specs.Circuits.{ports_from, open_ports, modules_from, all_open, instance_in, instance_component, rules_in}
 use Rattle.width_rules.proofs.Monotone.{width_is_width}
-use Rattle.width_fit.specs.Filling.{filled, number, place_widths}
+use Rattle.width_fit.specs.Filling.{filled, number}
 use Rattle.width_fit.specs.Fitting.{IsFit}
 use Rattle.width_fit.specs.Judging as judging
 use Rattle.width_fit.specs.Judging.{Solved, slot_width, component_faults, ports_faults, told_from, told_of, where_reached}
@@ -36,7 +36,7 @@ use Rattle.fit_laws.proofs.Slots.{instance_counted}
 use Rattle.fit_laws.proofs.Numbers.{IsNumber, AreNumbers, left_empty, right_empty, numbers_append, faultless_numbers}
 use Rattle.fit_laws.proofs.Resets.{filled_free}
 use Rattle.fit_laws.proofs.Statements.{IsSound, IsNumbered, IsInstance}
-use Rattle.fit_laws.proofs.Modules.{with_own, surveyed, ModuleTells, module_tells}
+use Rattle.fit_laws.proofs.Modules.{surveyed, ModuleTells, module_tells}
 
 -- Lists
 

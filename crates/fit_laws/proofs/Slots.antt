@@ -1,7 +1,7 @@
 -- The slots of memories and of instances: as many as places, and which of them are numbers.
-use Rattle.std.proofs.Common.{◌≡◌, ℕ, zero, suc, ◌+◌, ◌==◌, ◌≤◌, Bool, true, false, cond, List, [], ◌∷◌, ◌++◌, map, length, Option, Some, None, refl, sym, ap, ap₂, ◌∙◌, subst, arith, length-append}
-use Rattle.std.specs.Prelude.{find, option_map, nat_le, ◌||◌}
-use Rattle.std.specs.List.{flat_map, filter_map, list_any}
+use Rattle.std.proofs.Common.{◌≡◌, ℕ, suc, ◌+◌, ◌==◌, Bool, true, false, cond, List, [], ◌∷◌, ◌++◌, map, length, Option, Some, refl, sym, ap, ap₂, ◌∙◌, arith, length-append}
+use Rattle.std.specs.Prelude.{find, option_map}
+use Rattle.std.specs.List.{flat_map, filter_map}
 use Rattle.std.proofs.lemmas.Grind.{common_steps}
 use Rattle.std.proofs.lemmas.List.{length-map}
 use Rattle.place_text.specs.declared.place.Place.{Place}
@@ -24,7 +24,7 @@ use Rattle.width_rules.specs.declared.slot.Slot.TheVariants as slot
 use Rattle.width_rules.specs.Places.{Spot, spots, size, turned, slots_from, is_open, open_spots, node_slots}
 use Rattle.width_rules.specs.Layers.{field_spots}
 use Rattle.width_rules.specs.Sources.{component_or_none}
-use Rattle.width_rules.specs.Circuits.{WithPorts, ports_from, open_ports, modules_from, instance_in, instance_component, memory_slots, line_slots, mask_slots}
+use Rattle.width_rules.specs.Circuits.{ports_from, open_ports, modules_from, instance_in, instance_component, memory_slots, line_slots, mask_slots}
 use Rattle.width_rules.proofs.Spots.{spots-bundle, spots-field}
 
 -- Sizes

@@ -1,5 +1,5 @@
 -- What each statement declares, and which types the widths give to that.
-use Rattle.std.proofs.Common.{◌≡◌, ℕ, ◌+◌, List, [], ◌∷◌, ◌++◌, map, length, Some, refl, sym, ap, ap₂, ◌∙◌, subst, ◌⊎◌, inl, inr}
+use Rattle.std.proofs.Common.{◌≡◌, ℕ, ◌+◌, List, [], ◌∷◌, ◌++◌, map, length, refl, sym, ap, ap₂, ◌∙◌, subst, ◌⊎◌, inl, inr}
 use Rattle.std.specs.List.{AllZip, flat_map}
 use Rattle.std.proofs.lemmas.List.{length-map, map-append}
 use Rattle.fir_types.specs.declared.fir_type.FirType.{FirType}
@@ -19,7 +19,7 @@ use Rattle.circuit_parts.specs.declared.part.Flow.TheVariants.{Duplex}
 use Rattle.circuit_parts.specs.Parts as parts
 use Rattle.width_rules.specs.declared.component.Component.{Component}
 use Rattle.width_rules.specs.declared.slot.Slot.{Slot}
-use Rattle.width_rules.specs.Places.{spots, size, slots_from, open_spots, node_slots}
+use Rattle.width_rules.specs.Places.{spots, size, slots_from, node_slots}
 use Rattle.width_rules.specs.Sources as sources
 use Rattle.width_rules.specs.Sources.{measured}
 use Rattle.width_rules.specs.Circuits.{WithPorts, modules_from, instance_in, memory_slots}

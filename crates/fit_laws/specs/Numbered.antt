@@ -1,5 +1,5 @@
 -- Types whose places all have numbers (FIRRTL specification 3.0, "Width Inference").
-use Rattle.std.specs.Prelude.{◌≡◌, ℕ, nat_le, Bool, true, false, List, Option, Some, None}
+use Rattle.std.specs.Prelude.{◌≡◌, ℕ, nat_le, Bool, true, false, Option, Some, None}
 use Rattle.std.specs.List.{list_all, list_any}
 use Rattle.fir_types.specs.declared.fir_type.FirType.{FirType, fold-FirType}
 use Rattle.fir_types.specs.declared.fir_type.Shape.TheOpen.{Shape-F}
