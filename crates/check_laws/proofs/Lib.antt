@@ -5,3 +5,4 @@ mod Typing
 mod Driving
 mod Faults
 mod Nodes
+mod Sound
