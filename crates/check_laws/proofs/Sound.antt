@@ -29,7 +29,7 @@ use Rattle.circuit_parts.specs.Parts.{source_of}
 use Rattle.circuit_parts.specs.Kinds.{is_unsigned, ground, sign_or_unsigned}
 use Rattle.type_check.specs.declared.fault.TypeFault.{TypeFault}
 use Rattle.type_check.specs.declared.fault.TypeFault.TheVariants.{FieldUnknown, NotBundle, NotVector, IndexRange, IndexKind, OperandKind, LiteralFit}
-use Rattle.type_check.specs.Parts.{Known, component, unless}
+use Rattle.type_check.specs.Parts.{Known, unless}
 use Rattle.type_check.specs.Expressions.{Judgement, Operand, found_of, judged, suffix_step, along, as_node, node, over, operation, choice, choice_faults, typed_operands, with_operand, all_among, signs_of, row_of, fits_literal, from_index, field_step, field_found, element_step, element_found, index_step, indexed}
 use Rattle.check_laws.specs.Typing.{IsPart}
 use Rattle.check_laws.specs.Faults.{StandsIn, itself, in_operation, in_choice, in_index, IsComplete}
