@@ -6,3 +6,4 @@ mod Driving
 mod Faults
 mod Nodes
 mod Sound
+mod Typed
