@@ -186,15 +186,15 @@ place_is e = grind (arith, common_steps, the_lemmas)
 
 -- Nodes over operands keep the faults of these
 
-abbrev all_faults : List Judgement → List TypeFault
+abbrev pub all_faults : List Judgement → List TypeFault
 all_faults js = flat_map (λ (j : Judgement). j.faults) js
 
-operation_keeps : (op : PrimOp) (place : Place) (js : List Judgement) (o : Option (List Operand)) (fault : TypeFault) → Contains (all_faults js) fault
+pub operation_keeps : (op : PrimOp) (place : Place) (js : List Judgement) (o : Option (List Operand)) (fault : TypeFault) → Contains (all_faults js) fault
     → Contains (over place (operation op place) js o).faults fault
 operation_keeps op place js None fault c = c
 operation_keeps op place js (Some os) fault c = Contains-append_left (all_faults js) (unless (is_some (row_of op (signs_of os))) (OperandKind place)) fault c
 
-choice_keeps : (place : Place) (js : List Judgement) (o : Option (List Operand)) (fault : TypeFault) → Contains (all_faults js) fault
+pub choice_keeps : (place : Place) (js : List Judgement) (o : Option (List Operand)) (fault : TypeFault) → Contains (all_faults js) fault
     → Contains (over place (choice place) js o).faults fault
 choice_keeps place js None fault h = h
 choice_keeps place js (Some []) fault h = h
@@ -224,7 +224,7 @@ choice_tells place js (Some (c ∷ a ∷ b ∷ d ∷ os)) fault h = inl h
 abbrev types_in : List Operand → List FirType
 types_in os = map (λ (o : Operand). o.typ) os
 
-abbrev places_in : List Operand → List Place
+abbrev pub places_in : List Operand → List Place
 places_in os = map (λ (o : Operand). o.place) os
 
 row_there : (op : PrimOp) (os : List Operand) → is_some (row_of op (signs_of os)) ≡ false → ¬ (HasRow op (types_in os))
@@ -242,7 +242,7 @@ no_row op os isnt = by (signs_of os) refl where
   by (Some signs) q = row_by signs (row_kind op signs) q refl
 
 module _ (known : Known) where
-  operands_found : (es : List Expr) (os : List Operand) → typed_operands known (map judged es) ≡ Some os
+  pub operands_found : (es : List Expr) (os : List Operand) → typed_operands known (map judged es) ≡ Some os
       → HaveTypes known es (types_in os) × (places_in os ≡ map (λ (e : Expr). e.place) es)
   operands_found [] os e = subst (λ os. HaveTypes known [] (types_in os) × (places_in os ≡ [])) (some_same e) (no_operands, refl)
   operands_found (x ∷ es) os e = by (found_of known x).part (typed_operands known (map judged es)) refl refl (operands_found es) e where

@@ -5,3 +5,5 @@ mod Typing
 mod Driving
 mod Faults
 mod Nodes
+mod Sound
+mod Typed

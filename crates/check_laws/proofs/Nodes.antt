@@ -1,5 +1,5 @@
 -- The types that are found are those of the nodes in text order.
-use Rattle.std.proofs.Common.{◌≡◌, ℕ, Bool, true, false, List, [], ◌∷◌, ◌++◌, map, Option, Some, None, refl, sym, ap, ap₂, ◌∙◌, subst, append-nil}
+use Rattle.std.proofs.Common.{◌≡◌, ℕ, Bool, true, false, List, [], ◌∷◌, ◌++◌, map, Option, Some, None, refl, sym, ap, ◌∙◌, subst, append-nil}
 use Rattle.std.specs.Prelude.{nat_lt, find, ◌==◌, is_some, flat_map, option_map}
 use Rattle.bit_words.specs.Numbers.{integer_of_number}
 use Rattle.place_text.specs.declared.place.Place.{Place}
@@ -25,7 +25,6 @@ use Rattle.type_check.specs.declared.fault.TypeFault.{TypeFault}
 use Rattle.type_check.specs.declared.fault.TypeFault.TheVariants.{OperandKind, LiteralFit}
 use Rattle.type_check.specs.Parts.{Known, component, unless}
 use Rattle.type_check.specs.Expressions.{Judgement, Operand, found_of, judged, suffix_step, along, as_node, node, over, operation, choice, choice_faults, typed_operands, all_among, signs_of, row_of, fits_literal, from_index, field_step, field_found, element_step, element_found, index_step, indexed, type_or_none}
-use Rattle.check_laws.specs.Typing.{IsPart}
 use Rattle.check_laws.specs.Nodes.{NodesOf, reference, literal, operation as an_operation, choice as a_choice, NodesOfEach, no_operands, one_operand, NodesOnWay, no_steps, to_field, to_element, to_indexed, ListTypes, no_nodes, a_part, no_part}
 use Rattle.check_laws.proofs.Typing.{none_some, ref_is, literal_is, prim_is, mux_is, field_is, at_is, field_out, at_out, is_part, found_is}
 use Rattle.check_laws.proofs.Faults.{index_any}

@@ -89,3 +89,9 @@ pub data StandsIn (inner : Expr) : Expr → Type 0 where
       → StandsIn inner e
   in_index : {e : Expr} (name : Name) (suffixes : List Suffix) (bracket : Place) (index : Expr) → e.form ≡ form.Ref name suffixes
       → Contains suffixes (suffix.Index bracket index) → StandsIn inner index → StandsIn inner e
+
+-- What the grammar and the names make sure of at an expression: a reference begins at a known component, and a choice has three operands.
+pub record IsComplete (known : Known) (e : Expr) : Type 0 where
+  pub names : (name : Name) (suffixes : List Suffix) → e.form ≡ form.Ref name suffixes → (base : Part) × (component known name.id ≡ Some base)
+  pub choices : (operands : List Expr) → e.form ≡ form.Mux operands
+      → (condition : Expr) × (first : Expr) × (second : Expr) × (operands ≡ condition ∷ first ∷ second ∷ [])

@@ -16,9 +16,9 @@ ghost use Rattle.fir_types.specs.declared.fir_type.FirType.{FirType as TheType};
 ghost use Rattle.circuit_parts.specs.declared.part.Part.{Part as APart};
 ghost use Rattle.type_check.specs.Parts.{Known};
 ghost use Rattle.type_check.specs.Expressions.{found_of, Has};
-ghost use Rattle.check_laws.specs.Typing.{IsPart};
+ghost use Rattle.check_laws.specs.Typing.{IsPart, HaveTypes};
 ghost use Rattle.type_check.specs.declared.fault.TypeFault.{TypeFault as AFault};
-ghost use Rattle.check_laws.specs.Faults.{StandsIn, IsAtFault};
+ghost use Rattle.check_laws.specs.Faults.{StandsIn, IsAtFault, IsComplete};
 ghost use Rattle.std.specs.Prelude.{List};
 ghost use Rattle.check_laws.specs.Nodes.{NodesOf, ListTypes};
 ghost use Rattle.fir_types.specs.declared.leaf.TypeLeaf.{TypeLeaf as ALeaf};
@@ -36,15 +36,19 @@ pub fn expressions_have_types()
 
 /// The faults that are found of an expression are exactly those that it, or an expression that stands in it as an operand or an
 /// index, has of its own: at a reference, a literal, an operation or a choice whose operands are parts and miss a condition, of that
-/// condition's kind and at its place.
+/// condition's kind and at its place. One without faults is a part, where each reference in it begins at a known component and each
+/// choice in it has three operands.
 pub fn expressions_are_at_fault()
-    ensures { (known : Known) (e : AnExpr) (fault : AFault) → Contains (found_of known e).faults fault ↔ ((inner : AnExpr) × StandsIn inner e × IsAtFault known inner fault) }
+    ensures faults { (known : Known) (e : AnExpr) (fault : AFault) → Contains (found_of known e).faults fault ↔ ((inner : AnExpr) × StandsIn inner e × IsAtFault known inner fault) }
+    ensures faultless { (known : Known) (e : AnExpr) → ((inner : AnExpr) → StandsIn inner e → IsComplete known inner) → HasNone (Contains (found_of known e).faults) → ((part : APart) × IsPart known e part) }
 {}
 
 /// The types that are found of an expression are those of its nodes in text order, one for each: the type of the part that it is,
-/// or an empty bundle at its place where it is none. Each expression has such nodes.
+/// or an empty bundle at its place where it is none. Each expression has such nodes. In one without faults all of them have types,
+/// where each reference in it begins at a known component and each choice in it has three operands.
 pub fn nodes_have_types()
     ensures types { (known : Known) (e : AnExpr) (nodes : List AnExpr) → NodesOf e nodes → ListTypes known nodes (found_of known e).nodes }
+    ensures faultless { (known : Known) (e : AnExpr) (nodes : List AnExpr) → ((inner : AnExpr) → StandsIn inner e → IsComplete known inner) → HasNone (Contains (found_of known e).faults) → NodesOf e nodes → HaveTypes known nodes (found_of known e).nodes }
     ensures nodes { (e : AnExpr) → ((nodes : List AnExpr) × NodesOf e nodes) }
 {}
 
