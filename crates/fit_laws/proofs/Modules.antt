@@ -1,5 +1,5 @@
 -- What each module declares, and which types the widths give to that.
-use Rattle.std.proofs.Common.{◌≡◌, ℕ, ◌+◌, Bool, List, [], ◌∷◌, ◌++◌, map, drop, refl, sym, ap, ap₂, ◌∙◌, subst, inr}
+use Rattle.std.proofs.Common.{◌≡◌, ℕ, ◌+◌, Bool, true, List, [], ◌∷◌, ◌++◌, map, drop, refl, sym, ap, ap₂, ◌∙◌, subst, inr}
 use Rattle.std.specs.List.{AllZip, flat_map}
 use Rattle.std.proofs.lemmas.List.{map-append}
 use Rattle.fir_types.specs.declared.fir_type.FirType.{FirType}
@@ -24,7 +24,7 @@ use Rattle.fit_laws.specs.Declared.{Typed, IsFilled, declared_in, declared_of}
 use Rattle.fit_laws.proofs.Parts.{parts_of, known_more}
 use Rattle.fit_laws.proofs.Slots.{length-slots}
 use Rattle.fit_laws.proofs.Numbers.{left_empty, right_empty, faultless_numbers}
-use Rattle.fit_laws.proofs.Statements.{zip_both, IsFitted as IsFittedPair, IsSound, filled_slots, Tells, body_views, body_tells}
+use Rattle.fit_laws.proofs.Statements.{zip_both, IsFitted as IsFittedPair, IsSound, filled_slots, kept_slots, Tells, body_views, body_tells}
 
 module _ (all : Solved) (modules : List Module) where
   -- Ports
@@ -47,7 +47,7 @@ module _ (all : Solved) (modules : List Module) where
         known_is = ap (λ (z : declared.Declared). z.known) (sym same) ∙ rest.known_is;
         names = ap (λ l. p.name.id ∷ l) (ap (λ (z : declared.Declared). map (λ (t : Typed). t.name) z.types) (sym same) ∙ rest.names);
         types = (
-          filled_slots all.widths p.typ slots (length-slots k (spots p.typ)),
+          filled_slots all.widths (record { name = p.name.id; typ = p.typ; written = true }) slots (length-slots k (spots p.typ)) (λ w. kept_slots all.widths k (spots p.typ)),
           subst (λ (z : declared.Declared). AllZip IsFittedPair z.types (ports_declared all ps (ports_from (k + open_spots (spots p.typ)) ps))) same rest.types,
         );
         sound = λ none. (
@@ -107,7 +107,7 @@ module _ (all : Solved) (modules : List Module) where
   all_filled n reached = modules_filled modules 0 n reached
 
 -- The fitted types are the declared ones with widths.
-pub declarations_filled : (checked : Checked) (widths : List Width) (fitted : Fitted) → IsFitted checked widths fitted → AllZip (λ (d : Typed) (typ : FirType). IsFilled d.typ typ) (declared_of checked.circuit) fitted.declared
+pub declarations_filled : (checked : Checked) (widths : List Width) (fitted : Fitted) → IsFitted checked widths fitted → AllZip (λ (d : Typed) (typ : FirType). IsFilled d typ) (declared_of checked.circuit) fitted.declared
 declarations_filled checked widths fitted is = subst (λ ts. AllZip IsFittedPair (declared_of checked.circuit) ts) (sym is.declared)
     (all_filled (record { widths = widths; rules = (rules_in checked.circuit).rules }) checked.circuit.modules (all_open checked.circuit.modules) checked.scope.reached)
 

@@ -157,7 +157,7 @@ module _ (all : Solved) (modules : List Module) where
   counted : (m : Module) (k n : ℕ) → length (surveyed all modules m k n).declared ≡ length (declarations_of m)
   counted m k n =
       let t : ModuleTells all modules m k n = module_tells all modules m k n in
-      sym (zip_length (λ (d : Typed) (typ : FirType). IsFilled d.typ typ) (declared_in modules m []).types (surveyed all modules m k n).declared t.types)
+      sym (zip_length (λ (d : Typed) (typ : FirType). IsFilled d typ) (declared_in modules m []).types (surveyed all modules m k n).declared t.types)
       ∙ sym (length-map (declared_in modules m []).types (λ (d : Typed). d.name)) ∙ ap length t.names ∙ length-map (declarations_of m) (λ (d : Declaration). d.name)
 
   reached_at : (rest : List Module) (k n : ℕ) (reached : List Bool) (more : List FirType) → (tells rest k n reached).faults ≡ [] → (j : ℕ) (holder : Module) (m : TypedModule)

@@ -2,12 +2,15 @@
 use Rattle.std.proofs.Common.{◌≡◌, ℕ, ◌+◌, List, [], ◌∷◌, ◌++◌, map, length, refl, sym, ap, ap₂, ◌∙◌, subst, ◌⊎◌, inl, inr}
 use Rattle.std.specs.List.{AllZip, flat_map}
 use Rattle.std.proofs.lemmas.List.{length-map, map-append}
+use Rattle.std.proofs.lemmas.Bool.{le-leb}
+use Rattle.std.specs.Prelude.{true, false, Option, Some, None, if◌then◌else◌}
 use Rattle.fir_types.specs.declared.fir_type.FirType.{FirType}
 use Rattle.fir_types.specs.declared.name.Name.{Name}
 use Rattle.fir_types.specs.declared.memory.Memory.{Memory}
 use Rattle.fir_types.specs.Memories.{element_of}
 use Rattle.fir_types.specs.Bundles.{memory_of}
 use Rattle.prim_ops.specs.declared.widths.Width.{Width}
+use Rattle.prim_ops.specs.declared.widths.Width.TheVariants.{Bits, Over}
 use Rattle.fir_tree.specs.declared.circuit.Module.{Module}
 use Rattle.fir_tree.specs.declared.expr.Expr.{Expr}
 use Rattle.fir_tree.specs.declared.stmt.Stmt.{Stmt, ind-Stmt}
@@ -19,17 +22,19 @@ use Rattle.circuit_parts.specs.declared.part.Flow.TheVariants.{Duplex}
 use Rattle.circuit_parts.specs.Parts as parts
 use Rattle.width_rules.specs.declared.component.Component.{Component}
 use Rattle.width_rules.specs.declared.slot.Slot.{Slot}
-use Rattle.width_rules.specs.Places.{spots, size, slots_from, node_slots}
+use Rattle.width_rules.specs.Places.{Spot, spots, size, slot_of, is_open, slots_from, node_slots}
 use Rattle.width_rules.specs.Sources as sources
 use Rattle.width_rules.specs.Sources.{measured}
 use Rattle.width_rules.specs.Circuits.{WithPorts, modules_from, instance_in, memory_slots}
-use Rattle.width_fit.specs.Filling.{filled}
+use Rattle.width_rules.proofs.FormulaLemmas.{width-Fixed}
+use Rattle.width_fit.specs.Filling.{filled, number, place_widths}
 use Rattle.width_fit.specs.Judging as judging
 use Rattle.width_fit.specs.Judging.{Solved, survey, slot_width}
 use Rattle.width_fit.proofs.Measured.{same_measured}
+use Rattle.width_fit.proofs.Filled.{places_filled}
 use Rattle.fir_meaning.specs.Components.{Declaration, An_instance, Told, ToldArm, told, of_told, of_told_arm, declared_from}
 use Rattle.fit_laws.specs.Declared as declared
-use Rattle.fit_laws.specs.Declared.{Typed, Declares, IsFilled, declared_by, type_of}
+use Rattle.fit_laws.specs.Declared.{Typed, Declares, KeepsWidth, IsFilled, declared_by, type_of}
 use Rattle.fit_laws.proofs.Parts.{parts_of, known_more, type_is}
 use Rattle.fit_laws.proofs.Slots.{length-slots, length-node_slots, memory_counted, instance_counted, instance_is}
 use Rattle.fit_laws.proofs.Numbers.{AreNumbers, left_empty, right_empty, faultless_numbers, memory_numbers}
@@ -47,7 +52,7 @@ pub record Views : Type 0 where
   pub widths : judging.Surveys
 
 abbrev pub IsFitted : Typed → FirType → Type 0
-IsFitted d typ = IsFilled d.typ typ
+IsFitted d typ = IsFilled d typ
 
 -- each place has a number
 pub record IsNumbered (ws : List Width) (t : FirType) : Type 0 where
@@ -63,8 +68,24 @@ pub record IsInstance (ws : List Width) (modules : List WithPorts) (d : Declarat
   pub sort_is : d.sort ≡ An_instance target
   pub filled_is : t ≡ filled (instance_in modules target).part.typ (map (slot_width ws) (instance_in modules target).slots)
 
-pub filled_slots : (ws : List Width) (typ : FirType) (slots : List Slot) → length slots ≡ size typ → IsFilled typ (filled typ (map (slot_width ws) slots))
-filled_slots ws typ slots e = record { widths = map (slot_width ws) slots; counted = length-map slots (slot_width ws) ∙ e; filled_is = refl }
+-- the widths that the text gives stay
+pub kept_slots : (ws : List Width) (n : ℕ) (ss : List Spot) → AllZip KeepsWidth (map (λ (spot : Spot). spot.width) ss) (map number (map (slot_width ws) (slots_from n ss)))
+kept_slots ws n [] = tt
+kept_slots ws n (s ∷ ss) = (one s.width, kept_slots ws (n + is_open s.width) ss) where
+  one : (o : Option ℕ) → KeepsWidth o (number (slot_width ws (slot_of n o)))
+  one None = tt
+  one (Some w) = λ h. ap number (width-Fixed w ws ∙ ap (λ b. if b then Bits w else Over) (le-leb w 128 h))
+
+pub filled_slots : (ws : List Width) (d : Typed) (slots : List Slot) → length slots ≡ size d.typ
+    → (d.written ≡ true → AllZip KeepsWidth (place_widths d.typ) (map number (map (slot_width ws) slots))) → IsFilled d (filled d.typ (map (slot_width ws) slots))
+filled_slots ws d slots e h =
+    let counted : length (map (slot_width ws) slots) ≡ size d.typ = length-map slots (slot_width ws) ∙ e in
+    record {
+      widths = map (slot_width ws) slots;
+      counted = counted;
+      filled_is = refl;
+      kept = λ w. subst (λ found. AllZip KeepsWidth (place_widths d.typ) found) (sym (places_filled d.typ (map (slot_width ws) slots) counted)) (h w);
+    }
 
 module _ (all : Solved) (modules : List Module) where
   abbrev with_ports : List WithPorts
@@ -129,7 +150,7 @@ module _ (all : Solved) (modules : List Module) where
   -- Declarations
 
   abbrev stored : Name → FirType → Declaration → Views
-  stored name typ d = record { declares = d ∷ []; types = declared.one name.id (parts.part_of typ Duplex); widths = judging.of_storage all name typ }
+  stored name typ d = record { declares = d ∷ []; types = declared.one true name.id (parts.part_of typ Duplex); widths = judging.of_storage all name typ }
 
   stored_tells : (name : Name) (typ : FirType) (d : Declaration) → d.name ≡ name.id → Tells_all (stored name typ d)
   stored_tells name typ d e known n =
@@ -137,12 +158,12 @@ module _ (all : Solved) (modules : List Module) where
       record {
         known_is = known_more known name.id (record { part = parts.part_of typ Duplex; slots = slots });
         names = ap (λ x. x ∷ []) (sym e);
-        types = (filled_slots all.widths typ slots (length-slots n (spots typ)), tt);
+        types = (filled_slots all.widths (record { name = name.id; typ = typ; written = true }) slots (length-slots n (spots typ)) (λ w. kept_slots all.widths n (spots typ)), tt);
         sound = λ none. (inr (record { typ = typ; slots = slots; counted = length-slots n (spots typ); filled_is = refl; numbers = faultless_numbers all name.place slots none }), tt);
       }
 
   memory_tells : (memory : Memory) (d : Declaration) → d.name ≡ memory.name.id
-      → Tells_all (record { declares = d ∷ []; types = declared.one memory.name.id (parts.source_of (memory_of memory)); widths = judging.of_memory all memory })
+      → Tells_all (record { declares = d ∷ []; types = declared.one false memory.name.id (parts.source_of (memory_of memory)); widths = judging.of_memory all memory })
   memory_tells memory d e known n =
       let element : List Slot = slots_from n (spots (element_of memory)) in
       let slots : List Slot = memory_slots memory element in
@@ -150,7 +171,7 @@ module _ (all : Solved) (modules : List Module) where
       record {
         known_is = known_more known memory.name.id (record { part = parts.source_of (memory_of memory); slots = slots });
         names = ap (λ x. x ∷ []) (sym e);
-        types = (filled_slots all.widths (memory_of memory) slots counted, tt);
+        types = (filled_slots all.widths (record { name = memory.name.id; typ = memory_of memory; written = false }) slots counted (λ w. cc), tt);
         sound = λ none. (
           inr (record { typ = memory_of memory; slots = slots; counted = counted; filled_is = refl; numbers = memory_numbers all.widths memory element (faultless_numbers all memory.name.place element none) }),
           tt,
@@ -158,19 +179,19 @@ module _ (all : Solved) (modules : List Module) where
       }
 
   instance_tells : (name target : Name) (d : Declaration) → d.name ≡ name.id → d.sort ≡ An_instance target.id
-      → Tells_all (record { declares = d ∷ []; types = declared.one name.id (parts.part_or_none (parts.instance_in modules target.id)); widths = judging.of_instance all (modules_from 0 modules) name target })
+      → Tells_all (record { declares = d ∷ []; types = declared.one false name.id (parts.part_or_none (parts.instance_in modules target.id)); widths = judging.of_instance all (modules_from 0 modules) name target })
   instance_tells name target d e s known n =
       let sized : Component = instance_in (modules_from 0 modules) target.id in
       let is : parts.part_or_none (parts.instance_in modules target.id) ≡ sized.part = instance_is 0 modules target.id in
       record {
-        known_is = ap (λ p. (declared.one name.id p (parts_of known)).known) is ∙ known_more known name.id sized;
+        known_is = ap (λ p. (declared.one false name.id p (parts_of known)).known) is ∙ known_more known name.id sized;
         names = ap (λ x. x ∷ []) (sym e);
-        types = (subst (λ p. IsFilled p.typ (filled sized.part.typ (map (slot_width all.widths) sized.slots))) (sym is) (filled_slots all.widths sized.part.typ sized.slots (instance_counted 0 modules target.id)), tt);
+        types = (subst (λ p. IsFilled (record { name = name.id; typ = p.typ; written = false }) (filled sized.part.typ (map (slot_width all.widths) sized.slots))) (sym is) (filled_slots all.widths (record { name = name.id; typ = sized.part.typ; written = false }) sized.slots (instance_counted 0 modules target.id) (λ w. cc)), tt);
         sound = λ none. (inl (record { target = target.id; sort_is = s; filled_is = refl }), tt);
       }
 
   node_tells : (name : Name) (e : Expr) (d : Declaration) → d.name ≡ name.id
-      → Tells_all (record { declares = d ∷ []; types = λ known. declared.one name.id (parts.source_of (type_of known e)) known; widths = judging.of_node all name e })
+      → Tells_all (record { declares = d ∷ []; types = λ known. declared.one false name.id (parts.source_of (type_of known e)) known; widths = judging.of_node all name e })
   node_tells name e d q known n =
       let typ : FirType = (survey all.widths e known).measured.part.typ in
       let slots : List Slot = node_slots n (spots typ) in
@@ -178,10 +199,10 @@ module _ (all : Solved) (modules : List Module) where
       let is : type_of (parts_of known) e ≡ typ = type_is known e ∙ same in
       let counted : length slots ≡ size typ = length-node_slots n (spots typ) in
       record {
-        known_is = ap (λ t. (declared.one name.id (parts.source_of t) (parts_of known)).known) (type_is known e)
+        known_is = ap (λ t. (declared.one false name.id (parts.source_of t) (parts_of known)).known) (type_is known e)
             ∙ known_more known name.id (record { part = parts.source_of (measured e known).part.typ; slots = node_slots n (spots (measured e known).part.typ) });
         names = ap (λ x. x ∷ []) (sym q);
-        types = (subst (λ t. IsFilled t (filled typ (map (slot_width all.widths) slots))) (sym is) (filled_slots all.widths typ slots counted), tt);
+        types = (subst (λ t. IsFilled (record { name = name.id; typ = t; written = false }) (filled typ (map (slot_width all.widths) slots))) (sym is) (filled_slots all.widths (record { name = name.id; typ = typ; written = false }) slots counted (λ w. cc)), tt);
         sound = λ none. (
           inr (record { typ = typ; slots = slots; counted = counted; filled_is = refl; numbers = faultless_numbers all name.place slots (right_empty (survey all.widths e known).faults _ none) }),
           tt,

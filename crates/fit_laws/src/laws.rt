@@ -12,10 +12,11 @@ ghost use Rattle.width_fit.specs.Fitting.{IsFitted, IsFit};
 ghost use Rattle.fit_laws.specs.Declared.{declared_of, IsFilled};
 ghost use Rattle.fit_laws.specs.Numbered.{HasNumbers};
 
-/// The fitted types are, declaration by declaration in text order, the declared types with widths in their places.
+/// The fitted types are, declaration by declaration in text order, the declared types with widths in their places. What the
+/// text gives stays.
 pub fn fitted_declarations_are_those_of_the_text()
     ensures names { (circuit : ACircuit) → map (λ d. d.name) (declared_of circuit) ≡ flat_map (λ holder. map (λ d. d.name) (declarations_of holder)) circuit.modules }
-    ensures types { (checked : CheckedCircuit) (widths : List TheWidth) (fitted : FittedCircuit) → IsFitted checked widths fitted → AllZip (λ d typ. IsFilled d.typ typ) (declared_of checked.circuit) fitted.declared }
+    ensures types { (checked : CheckedCircuit) (widths : List TheWidth) (fitted : FittedCircuit) → IsFitted checked widths fitted → AllZip (λ d typ. IsFilled d typ) (declared_of checked.circuit) fitted.declared }
 {}
 
 /// Where the least widths have no fault, each place of each declared type has a number from 0 to 128, in each module that main reaches.
