@@ -162,7 +162,7 @@ ROWS = {
     "n references with 127 indices each": (many_indices, 1_000),
     "n declarations of long names": (long_names, 250),
     "n infos": (infos, 15_000),
-    "one bundle of n fields": (one_bundle, 30_000),
+    "one bundle of n fields": (one_bundle, 29_000),
     "n wires of 100 vectors in one another": (nested_vectors, 1_500),
     "n operands on one line": (one_line, 65_000),
     "n wires, connects and nodes": (dense_statements, 6_000),
