@@ -7,6 +7,8 @@ pub mod Statements
 pub mod Faults
 -- what the bodies keep, and what proofs need
 pub mod Noted
+pub mod Known
+pub mod Kept
 pub mod Walks
 pub mod Judging
 pub mod Indexes
