@@ -212,10 +212,15 @@ flow_of (A_memory memory) flip = if flip then Sink else Source
 flow_of (An_instance target) flip = if flip then Sink else Source
 flow_of (A_node expr) flip = Source
 
--- A ground type is read as a kind and a width. A Clock has no value, and counts as a UInt of no bits; `Reset` is `UInt<1>`.
+-- A ground type is read as a kind and a width. A Clock has no value, and counts as a UInt of no bits; `Reset` is `UInt<1>`. Bundles and vectors
+-- are no ground types, and count as nothing.
 abbrev pub kind_of_shape : Shape-F Shape Field FirType → Kind
+kind_of_shape (Shape-F.Unsigned width) = Unsigned
 kind_of_shape (Shape-F.Signed width) = Signed
-kind_of_shape _ = Unsigned
+kind_of_shape Shape-F.Clock = Unsigned
+kind_of_shape Shape-F.Reset = Unsigned
+kind_of_shape (Shape-F.Bundle fields) = Unsigned
+kind_of_shape (Shape-F.Vector element length) = Unsigned
 
 -- a width that is not known counts as none; in an accepted circuit all are known
 abbrev pub width_or_none : Option ℕ → ℕ
@@ -226,13 +231,19 @@ width_or_none None = 0
 abbrev pub width_of_shape : Shape-F Shape Field FirType → ℕ
 width_of_shape (Shape-F.Unsigned width) = width_or_none width
 width_of_shape (Shape-F.Signed width) = width_or_none width
+width_of_shape Shape-F.Clock = 0
 width_of_shape Shape-F.Reset = 1
-width_of_shape _ = 0
+width_of_shape (Shape-F.Bundle fields) = 0
+width_of_shape (Shape-F.Vector element length) = 0
 
 -- whether a type is a Clock
 abbrev pub is_clock_shape : Shape-F Shape Field FirType → Bool
+is_clock_shape (Shape-F.Unsigned width) = false
+is_clock_shape (Shape-F.Signed width) = false
 is_clock_shape Shape-F.Clock = true
-is_clock_shape _ = false
+is_clock_shape Shape-F.Reset = false
+is_clock_shape (Shape-F.Bundle fields) = false
+is_clock_shape (Shape-F.Vector element length) = false
 
 -- The kind of a leaf, its width, and whether it is a Clock.
 abbrev pub kind_of_leaf : TypeLeaf → Kind
