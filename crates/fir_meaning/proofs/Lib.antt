@@ -1,3 +1,5 @@
+pub mod MemoryLeaves
+pub mod MemoryWays
 pub mod Initialized
 pub mod Literals
 pub mod Nexts

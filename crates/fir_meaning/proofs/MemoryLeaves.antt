@@ -115,7 +115,7 @@ in_cons : {A : Type 0} (o : Option A) (xs : List A) (x : A) → Contains xs x �
 in_cons (Some z) xs x c = one_later z xs x c
 in_cons None xs x c = c
 
-in_filter_map : {A B : Type 0} (h : A → Option B) (xs : List A) (x : A) (y : B) → Contains xs x → h x ≡ Some y → Contains (filter_map h xs) y
+pub in_filter_map : {A B : Type 0} (h : A → Option B) (xs : List A) (x : A) (y : B) → Contains xs x → h x ≡ Some y → Contains (filter_map h xs) y
 in_filter_map h [] x y (k, below, is) e = absurd (omega arith)
 in_filter_map h (z ∷ xs) x y (zero, below, is) e = subst (λ o. Contains (cons_option o (filter_map h xs)) y) (sym (ap h is ∙ e)) (0, omega arith, refl)
 in_filter_map h (z ∷ xs) x y (suc k, below, is) e = in_cons (h z) (filter_map h xs) y (in_filter_map h xs x y (k, omega (arith, below), is) e)
