@@ -22,37 +22,37 @@ use Rattle.fir_grammar.specs.Grammar.{Terminal, Takes, Symbol, Is, A, Rule, IsCa
 
 -- Layers
 
-of-wire : (name : Name) (typ : FirType) → stmt_blocks (stmt.Wire name typ) ≡ 0
+pub of-wire : (name : Name) (typ : FirType) → stmt_blocks (stmt.Wire name typ) ≡ 0
 of-wire name typ = grind (arith, common_steps, the_lemmas)
 
-of-reg : (name : Name) (typ : FirType) (clock : Expr) → stmt_blocks (stmt.Reg name typ clock) ≡ 0
+pub of-reg : (name : Name) (typ : FirType) (clock : Expr) → stmt_blocks (stmt.Reg name typ clock) ≡ 0
 of-reg name typ clock = grind (arith, common_steps, the_lemmas)
 
-of-regreset : (name : Name) (typ : FirType) (clock reset init : Expr) → stmt_blocks (stmt.RegReset name typ clock reset init) ≡ 0
+pub of-regreset : (name : Name) (typ : FirType) (clock reset init : Expr) → stmt_blocks (stmt.RegReset name typ clock reset init) ≡ 0
 of-regreset name typ clock reset init = grind (arith, common_steps, the_lemmas)
 
-of-mem : (memory : Memory) → stmt_blocks (stmt.Mem memory) ≡ 1
+pub of-mem : (memory : Memory) → stmt_blocks (stmt.Mem memory) ≡ 1
 of-mem memory = grind (arith, common_steps, the_lemmas)
 
-of-inst : (name of : Name) → stmt_blocks (stmt.Inst name of) ≡ 0
+pub of-inst : (name of : Name) → stmt_blocks (stmt.Inst name of) ≡ 0
 of-inst name of = grind (arith, common_steps, the_lemmas)
 
-of-node : (name : Name) (e : Expr) → stmt_blocks (stmt.Node name e) ≡ 0
+pub of-node : (name : Name) (e : Expr) → stmt_blocks (stmt.Node name e) ≡ 0
 of-node name e = grind (arith, common_steps, the_lemmas)
 
-of-connect : (left right : Expr) → stmt_blocks (stmt.Connect left right) ≡ 0
+pub of-connect : (left right : Expr) → stmt_blocks (stmt.Connect left right) ≡ 0
 of-connect left right = grind (arith, common_steps, the_lemmas)
 
-of-invalidate : (target : Expr) → stmt_blocks (stmt.Invalidate target) ≡ 0
+pub of-invalidate : (target : Expr) → stmt_blocks (stmt.Invalidate target) ≡ 0
 of-invalidate target = grind (arith, common_steps, the_lemmas)
 
-of-when : (arms : List Arm) (other : List Stmt) → stmt_blocks (stmt.When arms other) ≡ max (greatest (map arm_blocks arms)) (block_of (map stmt_blocks other))
+pub of-when : (arms : List Arm) (other : List Stmt) → stmt_blocks (stmt.When arms other) ≡ max (greatest (map arm_blocks arms)) (block_of (map stmt_blocks other))
 of-when arms other = grind (arith, common_steps, the_lemmas)
 
-of-skip : (at : Place) → stmt_blocks (stmt.Skip at) ≡ 0
+pub of-skip : (at : Place) → stmt_blocks (stmt.Skip at) ≡ 0
 of-skip at = grind (arith, common_steps, the_lemmas)
 
-of-arm : (condition : Expr) (body : List Stmt) → arm_blocks (record { condition = condition; body = body }) ≡ block_of (map stmt_blocks body)
+pub of-arm : (condition : Expr) (body : List Stmt) → arm_blocks (record { condition = condition; body = body }) ≡ block_of (map stmt_blocks body)
 of-arm condition body = grind (arith, common_steps, the_lemmas)
 
 -- as many as may be open where b are open
@@ -70,11 +70,11 @@ block_inside : (b : ℕ) (ns : List ℕ) → b + 1 ≤ 128 → greatest ns ≤ 1
 block_inside b [] h k = none b 0 refl
 block_inside b (n ∷ ns) h k = inside b (greatest (n ∷ ns)) h k
 
-body_inside : (b : ℕ) (ports : List ModulePort) (ns : List ℕ) → b + 1 ≤ 128 → greatest ns ≤ 128 - (b + 1) → body_blocks ports ns ≤ 128 - b
+pub body_inside : (b : ℕ) (ports : List ModulePort) (ns : List ℕ) → b + 1 ≤ 128 → greatest ns ≤ 128 - (b + 1) → body_blocks ports ns ≤ 128 - b
 body_inside b [] ns h k = block_inside b ns h k
 body_inside b (port ∷ ports) ns h k = inside b (greatest ns) h k
 
-arm_within : (b : ℕ) (condition : Expr) (body : List Stmt) (arms : List Arm) → block_of (map stmt_blocks body) ≤ 128 - b → greatest (map arm_blocks arms) ≤ 128 - b
+pub arm_within : (b : ℕ) (condition : Expr) (body : List Stmt) (arms : List Arm) → block_of (map stmt_blocks body) ≤ 128 - b → greatest (map arm_blocks arms) ≤ 128 - b
     → greatest (map arm_blocks (record { condition = condition; body = body } ∷ arms)) ≤ 128 - b
 arm_within b condition body arms h k =
     both b (arm_blocks (record { condition = condition; body = body })) (greatest (map arm_blocks arms)) (subst (λ n. n ≤ 128 - b) (sym (of-arm condition body)) h) k
