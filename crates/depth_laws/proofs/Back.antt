@@ -15,8 +15,7 @@ use Rattle.fir_grammar.specs.Grammar.{Symbol, Rule, IsCase, Values, tree, vector
 use Rattle.depth_laws.specs.Blocks.{greatest, block_of, stmt_blocks, arm_blocks, body_blocks, module_blocks}
 use Rattle.depth_laws.specs.Brackets.{type_brackets, expr_brackets}
 use Rattle.depth_laws.specs.Suffixes.{type_lengths, type_suffixes, expr_suffixes}
-use Rattle.depth_laws.proofs.Nested.{of-wire, of-reg, of-regreset, of-mem, of-inst, of-node, of-connect, of-invalidate, of-when, of-skip, of-arm, body_inside, arm_within}
-use Rattle.depth_laws.proofs.Layers.{in-wire, in-reg, in-regreset, in-mem, in-inst, in-node, in-connect, in-invalidate, in-when, in-skip, in-arm, brackets-unsigned, brackets-signed, brackets-clock, brackets-reset, brackets-bundle, brackets-vector, brackets-field, lengths-unsigned, lengths-signed, lengths-clock, lengths-reset, lengths-bundle, lengths-vector, suffixes-field, brackets-ref, brackets-literal, brackets-prim, brackets-mux, brackets-name, brackets-at, brackets-index, suffixes-ref, suffixes-literal, suffixes-prim, suffixes-mux, suffixes-name, suffixes-at, suffixes-index}
+use Rattle.depth_laws.proofs.Layers.{of-wire, of-reg, of-regreset, of-mem, of-inst, of-node, of-connect, of-invalidate, of-when, of-skip, of-arm, in-wire, in-reg, in-regreset, in-mem, in-inst, in-node, in-connect, in-invalidate, in-when, in-skip, in-arm, brackets-unsigned, brackets-signed, brackets-clock, brackets-reset, brackets-bundle, brackets-vector, brackets-field, lengths-unsigned, lengths-signed, lengths-clock, lengths-reset, lengths-bundle, lengths-vector, suffixes-field, brackets-ref, brackets-literal, brackets-prim, brackets-mux, brackets-name, brackets-at, brackets-index, suffixes-ref, suffixes-literal, suffixes-prim, suffixes-mux, suffixes-name, suffixes-at, suffixes-index}
 use Rattle.depth_laws.proofs.Steps.{start, Wants}
 use Rattle.depth_laws.proofs.Within.{bracket_of, Within, AllWithin}
 use Rattle.depth_laws.proofs.Forth.{vectors_brackets, vectors_own, vectors_inner}

@@ -1,7 +1,12 @@
 -- Numbers that are as small as they may be where so many blocks and brackets are open.
 use Rattle.std.proofs.Common.{◌≡◌, ℕ, ◌+◌, ◌-◌, ◌≤◌, List, [], ◌∷◌, map, length, refl, arith}
 use Rattle.std.specs.Prelude.{⊤, suc, max}
-use Rattle.depth_laws.specs.Blocks.{greatest, block_of}
+use Rattle.fir_types.specs.declared.port.Port.{Port as ModulePort}
+use Rattle.fir_tree.specs.declared.expr.Expr.{Expr}
+use Rattle.fir_tree.specs.declared.stmt.Stmt.{Stmt}
+use Rattle.fir_tree.specs.declared.stmt.Arm.{Arm}
+use Rattle.depth_laws.specs.Blocks.{greatest, block_of, stmt_blocks, arm_blocks, body_blocks}
+use Rattle.depth_laws.proofs.Layers.{of-arm}
 
 -- one number of brackets, and one of suffixes
 abbrev pub Fits : ℕ → ℕ → ℕ → Type 0
@@ -85,6 +90,16 @@ pub block_inner : (b : ℕ) (ns : List ℕ) → b + 1 ≤ 128 → greatest ns �
 block_inner b [] h k = none b 0 refl
 block_inner b (n ∷ ns) h k = inner b (greatest (n ∷ ns)) h k
 
+pub body_inner : (b : ℕ) (ports : List ModulePort) (ns : List ℕ) → b + 1 ≤ 128 → greatest ns ≤ 128 - (b + 1) → body_blocks ports ns ≤ 128 - b
+body_inner b [] ns h k = block_inner b ns h k
+body_inner b (port ∷ ports) ns h k = inner b (greatest ns) h k
+
+pub arm_within : (b : ℕ) (condition : Expr) (body : List Stmt) (arms : List Arm) → block_of (map stmt_blocks body) ≤ 128 - b → greatest (map arm_blocks arms) ≤ 128 - b
+    → greatest (map arm_blocks (record { condition = condition; body = body } ∷ arms)) ≤ 128 - b
+arm_within b condition body arms h k =
+    both b (arm_blocks (record { condition = condition; body = body })) (greatest (map arm_blocks arms)) (same b _ _ (of-arm condition body) h) k
+
+-- a block with something in it
 abbrev pub Full : {A : Type 0} → List A → Type 0
 Full [] = ⊥
 Full (x ∷ xs) = ⊤

@@ -10,10 +10,10 @@ use Rattle.fir_grammar.specs.Faults.{IsDeepAt}
 use Rattle.depth_laws.specs.Blocks.{circuit_blocks}
 use Rattle.depth_laws.specs.Brackets.{circuit_brackets}
 use Rattle.depth_laws.specs.Suffixes.{circuit_suffixes}
-use Rattle.depth_laws.proofs.Shallow.{shallow_from}
+use Rattle.depth_laws.proofs.Shallow.{shallow_from, never_deep}
 use Rattle.depth_laws.proofs.Walks.{all_within}
 use Rattle.depth_laws.proofs.Solid.{laid_out_solid}
-use Rattle.depth_laws.proofs.Led.{all_shallow, never_deep}
+use Rattle.depth_laws.proofs.Led.{all_shallow}
 
 pub shallow_exactly : (text : List ℕ) (list : List Laid) (circuit : Circuit) → IsLaidOut text list → IsCircuit text list circuit
     → ((k : ℕ) → ¬ (IsDeepAt (pieces_of text list) k)) ↔ ((circuit_blocks circuit ≤ 128) × (circuit_brackets circuit ≤ 128) × (circuit_suffixes circuit ≤ 128))

@@ -15,11 +15,10 @@ use Rattle.fir_grammar.specs.Grammar.{Symbol, Rule, IsCase, Values, tree, vector
 use Rattle.depth_laws.specs.Blocks.{greatest, block_of, stmt_blocks, arm_blocks, body_blocks, module_blocks}
 use Rattle.depth_laws.specs.Brackets.{type_brackets, expr_brackets}
 use Rattle.depth_laws.specs.Suffixes.{type_lengths, type_suffixes, expr_suffixes}
-use Rattle.depth_laws.proofs.Nested.{of-wire, of-reg, of-regreset, of-mem, of-inst, of-node, of-connect, of-invalidate, of-when, of-skip, of-arm, body_inside, arm_within}
-use Rattle.depth_laws.proofs.Layers.{in-wire, in-reg, in-regreset, in-mem, in-inst, in-node, in-connect, in-invalidate, in-when, in-skip, in-arm, brackets-unsigned, brackets-signed, brackets-clock, brackets-reset, brackets-bundle, brackets-vector, brackets-field, lengths-unsigned, lengths-signed, lengths-clock, lengths-reset, lengths-bundle, lengths-vector, suffixes-field, brackets-ref, brackets-literal, brackets-prim, brackets-mux, brackets-name, brackets-at, brackets-index, suffixes-ref, suffixes-literal, suffixes-prim, suffixes-mux, suffixes-name, suffixes-at, suffixes-index}
+use Rattle.depth_laws.proofs.Layers.{of-wire, of-reg, of-regreset, of-mem, of-inst, of-node, of-connect, of-invalidate, of-when, of-skip, of-arm, in-wire, in-reg, in-regreset, in-mem, in-inst, in-node, in-connect, in-invalidate, in-when, in-skip, in-arm, brackets-unsigned, brackets-signed, brackets-clock, brackets-reset, brackets-bundle, brackets-vector, brackets-field, lengths-unsigned, lengths-signed, lengths-clock, lengths-reset, lengths-bundle, lengths-vector, suffixes-field, brackets-ref, brackets-literal, brackets-prim, brackets-mux, brackets-name, brackets-at, brackets-index, suffixes-ref, suffixes-literal, suffixes-prim, suffixes-mux, suffixes-name, suffixes-at, suffixes-index}
 use Rattle.depth_laws.proofs.Steps.{start, Wants}
 use Rattle.depth_laws.proofs.Within.{bracket_of, Within, AllWithin}
-use Rattle.depth_laws.proofs.Bounds.{Fits, zero, join, to, push, one, join_port, join_length, longer, none, both, same, inner, block_inner}
+use Rattle.depth_laws.proofs.Bounds.{Fits, zero, join, to, push, one, join_port, join_length, longer, none, both, same, inner, block_inner, body_inner, arm_within}
 
 -- vectors
 
@@ -56,7 +55,7 @@ case_within last_module b h o _ x plain g = (none b 0 refl, zero)
 case_within next_module b h o (first, (others, _)) x plain (g, (k, _)) = (both b (module_blocks first) (greatest (map module_blocks others)) g.0 k.0, join g.1 k.1)
 case_within a_module b h o (name, (body, _)) x plain (g, _) = g
 case_within no_module_body b h o _ x plain g = (none b 0 refl, zero)
-case_within a_module_body b h o (body, _) x plain (few, (g, _)) = (body_inside b body.0 (map stmt_blocks body.1) few g.0, g.1)
+case_within a_module_body b h o (body, _) x plain (few, (g, _)) = (body_inner b body.0 (map stmt_blocks body.1) few g.0, g.1)
 case_within next_port b h o (port, (body, _)) x plain (g, (k, _)) = (k.0, join_port _ _ _ _ g k.1)
 case_within last_port b h o (statements, _) x plain (g, _) = (g.0, join zero g.1)
 case_within an_input b h o (name, (typ, _)) x plain (g, _) = g

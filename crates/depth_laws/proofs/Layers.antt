@@ -1,4 +1,4 @@
--- The counts of brackets and suffixes, layer by layer.
+-- The counts of blocks, brackets and suffixes, layer by layer.
 use Rattle.std.proofs.Common.{◌≡◌, ℕ, ◌+◌, List, [], ◌∷◌, map, length, Option, Bool, refl, arith}
 use Rattle.std.specs.Prelude.{max}
 use Rattle.std.proofs.lemmas.Grind.{common_steps}
@@ -18,12 +18,47 @@ use Rattle.fir_tree.specs.declared.expr.Suffix.TheVariants as suffix
 use Rattle.fir_tree.specs.declared.stmt.Stmt.{Stmt, the_lemmas}
 use Rattle.fir_tree.specs.declared.stmt.Stmt.TheVariants as stmt
 use Rattle.fir_tree.specs.declared.stmt.Arm.{Arm}
-use Rattle.depth_laws.specs.Blocks.{greatest}
+use Rattle.depth_laws.specs.Blocks.{greatest, block_of, stmt_blocks, arm_blocks}
 use Rattle.depth_laws.specs.Parts.{most_in_line, most_in_stmt, most_in_arm}
 use Rattle.depth_laws.specs.Brackets.{type_brackets, field_brackets, expr_brackets, suffix_brackets}
 use Rattle.depth_laws.specs.Suffixes.{type_lengths, type_suffixes, field_suffixes, expr_suffixes, suffix_suffixes}
 
--- statements, by any count
+-- statements, by their blocks
+
+pub of-wire : (name : Name) (typ : FirType) → stmt_blocks (stmt.Wire name typ) ≡ 0
+of-wire name typ = grind (arith, common_steps, the_lemmas)
+
+pub of-reg : (name : Name) (typ : FirType) (clock : Expr) → stmt_blocks (stmt.Reg name typ clock) ≡ 0
+of-reg name typ clock = grind (arith, common_steps, the_lemmas)
+
+pub of-regreset : (name : Name) (typ : FirType) (clock reset init : Expr) → stmt_blocks (stmt.RegReset name typ clock reset init) ≡ 0
+of-regreset name typ clock reset init = grind (arith, common_steps, the_lemmas)
+
+pub of-mem : (memory : Memory) → stmt_blocks (stmt.Mem memory) ≡ 1
+of-mem memory = grind (arith, common_steps, the_lemmas)
+
+pub of-inst : (name of : Name) → stmt_blocks (stmt.Inst name of) ≡ 0
+of-inst name of = grind (arith, common_steps, the_lemmas)
+
+pub of-node : (name : Name) (e : Expr) → stmt_blocks (stmt.Node name e) ≡ 0
+of-node name e = grind (arith, common_steps, the_lemmas)
+
+pub of-connect : (left right : Expr) → stmt_blocks (stmt.Connect left right) ≡ 0
+of-connect left right = grind (arith, common_steps, the_lemmas)
+
+pub of-invalidate : (target : Expr) → stmt_blocks (stmt.Invalidate target) ≡ 0
+of-invalidate target = grind (arith, common_steps, the_lemmas)
+
+pub of-when : (arms : List Arm) (other : List Stmt) → stmt_blocks (stmt.When arms other) ≡ max (greatest (map arm_blocks arms)) (block_of (map stmt_blocks other))
+of-when arms other = grind (arith, common_steps, the_lemmas)
+
+pub of-skip : (at : Place) → stmt_blocks (stmt.Skip at) ≡ 0
+of-skip at = grind (arith, common_steps, the_lemmas)
+
+pub of-arm : (condition : Expr) (body : List Stmt) → arm_blocks (record { condition = condition; body = body }) ≡ block_of (map stmt_blocks body)
+of-arm condition body = grind (arith, common_steps, the_lemmas)
+
+-- and by any count of types and expressions
 
 module _ (of_type : FirType → ℕ) (of_expr : Expr → ℕ) where
   pub in-wire : (name : Name) (typ : FirType) → most_in_stmt of_type of_expr (stmt.Wire name typ) ≡ of_type typ

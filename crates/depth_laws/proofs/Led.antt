@@ -1,13 +1,11 @@
 -- Where the tree that a list spells goes nowhere too deep, the list goes nowhere too deep.
-use Rattle.std.proofs.Common.{◌≡◌, ℕ, ◌+◌, ◌-◌, ◌≤◌, Bool, true, false, List, [], ◌∷◌, Option, Some, None, slice_get, take, fold, refl, sym, ap, ◌∙◌, subst}
-use Rattle.std.specs.Prelude.{⊤, suc, zero}
-use Rattle.std.proofs.lemmas.Bool.{true≢false}
+use Rattle.std.proofs.Common.{◌≡◌, ℕ, ◌+◌, ◌-◌, ◌≤◌, Bool, true, false, List, [], ◌∷◌, Option, Some, None, refl, sym, ap, ◌∙◌, subst}
+use Rattle.std.specs.Prelude.{⊤}
 use Rattle.fir_layout.specs.declared.laid.Laid.{Laid}
 use Rattle.fir_layout.specs.declared.laid.Laid.TheVariants as laid
 use Rattle.fir_layout.specs.Pieces.{Piece, piece_of, pieces_of}
 use Rattle.fir_grammar.specs.Grammar.{Terminal, Takes, Nothing, Opens, Closes, Symbol, Is, A, Rule, IsCase, Tree, Values, tree, Spells, Text, Circuit_body, Modules, Module, Module_body, Ports, Port, Type_of, Lengths, Base_type, Width, Fields, Field, Statements, Statement, Block, Branches, Memory_lines, Memory_line, Under_write, Expression, Expressions, Numbers, Reference, Suffixes, Integer, a_text, no_modules, some_modules, last_module, next_module, a_module, no_module_body, a_module_body, next_port, last_port, an_input, an_output, a_type, last_length, next_length, an_unsigned, a_signed, a_clock, a_reset, a_bundle, no_width, a_width, last_field, next_field, plain_field, flipped_field, last_statement, next_statement, a_wire, a_register, a_reset_register, a_memory, an_instance, a_node, a_connect, an_invalidate, a_when, a_skip, no_branch, else_when, else_, no_block, a_block, last_memory_line, next_memory_line, a_data_type, a_depth, a_read_latency, a_write_latency, a_read_under_write, under_old, under_new, under_undefined, a_reader, a_writer, a_readwriter, a_reference, a_mux, an_operation, no_more_expressions, one_more_expression, no_more_numbers, one_more_number, a_component, no_suffix, a_field_suffix, an_element_suffix, an_index_suffix, an_unsigned_literal, a_signed_literal, a_wide_unsigned_literal, a_wide_signed_literal, a_plain_integer, a_negative_integer, a_quoted_integer, no_symbol, a_rule, a_piece, a_place, a_name, a_magnitude, a_placed_magnitude, a_quoted}
-use Rattle.fir_grammar.proofs.Cases.{some_injective}
-use Rattle.fir_grammar.specs.Faults.{Levels, no_levels, past, is_deep, IsDeepAt}
+use Rattle.fir_grammar.specs.Faults.{Levels, no_levels, past}
 use Rattle.depth_laws.proofs.Shallow.{Shallow}
 use Rattle.depth_laws.proofs.Classes.{class_of, deep_class}
 use Rattle.depth_laws.proofs.Known.{Known, moves, Guard, guarded, Agrees, Behind, ahead}
@@ -183,19 +181,3 @@ module _ (text : List ℕ) where
   pub all_shallow : {ls : List Laid} {names after : List (List ℕ)} {vs : Values (A Text ∷ [])} → Spells text (A Text ∷ []) ls names vs [] after → Solid ls
       → Within Text 0 (Some 0) [] vs.0 → Shallow no_levels (pieces_of text ls)
   all_shallow spelled s w = (led spelled no_levels (start 0 (Some 0) []) (start_agrees text) tt (w, tt) s).back tt
-
-none_some : {X Y : Type 0} {x : X} → None ≡ Some x → Y
-none_some e = absurd cc
-
-nothing : (k : ℕ) → None ≡ slice_get {X = Piece} [] k
-nothing zero = refl
-nothing (suc k) = refl
-
--- no piece of a list that goes nowhere too deep goes too deep
-nowhere : (at : Levels) (ps : List Piece) → Shallow at ps → (k : ℕ) (p : Piece) → slice_get ps k ≡ Some p → is_deep (fold past at (take k ps)) p ≡ true → ⊥
-nowhere at [] s k p e d = none_some (nothing k ∙ e)
-nowhere at (q ∷ ps) s zero p e d = true≢false (sym d ∙ ap (is_deep at) (sym (some_injective e)) ∙ s.0)
-nowhere at (q ∷ ps) s (suc k) p e d = nowhere (past at q) ps (s.1) k p e d
-
-pub never_deep : (pieces : List Piece) → Shallow no_levels pieces → (k : ℕ) → ¬ (IsDeepAt pieces k)
-never_deep pieces s k d = nowhere no_levels pieces s k d.piece d.stands d.deep

@@ -1,11 +1,10 @@
 mod Shallow
-mod Nested
 mod Classes
 mod Known
+mod Layers
 mod Bounds
 mod Steps
 mod Within
-mod Layers
 mod Forth
 mod Back
 mod Walks
