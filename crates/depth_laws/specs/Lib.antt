@@ -1,1 +1,4 @@
 pub mod Blocks
+pub mod Parts
+pub mod Brackets
+pub mod Suffixes
