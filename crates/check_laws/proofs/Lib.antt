@@ -1,9 +1,9 @@
-mod Members
+pub mod Members
 mod Memories
 mod Circuits
-mod Typing
+pub mod Typing
 mod Driving
-mod Faults
-mod Nodes
-mod Sound
-mod Typed
+pub mod Faults
+pub mod Nodes
+pub mod Sound
+pub mod Typed
