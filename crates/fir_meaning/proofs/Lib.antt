@@ -17,3 +17,4 @@ mod Examples
 mod ExamplesOfParts
 mod ExamplesOfMemories
 mod ExamplesOfLoops
+mod ExamplesOfStates

@@ -1,5 +1,5 @@
-use Rattle.tree_drives.proofs.Storing.{stored_there}
-use Rattle.tree_drives.proofs.laws.shown_leaves_are_stored.Goals as goal
+use Rattle.tree_drives.proofs.Storing.{all_stored}
+use Rattle.tree_drives.proofs.laws.leaves_of_elements_are_stored.Goals as goal
 
 pub returns : goal.returns
-returns c = stored_there
+returns c = all_stored
