@@ -34,7 +34,7 @@ shallow_from front (p ∷ ps) h = (
 
 -- and back: no piece of a list that goes nowhere too deep goes too deep
 
-none_some : {X Y : Type 0} {x : X} → None ≡ Some x → Y
+pub none_some : {X Y : Type 0} {x : X} → None ≡ Some x → Y
 none_some e = absurd cc
 
 nothing : (k : ℕ) → None ≡ slice_get {X = Piece} [] k
