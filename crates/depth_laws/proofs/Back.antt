@@ -1,25 +1,20 @@
 -- From the tree of each case to its parts: where the tree is as small as it may be, the parts are.
-use Rattle.std.proofs.Common.{◌≡◌, ℕ, ◌+◌, ◌-◌, ◌≤◌, Bool, true, false, List, [], ◌∷◌, map, length, Option, Some, None, refl, sym, ap, ◌∙◌, subst, arith}
-use Rattle.std.specs.Prelude.{⊤, suc, max}
-use Rattle.place_text.specs.declared.place.Place.{Place}
+use Rattle.std.proofs.Common.{◌≡◌, ℕ, ◌+◌, ◌-◌, ◌≤◌, true, false, List, [], ◌∷◌, map, length, Option, Some, None, sym, ap, arith}
+use Rattle.std.specs.Prelude.{⊤, max}
 use Rattle.bit_words.specs.declared.value.Kind.TheVariants as sign
-use Rattle.fir_types.specs.declared.fir_type.FirType.{FirType}
-use Rattle.fir_types.specs.declared.fir_type.Shape.TheVariants as shape
-use Rattle.fir_types.specs.declared.memory.Memory.{Memory}
 use Rattle.fir_types.specs.declared.port.Port.{Port as ModulePort}
 use Rattle.fir_tree.specs.declared.expr.Expr.{Expr}
 use Rattle.fir_tree.specs.declared.stmt.Stmt.{Stmt}
-use Rattle.fir_tree.specs.declared.stmt.Stmt.TheVariants as stmt
 use Rattle.fir_tree.specs.declared.stmt.Arm.{Arm}
-use Rattle.fir_grammar.specs.Grammar.{Symbol, Rule, IsCase, Values, tree, vectors, Text, Circuit_body, Modules, Module, Module_body, Ports, Port, Type_of, Lengths, Base_type, Width, Fields, Field, Statements, Statement, Block, Branches, Memory_lines, Memory_line, Under_write, Expression, Expressions, Numbers, Reference, Suffixes, Integer, a_text, no_modules, some_modules, last_module, next_module, a_module, no_module_body, a_module_body, next_port, last_port, an_input, an_output, a_type, last_length, next_length, an_unsigned, a_signed, a_clock, a_reset, a_bundle, no_width, a_width, last_field, next_field, plain_field, flipped_field, last_statement, next_statement, a_wire, a_register, a_reset_register, a_memory, an_instance, a_node, a_connect, an_invalidate, a_when, a_skip, no_branch, else_when, else_, no_block, a_block, last_memory_line, next_memory_line, a_data_type, a_depth, a_read_latency, a_write_latency, a_read_under_write, under_old, under_new, under_undefined, a_reader, a_writer, a_readwriter, a_reference, a_mux, an_operation, no_more_expressions, one_more_expression, no_more_numbers, one_more_number, a_component, no_suffix, a_field_suffix, an_element_suffix, an_index_suffix, an_unsigned_literal, a_signed_literal, a_wide_unsigned_literal, a_wide_signed_literal, a_plain_integer, a_negative_integer, a_quoted_integer}
+use Rattle.fir_grammar.specs.Grammar.{Symbol, Rule, IsCase, Values, tree, a_text, no_modules, some_modules, last_module, next_module, a_module, no_module_body, a_module_body, next_port, last_port, an_input, an_output, a_type, last_length, next_length, an_unsigned, a_signed, a_clock, a_reset, a_bundle, no_width, a_width, last_field, next_field, plain_field, flipped_field, last_statement, next_statement, a_wire, a_register, a_reset_register, a_memory, an_instance, a_node, a_connect, an_invalidate, a_when, a_skip, no_branch, else_when, else_, no_block, a_block, last_memory_line, next_memory_line, a_data_type, a_depth, a_read_latency, a_write_latency, a_read_under_write, under_old, under_new, under_undefined, a_reader, a_writer, a_readwriter, a_reference, a_mux, an_operation, no_more_expressions, one_more_expression, no_more_numbers, one_more_number, a_component, no_suffix, a_field_suffix, an_element_suffix, an_index_suffix, an_unsigned_literal, a_signed_literal, a_wide_unsigned_literal, a_wide_signed_literal, a_plain_integer, a_negative_integer, a_quoted_integer}
 use Rattle.depth_laws.specs.Blocks.{greatest, block_of, stmt_blocks, arm_blocks, body_blocks, module_blocks}
 use Rattle.depth_laws.specs.Brackets.{type_brackets, expr_brackets}
-use Rattle.depth_laws.specs.Suffixes.{type_lengths, type_suffixes, expr_suffixes}
-use Rattle.depth_laws.proofs.Layers.{of-wire, of-reg, of-regreset, of-mem, of-inst, of-node, of-connect, of-invalidate, of-when, of-skip, of-arm, in-wire, in-reg, in-regreset, in-mem, in-inst, in-node, in-connect, in-invalidate, in-when, in-skip, in-arm, brackets-unsigned, brackets-signed, brackets-clock, brackets-reset, brackets-bundle, brackets-vector, brackets-field, lengths-unsigned, lengths-signed, lengths-clock, lengths-reset, lengths-bundle, lengths-vector, suffixes-field, brackets-ref, brackets-literal, brackets-prim, brackets-mux, brackets-name, brackets-at, brackets-index, suffixes-ref, suffixes-literal, suffixes-prim, suffixes-mux, suffixes-name, suffixes-at, suffixes-index}
+use Rattle.depth_laws.specs.Suffixes.{type_suffixes, expr_suffixes}
+use Rattle.depth_laws.proofs.Layers.{of-mem, of-when, of-arm, in-wire, in-reg, in-regreset, in-mem, in-node, in-connect, in-invalidate, in-when, in-arm, brackets-bundle, brackets-field, lengths-bundle, suffixes-field, brackets-ref, brackets-literal, brackets-prim, brackets-mux, brackets-at, brackets-index, suffixes-ref, suffixes-literal, suffixes-prim, suffixes-mux, suffixes-at, suffixes-index}
 use Rattle.depth_laws.proofs.Steps.{start, Wants}
 use Rattle.depth_laws.proofs.Within.{bracket_of, Within, AllWithin}
 use Rattle.depth_laws.proofs.Forth.{vectors_brackets, vectors_own, vectors_inner}
-use Rattle.depth_laws.proofs.Bounds.{Fits, left, right, back, pop, one_open, left_port, right_port, without_length, shorter, none, first_of, second_of, same, outer, Full, full_map, block_outer}
+use Rattle.depth_laws.proofs.Bounds.{left, right, back, pop, one_open, left_port, right_port, without_length, shorter, first_of, second_of, same, outer, Full, full_map, block_outer}
 
 -- no block of the case is spelled empty
 abbrev pub FullBody : List ModulePort → List Stmt → Type 0
@@ -42,9 +37,10 @@ memory_open b e h = omega (arith, e, h)
 
 arm_outer : (b : ℕ) (condition : Expr) (body : List Stmt) (arms : List Arm) → greatest (map arm_blocks (record { condition = condition; body = body } ∷ arms)) ≤ 128 - b
     → (block_of (map stmt_blocks body) ≤ 128 - b) × (greatest (map arm_blocks arms) ≤ 128 - b)
-arm_outer b condition body arms h =
-    (same b _ _ (sym (of-arm condition body)) (first_of b (arm_blocks (record { condition = condition; body = body })) (greatest (map arm_blocks arms)) h),
-    second_of b (arm_blocks (record { condition = condition; body = body })) (greatest (map arm_blocks arms)) h)
+arm_outer b condition body arms h = (
+  same b _ _ (sym (of-arm condition body)) (first_of b (arm_blocks (record { condition = condition; body = body })) (greatest (map arm_blocks arms)) h),
+  second_of b (arm_blocks (record { condition = condition; body = body })) (greatest (map arm_blocks arms)) h,
+)
 
 fewer : {l : ℕ} (ns : List ℕ) → 1 ≤ l → bracket_of ns ≤ l
 fewer [] h = omega arith
@@ -64,9 +60,10 @@ case_parts next_port b h o (port, (body, _)) x full w = (left_port _ _ _ _ (w.1)
 case_parts last_port b h o (statements, _) x full w = ((w.0, right _ _ (w.1)), tt)
 case_parts an_input b h o (name, (typ, _)) x full w = (w, tt)
 case_parts an_output b h o (name, (typ, _)) x full w = (w, tt)
-case_parts a_type b h o (base, (lengths, _)) x full w =
-    ((omega (arith, vectors_brackets base lengths, w.0), omega (arith, vectors_inner base lengths, w.1)),
-    ((omega (arith, vectors_brackets base lengths, w.0), omega (arith, vectors_own base lengths, w.1)), tt))
+case_parts a_type b h o (base, (lengths, _)) x full w = (
+  (omega (arith, vectors_brackets base lengths, w.0), omega (arith, vectors_inner base lengths, w.1)),
+  ((omega (arith, vectors_brackets base lengths, w.0), omega (arith, vectors_own base lengths, w.1)), tt),
+)
 case_parts last_length b h o ws x full w = tt
 case_parts next_length b None o ws x full w = absurd x
 case_parts next_length b (Some k) o (n, (ns, _)) x full w = let i = shorter k (w.1) in (omega (arith, w.0), (i.0, ((fewer ns (w.0), i.1), tt)))

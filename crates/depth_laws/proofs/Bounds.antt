@@ -1,5 +1,5 @@
 -- Numbers that are as small as they may be where so many blocks and brackets are open.
-use Rattle.std.proofs.Common.{◌≡◌, ℕ, ◌+◌, ◌-◌, ◌≤◌, List, [], ◌∷◌, map, length, refl, arith}
+use Rattle.std.proofs.Common.{◌≡◌, ℕ, ◌+◌, ◌-◌, ◌≤◌, List, [], ◌∷◌, map, refl, arith}
 use Rattle.std.specs.Prelude.{⊤, suc, max}
 use Rattle.fir_types.specs.declared.port.Port.{Port as ModulePort}
 use Rattle.fir_tree.specs.declared.expr.Expr.{Expr}

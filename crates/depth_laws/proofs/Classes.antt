@@ -1,12 +1,11 @@
 -- What the pieces of a class do to the levels, and that a terminal takes pieces of one class alone.
-use Rattle.std.proofs.Common.{◌≡◌, ℕ, ◌+◌, ◌-◌, ◌==◌, ◌||◌, ◌&&◌, Bool, true, false, if◌then◌else◌, List, [], ◌∷◌, length, refl, sym, ap, subst, ◌∙◌, arith}
+use Rattle.std.proofs.Common.{◌≡◌, ℕ, ◌+◌, ◌-◌, ◌==◌, ◌||◌, ◌&&◌, Bool, true, false, if◌then◌else◌, ◌∷◌, length, refl, sym, ap, subst}
 use Rattle.std.specs.Prelude.{nat_le}
 use Rattle.std.proofs.lemmas.Bool.{eqb-true, true≢false}
-use Rattle.fir_lexer.specs.declared.token.TokenKind.{TokenKind}
 use Rattle.fir_lexer.specs.declared.token.TokenKind.TheVariants as kind
 use Rattle.fir_layout.specs.Pieces.{Piece, A_token, A_line_end, A_block_opens, A_block_closes, The_end}
 use Rattle.fir_grammar.specs.Grammar.{Terminal, The_word, The_call, A_name, A_field, A_number, Three, A_quoted_number, The_mark, The_arrow, Line_ends, Opens, Closes, Ends, Takes}
-use Rattle.fir_grammar.specs.Faults.{Levels, with_suffix, last_suffixes, without_last, past_text, past_mark, past, most, is_deep}
+use Rattle.fir_grammar.specs.Faults.{Levels, with_suffix, last_suffixes, without_last, past_text, past, is_deep}
 
 pub data Class : Type 0 where
   A_text : Class
@@ -72,10 +71,10 @@ deep_class at c = deep_of (nat_le 128 (length at.suffixes - 1)) (nat_le 128 (las
 
 mark_past : (a b c d : Bool) (at : Levels)
     → (if a then record { blocks = at.blocks; suffixes = with_suffix at.suffixes; dotted = true }
-      else if b then record { blocks = at.blocks; suffixes = 0 ∷ with_suffix at.suffixes; dotted = false }
-      else if c then record { blocks = at.blocks; suffixes = 0 ∷ at.suffixes; dotted = false }
-      else if d then record { blocks = at.blocks; suffixes = without_last at.suffixes; dotted = false }
-      else record { blocks = at.blocks; suffixes = at.suffixes; dotted = false })
+    else if b then record { blocks = at.blocks; suffixes = 0 ∷ with_suffix at.suffixes; dotted = false }
+    else if c then record { blocks = at.blocks; suffixes = 0 ∷ at.suffixes; dotted = false }
+    else if d then record { blocks = at.blocks; suffixes = without_last at.suffixes; dotted = false }
+    else record { blocks = at.blocks; suffixes = at.suffixes; dotted = false })
     ≡ past_class (if a then A_dot else if b then A_square else if c then An_opening else if d then A_closing else Another) at
 mark_past true b c d at = refl
 mark_past false true c d at = refl

@@ -1,5 +1,5 @@
 -- Blocks and brackets around one another, and suffixes.
-use Rattle.std.proofs.Common.{◌≡◌, ℕ, ◌+◌, Bool, false, List, [], ◌∷◌, Some, refl, arith}
+use Rattle.std.proofs.Common.{◌≡◌, ℕ, ◌+◌, false, List, [], ◌∷◌, Some, refl, arith}
 use Rattle.std.specs.Prelude.{max}
 use Rattle.std.proofs.lemmas.Grind.{common_steps}
 use Rattle.place_text.specs.declared.place.Place.{Place}
@@ -64,9 +64,10 @@ module _ (at : Place) (a b : Name) (n : ℕ) (one : Number) where
   suffixes_indexed e = omega (arith, suffixes-ref at a (suffix.Index at e ∷ []), suffixes-index at e)
 
   index_counts : (expr_brackets (indexed (indexed plain)) ≡ 2) × (expr_suffixes (indexed (indexed plain)) ≡ 1)
-  index_counts =
-      (omega (arith, brackets_indexed (indexed plain), brackets_indexed plain, brackets-ref at a []),
-      omega (arith, suffixes_indexed (indexed plain), suffixes_indexed plain, suffixes-ref at a []))
+  index_counts = (
+    omega (arith, brackets_indexed (indexed plain), brackets_indexed plain, brackets-ref at a []),
+    omega (arith, suffixes_indexed (indexed plain), suffixes_indexed plain, suffixes-ref at a []),
+  )
 
   -- `UInt<3>(1)` has one, and so has `not(a)`; `not(UInt<3>(1))` has two.
   abbrev literal : Expr
@@ -83,8 +84,21 @@ module _ (at : Place) (a b : Name) (n : ℕ) (one : Number) where
 
   -- `{ a : UInt<3>[3][3] }[3]` has two brackets around one another. The field's type has two suffixes, and the whole type has one.
   abbrev bundle : FirType
-  bundle = record { place = at; shape = shape.Vector (record { place = at; shape = shape.Bundle (record { flip = false; name = a; typ = record { place = at; shape = shape.Vector
-      (record { place = at; shape = shape.Vector (record { place = at; shape = shape.Unsigned (Some n) }) n }) n } } ∷ []) }) n }
+  bundle = record {
+    place = at;
+    shape = shape.Vector (record {
+      place = at;
+      shape = shape.Bundle (record {
+        flip = false;
+        name = a;
+        typ = record {
+          place = at;
+          shape = shape.Vector
+              (record { place = at; shape = shape.Vector (record { place = at; shape = shape.Unsigned (Some n) }) n }) n;
+        };
+      } ∷ []);
+    }) n;
+  }
 
   bundle_counts : (type_brackets bundle ≡ 2) × ((type_lengths bundle ≡ (1, 2)) × (type_suffixes bundle ≡ 2))
   bundle_counts = (grind (arith, common_steps, type_lemmas), (grind (arith, common_steps, type_lemmas), grind (arith, common_steps, type_lemmas)))

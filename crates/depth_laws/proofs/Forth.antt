@@ -1,24 +1,17 @@
 -- From the parts of each case to its tree: where the parts are as small as they may be, the tree is.
-use Rattle.std.proofs.Common.{◌≡◌, ℕ, ◌+◌, ◌-◌, ◌≤◌, Bool, true, false, List, [], ◌∷◌, map, length, Option, Some, None, refl, sym, ap, ◌∙◌, subst, arith}
-use Rattle.std.specs.Prelude.{⊤, suc, max}
-use Rattle.place_text.specs.declared.place.Place.{Place}
+use Rattle.std.proofs.Common.{◌≡◌, ℕ, ◌+◌, ◌≤◌, true, false, List, [], ◌∷◌, map, length, Option, Some, None, refl, ap, ◌∙◌, arith}
+use Rattle.std.specs.Prelude.{⊤, max}
 use Rattle.bit_words.specs.declared.value.Kind.TheVariants as sign
 use Rattle.fir_types.specs.declared.fir_type.FirType.{FirType}
 use Rattle.fir_types.specs.declared.fir_type.Shape.TheVariants as shape
-use Rattle.fir_types.specs.declared.memory.Memory.{Memory}
-use Rattle.fir_types.specs.declared.port.Port.{Port as ModulePort}
-use Rattle.fir_tree.specs.declared.expr.Expr.{Expr}
-use Rattle.fir_tree.specs.declared.stmt.Stmt.{Stmt}
-use Rattle.fir_tree.specs.declared.stmt.Stmt.TheVariants as stmt
-use Rattle.fir_tree.specs.declared.stmt.Arm.{Arm}
-use Rattle.fir_grammar.specs.Grammar.{Symbol, Rule, IsCase, Values, tree, vectors, Text, Circuit_body, Modules, Module, Module_body, Ports, Port, Type_of, Lengths, Base_type, Width, Fields, Field, Statements, Statement, Block, Branches, Memory_lines, Memory_line, Under_write, Expression, Expressions, Numbers, Reference, Suffixes, Integer, a_text, no_modules, some_modules, last_module, next_module, a_module, no_module_body, a_module_body, next_port, last_port, an_input, an_output, a_type, last_length, next_length, an_unsigned, a_signed, a_clock, a_reset, a_bundle, no_width, a_width, last_field, next_field, plain_field, flipped_field, last_statement, next_statement, a_wire, a_register, a_reset_register, a_memory, an_instance, a_node, a_connect, an_invalidate, a_when, a_skip, no_branch, else_when, else_, no_block, a_block, last_memory_line, next_memory_line, a_data_type, a_depth, a_read_latency, a_write_latency, a_read_under_write, under_old, under_new, under_undefined, a_reader, a_writer, a_readwriter, a_reference, a_mux, an_operation, no_more_expressions, one_more_expression, no_more_numbers, one_more_number, a_component, no_suffix, a_field_suffix, an_element_suffix, an_index_suffix, an_unsigned_literal, a_signed_literal, a_wide_unsigned_literal, a_wide_signed_literal, a_plain_integer, a_negative_integer, a_quoted_integer}
-use Rattle.depth_laws.specs.Blocks.{greatest, block_of, stmt_blocks, arm_blocks, body_blocks, module_blocks}
+use Rattle.fir_grammar.specs.Grammar.{Symbol, Rule, IsCase, Values, tree, vectors, a_text, no_modules, some_modules, last_module, next_module, a_module, no_module_body, a_module_body, next_port, last_port, an_input, an_output, a_type, last_length, next_length, an_unsigned, a_signed, a_clock, a_reset, a_bundle, no_width, a_width, last_field, next_field, plain_field, flipped_field, last_statement, next_statement, a_wire, a_register, a_reset_register, a_memory, an_instance, a_node, a_connect, an_invalidate, a_when, a_skip, no_branch, else_when, else_, no_block, a_block, last_memory_line, next_memory_line, a_data_type, a_depth, a_read_latency, a_write_latency, a_read_under_write, under_old, under_new, under_undefined, a_reader, a_writer, a_readwriter, a_reference, a_mux, an_operation, no_more_expressions, one_more_expression, no_more_numbers, one_more_number, a_component, no_suffix, a_field_suffix, an_element_suffix, an_index_suffix, an_unsigned_literal, a_signed_literal, a_wide_unsigned_literal, a_wide_signed_literal, a_plain_integer, a_negative_integer, a_quoted_integer}
+use Rattle.depth_laws.specs.Blocks.{greatest, block_of, stmt_blocks, arm_blocks, module_blocks}
 use Rattle.depth_laws.specs.Brackets.{type_brackets, expr_brackets}
 use Rattle.depth_laws.specs.Suffixes.{type_lengths, type_suffixes, expr_suffixes}
-use Rattle.depth_laws.proofs.Layers.{of-wire, of-reg, of-regreset, of-mem, of-inst, of-node, of-connect, of-invalidate, of-when, of-skip, of-arm, in-wire, in-reg, in-regreset, in-mem, in-inst, in-node, in-connect, in-invalidate, in-when, in-skip, in-arm, brackets-unsigned, brackets-signed, brackets-clock, brackets-reset, brackets-bundle, brackets-vector, brackets-field, lengths-unsigned, lengths-signed, lengths-clock, lengths-reset, lengths-bundle, lengths-vector, suffixes-field, brackets-ref, brackets-literal, brackets-prim, brackets-mux, brackets-name, brackets-at, brackets-index, suffixes-ref, suffixes-literal, suffixes-prim, suffixes-mux, suffixes-name, suffixes-at, suffixes-index}
+use Rattle.depth_laws.proofs.Layers.{of-wire, of-reg, of-regreset, of-mem, of-inst, of-node, of-connect, of-invalidate, of-when, of-skip, in-wire, in-reg, in-regreset, in-mem, in-inst, in-node, in-connect, in-invalidate, in-when, in-skip, in-arm, brackets-unsigned, brackets-signed, brackets-clock, brackets-reset, brackets-bundle, brackets-vector, brackets-field, lengths-unsigned, lengths-signed, lengths-clock, lengths-reset, lengths-bundle, lengths-vector, suffixes-field, brackets-ref, brackets-literal, brackets-prim, brackets-mux, brackets-name, brackets-at, brackets-index, suffixes-ref, suffixes-literal, suffixes-prim, suffixes-mux, suffixes-name, suffixes-at, suffixes-index}
 use Rattle.depth_laws.proofs.Steps.{start, Wants}
 use Rattle.depth_laws.proofs.Within.{bracket_of, Within, AllWithin}
-use Rattle.depth_laws.proofs.Bounds.{Fits, zero, join, to, push, one, join_port, join_length, longer, none, both, same, inner, block_inner, body_inner, arm_within}
+use Rattle.depth_laws.proofs.Bounds.{zero, join, to, push, one, join_port, join_length, longer, none, both, same, inner, block_inner, body_inner, arm_within}
 
 -- vectors
 
@@ -85,11 +78,12 @@ case_within an_instance b h o (name, (of, _)) x plain g = (none b _ (of-inst nam
 case_within a_node b h o (name, (value, _)) x plain (g, _) = (none b _ (of-node name value), to (in-node type_brackets expr_brackets name value) (in-node type_suffixes expr_suffixes name value) g)
 case_within a_connect b h o (driven, (source, _)) x plain (g, (k, _)) = (none b _ (of-connect driven source), to (in-connect type_brackets expr_brackets driven source) (in-connect type_suffixes expr_suffixes driven source) (join g k))
 case_within an_invalidate b h o (driven, _) x plain (g, _) = (none b _ (of-invalidate driven), to (in-invalidate type_brackets expr_brackets driven) (in-invalidate type_suffixes expr_suffixes driven) g)
-case_within a_when b h o (condition, (body, (branches, _))) x plain (g, (k, (m, _))) =
-    (same b _ (max (greatest (map arm_blocks (record { condition = condition; body = body } ∷ branches.0))) (block_of (map stmt_blocks branches.1))) (of-when (record { condition = condition; body = body } ∷ branches.0) branches.1)
-        (both b (greatest (map arm_blocks (record { condition = condition; body = body } ∷ branches.0))) (block_of (map stmt_blocks branches.1)) (arm_within b condition body branches.0 k.0 m.0.0) m.0.1),
-    to (in-when type_brackets expr_brackets (record { condition = condition; body = body } ∷ branches.0) branches.1) (in-when type_suffixes expr_suffixes (record { condition = condition; body = body } ∷ branches.0) branches.1)
-        (join (join (to (in-arm type_brackets expr_brackets condition body) (in-arm type_suffixes expr_suffixes condition body) (join g k.1)) m.1.0) m.1.1))
+case_within a_when b h o (condition, (body, (branches, _))) x plain (g, (k, (m, _))) = (
+  same b _ (max (greatest (map arm_blocks (record { condition = condition; body = body } ∷ branches.0))) (block_of (map stmt_blocks branches.1))) (of-when (record { condition = condition; body = body } ∷ branches.0) branches.1)
+      (both b (greatest (map arm_blocks (record { condition = condition; body = body } ∷ branches.0))) (block_of (map stmt_blocks branches.1)) (arm_within b condition body branches.0 k.0 m.0.0) m.0.1),
+  to (in-when type_brackets expr_brackets (record { condition = condition; body = body } ∷ branches.0) branches.1) (in-when type_suffixes expr_suffixes (record { condition = condition; body = body } ∷ branches.0) branches.1)
+      (join (join (to (in-arm type_brackets expr_brackets condition body) (in-arm type_suffixes expr_suffixes condition body) (join g k.1)) m.1.0) m.1.1),
+)
 case_within a_skip b h o (at, _) x plain g = (none b _ (of-skip at), to (in-skip type_brackets expr_brackets at) (in-skip type_suffixes expr_suffixes at) zero)
 case_within no_branch b h o _ x plain g = ((none b 0 refl, none b 0 refl), (zero, zero))
 case_within else_when b h o (condition, (body, (branches, _))) x plain (g, (k, (m, _))) =

@@ -1,6 +1,6 @@
 -- What is known of the levels by the grammar alone: the open blocks, the open brackets, and of some references and types how many
 -- suffixes they have so far.
-use Rattle.std.proofs.Common.{◌≡◌, ℕ, ◌+◌, ◌-◌, ◌≤◌, ◌||◌, Bool, true, false, if◌then◌else◌, List, [], ◌∷◌, length, Option, Some, None, refl, sym, ap, ◌∙◌, subst, arith}
+use Rattle.std.proofs.Common.{◌≡◌, ℕ, ◌+◌, ◌-◌, ◌≤◌, ◌||◌, Bool, true, false, if◌then◌else◌, List, [], ◌∷◌, length, Option, Some, None, refl, ap, arith}
 use Rattle.std.specs.Prelude.{⊤, suc, nat_le}
 use Rattle.std.proofs.lemmas.Bool.{leb-false, leb-true, true≢false, false≢true}
 use Rattle.fir_grammar.specs.Faults.{Levels, with_suffix, afresh, last_suffixes, without_last}
@@ -185,10 +185,12 @@ pub ahead : (c : Class) (at : Levels) (st : Known) (X : Type 0) → Agrees at st
 ahead A_text at st X a g x = (refl, x)
 ahead An_opening at st X a g x = (flat (length at.suffixes - 1) (length st.outer) (stack_brackets at.suffixes st.head st.outer a.stack) (x.0), x.1)
 ahead A_dot at st X a g x = (flat_counted at.suffixes st.head st.outer g a.stack (x.0), x.1)
-ahead A_square at st X a g x =
-    (both_flat (nat_le 128 (length at.suffixes - 1)) (nat_le 128 (last_suffixes at.suffixes))
-        (flat (length at.suffixes - 1) (length st.outer) (stack_brackets at.suffixes st.head st.outer a.stack) (x.0))
-        (flat_counted at.suffixes st.head st.outer g a.stack (x.1.0)), x.1.1)
+ahead A_square at st X a g x = (
+  both_flat (nat_le 128 (length at.suffixes - 1)) (nat_le 128 (last_suffixes at.suffixes))
+      (flat (length at.suffixes - 1) (length st.outer) (stack_brackets at.suffixes st.head st.outer a.stack) (x.0))
+      (flat_counted at.suffixes st.head st.outer g a.stack (x.1.0)),
+  x.1.1,
+)
 ahead A_closing at st X a g x = (refl, x)
 ahead Another at st X a g x = (refl, x)
 ahead Block_opens at st X a g x = (flat at.blocks st.blocks a.blocks (x.0), x.1)

@@ -1,14 +1,13 @@
 -- Where the tree that a list spells goes nowhere too deep, the list goes nowhere too deep.
-use Rattle.std.proofs.Common.{◌≡◌, ℕ, ◌+◌, ◌-◌, ◌≤◌, Bool, true, false, List, [], ◌∷◌, Option, Some, None, refl, sym, ap, ◌∙◌, subst}
-use Rattle.std.specs.Prelude.{⊤}
+use Rattle.std.proofs.Common.{ℕ, List, [], ◌∷◌, Some, ◌∙◌}
 use Rattle.fir_layout.specs.declared.laid.Laid.{Laid}
 use Rattle.fir_layout.specs.declared.laid.Laid.TheVariants as laid
 use Rattle.fir_layout.specs.Pieces.{Piece, piece_of, pieces_of}
-use Rattle.fir_grammar.specs.Grammar.{Terminal, Takes, Nothing, Opens, Closes, Symbol, Is, A, Rule, IsCase, Tree, Values, tree, Spells, Text, Circuit_body, Modules, Module, Module_body, Ports, Port, Type_of, Lengths, Base_type, Width, Fields, Field, Statements, Statement, Block, Branches, Memory_lines, Memory_line, Under_write, Expression, Expressions, Numbers, Reference, Suffixes, Integer, a_text, no_modules, some_modules, last_module, next_module, a_module, no_module_body, a_module_body, next_port, last_port, an_input, an_output, a_type, last_length, next_length, an_unsigned, a_signed, a_clock, a_reset, a_bundle, no_width, a_width, last_field, next_field, plain_field, flipped_field, last_statement, next_statement, a_wire, a_register, a_reset_register, a_memory, an_instance, a_node, a_connect, an_invalidate, a_when, a_skip, no_branch, else_when, else_, no_block, a_block, last_memory_line, next_memory_line, a_data_type, a_depth, a_read_latency, a_write_latency, a_read_under_write, under_old, under_new, under_undefined, a_reader, a_writer, a_readwriter, a_reference, a_mux, an_operation, no_more_expressions, one_more_expression, no_more_numbers, one_more_number, a_component, no_suffix, a_field_suffix, an_element_suffix, an_index_suffix, an_unsigned_literal, a_signed_literal, a_wide_unsigned_literal, a_wide_signed_literal, a_plain_integer, a_negative_integer, a_quoted_integer, no_symbol, a_rule, a_piece, a_place, a_name, a_magnitude, a_placed_magnitude, a_quoted}
+use Rattle.fir_grammar.specs.Grammar.{Takes, Nothing, Opens, Closes, Symbol, Is, A, Rule, IsCase, Values, Spells, Text, Modules, Ports, Statements, a_text, no_modules, some_modules, last_module, next_module, a_module, no_module_body, a_module_body, next_port, last_port, an_input, an_output, a_type, last_length, next_length, an_unsigned, a_signed, a_clock, a_reset, a_bundle, no_width, a_width, last_field, next_field, plain_field, flipped_field, last_statement, next_statement, a_wire, a_register, a_reset_register, a_memory, an_instance, a_node, a_connect, an_invalidate, a_when, a_skip, no_branch, else_when, else_, no_block, a_block, last_memory_line, next_memory_line, a_data_type, a_depth, a_read_latency, a_write_latency, a_read_under_write, under_old, under_new, under_undefined, a_reader, a_writer, a_readwriter, a_reference, a_mux, an_operation, no_more_expressions, one_more_expression, no_more_numbers, one_more_number, a_component, no_suffix, a_field_suffix, an_element_suffix, an_index_suffix, an_unsigned_literal, a_signed_literal, a_wide_unsigned_literal, a_wide_signed_literal, a_plain_integer, a_negative_integer, a_quoted_integer, no_symbol, a_rule, a_piece, a_place, a_name, a_magnitude, a_placed_magnitude, a_quoted}
 use Rattle.fir_grammar.specs.Faults.{Levels, no_levels, past}
 use Rattle.depth_laws.proofs.Shallow.{Shallow}
-use Rattle.depth_laws.proofs.Classes.{class_of, deep_class}
-use Rattle.depth_laws.proofs.Known.{Known, moves, Guard, guarded, Agrees, Behind, ahead}
+use Rattle.depth_laws.proofs.Classes.{class_of}
+use Rattle.depth_laws.proofs.Known.{Known, moves, guarded, Agrees, ahead}
 use Rattle.depth_laws.proofs.Steps.{start, past_rule, past_symbols, Wants, Ready, wanted, rested, case_ready, case_past, agrees_weaker, agrees_start}
 use Rattle.depth_laws.proofs.Within.{Within, AllWithin}
 use Rattle.depth_laws.proofs.Back.{Filled, case_parts}

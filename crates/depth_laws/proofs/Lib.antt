@@ -9,6 +9,7 @@ mod Forth
 mod Back
 mod Walks
 mod Solid
+mod Filled
 mod Led
 mod Exactly
 mod Few

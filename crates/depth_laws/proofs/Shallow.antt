@@ -1,5 +1,5 @@
 -- A list that goes nowhere too deep, piece by piece.
-use Rattle.std.proofs.Common.{◌≡◌, ℕ, Bool, true, false, List, [], ◌∷◌, ◌++◌, length, take, fold, Option, Some, None, slice_get, refl, sym, ap, ◌∙◌, subst, append_assoc}
+use Rattle.std.proofs.Common.{◌≡◌, ℕ, Bool, true, false, List, [], ◌∷◌, ◌++◌, length, take, fold, Some, None, slice_get, refl, sym, ap, ◌∙◌, subst, append_assoc}
 use Rattle.std.specs.Prelude.{⊤, suc, zero}
 use Rattle.std.proofs.Math.Seq.{take-append_seam}
 use Rattle.std.proofs.lemmas.Bool.{true≢false}
@@ -34,7 +34,7 @@ shallow_from front (p ∷ ps) h = (
 
 -- and back: no piece of a list that goes nowhere too deep goes too deep
 
-none_some : {X Y : Type 0} {x : X} → None ≡ Some x → Y
+pub none_some : {X Y : Type 0} {x : X} → None ≡ Some x → Y
 none_some e = absurd cc
 
 nothing : (k : ℕ) → None ≡ slice_get {X = Piece} [] k

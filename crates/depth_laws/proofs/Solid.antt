@@ -1,5 +1,5 @@
 -- A list that is laid out spells no block empty: behind each mark that opens a block stands a token.
-use Rattle.std.proofs.Common.{◌≡◌, ℕ, List, [], ◌∷◌, ◌++◌, map, length, replicate, refl, sym, subst, append_assoc}
+use Rattle.std.proofs.Common.{ℕ, List, [], ◌∷◌, ◌++◌, map, length, replicate, refl, sym, subst, append_assoc}
 use Rattle.std.specs.Prelude.{⊤, ◌≢◌, suc, zero}
 use Rattle.fir_lexer.specs.declared.token.Token.{Token}
 use Rattle.fir_layout.specs.declared.laid.Laid.{Laid}
@@ -44,4 +44,4 @@ laid_out_solid {text} l =
     let ends : List Laid = End (length text) ∷ [] in
     let closes : List Laid = replicate (length l.blocks) (Close (length text)) in
     subst Solid (sym l.made) (subst Solid (sym (append_assoc l.body closes ends))
-        (solid_lines l.lines (closes ++ ends) (solid_closes (length l.blocks) (length text) ends (tt, tt))))
+    (solid_lines l.lines (closes ++ ends) (solid_closes (length l.blocks) (length text) ends (tt, tt))))

@@ -1,23 +1,19 @@
 -- A list that spells a tree: how far down it goes, and how far down its tree goes.
-use Rattle.std.proofs.Common.{◌≡◌, ℕ, ◌+◌, ◌-◌, ◌≤◌, Bool, true, false, List, [], ◌∷◌, map, Option, Some, None, refl, sym, ap, ◌∙◌, subst, arith}
+use Rattle.std.proofs.Common.{◌≡◌, ℕ, false, List, [], ◌∷◌, Some, refl, sym, ap, ◌∙◌, subst}
 use Rattle.std.specs.Prelude.{⊤}
-use Rattle.fir_types.specs.declared.fir_type.FirType.{FirType}
-use Rattle.fir_tree.specs.declared.circuit.Circuit.{Circuit}
 use Rattle.fir_layout.specs.declared.laid.Laid.{Laid}
 use Rattle.fir_layout.specs.declared.laid.Laid.TheVariants as laid
 use Rattle.fir_layout.specs.Pieces.{Piece, piece_of, pieces_of}
-use Rattle.fir_grammar.specs.Grammar.{Terminal, Takes, Opens, Closes, Symbol, A, Rule, IsCase, Tree, Values, tree, Spells, Text, Circuit_body, Modules, Module, Module_body, Ports, Port, Type_of, Lengths, Base_type, Width, Fields, Field, Statements, Statement, Block, Branches, Memory_lines, Memory_line, Under_write, Expression, Expressions, Numbers, Reference, Suffixes, Integer, a_text, no_modules, some_modules, last_module, next_module, a_module, no_module_body, a_module_body, next_port, last_port, an_input, an_output, a_type, last_length, next_length, an_unsigned, a_signed, a_clock, a_reset, a_bundle, no_width, a_width, last_field, next_field, plain_field, flipped_field, last_statement, next_statement, a_wire, a_register, a_reset_register, a_memory, an_instance, a_node, a_connect, an_invalidate, a_when, a_skip, no_branch, else_when, else_, no_block, a_block, last_memory_line, next_memory_line, a_data_type, a_depth, a_read_latency, a_write_latency, a_read_under_write, under_old, under_new, under_undefined, a_reader, a_writer, a_readwriter, a_reference, a_mux, an_operation, no_more_expressions, one_more_expression, no_more_numbers, one_more_number, a_component, no_suffix, a_field_suffix, an_element_suffix, an_index_suffix, an_unsigned_literal, a_signed_literal, a_wide_unsigned_literal, a_wide_signed_literal, a_plain_integer, a_negative_integer, a_quoted_integer, no_symbol, a_rule, a_piece, a_place, a_name, a_magnitude, a_placed_magnitude, a_quoted}
+use Rattle.fir_grammar.specs.Grammar.{Terminal, Takes, Symbol, A, Rule, IsCase, Values, tree, Spells, Text, Lengths, Base_type, a_text, no_modules, some_modules, last_module, next_module, a_module, no_module_body, a_module_body, next_port, last_port, an_input, an_output, a_type, last_length, next_length, an_unsigned, a_signed, a_clock, a_reset, a_bundle, no_width, a_width, last_field, next_field, plain_field, flipped_field, last_statement, next_statement, a_wire, a_register, a_reset_register, a_memory, an_instance, a_node, a_connect, an_invalidate, a_when, a_skip, no_branch, else_when, else_, no_block, a_block, last_memory_line, next_memory_line, a_data_type, a_depth, a_read_latency, a_write_latency, a_read_under_write, under_old, under_new, under_undefined, a_reader, a_writer, a_readwriter, a_reference, a_mux, an_operation, no_more_expressions, one_more_expression, no_more_numbers, one_more_number, a_component, no_suffix, a_field_suffix, an_element_suffix, an_index_suffix, an_unsigned_literal, a_signed_literal, a_wide_unsigned_literal, a_wide_signed_literal, a_plain_integer, a_negative_integer, a_quoted_integer, no_symbol, a_rule, a_piece, a_place, a_name, a_magnitude, a_placed_magnitude, a_quoted}
 use Rattle.fir_grammar.specs.Faults.{Levels, no_levels, past, is_deep}
 use Rattle.depth_laws.specs.Suffixes.{type_lengths}
 use Rattle.depth_laws.proofs.Shallow.{Shallow}
 use Rattle.depth_laws.proofs.Layers.{lengths-unsigned, lengths-signed, lengths-clock, lengths-reset, lengths-bundle}
-use Rattle.depth_laws.proofs.Classes.{class_of, class_of_piece, past_class, deep_class, past_by_class, deep_by_class, same_class}
-use Rattle.depth_laws.proofs.Known.{Known, moves, Guard, guarded, Agrees, agrees_past, Behind, behind, ahead}
-use Rattle.depth_laws.proofs.Steps.{start, past_rule, past_symbols, Wants, Ready, wanted, rested, case_ready, Weaker, case_past, agrees_weaker, agrees_start}
+use Rattle.depth_laws.proofs.Classes.{class_of, past_class, deep_class, past_by_class, deep_by_class, same_class}
+use Rattle.depth_laws.proofs.Known.{Known, moves, Guard, guarded, Agrees, agrees_past, Behind, behind}
+use Rattle.depth_laws.proofs.Steps.{start, past_rule, past_symbols, Wants, Ready, wanted, rested, case_ready, case_past, agrees_weaker, agrees_start}
 use Rattle.depth_laws.proofs.Within.{Within, AllWithin}
 use Rattle.depth_laws.proofs.Forth.{Plain, case_within}
-use Rattle.depth_laws.proofs.Back.{Filled, case_parts}
-use Rattle.depth_laws.proofs.Bounds.{Full}
 
 -- one piece
 

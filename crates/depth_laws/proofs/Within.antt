@@ -1,6 +1,6 @@
 -- The counts of a tree are as small as they may be where so many blocks and brackets are open.
-use Rattle.std.proofs.Common.{◌≡◌, ℕ, ◌+◌, ◌-◌, ◌≤◌, List, [], ◌∷◌, map, length, Option, Some, None, refl, arith}
-use Rattle.std.specs.Prelude.{⊤, suc, max}
+use Rattle.std.proofs.Common.{ℕ, ◌-◌, ◌≤◌, List, [], ◌∷◌, map, length, Option}
+use Rattle.std.specs.Prelude.{⊤}
 use Rattle.fir_types.specs.declared.port.Port.{Port as ModulePort}
 use Rattle.fir_types.specs.declared.fir_type.FirType.{FirType}
 use Rattle.fir_types.specs.declared.memory.MemLine.{MemLine}
@@ -8,7 +8,7 @@ use Rattle.fir_tree.specs.declared.circuit.Module.{Module as TheModule}
 use Rattle.fir_tree.specs.declared.stmt.Stmt.{Stmt}
 use Rattle.fir_tree.specs.declared.stmt.Arm.{Arm}
 use Rattle.fir_tree.specs.declared.expr.Expr.{Expr}
-use Rattle.fir_grammar.specs.Grammar.{Terminal, Symbol, Is, A, Rule, Tree, Values, Nothing, Its_place, Its_name, Its_magnitude, Its_place_and_magnitude, Its_number, Text, Circuit_body, Modules, Module, Module_body, Ports, Port, Type_of, Lengths, Base_type, Width, Fields, Field, Statements, Statement, Block, Branches, Memory_lines, Memory_line, Under_write, Expression, Expressions, Numbers, Reference, Suffixes, Integer}
+use Rattle.fir_grammar.specs.Grammar.{Symbol, Is, A, Rule, Tree, Values, Nothing, Its_place, Its_name, Its_magnitude, Its_place_and_magnitude, Its_number, Text, Circuit_body, Modules, Module, Module_body, Ports, Port, Type_of, Lengths, Base_type, Width, Fields, Field, Statements, Statement, Block, Branches, Memory_lines, Memory_line, Under_write, Expression, Expressions, Numbers, Reference, Suffixes, Integer}
 use Rattle.depth_laws.specs.Blocks.{greatest, block_of, stmt_blocks, arm_blocks, body_blocks, module_blocks}
 use Rattle.depth_laws.specs.Parts.{most_in_line, most_in_stmt, most_in_arm, most_in_body, most_in_module}
 use Rattle.depth_laws.specs.Brackets.{type_brackets, field_brackets, expr_brackets, suffix_brackets}

@@ -1,7 +1,7 @@
 -- How many brackets of a circuit are around one another (FIRRTL specification 3.0, "Types", "Expressions"): the `{` of a bundle, the `[`
 -- of a vector's length, of an element and of an index, and the `(` of a literal, of an operation and of a `mux`. The `<` of a width is no
 -- bracket. A length stands behind its type and not around it, and so does a suffix.
-use Rattle.std.specs.Prelude.{ℕ, ◌+◌, max, List, [], ◌∷◌}
+use Rattle.std.specs.Prelude.{ℕ, ◌+◌, max}
 use Rattle.fir_types.specs.declared.fir_type.FirType.{FirType, fold-FirType}
 use Rattle.fir_types.specs.declared.fir_type.Shape.TheOpen.{Shape-F}
 use Rattle.fir_types.specs.declared.fir_type.Field.{Field, fold-Field}

@@ -2,3 +2,4 @@ pub mod Blocks
 pub mod Parts
 pub mod Brackets
 pub mod Suffixes
+pub mod EmptyBlocks

@@ -1,7 +1,7 @@
 -- How many suffixes one reference or one type of a circuit has at most (FIRRTL specification 3.0, "Types", "Expressions"): the `.f`, `[3]`
 -- and `[e]` behind the name of a component, and the lengths `[n]` behind a type that is no vector. An index is a reference of its own,
 -- and so is the type of a field a type of its own.
-use Rattle.std.specs.Prelude.{ℕ, ◌+◌, max, List, [], ◌∷◌, length}
+use Rattle.std.specs.Prelude.{ℕ, ◌+◌, max, length}
 use Rattle.fir_types.specs.declared.fir_type.FirType.{FirType, fold-FirType}
 use Rattle.fir_types.specs.declared.fir_type.Shape.TheOpen.{Shape-F, Field-F}
 use Rattle.fir_types.specs.declared.fir_type.Field.{Field, fold-Field}
