@@ -1,6 +1,6 @@
 -- Lists without empty blocks.
 use Rattle.std.proofs.Common.{◌≡◌, ℕ, ◌+◌, List, [], ◌∷◌, Some, slice_get, refl, sym, subst, arith}
-use Rattle.std.specs.Prelude.{⊤, suc, zero}
+use Rattle.std.specs.Prelude.{suc, zero}
 use Rattle.fir_layout.specs.declared.laid.Laid.{Laid}
 use Rattle.fir_layout.specs.declared.laid.Laid.TheVariants.{Item, LineEnd, Open, Close, End}
 use Rattle.fir_grammar.proofs.Cases.{some_injective}

@@ -1,5 +1,5 @@
--- A block that a list spells with its marks and with nothing between them. The grammar has it (FIRRTL specification 3.0, "Conditionals"
--- and "Circuits and Modules" leave a block's statements out), and the tree doesn't tell it from a block that is left out.
+-- A block that a list spells with its marks and with nothing between them (FIRRTL specification 3.0, "Circuits and Modules",
+-- "Conditionals"). The grammar allows it, and the tree doesn't tell it from a block that is left out.
 use Rattle.std.specs.Prelude.{◌≡◌, ℕ, ◌+◌, List, slice_get, Some}
 use Rattle.fir_layout.specs.declared.laid.Laid.{Laid}
 use Rattle.fir_layout.specs.declared.laid.Laid.TheVariants.{Open, Close}
