@@ -1,5 +1,5 @@
 -- What stands as one UInt in a well typed module.
-use Rattle.std.proofs.Common.{◌≡◌, ℕ, Bool, true, false, cond, if◌then◌else◌, ◌&&◌, List, [], ◌∷◌, map, Option, Some, None, refl, sym, ap, ap₂, ◌∙◌, subst, arith, ⊎_elim}
+use Rattle.std.proofs.Common.{◌≡◌, ℕ, Bool, true, false, if◌then◌else◌, ◌&&◌, List, [], ◌∷◌, map, Option, Some, None, refl, sym, ap, ap₂, ◌∙◌, subst, arith, ⊎_elim}
 use Rattle.std.specs.Prelude.{Contains, is_some, option_map, option_and_then}
 use Rattle.std.specs.List.{list_all}
 use Rattle.std.proofs.lemmas.Grind.{common_steps}
@@ -21,18 +21,18 @@ use Rattle.fir_tree.specs.declared.stmt.Stmt.TheVariants as stmt
 use Rattle.fir_tree.specs.declared.stmt.Stmt.TheVariants.{rolls-When, rolls-RegReset}
 use Rattle.fir_tree.specs.declared.stmt.Stmt.TheOpen.{Stmt-F}
 use Rattle.fir_tree.specs.declared.stmt.Stmt.TheFolds.{map-Stmt, fold-roll-Stmt, fold-roll-Arm}
-use Rattle.fir_tree.specs.declared.stmt.Stmt.TheViews.{roll-Stmt, out-Stmt}
+use Rattle.fir_tree.specs.declared.stmt.Stmt.TheViews.{out-Stmt}
 use Rattle.fir_tree.specs.declared.stmt.Arm.{Arm, fold-Arm}
-use Rattle.cycle_values.specs.Shapes.{Shape, shaped, same_kind, is_unsigned, all_of, shape_of_row}
+use Rattle.cycle_values.specs.Shapes.{Shape, shaped, same_kind, all_of, shape_of_row}
 use Rattle.fir_meaning.specs.Components.{TypedModule}
 use Rattle.fir_meaning.specs.Values.{element_of_shape}
 use Rattle.fir_meaning.specs.WellTyped.{Known, known_in, typed, typed_step, type_behind, leaf_shape, lone_shape, wider_each, chosen_shapes, is_one_unsigned, is_typed, is_condition, of_stmt, of_arm, is_typed_stmt, are_typed, HasTypes}
 use Rattle.check_laws.specs.Faults.{StandsIn, itself, in_operation, in_choice, in_index}
-use Rattle.check_laws.proofs.Members.{nothing_in, head_in, tail_in, in_cases}
+use Rattle.check_laws.proofs.Members.{nothing_in, in_cases}
 use Rattle.check_laws.proofs.Typing.{some_same, none_some}
 use Rattle.node_laws.specs.Nodes.{expressions_in}
 use Rattle.node_laws.specs.Conditions.{BlockIn, itself as the_block, in_an_arm, otherwise, IsConditionIn, of_an_arm, StandsInBlock, in_a_condition, in_a_statement, IsOneUInt}
-use Rattle.node_laws.proofs.Layers.{Layer, layer_of}
+use Rattle.node_laws.proofs.Layers.{layer_of}
 
 -- The forms of an expression
 

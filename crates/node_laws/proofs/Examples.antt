@@ -1,5 +1,5 @@
 -- The node of `a is invalid`, and the condition of `when a : skip`.
-use Rattle.std.proofs.Common.{◌≡◌, ℕ, List, [], ◌∷◌, refl, sym, subst}
+use Rattle.std.proofs.Common.{List, [], ◌∷◌, refl, sym, subst}
 use Rattle.place_text.specs.declared.place.Place.{Place}
 use Rattle.fir_types.specs.declared.name.Name.{Name}
 use Rattle.fir_tree.specs.declared.expr.Expr.{Expr}
@@ -11,7 +11,7 @@ use Rattle.fir_tree.specs.declared.stmt.Arm.{Arm}
 use Rattle.check_laws.specs.Faults.{itself as the_expression}
 use Rattle.check_laws.specs.Nodes.{NodesOfEach, reference, no_operands, one_operand, no_steps}
 use Rattle.check_laws.proofs.Members.{head_in}
-use Rattle.node_laws.specs.Nodes.{Node, at, expressions_in, arms_in, else_in, behind_arms, NodesIn, no_statements, one_statement, NodesInArms, no_arms}
+use Rattle.node_laws.specs.Nodes.{at, expressions_in, arms_in, else_in, behind_arms, NodesIn, no_statements, one_statement, NodesInArms, no_arms}
 use Rattle.node_laws.specs.Conditions.{itself, IsConditionIn, of_an_arm, StandsInBlock, in_a_condition}
 
 abbrev place : Place

@@ -1,6 +1,6 @@
 -- In a circuit whose names mean something and whose types have no fault every node is a part.
-use Rattle.std.proofs.Common.{◌≡◌, ℕ, ◌+◌, Bool, true, false, cond, ◌==◌, zero, suc, ◌<◌, List, [], ◌∷◌, ◌++◌, map, length, Option, Some, None, refl, sym, ap, ◌∙◌, subst, arith, slice_get, ⊎_elim}
-use Rattle.std.specs.Prelude.{Contains, ⊤, is_some, find, option_map}
+use Rattle.std.proofs.Common.{◌≡◌, ℕ, ◌+◌, Bool, true, false, cond, ◌==◌, zero, suc, List, [], ◌∷◌, ◌++◌, map, length, Option, Some, None, refl, sym, ap, ◌∙◌, subst, arith}
+use Rattle.std.specs.Prelude.{Contains, is_some, find, option_map}
 use Rattle.std.specs.List.{AllZip, flat_map}
 use Rattle.std.proofs.lemmas.Bool.{eqb-false}
 use Rattle.fault_order.specs.First.{HasNone}
@@ -14,37 +14,35 @@ use Rattle.fir_tree.specs.declared.scope.Scope.{Scope}
 use Rattle.fir_tree.specs.declared.expr.Expr.{Expr}
 use Rattle.fir_tree.specs.declared.stmt.Stmt.{Stmt}
 use Rattle.fir_tree.specs.declared.stmt.Arm.{Arm}
-use Rattle.fir_tree.specs.declared.stmt.Stmt.TheOpen.{Stmt-F, Arm-F}
+use Rattle.fir_tree.specs.declared.stmt.Stmt.TheOpen.{Stmt-F}
 use Rattle.fir_tree.specs.declared.stmt.Stmt.TheFolds.{map-Stmt, fold-roll-Stmt, fold-roll-Arm}
 use Rattle.fir_tree.specs.declared.stmt.Stmt.TheViews.{out-Stmt}
 use Rattle.fir_names.specs.Extents.{Seen, Use, references, uses_in, instances_in}
 use Rattle.fir_names.specs.Parts as parts
 use Rattle.fir_names.specs.Parts.{stmt_part, arm_part}
-use Rattle.fir_names.specs.Scopes.{In, here, there, texts, FirstOf, Means, IsScope}
-use Rattle.fir_names.proofs.Graphs.{In-left, In-right, In-either, In-one, some_same}
+use Rattle.fir_names.specs.Scopes.{texts, FirstOf, Means, IsScope}
+use Rattle.fir_names.proofs.Graphs.{some_same}
 use Rattle.fir_names.proofs.Agreement.{sees_its_blocks, has_its_instances}
 use Rattle.circuit_parts.specs.declared.part.Part.{Part}
 use Rattle.circuit_parts.specs.declared.part.Flow.TheVariants.{Duplex}
 use Rattle.circuit_parts.specs.Parts.{part_of, source_of, port_flow, instance_in, instance_part}
-use Rattle.type_check.specs.Parts.{Known, component, known_with, where_typed}
-use Rattle.type_check.specs.Texts.{twice_in, stored_faults}
-use Rattle.type_check.specs.Memories.{memory_faults}
+use Rattle.type_check.specs.Parts.{Known, known_with, where_typed}
+use Rattle.type_check.specs.Texts.{stored_faults}
 use Rattle.type_check.specs.declared.fault.TypeFault.{TypeFault}
 use Rattle.type_check.specs.Expressions.{found_of, Has}
 use Rattle.type_check.specs.Faults.{IsFault}
-use Rattle.type_check.specs.Statements.{Walk, and_then, in_turn, expects, condition_faults, clock_faults, init_faults, node_faults, stmt_walk, arm_walk, port_walk, module_walk, types_of}
-use Rattle.check_laws.specs.Typing.{IsPart}
-use Rattle.check_laws.specs.Faults.{StandsIn, itself}
-use Rattle.check_laws.specs.Nodes.{NodesOf, NodesOfEach, no_operands, one_operand}
+use Rattle.type_check.specs.Statements.{Walk, and_then, in_turn, expects, condition_faults, clock_faults, init_faults, stmt_walk, arm_walk, port_walk, module_walk, types_of}
+use Rattle.check_laws.specs.Faults.{itself}
+use Rattle.check_laws.specs.Nodes.{NodesOfEach, no_operands, one_operand}
 use Rattle.check_laws.proofs.Typing.{found_is}
-use Rattle.check_laws.proofs.Members.{nothing_in, head_in, tail_in}
+use Rattle.check_laws.proofs.Members.{head_in, tail_in}
 use Rattle.circuit_laws.specs.Names.{Every}
 use Rattle.circuit_laws.proofs.Alone.{every-append, every-left, every-right}
-use Rattle.circuit_laws.proofs.Scoping.{IsNamed, AllNamed, every_named, named_within}
+use Rattle.circuit_laws.proofs.Scoping.{IsNamed, AllNamed, every_named}
 use Rattle.node_laws.specs.Nodes.{Node, at, expressions_in, arms_in, else_in, behind_arms, ports_of, NodesIn, no_statements, one_statement, NodesInArms, no_arms, one_arm, NodesOfModules, no_modules, one_module, NodesOfCircuit, IsListed, a_part, no_part, HasThree}
-use Rattle.node_laws.proofs.Layers.{Layer, layer_of}
+use Rattle.node_laws.proofs.Layers.{layer_of}
 use Rattle.node_laws.proofs.Tables.{Listed, table_lists, arms_walk, block_walk, layer_walk, stmt_is, arm_is}
-use Rattle.node_laws.proofs.Standing.{IsIn, HasPart, some_is, nodes_have_parts, holds_within}
+use Rattle.node_laws.proofs.Standing.{IsIn, HasPart, nodes_have_parts, holds_within}
 use Rattle.node_laws.proofs.Known.{has, Kept, kept_with, with_itself, SeenIn, seen_more, named_known}
 
 left_empty : {X : Type 0} (xs ys : List X) → xs ++ ys ≡ [] → xs ≡ []

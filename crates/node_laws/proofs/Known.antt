@@ -6,7 +6,7 @@ use Rattle.std.proofs.lemmas.Bool.{eq-eqb}
 use Rattle.fir_types.specs.declared.name.Name.{Name}
 use Rattle.circuit_parts.specs.declared.part.Part.{Part}
 use Rattle.type_check.specs.Parts.{Known, component, known_with}
-use Rattle.fir_names.specs.Extents.{Seen, Use}
+use Rattle.fir_names.specs.Extents.{Seen}
 use Rattle.fir_names.specs.Scopes.{In}
 use Rattle.fir_names.proofs.Graphs.{In-either, In-one}
 use Rattle.circuit_laws.specs.Names.{Every}

@@ -1,9 +1,8 @@
 -- Statements by their layers, and what stands in a list.
-use Rattle.std.proofs.Common.{◌≡◌, List, [], ◌∷◌, map, refl, sym, ap, ◌∙◌, subst, ⊎_elim}
-use Rattle.std.specs.Prelude.{Contains}
+use Rattle.std.proofs.Common.{◌≡◌, refl, ap, ◌∙◌, subst}
 use Rattle.fir_tree.specs.declared.stmt.Stmt.{Stmt, ind-Stmt}
 use Rattle.fir_tree.specs.declared.stmt.Arm.{Arm}
-use Rattle.fir_tree.specs.declared.stmt.Stmt.TheOpen.{Stmt-F, Arm-F}
+use Rattle.fir_tree.specs.declared.stmt.Stmt.TheOpen.{Stmt-F}
 use Rattle.fir_tree.specs.declared.stmt.Stmt.TheFolds.{map-Stmt}
 use Rattle.fir_tree.specs.declared.stmt.Stmt.TheViews.{roll-Stmt, out-Stmt}
 use Rattle.fir_tree.specs.declared.stmt.Stmt.TheVariants.{rolls-Wire, rolls-Reg, rolls-RegReset, rolls-Mem, rolls-Inst, rolls-Node, rolls-Connect, rolls-Invalidate, rolls-When, rolls-Skip, outs-Wire, outs-Reg, outs-RegReset, outs-Mem, outs-Inst, outs-Node, outs-Connect, outs-Invalidate, outs-When, outs-Skip}

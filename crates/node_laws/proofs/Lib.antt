@@ -1,8 +1,8 @@
-mod Layers
+pub mod Layers
 mod Conditions
 mod Tables
 mod Once
 mod Standing
 mod Known
-mod Faultless
+pub mod Faultless
 mod Examples

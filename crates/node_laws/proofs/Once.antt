@@ -1,5 +1,5 @@
 -- Each circuit has one list of nodes.
-use Rattle.std.proofs.Common.{◌≡◌, ℕ, List, [], ◌∷◌, ◌++◌, map, refl, sym, ap, ap₂, ◌∙◌, subst}
+use Rattle.std.proofs.Common.{◌≡◌, List, [], ◌∷◌, ◌++◌, map, refl, sym, ap, ap₂, ◌∙◌, subst}
 use Rattle.fir_tree.specs.declared.circuit.Circuit.{Circuit}
 use Rattle.fir_tree.specs.declared.circuit.Module.{Module}
 use Rattle.fir_tree.specs.declared.expr.Expr.{Expr}

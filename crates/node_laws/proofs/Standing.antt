@@ -1,5 +1,5 @@
 -- Expressions among their nodes and their names.
-use Rattle.std.proofs.Common.{◌≡◌, ℕ, Bool, true, List, [], ◌∷◌, ◌++◌, map, Option, Some, None, refl, sym, ap, ◌∙◌, subst, arith, ⊎_elim}
+use Rattle.std.proofs.Common.{◌≡◌, ℕ, true, List, [], ◌∷◌, map, Option, Some, None, refl, sym, ap, ◌∙◌, subst, arith, ⊎_elim}
 use Rattle.std.specs.Prelude.{Contains, is_some, flat_map}
 use Rattle.std.proofs.lemmas.Grind.{common_steps}
 use Rattle.fault_order.specs.First.{HasNone}
@@ -12,7 +12,7 @@ use Rattle.fir_types.specs.declared.name.Name.{Name}
 use Rattle.fir_tree.specs.declared.expr.Expr.{Expr, the_lemmas}
 use Rattle.fir_tree.specs.declared.expr.Form.{Form}
 use Rattle.fir_tree.specs.declared.expr.Suffix.{Suffix}
-use Rattle.fir_tree.specs.declared.expr.Form.TheOpen.{Form-F, Suffix-F}
+use Rattle.fir_tree.specs.declared.expr.Form.TheOpen.{Form-F}
 use Rattle.fir_tree.specs.declared.expr.Form.TheViews.{out-Form, out-Suffix}
 use Rattle.fir_tree.specs.declared.expr.Form.TheVariants as form
 use Rattle.fir_tree.specs.declared.expr.Form.TheVariants.{outs-Ref, outs-Literal, outs-Prim, outs-Mux}
@@ -28,7 +28,7 @@ use Rattle.check_laws.specs.Nodes.{NodesOf, reference, literal, operation, choic
 use Rattle.check_laws.proofs.Members.{nothing_in, in_cases}
 use Rattle.check_laws.proofs.Typed.{all_nodes_have}
 use Rattle.circuit_laws.specs.Names.{Every}
-use Rattle.circuit_laws.proofs.Alone.{every-append, every-left, every-right}
+use Rattle.circuit_laws.proofs.Alone.{every-left, every-right}
 use Rattle.node_laws.specs.Nodes.{HasThree}
 
 -- The forms of a node

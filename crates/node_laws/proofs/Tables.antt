@@ -1,6 +1,6 @@
 -- The table of types lists the nodes of a circuit in text order.
 use Rattle.std.proofs.Common.{◌≡◌, List, [], ◌∷◌, ◌++◌, map, refl, sym, ap, ◌∙◌, subst, append_assoc, append-nil}
-use Rattle.std.specs.Prelude.{⊤, flat_map}
+use Rattle.std.specs.Prelude.{flat_map}
 use Rattle.std.specs.List.{AllZip}
 use Rattle.std.proofs.lemmas.List.{map-append}
 use Rattle.fir_types.specs.declared.fir_type.FirType.{FirType}
@@ -10,16 +10,16 @@ use Rattle.fir_tree.specs.declared.circuit.Module.{Module}
 use Rattle.fir_tree.specs.declared.expr.Expr.{Expr}
 use Rattle.fir_tree.specs.declared.stmt.Stmt.{Stmt}
 use Rattle.fir_tree.specs.declared.stmt.Arm.{Arm}
-use Rattle.fir_tree.specs.declared.stmt.Stmt.TheOpen.{Stmt-F, Arm-F}
+use Rattle.fir_tree.specs.declared.stmt.Stmt.TheOpen.{Stmt-F}
 use Rattle.fir_tree.specs.declared.stmt.Stmt.TheFolds.{map-Stmt, fold-roll-Stmt, fold-roll-Arm}
 use Rattle.fir_tree.specs.declared.stmt.Stmt.TheViews.{out-Stmt}
 use Rattle.type_check.specs.Parts.{Known}
 use Rattle.type_check.specs.Expressions.{found_of}
-use Rattle.type_check.specs.Statements.{Walk, Findings, and_then, in_turn, expects, condition_faults, of_stmt, of_arm, stmt_walk, arm_walk, port_walk, module_walk, types_of}
-use Rattle.check_laws.specs.Nodes.{NodesOf, NodesOfEach, no_operands, one_operand, ListTypes, no_nodes, a_part as lists_part, no_part as lists_none}
+use Rattle.type_check.specs.Statements.{Walk, and_then, in_turn, expects, condition_faults, of_stmt, of_arm, stmt_walk, arm_walk, port_walk, module_walk, types_of}
+use Rattle.check_laws.specs.Nodes.{NodesOfEach, no_operands, one_operand, ListTypes, no_nodes, a_part as lists_part, no_part as lists_none}
 use Rattle.check_laws.proofs.Nodes.{types_in_order}
 use Rattle.node_laws.specs.Nodes.{Node, at, expressions_in, arms_in, else_in, behind_arms, ports_of, NodesIn, no_statements, one_statement, NodesInArms, no_arms, one_arm, NodesOfModules, no_modules, one_module, NodesOfCircuit, IsListed, a_part, no_part}
-use Rattle.node_laws.proofs.Layers.{Layer, layer_of}
+use Rattle.node_laws.proofs.Layers.{layer_of}
 
 abbrev pub Listed : List Node → List FirType → Type 0
 Listed = AllZip IsListed
