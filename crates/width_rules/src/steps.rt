@@ -1,6 +1,6 @@
 //! The steps of references.
 
-ghost use Rattle.std.specs.Prelude.{◌≡◌, map, take, drop, IfSome};
+ghost use Rattle.std.specs.Prelude.{◌≡◌, ◌≤◌, ◌-◌, ◌^◌, map, take, drop, length, IfSome};
 ghost use Rattle.circuit_parts.specs.Parts.{flow_through, field_part, element_part};
 ghost use Rattle.width_rules.specs.Places.{field_slots, slots_of_field};
 ghost use Rattle.width_rules.specs.Sources.{field_step, element_step, named, suffix_step};
@@ -95,7 +95,8 @@ fn indexed_field<'a>(component: &'a Indexed, name: u32) -> Option<View<'a>>
 
 /// So many widths behind so many others.
 fn slots_behind(slots: &[Slot], before: usize, count: usize) -> &[Slot]
-    ensures { result.now ≡ take count (drop before slots.now) }
+    ensures own { result.now ≡ take count (drop before slots.now) }
+    ensures short { length slots.now ≤ 2 ^ 64 - 1 }
 {
     let (_, behind) = slots.split_at(before.min(slots.len()));
     let (own, _) = behind.split_at(count.min(behind.len()));
