@@ -47,7 +47,7 @@ at_first name (x ∷ xs) slots i f is lt got = by (x.name.id == name) (first_at 
   where
     by : (b : Bool) (o : Option ℕ) → first_at xs name ≡ o → cond b (Some 0) (option_map suc o) ≡ Some i
         → ((j : ℕ) → first_at xs name ≡ Some j → j < length xs → f ≡ get_or xs j f
-            → (find (λ y. y.name.id == name) xs ≡ Some f) × (field_slots name xs (drop (size x.typ) slots) ≡ take (size f.typ) (drop (before xs j) (drop (size x.typ) slots))))
+        → (find (λ y. y.name.id == name) xs ≡ Some f) × (field_slots name xs (drop (size x.typ) slots) ≡ take (size f.typ) (drop (before xs j) (drop (size x.typ) slots))))
         → (cond b (Some x) (find (λ y. y.name.id == name) xs) ≡ Some f)
         × (cond b (take (size x.typ) slots) (field_slots name xs (drop (size x.typ) slots)) ≡ take (size f.typ) (drop (before (x ∷ xs) i) slots))
     by true o e is tail =

@@ -9,8 +9,8 @@ ghost use Rattle.width_rules.specs.Sources.{component, known_with};
 ghost use Rattle.width_rules.specs.Circuits.{in_turn, declares, declares_with, declares_memory, names_node, connects, invalidates, places_for};
 ghost use Rattle.width_rules.specs.Walks.{Walks, memory_component, declares_component, stmt_walk_among, arm_walk_among};
 
-use crate::indexed::Indexed;
 use crate::driving::{push_connected, push_invalidated, push_node};
+use crate::indexed::Indexed;
 use crate::measuring::{Measure, formulas_of, look_up, measure_expr, no_component};
 use crate::memories::port_slots;
 use crate::rule::Rule;
