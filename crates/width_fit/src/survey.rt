@@ -22,7 +22,7 @@ use indexmap::IndexMap;
 use place_text::Place;
 use prim_ops::{Prim, Width};
 use std::alloc::{AllocError, Global};
-use width_rules::component::Component;
+use width_rules::indexed::Indexed;
 use width_rules::measuring::{look_up, no_component, row_of, width_of};
 use width_rules::steps::walk_steps;
 use width_rules::widths::bounded;
@@ -33,7 +33,7 @@ use width_rules::widths::bounded;
 pub fn survey_expr(
     alloc: Global,
     widths: &[Width],
-    known: &IndexMap<u32, Component>,
+    known: &IndexMap<u32, Indexed>,
     found: &mut Findings,
     expr: &Expr,
 ) -> Result<Surveyed, AllocError>
@@ -54,7 +54,7 @@ pub fn survey_expr(
 fn survey_form(
     alloc: Global,
     widths: &[Width],
-    known: &IndexMap<u32, Component>,
+    known: &IndexMap<u32, Indexed>,
     found: &mut Findings,
     expr: &Expr,
 ) -> Result<Surveyed, AllocError>
@@ -93,7 +93,7 @@ fn survey_form(
 fn survey_all(
     alloc: Global,
     widths: &[Width],
-    known: &IndexMap<u32, Component>,
+    known: &IndexMap<u32, Indexed>,
     found: &mut Findings,
     exprs: &[Expr],
 ) -> Result<Vec<Surveyed>, AllocError>
@@ -111,7 +111,7 @@ fn survey_all(
 fn survey_reference(
     alloc: Global,
     widths: &[Width],
-    known: &IndexMap<u32, Component>,
+    known: &IndexMap<u32, Indexed>,
     found: &mut Findings,
     place: Place,
     name: u32,
@@ -131,7 +131,7 @@ fn survey_reference(
 fn survey_indexes(
     alloc: Global,
     widths: &[Width],
-    known: &IndexMap<u32, Component>,
+    known: &IndexMap<u32, Indexed>,
     found: &mut Findings,
     suffixes: &[Suffix],
 ) -> Result<(), AllocError>
@@ -147,7 +147,7 @@ fn survey_indexes(
 fn survey_index(
     alloc: Global,
     widths: &[Width],
-    known: &IndexMap<u32, Component>,
+    known: &IndexMap<u32, Indexed>,
     found: &mut Findings,
     suffix: &Suffix,
 ) -> Result<(), AllocError>
@@ -163,7 +163,7 @@ fn survey_index(
 fn reference(
     alloc: Global,
     widths: &[Width],
-    known: &IndexMap<u32, Component>,
+    known: &IndexMap<u32, Indexed>,
     place: Place,
     name: u32,
     suffixes: &[Suffix],

@@ -19,7 +19,7 @@ use fir_tree::Checked;
 use fir_types::{FirType, Port};
 use indexmap::IndexMap;
 use std::alloc::{AllocError, Global};
-use width_rules::component::Component;
+use width_rules::indexed::Indexed;
 use width_rules::gathering::{Ported, instances_of, note_ports, with_ports};
 use width_rules::slot::Slot;
 use width_rules::{Rules, Widths};
@@ -58,7 +58,7 @@ pub fn tell(
 fn walk_modules(
     alloc: Global,
     given: &Given<'_>,
-    instances: &IndexMap<u32, Component>,
+    instances: &IndexMap<u32, Indexed>,
     walk: &mut Walk,
     modules: Vec<Ported<'_>>,
     reached: &[bool],
@@ -89,7 +89,7 @@ fn take_flag(flags: &[bool]) -> (bool, &[bool])
 fn walk_reached(
     alloc: Global,
     given: &Given<'_>,
-    instances: &IndexMap<u32, Component>,
+    instances: &IndexMap<u32, Indexed>,
     walk: &mut Walk,
     held: Ported<'_>,
     is_reached: bool,
@@ -107,7 +107,7 @@ fn walk_reached(
 fn walk_module(
     alloc: Global,
     given: &Given<'_>,
-    instances: &IndexMap<u32, Component>,
+    instances: &IndexMap<u32, Indexed>,
     walk: &mut Walk,
     held: Ported<'_>,
 ) -> Result<(), AllocError>

@@ -22,18 +22,18 @@ use indexmap::IndexMap;
 use place_text::Place;
 use prim_ops::Width;
 use std::alloc::{AllocError, Global};
-use width_rules::component::Component;
+use width_rules::indexed::Indexed;
 use width_rules::measuring::{look_up, no_component};
 use width_rules::memories::port_slots;
 use width_rules::sizes::variables;
 use width_rules::slot::Slot;
-use width_rules::walk::{copy_component, duplex, note, slots_of_type};
+use width_rules::walk::{duplex, note, slots_of_type};
 
 /// What a walk has come to.
 #[derive(Drop)]
 pub struct Walk {
     /// The components of the module that are declared so far, by the numbers of their names.
-    pub known: IndexMap<u32, Component>,
+    pub known: IndexMap<u32, Indexed>,
     /// For each variable so far the place of its component.
     pub places: Vec<Place>,
     /// The fitted types of declarations in text order.
@@ -46,7 +46,7 @@ pub struct Walk {
 pub fn walk_statements(
     alloc: Global,
     given: &Given<'_>,
-    instances: &IndexMap<u32, Component>,
+    instances: &IndexMap<u32, Indexed>,
     walk: &mut Walk,
     statements: &[Stmt],
 ) -> Result<(), AllocError>
@@ -62,7 +62,7 @@ pub fn walk_statements(
 fn walk_statement(
     alloc: Global,
     given: &Given<'_>,
-    instances: &IndexMap<u32, Component>,
+    instances: &IndexMap<u32, Indexed>,
     walk: &mut Walk,
     statement: &Stmt,
 ) -> Result<(), AllocError>
@@ -102,7 +102,7 @@ fn walk_statement(
 fn walk_arms(
     alloc: Global,
     given: &Given<'_>,
-    instances: &IndexMap<u32, Component>,
+    instances: &IndexMap<u32, Indexed>,
     walk: &mut Walk,
     arms: &[Arm],
 ) -> Result<(), AllocError>
@@ -118,7 +118,7 @@ fn walk_arms(
 fn walk_arm(
     alloc: Global,
     given: &Given<'_>,
-    instances: &IndexMap<u32, Component>,
+    instances: &IndexMap<u32, Indexed>,
     walk: &mut Walk,
     arm: &Arm,
 ) -> Result<(), AllocError>
@@ -170,7 +170,8 @@ fn declare_storage(
         widths.as_slice(),
     )?;
     let part = duplex(alloc, typ)?;
-    note(&mut walk.known, name.id, Component { part, slots })
+    let component = Indexed::new(alloc, part, slots)?;
+    note(&mut walk.known, name.id, component)
 }
 
 /// A memory, whose ports share the widths of its elements.
@@ -197,7 +198,8 @@ fn declare_memory(
     let fitted = walk.found.made.fit_memory(alloc, &typ, widths.as_slice())?;
     walk.declared.push(fitted)?;
     let part = source(typ);
-    note(&mut walk.known, memory.name.id, Component { part, slots })
+    let component = Indexed::new(alloc, part, slots)?;
+    note(&mut walk.known, memory.name.id, component)
 }
 
 /// The widths of a memory's elements, and those of all its ports.
@@ -222,7 +224,7 @@ fn memory_slots(
 fn declare_instance(
     alloc: Global,
     given: &Given<'_>,
-    instances: &IndexMap<u32, Component>,
+    instances: &IndexMap<u32, Indexed>,
     walk: &mut Walk,
     name: Name,
     target: Name,
@@ -230,9 +232,9 @@ fn declare_instance(
     ensures { OnOk result (Walks (of_instance_among (solved given.now) instances.now.entries name target) walk.old walk.new) }
 {
     let nothing = no_component(alloc)?;
-    let instance = copy_component(alloc, look_up(instances, target.id, &nothing))?;
-    let widths = slot_widths(alloc, given.widths, instance.slots.as_slice())?;
-    let typ = &instance.part.typ;
+    let instance = look_up(instances, target.id, &nothing).share()?;
+    let widths = slot_widths(alloc, given.widths, instance.get().slots.as_slice())?;
+    let typ = &instance.get().part.typ;
     let fitted = walk.found.made.fit(alloc, typ, widths.as_slice())?;
     walk.declared.push(fitted)?;
     note(&mut walk.known, name.id, instance)
@@ -261,7 +263,8 @@ fn declare_node(
         widths.as_slice(),
     )?;
     let part = source(part.typ);
-    note(&mut walk.known, name.id, Component { part, slots })
+    let component = Indexed::new(alloc, part, slots)?;
+    note(&mut walk.known, name.id, component)
 }
 
 /// Adds the faults of a component at this place, whose widths these are.

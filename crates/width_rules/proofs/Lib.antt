@@ -1,5 +1,6 @@
 pub mod FormulaLemmas
 pub mod Growing
+pub mod Indexing
 pub mod Least
 pub mod Making
 pub mod Monotone

@@ -12,6 +12,8 @@ use Rattle.fir_types.specs.Memories.{element_of, depth_of, first_or, element_in,
 use Rattle.fir_tree.specs.declared.stmt.Stmt.{fold-Stmt}
 use Rattle.fir_tree.specs.declared.stmt.Stmt.TheOpen.{Stmt-F}
 use Rattle.circuit_parts.proofs.Turns.{Turns, walks_push as one_more}
+use Rattle.circuit_parts.specs.declared.part.Part.{Part}
+use Rattle.width_rules.specs.declared.component.Component.{Component}
 use Rattle.width_rules.specs.declared.slot.Slot.{Slot}
 use Rattle.width_rules.specs.declared.walk.Found.{Found}
 use Rattle.width_rules.specs.Layers.{line_widths}
@@ -84,6 +86,10 @@ memory_told memory ls typ widths slots n is t w s =
     let own : widths ≡ slots_from n (spots (element_of memory)) = w ∙ ap (λ x. slots_from n (spots x)) element in
     s ∙ ap₂ (λ x l. flat_map (line_widths x (first_or 1 (filter_map depth_in l)) widths) l) element is
     ∙ ap (λ l. flat_map (line_widths (element_of memory) (depth_of memory) l) memory.lines) own ∙ lines_are memory (slots_from n (spots (element_of memory))) memory.lines
+
+-- a component of these parts
+pub component_is : (component : Component) {part other : Part} {slots more : List Slot} → part ≡ other → slots ≡ more → component ≡ record { part = part; slots = slots } → component ≡ record { part = other; slots = more }
+component_is component {part} {other} {slots} {more} p s is = is ∙ (λ i. record { part = p i; slots = s i })
 
 -- Instances by their list
 

@@ -8,3 +8,4 @@ pub mod Solutions
 pub mod Layers
 pub mod Parts
 pub mod Walks
+pub mod Indexes

@@ -1,12 +1,12 @@
 //! What is known of a component, or of a part of one.
 
 use crate::slot::Slot;
-use bit_words::List;
+use bit_words::SharedList;
 use circuit_parts::Part;
 
 /// A component or a part of one, with the widths of its type's places.
 #[derive(Debug, Drop)]
 pub struct Component {
     pub part: Part,
-    pub slots: List<Slot>,
+    pub slots: SharedList<Slot>,
 }

@@ -5,7 +5,7 @@ ghost use Rattle.width_rules.specs.Circuits.{rules_in, ports_from, port_places, 
 ghost use Rattle.width_rules.specs.Walks.{AreInstances, ported, body_among, bodies_among, WalksBodies};
 ghost use Rattle.width_rules.specs.Solutions.{AreRules};
 
-use crate::component::Component;
+use crate::indexed::Indexed;
 use crate::memories::push_all;
 use crate::rule::Rules;
 use crate::slot::Slot;
@@ -85,7 +85,7 @@ fn ports_of(
 pub fn instances_of(
     alloc: Global,
     modules: &[Ported<'_>],
-) -> Result<IndexMap<u32, Component>, AllocError>
+) -> Result<IndexMap<u32, Indexed>, AllocError>
     ensures { IfOk result (λ instances. AreInstances (map ported modules.now) instances.entries) }
 {
     let mut instances = IndexMap::new(alloc);
@@ -96,12 +96,12 @@ pub fn instances_of(
     Ok(instances)
 }
 
-fn instance_of(alloc: Global, held: &Ported<'_>) -> Result<Component, AllocError>
+fn instance_of(alloc: Global, held: &Ported<'_>) -> Result<Indexed, AllocError>
     ensures { IfOk result (λ component. component ≡ instance_component (ported held.now)) }
 {
     let part = source(instance_type(alloc, held.holder.ports.as_slice())?);
     let slots = joined(alloc, held.ports.as_slice())?;
-    Ok(Component { part, slots })
+    Indexed::new(alloc, part, slots)
 }
 
 /// The widths of all ports, one port behind another.
@@ -118,7 +118,7 @@ fn joined(alloc: Global, ports: &[List<Slot>]) -> Result<List<Slot>, AllocError>
 /// The bodies of modules in order.
 fn walk_bodies(
     alloc: Global,
-    instances: &IndexMap<u32, Component>,
+    instances: &IndexMap<u32, Indexed>,
     found: &mut Found,
     modules: Vec<Ported<'_>>,
 ) -> Result<(), AllocError>
@@ -132,7 +132,7 @@ fn walk_bodies(
 
 fn walk_body(
     alloc: Global,
-    instances: &IndexMap<u32, Component>,
+    instances: &IndexMap<u32, Indexed>,
     found: &mut Found,
     held: Ported<'_>,
 ) -> Result<(), AllocError>
@@ -152,7 +152,7 @@ fn walk_body(
 /// Notes the ports of a module as components.
 pub fn note_ports(
     alloc: Global,
-    known: &mut IndexMap<u32, Component>,
+    known: &mut IndexMap<u32, Indexed>,
     ports: &[Port],
     widths: List<List<Slot>>,
 ) -> Result<(), AllocError>
@@ -167,7 +167,7 @@ pub fn note_ports(
             typ: copy(&port.typ)?,
             flow: port_flow(port),
         };
-        note(known, port.name.id, Component { part, slots })?;
+        note(known, port.name.id, Indexed::new(alloc, part, slots)?)?;
     }
     Ok(())
 }

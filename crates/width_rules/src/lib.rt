@@ -7,6 +7,7 @@
 pub mod component;
 mod driving;
 pub mod gathering;
+pub mod indexed;
 pub mod laws;
 pub mod measuring;
 pub mod memories;

@@ -8,7 +8,7 @@ ghost use Rattle.circuit_parts.specs.Kinds.{sign_of, ground, sign_or_unsigned};
 ghost use Rattle.width_rules.specs.Sources.{component, component_or_none, named, measured, measured_reference, suffix_step, formula_of, literal_width, lone, kind_of, greater_of, choice};
 ghost use Rattle.width_rules.specs.Parts.{measured_by, operation_over};
 
-use crate::component::Component;
+use crate::indexed::Indexed;
 use crate::rule::Formula;
 use crate::slot::Slot;
 use crate::steps::walk_steps;
@@ -35,7 +35,7 @@ pub struct Measure {
 #[cycle(measure)]
 pub fn measure_expr(
     alloc: Global,
-    known: &IndexMap<u32, Component>,
+    known: &IndexMap<u32, Indexed>,
     expr: &Expr,
 ) -> Result<Measure, AllocError>
     ensures { IfOk result (λ m. measured_by m ≡ measured expr.now known.now.entries) }
@@ -58,7 +58,7 @@ pub fn measure_expr(
 #[cycle(measure)]
 fn measure_operands(
     alloc: Global,
-    known: &IndexMap<u32, Component>,
+    known: &IndexMap<u32, Indexed>,
     operands: &[Expr],
     kinds: &mut List<Kind>,
     formulas: &mut List<Formula>,
@@ -78,7 +78,7 @@ fn measure_operands(
 #[cycle(measure)]
 fn measure_choice(
     alloc: Global,
-    known: &IndexMap<u32, Component>,
+    known: &IndexMap<u32, Indexed>,
     operands: &[Expr],
 ) -> Result<Measure, AllocError>
     ensures { IfOk result (λ m. measured_by m ≡ choice (map (λ e. measured e known.now.entries) operands.now)) }
@@ -130,7 +130,7 @@ fn pair(alloc: Global, first: Formula, second: Formula) -> Result<Formula, Alloc
 
 fn reference(
     alloc: Global,
-    known: &IndexMap<u32, Component>,
+    known: &IndexMap<u32, Indexed>,
     name: u32,
     suffixes: &[Suffix],
 ) -> Result<Measure, AllocError>
@@ -150,10 +150,10 @@ fn reference(
 
 /// The component of a name, or the other one.
 pub fn look_up<'a>(
-    known: &'a IndexMap<u32, Component>,
+    known: &'a IndexMap<u32, Indexed>,
     name: u32,
-    nothing: &'a Component,
-) -> &'a Component
+    nothing: &'a Indexed,
+) -> &'a Indexed
     requires { nothing.now ≡ component_or_none None }
     ensures { result.now ≡ component known.now.entries name }
 {
@@ -164,13 +164,10 @@ pub fn look_up<'a>(
 }
 
 /// What stands for a component that isn't known.
-pub fn no_component(alloc: Global) -> Result<Component, AllocError>
+pub fn no_component(alloc: Global) -> Result<Indexed, AllocError>
     ensures { IfOk result (λ nothing. nothing ≡ component_or_none None) }
 {
-    Ok(Component {
-        part: no_part(alloc)?,
-        slots: List::new(alloc),
-    })
+    Indexed::new(alloc, no_part(alloc)?, List::new(alloc))
 }
 
 /// Widths as formulas.

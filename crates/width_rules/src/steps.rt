@@ -1,12 +1,13 @@
 //! The steps of references.
 
-ghost use Rattle.std.specs.Prelude.{◌≡◌, map};
+ghost use Rattle.std.specs.Prelude.{◌≡◌, ◌≤◌, ◌-◌, ◌^◌, map, take, drop, length, IfSome};
 ghost use Rattle.circuit_parts.specs.Parts.{flow_through, field_part, element_part};
 ghost use Rattle.width_rules.specs.Places.{field_slots, slots_of_field};
 ghost use Rattle.width_rules.specs.Sources.{field_step, element_step, named, suffix_step};
 ghost use Rattle.width_rules.specs.Parts.{viewed};
 
 use crate::component::Component;
+use crate::indexed::Indexed;
 use crate::sizes::size;
 use crate::slot::Slot;
 use circuit_parts::Flow;
@@ -22,19 +23,84 @@ pub struct View<'a> {
     pub slots: &'a [Slot],
 }
 
-/// The part that a reference names. Takes no memory.
-pub fn walk_steps<'a>(component: &'a Component, suffixes: &[Suffix]) -> View<'a>
+/// The part that a reference names. Takes no memory. A first step to a field is by the index where there is one.
+pub fn walk_steps<'a>(component: &'a Indexed, suffixes: &[Suffix]) -> View<'a>
     ensures { viewed result ≡ named (map suffix_step suffixes.now) component.now }
 {
-    let mut view = View {
-        typ: &component.part.typ,
-        flow: component.part.flow,
-        slots: component.slots.as_slice(),
-    };
+    match suffixes.split_first() {
+        Some((first, others)) => walk_on(first_step(component, first), others),
+        None => whole(component.get()),
+    }
+}
+
+fn walk_on<'a>(from: View<'a>, suffixes: &[Suffix]) -> View<'a>
+    ensures { viewed result ≡ named (map suffix_step suffixes.now) (viewed from.entry) }
+{
+    let mut view = from;
     for suffix in suffixes {
         view = step(view, suffix);
     }
     view
+}
+
+/// A whole component.
+fn whole(component: &Component) -> View<'_>
+    ensures { viewed result ≡ component.now }
+{
+    View {
+        typ: &component.part.typ,
+        flow: component.part.flow,
+        slots: component.slots.as_slice(),
+    }
+}
+
+fn first_step<'a>(component: &'a Indexed, suffix: &Suffix) -> View<'a>
+    ensures { viewed result ≡ suffix_step suffix.now component.now }
+{
+    match suffix {
+        Suffix::Field(name) => first_field(component, name.id),
+        Suffix::At(_, _, _) | Suffix::Index(_, _) => step_to_element(whole(component.get())),
+    }
+}
+
+fn first_field<'a>(component: &'a Indexed, name: u32) -> View<'a>
+    ensures { viewed result ≡ field_step name component.now }
+{
+    match indexed_field(component, name) {
+        Some(view) => view,
+        None => step_to_field(whole(component.get()), name),
+    }
+}
+
+/// The field of a name, if there is an index that has one. Takes constant time.
+fn indexed_field<'a>(component: &'a Indexed, name: u32) -> Option<View<'a>>
+    ensures { IfSome result (λ view. viewed view ≡ field_step name component.now) }
+{
+    let Some(place) = component.place(name) else {
+        return None;
+    };
+    let inside = component.get();
+    let Shape::Bundle(fields) = &inside.part.typ.shape else {
+        return None;
+    };
+    let Some(field) = fields.as_slice().get(place.position) else {
+        return None;
+    };
+    Some(View {
+        typ: &field.typ,
+        flow: through(field.flip, inside.part.flow),
+        slots: slots_behind(inside.slots.as_slice(), place.before, size(&field.typ)),
+    })
+}
+
+/// So many widths behind so many others.
+fn slots_behind(slots: &[Slot], before: usize, count: usize) -> &[Slot]
+    ensures own { result.now ≡ take count (drop before slots.now) }
+    ensures short { length slots.now ≤ 2 ^ 64 - 1 }
+{
+    let (_, behind) = slots.split_at(before.min(slots.len()));
+    let (own, _) = behind.split_at(count.min(behind.len()));
+    own
 }
 
 fn step<'a>(view: View<'a>, suffix: &Suffix) -> View<'a>

@@ -9,8 +9,8 @@ ghost use Rattle.width_rules.specs.Sources.{component, known_with};
 ghost use Rattle.width_rules.specs.Circuits.{in_turn, declares, declares_with, declares_memory, names_node, connects, invalidates, places_for};
 ghost use Rattle.width_rules.specs.Walks.{Walks, memory_component, declares_component, stmt_walk_among, arm_walk_among};
 
-use crate::component::Component;
 use crate::driving::{push_connected, push_invalidated, push_node};
+use crate::indexed::Indexed;
 use crate::measuring::{Measure, formulas_of, look_up, measure_expr, no_component};
 use crate::memories::port_slots;
 use crate::rule::Rule;
@@ -29,7 +29,7 @@ use std::alloc::{AllocError, Global};
 #[derive(Drop)]
 pub struct Found {
     /// The components of the module that are declared so far, by the numbers of their names.
-    pub known: IndexMap<u32, Component>,
+    pub known: IndexMap<u32, Indexed>,
     /// For each variable the place of its component.
     pub places: Vec<Place>,
     pub rules: Vec<Rule>,
@@ -39,7 +39,7 @@ pub struct Found {
 #[cycle(walk)]
 pub fn walk_statements(
     alloc: Global,
-    instances: &IndexMap<u32, Component>,
+    instances: &IndexMap<u32, Indexed>,
     found: &mut Found,
     statements: &[Stmt],
 ) -> Result<(), AllocError>
@@ -54,7 +54,7 @@ pub fn walk_statements(
 #[cycle(walk)]
 fn walk_statement(
     alloc: Global,
-    instances: &IndexMap<u32, Component>,
+    instances: &IndexMap<u32, Indexed>,
     found: &mut Found,
     statement: &Stmt,
 ) -> Result<(), AllocError>
@@ -80,7 +80,7 @@ fn walk_statement(
 #[cycle(walk)]
 fn walk_arms(
     alloc: Global,
-    instances: &IndexMap<u32, Component>,
+    instances: &IndexMap<u32, Indexed>,
     found: &mut Found,
     arms: &[Arm],
 ) -> Result<(), AllocError>
@@ -95,7 +95,7 @@ fn walk_arms(
 #[cycle(walk)]
 fn walk_arm(
     alloc: Global,
-    instances: &IndexMap<u32, Component>,
+    instances: &IndexMap<u32, Indexed>,
     found: &mut Found,
     arm: &Arm,
 ) -> Result<(), AllocError>
@@ -110,7 +110,8 @@ fn declare(alloc: Global, found: &mut Found, name: Name, typ: &FirType) -> Resul
 {
     let slots = slots_of_type(alloc, &mut found.places, name.place, typ)?;
     let part = duplex(alloc, typ)?;
-    note(&mut found.known, name.id, Component { part, slots })
+    let component = Indexed::new(alloc, part, slots)?;
+    note(&mut found.known, name.id, component)
 }
 
 /// A register with its value after a reset, which doesn't see the register.
@@ -128,7 +129,8 @@ fn declare_with(
     let places = formulas_of(alloc, slots.as_slice())?;
     push_connected(alloc, &mut found.rules, typ, places, formulas)?;
     let part = duplex(alloc, typ)?;
-    note(&mut found.known, name.id, Component { part, slots })
+    let component = Indexed::new(alloc, part, slots)?;
+    note(&mut found.known, name.id, component)
 }
 
 pub fn duplex(alloc: Global, typ: &FirType) -> Result<Part, AllocError>
@@ -152,7 +154,7 @@ pub fn memory_component(
     alloc: Global,
     places: &mut Vec<Place>,
     memory: &Memory,
-) -> Result<Component, AllocError>
+) -> Result<Indexed, AllocError>
     ensures component { IfOk result (λ component. component ≡ memory_component memory.now (length places.old.items)) }
     ensures places { OnOk result (places.new.items ≡ places.old.items ++ places_for memory.now.name.place (open_spots (spots (element_of memory.now)))) }
 {
@@ -162,12 +164,12 @@ pub fn memory_component(
     let widths = slots_of_type(alloc, places, memory.name.place, element)?;
     let slots = port_slots(alloc, lines, element, widths.as_slice())?;
     let part = source(memory_type(alloc, memory)?);
-    Ok(Component { part, slots })
+    Indexed::new(alloc, part, slots)
 }
 
 fn declare_instance(
     alloc: Global,
-    instances: &IndexMap<u32, Component>,
+    instances: &IndexMap<u32, Indexed>,
     found: &mut Found,
     name: Name,
     target: Name,
@@ -175,20 +177,8 @@ fn declare_instance(
     ensures { OnOk result (Walks (declares_component name (component instances.now.entries target.id)) found.old found.new) }
 {
     let nothing = no_component(alloc)?;
-    let instance = copy_component(alloc, look_up(instances, target.id, &nothing))?;
+    let instance = look_up(instances, target.id, &nothing).share()?;
     note(&mut found.known, name.id, instance)
-}
-
-pub fn copy_component(alloc: Global, component: &Component) -> Result<Component, AllocError>
-    ensures { IfOk result (λ copied. copied ≡ component.now) }
-{
-    Ok(Component {
-        part: Part {
-            typ: copy(&component.part.typ)?,
-            flow: component.part.flow,
-        },
-        slots: List::from_slice(alloc, component.slots.as_slice())?,
-    })
 }
 
 /// A node has a variable for each place, which is at least the expression's width.
@@ -199,7 +189,8 @@ fn declare_node(alloc: Global, found: &mut Found, name: Name, expr: &Expr) -> Re
     let slots = variables(alloc, &mut found.places, name.place, &part.typ)?;
     push_node(&mut found.rules, slots.as_slice(), formulas)?;
     let part = source(part.typ);
-    note(&mut found.known, name.id, Component { part, slots })
+    let component = Indexed::new(alloc, part, slots)?;
+    note(&mut found.known, name.id, component)
 }
 
 fn connect(alloc: Global, found: &mut Found, left: &Expr, right: &Expr) -> Result<(), AllocError>
@@ -240,9 +231,9 @@ pub fn slots_of_type(
 
 /// Notes a component by its name, where the name has none.
 pub fn note(
-    known: &mut IndexMap<u32, Component>,
+    known: &mut IndexMap<u32, Indexed>,
     name: u32,
-    component: Component,
+    component: Indexed,
 ) -> Result<(), AllocError>
     ensures { OnOk result (known.new.entries ≡ known_with known.old.entries name component) }
 {
