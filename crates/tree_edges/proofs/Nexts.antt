@@ -1,5 +1,5 @@
 -- What is held of all components of a run after a cycle is the next state, as far as the circuit goes.
-use Rattle.std.proofs.Common.{◌≡◌, ℕ, ◌+◌, ◌<◌, ◌≤◌, ◌==◌, min, ◌++◌, false, true, List, [], ◌∷◌, map, length, take, get_or, Some, sym, ap, ap₂, ◌∙◌, subst, arith}
+use Rattle.std.proofs.Common.{◌≡◌, ℕ, ◌+◌, ◌<◌, ◌≤◌, ◌==◌, min, ◌++◌, false, true, List, [], ◌∷◌, map, length, take, get_or, Some, sym, ap, ap₂, ◌∙◌, subst, arith, Contains}
 use Rattle.std.proofs.lemmas.Bool.{eqb-true}
 use Rattle.bit_words.specs.declared.value.Value.{Value}
 use Rattle.bit_words.specs.Values.{integer_of}
