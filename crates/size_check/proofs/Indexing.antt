@@ -1,13 +1,15 @@
 -- The numbers of modules by name, one module after another.
-use Rattle.std.proofs.Common.{◌≡◌, ℕ, ◌+◌, ◌<◌, Bool, true, false, List, [], ◌∷◌, ◌++◌, map, length, take, get_or, refl, sym, ap, ◌∙◌, subst, if◌then◌else◌, true≢false}
-use Rattle.std.specs.Prelude.{is_some, cond, nat_eq, Option, Some, None, option_map, slice_get, ◌==◌}
+use Rattle.std.proofs.Common.{◌≡◌, ℕ, ◌+◌, ◌<◌, Bool, true, false, List, [], ◌∷◌, ◌++◌, map, length, take, get_or, refl, sym, ap, ap₂, ◌∙◌, subst, if◌then◌else◌, true≢false}
+use Rattle.std.specs.Prelude.{is_some, cond, nat_eq, Option, Some, None, option_map, slice_get, ◌==◌, ◌≤◌, IfSome, MatchOption}
 use Rattle.std.specs.Map.{lookup}
-use Rattle.std.proofs.lemmas.List.{take_more}
-use Rattle.std.proofs.lemmas.Option.{slice_get-get_or, slice_get-map}
+use Rattle.std.proofs.lemmas.List.{take_more, map-append}
+use Rattle.std.proofs.lemmas.Option.{slice_get-get_or, slice_get-map, slice_get_read, slice_get_past}
 use Rattle.std.proofs.lemmas.Bool.{eqb-true, eqb-false}
 use Rattle.fir_tree.specs.declared.circuit.Module.{Module}
 use Rattle.fir_types.specs.declared.fir_type.FirType.{FirType}
+use Rattle.size_check.specs.declared.counted.Counted.{Counted}
 use Rattle.size_check.specs.Indexes.{with_new, IsIndex, IsIndexOf, bundle_of}
+use Rattle.size_check.specs.Kept.{typ_of}
 use Rattle.size_check.specs.Typings.{named, instance_type}
 use Rattle.size_check.specs.Weights.{no_type}
 
@@ -95,7 +97,7 @@ index_more all i d numbers after lt h e name =
         subst (λ o. Fits all o (or_else (named (take i all) name) last)) (sym looked)
         (fits_else all (lookup (nat_eq name) numbers) (cond (key == name) (Some i) None) (named (take i all) name) last (h name) (own (key == name)))
 
--- the bundle with the number of a name is that of the first module of the name
+-- the instance with the number of a name is that of the first module of the name
 
 found_at : (o m : Option Module) → ◌≡◌ {A = Option (Option Module)} (Some o) (option_map Some m) → o ≡ m
 found_at o (Some x) h = by o h
@@ -104,18 +106,32 @@ found_at o (Some x) h = by o h
     by o h = cc
 found_at o None h = absurd (true≢false (ap is_some h))
 
-pub bundle_at : (all : List Module) (numbers : List (ℕ × ℕ)) (name number : ℕ) → IsIndex all numbers → lookup (nat_eq name) numbers ≡ Some number
-    → slice_get (map bundle_of all) number ≡ option_map bundle_of (named all name)
-bundle_at all numbers name number h is =
-    slice_get-map bundle_of all number ∙ ap (option_map bundle_of) (found_at (slice_get all number) (named all name) (ap (option_map (slice_get all)) (sym is) ∙ h name))
+-- what a slice gives at a position
+pub got_at : {B X : Type 0} (now : B → X) (P : B → Type 0) (xs : List X) (i : ℕ) (r : Option B) → IfSome r (λ x. now x ≡ get_or xs i (now x))
+    → MatchOption r (length xs ≤ i) (λ x. (i < length xs) × P x) → option_map now r ≡ slice_get xs i
+got_at now P xs i (Some x) is h = sym (slice_get_read xs (length xs) i (now x) refl h.0 is)
+got_at now P xs i None is h = sym (slice_get_past xs i h)
 
-pub bundle_of_none : (all : List Module) (numbers : List (ℕ × ℕ)) (name : ℕ) → IsIndex all numbers → lookup (nat_eq name) numbers ≡ None
+pub instance_at : (all : List Module) (numbers : List (ℕ × ℕ)) (bundles : List FirType) (instances : List Counted) (name number : ℕ) → IsIndex all numbers
+    → map typ_of instances ≡ bundles → bundles ≡ map bundle_of all → lookup (nat_eq name) numbers ≡ Some number
+    → option_map typ_of (slice_get instances number) ≡ option_map bundle_of (named all name)
+instance_at all numbers bundles instances name number h same made is =
+    sym (slice_get-map typ_of instances number) ∙ ap (λ l. slice_get l number) (same ∙ made) ∙ slice_get-map bundle_of all number
+    ∙ ap (option_map bundle_of) (found_at (slice_get all number) (named all name) (ap (option_map (slice_get all)) (sym is) ∙ h name))
+
+pub instance_none : (all : List Module) (numbers : List (ℕ × ℕ)) (name : ℕ) → IsIndex all numbers → lookup (nat_eq name) numbers ≡ None
     → ◌≡◌ {A = Option FirType} None (option_map bundle_of (named all name))
-bundle_of_none all numbers name h is = by (named all name) (ap (option_map (slice_get all)) (sym is) ∙ h name)
+instance_none all numbers name h is = by (named all name) (ap (option_map (slice_get all)) (sym is) ∙ h name)
   where
     by : (m : Option Module) → ◌≡◌ {A = Option (Option Module)} None (option_map Some m) → ◌≡◌ {A = Option FirType} None (option_map bundle_of m)
     by (Some x) h = absurd (true≢false (sym (ap is_some h)))
     by None h = refl
+
+-- one more instance
+pub instances_more : (bundles : List FirType) (i : ℕ) (x : FirType) (instances after : List Counted) (c : Counted) → i < length bundles → x ≡ get_or bundles i x
+    → map typ_of instances ≡ take i bundles → c.typ ≡ x → after ≡ instances ++ c ∷ [] → map typ_of after ≡ take (i + 1) bundles
+instances_more bundles i x instances after c lt is h own e =
+    ap (map typ_of) e ∙ map-append typ_of instances (c ∷ []) ∙ ap₂ (λ l t. l ++ t ∷ []) h (own ∙ is) ∙ sym (take_more bundles i x lt)
 
 pub instance_found : (target : Option Module) (bundle : FirType) → ◌≡◌ {A = Option FirType} (Some bundle) (option_map bundle_of target) → bundle ≡ instance_type target
 instance_found (Some m) bundle h = cc

@@ -5,12 +5,13 @@ ghost use Rattle.size_check.specs.Kept.{types_of};
 ghost use Rattle.size_check.specs.Typings.{known_with, known_in, stmt_notes, arm_notes, port_notes, in_turn, named, instance_type as instance_type_of};
 ghost use Rattle.size_check.specs.Weights.{one_bit, no_type};
 
-use crate::counted::Counted;
+use crate::counted::{Counted, again, indexed, shared_of};
 use crate::modules::Modules;
 use crate::weights::weigh;
 use bit_words::{List, Shared};
+use field_index::FieldIndex;
 use fir_tree::{Arm, Expr, Module, Stmt};
-use fir_types::{FirType, Memory, Name, Port, Shape, copy, instance_type, leaf_count, memory_type};
+use fir_types::{FirType, Memory, Name, Port, Shape, copy, instance_type, memory_type};
 use indexmap::IndexMap;
 use place_text::Place;
 use std::alloc::{AllocError, Global};
@@ -29,6 +30,8 @@ pub struct Known {
 }
 
 impl Known {
+    ghost use Rattle.std.specs.Option.{ForSome, option_copied};
+    ghost use Rattle.field_index.specs.Indexes.{IsIndexOfType};
     ghost use Rattle.fir_types.specs.Leaves.{count};
     ghost use Rattle.size_check.specs.Caps.{cap};
     ghost use Rattle.size_check.specs.Reaching.{types_in};
@@ -72,13 +75,22 @@ impl Known {
         }
     }
 
-    /// Notes the type of a name, unless there is one.
-    fn insert_new(&mut self, name: Name, typ: FirType) -> Result<(), AllocError>
-        ensures { OnOk result (types_of self.new.types.entries ≡ known_with (types_of self.old.types.entries) name.id typ) }
+    /// The index of its fields, where it has one.
+    pub fn index(&self, id: u32) -> Option<&Shared<FieldIndex>>
+        ensures { ForSome (option_copied result) (IsIndexOfType (types_in self.now id)) }
+    {
+        match self.types.get(&id) {
+            Some(known) => known.index.as_ref(),
+            None => None,
+        }
+    }
+
+    /// Notes a component of a name, unless there is one.
+    fn insert_new(&mut self, name: Name, component: Counted) -> Result<(), AllocError>
+        ensures { OnOk result (types_of self.new.types.entries ≡ known_with (types_of self.old.types.entries) name.id component.typ) }
     {
         if self.types.get(&name.id).is_none() {
-            let leaves = leaf_count(&typ);
-            self.types.insert(name.id, Counted { typ, leaves })?;
+            self.types.insert(name.id, component)?;
         }
         Ok(())
     }
@@ -89,16 +101,16 @@ pub fn known_of(alloc: Global, modules: &Modules<'_>, holder: &Module) -> Result
     ensures { IfOk result (λ known. types_of known.types.entries ≡ known_in modules.now.all.now holder.now) }
 {
     let mut known = Known::new(alloc)?;
-    note_ports(&mut known, holder.ports.as_slice())?;
+    note_ports(alloc, &mut known, holder.ports.as_slice())?;
     note_statements(alloc, modules, &mut known, holder.body.as_slice())?;
     Ok(known)
 }
 
-fn note_ports(known: &mut Known, ports: &[Port]) -> Result<(), AllocError>
+fn note_ports(alloc: Global, known: &mut Known, ports: &[Port]) -> Result<(), AllocError>
     ensures { OnOk result (types_of known.new.types.entries ≡ in_turn (map port_notes ports.now) (types_of known.old.types.entries)) }
 {
     for port in ports {
-        known.insert_new(port.name, copy(&port.typ)?)?;
+        known.insert_new(port.name, indexed(alloc, copy(&port.typ)?)?)?;
     }
     Ok(())
 }
@@ -129,16 +141,19 @@ fn note_statement(
 {
     match statement {
         Stmt::Wire(name, typ) | Stmt::Reg(name, typ, _) | Stmt::RegReset(name, typ, _, _, _) => {
-            known.insert_new(*name, copy(typ)?)
+            known.insert_new(*name, indexed(alloc, copy(typ)?)?)
         }
-        Stmt::Mem(memory) => known.insert_new(memory.name, memory_type(alloc, memory)?),
+        Stmt::Mem(memory) => {
+            let typ = memory_type(alloc, memory)?;
+            known.insert_new(memory.name, indexed(alloc, typ)?)
+        }
         Stmt::Inst(name, target) => {
-            let typ = type_of_instance(alloc, modules, *target)?;
-            known.insert_new(*name, typ)
+            let instance = instance_of(alloc, modules, *target)?;
+            known.insert_new(*name, instance)
         }
         Stmt::Node(name, expr) => {
-            let typ = copy(weigh(known, expr).typ)?;
-            known.insert_new(*name, typ)
+            let node = shared_of(weigh(known, expr))?;
+            known.insert_new(*name, node)
         }
         Stmt::When(arms, other) => {
             note_arms(alloc, modules, known, arms.as_slice())?;
@@ -163,16 +178,12 @@ fn note_arms(
     Ok(())
 }
 
-/// The type of an instance of the first module of a name, and that of nothing where there is none.
-fn type_of_instance(
-    alloc: Global,
-    modules: &Modules<'_>,
-    target: Name,
-) -> Result<FirType, AllocError>
-    ensures { IfOk result (λ typ. typ ≡ instance_type_of (named modules.now.all.now target.id)) }
+/// An instance of the first module of a name, and what is nothing where there is none.
+fn instance_of(alloc: Global, modules: &Modules<'_>, target: Name) -> Result<Counted, AllocError>
+    ensures { IfOk result (λ instance. instance.typ ≡ instance_type_of (named modules.now.all.now target.id)) }
 {
-    match modules.bundle(target.id) {
-        Some(bundle) => copy(bundle),
-        None => instance_type(alloc, &[]),
+    match modules.instance(target.id) {
+        Some(instance) => again(instance),
+        None => indexed(alloc, instance_type(alloc, &[])?),
     }
 }

@@ -3,21 +3,26 @@
 ghost use Rattle.std.specs.Prelude.{◌≡◌, Some, map, option_map, slice_get, IfOk, OnOk};
 ghost use Rattle.std.specs.Option.{option_copied};
 ghost use Rattle.size_check.specs.Indexes.{IsIndex, with_new, bundle_of};
+ghost use Rattle.size_check.specs.Kept.{typ_of};
 ghost use Rattle.size_check.specs.Typings.{named};
 
+use crate::counted::{Counted, indexed};
 use fir_tree::Module;
-use fir_types::{FirType, instance_type};
+use fir_types::{FirType, copy, instance_type};
 use indexmap::IndexMap;
 use std::alloc::{AllocError, Global};
 
-/// The modules of a circuit, with the number of the first of each name, and with the type that the instances of each share.
+/// The modules of a circuit, with the number of the first of each name, and with what the instances of each share.
 #[derive(Drop)]
 pub struct Modules<'a> {
     pub all: &'a [Module],
     numbers: IndexMap<u32, usize>,
     bundles: Vec<FirType>,
+    /// The same with their indexes.
+    instances: Vec<Counted>,
     ghost indexed: { IsIndex all.now numbers.entries },
     ghost bundled: { bundles.items ≡ map bundle_of all.now },
+    ghost same: { map typ_of instances.items ≡ bundles.items },
 }
 
 impl<'a> Modules<'a> {
@@ -27,10 +32,12 @@ impl<'a> Modules<'a> {
     {
         let numbers = numbers_of(alloc, all)?;
         let bundles = bundles_of(alloc, all)?;
+        let instances = instances_of(alloc, bundles.as_slice())?;
         Ok(Modules {
             all,
             numbers,
             bundles,
+            instances,
         })
     }
 
@@ -49,12 +56,12 @@ impl<'a> Modules<'a> {
         self.all.get(*number)
     }
 
-    /// The type of the instances of the first module of a name, given by the number of its text.
-    pub fn bundle(&self, name: u32) -> Option<&FirType>
-        ensures { option_copied result ≡ option_map bundle_of (named self.now.all.now name) }
+    /// An instance of the first module of a name, given by the number of its text.
+    pub fn instance(&self, name: u32) -> Option<&Counted>
+        ensures { option_map typ_of (option_copied result) ≡ option_map bundle_of (named self.now.all.now name) }
     {
         let number = self.numbers.get(&name)?;
-        self.bundles.get(*number)
+        self.instances.get(*number)
     }
 }
 
@@ -67,6 +74,17 @@ fn bundles_of(alloc: Global, modules: &[Module]) -> Result<Vec<FirType>, AllocEr
         bundles.push(instance_type(alloc, module.ports.as_slice())?)?;
     }
     Ok(bundles)
+}
+
+/// These types with their indexes.
+fn instances_of(alloc: Global, bundles: &[FirType]) -> Result<Vec<Counted>, AllocError>
+    ensures { IfOk result (λ instances. map typ_of instances.items ≡ bundles.now) }
+{
+    let mut instances = Vec::new(alloc);
+    for bundle in bundles {
+        instances.push(indexed(alloc, copy(bundle)?)?)?;
+    }
+    Ok(instances)
 }
 
 /// The numbers of modules by name, of each name the first.

@@ -9,8 +9,9 @@ ghost use Rattle.size_check.specs.Weights.{nodes, suffix_nodes, weight, suffix_s
 
 use crate::known::Known;
 use crate::reached::Reached;
+use field_index::field_by;
 use fir_tree::{Expr, Form, Suffix};
-use fir_types::{FirType, Shape, field_of, leaf_count};
+use fir_types::{FirType, Shape, leaf_count};
 use std::alloc::AllocError;
 
 /// How many nodes an expression has. More than fit the number are a want of memory.
@@ -102,6 +103,7 @@ fn choose<'a>(known: &'a Known, operands: &[Expr]) -> Reached<'a>
         return Reached {
             typ: &known.none,
             most: most_in(known, operands),
+            index: None,
         };
     };
     let asked = weigh(known, condition).most;
@@ -109,6 +111,7 @@ fn choose<'a>(known: &'a Known, operands: &[Expr]) -> Reached<'a>
     Reached {
         typ: reached.typ,
         most: asked.max(reached.most.max(most_in(known, rest))),
+        index: reached.index,
     }
 }
 
@@ -120,6 +123,7 @@ fn operation(known: &Known, most: u128) -> Reached<'_>
     Reached {
         typ: &known.bit,
         most: most.max(1),
+        index: None,
     }
 }
 
@@ -153,6 +157,7 @@ fn start(known: &Known, name: u32) -> Reached<'_>
     Reached {
         typ: known.of(name),
         most: known.leaves(name),
+        index: known.index(name),
     }
 }
 
@@ -163,6 +168,7 @@ fn one_leaf(known: &Known) -> Reached<'_>
     Reached {
         typ: &known.bit,
         most: 1,
+        index: None,
     }
 }
 
@@ -171,8 +177,9 @@ fn to_field(before: Reached<'_>, id: u32) -> Reached<'_>
     ensures { weight_of result ≡ capped_weight (reach (field_type id before.entry.typ.now) 0 (weight_of before.entry)) }
 {
     Reached {
-        typ: field_type(before.typ, id),
+        typ: field_type(before, id),
         most: before.most,
+        index: None,
     }
 }
 
@@ -185,30 +192,33 @@ fn to_element(before: Reached<'_>, index: u128) -> Reached<'_>
         return Reached {
             typ: before.typ,
             most,
+            index: before.index,
         };
     };
     if *length == 0 {
         return Reached {
             typ: element.get(),
             most: most.max(leaf_count(element.get())),
+            index: None,
         };
     }
     Reached {
         typ: element.get(),
         most,
+        index: None,
     }
 }
 
 /// The type of a bundle's first field of a name. What has no such field stays.
-fn field_type(typ: &FirType, id: u32) -> &FirType
-    ensures typ { result.now ≡ field_type id typ.now }
-    ensures leaves { count result.now ≤ count typ.now }
+fn field_type<'a>(before: Reached<'a>, id: u32) -> &'a FirType
+    ensures typ { result.now ≡ field_type id before.entry.typ.now }
+    ensures leaves { count result.now ≤ count before.entry.typ.now }
 {
-    let Shape::Bundle(fields) = &typ.shape else {
-        return typ;
+    let Shape::Bundle(fields) = &before.typ.shape else {
+        return before.typ;
     };
-    match field_of(fields.as_slice(), id) {
+    match field_by(before.index, fields.as_slice(), id) {
         Some(field) => &field.typ,
-        None => typ,
+        None => before.typ,
     }
 }

@@ -14,4 +14,4 @@ returns-in_ok-insert c =
 pub returns-else-is_none : goal.returns-else-is_none
 returns-else-is_none c =
     let has : is_some (lookup (nat_eq c.args.name.id) c.args.self.now.types.entries) ≡ true = search rules in
-    kept_same c.args.self.now.types.entries c.args.name.id c.args.typ has
+    kept_same c.args.self.now.types.entries c.args.name.id c.args.component.typ has

@@ -13,7 +13,7 @@ returns c =
     let number = c.in_ok-number.number.now in
     let found : lookup (nat_eq c.args.name) all.numbers.entries ≡ Some number = search rules in
     let at : option_copied c.get-2.result ≡ slice_get all.instances.items number =
-        got_at (λ x. x.now) (λ x. HoldsAt (λ y. x.now ≡ y) c.deref.result.now number) c.deref.result.now number c.get-2.result c.get-2.ensures.lookup.1 c.get-2.ensures.lookup.3
-        ∙ ap (λ l. slice_get l number) c.deref.ensures.value in
+    got_at (λ x. x.now) (λ x. HoldsAt (λ y. x.now ≡ y) c.deref.result.now number) c.deref.result.now number c.get-2.result c.get-2.ensures.lookup.1 c.get-2.ensures.lookup.3
+    ∙ ap (λ l. slice_get l number) c.deref.ensures.value in
     ap (option_map part_in) at
     ∙ instance_at all.all.now all.numbers.entries all.parts.items all.instances.items c.args.name number all.indexed all.same all.made found
