@@ -19,8 +19,8 @@ use fir_tree::Checked;
 use fir_types::{FirType, Port};
 use indexmap::IndexMap;
 use std::alloc::{AllocError, Global};
-use width_rules::indexed::Indexed;
 use width_rules::gathering::{Ported, instances_of, note_ports, with_ports};
+use width_rules::indexed::Indexed;
 use width_rules::slot::Slot;
 use width_rules::{Rules, Widths};
 
