@@ -48,24 +48,24 @@ module _ (leaves : List Watched) (rho : Valuation) (numbers : List ℕ) (k n oth
   pub shown_less : (before : List Value) → slice_get leaves n ≡ None → before ≡ row_of (filter_map (slice_get leaves) (take k numbers)) rho → before ≡ row_of (filter_map (slice_get leaves) (take (k + 1) numbers)) rho
   shown_less before e old = old ∙ (sym (append-nil (row_of (filter_map (slice_get leaves) (take k numbers)) rho)) ∙ sym (one_more None e))
 
-module _ (design : Design) (has : HasBundles design) (watched : List Watched) where
+module _ (design : Design) (watched : List Watched) where
   -- What follows from a state follows from one that is the same.
-  pub runs_alike : (s t : State) → SameState design s t → (given : List Inputs) → {rows : List (List Value)} → Runs design watched s given rows → Runs design watched t given rows
-  runs_alike s t same [] ended = ended
-  runs_alike s t same (g ∷ given) (cycle {rows = more} rho settled rest) =
-      cycle rho (settled_alike design has t s same g rho settled) (runs_alike (next design s rho) (next design t rho) (next_alike design has s t same rho) given rest)
+  pub runs_alike : HasBundles design → (s t : State) → SameState design s t → (given : List Inputs) → {rows : List (List Value)} → Runs design watched s given rows → Runs design watched t given rows
+  runs_alike has s t same [] ended = ended
+  runs_alike has s t same (g ∷ given) (cycle {rows = more} rho settled rest) =
+      cycle rho (settled_alike design has t s same g rho settled) (runs_alike has (next design s rho) (next design t rho) (next_alike design has s t same rho) given rest)
 
   -- Cycles lead from a state to another: whatever follows there follows their rows from here.
   abbrev pub Leads : State → List Inputs → List (List Value) → State → Type 0
   Leads s given rows t = (later : List Inputs) (more : List (List Value)) → Runs design watched t later more → Runs design watched s (given ++ later) (rows ++ more)
 
   -- One cycle more.
-  pub leads_more : (s t after : State) (given : List Inputs) (rows : List (List Value)) (g : Inputs) (rho : Valuation) → Settled design t g rho → SameState design after (next design t rho)
+  pub leads_more : HasBundles design → (s t after : State) (given : List Inputs) (rows : List (List Value)) (g : Inputs) (rho : Valuation) → Settled design t g rho → SameState design after (next design t rho)
       → Leads s given rows t → Leads s (given ++ g ∷ []) (rows ++ row_of watched rho ∷ []) after
-  leads_more s t after given rows g rho settled same leads = λ later more run.
+  leads_more has s t after given rows g rho settled same leads = λ later more run.
       subst (λ l. Runs design watched s l ((rows ++ row_of watched rho ∷ []) ++ more)) (sym (append_assoc given (g ∷ []) later))
       (subst (Runs design watched s (given ++ (g ∷ later))) (sym (append_assoc rows (row_of watched rho ∷ []) more))
-      (leads (g ∷ later) (row_of watched rho ∷ more) (cycle rho settled (runs_alike after (next design t rho) same later run))))
+      (leads (g ∷ later) (row_of watched rho ∷ more) (cycle rho settled (runs_alike has after (next design t rho) same later run))))
 
   -- Of rows of inputs so many have been run through.
   pub none_run : (given : List Value → Inputs) (inputs rows : List (List Value)) (s : State) → s ≡ first_state → rows ≡ [] → Leads first_state (map given (take 0 inputs)) rows s
@@ -73,13 +73,13 @@ module _ (design : Design) (has : HasBundles design) (watched : List Watched) wh
   none_run given (row ∷ inputs) rows s e none = λ later more run. subst (λ o. Runs design watched first_state later (o ++ more)) (sym none) (subst (λ t. Runs design watched t later more) e run)
 
   module _ (given : List Value → Inputs) (inputs : List (List Value)) where
-    pub run_more : (k : ℕ) (row : List Value) (t after : State) (rows rows' : List (List Value)) (output : List Value) (rho : Valuation) → k < length inputs → row ≡ get_or inputs k row
+    pub run_more : HasBundles design → (k : ℕ) (row : List Value) (t after : State) (rows rows' : List (List Value)) (output : List Value) (rho : Valuation) → k < length inputs → row ≡ get_or inputs k row
         → Settled design t (given row) rho → SameState design after (next design t rho) → output ≡ row_of watched rho → rows' ≡ rows ++ output ∷ []
         → Leads first_state (map given (take k inputs)) rows t → Leads first_state (map given (take (k + 1) inputs)) rows' after
-    run_more k row t after rows rows' output rho below is settled same shown more leads =
+    run_more has k row t after rows rows' output rho below is settled same shown more leads =
         subst (λ l. Leads first_state l rows' after) (sym (ap (map given) (taken_more inputs k row below is) ∙ map-append given (take k inputs) (row ∷ [])))
         (subst (λ l. Leads first_state (map given (take k inputs) ++ given row ∷ []) l after) (sym (more ∙ ap (λ o. rows ++ o ∷ []) shown))
-        (leads_more first_state t after (map given (take k inputs)) rows (given row) rho settled same leads))
+        (leads_more has first_state t after (map given (take k inputs)) rows (given row) rho settled same leads))
 
     pub all_run : (k : ℕ) (t : State) (rows : List (List Value)) → length inputs ≤ k → Leads first_state (map given (take k inputs)) rows t → Runs design watched first_state (map given inputs) rows
     all_run k t rows past leads =
