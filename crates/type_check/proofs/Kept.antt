@@ -15,7 +15,7 @@ use Rattle.type_check.specs.declared.component.Component.{Component}
 use Rattle.type_check.specs.declared.walk.Walk.{Walk}
 use Rattle.type_check.specs.Indexes.{with_new}
 use Rattle.type_check.specs.Kept.{part_in, parts_of}
-use Rattle.type_check.specs.Parts.{Known, known_with, component}
+use Rattle.type_check.specs.Parts.{known_with, component}
 use Rattle.type_check.specs.Statements.{declares}
 use Rattle.type_check.specs.Walks.{Walks}
 

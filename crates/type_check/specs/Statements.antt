@@ -1,6 +1,6 @@
 -- The conditions on statements (FIRRTL specification 3.0, "Statements", "Connects", "Registers", "Conditionals"). Each is judged where
 -- the expressions that it speaks of have types.
-use Rattle.std.specs.Prelude.{ℕ, Bool, true, false, ◌&&◌, List, [], ◌∷◌, ◌++◌, map, flat_map, Option, Some, option_map}
+use Rattle.std.specs.Prelude.{ℕ, Bool, true, false, ◌&&◌, List, [], ◌++◌, map, flat_map, Option, Some, option_map}
 use Rattle.place_text.specs.declared.place.Place.{Place}
 use Rattle.fir_types.specs.declared.fir_type.FirType.{FirType}
 use Rattle.fir_types.specs.declared.port.Port.{Port}
