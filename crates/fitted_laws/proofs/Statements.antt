@@ -49,7 +49,7 @@ use Rattle.width_fit.specs.Judging as judging
 use Rattle.width_fit.specs.Judging.{Solved, Survey, survey, slot_width, widths_of, is_unknown, where_}
 use Rattle.width_fit.specs.declared.fault.WidthFault.TheVariants.{WidthUnknown}
 use Rattle.fir_meaning.specs.Components.{Declaration, A_wire, A_register, A_reset_register, A_memory, An_instance, A_node, Told, ToldArm, told, of_told, of_told_arm, declared_from}
-use Rattle.fir_meaning.specs.WellTyped.{Known, typed, named_type, both_match, is_typed, is_narrow}
+use Rattle.fir_meaning.specs.WellTyped.{Known, typed, named_type, is_typed, is_narrow}
 use Rattle.fir_names.specs.Extents.{Seen, Use, references}
 use Rattle.fir_names.specs.Parts as parts
 use Rattle.fir_names.specs.Parts.{Part, stmt_part, arm_part}
