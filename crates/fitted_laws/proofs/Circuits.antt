@@ -47,6 +47,7 @@ use Rattle.circuit_laws.proofs.Pieces.{In-among, In-contained, contained_In, all
 use Rattle.fitted_laws.specs.Shaped.{is_shaped_module}
 use Rattle.fitted_laws.specs.Accepted.{IsAccepted}
 use Rattle.fitted_laws.specs.OneBit.{ask_one_bit}
+use Rattle.fitted_laws.specs.Choices.{choose_in}
 use Rattle.fitted_laws.proofs.Steps.{left_empty, right_empty, all_empty, IsGood}
 use Rattle.fitted_laws.proofs.Once.{differ_places}
 use Rattle.fitted_laws.proofs.Known.{Marks, Marked, RuleMarked}
@@ -271,6 +272,10 @@ module _ (fitted : Fitted) (ok : IsAccepted fitted) where
   pub module_asks : (k : ℕ) (holder : Module) (m : TypedModule) → slice_get modules k ≡ Some holder → slice_get (modules_of fitted) k ≡ Some m
       → slice_get fitted.checked.scope.reached k ≡ Some true → ask_one_bit (known_in m) holder.body ≡ true
   module_asks k holder m e at flag = (body_both (known_in m) holder.body (body_fit k holder m e at flag)).1
+
+  pub module_chooses : (k : ℕ) (holder : Module) (m : TypedModule) → slice_get modules k ≡ Some holder → slice_get (modules_of fitted) k ≡ Some m
+      → slice_get fitted.checked.scope.reached k ≡ Some true → choose_in (known_in m) holder.body ≡ true
+  module_chooses k holder m e at flag = (body_both (known_in m) holder.body (body_fit k holder m e at flag)).2
 
   pub module_typed : (k : ℕ) (holder : Module) (m : TypedModule) → slice_get modules k ≡ Some holder → slice_get (modules_of fitted) k ≡ Some m
       → slice_get fitted.checked.scope.reached k ≡ Some true → HasTypes holder m

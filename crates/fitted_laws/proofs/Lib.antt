@@ -14,6 +14,7 @@ mod Declared
 mod Flips
 mod Matching
 mod OneBit
+mod Choices
 mod Statements
 mod Modules
 mod Bundles

@@ -49,7 +49,7 @@ use Rattle.width_fit.specs.Judging as judging
 use Rattle.width_fit.specs.Judging.{Solved, Survey, survey, slot_width, widths_of, is_unknown, where_}
 use Rattle.width_fit.specs.declared.fault.WidthFault.TheVariants.{WidthUnknown}
 use Rattle.fir_meaning.specs.Components.{Declaration, A_wire, A_register, A_reset_register, A_memory, An_instance, A_node, Told, ToldArm, told, of_told, of_told_arm, declared_from}
-use Rattle.fir_meaning.specs.WellTyped.{Known, typed, named_type, both_match, is_typed, is_narrow}
+use Rattle.fir_meaning.specs.WellTyped.{Known, typed, named_type, is_narrow}
 use Rattle.fir_names.specs.Extents.{Seen, Use, references}
 use Rattle.fir_names.specs.Parts as parts
 use Rattle.fir_names.specs.Parts.{Part, stmt_part, arm_part}
@@ -59,7 +59,8 @@ use Rattle.circuit_laws.proofs.Alone.{every-left, every-right}
 use Rattle.circuit_laws.proofs.Scoping.{IsNamed, AllNamed, get-either}
 use Rattle.fitted_laws.specs.Shaped as shaping
 use Rattle.fitted_laws.specs.Shaped.{is_shaped, is_shaped_stmt, all_are}
-use Rattle.fitted_laws.specs.OneBit.{one_bit, is_one_bit}
+use Rattle.fitted_laws.specs.OneBit.{one_bit}
+use Rattle.fitted_laws.specs.Choices.{chooses}
 use Rattle.fitted_laws.proofs.Filling.{leaf_shapes, filled_equivalent}
 use Rattle.type_check.proofs.Equivalence.{is_equivalent}
 use Rattle.fitted_laws.proofs.Signs.{unsigned_is}
@@ -75,7 +76,8 @@ use Rattle.fitted_laws.proofs.Flips.{straight_spots, flips_alike, drivable_strai
 use Rattle.fitted_laws.proofs.Held.{stored_holds}
 use Rattle.fitted_laws.proofs.Matching.{match_by}
 use Rattle.fitted_laws.proofs.OneBit as fit
-use Rattle.fitted_laws.proofs.OneBit.{is_fit_stmt, is_fit_arm, filled_one_bit}
+use Rattle.fitted_laws.proofs.OneBit.{is_fit_stmt, is_fit_arm, is_good, is_good_bit, filled_one_bit}
+use Rattle.fitted_laws.proofs.Choices.{expr_small}
 use Rattle.fitted_laws.proofs.Declared.{IsDeclared, slots_narrow, filled_differ, filled_straight, plain_declared}
 
 abbrev told_arm : Arm → ToldArm
@@ -100,6 +102,7 @@ module _ (all : Solved) (modules : List Module) (with_ports : List WithPorts) (p
     pub once : twice_in part.typ ≡ []
     pub placed : Placed (Marked ms) part.flow (spots part.typ) (survey ws e wk).measured.formulas
     pub typed_is : (K : Known) → Filled ws wk K → (survey ws e wk).faults ≡ [] → typed e K ≡ Some (leaf_shapes (filled part.typ (widths_of ws (survey ws e wk).measured)))
+    pub small_is : (K : Known) → Filled ws wk K → (survey ws e wk).faults ≡ [] → chooses K e ≡ true
     pub named_is : (K : Known) → Filled ws wk K → (survey ws e wk).faults ≡ [] → NamesType (named_type K e) (filled part.typ (widths_of ws (survey ws e wk).measured))
 
   found_in : (tk : TKnown) (wk : WKnown) (n : ℕ) (ms : Marks) (seen : List Seen) → Stands ports tk wk n ms → SeenIn tk seen → (e : Expr)
@@ -114,6 +117,7 @@ module _ (all : Solved) (modules : List Module) (with_ports : List WithPorts) (p
         once = r.1.once;
         placed = r.1.placed;
         typed_is = r.1.typed_is;
+        small_is = λ K fits none. expr_small (Marked ms) (marks_allow ms) ws tk wk st.knows K fits e (named_known tk seen si (references e) au) f shape none;
         named_is = expr_named (Marked ms) (marks_allow ms) ws tk wk st.knows e (named_known tk seen si (references e) au) f shape r.0 r.1.found;
       }
 
@@ -126,15 +130,15 @@ module _ (all : Solved) (modules : List Module) (with_ports : List WithPorts) (p
   names_right seen xs ys h = every-right Use IsNamed (map (λ name. record { name = name; seen = seen }) xs) (map (λ name. record { name = name; seen = seen }) ys)
       (subst AllNamed (map-append (λ (name : Name). record { name = name; seen = seen }) xs ys) h)
 
-  typed_true : (tk : TKnown) (wk : WKnown) (ms : Marks) (e : Expr) → IsFoundIn tk wk ms e → (K : Known) → Filled ws wk K → (survey ws e wk).faults ≡ [] → is_typed K e ≡ true
-  typed_true tk wk ms e f K fits none = ap is_some (f.typed_is K fits none)
+  typed_true : (tk : TKnown) (wk : WKnown) (ms : Marks) (e : Expr) → IsFoundIn tk wk ms e → (K : Known) → Filled ws wk K → (survey ws e wk).faults ≡ [] → is_good K e ≡ true
+  typed_true tk wk ms e f K fits none = ap₂ (λ a b. a && b) (ap is_some (f.typed_is K fits none)) (f.small_is K fits none)
 
   condition_true : (tk : TKnown) (wk : WKnown) (ms : Marks) (e : Expr) (f : IsFoundIn tk wk ms e) → is_unsigned f.part.typ ≡ true → (K : Known) → Filled ws wk K
-      → (survey ws e wk).faults ++ judging.condition_faults ws (survey ws e wk) ≡ [] → is_one_bit K e ≡ true
+      → (survey ws e wk).faults ++ judging.condition_faults ws (survey ws e wk) ≡ [] → is_good_bit K e ≡ true
   condition_true tk wk ms e f u K fits none =
       let own = left_empty (survey ws e wk).faults (judging.condition_faults ws (survey ws e wk)) none in
       let small = not_true _ (where_false _ _ (right_empty (survey ws e wk).faults (judging.condition_faults ws (survey ws e wk)) none)) in
-      ap one_bit (f.typed_is K fits own) ∙ filled_one_bit ws (survey ws e wk).measured f.part.typ (unsigned_is f.part.typ u) small
+      ap₂ (λ a b. a && b) (ap one_bit (f.typed_is K fits own) ∙ filled_one_bit ws (survey ws e wk).measured f.part.typ (unsigned_is f.part.typ u) small) (f.small_is K fits own)
 
   -- A declaration
 
@@ -566,7 +570,7 @@ module _ (all : Solved) (modules : List Module) (with_ports : List WithPorts) (p
             let own : s.faults ≡ [] = left_empty s.faults _ none in
             let typed_is : typed e K ≡ Some (leaf_shapes (filled typ (widths_of ws s.measured))) = f.typed_is K fits own in
             let widths : map (slot_width ws) (node_slots n (spots typ)) ≡ widths_of ws s.measured = node_widths ws more solves n (spots typ) fs same at in (
-              ap is_some typed_is,
+              typed_true tk wk ms e f K fits own,
               record {
                 node = λ x q. let same : e ≡ x = cc in subst (λ y. typed y K ≡ Some (leaf_shapes (filled typ (map (slot_width ws) (node_slots n (spots typ)))))) same
                     (typed_is ∙ ap (λ vs. Some (leaf_shapes (filled typ vs))) (sym widths));
@@ -726,7 +730,7 @@ module _ (all : Solved) (modules : List Module) (with_ports : List WithPorts) (p
     widths = judging.asks ws e;
     names = parts.mentions (references e);
     declares = [];
-    typed = λ K. is_one_bit K e;
+    typed = λ K. is_good_bit K e;
   }
 
   asking_comes : (e : Expr) → is_shaped e ≡ true → Comes_to all modules ports S (asking e)

@@ -1,3 +1,4 @@
 pub mod Shaped
 pub mod Accepted
 pub mod OneBit
+pub mod Choices

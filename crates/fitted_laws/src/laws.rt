@@ -16,6 +16,7 @@ ghost use Rattle.circuit_laws.specs.WellFormed.{IsWellFormed};
 ghost use Rattle.fitted_laws.specs.Shaped.{is_shaped_circuit};
 ghost use Rattle.fitted_laws.specs.Accepted.{IsAccepted};
 ghost use Rattle.fitted_laws.specs.OneBit.{ask_one_bit};
+ghost use Rattle.fitted_laws.specs.Choices.{choose_in};
 
 /// A type with widths in its places is equivalent to the type.
 pub fn filled_types_are_equivalent()
@@ -31,6 +32,11 @@ pub fn accepted_modules_are_well_typed()
 /// In the modules of an accepted circuit that main reaches, each condition of a conditional and each reset is one UInt of at most one bit.
 pub fn accepted_conditions_have_one_bit()
     ensures { (fitted : FittedCircuit) → IsAccepted fitted → (k : ℕ) (holder : AModule) (m : TypedModule) → slice_get fitted.checked.circuit.modules k ≡ Some holder → slice_get (modules_of fitted) k ≡ Some m → slice_get fitted.checked.scope.reached k ≡ Some true → ask_one_bit (known_in m) holder.body ≡ true }
+{}
+
+/// In the same modules, the first operand of each mux that stands in an expression of the body is one UInt of at most one bit.
+pub fn accepted_choices_have_one_bit()
+    ensures { (fitted : FittedCircuit) → IsAccepted fitted → (k : ℕ) (holder : AModule) (m : TypedModule) → slice_get fitted.checked.circuit.modules k ≡ Some holder → slice_get (modules_of fitted) k ≡ Some m → slice_get fitted.checked.scope.reached k ≡ Some true → choose_in (known_in m) holder.body ≡ true }
 {}
 
 /// An accepted circuit is well formed.
