@@ -1,3 +1,16 @@
 mod Shallow
-mod Nested
+mod Classes
+mod Known
+mod Layers
+mod Bounds
+mod Steps
+mod Within
+mod Forth
+mod Back
+mod Walks
+mod Solid
+mod Filled
+mod Led
+mod Exactly
+mod Few
 mod Examples

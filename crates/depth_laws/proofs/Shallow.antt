@@ -1,13 +1,11 @@
--- A list that goes nowhere too deep, piece by piece, and what each piece does to the open blocks.
-use Rattle.std.proofs.Common.{◌≡◌, ℕ, ◌+◌, ◌-◌, ◌≤◌, ◌==◌, ◌||◌, Bool, true, false, if◌then◌else◌, List, [], ◌∷◌, ◌++◌, length, Some, slice_get, refl, sym, subst, arith, append_assoc}
-use Rattle.std.specs.Prelude.{⊤}
+-- A list that goes nowhere too deep, piece by piece.
+use Rattle.std.proofs.Common.{◌≡◌, ℕ, Bool, true, false, List, [], ◌∷◌, ◌++◌, length, take, fold, Some, None, slice_get, refl, sym, ap, ◌∙◌, subst, append_assoc}
+use Rattle.std.specs.Prelude.{⊤, suc, zero}
 use Rattle.std.proofs.Math.Seq.{take-append_seam}
-use Rattle.std.proofs.lemmas.Bool.{leb-false}
+use Rattle.std.proofs.lemmas.Bool.{true≢false}
 use Rattle.std.proofs.lemmas.List.Sums.{fold-append}
-use Rattle.fir_lexer.specs.declared.token.TokenKind.{TokenKind}
-use Rattle.fir_lexer.specs.declared.token.TokenKind.TheVariants as kind
-use Rattle.fir_layout.specs.Pieces.{Piece, A_token, A_line_end, A_block_opens, A_block_closes, The_end}
-use Rattle.fir_grammar.specs.Grammar.{Terminal, The_word, The_call, A_name, A_field, A_number, Three, A_quoted_number, The_mark, The_arrow, Line_ends, Opens, Closes, Ends, Takes}
+use Rattle.fir_layout.specs.Pieces.{Piece}
+use Rattle.fir_grammar.proofs.Cases.{some_injective}
 use Rattle.fir_grammar.specs.Faults.{Levels, no_levels, levels, past, is_deep, IsDeepAt}
 
 abbrev pub Shallow : Levels → List Piece → Type 0
@@ -34,84 +32,19 @@ shallow_from front (p ∷ ps) h = (
     }))
     flat false e = refl
 
--- blocks
+-- and back: no piece of a list that goes nowhere too deep goes too deep
 
-abbrev pub past_blocks : Terminal → ℕ → ℕ
-past_blocks Opens b = b + 1
-past_blocks Closes b = b - 1
-past_blocks _ b = b
+pub none_some : {X Y : Type 0} {x : X} → None ≡ Some x → Y
+none_some e = absurd cc
 
-same_blocks : (b c d e : Bool) (at : Levels) (x y z u w : Levels) → x.blocks ≡ at.blocks → y.blocks ≡ at.blocks → z.blocks ≡ at.blocks → u.blocks ≡ at.blocks → w.blocks ≡ at.blocks
-    → (if b then x else if c then y else if d then z else if e then u else w).blocks ≡ at.blocks
-same_blocks true c d e at x y z u w h i j k l = h
-same_blocks false true d e at x y z u w h i j k l = i
-same_blocks false false true e at x y z u w h i j k l = j
-same_blocks false false false true at x y z u w h i j k l = k
-same_blocks false false false false at x y z u w h i j k l = l
+nothing : (k : ℕ) → None ≡ slice_get {X = Piece} [] k
+nothing zero = refl
+nothing (suc k) = refl
 
-token_blocks : (k : TokenKind) (bytes : List ℕ) (at : Levels) → (past at (A_token k bytes)).blocks ≡ at.blocks
-token_blocks kind.Word bytes at = refl
-token_blocks kind.Quoted bytes at = refl
-token_blocks kind.Digits bytes at = refl
-token_blocks kind.Call bytes at = refl
-token_blocks kind.Text bytes at = refl
-token_blocks kind.Arrow bytes at = refl
-token_blocks (kind.Mark m) bytes at =
-    same_blocks (m == 46) (m == 91) ((m == 40) || (m == 123)) ((m == 93) || ((m == 41) || (m == 125))) at _ _ _ _ _ refl refl refl refl refl
+nowhere : (at : Levels) (ps : List Piece) → Shallow at ps → (k : ℕ) (p : Piece) → slice_get ps k ≡ Some p → is_deep (fold past at (take k ps)) p ≡ true → ⊥
+nowhere at [] s k p e d = none_some (nothing k ∙ e)
+nowhere at (q ∷ ps) s zero p e d = true≢false (sym d ∙ ap (is_deep at) (sym (some_injective e)) ∙ s.0)
+nowhere at (q ∷ ps) s (suc k) p e d = nowhere (past at q) ps (s.1) k p e d
 
-quiet : (s : Terminal) (p : Piece) (at : Levels) → (Takes s A_block_opens → ⊥) → (Takes s A_block_closes → ⊥) → Takes s p → (past at p).blocks ≡ at.blocks
-quiet s (A_token k bytes) at f g t = token_blocks k bytes at
-quiet s A_line_end at f g t = refl
-quiet s A_block_opens at f g t = absurd (f t)
-quiet s A_block_closes at f g t = absurd (g t)
-quiet s The_end at f g t = refl
-
-pub blocks_past : (s : Terminal) (p : Piece) (at : Levels) → Takes s p → (past at p).blocks ≡ past_blocks s at.blocks
-blocks_past Opens A_block_opens at t = refl
-blocks_past Opens (A_token k bytes) at t = absurd t
-blocks_past Opens A_line_end at t = absurd t
-blocks_past Opens A_block_closes at t = absurd t
-blocks_past Opens The_end at t = absurd t
-blocks_past Closes A_block_closes at t = refl
-blocks_past Closes (A_token k bytes) at t = absurd t
-blocks_past Closes A_line_end at t = absurd t
-blocks_past Closes A_block_opens at t = absurd t
-blocks_past Closes The_end at t = absurd t
-blocks_past (The_word w) p at t = quiet (The_word w) p at (λ x. x) (λ x. x) t
-blocks_past (The_call w) p at t = quiet (The_call w) p at (λ x. x) (λ x. x) t
-blocks_past A_name p at t = quiet A_name p at (λ x. x) (λ x. x) t
-blocks_past A_field p at t = quiet A_field p at (λ x. x) (λ x. x) t
-blocks_past A_number p at t = quiet A_number p at (λ x. x) (λ x. x) t
-blocks_past Three p at t = quiet Three p at (λ x. x) (λ x. x) t
-blocks_past A_quoted_number p at t = quiet A_quoted_number p at (λ x. x) (λ x. x) t
-blocks_past (The_mark m) p at t = quiet (The_mark m) p at (λ x. x) (λ x. x) t
-blocks_past The_arrow p at t = quiet The_arrow p at (λ x. x) (λ x. x) t
-blocks_past Line_ends p at t = quiet Line_ends p at (λ x. x) (λ x. x) t
-blocks_past Ends p at t = quiet Ends p at (λ x. x) (λ x. x) t
-
--- what follows a terminal, and that a block may be opened there
-abbrev pub Behind : Terminal → ℕ → Type 0 → Type 0
-Behind Opens b X = (b + 1 ≤ 128) × X
-Behind _ b X = X
-
-opened : (p : Piece) (at : Levels) → Takes Opens p → is_deep at p ≡ false → at.blocks + 1 ≤ 128
-opened A_block_opens at t e = omega (arith, leb-false 128 at.blocks e)
-opened (A_token k bytes) at t e = absurd t
-opened A_line_end at t e = absurd t
-opened A_block_closes at t e = absurd t
-opened The_end at t e = absurd t
-
-pub behind : (s : Terminal) (p : Piece) (at : Levels) (X : Type 0) → Takes s p → is_deep at p ≡ false → X → Behind s at.blocks X
-behind Opens p at X t e x = (opened p at t e, x)
-behind Closes p at X t e x = x
-behind (The_word w) p at X t e x = x
-behind (The_call w) p at X t e x = x
-behind A_name p at X t e x = x
-behind A_field p at X t e x = x
-behind A_number p at X t e x = x
-behind Three p at X t e x = x
-behind A_quoted_number p at X t e x = x
-behind (The_mark m) p at X t e x = x
-behind The_arrow p at X t e x = x
-behind Line_ends p at X t e x = x
-behind Ends p at X t e x = x
+pub never_deep : (pieces : List Piece) → Shallow no_levels pieces → (k : ℕ) → ¬ (IsDeepAt pieces k)
+never_deep pieces s k d = nowhere no_levels pieces s k d.piece d.stands d.deep

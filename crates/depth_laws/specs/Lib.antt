@@ -1,1 +1,5 @@
 pub mod Blocks
+pub mod Parts
+pub mod Brackets
+pub mod Suffixes
+pub mod EmptyBlocks

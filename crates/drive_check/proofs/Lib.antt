@@ -1,5 +1,6 @@
 pub mod KeyTests
 pub mod Placing
+pub mod Indexing
 pub mod Following
 pub mod Driving
 pub mod Blocks

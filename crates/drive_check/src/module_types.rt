@@ -1,9 +1,13 @@
 //! The types of a module's components.
 
 ghost use Rattle.std.specs.Prelude.{◌≡◌, ℕ, IfOk, OnOk};
+ghost use Rattle.drive_check.specs.Indexed.{AreIndexed};
 ghost use Rattle.drive_check.specs.Typing.{typed, no_type, IsPlaced, with_new};
 
+use crate::indexed::indexes_of;
+use crate::reached::Reached;
 use bit_words::{List, Shared};
+use field_index::FieldIndex;
 use fir_types::{FirType, Name, Shape};
 use indexmap::IndexMap;
 use place_text::Place;
@@ -16,13 +20,20 @@ pub struct ModuleTypes<'a> {
     pub numbers: IndexMap<u32, usize>,
     /// What stands for the type of a component that is none.
     pub empty: FirType,
+    /// The index of each type's fields, where there are many.
+    pub indexes: Vec<Option<Shared<FieldIndex>>>,
     ghost is_empty: { empty ≡ no_type },
+    ghost indexed: { AreIndexed declared.now indexes.items },
 }
 
 impl<'a> ModuleTypes<'a> {
+    ghost use Rattle.std.specs.Prelude.{Some, slice_get};
+    ghost use Rattle.std.specs.Option.{ForSome};
+    ghost use Rattle.fir_types.specs.declared.fir_type.FirType.{FirType as AType};
     ghost use Rattle.drive_check.specs.HeldTypes.{types_in};
+    ghost use Rattle.drive_check.specs.Indexed.{Indexes};
 
-    /// The types of declarations with these names. Takes time and memory in proportion to their number.
+    /// The types of declarations with these names. Takes time and memory in proportion to their number and that of their fields.
     pub fn new(
         alloc: Global,
         names: &[Name],
@@ -35,10 +46,12 @@ impl<'a> ModuleTypes<'a> {
             place: Place { line: 1, column: 1 },
             shape: Shape::Bundle(Shared::new(alloc, List::new(alloc))?),
         };
+        let indexes = indexes_of(alloc, declared, names.len())?;
         Ok(ModuleTypes {
             declared,
             numbers,
             empty,
+            indexes,
         })
     }
 
@@ -52,6 +65,34 @@ impl<'a> ModuleTypes<'a> {
         match self.declared.get(*number) {
             Some(typ) => typ,
             None => &self.empty,
+        }
+    }
+
+    /// The same, with the index of its fields where there are many.
+    pub fn reached(&self, id: u32) -> Reached<'_>
+        ensures { result.typ.now ≡ types_in self.now id }
+    {
+        let Some(number) = self.numbers.get(&id) else {
+            return Reached::plain(&self.empty);
+        };
+        let Some(typ) = self.declared.get(*number) else {
+            return Reached::plain(&self.empty);
+        };
+        match self.index_at(*number) {
+            Some(index) => Reached {
+                typ,
+                index: Some(index),
+            },
+            None => Reached::plain(typ),
+        }
+    }
+
+    fn index_at(&self, number: usize) -> Option<&FieldIndex>
+        ensures { (typ : AType) → slice_get self.now.declared.now number ≡ Some typ → ForSome result (λ index. Indexes typ index.now) }
+    {
+        match self.indexes.get(number) {
+            Some(Some(index)) => Some(index.get()),
+            Some(None) | None => None,
         }
     }
 }

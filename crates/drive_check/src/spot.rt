@@ -43,22 +43,22 @@ fn follow<'a>(
 ) -> Result<Option<Spot<'a>>, AllocError>
     ensures { IfOk result (λ spot. Leads (follow_all (types_in types.now) name.id (map suffix_onward suffixes.now)) spot) }
 {
-    let mut typ = types.of(name.id);
+    let mut reached = types.reached(name.id);
     let mut way = Vec::new(alloc);
     let mut dynamic = false;
     for suffix in suffixes {
         match suffix {
             Suffix::Field(field) => {
                 way.push(Step::Field(field.id))?;
-                typ = field_type(typ, field.id);
+                reached = reached.field(field.id);
             }
             Suffix::At(_, _, number) => {
                 way.push(Step::Element(*number))?;
-                typ = element_type(typ);
+                reached = reached.element();
             }
             Suffix::Index(_, _) => {
                 dynamic = true;
-                typ = element_type(typ);
+                reached = reached.element();
             }
         }
     }
@@ -68,7 +68,7 @@ fn follow<'a>(
     Ok(Some(Spot {
         component: name.id,
         way,
-        typ,
+        typ: reached.typ,
     }))
 }
 

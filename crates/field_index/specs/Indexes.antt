@@ -1,7 +1,9 @@
 -- The first field of a name (FIRRTL specification 3.0, "Sub-fields"), with what the fields before it weigh together.
 use Rattle.std.specs.Prelude.{◌≡◌, ℕ, suc, List, [], ◌∷◌, ◌++◌, nat_eq, ◌==◌, sum, take, is_some, Option, Some, None, option_map, if◌then◌else◌}
 use Rattle.std.specs.Map.{lookup}
+use Rattle.fir_types.specs.declared.fir_type.FirType.{FirType}
 use Rattle.fir_types.specs.declared.fir_type.Field.{Field}
+use Rattle.fir_types.specs.declared.fir_type.Shape.TheVariants as shape
 use Rattle.field_index.specs.declared.index.FieldPlace.{FieldPlace}
 use Rattle.field_index.specs.declared.index.FieldIndex.{FieldIndex}
 
@@ -24,6 +26,10 @@ IsIndexOf index fields weights = ArePlaces index.places.entries fields weights
 -- the index of the fields, whatever they weigh
 abbrev pub HasIndex : FieldIndex → List Field → Type 0
 HasIndex index fields = (weights : List ℕ) × IsIndexOf index fields weights
+
+-- the index of a bundle's fields without weights; of another type it says nothing
+abbrev pub IsIndexOfType : FirType → FieldIndex → Type 0
+IsIndexOfType typ index = (fields : List Field) → typ.shape ≡ shape.Bundle fields → IsIndexOf index fields []
 
 -- the entries with one more, unless there is one of its name
 abbrev pub with_new : List (ℕ × FieldPlace) → ℕ → FieldPlace → List (ℕ × FieldPlace)

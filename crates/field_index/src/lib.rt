@@ -4,5 +4,7 @@
 #![tactic(auto)]
 
 pub mod index;
+pub mod wide;
 
 pub use index::{FieldIndex, FieldPlace};
+pub use wide::{field_by, index_of};

@@ -1,3 +1,5 @@
+pub mod MemoryLeaves
+pub mod MemoryWays
 pub mod Initialized
 pub mod Literals
 pub mod Nexts
@@ -15,3 +17,4 @@ mod Examples
 mod ExamplesOfParts
 mod ExamplesOfMemories
 mod ExamplesOfLoops
+mod ExamplesOfStates

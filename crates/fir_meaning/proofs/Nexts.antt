@@ -1,6 +1,7 @@
 -- The next state, and the rows of a run, are determined: by what the leaves have in the cycle.
-use Rattle.std.proofs.Common.{◌≡◌, ◌≢◌, ℕ, zero, suc, ◌==◌, Bool, true, false, not, ◌&&◌, cond, List, [], ◌∷◌, map, fold, filter, Option, Some, None, option_map, option_and_then, ℤ, pos, nat_lt, unsigned_abs, refl, sym, ap, ap₂, ◌∙◌, subst, arith, if◌then◌else◌, int_eq}
+use Rattle.std.proofs.Common.{◌≡◌, ◌≢◌, ◌<◌, ℕ, zero, suc, ◌==◌, Bool, true, false, not, ◌&&◌, cond, List, [], ◌∷◌, map, fold, filter, Option, Some, None, option_map, option_and_then, ℤ, pos, nat_lt, unsigned_abs, refl, sym, ap, ap₂, ◌∙◌, subst, arith, if◌then◌else◌, int_eq}
 use Rattle.std.specs.Prelude.{Contains}
+use Rattle.fir_types.specs.declared.fir_type.FirType.{FirType}
 use Rattle.fir_types.specs.declared.leaf.TypeLeaf.{TypeLeaf}
 use Rattle.fir_types.specs.declared.leaf.PathStep.{PathStep}
 use Rattle.fir_types.specs.declared.leaf.PathStep.TheVariants as step
@@ -18,12 +19,15 @@ use Rattle.fir_meaning.specs.Values.{Valuation, scene_of, scene_with, value, who
 use Rattle.fir_meaning.specs.Drives.{drives, left_in, set_at}
 use Rattle.fir_meaning.specs.MemoryPorts.{MemoryPort, Contents, Leaves, memory_ports, port_named, field, after_port, after_writes, asks_to_write, is_within, address, mask_field, written_field}
 use Rattle.fir_meaning.specs.States.{State, SameState, Inputs, Stands, Trace, ended, cycle, next, next_of_register, next_of_memory, next_of_port, located, where_located, or_else, taken, row, watched, watched_of, watched_of_component, leaf_of, is_port, is_source, is_register, IsLeafOf}
+use Rattle.fir_meaning.specs.Elements.{IsElement}
 use Rattle.fir_meaning.specs.Mentions.{joined, mentions, whole_region}
-use Rattle.fir_meaning.specs.Loops.{live, driven_from, write_goes_by, IsRead, by_live_connect, by_reset, by_init, by_write, by_read, TakesLeaves, HasNoLoop, HasLeaves}
+use Rattle.fir_meaning.specs.Loops.{live, driven_from, write_goes_by, IsRead, by_live_connect, by_reset, by_init, by_read, TakesLeaves, HasNoLoop, HasLeaves}
 use Rattle.fir_meaning.proofs.Tracking.{tracked, all_same, whole_paired}
 use Rattle.fir_meaning.proofs.Sides.{named, side_two}
 use Rattle.fir_meaning.proofs.Blocks.{drives_same}
 use Rattle.fir_meaning.proofs.Ports.{and_some, one_later, from_map, from_flat_map, found, same_number}
+use Rattle.fir_meaning.proofs.MemoryLeaves.{write_leaf}
+use Rattle.fir_meaning.proofs.MemoryWays.{element_way, shown_element, shown_same}
 use Rattle.fir_meaning.proofs.Settling.{at, local, local_at, agree_at, read_same, read_contents, settled_same, port_target, flat_none}
 
 -- Writes
@@ -55,11 +59,15 @@ writes_same memory l r element way (port ∷ ports) before after h old =
 
 -- The next state
 
-located_is : (design : Design) (path : List ℕ) (m : TypedModule) (c : Component) (leaf : TypeLeaf) → Stands design path m c leaf → located design path c.declaration.name ≡ Some (m, c)
-located_is design path m c leaf stands =
-    ap (option_and_then (λ x. option_map (λ y. (x, y)) (component_named x c.declaration.name))) stands.reached ∙ ap (option_map (λ y. (m, y))) stands.declared
+located_there : (design : Design) (path : List ℕ) (m : TypedModule) (c : Component) → module_at design path ≡ Some m → component_named m c.declaration.name ≡ Some c
+    → located design path c.declaration.name ≡ Some (m, c)
+located_there design path m c reached declared =
+    ap (option_and_then (λ x. option_map (λ y. (x, y)) (component_named x c.declaration.name))) reached ∙ ap (option_map (λ y. (m, y))) declared
 
-module _ (design : Design) (takes : TakesLeaves design) (s t : State) (rho other : Valuation) (kept : SameState design s t)
+located_is : (design : Design) (path : List ℕ) (m : TypedModule) (c : Component) (leaf : TypeLeaf) → Stands design path m c leaf → located design path c.declaration.name ≡ Some (m, c)
+located_is design path m c leaf stands = located_there design path m c stands.reached stands.declared
+
+module _ (design : Design) (has : HasBundles design) (takes : TakesLeaves design) (s t : State) (rho other : Valuation) (kept : SameState design s t)
     (every : (x : FlatLeaf) → IsLeafOf design x → at rho x ≡ at other x) where
   register_next : (path : List ℕ) (m : TypedModule) (c : Component) (leaf : TypeLeaf) → Stands design path m c leaf → is_register c.declaration.sort ≡ true → (sort : Sort) → c.declaration.sort ≡ sort
       → (held kept_too : ℤ) → held ≡ kept_too → next_of_register (scene_of m path rho) c sort leaf.path held ≡ next_of_register (scene_of m path other) c sort leaf.path kept_too
@@ -98,25 +106,41 @@ module _ (design : Design) (takes : TakesLeaves design) (s t : State) (rho other
     by_sort (An_instance target) q = same
     by_sort (A_node expr) q = same
 
-  contents_next : (path : List ℕ) (m : TypedModule) (c : Component) (leaf : TypeLeaf) (memory : Memory) (port inner : ℕ) (way : List PathStep) (element : ℕ) → Stands design path m c leaf
-      → c.declaration.sort ≡ A_memory memory → leaf.flip ≡ false → leaf.path ≡ step.Field port ∷ step.Field inner ∷ way
-      → after_writes memory (local m path rho c.declaration.name) (s.contents path c.declaration.name) element way
-      ≡ after_writes memory (local m path other c.declaration.name) (t.contents path c.declaration.name) element way
-  contents_next path m c leaf memory port inner way element stands sort turned is =
-      writes_same memory (local m path rho c.declaration.name) (local m path other c.declaration.name) element way (memory_ports memory) (s.contents path c.declaration.name) (t.contents path c.declaration.name)
+  -- what a port writes into a leaf of an element goes by leaves of its memory
+  contents_next : (path : List ℕ) (m : TypedModule) (c : Component) (memory : Memory) (typ : FirType) (leaf : TypeLeaf) (element : ℕ) → module_at design path ≡ Some m
+      → component_named m c.declaration.name ≡ Some c → c.declaration.sort ≡ A_memory memory → IsElement c memory typ → Contains (leaves typ) leaf → element < depth_of memory
+      → after_writes memory (local m path rho c.declaration.name) (s.contents path c.declaration.name) element leaf.path
+      ≡ after_writes memory (local m path other c.declaration.name) (t.contents path c.declaration.name) element leaf.path
+  contents_next path m c memory typ leaf element reached declared sort of inside below =
+      writes_same memory (local m path rho c.declaration.name) (local m path other c.declaration.name) element leaf.path (memory_ports memory) (s.contents path c.declaration.name) (t.contents path c.declaration.name)
       (λ writer among by goes.
       let y : Leaf = record { component = c.declaration.name; way = step.Field writer.name ∷ by } in
-      let read : IsRead c leaf memory port way = record { sort = sort; source = turned; field = inner; is = is } in
-      local_at m path rho y ∙ (every (flat m path y) (takes.closed (flat m path (leaf_of c leaf)) (flat m path y) (by_write path m c leaf memory port way writer by stands read among goes)) ∙ sym (local_at m path other y)))
-      (kept.contents path m c leaf memory port inner way element stands sort turned is)
+      let l = write_leaf memory typ writer leaf inside by among goes in
+      let stands : Stands design path m c l.0 = record { reached = reached; declared = declared; listed = subst (λ ls. Contains ls l.0) (sym of.bundle) l.1 } in
+      let there : IsLeafOf design (flat m path y) =
+      record { path = path; m = m; c = c; leaf = l.0; stands = stands; is = ap (λ w. flat m path (record { component = c.declaration.name; way = w })) l.2 } in
+      local_at m path rho y ∙ (every (flat m path y) there ∙ sym (local_at m path other y)))
+      (kept.contents path m c memory typ leaf element reached declared sort of inside below)
+
+  -- so it is with what read data show of an element
+  shown_next : (path : List ℕ) (m : TypedModule) (c : Component) (leaf : TypeLeaf) (memory : Memory) (port inner : ℕ) (way : List PathStep) (element : ℕ) → Stands design path m c leaf
+      → c.declaration.sort ≡ A_memory memory → leaf.flip ≡ false → leaf.path ≡ step.Field port ∷ step.Field inner ∷ way → element < depth_of memory
+      → after_writes memory (local m path rho c.declaration.name) (s.contents path c.declaration.name) element way
+      ≡ after_writes memory (local m path other c.declaration.name) (t.contents path c.declaration.name) element way
+  shown_next path m c leaf memory port inner way element stands sort turned is below =
+      let name : ℕ = c.declaration.name in
+      let bundle = has.memories path m c memory stands.reached stands.declared sort in
+      let part = element_way memory bundle.0 leaf port inner way (subst (λ ls. Contains ls leaf) bundle.1 stands.listed) turned is in
+      subst (λ w. after_writes memory (local m path rho name) (s.contents path name) element w ≡ after_writes memory (local m path other name) (t.contents path name) element w) part.2
+      (contents_next path m c memory bundle.0 part.0 element stands.reached stands.declared sort (shown_element c memory bundle.0 bundle.1 leaf stands.listed) part.1 below)
 
   taken_next : (path : List ℕ) (m : TypedModule) (c : Component) (leaf : TypeLeaf) (memory : Memory) (port inner : ℕ) (way : List PathStep) (u : Under) (element : ℕ) → Stands design path m c leaf
-      → c.declaration.sort ≡ A_memory memory → leaf.flip ≡ false → leaf.path ≡ step.Field port ∷ step.Field inner ∷ way
+      → c.declaration.sort ≡ A_memory memory → leaf.flip ≡ false → leaf.path ≡ step.Field port ∷ step.Field inner ∷ way → element < depth_of memory
       → taken u (s.contents path c.declaration.name) (after_writes memory (local m path rho c.declaration.name) (s.contents path c.declaration.name)) element way
       ≡ taken u (t.contents path c.declaration.name) (after_writes memory (local m path other c.declaration.name) (t.contents path c.declaration.name)) element way
-  taken_next path m c leaf memory port inner way under.New element stands sort turned is = contents_next path m c leaf memory port inner way element stands sort turned is
-  taken_next path m c leaf memory port inner way under.Old element stands sort turned is = kept.contents path m c leaf memory port inner way element stands sort turned is
-  taken_next path m c leaf memory port inner way under.Undefined element stands sort turned is = kept.contents path m c leaf memory port inner way element stands sort turned is
+  taken_next path m c leaf memory port inner way under.New element stands sort turned is below = shown_next path m c leaf memory port inner way element stands sort turned is below
+  taken_next path m c leaf memory port inner way under.Old element stands sort turned is below = shown_same design has s t kept path m c leaf memory port inner way element stands sort turned is below
+  taken_next path m c leaf memory port inner way under.Undefined element stands sort turned is below = shown_same design has s t kept path m c leaf memory port inner way element stands sort turned is below
 
   captured_next : (path : List ℕ) (m : TypedModule) (c : Component) (leaf : TypeLeaf) (memory : Memory) (port inner : ℕ) (way : List PathStep) → Stands design path m c leaf
       → c.declaration.sort ≡ A_memory memory → read_latency_of memory ≢ 0 → leaf.flip ≡ false → leaf.path ≡ step.Field port ∷ step.Field inner ∷ way
@@ -134,7 +158,7 @@ module _ (design : Design) (takes : TakesLeaves design) (s t : State) (rho other
       let here : l (step.Field port ∷ step.Field by ∷ []) ≡ r (step.Field port ∷ step.Field by ∷ []) =
       local_at m path rho y ∙ (every (flat m path y) (takes.closed (flat m path (leaf_of c leaf)) (flat m path y) (by_read path m c leaf memory port way q by stands read later is_named goes)) ∙ sym (local_at m path other y)) in
       subst (λ z. l (step.Field z ∷ step.Field by ∷ []) ≡ r (step.Field z ∷ step.Field by ∷ [])) (sym name) here)
-      ∙ read_contents memory r before after way (λ element. taken_next path m c leaf memory port inner way (under_of memory) element stands sort turned is) (port_named memory port)
+      ∙ read_contents memory r before after way (λ element below. taken_next path m c leaf memory port inner way (under_of memory) element stands sort turned is below) (port_named memory port)
 
   pub next_same : SameState design (next design s rho) (next design t other)
   next_same = record {
@@ -144,12 +168,13 @@ module _ (design : Design) (takes : TakesLeaves design) (s t : State) (rho other
         ap (where_located (s.registers path name leaf.path) (λ found. next_of_register (scene_of found.0 path rho) found.1 found.1.declaration.sort leaf.path (s.registers path name leaf.path))) place
         ∙ (register_next path m c leaf stands register c.declaration.sort refl (s.registers path name leaf.path) (t.registers path name leaf.path) (kept.registers path m c leaf stands register)
         ∙ sym (ap (where_located (t.registers path name leaf.path) (λ found. next_of_register (scene_of found.0 path other) found.1 found.1.declaration.sort leaf.path (t.registers path name leaf.path))) place));
-    contents = λ path m c leaf memory port inner way element stands sort turned is.
-        let place = located_is design path m c leaf stands in
+    contents = λ path m c memory typ leaf element reached declared sort of inside below.
+        let way : List PathStep = leaf.path in
+        let place = located_there design path m c reached declared in
         let name : ℕ = c.declaration.name in
         ap (λ o. where_located (s.contents path name) (λ found. next_of_memory (scene_of found.0 path rho) found.1 found.1.declaration.sort (s.contents path name)) o element way) place
         ∙ (ap (λ k. next_of_memory (scene_of m path rho) c k (s.contents path name) element way) sort
-        ∙ (contents_next path m c leaf memory port inner way element stands sort turned is
+        ∙ (contents_next path m c memory typ leaf element reached declared sort of inside below
         ∙ (sym (ap (λ k. next_of_memory (scene_of m path other) c k (t.contents path name) element way) sort)
         ∙ sym (ap (λ o. where_located (t.contents path name) (λ found. next_of_memory (scene_of found.0 path other) found.1 found.1.declaration.sort (t.contents path name)) o element way) place))));
     captured = λ path m c leaf memory port inner way stands sort later turned is.
@@ -214,4 +239,4 @@ rows_same design all has none leaves_of takes {s} {t} kept (cycle {given = g} rh
     let first : row design rho ≡ row design other =
     map_same (λ leaf. rho [] leaf.component leaf.way) (λ leaf. other [] leaf.component leaf.way) (watched design)
     (λ y among. every (record { path = []; component = y.component; way = y.way }) (watched_is_leaf design has (module_named design design.main) refl y among)) in
-    ap₂ (λ x xs. x ∷ xs) first (rows_same design all has none leaves_of takes (next_same design takes s t rho other kept every) rest later)
+    ap₂ (λ x xs. x ∷ xs) first (rows_same design all has none leaves_of takes (next_same design has takes s t rho other kept every) rest later)

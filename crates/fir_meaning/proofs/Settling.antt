@@ -1,5 +1,5 @@
 -- Two valuations that settle in one cycle agree on every leaf, where no leaf reads itself.
-use Rattle.std.proofs.Common.{◌≡◌, ◌≢◌, ℕ, zero, suc, ◌==◌, Bool, true, false, not, ◌&&◌, List, [], ◌∷◌, ◌++◌, map, slice_get, filter_map, Option, Some, None, option_map, option_and_then, ℤ, pos, nat_lt, unsigned_abs, refl, sym, ap, ap₂, ◌∙◌, subst, arith, true≢false, if◌then◌else◌, ⊎_elim, int_eq}
+use Rattle.std.proofs.Common.{◌≡◌, ◌≢◌, ◌<◌, ℕ, zero, suc, ◌==◌, Bool, true, false, not, ◌&&◌, List, [], ◌∷◌, ◌++◌, map, slice_get, filter_map, Option, Some, None, option_map, option_and_then, ℤ, pos, nat_lt, unsigned_abs, refl, sym, ap, ap₂, ◌∙◌, subst, arith, true≢false, if◌then◌else◌, ⊎_elim, int_eq}
 use Rattle.std.specs.Prelude.{Contains}
 use Rattle.place_text.specs.declared.place.Place.{Place}
 use Rattle.bit_words.specs.declared.value.Value.{Value}
@@ -25,9 +25,10 @@ use Rattle.fir_meaning.specs.MemoryPorts.{MemoryPort, Contents, Leaves, memory_p
 use Rattle.fir_meaning.specs.States.{State, SameState, Inputs, Stands, Settled, seen, leaf_of, is_port, is_source, is_register, is_driven, IsLeafOf}
 use Rattle.fir_meaning.specs.Mentions.{Agree, joined, mentions}
 use Rattle.fir_meaning.specs.Loops.{Mentioned, live, read_goes_by, ReadsLeaf, by_connect, by_node, by_port, HasNoLoop, HasLeaves}
-use Rattle.fir_meaning.proofs.Tracking.{Tracks, tracks_none, tracks_next, tracked, each_same, none_some, some_same}
+use Rattle.fir_meaning.proofs.Tracking.{Tracks, tracks_none, tracks_next, tracked, each_same, none_some, some_same, below_of}
 use Rattle.fir_meaning.proofs.Covering.{true_or_false}
 use Rattle.fir_meaning.proofs.Blocks.{drives_same}
+use Rattle.fir_meaning.proofs.MemoryWays.{shown_same}
 use Rattle.fir_meaning.proofs.Chains.{Ends, ends, chains_end}
 use Rattle.fir_meaning.proofs.Ports.{from_flat_map, from_map, from_filter_map, bundle_leaves, last_of_path, found, same_number, target_is, instance_inside, port_outside}
 
@@ -89,9 +90,16 @@ read_same_mode memory l r contents port way mode.ReadWriter h =
     ∙ ap (λ w. if (int_eq (field r port en_name []) (pos 1) && not (int_eq w (pos 1))) && nat_lt (address r port) (depth_of memory) then contents (address r port) way else pos 0)
     (h wmode_name (2, omega arith, refl))
 
-pub read_contents : (memory : Memory) (l : Leaves) (before after : Contents) (way : List PathStep) → ((element : ℕ) → before element way ≡ after element way) → (o : Option MemoryPort)
+-- A read looks only at elements below the depth.
+pub read_contents : (memory : Memory) (l : Leaves) (before after : Contents) (way : List PathStep) → ((element : ℕ) → element < depth_of memory → before element way ≡ after element way) → (o : Option MemoryPort)
     → read_of memory l before o way ≡ read_of memory l after o way
-read_contents memory l before after way h (Some port) = ap (λ x. if asks_to_read l port port.mode && is_within memory l port then x else pos 0) (h (address l port))
+read_contents memory l before after way h (Some port) = by (asks_to_read l port port.mode) (is_within memory l port) refl where
+  by : (reads within : Bool) → is_within memory l port ≡ within
+      → (if reads && within then before (address l port) way else pos 0) ≡ (if reads && within then after (address l port) way else pos 0)
+  by true true e = h (address l port) (below_of (address l port) (depth_of memory) e)
+  by true false e = refl
+  by false true e = refl
+  by false false e = refl
 read_contents memory l before after way h None = refl
 
 pub read_same : (memory : Memory) (l r : Leaves) (contents : Contents) (name : ℕ) (way : List PathStep) (o : Option MemoryPort) → port_named memory name ≡ o
@@ -234,7 +242,7 @@ module _ (design : Design) (has : HasBundles design) (s t : State) (given : Inpu
           local_at m path rho y ∙ (below (flat m path y) (by_port path m c leaf memory q port inner way stands sort e turned is named by goes) ∙ sym (local_at m path other y)) in
           subst (λ z. local m path rho c.declaration.name (step.Field z ∷ step.Field by ∷ []) ≡ local m path other c.declaration.name (step.Field z ∷ step.Field by ∷ [])) (sym name) here) in
           let held = read_contents memory (local m path other c.declaration.name) (s.contents path c.declaration.name) (t.contents path c.declaration.name) way
-          (λ element. kept.contents path m c leaf memory port inner way element stands sort turned is) (port_named memory port) in
+          (λ element below_depth. shown_same design has s t kept path m c leaf memory port inner way element stands sort turned is below_depth) (port_named memory port) in
           one.reads path m c leaf memory port inner way stands sort e turned is ∙ (same ∙ (held ∙ sym (two.reads path m c leaf memory port inner way stands sort e turned is)))
       by_latency (suc n) e (port, inner, way, is) =
           let later : read_latency_of memory ≢ 0 = λ z. let bad : suc n ≡ 0 = sym e ∙ z in absurd (omega arith) in
@@ -313,7 +321,7 @@ settled_same design all has none leaves_of s t given rho other one two kept x l 
 pub state_itself : (design : Design) (s : State) → SameState design s s
 state_itself design s = record {
   registers = λ path m c leaf stands register. refl;
-  contents = λ path m c leaf memory port inner way element stands sort turned is. refl;
+  contents = λ path m c memory typ leaf element reached declared sort is inside below. refl;
   captured = λ path m c leaf memory port inner way stands sort latency turned is. refl;
 }
 

@@ -142,7 +142,7 @@ fixed_step f g region s t h to p = record {
 }
 
 -- a step to the element that an index gives
-below_of : (k n : ℕ) → nat_lt k n ≡ true → k < n
+pub below_of : (k n : ℕ) → nat_lt k n ≡ true → k < n
 below_of k n q = grind (arith, common_steps)
 
 picked : (v w : List PathStep) (k n : ℕ) (b : Bool) → nat_lt k n ≡ b → further (Some v) (if b then Some (step.Element k) else None) ≡ Some w

@@ -1,7 +1,8 @@
 -- The cycle (FIRRTL specification 3.0, "Registers", "Memories" and "Last Connect Semantics"): the state between cycles, the
 -- valuation that settles in a cycle, the next state, and what is watched from cycle to cycle.
-use Rattle.std.specs.Prelude.{◌≡◌, ◌≢◌, ℕ, ◌&&◌, not, Bool, true, false, List, [], ◌∷◌, map, filter, flat_map, Contains, ℤ, pos, Option, Some, None, option_map, option_and_then, if◌then◌else◌}
+use Rattle.std.specs.Prelude.{◌≡◌, ◌≢◌, ◌<◌, ℕ, ◌&&◌, not, Bool, true, false, List, [], ◌∷◌, map, filter, flat_map, Contains, ℤ, pos, Option, Some, None, option_map, option_and_then, if◌then◌else◌}
 use Rattle.bit_words.specs.Values.{integer_of}
+use Rattle.fir_types.specs.declared.fir_type.FirType.{FirType}
 use Rattle.fir_types.specs.declared.leaf.TypeLeaf.{TypeLeaf}
 use Rattle.fir_types.specs.declared.leaf.PathStep.{PathStep}
 use Rattle.fir_types.specs.declared.leaf.PathStep.TheVariants as step
@@ -9,12 +10,13 @@ use Rattle.fir_types.specs.declared.memory.Memory.{Memory}
 use Rattle.fir_types.specs.declared.memory.Under.{Under}
 use Rattle.fir_types.specs.declared.memory.Under.TheVariants as under
 use Rattle.fir_types.specs.Leaves.{leaves}
-use Rattle.fir_types.specs.Memories.{read_latency_of, under_of}
+use Rattle.fir_types.specs.Memories.{depth_of, read_latency_of, under_of}
 use Rattle.fir_tree.specs.declared.expr.Expr.{Expr}
 use Rattle.fir_meaning.specs.Components.{Design, TypedModule, Component, Leaf, Sort, An_input, An_output, A_register, A_reset_register, A_memory, A_node, Flow, Source, flow_of, is_clock, module_at, module_named, component_named, FlatLeaf, flat}
 use Rattle.fir_meaning.specs.Values.{Valuation, Scene, scene_of, value, whole, is_one}
 use Rattle.fir_meaning.specs.Drives.{drives, set_at, left_in}
 use Rattle.fir_meaning.specs.MemoryPorts.{Contents, after_writes, read_by}
+use Rattle.fir_meaning.specs.Elements.{IsElement}
 
 -- What is kept from a cycle to the next: the integer of each register's leaf, of each leaf of each element of each memory,
 -- and of each leaf that a memory's port has read, by instance path and name.
@@ -164,14 +166,15 @@ next design s rho = record {
       (λ found. next_of_port (scene_of found.0 path rho) found.1 found.1.declaration.sort (s.contents path name)) (located design path name);
 }
 
--- Two states are the same as far as the design's leaves show: in each register's leaf, in each leaf of an element that a port's read
--- data show, and in what the ports of latency 1 have read.
+-- Two states are the same as far as the design goes: in each register's leaf, in each leaf of each element of each memory, and in
+-- what the ports of latency 1 have read.
 pub record SameState (design : Design) (s t : State) : Type 0 where
   pub registers : (path : List ℕ) (m : TypedModule) (c : Component) (leaf : TypeLeaf) → Stands design path m c leaf → is_register c.declaration.sort ≡ true
       → s.registers path c.declaration.name leaf.path ≡ t.registers path c.declaration.name leaf.path
-  pub contents : (path : List ℕ) (m : TypedModule) (c : Component) (leaf : TypeLeaf) (memory : Memory) (port field : ℕ) (way : List PathStep) (element : ℕ)
-      → Stands design path m c leaf → c.declaration.sort ≡ A_memory memory → leaf.flip ≡ false → leaf.path ≡ step.Field port ∷ step.Field field ∷ way
-      → s.contents path c.declaration.name element way ≡ t.contents path c.declaration.name element way
+  pub contents : (path : List ℕ) (m : TypedModule) (c : Component) (memory : Memory) (typ : FirType) (leaf : TypeLeaf) (element : ℕ)
+      → module_at design path ≡ Some m → component_named m c.declaration.name ≡ Some c → c.declaration.sort ≡ A_memory memory → IsElement c memory typ
+      → Contains (leaves typ) leaf → element < depth_of memory
+      → s.contents path c.declaration.name element leaf.path ≡ t.contents path c.declaration.name element leaf.path
   pub captured : (path : List ℕ) (m : TypedModule) (c : Component) (leaf : TypeLeaf) (memory : Memory) (port field : ℕ) (way : List PathStep)
       → Stands design path m c leaf → c.declaration.sort ≡ A_memory memory → read_latency_of memory ≢ 0 → leaf.flip ≡ false
       → leaf.path ≡ step.Field port ∷ step.Field field ∷ way → s.captured path c.declaration.name port way ≡ t.captured path c.declaration.name port way

@@ -55,9 +55,10 @@ pub fn settled_valuations_agree()
     ensures { (design : Design) (all : List FlatLeaf) → HasBundles design → HasNoLoop design → HasLeaves design all → (state : State) (given : Inputs) (rho other : Valuation) → Settled design state given rho → Settled design state given other → (x : FlatLeaf) → IsLeafOf design x → rho x.path x.component x.way ≡ other x.path x.component x.way }
 {}
 
-/// The next state depends only on the state and on what the leaves have in the cycle.
+/// The next state depends only on the state and on what the leaves have in the cycle: in all that memories hold, too, as memories have
+/// the leaves of their ports.
 pub fn next_states_agree()
-    ensures { (design : Design) → TakesLeaves design → (first second : State) (rho other : Valuation) → SameState design first second → ((x : FlatLeaf) → IsLeafOf design x → rho x.path x.component x.way ≡ other x.path x.component x.way) → SameState design (next design first rho) (next design second other) }
+    ensures { (design : Design) → HasBundles design → TakesLeaves design → (first second : State) (rho other : Valuation) → SameState design first second → ((x : FlatLeaf) → IsLeafOf design x → rho x.path x.component x.way ≡ other x.path x.component x.way) → SameState design (next design first rho) (next design second other) }
 {}
 
 /// A circuit without a loop has at most one trace from a state under given inputs.

@@ -1,8 +1,6 @@
 -- what leaves read, and what the edge takes
 pub mod Typing
 pub mod Mentioning
-pub mod MemoryLeaves
-pub mod MemoryWays
 pub mod Reading
 -- all leaves
 pub mod Listing

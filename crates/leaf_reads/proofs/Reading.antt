@@ -22,8 +22,8 @@ use Rattle.circuit_laws.proofs.TypedModules.{module_mentions}
 use Rattle.leaf_reads.specs.Typed.{is_typed_sort}
 use Rattle.leaf_reads.proofs.Typing.{both_true, block_typed_there, sort_typed_there}
 use Rattle.leaf_reads.proofs.Mentioning.{AllOf, condition_typed, block_reads, whole_reads}
-use Rattle.leaf_reads.proofs.MemoryLeaves.{read_leaf, write_leaf}
-use Rattle.leaf_reads.proofs.MemoryWays.{element_way}
+use Rattle.fir_meaning.proofs.MemoryLeaves.{read_leaf, write_leaf}
+use Rattle.fir_meaning.proofs.MemoryWays.{element_way}
 
 is_there : {A : Type 0} (o : Option A) → is_some o ≡ true → (x : A) × (o ≡ Some x)
 is_there (Some x) e = (x, refl)

@@ -2,7 +2,7 @@
 
 ghost use Rattle.std.specs.Prelude.{◌≡◌, ℕ, suc, ◌+◌, ◌≤◌, List, length};
 ghost use Rattle.fir_tree.specs.declared.scope.Fitted.{Fitted as FittedCircuit};
-ghost use Rattle.fir_meaning.specs.Components.{Design, FlatLeaf, design_of};
+ghost use Rattle.fir_meaning.specs.Components.{Design, FlatLeaf, HasBundles, design_of};
 ghost use Rattle.fir_meaning.specs.Values.{Valuation};
 ghost use Rattle.fir_meaning.specs.Certain.{IsInitialized};
 ghost use Rattle.fir_meaning.specs.States.{State, SameState, Inputs, Settled, next};
@@ -12,14 +12,15 @@ ghost use Rattle.sweep_laws.specs.Sweeps.{swept};
 
 use sweep_laws::laws::sweeps_settle;
 
-/// What is settled for a state is settled for one that is the same as far as the design's leaves show.
+/// What is settled for a state is settled for one that is the same as far as the design goes, where memories have the leaves of their
+/// ports.
 pub fn same_states_settle_alike()
-    ensures { (design : Design) (s t : State) → SameState design t s → (given : Inputs) (rho : Valuation) → Settled design t given rho → Settled design s given rho }
+    ensures { (design : Design) → HasBundles design → (s t : State) → SameState design t s → (given : Inputs) (rho : Valuation) → Settled design t given rho → Settled design s given rho }
 {}
 
 /// And after a cycle they are the same again.
 pub fn same_states_go_on_alike()
-    ensures { (design : Design) (s t : State) → SameState design s t → (rho : Valuation) → SameState design (next design s rho) (next design t rho) }
+    ensures { (design : Design) → HasBundles design → (s t : State) → SameState design s t → (rho : Valuation) → SameState design (next design s rho) (next design t rho) }
 {}
 
 /// A sweep that changes nothing is the last one: later ones change nothing.

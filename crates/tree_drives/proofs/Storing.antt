@@ -1,5 +1,5 @@
 -- What elements hold, and what ports make of it.
-use Rattle.std.proofs.Common.{◌≡◌, ◌==◌, ℕ, zero, suc, ◌+◌, ◌<◌, ◌&&◌, ◌||◌, nat_lt, not, Bool, true, false, List, [], ◌∷◌, ◌++◌, map, filter, fold, filter_map, length, take, drop, get_or, find, Contains, ℤ, pos, Option, Some, None, option_to_list, if◌then◌else◌, refl, sym, ap, ap₂, ◌∙◌, arith}
+use Rattle.std.proofs.Common.{◌≡◌, ◌≢◌, ◌==◌, ℕ, zero, suc, ◌+◌, ◌<◌, ◌&&◌, ◌||◌, nat_lt, not, Bool, true, false, List, [], ◌∷◌, ◌++◌, map, filter, fold, filter_map, length, take, drop, get_or, find, Contains, ℤ, pos, Option, Some, None, option_to_list, if◌then◌else◌, refl, sym, ap, ap₂, ◌∙◌, subst, arith}
 use Rattle.std.specs.List.{list_any, cons_option}
 use Rattle.std.proofs.lemmas.Grind.{common_steps}
 use Rattle.std.proofs.lemmas.Bool.Decides.{nat_tests}
@@ -8,6 +8,7 @@ use Rattle.std.proofs.lemmas.List.Elements.{filter-append}
 use Rattle.std.proofs.lemmas.List.Sums.{fold-append}
 use Rattle.bit_words.specs.declared.value.Value.{Value}
 use Rattle.bit_words.specs.Values.{integer_of}
+use Rattle.fir_types.specs.declared.fir_type.FirType.{FirType}
 use Rattle.fir_types.specs.declared.leaf.TypeLeaf.{TypeLeaf}
 use Rattle.fir_types.specs.declared.leaf.PathStep.{PathStep}
 use Rattle.fir_types.specs.declared.leaf.PathStep.TheVariants as step
@@ -15,18 +16,22 @@ use Rattle.fir_types.specs.declared.memory.Memory.{Memory}
 use Rattle.fir_types.specs.declared.memory.MemLine.{MemLine}
 use Rattle.fir_types.specs.declared.memory.MemLine.TheVariants as line
 use Rattle.fir_types.specs.declared.memory.PortMode.{PortMode}
+use Rattle.fir_types.specs.declared.memory.PortMode.TheVariants as mode
 use Rattle.fir_types.specs.declared.name.Name.{Name}
 use Rattle.place_text.specs.declared.place.Place.{Place}
+use Rattle.fir_types.specs.Leaves.{leaves}
 use Rattle.fir_types.specs.Memories.{depth_of}
 use Rattle.fir_types.proofs.Lines.{lines_more}
 use Rattle.cycle_values.specs.Ports as port_rules
 use Rattle.cycle_values.specs.Ports.{Shown}
+use Rattle.fir_meaning.specs.Components.{ports_bundle}
 use Rattle.fir_meaning.specs.Values.{beside, lone}
 use Rattle.fir_meaning.specs.Drives.{same_step, same_way}
-use Rattle.fir_meaning.specs.MemoryPorts.{MemoryPort, Contents, Leaves, port_in, address, asks_to_write, shown, after_port}
+use Rattle.fir_meaning.specs.MemoryPorts.{MemoryPort, Contents, Leaves, port_in, memory_ports, address, asks_to_write, written_field, shown, after_port}
+use Rattle.fir_meaning.proofs.MemoryLeaves.{data_leaf}
 use Rattle.drive_check.proofs.KeyTests.{way_equal}
 use Rattle.tree_values.specs.Sites.{beside_leaf, integer_or_zero}
-use Rattle.tree_drives.specs.Contents.{contents_of, stored_leaves, inner_leaf}
+use Rattle.tree_drives.specs.Contents.{contents_of, takes_data, is_stored, stored_leaves, inner_leaf}
 use Rattle.tree_drives.specs.Writing.{over}
 use Rattle.tree_drives.proofs.Settings.{beside_more}
 
@@ -189,33 +194,50 @@ named_later name lines k x h is p =
 -- leaves by their ways within an element
 
 pub stored_more : (leaves : List TypeLeaf) (k : ℕ) (x : TypeLeaf) → k < length leaves → x ≡ get_or leaves k x
-    → stored_leaves (take (k + 1) leaves) ≡ (if x.flip then stored_leaves (take k leaves) else stored_leaves (take k leaves) ++ inner_leaf x ∷ [])
+    → stored_leaves (take (k + 1) leaves) ≡ (if is_stored x then stored_leaves (take k leaves) ++ inner_leaf x ∷ [] else stored_leaves (take k leaves))
 stored_more leaves k x h is =
     ap stored_leaves (take_more leaves k x h ∙ ap (λ y. take k leaves ++ y ∷ []) (sym is))
-    ∙ (ap (map inner_leaf) (filter-append (λ (l : TypeLeaf). not l.flip) (take k leaves) (x ∷ [])) ∙ (map-append inner_leaf (filter (λ (l : TypeLeaf). not l.flip) (take k leaves)) (filter (λ (l : TypeLeaf). not l.flip) (x ∷ []))
-    ∙ by x.flip))
+    ∙ (ap (map inner_leaf) (filter-append is_stored (take k leaves) (x ∷ [])) ∙ (map-append inner_leaf (filter is_stored (take k leaves)) (filter is_stored (x ∷ []))
+    ∙ by (is_stored x)))
   where
     nil : (ls : List TypeLeaf) → ls ++ [] ≡ ls
     nil [] = refl
     nil (l ∷ ls) = ap (λ m. l ∷ m) (nil ls)
 
-    by : (b : Bool) → stored_leaves (take k leaves) ++ map inner_leaf (if not b then x ∷ [] else []) ≡ (if b then stored_leaves (take k leaves) else stored_leaves (take k leaves) ++ inner_leaf x ∷ [])
-    by true = nil (stored_leaves (take k leaves))
-    by false = refl
+    by : (b : Bool) → stored_leaves (take k leaves) ++ map inner_leaf (if b then x ∷ [] else []) ≡ (if b then stored_leaves (take k leaves) ++ inner_leaf x ∷ [] else stored_leaves (take k leaves))
+    by true = refl
+    by false = nil (stored_leaves (take k leaves))
 
-pub stored_there : (leaves : List TypeLeaf) (leaf : TypeLeaf) → Contains leaves leaf → leaf.flip ≡ false → Contains (stored_leaves leaves) (inner_leaf leaf)
-stored_there [] leaf (k, below, is) plain = absurd (omega arith)
-stored_there (l ∷ leaves) leaf (zero, below, is) plain = by l.flip (ap (λ (x : TypeLeaf). x.flip) is ∙ plain)
+stored_there : (leaves : List TypeLeaf) (leaf : TypeLeaf) → Contains leaves leaf → is_stored leaf ≡ true → Contains (stored_leaves leaves) (inner_leaf leaf)
+stored_there [] leaf (k, below, is) stored = absurd (omega arith)
+stored_there (l ∷ leaves) leaf (zero, below, is) stored = by (is_stored l) (ap is_stored is ∙ stored)
   where
-    by : (b : Bool) → b ≡ false → Contains (map inner_leaf (if not b then l ∷ filter (λ (x : TypeLeaf). not x.flip) leaves else filter (λ (x : TypeLeaf). not x.flip) leaves)) (inner_leaf leaf)
-    by true e = cc
-    by false e = (0, omega arith, ap inner_leaf is)
-stored_there (l ∷ leaves) leaf (suc k, below, is) plain = by l.flip (stored_there leaves leaf (k, omega arith, is) plain)
+    by : (b : Bool) → b ≡ true → Contains (map inner_leaf (if b then l ∷ filter is_stored leaves else filter is_stored leaves)) (inner_leaf leaf)
+    by true e = (0, omega arith, ap inner_leaf is)
+    by false e = cc
+stored_there (l ∷ leaves) leaf (suc k, below, is) stored = by (is_stored l) (stored_there leaves leaf (k, omega arith, is) stored)
   where
-    by : (b : Bool) → Contains (stored_leaves leaves) (inner_leaf leaf)
-        → Contains (map inner_leaf (if not b then l ∷ filter (λ (x : TypeLeaf). not x.flip) leaves else filter (λ (x : TypeLeaf). not x.flip) leaves)) (inner_leaf leaf)
-    by true c = c
-    by false (j, less, at) = (suc j, omega (arith, less), at)
+    by : (b : Bool) → Contains (stored_leaves leaves) (inner_leaf leaf) → Contains (map inner_leaf (if b then l ∷ filter is_stored leaves else filter is_stored leaves)) (inner_leaf leaf)
+    by true (j, less, at) = (suc j, omega (arith, less), at)
+    by false c = c
+
+written_taken : (md : PortMode) (port : ℕ) (way : List PathStep) → takes_data (step.Field port ∷ (step.Field (written_field md) ∷ way)) ≡ true
+written_taken mode.Reader port way = refl
+written_taken mode.Writer port way = refl
+written_taken mode.ReadWriter port way = refl
+
+-- Each leaf of an element is stored where the memory has a port.
+pub all_stored : (memory : Memory) (element : FirType) (leaf : TypeLeaf) → memory_ports memory ≢ [] → Contains (leaves element) leaf
+    → (stored : TypeLeaf) × Contains (stored_leaves (leaves (ports_bundle memory element))) stored × (stored.path ≡ leaf.path)
+all_stored memory element leaf some inside = by (memory_ports memory) refl
+  where
+    by : (ports : List MemoryPort) → memory_ports memory ≡ ports → (stored : TypeLeaf) × Contains (stored_leaves (leaves (ports_bundle memory element))) stored × (stored.path ≡ leaf.path)
+    by [] e = absurd (some e)
+    by (port ∷ ports) e =
+        let taken_leaf = data_leaf memory element port leaf inside (subst (λ ps. Contains ps port) (sym e) (0, omega arith, refl)) in
+        let taken : is_stored taken_leaf.0 ≡ true =
+        ap (λ way. not taken_leaf.0.flip || takes_data way) taken_leaf.2 ∙ (ap (λ b. not taken_leaf.0.flip || b) (written_taken port.mode port.name leaf.path) ∙ or_true (not taken_leaf.0.flip)) in
+        (inner_leaf taken_leaf.0, stored_there (leaves (ports_bundle memory element)) taken_leaf.0 taken_leaf.1 taken, ap (drop 2) taken_leaf.2)
 
 pub held_nothing : (leaves : List TypeLeaf) (element : ℕ) (way : List PathStep) → contents_of leaves [] element way ≡ pos 0
 held_nothing leaves element way = ap integer_or_zero (none_beside way leaves)

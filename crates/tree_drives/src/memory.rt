@@ -5,7 +5,7 @@ ghost use Rattle.std.specs.Ordering.{int_eq};
 ghost use Rattle.bit_words.specs.Values.{integer_of};
 ghost use Rattle.fir_types.specs.declared.leaf.PathStep.TheVariants as step;
 ghost use Rattle.fir_meaning.specs.MemoryPorts.{asks_to_write, asks_to_read, address, port_named};
-ghost use Rattle.tree_drives.specs.Contents.{leaves_of_seen, stored_leaves, port_of_held};
+ghost use Rattle.tree_drives.specs.Contents.{leaves_of_seen, takes_data, is_stored, stored_leaves, port_of_held};
 
 use bit_words::{Kind, List, Value};
 use drive_check::leaf_set::{Step, key_of};
@@ -19,8 +19,14 @@ const ADDR: u32 = 0;
 /// The number of the name of what enables a port.
 const EN: u32 = 1;
 
+/// The number of the name of a port's data.
+pub const DATA: u32 = 3;
+
 /// The number of the name of what turns a readwriter to writing.
 const WMODE: u32 = 6;
+
+/// The number of the name of the data that a readwriter writes.
+pub const WDATA: u32 = 7;
 
 /// A memory as its module sees it.
 #[derive(Clone, Copy)]
@@ -38,13 +44,13 @@ pub struct HeldPort {
     pub mode: PortMode,
 }
 
-/// The leaves of a memory that show what elements hold, by their ways within an element.
+/// The leaves of a memory that show what elements hold, and those of the data that its ports write, by their ways within an element.
 pub fn stored_leaves(alloc: Global, leaves: &[TypeLeaf]) -> Result<List<TypeLeaf>, AllocError>
     ensures { IfOk result (λ stored. stored ≡ stored_leaves leaves.now) }
 {
     let mut stored = List::new(alloc);
     for leaf in leaves {
-        if !leaf.flip {
+        if is_stored(leaf) {
             let path = List::from_slice(alloc, behind_two(leaf.path.as_slice()))?;
             let typ = copy(&leaf.typ)?;
             stored.push(TypeLeaf {
@@ -55,6 +61,23 @@ pub fn stored_leaves(alloc: Global, leaves: &[TypeLeaf]) -> Result<List<TypeLeaf
         }
     }
     Ok(stored)
+}
+
+/// Whether a leaf shows what elements hold, or is one of the data that a port writes.
+fn is_stored(leaf: &TypeLeaf) -> bool
+    ensures { result ≡ is_stored leaf.now }
+{
+    !leaf.flip || takes_data(leaf.path.as_slice())
+}
+
+/// Whether this is the way to a leaf of the data that a port writes.
+fn takes_data(path: &[PathStep]) -> bool
+    ensures { result ≡ takes_data path.now }
+{
+    match path {
+        [PathStep::Field(_), PathStep::Field(field), ..] => *field == DATA || *field == WDATA,
+        _ => false,
+    }
 }
 
 /// The steps behind the first two: within the field of a port.

@@ -8,23 +8,17 @@ ghost use Rattle.fir_meaning.specs.MemoryPorts.{after_port, after_writes, shown,
 ghost use Rattle.tree_drives.specs.Contents.{contents_of, leaves_of_seen, port_of_held};
 ghost use Rattle.tree_drives.specs.Writing.{over};
 
-use crate::memory::{HeldPort, SeenMemory, address, asks_to_write, field, is_set};
+use crate::memory::{DATA, HeldPort, SeenMemory, WDATA, address, asks_to_write, field, is_set};
 use crate::reading::element_at;
 use crate::setting::value_or_zero;
 use bit_words::{List, Value};
 use fir_types::{MemLine, PortMode, TypeLeaf, depth_of};
 use std::alloc::{AllocError, Global};
 
-/// The number of the name of a port's data.
-const DATA: u32 = 3;
-
-/// The number of the name of their mask.
+/// The number of the name of the mask of a port's data.
 const MASK: u32 = 4;
 
-/// The number of the name of the data that a readwriter writes.
-const WDATA: u32 = 7;
-
-/// The number of the name of their mask.
+/// The number of the name of the mask of a readwriter's data.
 const WMASK: u32 = 8;
 
 /// Writes what the ports of a memory write in a cycle, port by port in declared order. Where memory is wanted some may be written.

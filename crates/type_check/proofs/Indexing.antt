@@ -1,14 +1,17 @@
 -- The numbers of modules by name, one module after another.
-use Rattle.std.proofs.Common.{◌≡◌, ℕ, ◌+◌, ◌<◌, Bool, true, false, List, [], ◌∷◌, ◌++◌, map, length, take, get_or, refl, sym, ap, ◌∙◌, subst, if◌then◌else◌, true≢false}
-use Rattle.std.specs.Prelude.{is_some, cond, nat_eq, Option, Some, None, option_map, slice_get, ◌==◌}
+use Rattle.std.proofs.Common.{◌≡◌, ℕ, ◌+◌, ◌<◌, Bool, true, false, List, [], ◌∷◌, ◌++◌, map, length, take, get_or, refl, sym, ap, ap₂, ◌∙◌, subst, if◌then◌else◌, true≢false}
+use Rattle.std.specs.Prelude.{is_some, cond, nat_eq, Option, Some, None, option_map, slice_get, ◌==◌, ◌≤◌, IfSome, MatchOption}
 use Rattle.std.specs.Map.{lookup}
-use Rattle.std.proofs.lemmas.List.{take_more}
-use Rattle.std.proofs.lemmas.Option.{slice_get-get_or}
+use Rattle.std.proofs.lemmas.List.{take_more, map-append}
+use Rattle.std.proofs.lemmas.Option.{slice_get-get_or, slice_get_read, slice_get_past}
 use Rattle.std.proofs.lemmas.Bool.{eqb-true, eqb-false}
 use Rattle.fir_tree.specs.declared.circuit.Module.{Module}
 use Rattle.std.proofs.lemmas.Option.{slice_get-map}
-use Rattle.fir_types.specs.declared.fir_type.FirType.{FirType}
-use Rattle.type_check.specs.Indexes.{with_new, named, IsIndex, IsIndexOf, bundle_of}
+use Rattle.circuit_parts.specs.declared.part.Part.{Part}
+use Rattle.circuit_parts.specs.Parts.{instance_part, instance_in}
+use Rattle.type_check.specs.declared.component.Component.{Component}
+use Rattle.type_check.specs.Indexes.{with_new, named, IsIndex, IsIndexOf}
+use Rattle.type_check.specs.Kept.{part_in}
 
 abbrev or_else : {X : Type 0} → Option X → Option X → Option X
 or_else (Some x) o = Some x
@@ -94,7 +97,7 @@ index_more all i d numbers after lt h e name =
         subst (λ o. Fits all o (or_else (named (take i all) name) last)) (sym looked)
         (fits_else all (lookup (nat_eq name) numbers) (cond (key == name) (Some i) None) (named (take i all) name) last (h name) (own (key == name)))
 
--- the bundle with the number of a name is that of the first module of the name
+-- the instance with the number of a name is that of the first module of the name
 
 found_at : (o m : Option Module) → ◌≡◌ {A = Option (Option Module)} (Some o) (option_map Some m) → o ≡ m
 found_at o (Some x) h = by o h
@@ -103,15 +106,29 @@ found_at o (Some x) h = by o h
     by o h = cc
 found_at o None h = absurd (true≢false (ap is_some h))
 
-pub bundle_at : (all : List Module) (numbers : List (ℕ × ℕ)) (name number : ℕ) → IsIndex all numbers → lookup (nat_eq name) numbers ≡ Some number
-    → slice_get (map bundle_of all) number ≡ option_map bundle_of (named all name)
-bundle_at all numbers name number h is =
-    slice_get-map bundle_of all number ∙ ap (option_map bundle_of) (found_at (slice_get all number) (named all name) (ap (option_map (slice_get all)) (sym is) ∙ h name))
+-- what a slice gives at a position
+pub got_at : {B X : Type 0} (now : B → X) (P : B → Type 0) (xs : List X) (i : ℕ) (r : Option B) → IfSome r (λ x. now x ≡ get_or xs i (now x))
+    → MatchOption r (length xs ≤ i) (λ x. (i < length xs) × P x) → option_map now r ≡ slice_get xs i
+got_at now P xs i (Some x) is h = sym (slice_get_read xs (length xs) i (now x) refl h.0 is)
+got_at now P xs i None is h = sym (slice_get_past xs i h)
 
-pub bundle_of_none : (all : List Module) (numbers : List (ℕ × ℕ)) (name : ℕ) → IsIndex all numbers → lookup (nat_eq name) numbers ≡ None
-    → ◌≡◌ {A = Option FirType} None (option_map bundle_of (named all name))
-bundle_of_none all numbers name h is = by (named all name) (ap (option_map (slice_get all)) (sym is) ∙ h name)
+pub instance_at : (all : List Module) (numbers : List (ℕ × ℕ)) (parts : List Part) (instances : List Component) (name number : ℕ) → IsIndex all numbers
+    → map part_in instances ≡ parts → parts ≡ map instance_part all → lookup (nat_eq name) numbers ≡ Some number
+    → option_map part_in (slice_get instances number) ≡ instance_in all name
+instance_at all numbers parts instances name number h same made is =
+    sym (slice_get-map part_in instances number) ∙ ap (λ l. slice_get l number) (same ∙ made) ∙ slice_get-map instance_part all number
+    ∙ ap (option_map instance_part) (found_at (slice_get all number) (named all name) (ap (option_map (slice_get all)) (sym is) ∙ h name))
+
+pub instance_none : (all : List Module) (numbers : List (ℕ × ℕ)) (name : ℕ) → IsIndex all numbers → lookup (nat_eq name) numbers ≡ None
+    → ◌≡◌ {A = Option Part} None (instance_in all name)
+instance_none all numbers name h is = by (named all name) (ap (option_map (slice_get all)) (sym is) ∙ h name)
   where
-    by : (m : Option Module) → ◌≡◌ {A = Option (Option Module)} None (option_map Some m) → ◌≡◌ {A = Option FirType} None (option_map bundle_of m)
+    by : (m : Option Module) → ◌≡◌ {A = Option (Option Module)} None (option_map Some m) → ◌≡◌ {A = Option Part} None (option_map instance_part m)
     by (Some x) h = absurd (true≢false (sym (ap is_some h)))
     by None h = refl
+
+-- one more instance
+pub instances_more : (parts : List Part) (i : ℕ) (x : Part) (instances after : List Component) (c : Component) → i < length parts → x ≡ get_or parts i x
+    → map part_in instances ≡ take i parts → c.part ≡ x → after ≡ instances ++ c ∷ [] → map part_in after ≡ take (i + 1) parts
+instances_more parts i x instances after c lt is h own e =
+    ap (map part_in) e ∙ map-append part_in instances (c ∷ []) ∙ ap₂ (λ l p. l ++ p ∷ []) h (own ∙ is) ∙ sym (take_more parts i x lt)

@@ -8,4 +8,5 @@ mod Judgements
 mod Ways
 mod Indexing
 mod Walking
+mod Kept
 mod Telling

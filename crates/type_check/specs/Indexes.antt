@@ -2,8 +2,6 @@
 use Rattle.std.specs.Prelude.{◌≡◌, ℕ, List, [], ◌∷◌, ◌++◌, nat_eq, ◌==◌, find, slice_get, is_some, Option, Some, option_map, if◌then◌else◌}
 use Rattle.std.specs.Map.{lookup}
 use Rattle.fir_tree.specs.declared.circuit.Module.{Module}
-use Rattle.fir_types.specs.declared.fir_type.FirType.{FirType}
-use Rattle.fir_types.specs.Bundles.{instance_of}
 
 -- the entries with one more, unless there is one of its name
 abbrev pub with_new : {X : Type 0} → List (ℕ × X) → ℕ → X → List (ℕ × X)
@@ -19,7 +17,3 @@ IsIndexOf all numbers modules = (name : ℕ) → option_map (slice_get all) (loo
 
 abbrev pub IsIndex : List Module → List (ℕ × ℕ) → Type 0
 IsIndex modules numbers = IsIndexOf modules numbers modules
-
--- the type of the instances of a module
-abbrev pub bundle_of : Module → FirType
-bundle_of m = instance_of m.ports

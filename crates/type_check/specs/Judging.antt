@@ -5,7 +5,7 @@ use Rattle.fir_types.specs.declared.fir_type.FirType.{FirType}
 use Rattle.type_check.specs.declared.found.Findings.{Findings}
 use Rattle.circuit_parts.specs.declared.part.Part.{Part}
 use Rattle.type_check.specs.declared.rules.Operand.{Operand as Held}
-use Rattle.type_check.specs.declared.steps.Reached.{Reached}
+use Rattle.type_check.specs.declared.reached.Reached.{Reached}
 use Rattle.circuit_parts.specs.Parts.{part_of}
 use Rattle.type_check.specs.Expressions.{Judgement, Operand, type_or_none}
 

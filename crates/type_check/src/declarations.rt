@@ -9,6 +9,7 @@ ghost use Rattle.type_check.specs.Memories.{memory_faults};
 ghost use Rattle.type_check.specs.Statements.{and_then, notes, declares, expects, names_node, port_walk, clock_faults, condition_faults, init_faults};
 ghost use Rattle.type_check.specs.Walks.{Walks};
 
+use crate::component::{Component, again, indexed, plain};
 use crate::conditions::{expect_clock, expect_condition, expect_init};
 use crate::fault::TypeFault;
 use crate::judge::judge;
@@ -83,7 +84,7 @@ pub fn declare_memory(alloc: Global, walk: &mut Walk, memory: &Memory) -> Result
 {
     push_memory(alloc, &mut walk.found.faults, memory)?;
     let typ = memory_type(alloc, memory)?;
-    declare_source(walk, memory.name, typ)
+    declare_memory_type(alloc, walk, memory.name, typ)
 }
 
 /// An instance of a module. It has no type where there is no module of the name.
@@ -95,10 +96,10 @@ pub fn declare_instance(
 ) -> Result<(), AllocError>
     ensures { OnOk result (Walks (declares name.id (instance_in modules.now.all.now target.id)) walk.old walk.new) }
 {
-    let Some(typ) = modules.bundle(target.id) else {
+    let Some(instance) = modules.instance(target.id) else {
         return Ok(());
     };
-    declare_source(walk, name, copy(typ)?)
+    declare_part(walk, name, again(instance)?)
 }
 
 /// A node, which has the type of its expression where that has one.
@@ -133,12 +134,31 @@ fn declare(
     ensures { OnOk result (Walks (declares name.id (Some (part_of typ.now flow))) walk.old walk.new) }
 {
     let typ = copy(typ)?;
-    insert_new(&mut walk.known, name.id, Part { typ, flow })
+    declare_part(walk, name, indexed(alloc, Part { typ, flow })?)
+}
+
+/// Declares a component of this type that can only be read, with an index of its fields.
+fn declare_memory_type(
+    alloc: Global,
+    walk: &mut Walk,
+    name: Name,
+    typ: FirType,
+) -> Result<(), AllocError>
+    ensures { OnOk result (Walks (declares name.id (Some (source_of typ))) walk.old walk.new) }
+{
+    declare_part(walk, name, indexed(alloc, source(typ))?)
 }
 
 /// Declares a component of this type that can only be read.
 fn declare_source(walk: &mut Walk, name: Name, typ: FirType) -> Result<(), AllocError>
     ensures { OnOk result (Walks (declares name.id (Some (source_of typ))) walk.old walk.new) }
 {
-    insert_new(&mut walk.known, name.id, source(typ))
+    declare_part(walk, name, plain(source(typ)))
+}
+
+/// Declares a component, unless there is one of its name.
+fn declare_part(walk: &mut Walk, name: Name, component: Component) -> Result<(), AllocError>
+    ensures { OnOk result (Walks (declares name.id (Some component.part)) walk.old walk.new) }
+{
+    insert_new(&mut walk.known, name.id, component)
 }

@@ -3,6 +3,7 @@
 #![tactic(auto)]
 
 mod checking;
+mod component;
 mod conditions;
 mod declarations;
 pub mod fault;
@@ -11,6 +12,7 @@ mod judge;
 pub mod laws;
 mod memory;
 mod modules;
+mod reached;
 mod rules;
 mod steps;
 mod texts;

@@ -2,21 +2,29 @@
 
 ghost use Rattle.std.specs.Prelude.{◌≡◌, map, option_map, IfOk, OnOk};
 ghost use Rattle.std.specs.Option.{option_copied};
-ghost use Rattle.type_check.specs.Indexes.{IsIndex, with_new, named, bundle_of};
+ghost use Rattle.circuit_parts.specs.Parts.{instance_part, instance_in};
+ghost use Rattle.type_check.specs.Indexes.{IsIndex, with_new};
+ghost use Rattle.type_check.specs.Kept.{part_in};
 
+use crate::component::{Component, indexed};
+use circuit_parts::Part;
+use circuit_parts::steps::source;
 use fir_tree::Module;
-use fir_types::{FirType, instance_type};
+use fir_types::{copy, instance_type};
 use indexmap::IndexMap;
 use std::alloc::{AllocError, Global};
 
-/// The modules of a circuit, with the number of the first of each name, and with the type that the instances of each share.
+/// The modules of a circuit, with the number of the first of each name, and with what the instances of each share.
 #[derive(Drop)]
 pub struct Modules<'a> {
     pub all: &'a [Module],
     numbers: IndexMap<u32, usize>,
-    bundles: Vec<FirType>,
+    parts: Vec<Part>,
+    /// The same with their indexes.
+    instances: Vec<Component>,
     ghost indexed: { IsIndex all.now numbers.entries },
-    ghost bundled: { bundles.items ≡ map bundle_of all.now },
+    ghost made: { parts.items ≡ map instance_part all.now },
+    ghost same: { map part_in instances.items ≡ parts.items },
 }
 
 impl<'a> Modules<'a> {
@@ -25,32 +33,49 @@ impl<'a> Modules<'a> {
         ensures { IfOk result (λ modules. modules.all.now ≡ all.now) }
     {
         let numbers = numbers_of(alloc, all)?;
-        let bundles = bundles_of(alloc, all)?;
+        let parts = parts_of(alloc, all)?;
+        let instances = instances_of(alloc, parts.as_slice())?;
         Ok(Modules {
             all,
             numbers,
-            bundles,
+            parts,
+            instances,
         })
     }
 
-    /// The type of the instances of the first module of a name, given by the number of its text.
-    pub fn bundle(&self, name: u32) -> Option<&FirType>
-        ensures { option_copied result ≡ option_map bundle_of (named self.now.all.now name) }
+    /// An instance of the first module of a name, given by the number of its text.
+    pub fn instance(&self, name: u32) -> Option<&Component>
+        ensures { option_map part_in (option_copied result) ≡ instance_in self.now.all.now name }
     {
         let number = self.numbers.get(&name)?;
-        self.bundles.get(*number)
+        self.instances.get(*number)
     }
 }
 
-/// The types of the modules' instances.
-fn bundles_of(alloc: Global, modules: &[Module]) -> Result<Vec<FirType>, AllocError>
-    ensures { IfOk result (λ bundles. bundles.items ≡ map bundle_of modules.now) }
+/// The instances of these modules.
+fn parts_of(alloc: Global, modules: &[Module]) -> Result<Vec<Part>, AllocError>
+    ensures { IfOk result (λ parts. parts.items ≡ map instance_part modules.now) }
 {
-    let mut bundles = Vec::new(alloc);
+    let mut parts = Vec::new(alloc);
     for module in modules {
-        bundles.push(instance_type(alloc, module.ports.as_slice())?)?;
+        parts.push(source(instance_type(alloc, module.ports.as_slice())?))?;
     }
-    Ok(bundles)
+    Ok(parts)
+}
+
+/// These parts with their indexes.
+fn instances_of(alloc: Global, parts: &[Part]) -> Result<Vec<Component>, AllocError>
+    ensures { IfOk result (λ instances. map part_in instances.items ≡ parts.now) }
+{
+    let mut instances = Vec::new(alloc);
+    for part in parts {
+        let part = Part {
+            typ: copy(&part.typ)?,
+            flow: part.flow,
+        };
+        instances.push(indexed(alloc, part)?)?;
+    }
+    Ok(instances)
 }
 
 /// The numbers of modules by name, of each name the first.

@@ -7,19 +7,14 @@ ghost use Rattle.type_check.specs.Expressions.{field_step, element_step, index_s
 ghost use Rattle.type_check.specs.Judging.{part_at, part_reached};
 
 use crate::fault::TypeFault;
+use crate::reached::Reached;
 use circuit_parts::kinds::is_unsigned;
 use circuit_parts::steps::through;
 use circuit_parts::{Flow, Part};
-use fir_types::{FirType, Name, Shape, field_of};
+use field_index::field_by;
+use fir_types::{Name, Shape};
 use place_text::Place;
 use std::alloc::AllocError;
-
-/// What a reference has come to.
-#[derive(Clone, Copy)]
-pub struct Reached<'a> {
-    pub typ: &'a FirType,
-    pub flow: Flow,
-}
 
 /// The field of this name, the first one. Adds a fault where there is none.
 pub fn to_field<'a>(
@@ -33,10 +28,11 @@ pub fn to_field<'a>(
     let Shape::Bundle(fields) = &base.typ.shape else {
         return fail(faults, TypeFault::NotBundle(name.place));
     };
-    match field_of(fields.as_slice(), name.id) {
+    match field_by(base.index, fields.as_slice(), name.id) {
         Some(field) => Ok(Some(Reached {
             typ: &field.typ,
             flow: through(field.flip, base.flow),
+            index: None,
         })),
         None => fail(faults, TypeFault::FieldUnknown(name.place)),
     }
@@ -60,6 +56,7 @@ pub fn to_element<'a>(
         Ok(Some(Reached {
             typ: element.get(),
             flow: base.flow,
+            index: None,
         }))
     } else {
         fail(faults, TypeFault::IndexRange(at))
@@ -84,6 +81,7 @@ pub fn to_indexed<'a>(
         Ok(Some(Reached {
             typ: element.get(),
             flow: base.flow,
+            index: None,
         }))
     } else {
         fail(faults, TypeFault::IndexKind(at))

@@ -4,6 +4,7 @@ ghost use Rattle.std.specs.Prelude.{◌≡◌, ◌++◌, [], map, OnOk};
 ghost use Rattle.type_check.specs.Statements.{module_walk, port_walk, stmt_walk, arm_walk, in_turn};
 ghost use Rattle.type_check.specs.Walks.{Walks};
 
+use crate::component::Component;
 use crate::conditions::{connect, expect_condition, invalidate};
 use crate::declarations::{
     declare_instance, declare_memory, declare_node, declare_port, declare_register,
@@ -11,7 +12,6 @@ use crate::declarations::{
 };
 use crate::found::Findings;
 use crate::modules::Modules;
-use circuit_parts::Part;
 use fir_tree::{Arm, Module, Stmt};
 use fir_types::Port;
 use indexmap::IndexMap;
@@ -21,7 +21,7 @@ use std::alloc::{AllocError, Global};
 #[derive(Drop)]
 pub struct Walk {
     /// The components that are declared so far and have types, by the numbers of their names: of each name the first.
-    pub known: IndexMap<u32, Part>,
+    pub known: IndexMap<u32, Component>,
     pub found: Findings,
 }
 

@@ -98,6 +98,12 @@ pub masks_more : (fs : List Field) (i : ℕ) (f : Field) (before listed after : 
 masks_more fs i f before listed after lt is h a =
     a ∙ ap₂ (λ x y. x ++ y) h (sym (masks-field f)) ∙ append_assoc before _ _ ∙ ap (λ x. before ++ x) (sym (fields_next mask_field_widths fs i f lt is))
 
+mask-vector : (t e : FirType) (n : ℕ) → t.shape ≡ shape.Vector e n → (mask_of t).shape ≡ shape.Vector (mask_of e) n
+mask-vector t e n h = grind (arith, common_steps, the_lemmas)
+
+pub masks-vector : (t e : FirType) (n : ℕ) → t.shape ≡ shape.Vector e n → mask_widths t ≡ mask_widths e
+masks-vector t e n h = ap (map one_bit) (spots-vector (mask_of t) (mask_of e) n (mask-vector t e n h))
+
 -- Widths with variables
 
 pub slots_from-append : (n : ℕ) (xs ys : List Spot) → slots_from n (xs ++ ys) ≡ slots_from n xs ++ slots_from (n + open_spots xs) ys

@@ -1,6 +1,9 @@
 //! The places of types.
 
 ghost use Rattle.std.specs.Prelude.{◌≡◌, ◌++◌, ◌∷◌, [], ◌-◌, ◌^◌, ℕ, min, map, flat_map, sum, length, false, OnOk, IfOk};
+ghost use Rattle.std.specs.Prelude.{◌≤◌};
+ghost use Rattle.fir_types.specs.declared.fir_type.FirType.{FirType as AType, size-FirType};
+ghost use Rattle.fir_types.specs.declared.fir_type.Shape.TheVariants as shape;
 ghost use Rattle.width_rules.specs.Places.{spots, size, one_spot, node_slots};
 ghost use Rattle.width_rules.specs.Layers.{field_spots, field_size, flip_of, flips_under, one_bit, mask_widths, mask_field_widths, Adds};
 ghost use Rattle.width_rules.specs.Circuits.{places_for};
@@ -11,16 +14,34 @@ use fir_types::{Field, FirType, Shape};
 use place_text::Place;
 use std::alloc::{AllocError, Global};
 
+/// The most places with variables that a circuit may have: so many take 8 GB, and more are a want of memory.
+const MOST_PLACES: usize = 50_000_000;
+
+/// What stands inside a type's vector lengths, which has the same places.
+fn inside_lengths(typ: &FirType) -> &FirType
+    ensures places { spots result.now ≡ spots typ.now }
+    ensures masks { mask_widths result.now ≡ mask_widths typ.now }
+    ensures falls { size-FirType result.now ≤ size-FirType typ.now }
+    ensures flat { (element : AType) (length : ℕ) → result.now.shape ≡ shape.Vector element length → ⊥ }
+{
+    let mut inside = typ;
+    while let Shape::Vector(element, _) = &inside.shape {
+        inside = element.get();
+    }
+    inside
+}
+
 /// The number of places that have widths, or 2^64 - 1 where there are more. Takes no memory.
 #[cycle(size)]
 pub fn size(typ: &FirType) -> usize
     ensures { result ≡ min (size typ.now) (2 ^ 64 - 1) }
 {
-    match &typ.shape {
+    let inside = inside_lengths(typ);
+    match &inside.shape {
         Shape::Unsigned(_) | Shape::Signed(_) | Shape::Reset => 1,
         Shape::Clock => 0,
         Shape::Bundle(fields) => sizes(fields.as_slice()),
-        Shape::Vector(element, _) => size(element.get()),
+        Shape::Vector(_, _) => unreachable!(),
     }
 }
 
@@ -45,12 +66,13 @@ pub fn push_slots(
 ) -> Result<(), AllocError>
     ensures { OnOk result (Adds place (spots typ.now) slots.old slots.new places.old.items places.new.items) }
 {
-    match &typ.shape {
+    let inside = inside_lengths(typ);
+    match &inside.shape {
         Shape::Unsigned(width) | Shape::Signed(width) => push_slot(slots, places, place, *width),
         Shape::Reset => push_slot(slots, places, place, Some(1)),
         Shape::Clock => Ok(()),
         Shape::Bundle(fields) => push_field_slots(slots, places, place, fields.as_slice()),
-        Shape::Vector(element, _) => push_slots(slots, places, place, element.get()),
+        Shape::Vector(_, _) => unreachable!(),
     }
 }
 
@@ -69,7 +91,7 @@ fn push_field_slots(
     Ok(())
 }
 
-/// Adds one width, or a variable where there is none. More variables than fit a `u32` are a want of memory.
+/// Adds one width, or a variable where there is none. Too many variables are a want of memory.
 fn push_slot(
     slots: &mut List<Slot>,
     places: &mut Vec<Place>,
@@ -92,10 +114,11 @@ fn push_variable(
     ensures slots { OnOk result (slots.new ≡ slots.old ++ Slot.Var (length places.old.items) ∷ []) }
     ensures places { OnOk result (places.new.items ≡ places.old.items ++ place ∷ []) }
 {
-    let Ok(number) = u32::try_from(places.len()) else {
+    let number = places.len();
+    if number >= MOST_PLACES {
         return Err(AllocError);
-    };
-    slots.push(Slot::Var(number))?;
+    }
+    slots.push(Slot::Var(number as u32))?;
     places.push(place)?;
     Ok(())
 }
@@ -133,14 +156,15 @@ pub fn flips_of(alloc: Global, typ: &FirType) -> Result<Vec<bool>, AllocError>
 fn push_flips(flips: &mut Vec<bool>, flip: bool, typ: &FirType) -> Result<(), AllocError>
     ensures { OnOk result (flips.new.items ≡ flips.old.items ++ flips_under flip typ.now) }
 {
-    match &typ.shape {
+    let inside = inside_lengths(typ);
+    match &inside.shape {
         Shape::Unsigned(_) | Shape::Signed(_) | Shape::Reset => {
             flips.push(flip)?;
             Ok(())
         }
         Shape::Clock => Ok(()),
         Shape::Bundle(fields) => push_field_flips(flips, flip, fields.as_slice()),
-        Shape::Vector(element, _) => push_flips(flips, flip, element.get()),
+        Shape::Vector(_, _) => unreachable!(),
     }
 }
 
@@ -159,12 +183,13 @@ fn push_field_flips(flips: &mut Vec<bool>, flip: bool, fields: &[Field]) -> Resu
 pub fn push_mask(slots: &mut List<Slot>, typ: &FirType) -> Result<(), AllocError>
     ensures { OnOk result (slots.new ≡ slots.old ++ mask_widths typ.now) }
 {
-    match &typ.shape {
+    let inside = inside_lengths(typ);
+    match &inside.shape {
         Shape::Unsigned(_) | Shape::Signed(_) | Shape::Reset | Shape::Clock => {
             slots.push(Slot::Fixed(1))
         }
         Shape::Bundle(fields) => push_field_masks(slots, fields.as_slice()),
-        Shape::Vector(element, _) => push_mask(slots, element.get()),
+        Shape::Vector(_, _) => unreachable!(),
     }
 }
 

@@ -1,4 +1,4 @@
-use Rattle.depth_laws.proofs.Nested.{few_blocks}
+use Rattle.depth_laws.proofs.Few.{few_blocks}
 use Rattle.depth_laws.proofs.laws.shallow_circuits_have_few_blocks.Goals as goal
 
 pub returns : goal.returns

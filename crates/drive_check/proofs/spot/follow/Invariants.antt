@@ -5,4 +5,4 @@ use Rattle.drive_check.specs.Follows.{Follows}
 use Rattle.drive_check.proofs.spot.follow.Given as goal
 
 abbrev pub invariant-loop-suffix : goal.invariant-loop-suffix
-invariant-loop-suffix l = Follows (follow_all (types_in l.types) l.name.id (map suffix_onward (take l.suffix-index l.suffixes))) l.name.id l.typ l.way.items l.dynamic
+invariant-loop-suffix l = Follows (follow_all (types_in l.types) l.name.id (map suffix_onward (take l.suffix-index l.suffixes))) l.name.id l.reached.typ.now l.way.items l.dynamic

@@ -1,8 +1,10 @@
 use Rattle.std.proofs.Common.{rules, ap, sym, append-nil, ◌∙◌, ◌++◌}
 use Rattle.std.specs.Prelude.{Some}
+use Rattle.std.specs.Option.{option_copied}
 use Rattle.circuit_parts.specs.Parts.{part_of}
 use Rattle.type_check.specs.Judging.{part_at}
 use Rattle.type_check.proofs.Ways.{first_field}
+use Rattle.type_check.proofs.Kept.{fields_indexed}
 use Rattle.type_check.proofs.steps.to_field.Goals as goal
 
 pub returns-in-Some-clause-part : goal.returns-in-Some-clause-part
@@ -14,3 +16,6 @@ pub returns-in-Some-clause-faults : goal.returns-in-Some-clause-faults
 returns-in-Some-clause-faults c =
     let is = first_field c.args.name (part_at c.args.base) c.in-Bundle.fields c.in-Some.field.now (search rules) (search rules) in
     sym (append-nil c.args.faults.now.items) ∙ ap (λ j. c.args.faults.now.items ++ j.faults) (sym is)
+
+pub field_by-requires : goal.field_by-requires
+field_by-requires c = fields_indexed c.args.base.typ.now c.as_slice.result.now (option_copied c.args.base.index) (search rules) c.args.base.indexed

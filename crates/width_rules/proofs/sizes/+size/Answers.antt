@@ -4,7 +4,7 @@ use Rattle.width_rules.proofs.Spots.{size-bundle, size-field}
 use Rattle.width_rules.proofs.sizes.+size.Goals as goal
 
 pub size-returns-in-Bundle : goal.size-returns-in-Bundle
-size-returns-in-Bundle t c = let e = size-bundle c.args.typ.now c.in-Bundle.fields c.in-Bundle.is in grind (arith, common_steps, e)
+size-returns-in-Bundle t c = let e = size-bundle c.inside_lengths-inside.result.now c.in-Bundle.fields c.in-Bundle.is in let h = c.inside_lengths-inside.ensures.places in grind (arith, common_steps, e, h)
 
 pub sizes-loop-field-preserved : goal.sizes-loop-field-preserved
 sizes-loop-field-preserved t c = let e = size-field c.field-item.result in grind (arith, common_steps, e)

@@ -1,5 +1,5 @@
 -- The ways of a memory's read data are those of its elements.
-use Rattle.std.proofs.Common.{◌≡◌, ℕ, zero, suc, Bool, true, false, not, List, [], ◌∷◌, map, filter_map, Some, refl, sym, ap, ◌∙◌, subst, arith, true≢false, if◌then◌else◌}
+use Rattle.std.proofs.Common.{◌≡◌, ◌≢◌, ◌<◌, ℕ, zero, suc, Bool, true, false, not, List, [], ◌∷◌, map, filter_map, Some, refl, sym, ap, ◌∙◌, subst, arith, true≢false, if◌then◌else◌}
 use Rattle.std.specs.Prelude.{Contains}
 use Rattle.std.proofs.lemmas.Grind.{common_steps}
 use Rattle.place_text.specs.declared.place.Place.{Place}
@@ -17,10 +17,13 @@ use Rattle.fir_types.specs.Leaves.{leaves, under, way_of}
 use Rattle.fir_types.specs.Memories.{depth_of}
 use Rattle.fir_types.specs.Bundles.{nowhere, addr_name, en_name, clk_name, wmode_name, plain_field, uint_at, clock_at, address_bits, fields_of_mode, port_type, port_field, mask_of}
 use Rattle.fir_types.proofs.Masks.{masked}
-use Rattle.fir_meaning.specs.Components.{ports_bundle}
+use Rattle.fir_meaning.specs.Components.{Design, TypedModule, Component, A_memory, ports_bundle, HasBundles}
+use Rattle.fir_meaning.specs.MemoryPorts.{MemoryPort, port_in, memory_ports}
+use Rattle.fir_meaning.specs.Elements.{IsElement}
+use Rattle.fir_meaning.specs.States.{State, SameState, Stands}
 use Rattle.fir_meaning.proofs.Ports.{from_map, from_flat_map, from_filter_map, bundle_leaves}
 use Rattle.fir_meaning.proofs.Tracking.{none_some, some_same, Contains-map}
-use Rattle.leaf_reads.proofs.MemoryLeaves.{uint_leaves, in_field, fields_of}
+use Rattle.fir_meaning.proofs.MemoryLeaves.{uint_leaves, in_field, fields_of, in_filter_map}
 
 -- no leaf is flipped
 abbrev IsStraight : FirType → Type 0
@@ -114,3 +117,43 @@ element_way memory element leaf port field way c unflipped is =
     let turned : part.0.flip ≡ true = not_false part.0.flip (ap (λ b. if b then not part.0.flip else part.0.flip) (sym of.2) ∙ (ap (λ (z : TypeLeaf). z.flip) part.2 ∙ unflipped)) in
     let inner = behind element part.0 turned (depth_of memory) of.1 of.0 (subst (λ t. Contains (leaves t) part.0) of.3 part.1) in
     (inner.1, inner.2, behind_steps (ap (λ w. step.Field outer.0.name.id ∷ w) (sym inner.3) ∙ (ap (λ (z : TypeLeaf). z.path) part.2 ∙ is)))
+
+port_of_line : (element : FirType) (depth : ℕ) (l : MemLine) (f : Field) → port_field element depth l ≡ Some f → (port : MemoryPort) × (port_in l ≡ Some port)
+port_of_line element depth (line.MemPort at m name) f e = (_, refl)
+port_of_line element depth (line.Element at t) f e = absurd (none_some e)
+port_of_line element depth (line.Depth at n) f e = absurd (none_some e)
+port_of_line element depth (line.ReadLatency at n) f e = absurd (none_some e)
+port_of_line element depth (line.WriteLatency at n) f e = absurd (none_some e)
+port_of_line element depth (line.ReadUnder at u) f e = absurd (none_some e)
+
+in_none : {A : Type 0} (xs : List A) (x : A) → xs ≡ [] → ¬ (Contains xs x)
+in_none [] x e (k, below, is) = omega (arith, below)
+in_none (y ∷ ys) x e c = cc
+
+-- A memory with a leaf has a port.
+pub leaf_ported : (memory : Memory) (element : FirType) (leaf : TypeLeaf) → Contains (leaves (ports_bundle memory element)) leaf → memory_ports memory ≢ []
+leaf_ported memory element leaf c none =
+    let fields : List Field = filter_map (port_field element (depth_of memory)) memory.lines in
+    let outer = from_flat_map in_field fields leaf (subst (λ l. Contains l leaf) (bundle_leaves nowhere fields) c) in
+    let from = from_filter_map (port_field element (depth_of memory)) memory.lines outer.0 outer.1 in
+    let port = port_of_line element (depth_of memory) from.0 outer.0 from.2 in
+    in_none (memory_ports memory) port.0 none (in_filter_map port_in memory.lines from.0 port.0 from.1 port.1)
+
+-- The type by which a memory has leaves is that of its elements.
+pub shown_element : (c : Component) (memory : Memory) (element : FirType) → leaves c.typ ≡ leaves (ports_bundle memory element) → (leaf : TypeLeaf) → Contains (leaves c.typ) leaf
+    → IsElement c memory element
+shown_element c memory element bundle leaf listed = record {
+  bundle = bundle;
+  unported = λ none. absurd (leaf_ported memory element leaf (subst (λ ls. Contains ls leaf) bundle listed) none);
+}
+
+-- In states that are the same the elements have the same in what read data show of them.
+pub shown_same : (design : Design) → HasBundles design → (s t : State) → SameState design s t → (path : List ℕ) (m : TypedModule) (c : Component) (leaf : TypeLeaf) (memory : Memory) (port inner : ℕ)
+    (way : List PathStep) (element : ℕ) → Stands design path m c leaf → c.declaration.sort ≡ A_memory memory → leaf.flip ≡ false → leaf.path ≡ step.Field port ∷ step.Field inner ∷ way
+    → element < depth_of memory → s.contents path c.declaration.name element way ≡ t.contents path c.declaration.name element way
+shown_same design has s t kept path m c leaf memory port inner way element stands sort turned is below =
+    let bundle = has.memories path m c memory stands.reached stands.declared sort in
+    let listed : Contains (leaves (ports_bundle memory bundle.0)) leaf = subst (λ ls. Contains ls leaf) bundle.1 stands.listed in
+    let part = element_way memory bundle.0 leaf port inner way listed turned is in
+    subst (λ w. s.contents path c.declaration.name element w ≡ t.contents path c.declaration.name element w) part.2
+    (kept.contents path m c memory bundle.0 part.0 element stands.reached stands.declared sort (shown_element c memory bundle.0 bundle.1 leaf stands.listed) part.1 below)

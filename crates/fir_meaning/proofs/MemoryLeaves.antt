@@ -16,10 +16,10 @@ use Rattle.fir_types.specs.declared.memory.PortMode.{PortMode}
 use Rattle.fir_types.specs.declared.memory.PortMode.TheVariants as mode
 use Rattle.fir_types.specs.Leaves.{leaves, under, way_of}
 use Rattle.fir_types.specs.Memories.{depth_of}
-use Rattle.fir_types.specs.Bundles.{port_field, port_type, fields_of_mode, plain_field, uint_at, clock_at, address_bits, mask_of, addr_name, en_name, clk_name, data_name, mask_name, wmode_name, wdata_name, wmask_name}
+use Rattle.fir_types.specs.Bundles.{port_field, port_type, fields_of_mode, plain_field, flipped_field, uint_at, clock_at, address_bits, mask_of, addr_name, en_name, clk_name, data_name, mask_name, wmode_name, wdata_name, wmask_name}
 use Rattle.fir_types.proofs.Masks.{masked}
 use Rattle.fir_meaning.specs.Components.{ports_bundle}
-use Rattle.fir_meaning.specs.MemoryPorts.{MemoryPort, port_in, memory_ports}
+use Rattle.fir_meaning.specs.MemoryPorts.{MemoryPort, port_in, memory_ports, written_field}
 use Rattle.fir_meaning.specs.Loops.{read_goes_by, write_goes_by}
 use Rattle.fir_meaning.proofs.Ports.{bundle_leaves, from_map, from_filter_map, one_later}
 use Rattle.fir_meaning.proofs.Tracking.{none_some, some_same, Contains-map, Contains-flat_map}
@@ -115,7 +115,7 @@ in_cons : {A : Type 0} (o : Option A) (xs : List A) (x : A) → Contains xs x �
 in_cons (Some z) xs x c = one_later z xs x c
 in_cons None xs x c = c
 
-in_filter_map : {A B : Type 0} (h : A → Option B) (xs : List A) (x : A) (y : B) → Contains xs x → h x ≡ Some y → Contains (filter_map h xs) y
+pub in_filter_map : {A B : Type 0} (h : A → Option B) (xs : List A) (x : A) (y : B) → Contains xs x → h x ≡ Some y → Contains (filter_map h xs) y
 in_filter_map h [] x y (k, below, is) e = absurd (omega arith)
 in_filter_map h (z ∷ xs) x y (zero, below, is) e = subst (λ o. Contains (cons_option o (filter_map h xs)) y) (sym (ap h is ∙ e)) (0, omega arith, refl)
 in_filter_map h (z ∷ xs) x y (suc k, below, is) e = in_cons (h z) (filter_map h xs) y (in_filter_map h xs x y (k, omega (arith, below), is) e)
@@ -158,3 +158,14 @@ read_leaf memory element port by among goes = port_leaf memory element port (ste
 pub write_leaf : (memory : Memory) (element : FirType) (port : MemoryPort) (l : TypeLeaf) → Contains (leaves element) l → (by : List PathStep) → Contains (memory_ports memory) port
     → Contains (write_goes_by port.mode l.path) by → (leaf : TypeLeaf) × Contains (leaves (ports_bundle memory element)) leaf × (leaf.path ≡ step.Field port.name ∷ by)
 write_leaf memory element port l inside by among goes = port_leaf memory element port by among (write_found element (depth_of memory) port.place l inside port.mode by goes)
+
+-- Whatever a port does, it has a field of data with each leaf of the element.
+data_found : (element : FirType) (depth : ℕ) (place : Place) (l : TypeLeaf) → Contains (leaves element) l → (m : PortMode) → Found element depth place m (step.Field (written_field m) ∷ l.path)
+data_found element depth place l inside mode.Reader = part_leaf (fields_of element depth mode.Reader place) (flipped_field place data_name element) l (3, omega arith, refl) inside
+data_found element depth place l inside mode.Writer = data_of element depth place l inside mode.Writer data_name (3, omega arith, refl)
+data_found element depth place l inside mode.ReadWriter = data_of element depth place l inside mode.ReadWriter wdata_name (5, omega arith, refl)
+
+pub data_leaf : (memory : Memory) (element : FirType) (port : MemoryPort) (l : TypeLeaf) → Contains (leaves element) l → Contains (memory_ports memory) port
+    → (leaf : TypeLeaf) × Contains (leaves (ports_bundle memory element)) leaf × (leaf.path ≡ step.Field port.name ∷ (step.Field (written_field port.mode) ∷ l.path))
+data_leaf memory element port l inside among =
+    port_leaf memory element port (step.Field (written_field port.mode) ∷ l.path) among (data_found element (depth_of memory) port.place l inside port.mode)
