@@ -46,6 +46,7 @@ use Rattle.circuit_laws.proofs.Typed.{named_itself}
 use Rattle.circuit_laws.proofs.Pieces.{In-among, In-contained, contained_In, all_true, narrow_leaves}
 use Rattle.fitted_laws.specs.Shaped.{is_shaped_module}
 use Rattle.fitted_laws.specs.Accepted.{IsAccepted}
+use Rattle.fitted_laws.specs.OneBit.{ask_one_bit}
 use Rattle.fitted_laws.proofs.Steps.{left_empty, right_empty, all_empty, IsGood}
 use Rattle.fitted_laws.proofs.Once.{differ_places}
 use Rattle.fitted_laws.proofs.Known.{Marks, Marked, RuleMarked}
@@ -57,6 +58,7 @@ use Rattle.fitted_laws.proofs.Held.{unclocked, read_silent, port_itself, element
 use Rattle.fitted_laws.proofs.Memories.{memory_filled}
 use Rattle.fitted_laws.proofs.Showing.{elements_straight}
 use Rattle.fitted_laws.proofs.Declared.{IsDeclared, straight_ways, filled_straight}
+use Rattle.fitted_laws.proofs.OneBit.{are_fit, body_both}
 use Rattle.fitted_laws.proofs.Statements.{Instances}
 use Rattle.fitted_laws.proofs.Modules.{ports_walk, IsFaultless, IsModule, ModulesCome, modules_come}
 
@@ -260,6 +262,16 @@ module _ (fitted : Fitted) (ok : IsAccepted fitted) where
       zip_at (IsDeclared ws with_ports (known_in m)) (declarations_of holder) im.types (im.well (named_in k holder m at im im.types im.is im.counted)).1 c
       (subst (In c) im.is (In-contained m.components c among))
 
+  body_fit : (k : ℕ) (holder : Module) (m : TypedModule) → slice_get modules k ≡ Some holder → slice_get (modules_of fitted) k ≡ Some m
+      → slice_get fitted.checked.scope.reached k ≡ Some true → are_fit (known_in m) holder.body ≡ true
+  body_fit k holder m e at flag =
+      let im = reached_module k holder m e at flag (known_in m) in
+      (im.well (named_in k holder m at im im.types im.is im.counted)).0
+
+  pub module_asks : (k : ℕ) (holder : Module) (m : TypedModule) → slice_get modules k ≡ Some holder → slice_get (modules_of fitted) k ≡ Some m
+      → slice_get fitted.checked.scope.reached k ≡ Some true → ask_one_bit (known_in m) holder.body ≡ true
+  module_asks k holder m e at flag = (body_both (known_in m) holder.body (body_fit k holder m e at flag)).1
+
   pub module_typed : (k : ℕ) (holder : Module) (m : TypedModule) → slice_get modules k ≡ Some holder → slice_get (modules_of fitted) k ≡ Some m
       → slice_get fitted.checked.scope.reached k ≡ Some true → HasTypes holder m
   module_typed k holder m e at flag =
@@ -267,7 +279,7 @@ module _ (fitted : Fitted) (ok : IsAccepted fitted) where
       let each : (c : Component) → Contains m.components c → IsDeclared ws with_ports (known_in m) c.declaration c.typ = component_declared k holder m e at flag in
       record {
         components = ap (map (λ (c : Component). c.declaration)) im.is ∙ zip_declarations (declarations_of holder) im.types im.counted;
-        statements = (im.well (named_in k holder m at im im.types im.is im.counted)).0;
+        statements = (body_both (known_in m) holder.body (body_fit k holder m e at flag)).0;
         nodes = λ c x among s. (each c among).node x s;
         passive = λ c x leaf among s i. (each c among).passive x s leaf (In-contained (leaves c.typ) leaf i);
         narrow = λ c leaf among i. narrow_leaves c.typ (each c among).narrow leaf (In-contained (leaves c.typ) leaf i);

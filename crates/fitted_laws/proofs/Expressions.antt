@@ -90,7 +90,7 @@ pub where_false : (b : Bool) (fault : WidthFault) → where_ b fault ≡ [] → 
 where_false true fault e = cc
 where_false false fault e = refl
 
-not_true : (b : Bool) → not b ≡ false → b ≡ true
+pub not_true : (b : Bool) → not b ≡ false → b ≡ true
 not_true true e = refl
 not_true false e = cc
 

@@ -13,6 +13,7 @@ mod Stored
 mod Declared
 mod Flips
 mod Matching
+mod OneBit
 mod Statements
 mod Modules
 mod Bundles

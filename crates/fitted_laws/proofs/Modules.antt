@@ -22,7 +22,7 @@ use Rattle.width_rules.proofs.Bounds.{Each, each_append}
 use Rattle.width_fit.specs.Judging as judging
 use Rattle.width_fit.specs.Judging.{Solved, slot_width, ports_declared, ports_faults, module_survey, told_from, where_reached}
 use Rattle.fir_meaning.specs.Components.{Declaration, TypedModule, An_input, An_output, A_node, A_memory, An_instance, told, declared_in_block, declared_by_port, declarations_of, with_types}
-use Rattle.fir_meaning.specs.WellTyped.{Known, are_typed}
+use Rattle.fir_meaning.specs.WellTyped.{Known}
 use Rattle.fir_names.specs.Extents.{Seen, Use, uses_in, instances_in}
 use Rattle.fir_names.specs.Parts as parts
 use Rattle.fir_names.specs.Parts.{Part, stmt_part}
@@ -41,6 +41,7 @@ use Rattle.fitted_laws.proofs.Walking.{SeenIn, Begins, Solves, solves_front, rul
 use Rattle.fitted_laws.proofs.Ruling.{slots_free, length-slots, free_placed}
 use Rattle.fir_meaning.specs.States.{is_register}
 use Rattle.fitted_laws.proofs.Declared.{IsDeclared, plain_declared}
+use Rattle.fitted_laws.proofs.OneBit.{are_fit}
 use Rattle.fitted_laws.proofs.Statements.{Instances, body_walks, body_comes}
 
 abbrev pub ports_walk : List Port → checking.Walk
@@ -147,7 +148,7 @@ module _ (all : Solved) (modules : List Module) (with_ports : List WithPorts) (p
     pub ruled : (x : ℕ) (f : Formula) → slice_get (ms ++ marks) x ≡ Some (Some f) → (slice_get ms x ≡ Some (Some f)) ⊎ In (rule_of x f) (body_walk with_ports (with_own k m) n).rules
     pub declared : length (declarations_of m) ≡ length (module_survey all with_ports (with_own k m) n).declared
     pub well : (K : Known) → NamedAs K (declarations_of m) (module_survey all with_ports (with_own k m) n).declared → Solves ws (ms ++ marks) → (module_survey all with_ports (with_own k m) n).faults ≡ []
-        → (are_typed K m.body ≡ true) × AllZip (S K) (declarations_of m) (module_survey all with_ports (with_own k m) n).declared
+        → (are_fit K m.body ≡ true) × AllZip (S K) (declarations_of m) (module_survey all with_ports (with_own k m) n).declared
 
   module _ (instances : Instances all modules with_ports ports bounded) where
     pub module_comes : (m : Module) → IsFaultless m → (k n : ℕ) (ms : Marks) → length ms ≡ n → Begins ports ms → k + open_ports m.ports ≤ ports → ModuleComes m k n ms
@@ -201,7 +202,7 @@ module _ (all : Solved) (modules : List Module) (with_ports : List WithPorts) (p
       pub is : m.components ≡ map component_of (zip (declarations_of holder) types)
       pub counted : length (declarations_of holder) ≡ length types
       pub ports_from_is : (k : ℕ) × (rest : List FirType) × (types ≡ ports_declared all holder.ports (ports_from k holder.ports) ++ rest) × (own ≡ Some (record { holder = holder; ports = ports_from k holder.ports }))
-      pub well : NamedAs K (declarations_of holder) types → (are_typed K holder.body ≡ true) × AllZip (S K) (declarations_of holder) types
+      pub well : NamedAs K (declarations_of holder) types → (are_fit K holder.body ≡ true) × AllZip (S K) (declarations_of holder) types
 
     pub record ModulesCome (rest : List Module) (k n : ℕ) (ms : Marks) (reached : List Bool) : Type 0 where
       pub marks : Marks

@@ -49,8 +49,7 @@ use Rattle.width_fit.specs.Judging as judging
 use Rattle.width_fit.specs.Judging.{Solved, Survey, survey, slot_width, widths_of, is_unknown, where_}
 use Rattle.width_fit.specs.declared.fault.WidthFault.TheVariants.{WidthUnknown}
 use Rattle.fir_meaning.specs.Components.{Declaration, A_wire, A_register, A_reset_register, A_memory, An_instance, A_node, Told, ToldArm, told, of_told, of_told_arm, declared_from}
-use Rattle.fir_meaning.specs.WellTyped as typing
-use Rattle.fir_meaning.specs.WellTyped.{Known, typed, named_type, both_match, is_typed, is_condition, is_one_unsigned, is_narrow}
+use Rattle.fir_meaning.specs.WellTyped.{Known, typed, named_type, both_match, is_typed, is_narrow}
 use Rattle.fir_names.specs.Extents.{Seen, Use, references}
 use Rattle.fir_names.specs.Parts as parts
 use Rattle.fir_names.specs.Parts.{Part, stmt_part, arm_part}
@@ -60,11 +59,12 @@ use Rattle.circuit_laws.proofs.Alone.{every-left, every-right}
 use Rattle.circuit_laws.proofs.Scoping.{IsNamed, AllNamed, get-either}
 use Rattle.fitted_laws.specs.Shaped as shaping
 use Rattle.fitted_laws.specs.Shaped.{is_shaped, is_shaped_stmt, all_are}
-use Rattle.fitted_laws.proofs.Filling.{leaf_shapes, filled_unsigned, filled_equivalent}
+use Rattle.fitted_laws.specs.OneBit.{one_bit, is_one_bit}
+use Rattle.fitted_laws.proofs.Filling.{leaf_shapes, filled_equivalent}
 use Rattle.type_check.proofs.Equivalence.{is_equivalent}
 use Rattle.fitted_laws.proofs.Signs.{unsigned_is}
 use Rattle.fitted_laws.proofs.Steps.{left_empty, right_empty, Placed, IsGood}
-use Rattle.fitted_laws.proofs.Expressions.{TKnown, WKnown, Knows, Filled, expr_found, NamesType, expr_named, unless_true, where_false, some_is, and_left, and_right}
+use Rattle.fitted_laws.proofs.Expressions.{TKnown, WKnown, Knows, Filled, expr_found, NamesType, expr_named, unless_true, where_false, not_true, some_is, and_left, and_right}
 use Rattle.fitted_laws.proofs.Once.{memory_once}
 use Rattle.fitted_laws.proofs.Stored.{memory_good}
 use Rattle.fitted_laws.proofs.Known.{Marks, Marked, RuleMarked, marks_allow, more_knows, more_good, knows_with, filled_with, kept_found, with_itself}
@@ -74,13 +74,12 @@ use Rattle.fitted_laws.proofs.Ruling.{NoFlip, slots_free, length-slots, length-n
 use Rattle.fitted_laws.proofs.Flips.{straight_spots, flips_alike, drivable_straight, source_placed, places_narrow}
 use Rattle.fitted_laws.proofs.Held.{stored_holds}
 use Rattle.fitted_laws.proofs.Matching.{match_by}
+use Rattle.fitted_laws.proofs.OneBit as fit
+use Rattle.fitted_laws.proofs.OneBit.{is_fit_stmt, is_fit_arm, filled_one_bit}
 use Rattle.fitted_laws.proofs.Declared.{IsDeclared, slots_narrow, filled_differ, filled_straight, plain_declared}
 
 abbrev told_arm : Arm → ToldArm
 told_arm = fold-Arm Told ToldArm of_told of_told_arm
-
-abbrev typed_arm : Known → Arm → Bool
-typed_arm K = fold-Arm Bool Bool (typing.of_stmt K) (typing.of_arm K)
 
 abbrev shaped_arm : Arm → Bool
 shaped_arm = fold-Arm Bool Bool shaping.of_stmt shaping.of_arm
@@ -130,8 +129,12 @@ module _ (all : Solved) (modules : List Module) (with_ports : List WithPorts) (p
   typed_true : (tk : TKnown) (wk : WKnown) (ms : Marks) (e : Expr) → IsFoundIn tk wk ms e → (K : Known) → Filled ws wk K → (survey ws e wk).faults ≡ [] → is_typed K e ≡ true
   typed_true tk wk ms e f K fits none = ap is_some (f.typed_is K fits none)
 
-  condition_true : (tk : TKnown) (wk : WKnown) (ms : Marks) (e : Expr) (f : IsFoundIn tk wk ms e) → is_unsigned f.part.typ ≡ true → (K : Known) → Filled ws wk K → (survey ws e wk).faults ≡ [] → is_condition K e ≡ true
-  condition_true tk wk ms e f u K fits none = ap is_one_unsigned (f.typed_is K fits none) ∙ ap (λ l. is_one_unsigned (Some l)) (filled_unsigned (unsigned_is f.part.typ u) (widths_of ws (survey ws e wk).measured))
+  condition_true : (tk : TKnown) (wk : WKnown) (ms : Marks) (e : Expr) (f : IsFoundIn tk wk ms e) → is_unsigned f.part.typ ≡ true → (K : Known) → Filled ws wk K
+      → (survey ws e wk).faults ++ judging.condition_faults ws (survey ws e wk) ≡ [] → is_one_bit K e ≡ true
+  condition_true tk wk ms e f u K fits none =
+      let own = left_empty (survey ws e wk).faults (judging.condition_faults ws (survey ws e wk)) none in
+      let small = not_true _ (where_false _ _ (right_empty (survey ws e wk).faults (judging.condition_faults ws (survey ws e wk)) none)) in
+      ap one_bit (f.typed_is K fits own) ∙ filled_one_bit ws (survey ws e wk).measured f.part.typ (unsigned_is f.part.typ u) small
 
   -- A declaration
 
@@ -258,7 +261,7 @@ module _ (all : Solved) (modules : List Module) (with_ports : List WithPorts) (p
     widths = judging.of_stmt all with_ports (map-Stmt Stmt Arm judging.Surveys judging.Surveys (judging.stmt_survey all with_ports) (judging.arm_survey all with_ports) z);
     names = parts.of_stmt (map-Stmt Stmt Arm Part Part stmt_part arm_part z);
     declares = (of_told (map-Stmt Stmt Arm Told ToldArm told told_arm z)).declares block behind;
-    typed = λ K. typing.of_stmt K (map-Stmt Stmt Arm Bool Bool (typing.is_typed_stmt K) (typed_arm K) z);
+    typed = λ K. fit.of_stmt K (map-Stmt Stmt Arm Bool Bool (is_fit_stmt K) (is_fit_arm K) z);
   }
 
   wire_comes : (name : Name) (typ : FirType) (block behind : List Stmt) → Comes_to all modules ports S (layer (Stmt-F.Wire name typ) block behind)
@@ -364,7 +367,7 @@ module _ (all : Solved) (modules : List Module) (with_ports : List WithPorts) (p
             let own : (survey ws reset wk).faults ++ judging.condition_faults ws (survey ws reset wk) ≡ [] = left_empty ((survey ws reset wk).faults ++ judging.condition_faults ws (survey ws reset wk)) _ none2 in
             let none3 = right_empty ((survey ws reset wk).faults ++ judging.condition_faults ws (survey ws reset wk)) _ none2 in (
               ap₂ (λ a b. a && b) (typed_true tk wk ms clock fc K fits (left_empty (survey ws clock wk).faults _ none))
-                  (ap₂ (λ a b. a && b) (condition_true tk wk ms reset fr ru K fits (left_empty (survey ws reset wk).faults _ own)) (typed_true tk wk ms init fi K fits (left_empty (survey ws init wk).faults _ none3))),
+                  (ap₂ (λ a b. a && b) (condition_true tk wk ms reset fr ru K fits own) (typed_true tk wk ms init fi K fits (left_empty (survey ws init wk).faults _ none3))),
               plain_declared ws with_ports bounded K _ typ (slots_from n (spots typ)) once (λ e s. cc) (λ t s. cc) (λ m s. cc) (λ r. holds),
             );
       })
@@ -641,7 +644,7 @@ module _ (all : Solved) (modules : List Module) (with_ports : List WithPorts) (p
     widths = judging.stmt_survey all with_ports s;
     names = stmt_part s;
     declares = (told s).declares block behind;
-    typed = λ K. typing.is_typed_stmt K s;
+    typed = λ K. is_fit_stmt K s;
   }
 
   abbrev arm_walks : Arm → Walks
@@ -651,7 +654,7 @@ module _ (all : Solved) (modules : List Module) (with_ports : List WithPorts) (p
     widths = judging.arm_survey all with_ports a;
     names = arm_part a;
     declares = (told_arm a).declared;
-    typed = λ K. typed_arm K a;
+    typed = λ K. is_fit_arm K a;
   }
 
   abbrev StmtComes : Stmt → Type 0
@@ -667,7 +670,7 @@ module _ (all : Solved) (modules : List Module) (with_ports : List WithPorts) (p
     widths = judging.in_turn (map (judging.stmt_survey all with_ports) ss);
     names = parts.in_turn (map stmt_part ss);
     declares = declared_from block (map told ss);
-    typed = λ K. list_all (λ b. b) (map (typing.is_typed_stmt K) ss);
+    typed = λ K. list_all (λ b. b) (map (is_fit_stmt K) ss);
   }
 
   abbrev all_arms : List Arm → Walks
@@ -677,7 +680,7 @@ module _ (all : Solved) (modules : List Module) (with_ports : List WithPorts) (p
     widths = judging.in_turn (map (judging.arm_survey all with_ports) arms);
     names = parts.in_turn (map arm_part arms);
     declares = flat_map (λ (arm : ToldArm). arm.declared) (map told_arm arms);
-    typed = λ K. list_all (λ b. b) (map (typed_arm K) arms);
+    typed = λ K. list_all (λ b. b) (map (is_fit_arm K) arms);
   }
 
   abbrev shut : Walks → Walks
@@ -723,7 +726,7 @@ module _ (all : Solved) (modules : List Module) (with_ports : List WithPorts) (p
     widths = judging.asks ws e;
     names = parts.mentions (references e);
     declares = [];
-    typed = λ K. is_condition K e;
+    typed = λ K. is_one_bit K e;
   }
 
   asking_comes : (e : Expr) → is_shaped e ≡ true → Comes_to all modules ports S (asking e)
@@ -740,7 +743,7 @@ module _ (all : Solved) (modules : List Module) (with_ports : List WithPorts) (p
         declared = refl;
         shows = refl;
         marked = tt;
-        well = λ K fits none. condition_true tk wk ms e f u K fits (left_empty (survey ws e wk).faults _ none);
+        well = λ K fits none. condition_true tk wk ms e f u K fits none;
       })
 
   nothing_first : (r : ruling.Walk) → ruling.and_then ruling.nothing r ≡ r
@@ -755,7 +758,7 @@ module _ (all : Solved) (modules : List Module) (with_ports : List WithPorts) (p
     widths = fold-roll-Stmt judging.Surveys judging.Surveys (judging.of_stmt all with_ports) (judging.of_arm all) z i;
     names = fold-roll-Stmt Part Part parts.of_stmt parts.of_arm z i;
     declares = (fold-roll-Stmt Told ToldArm of_told of_told_arm z i).declares block behind;
-    typed = λ K. fold-roll-Stmt Bool Bool (typing.of_stmt K) (typing.of_arm K) z i;
+    typed = λ K. fold-roll-Stmt Bool Bool (fit.of_stmt K) (fit.of_arm K) z i;
   }
 
   abbrev arm_layer : Arm-F Stmt Arm → Walks
@@ -765,7 +768,7 @@ module _ (all : Solved) (modules : List Module) (with_ports : List WithPorts) (p
     widths = judging.of_arm all (map-Arm Stmt Arm judging.Surveys judging.Surveys (judging.stmt_survey all with_ports) (judging.arm_survey all with_ports) z);
     names = parts.of_arm (map-Arm Stmt Arm Part Part stmt_part arm_part z);
     declares = (of_told_arm (map-Arm Stmt Arm Told ToldArm told told_arm z)).declared;
-    typed = λ K. typing.of_arm K (map-Arm Stmt Arm Bool Bool (typing.is_typed_stmt K) (typed_arm K) z);
+    typed = λ K. fit.of_arm K (map-Arm Stmt Arm Bool Bool (is_fit_stmt K) (is_fit_arm K) z);
   }
 
   arm_rolled : (z : Arm-F Stmt Arm) → arm_walks (roll-Arm z) ≡ arm_layer z
@@ -775,7 +778,7 @@ module _ (all : Solved) (modules : List Module) (with_ports : List WithPorts) (p
     widths = fold-roll-Arm judging.Surveys judging.Surveys (judging.of_stmt all with_ports) (judging.of_arm all) z i;
     names = fold-roll-Arm Part Part parts.of_stmt parts.of_arm z i;
     declares = (fold-roll-Arm Told ToldArm of_told of_told_arm z i).declared;
-    typed = λ K. fold-roll-Arm Bool Bool (typing.of_stmt K) (typing.of_arm K) z i;
+    typed = λ K. fold-roll-Arm Bool Bool (fit.of_stmt K) (fit.of_arm K) z i;
   }
 
   stmt_at : (z : Stmt-F Stmt Arm) → (shaping.of_stmt (map-Stmt Stmt Arm Bool Bool is_shaped_stmt shaped_arm z) ≡ true → (block behind : List Stmt) → Comes_to all modules ports S (layer z block behind)) → StmtComes (roll-Stmt z)

@@ -10,11 +10,12 @@ ghost use Rattle.fir_grammar.specs.Grammar.{IsCircuit};
 ghost use Rattle.fir_tree.specs.declared.circuit.Module.{Module as AModule};
 ghost use Rattle.fir_tree.specs.declared.scope.Fitted.{Fitted as FittedCircuit};
 ghost use Rattle.fir_meaning.specs.Components.{TypedModule, declarations_of, modules_of};
-ghost use Rattle.fir_meaning.specs.WellTyped.{HasTypes};
+ghost use Rattle.fir_meaning.specs.WellTyped.{HasTypes, known_in};
 ghost use Rattle.width_fit.specs.Filling.{filled};
 ghost use Rattle.circuit_laws.specs.WellFormed.{IsWellFormed};
 ghost use Rattle.fitted_laws.specs.Shaped.{is_shaped_circuit};
 ghost use Rattle.fitted_laws.specs.Accepted.{IsAccepted};
+ghost use Rattle.fitted_laws.specs.OneBit.{ask_one_bit};
 
 /// A type with widths in its places is equivalent to the type.
 pub fn filled_types_are_equivalent()
@@ -25,6 +26,11 @@ pub fn filled_types_are_equivalent()
 pub fn accepted_modules_are_well_typed()
     ensures declared { (fitted : FittedCircuit) → IsAccepted fitted → length fitted.declared ≡ sum_by (λ holder. length (declarations_of holder)) fitted.checked.circuit.modules }
     ensures typed { (fitted : FittedCircuit) → IsAccepted fitted → (k : ℕ) (holder : AModule) (m : TypedModule) → slice_get fitted.checked.circuit.modules k ≡ Some holder → slice_get (modules_of fitted) k ≡ Some m → slice_get fitted.checked.scope.reached k ≡ Some true → HasTypes holder m }
+{}
+
+/// In the modules of an accepted circuit that main reaches, each condition of a conditional and each reset is one UInt of at most one bit.
+pub fn accepted_conditions_have_one_bit()
+    ensures { (fitted : FittedCircuit) → IsAccepted fitted → (k : ℕ) (holder : AModule) (m : TypedModule) → slice_get fitted.checked.circuit.modules k ≡ Some holder → slice_get (modules_of fitted) k ≡ Some m → slice_get fitted.checked.scope.reached k ≡ Some true → ask_one_bit (known_in m) holder.body ≡ true }
 {}
 
 /// An accepted circuit is well formed.

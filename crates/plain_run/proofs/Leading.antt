@@ -1,10 +1,10 @@
--- Runs that go on from a state, and from one that is the same as far as the design's leaves show.
+-- Runs that go on from a state, and from one that is the same as far as the design goes.
 use Rattle.std.proofs.Common.{◌≡◌, ℕ, ◌+◌, ◌<◌, ◌≤◌, List, [], ◌∷◌, ◌++◌, map, length, take, get_or, slice_get, Option, Some, None, refl, sym, ap, ap₂, ◌∙◌, subst, append-nil, append_assoc}
 use Rattle.std.specs.List.{filter_map, cons_option}
 use Rattle.std.proofs.lemmas.List.{map-append, take_more}
 use Rattle.std.proofs.lemmas.List.Elements.{filter_map-append}
 use Rattle.bit_words.specs.declared.value.Value.{Value}
-use Rattle.fir_meaning.specs.Components.{Design, Leaf}
+use Rattle.fir_meaning.specs.Components.{Design, Leaf, HasBundles}
 use Rattle.fir_meaning.specs.Values.{Valuation}
 use Rattle.fir_meaning.specs.States.{State, SameState, Inputs, Settled, next, first_state}
 use Rattle.sweep_runs.specs.Runs.{Watched, value_of, row_of, Runs, ended, cycle}
@@ -48,12 +48,12 @@ module _ (leaves : List Watched) (rho : Valuation) (numbers : List ℕ) (k n oth
   pub shown_less : (before : List Value) → slice_get leaves n ≡ None → before ≡ row_of (filter_map (slice_get leaves) (take k numbers)) rho → before ≡ row_of (filter_map (slice_get leaves) (take (k + 1) numbers)) rho
   shown_less before e old = old ∙ (sym (append-nil (row_of (filter_map (slice_get leaves) (take k numbers)) rho)) ∙ sym (one_more None e))
 
-module _ (design : Design) (watched : List Watched) where
+module _ (design : Design) (has : HasBundles design) (watched : List Watched) where
   -- What follows from a state follows from one that is the same.
   pub runs_alike : (s t : State) → SameState design s t → (given : List Inputs) → {rows : List (List Value)} → Runs design watched s given rows → Runs design watched t given rows
   runs_alike s t same [] ended = ended
   runs_alike s t same (g ∷ given) (cycle {rows = more} rho settled rest) =
-      cycle rho (settled_alike design t s same g rho settled) (runs_alike (next design s rho) (next design t rho) (next_alike design s t same rho) given rest)
+      cycle rho (settled_alike design has t s same g rho settled) (runs_alike (next design s rho) (next design t rho) (next_alike design has s t same rho) given rest)
 
   -- Cycles lead from a state to another: whatever follows there follows their rows from here.
   abbrev pub Leads : State → List Inputs → List (List Value) → State → Type 0

@@ -63,7 +63,7 @@ module _ (fitted : Fitted) (well : IsWellFormed fitted) where
         let all = has_leaves fitted well in
         let every : (x : FlatLeaf) → IsLeafOf design x → at rho x ≡ at other x = settled_same design all.0 well.bundles none all.1 s t g rho other one two kept in
         ap₂ (λ x xs. x ∷ xs) (row_same (watched_by design watch) rho other (λ w c. every w.at (watched_leaf watch w c)))
-        (runs_same (next_same design (takes_leaves fitted well) s t rho other kept every) rest later)
+        (runs_same (next_same design well.bundles (takes_leaves fitted well) s t rho other kept every) rest later)
 
     pub rows_once : (s : State) (given : List Inputs) (rows other : List (List Value)) → Runs design (watched_by design watch) s given rows → Runs design (watched_by design watch) s given other → rows ≡ other
     rows_once s given rows other one two = runs_same (state_itself design s) one two

@@ -1,23 +1,25 @@
--- What is held of all components of a run after a cycle is the next state, as far as the leaves show.
-use Rattle.std.proofs.Common.{◌≡◌, ℕ, ◌+◌, ◌<◌, ◌≤◌, ◌==◌, min, ◌++◌, false, true, List, [], ◌∷◌, map, length, take, drop, get_or, Some, sym, ap, ap₂, ◌∙◌, subst, arith}
+-- What is held of all components of a run after a cycle is the next state, as far as the circuit goes.
+use Rattle.std.proofs.Common.{◌≡◌, ℕ, ◌+◌, ◌<◌, ◌≤◌, ◌==◌, min, ◌++◌, false, true, List, [], ◌∷◌, map, length, take, get_or, Some, sym, ap, ap₂, ◌∙◌, subst, arith, Contains}
 use Rattle.std.proofs.lemmas.Bool.{eqb-true}
 use Rattle.bit_words.specs.declared.value.Value.{Value}
 use Rattle.bit_words.specs.Values.{integer_of}
+use Rattle.fir_types.specs.declared.fir_type.FirType.{FirType}
 use Rattle.fir_types.specs.declared.leaf.TypeLeaf.{TypeLeaf}
 use Rattle.fir_types.specs.declared.leaf.PathStep.{PathStep}
 use Rattle.fir_types.specs.declared.leaf.PathStep.TheVariants as step
 use Rattle.fir_types.specs.declared.memory.Memory.{Memory}
 use Rattle.fir_types.specs.Leaves.{leaves}
-use Rattle.fir_types.specs.Memories.{under_of}
-use Rattle.fir_meaning.specs.Components.{Design, TypedModule, Component, A_memory}
+use Rattle.fir_types.specs.Memories.{depth_of, under_of}
+use Rattle.fir_meaning.specs.Components.{Design, TypedModule, Component, A_memory, module_at, component_named}
 use Rattle.fir_meaning.specs.Values.{Valuation, scene_of}
 use Rattle.fir_meaning.specs.Drives.{same_way}
+use Rattle.fir_meaning.specs.Elements.{IsElement}
 use Rattle.fir_meaning.specs.States.{State, SameState, Stands, is_register, next, next_of_register, next_of_memory, next_of_port, taken, located, where_located}
 use Rattle.fir_names.proofs.Graphs.{some_same}
 use Rattle.drive_check.proofs.KeyTests.{way_equal}
 use Rattle.tree_values.specs.declared.site.Site.{Site}
 use Rattle.tree_values.specs.Sites.{same_path, is_at, integer_or_zero, valuation_of}
-use Rattle.tree_drives.specs.Contents.{contents_of, stored_leaves, inner_leaf}
+use Rattle.tree_drives.specs.Contents.{contents_of, stored_leaves}
 use Rattle.tree_sites.specs.declared.declarations.Declaration.{Declaration}
 use Rattle.tree_sites.specs.Layouts.{Located, IsLocated, site_of, AreAll, IsLayout}
 use Rattle.tree_sites.proofs.Seeing.{and_parts, path_equal, located_is}
@@ -29,7 +31,6 @@ use Rattle.tree_sweep.proofs.Parts.{part_there, so_many_sites, so_many_declared}
 use Rattle.tree_edges.specs.Edges.{Beside, IsReadFrom, next_in_leaf, AreNextIn, AreWritten, AreRead, leaves_in, before_writes, written_in}
 use Rattle.tree_edges.proofs.Besides.{first_met, met_itself, beside_more, beside_all}
 use Rattle.tree_edges.proofs.Steps.{way_itself, at_itself, shows_itself, shown_there, in_first, value_first, leaf_first}
-use Rattle.tree_edges.proofs.OfMemories.{AreStored}
 
 -- what stands beside a component, the first of its name at its path
 pub record Own {B : Type 0} (all : List Located) (P : Located → B → Type 0) (items : List B) (x : Located) : Type 0 where
@@ -114,22 +115,21 @@ module _ (design : Design) (sites : List Site) (declared : List Declaration) (la
         ∙ sym (ap (where_located (s.registers path name leaf.path) (λ (f : TypedModule × Component). next_of_register (scene_of f.0 path rho) f.1 f.1.declaration.sort leaf.path (s.registers path name leaf.path)))
         (located_is design x (located_here path m c leaf stands))))))))
 
-    next_contents : AreStored → (path : List ℕ) (m : TypedModule) (c : Component) (leaf : TypeLeaf) (memory : Memory) (port field : ℕ) (way : List PathStep) (element : ℕ)
-        → Stands design path m c leaf → c.declaration.sort ≡ A_memory memory → leaf.flip ≡ false → leaf.path ≡ step.Field port ∷ step.Field field ∷ way
-        → contents_on sites after.contents path c.declaration.name element way ≡ (next design s rho).contents path c.declaration.name element way
-    next_contents kept path m c leaf memory port field way element stands so turned is =
+    next_contents : (path : List ℕ) (m : TypedModule) (c : Component) (memory : Memory) (typ : FirType) (leaf : TypeLeaf) (element : ℕ) → module_at design path ≡ Some m
+        → component_named m c.declaration.name ≡ Some c → c.declaration.sort ≡ A_memory memory → IsElement c memory typ → Contains (leaves typ) leaf → element < depth_of memory
+        → contents_on sites after.contents path c.declaration.name element leaf.path ≡ (next design s rho).contents path c.declaration.name element leaf.path
+    next_contents path m c memory typ leaf element reached declared so of inside below =
         let x : Located = here path m c in
+        let at : IsLocated design x = record { reached = reached; declared = declared } in
+        let way : List PathStep = leaf.path in
         let name : ℕ = c.declaration.name in
-        let its = own_there design layout.all layout.are (AreWritten s rho) after.contents are.contents x (located_here path m c leaf stands) in
-        let inner : drop 2 leaf.path ≡ way = ap (drop 2) is in
+        let its = own_there design layout.all layout.are (AreWritten s rho) after.contents are.contents x at in
         ap (λ l. contents_on l after.contents path name element way) layout.lists.sites
         ∙ (ap (λ o. held_elements o element way) its.first
-        ∙ (ap (contents_of (stored_leaves (leaves c.typ)) its.item element) (sym inner)
-        ∙ (its.beside memory so element (inner_leaf leaf) (kept (leaves c.typ) leaf stands.listed turned)
-        ∙ (ap (written_in s rho memory x element) inner
+        ∙ (its.beside memory typ so of element leaf inside
         ∙ (sym (ap (λ k. next_of_memory (scene_of m path rho) c k (s.contents path name) element way) so)
         ∙ sym (ap (λ o. where_located (s.contents path name) (λ (f : TypedModule × Component). next_of_memory (scene_of f.0 path rho) f.1 f.1.declaration.sort (s.contents path name)) o element way)
-        (located_is design x (located_here path m c leaf stands))))))))
+        (located_is design x at)))))
 
     next_captured : (path : List ℕ) (m : TypedModule) (c : Component) (leaf : TypeLeaf) (memory : Memory) (port field : ℕ) (way : List PathStep)
         → Stands design path m c leaf → c.declaration.sort ≡ A_memory memory → leaf.flip ≡ false → leaf.path ≡ step.Field port ∷ step.Field field ∷ way
@@ -149,9 +149,9 @@ module _ (design : Design) (sites : List Site) (declared : List Declaration) (la
         ∙ sym (ap (λ o. where_located (s.captured path name) (λ (f : TypedModule × Component). next_of_port (scene_of f.0 path rho) f.1 f.1.declaration.sort (s.contents path name)) o port way)
         (located_is design x (located_here path m c leaf stands)))))))
 
-    pub same_next : AreStored → SameState design (state_of sites after) (next design s rho)
-    same_next kept = record {
+    pub same_next : SameState design (state_of sites after) (next design s rho)
+    same_next = record {
       registers = next_registers;
-      contents = next_contents kept;
+      contents = next_contents;
       captured = λ path m c leaf memory port field way stands so later turned is. next_captured path m c leaf memory port field way stands so turned is;
     }

@@ -1,9 +1,10 @@
 -- What memories hold after the writes of a cycle, and what their ports have read.
-use Rattle.std.proofs.Common.{◌≡◌, ℕ, false, List, filter_map, None, refl, sym, ap, ap₂, ◌∙◌, subst, Bor}
+use Rattle.std.proofs.Common.{◌≡◌, ◌≢◌, ℕ, false, List, [], ◌∷◌, fold, filter_map, pos, None, refl, sym, ap, ap₂, ◌∙◌, subst, Bor, arith}
 use Rattle.std.specs.Prelude.{Contains}
 use Rattle.std.proofs.lemmas.Bool.{eqb-true}
 use Rattle.bit_words.specs.declared.value.Value.{Value}
 use Rattle.place_text.specs.declared.place.Place.{Place}
+use Rattle.fir_types.specs.declared.fir_type.FirType.{FirType}
 use Rattle.fir_types.specs.declared.leaf.TypeLeaf.{TypeLeaf}
 use Rattle.fir_types.specs.declared.leaf.PathStep.{PathStep}
 use Rattle.fir_types.specs.declared.memory.Memory.{Memory}
@@ -15,10 +16,11 @@ use Rattle.fir_types.specs.Leaves.{leaves}
 use Rattle.fir_types.specs.Memories.{first_or, under_in, under_of}
 use Rattle.fir_meaning.specs.Components as tree
 use Rattle.fir_meaning.specs.Values.{Valuation, Scene, scene_of}
-use Rattle.fir_meaning.specs.MemoryPorts.{Contents, Leaves, port_named, after_writes, read_by}
+use Rattle.fir_meaning.specs.MemoryPorts.{MemoryPort, Contents, Leaves, memory_ports, port_named, after_port, after_writes, read_by}
 use Rattle.fir_meaning.specs.States.{State, taken}
+use Rattle.fir_meaning.proofs.MemoryWays.{element_way, leaf_ported, shown_element}
 use Rattle.fir_meaning.proofs.Settling.{read_contents}
-use Rattle.tree_drives.specs.Contents.{contents_of, stored_leaves, inner_leaf}
+use Rattle.tree_drives.specs.Contents.{contents_of, stored_leaves}
 use Rattle.tree_sites.specs.declared.declarations.Sort.TheVariants as sort
 use Rattle.leaf_reads.specs.Typed.{is_named}
 use Rattle.tree_sites.specs.Layouts.{Located}
@@ -29,7 +31,7 @@ use Rattle.tree_sweep.proofs.Views.{leaves_are, named_there}
 use Rattle.tree_sweep.proofs.Holding.{memory_is}
 use Rattle.tree_edges.specs.Edges.{Beside, IsReadFrom, AreWritten, AreRead, leaves_in, before_writes, written_in}
 use Rattle.tree_edges.proofs.Besides.{beside_weaker}
-use Rattle.tree_edges.proofs.Steps.{shown_behind}
+use Rattle.tree_edges.proofs.Steps.{shown_fields}
 
 pub not_under : (l : MemLine) → ((at : Place) (u : Under) → l ≡ line.ReadUnder at u → ⊥) → under_in l ≡ None
 not_under (line.ReadUnder at u) h = absurd (h at u refl)
@@ -48,11 +50,23 @@ taken_alike under.Undefined held new after element way h = refl
 reads_alike : (memory : Memory) (l : Leaves) (u : Under) (held new after : Contents) (port : ℕ) (way : List PathStep) → ((element : ℕ) → new element way ≡ after element way)
     → read_by memory l (taken u held new) port way ≡ read_by memory l (taken u held after) port way
 reads_alike memory l u held new after port way h =
-    read_contents memory l (taken u held new) (taken u held after) way (λ element. taken_alike u held new after element way (h element)) (port_named memory port)
+    read_contents memory l (taken u held new) (taken u held after) way (λ element below. taken_alike u held new after element way (h element)) (port_named memory port)
 
--- Each leaf that isn't flipped is stored.
+-- Each leaf of an element is stored where the memory has a port.
 abbrev pub AreStored : Type 0
-AreStored = (ls : List TypeLeaf) (leaf : TypeLeaf) → Contains ls leaf → leaf.flip ≡ false → Contains (stored_leaves ls) (inner_leaf leaf)
+AreStored = (memory : Memory) (element : FirType) (leaf : TypeLeaf) → memory_ports memory ≢ [] → Contains (leaves element) leaf
+    → (stored : TypeLeaf) × Contains (stored_leaves (leaves (tree.ports_bundle memory element))) stored × (stored.path ≡ leaf.path)
+
+-- A memory without ports has no leaves.
+unported : (memory : Memory) (element : FirType) → memory_ports memory ≡ [] → leaves (tree.ports_bundle memory element) ≡ []
+unported memory element none = by (leaves (tree.ports_bundle memory element)) refl
+  where
+    by : (ls : List TypeLeaf) → leaves (tree.ports_bundle memory element) ≡ ls → ls ≡ []
+    by [] e = refl
+    by (l ∷ ls) e = absurd (leaf_ported memory element l (subst (λ all. Contains all l) (sym e) (0, omega arith, refl)) none)
+
+nothing_there : (way : List PathStep) (ls : List TypeLeaf) (elements : List (List Value)) (element : ℕ) → ls ≡ [] → contents_of ls elements element way ≡ pos 0
+nothing_there way ls elements element e = ap (λ l. contents_of l elements element way) e
 
 module _ (run : Run) (ok : IsRun run) (x : Located) (part : Part) (is : IsPart (design_in run) x part) (m : Bor Memory) (so : part.declaration.sort ≡ sort.Memory m) (s : State) (rho : Valuation) where
   module _ (memory : Memory) (e : x.c.declaration.sort ≡ tree.A_memory memory) where
@@ -68,22 +82,37 @@ module _ (run : Run) (ok : IsRun run) (x : Located) (part : Part) (is : IsPart (
   all_stored : (stored : List TypeLeaf) → stored ≡ stored_leaves part.site.now.leaves → stored ≡ stored_leaves (leaves x.c.typ)
   all_stored stored q = q ∙ ap stored_leaves (leaves_are (design_in run) x part is)
 
-  pub written_is : (here : Scene) (stored : List TypeLeaf) (old copy new : List (List Value)) → here ≡ scene_of x.m x.path rho → before_writes s rho x ≡ contents_of (stored_leaves part.site.now.leaves) old
+  pub written_is : AreStored → (here : Scene) (stored : List TypeLeaf) (old copy new : List (List Value)) → here ≡ scene_of x.m x.path rho → before_writes s rho x ≡ contents_of (stored_leaves part.site.now.leaves) old
       → stored ≡ stored_leaves part.site.now.leaves → copy ≡ old
       → ((element : ℕ) (leaf : TypeLeaf) → Contains stored leaf → contents_of stored new element leaf.path ≡ after_writes m.now (here.integers m.now.name.id) (contents_of stored copy) element leaf.path)
       → AreWritten s rho x new
-  written_is here stored old copy new scene held q o h memory e element leaf among =
-      let all = all_stored stored q in
-      ap (λ l. contents_of l new element leaf.path) (sym all)
-      ∙ (h element leaf (subst (λ l. Contains l leaf) (sym all) among)
-      ∙ (ap₂ (λ (k : Memory) (l : Leaves). after_writes k l (contents_of stored copy) element leaf.path) (same memory e) (own_leaves memory e here scene)
-      ∙ ap (λ (k : Contents). after_writes memory (leaves_in s rho x) k element leaf.path) (ap₂ contents_of q o ∙ sym held)))
+  written_is kept here stored old copy new scene held q o h memory typ e of element leaf among = by (memory_ports memory) refl
+    where
+      all : stored ≡ stored_leaves (leaves x.c.typ)
+      all = all_stored stored q
 
-  pub reads_are : AreStored → (here : Scene) (stored ls : List TypeLeaf) (old new from : List (List Value)) (lines : List MemLine) (values : List Value) → here ≡ scene_of x.m x.path rho
+      at : (way : List PathStep) (l : TypeLeaf) → Contains stored l → l.path ≡ way → contents_of (stored_leaves (leaves x.c.typ)) new element way ≡ written_in s rho memory x element way
+      at way l there is =
+          ap (λ ls. contents_of ls new element way) (sym all)
+          ∙ (subst (λ w. contents_of stored new element w ≡ after_writes m.now (here.integers m.now.name.id) (contents_of stored copy) element w) is (h element l there)
+          ∙ (ap₂ (λ (k : Memory) (ls : Leaves). after_writes k ls (contents_of stored copy) element way) (same memory e) (own_leaves memory e here scene)
+          ∙ ap (λ (k : Contents). after_writes memory (leaves_in s rho x) k element way) (ap₂ contents_of q o ∙ sym held)))
+
+      by : (ports : List MemoryPort) → memory_ports memory ≡ ports → contents_of (stored_leaves (leaves x.c.typ)) new element leaf.path ≡ written_in s rho memory x element leaf.path
+      by [] none =
+          let empty : stored_leaves (leaves x.c.typ) ≡ [] = ap stored_leaves (of.bundle ∙ unported memory typ none) in
+          nothing_there leaf.path (stored_leaves (leaves x.c.typ)) new element empty
+          ∙ sym (ap (λ ps. fold (after_port memory (leaves_in s rho x)) (before_writes s rho x) ps element leaf.path) none
+          ∙ (ap (λ (k : Contents). k element leaf.path) (held ∙ ap (λ ls. contents_of ls old) (sym q)) ∙ nothing_there leaf.path stored old element (all ∙ empty)))
+      by (port ∷ ports) some =
+          let its = kept memory typ leaf (λ none. let bad : port ∷ ports ≡ [] = sym some ∙ none in cc) among in
+          at leaf.path its.0 (subst (λ ls. Contains ls its.0) (sym (all ∙ ap stored_leaves of.bundle)) its.1) its.2
+
+  pub reads_are : (here : Scene) (stored ls : List TypeLeaf) (old new from : List (List Value)) (lines : List MemLine) (values : List Value) → here ≡ scene_of x.m x.path rho
       → before_writes s rho x ≡ contents_of (stored_leaves part.site.now.leaves) old → stored ≡ stored_leaves part.site.now.leaves → ls ≡ part.site.now.leaves → lines ≡ m.now.lines → AreWritten s rho x new
       → ((l : List TypeLeaf) → contents_of l from ≡ taken (first_or under.Undefined (filter_map under_in lines)) (contents_of l old) (contents_of l new))
       → Beside (IsReadFrom m.now (here.integers m.now.name.id) (contents_of stored from)) ls values → AreRead s rho x values
-  reads_are kept here stored ls old new from lines values scene held q p r written takes h memory e =
+  reads_are here stored ls old new from lines values scene held q p r written takes h memory e =
       let all = all_stored stored q in
       let its : List TypeLeaf = stored_leaves (leaves x.c.typ) in
       let own : Leaves = leaves_in s rho x in
@@ -96,11 +125,14 @@ module _ (run : Run) (ok : IsRun run) (x : Located) (part : Part) (is : IsPart (
       let shows : (leaf : TypeLeaf) (v : Value) → Contains (leaves x.c.typ) leaf → IsReadFrom m.now (here.integers m.now.name.id) (contents_of stored from) leaf v
       → IsReadFrom memory own (taken (under_of memory) before after) leaf v =
       λ leaf v among has port way turned shown.
-      let behind = shown_behind leaf.path port way shown in
+      let fields = shown_fields leaf.path port way shown in
+      let bundle = ok.well.bundles.memories x.path x.m x.c memory is.located.reached is.located.declared e in
+      let part = element_way memory bundle.0 leaf port fields.0 way (subst (λ all. Contains all leaf) bundle.1 among) turned fields.1 in
       has port way turned shown
       ∙ (ap₂ (λ (k : Memory) (l : Leaves). read_by k l (contents_of stored from) port way) (same memory e) (own_leaves memory e here scene)
       ∙ (ap (λ (k : Contents). read_by memory own k port way) sees
       ∙ reads_alike memory own (under_of memory) before (contents_of its new) after port way (λ element.
-      ap (contents_of its new element) (sym behind) ∙ (written memory e element (inner_leaf leaf) (kept (leaves x.c.typ) leaf among turned) ∙ ap (after element) behind)))) in
+      subst (λ w. contents_of its new element w ≡ after element w) part.2
+      (written memory bundle.0 e (shown_element x.c memory bundle.0 bundle.1 leaf among) element part.0 part.1)))) in
       beside_weaker (IsReadFrom m.now (here.integers m.now.name.id) (contents_of stored from)) (IsReadFrom memory own (taken (under_of memory) before after)) (leaves x.c.typ) values shows
       (subst (λ l. Beside (IsReadFrom m.now (here.integers m.now.name.id) (contents_of stored from)) l values) (p ∙ leaves_are (design_in run) x part is) h)

@@ -1,5 +1,5 @@
 -- Ways to leaves, and values beside them.
-use Rattle.std.proofs.Common.{◌≡◌, ℕ, ◌==◌, ◌&&◌, not, Bool, true, false, true≢false, List, [], ◌∷◌, drop, Option, Some, None, if◌then◌else◌, eq-eqb, refl, sym, ap, ap₂, ◌∙◌}
+use Rattle.std.proofs.Common.{◌≡◌, ℕ, ◌==◌, ◌&&◌, not, Bool, true, false, true≢false, List, [], ◌∷◌, Option, Some, None, if◌then◌else◌, eq-eqb, refl, sym, ap, ap₂, ◌∙◌}
 use Rattle.std.proofs.lemmas.Bool.{eqb-true}
 use Rattle.bit_words.specs.declared.value.Value.{Value}
 use Rattle.fir_types.specs.declared.leaf.TypeLeaf.{TypeLeaf}
@@ -52,13 +52,15 @@ shown_there leaf port way e =
     let both = and_parts (not leaf.flip) (shows_at port way leaf.path) e in
     (unturned leaf.flip both.0, shown_at port way leaf.path both.1)
 
--- its way within an element
-pub shown_behind : (path : List PathStep) (port : ℕ) (way : List PathStep) → shown_of path ≡ Some (port, way) → drop 2 path ≡ way
-shown_behind [] port way e = absurd (none_some e)
-shown_behind (step.Element n ∷ path) port way e = absurd (none_some e)
-shown_behind (step.Field p ∷ []) port way e = absurd (none_some e)
-shown_behind (step.Field p ∷ (step.Element n ∷ path)) port way e = absurd (none_some e)
-shown_behind (step.Field p ∷ (step.Field f ∷ inner)) port way e = ap (λ (r : ℕ × List PathStep). r.1) (some_same e)
+-- it is behind the port and one of its fields
+pub shown_fields : (path : List PathStep) (port : ℕ) (way : List PathStep) → shown_of path ≡ Some (port, way) → (field : ℕ) × (path ≡ step.Field port ∷ step.Field field ∷ way)
+shown_fields [] port way e = absurd (none_some e)
+shown_fields (step.Element n ∷ path) port way e = absurd (none_some e)
+shown_fields (step.Field p ∷ []) port way e = absurd (none_some e)
+shown_fields (step.Field p ∷ (step.Element n ∷ path)) port way e = absurd (none_some e)
+shown_fields (step.Field p ∷ (step.Field f ∷ inner)) port way e =
+    let same : (p, inner) ≡ (port, way) = some_same e in
+    (f, ap (λ (r : ℕ × List PathStep). step.Field r.0 ∷ step.Field f ∷ r.1) same)
 
 -- Values
 

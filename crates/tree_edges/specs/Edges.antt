@@ -2,6 +2,7 @@
 use Rattle.std.specs.Prelude.{◌≡◌, ⊤, ℕ, false, true, List, [], ◌∷◌, Contains, ℤ, Some}
 use Rattle.bit_words.specs.declared.value.Value.{Value}
 use Rattle.bit_words.specs.Values.{integer_of}
+use Rattle.fir_types.specs.declared.fir_type.FirType.{FirType}
 use Rattle.fir_types.specs.declared.leaf.TypeLeaf.{TypeLeaf}
 use Rattle.fir_types.specs.declared.leaf.PathStep.{PathStep}
 use Rattle.fir_types.specs.declared.memory.Memory.{Memory}
@@ -11,6 +12,7 @@ use Rattle.fir_tree.specs.declared.expr.Expr.{Expr}
 use Rattle.fir_meaning.specs.Components.{A_memory}
 use Rattle.fir_meaning.specs.Values.{Valuation, scene_of}
 use Rattle.fir_meaning.specs.MemoryPorts.{Contents, Leaves, after_writes, read_by}
+use Rattle.fir_meaning.specs.Elements.{IsElement}
 use Rattle.fir_meaning.specs.States.{State, is_register, next_of_register, taken}
 use Rattle.tree_drives.specs.declared.register.Register.{Register}
 use Rattle.tree_drives.specs.Registers.{sort_of}
@@ -57,9 +59,9 @@ module _ (s : State) (rho : Valuation) where
   abbrev pub AreNextIn : Located → List Value → Type 0
   AreNextIn x values = is_register x.c.declaration.sort ≡ true → Beside (λ leaf v. integer_of v ≡ next_in_leaf x leaf) (leaves x.c.typ) values
 
-  -- The elements have what a memory holds after the writes, in each leaf that is stored.
+  -- The elements have what a memory holds after the writes, in each leaf of an element.
   abbrev pub AreWritten : Located → List (List Value) → Type 0
-  AreWritten x elements = (memory : Memory) → x.c.declaration.sort ≡ A_memory memory → (element : ℕ) (leaf : TypeLeaf) → Contains (stored_leaves (leaves x.c.typ)) leaf
+  AreWritten x elements = (memory : Memory) (typ : FirType) → x.c.declaration.sort ≡ A_memory memory → IsElement x.c memory typ → (element : ℕ) (leaf : TypeLeaf) → Contains (leaves typ) leaf
       → contents_of (stored_leaves (leaves x.c.typ)) elements element leaf.path ≡ written_in memory x element leaf.path
 
   -- The values are what a memory's ports have read: before the writes, or after them, as the memory says.

@@ -9,11 +9,10 @@ use crate::memories::next_of_memory;
 use crate::registers::next_of_leaves;
 use bit_words::{List, Value};
 use std::alloc::{AllocError, Global};
-use tree_drives::laws::shown_leaves_are_stored;
 use tree_sweep::{Held, Moment, Part, Run};
 
 /// What is held when the next cycle begins, where this was held in the cycle and the leaves of the run have these values: the next state
-/// as far as the leaves of the circuit show. Takes time in proportion to the leaves of registers and memories, each with the statements
+/// as far as the circuit goes. Takes time in proportion to the leaves of registers and memories, each with the statements
 /// of its block and with the components of the run for each reference in them, and to the elements that are held, which are copied.
 pub fn next_held(
     alloc: Global,
@@ -24,7 +23,6 @@ pub fn next_held(
     requires { IsRun run.now }
     ensures { IfOk result (λ after. SameState (design_in run.now) (state_of run.now.sites.now after) (next (design_in run.now) (state_of run.now.sites.now held.now) (valuation_of run.now.sites.now values.now))) }
 {
-    shown_leaves_are_stored();
     let moment = Moment {
         held,
         row: &[],

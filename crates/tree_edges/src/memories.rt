@@ -13,7 +13,7 @@ ghost use Rattle.tree_edges.specs.Edges.{Beside, IsReadFrom, AreWritten, AreRead
 use bit_words::{List, Value};
 use fir_types::{MemLine, PathStep, TypeLeaf, Under};
 use std::alloc::{AllocError, Global};
-use tree_drives::laws::shown_leaves_are_stored;
+use tree_drives::laws::leaves_of_elements_are_stored;
 use tree_drives::{SeenMemory, read_by, stored_leaves, write};
 use tree_sites::Sort;
 use tree_sweep::finding::nothing;
@@ -42,7 +42,7 @@ pub fn next_of_memory(
     ensures written { IfOk result (λ next. (x : Located) → IsPart (design_in run.now) x part.now → AreWritten (state_at run.now moment.now) (values_at run.now moment.now) x next.elements) }
     ensures read { IfOk result (λ next. (x : Located) → IsPart (design_in run.now) x part.now → AreRead (state_at run.now moment.now) (values_at run.now moment.now) x next.read) }
 {
-    shown_leaves_are_stored();
+    leaves_of_elements_are_stored();
     let Sort::Memory(memory) = part.declaration.sort else {
         return Ok(MemoryNext {
             elements: List::new(alloc),

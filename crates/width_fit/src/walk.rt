@@ -194,7 +194,7 @@ fn declare_memory(
     )?;
     let typ = memory_type(alloc, memory)?;
     let widths = slot_widths(alloc, given.widths, slots.as_slice())?;
-    let fitted = walk.found.made.fit(alloc, &typ, widths.as_slice())?;
+    let fitted = walk.found.made.fit_memory(alloc, &typ, widths.as_slice())?;
     walk.declared.push(fitted)?;
     let part = source(typ);
     note(&mut walk.known, memory.name.id, Component { part, slots })

@@ -27,4 +27,3 @@ pub returns : goal.returns
 returns c =
     let run = c.args.run.now in
     same_next (design_in run) run.sites.now run.declared.now c.requires.layout _ _ _ (held_all (design_in run) run.sites.now run.declared.now c.requires.layout _ _ c.loop-at.at c.loop-at.registers c.loop-at.contents c.loop-at.captured (omega arith) (c.loop-at.invariant c.requires.layout))
-    c.shown_leaves_are_stored.ensures
