@@ -10,6 +10,8 @@ use Rattle.prim_ops.specs.Operations.{arity_of}
 use Rattle.place_text.specs.declared.place.Place.{Place}
 use Rattle.fir_types.specs.declared.fir_type.FirType.{FirType}
 use Rattle.fir_types.specs.declared.name.Name.{Name}
+use Rattle.fir_layout.specs.declared.laid.Laid.{Laid}
+use Rattle.fir_grammar.specs.Grammar.{IsCircuit}
 use Rattle.fir_tree.specs.declared.circuit.Circuit.{Circuit}
 use Rattle.fir_tree.specs.declared.circuit.Module.{Module}
 use Rattle.fir_tree.specs.declared.scope.Scope.{Scope}
@@ -32,6 +34,7 @@ use Rattle.check_laws.specs.Nodes.{NodesOf, reference, literal, operation, choic
 use Rattle.circuit_laws.specs.Names.{Every}
 use Rattle.circuit_laws.proofs.Alone.{every-append}
 use Rattle.fitted_laws.specs.Shaped.{all_are, of_form, of_suffix, of_expr, is_shaped, of_stmt, of_arm, is_shaped_stmt, is_shaped_module, is_shaped_circuit}
+use Rattle.fitted_laws.proofs.Spelled.{spelled_shaped}
 use Rattle.node_laws.specs.Nodes.{Node, at, expressions_in, arms_in, else_in, NodesIn, no_statements, one_statement, NodesInArms, no_arms, one_arm, NodesOfModules, no_modules, one_module, NodesOfCircuit, HasThree}
 use Rattle.node_laws.proofs.Layers.{layer_of}
 use Rattle.node_laws.proofs.Faultless.{table_typed}
@@ -179,3 +182,7 @@ choices_three circuit nodes h are = one_of (λ (node : Node). HasThree node.e) n
 pub shaped_typed : (circuit : Circuit) (scope : Scope) (nodes : List Node) → is_shaped_circuit circuit ≡ true → IsScope circuit scope → HasNone (IsFault circuit) → NodesOfCircuit circuit nodes
     → AllZip (λ (node : Node) (typ : FirType). Has node.known node.e typ) nodes (types_of circuit)
 shaped_typed circuit scope nodes h is none are = table_typed circuit scope nodes is none are (choices_three circuit nodes h are)
+
+pub spelled_typed : (text : List ℕ) (list : List Laid) (circuit : Circuit) (scope : Scope) (nodes : List Node) → IsCircuit text list circuit → IsScope circuit scope → HasNone (IsFault circuit)
+    → NodesOfCircuit circuit nodes → AllZip (λ (node : Node) (typ : FirType). Has node.known node.e typ) nodes (types_of circuit)
+spelled_typed text list circuit scope nodes is = shaped_typed circuit scope nodes (spelled_shaped text list circuit is)
