@@ -1,0 +1,6 @@
+mod Steps
+mod Components
+mod Expressions
+mod Statements
+mod Circuits
+mod Examples
