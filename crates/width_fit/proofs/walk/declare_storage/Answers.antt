@@ -1,5 +1,6 @@
 use Rattle.std.proofs.Common.{refl, ap, ◌∙◌, map, ◌++◌}
 use Rattle.std.proofs.lemmas.Result.{on_ok_weaker}
+use Rattle.width_rules.specs.Sources.{known_with}
 use Rattle.width_fit.specs.Filling.{filled}
 use Rattle.width_fit.specs.Judging.{slot_width, component_faults}
 use Rattle.width_fit.specs.Walks.{solved}
@@ -16,4 +17,4 @@ returns c =
     c.in_ok-push.ensures.items refl
     (c.in_ok-push_component.ensures ∙ ap (λ s. c.args.walk.now.found.faults.items ++ component_faults all c.args.name.place s) c.as_slice-3.ensures)
     c.in_ok-part.ensures)
-    c.note.ensures
+    (on_ok_weaker c.note.result (λ e. e ∙ ap (known_with c.args.walk.now.known.entries c.args.name.id) c.in_ok-component.ensures) c.note.ensures)
