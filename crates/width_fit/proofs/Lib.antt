@@ -8,4 +8,6 @@ mod FaultsTold
 mod Surveys
 mod Walking
 mod Whole
+mod Parts
+mod Looking
 pub mod Runs

@@ -10,3 +10,5 @@ pub mod Marks
 pub mod Walks
 pub mod Ranks
 pub mod Runs
+pub mod Fits
+pub mod Held

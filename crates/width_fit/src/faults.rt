@@ -37,7 +37,7 @@ pub fn push_over(
     push_where(faults, any_over(widths), WidthFault::WidthOver(place))
 }
 
-fn any_over(widths: &[Width]) -> bool
+pub fn any_over(widths: &[Width]) -> bool
     ensures { result ≡ list_any is_over widths.now }
 {
     for width in widths {

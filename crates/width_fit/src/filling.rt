@@ -22,7 +22,7 @@ pub fn filled(alloc: Global, typ: &FirType, widths: &[Width]) -> Result<FirType,
 /// A copy of a type with the first widths, and those that are left. The lengths of vectors in one another are taken in a loop.
 #[cycle(fill)]
 #[tactic(auto, using(crate::proofs::Runs::within_last, crate::proofs::Runs::taking_run))]
-fn fill<'a>(
+pub fn fill<'a>(
     alloc: Global,
     typ: &FirType,
     widths: &'a [Width],

@@ -5,6 +5,7 @@
 pub mod fault;
 mod faults;
 mod filling;
+mod fits;
 mod found;
 mod given;
 mod judging;

@@ -1,11 +1,13 @@
 //! The bundles and vectors with widths that were made.
 
 ghost use Rattle.std.specs.Prelude.{◌≡◌, IfOk, IfSome};
-ghost use Rattle.width_fit.specs.Filling.{filled};
+ghost use Rattle.width_fit.specs.Filling.{filled, taking};
+ghost use Rattle.width_fit.specs.Layers.{fields_taking};
 
-use crate::filling::filled;
-use crate::sharing::is_filled;
-use fir_types::{FirType, Shape, copy};
+use crate::filling::fill;
+use crate::sharing::behind_type;
+use bit_words::{List, Shared};
+use fir_types::{Field, FirType, Shape, copy};
 use indexmap::IndexMap;
 use prim_ops::Width;
 use std::alloc::{AllocError, Global};
@@ -49,35 +51,130 @@ impl Made {
     ) -> Result<FirType, AllocError>
         ensures { IfOk result (λ fitted. fitted ≡ filled typ.now widths.now) }
     {
-        if !matches!(&typ.shape, Shape::Bundle(_) | Shape::Vector(_, _)) {
-            return filled(alloc, typ, widths);
-        }
-        let text = text_of(typ);
-        if let Some(fitted) = self.again(text, typ, widths)? {
-            return Ok(fitted);
-        }
-        let fitted = filled(alloc, typ, widths)?;
-        self.keep(text, &fitted)?;
+        let (fitted, _) = self.take(alloc, typ, widths)?;
         Ok(fitted)
     }
 
-    /// The same type once more, where it was made for this text.
-    fn again(
+    /// The type of a memory with these widths. The fields of its ports that have one text and the same widths share one type.
+    pub fn fit_memory(
+        &mut self,
+        alloc: Global,
+        typ: &FirType,
+        widths: &[Width],
+    ) -> Result<FirType, AllocError>
+        ensures { IfOk result (λ fitted. fitted ≡ filled typ.now widths.now) }
+    {
+        let Shape::Bundle(ports) = &typ.shape else {
+            return self.fit(alloc, typ, widths);
+        };
+        let fields = self.take_ports(alloc, ports.as_slice(), widths)?;
+        Ok(FirType {
+            place: typ.place,
+            shape: Shape::Bundle(Shared::new(alloc, fields)?),
+        })
+    }
+
+    fn take_ports(
+        &mut self,
+        alloc: Global,
+        ports: &[Field],
+        widths: &[Width],
+    ) -> Result<List<Field>, AllocError>
+        ensures { IfOk result (λ fitted. fitted ≡ (fields_taking ports.now widths.now).0) }
+    {
+        let mut fitted = List::new(alloc);
+        let mut rest = widths;
+        for port in ports {
+            let (typ, others) = self.take_port(alloc, &port.typ, rest)?;
+            fitted.push(Field {
+                flip: port.flip,
+                name: port.name,
+                typ,
+            })?;
+            rest = others;
+        }
+        Ok(fitted)
+    }
+
+    fn take_port<'a>(
+        &mut self,
+        alloc: Global,
+        typ: &FirType,
+        widths: &'a [Width],
+    ) -> Result<(FirType, &'a [Width]), AllocError>
+        ensures { IfOk result (λ taken. (taken.0, taken.1.now) ≡ taking typ.now widths.now) }
+    {
+        let Shape::Bundle(fields) = &typ.shape else {
+            return self.take(alloc, typ, widths);
+        };
+        let (fields, rest) = self.take_fields(alloc, fields.as_slice(), widths)?;
+        let fitted = FirType {
+            place: typ.place,
+            shape: Shape::Bundle(Shared::new(alloc, fields)?),
+        };
+        Ok((fitted, rest))
+    }
+
+    fn take_fields<'a>(
+        &mut self,
+        alloc: Global,
+        fields: &[Field],
+        widths: &'a [Width],
+    ) -> Result<(List<Field>, &'a [Width]), AllocError>
+        ensures { IfOk result (λ taken. (taken.0, taken.1.now) ≡ fields_taking fields.now widths.now) }
+    {
+        let mut fitted = List::new(alloc);
+        let mut rest = widths;
+        for field in fields {
+            let (typ, others) = self.take(alloc, &field.typ, rest)?;
+            fitted.push(Field {
+                flip: field.flip,
+                name: field.name,
+                typ,
+            })?;
+            rest = others;
+        }
+        Ok((fitted, rest))
+    }
+
+    /// A type with the first widths, and those that are left.
+    fn take<'a>(
+        &mut self,
+        alloc: Global,
+        typ: &FirType,
+        widths: &'a [Width],
+    ) -> Result<(FirType, &'a [Width]), AllocError>
+        ensures { IfOk result (λ taken. (taken.0, taken.1.now) ≡ taking typ.now widths.now) }
+    {
+        if !matches!(&typ.shape, Shape::Bundle(_) | Shape::Vector(_, _)) {
+            return fill(alloc, typ, widths);
+        }
+        let text = text_of(typ);
+        if let Some(taken) = self.again(text, typ, widths)? {
+            return Ok(taken);
+        }
+        let (fitted, rest) = fill(alloc, typ, widths)?;
+        self.keep(text, &fitted)?;
+        Ok((fitted, rest))
+    }
+
+    /// The same type once more, where it was made for this text, and the widths behind it.
+    fn again<'a>(
         &self,
         text: TypeText,
         typ: &FirType,
-        widths: &[Width],
-    ) -> Result<Option<FirType>, AllocError>
-        ensures { IfOk result (λ found. IfSome found (λ fitted. fitted ≡ filled typ.now widths.now)) }
+        widths: &'a [Width],
+    ) -> Result<Option<(FirType, &'a [Width])>, AllocError>
+        ensures { IfOk result (λ found. IfSome found (λ taken. taking typ.now widths.now ≡ (taken.0, taken.1.now))) }
     {
         let Some(versions) = self.types.get(&text) else {
             return Ok(None);
         };
-        if is_filled(&versions.first, typ, widths) {
-            return Ok(Some(copy(&versions.first)?));
+        if let Some(rest) = behind_type(typ, &versions.first, widths) {
+            return Ok(Some((copy(&versions.first)?, rest)));
         }
-        if is_filled(&versions.last, typ, widths) {
-            return Ok(Some(copy(&versions.last)?));
+        if let Some(rest) = behind_type(typ, &versions.last, widths) {
+            return Ok(Some((copy(&versions.last)?, rest)));
         }
         Ok(None)
     }

@@ -1,24 +1,17 @@
 //! Whether a type is another one with the widths that were found.
 
-ghost use Rattle.std.specs.Prelude.{◌≡◌, ◌∷◌, IfSome, IsTrue};
-ghost use Rattle.width_fit.specs.Filling.{filled, taking, first_number, behind_first};
+ghost use Rattle.std.specs.Prelude.{◌≡◌, ◌∷◌, IfSome};
+ghost use Rattle.width_fit.specs.Filling.{taking, first_number, behind_first};
 ghost use Rattle.width_fit.specs.Layers.{shape_taking, fields_taking};
 
 use crate::filling::take_first;
 use fir_types::{Field, FirType, Shape};
 use prim_ops::Width;
 
-/// Whether the fitted type is a type with these widths, in the order of its places. Takes no memory.
-pub fn is_filled(fitted: &FirType, typ: &FirType, widths: &[Width]) -> bool
-    ensures { IsTrue result → fitted.now ≡ filled typ.now widths.now }
-{
-    matches!(behind_type(typ, fitted, widths), Some(_))
-}
-
 /// The widths behind those of a type, where the fitted type is that type with the first widths. The lengths of vectors in one
-/// another are taken in a loop.
+/// another are taken in a loop. Takes no memory.
 #[cycle(behind)]
-fn behind_type<'a>(typ: &FirType, fitted: &FirType, widths: &'a [Width]) -> Option<&'a [Width]>
+pub fn behind_type<'a>(typ: &FirType, fitted: &FirType, widths: &'a [Width]) -> Option<&'a [Width]>
     ensures { IfSome result (λ rest. taking typ.now widths.now ≡ (fitted.now, rest.now)) }
 {
     let mut inside = typ;
