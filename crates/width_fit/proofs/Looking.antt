@@ -121,3 +121,7 @@ fits_declared ws known fits new id sized fit none put own h =
         let whole : component_or_none (or_else (lookup (nat_eq name) known) (cond (nat_eq name id) (Some sized) None)) ≡ component known name
         = ap (λ b. component_or_none (or_else (lookup (nat_eq name) known) (cond b (Some sized) None))) (turned name id ∙ is) ∙ alone (lookup (nat_eq name) known) in
         subst (λ c. Fits ws c other.typ other.is_over) (sym whole) (h.each name other e)
+
+-- a name that has a component keeps it
+pub fits_kept : (ws : List Width) (known : Known) (fits : List (ℕ × Fit)) (id : ℕ) (sized : Component) → is_some (lookup (nat_eq id) known) ≡ true → AreFits ws known fits → AreFits ws (known_with known id sized) fits
+fits_kept ws known fits id sized there' h = subst (λ b. AreFits ws (if b then known else known ++ (id, sized) ∷ []) fits) (sym there') h
