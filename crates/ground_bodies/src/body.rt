@@ -157,7 +157,7 @@ fn behind_component(
 {
     match known.get(&name) {
         Some(component) => {
-            let count = as_number(leaf_count(&component.typ))?;
+            let count = as_number(leaf_count(component.typ.get()))?;
             let behind = sum_of(before, count)?;
             Ok(behind)
         }

@@ -1,10 +1,10 @@
 //! Components, by the numbers of their leaves.
 
-use fir_types::FirType;
+use ground_parts::IndexedType;
 
-/// A component: its type, and the number of its first leaf.
-#[derive(Debug, Drop)]
+/// A component: its type with an index of the fields, and the number of its first leaf.
+#[derive(Drop)]
 pub struct Component {
-    pub typ: FirType,
+    pub typ: IndexedType,
     pub first: u32,
 }

@@ -17,11 +17,11 @@ use crate::source::Source;
 use crate::views::{View, enter_element, enter_field};
 use bit_words::{Kind, List, Number};
 use fir_tree::{Expr, Form, Suffix};
-use fir_types::{FirType, Name};
+use fir_types::Name;
 use ground_net::Ground;
+use ground_parts::Pick;
 use ground_parts::inside::to_elements;
 use ground_parts::stepping::{indexed, whole};
-use ground_parts::{Part, Pick};
 use indexmap::IndexMap;
 use std::alloc::{AllocError, Global};
 
@@ -116,12 +116,9 @@ pub fn follow<'a>(
     let Some(component) = known.get(&name.id) else {
         unreachable!();
     };
-    let mut view = View {
-        typ: &component.typ,
-        part: whole(alloc, component.first),
-    };
+    let mut view = View::start(&component.typ, whole(alloc, component.first));
     for suffix in suffixes {
-        view = step(alloc, known, suffix, view.typ, view.part)?;
+        view = step(alloc, known, suffix, view)?;
     }
     Ok(view)
 }
@@ -132,16 +129,18 @@ fn step<'a>(
     alloc: Global,
     known: &IndexMap<u32, Component>,
     suffix: &Suffix,
-    typ: &'a FirType,
-    part: Part,
+    view: View<'a>,
 ) -> Result<View<'a>, AllocError>
     requires narrow { AreNarrow known.now.entries }
-    requires typed { IsSome (typed_step suffix.now (known_of known.now.entries) typ.now) }
-    ensures { IfOk result (λ view. Steps known.now.entries suffix.now typ.now part view.typ.now view.part) }
+    requires typed { IsSome (typed_step suffix.now (known_of known.now.entries) view.typ.now) }
+    ensures { IfOk result (λ next. Steps known.now.entries suffix.now view.entry.typ.now view.entry.part next.typ.now next.part) }
 {
+    let typ = view.typ;
+    let own = view.own;
+    let part = view.part;
     match suffix {
         Suffix::Field(name) => {
-            let view = enter_field(typ, part, name.id)?;
+            let view = enter_field(typ, own, part, name.id)?;
             Ok(view)
         }
         Suffix::At(_, _, number) => {
@@ -157,10 +156,7 @@ fn step<'a>(
                 stride: elements.stride,
             };
             let part = indexed(part, pick)?;
-            Ok(View {
-                typ: elements.typ,
-                part,
-            })
+            Ok(View::inner(elements.typ, part))
         }
     }
 }

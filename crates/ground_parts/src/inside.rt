@@ -1,14 +1,17 @@
 //! From a type to its parts, with the numbers of leaves that stand before them.
 
-ghost use Rattle.std.specs.Prelude.{◌≡◌, ◌+◌, ◌*◌, ◌<◌, ℕ, Some, IfOk, IsSome, sum, map, if◌then◌else◌};
+ghost use Rattle.std.specs.Prelude.{◌≡◌, ◌==◌, ◌+◌, ◌*◌, ◌<◌, ℕ, Some, IfOk, IsSome, find, sum, map, if◌then◌else◌};
 ghost use Rattle.fir_types.specs.declared.fir_type.Shape.TheViews.{out-Shape};
 ghost use Rattle.fir_types.specs.declared.leaf.PathStep.TheVariants as step;
-ghost use Rattle.fir_types.specs.Leaves.{count};
+ghost use Rattle.fir_types.specs.Leaves.{count, field_count};
+ghost use Rattle.field_index.specs.Indexes.{IsIndexOf};
 ghost use Rattle.fir_meaning.specs.Values.{field_of_shape, element_of_shape, vector_length};
 ghost use Rattle.ground_parts.specs.Numbers.{IsInside};
 ghost use Rattle.ground_parts.specs.Fields.{leaves_before};
 
+use crate::indexed::IndexedType;
 use crate::reading::sum_of;
+use field_index::FieldIndex;
 use fir_types::{Field, FirType, Shape, field_of, leaf_count};
 use std::alloc::{AllocError, Global};
 
@@ -54,6 +57,44 @@ pub fn to_field<'a>(typ: &'a FirType, id: u32) -> Result<Inner<'a>, AllocError>
         typ: &field.typ,
         before,
     })
+}
+
+/// The same of a whole component's type. Takes constant time where there is an index.
+pub fn to_own_field<'a>(own: &'a IndexedType, id: u32) -> Result<Inner<'a>, AllocError>
+    requires { IsSome (field_of_shape id (out-Shape own.now.shape)) }
+    ensures typ { IfOk result (λ inner. field_of_shape id (out-Shape own.now.shape) ≡ Some inner.typ.now) }
+    ensures inside { IfOk result (λ inner. IsInside own.now (step.Field id) inner.typ.now inner.before) }
+{
+    let typ = own.get();
+    let Some(index) = own.index() else {
+        return to_field(typ, id);
+    };
+    let Shape::Bundle(fields) = &typ.shape else {
+        unreachable!();
+    };
+    let Some(field) = index.field(fields.as_slice(), id) else {
+        unreachable!();
+    };
+    let before = before_by(index, fields.as_slice(), id)?;
+    Ok(Inner {
+        typ: &field.typ,
+        before,
+    })
+}
+
+/// How many leaves stand before the first field of a name, by the index.
+fn before_by(index: &FieldIndex, fields: &[Field], id: u32) -> Result<u32, AllocError>
+    requires index { IsIndexOf index.now fields.now (map field_count fields.now) }
+    requires there { IsSome (find (λ field. field.name.id == id) fields.now) }
+    ensures { IfOk result (λ n. n ≡ leaves_before id fields.now) }
+{
+    let Some(place) = index.place(id) else {
+        unreachable!();
+    };
+    match u32::try_from(place.before) {
+        Ok(before) => Ok(before),
+        Err(_) => Err(AllocError),
+    }
 }
 
 /// How many leaves stand before the first field of a name.

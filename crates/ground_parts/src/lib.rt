@@ -2,9 +2,11 @@
 //! part. Keeps the contract that what is read and what is set is, at every sight, the leaf that the indices pick.
 #![tactic(auto)]
 
+pub mod indexed;
 pub mod inside;
 pub mod part;
 pub mod reading;
 pub mod stepping;
 
+pub use indexed::IndexedType;
 pub use part::{Part, Pick};

@@ -6,6 +6,7 @@ ghost use Rattle.ground_tables.specs.Views.{KnowsPieces, with_new};
 use crate::pieces::Piece;
 use fir_types::copy;
 use ground_exprs::Component;
+use ground_parts::IndexedType;
 use indexmap::IndexMap;
 use std::alloc::{AllocError, Global};
 
@@ -18,18 +19,22 @@ pub fn components_of(
 {
     let mut known = IndexMap::new(alloc);
     for piece in pieces {
-        insert_new(&mut known, piece)?;
+        insert_new(alloc, &mut known, piece)?;
     }
     Ok(known)
 }
 
 /// Notes where a component stands, unless one of its name is known.
-fn insert_new(known: &mut IndexMap<u32, Component>, piece: &Piece<'_>) -> Result<(), AllocError>
+fn insert_new(
+    alloc: Global,
+    known: &mut IndexMap<u32, Component>,
+    piece: &Piece<'_>,
+) -> Result<(), AllocError>
     ensures { OnOk result (known.new.entries ≡ with_new known.old.entries piece.now) }
 {
     if known.get(&piece.name.id).is_none() {
         let component = Component {
-            typ: copy(piece.typ)?,
+            typ: IndexedType::new(alloc, copy(piece.typ)?)?,
             first: piece.first,
         };
         known.insert(piece.name.id, component)?;

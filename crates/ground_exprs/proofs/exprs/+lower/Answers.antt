@@ -1,4 +1,4 @@
-use Rattle.std.proofs.Common.{◌≡◌, ◌∙◌, sym, subst, refl, true, rules, arith, length, map}
+use Rattle.std.proofs.Common.{◌≡◌, ◌∙◌, sym, subst, refl, true, rules, arith, length, map, []}
 use Rattle.fir_tree.specs.declared.expr.Expr.{the_lemmas}
 use Rattle.std.specs.Prelude.{IsSome}
 use Rattle.std.specs.List.{list_all}
@@ -16,7 +16,10 @@ pub follow-unreachable-requires : goal.follow-unreachable-requires
 follow-unreachable-requires t c = name_known c.args.known.now.entries c.args.name c.args.suffixes.now c.requires.typed (sym c.in_default.ensures.value)
 
 pub follow-loop-suffix-init : goal.follow-loop-suffix-init
-follow-loop-suffix-init t c = leads_whole c.args.known.now.entries c.args.name.id c.in-Some.component.now c.whole.result c.requires.narrow (sym c.in-Some.ensures.value) c.whole.ensures
+follow-loop-suffix-init t c =
+    subst (λ p. Leads c.args.known.now.entries c.args.name.id [] c.start-view.result.typ.now p) (sym c.start-view.ensures.part)
+    (subst (λ t. Leads c.args.known.now.entries c.args.name.id [] t c.whole.result) (sym c.start-view.ensures.typ)
+    (leads_whole c.args.known.now.entries c.args.name.id c.in-Some.component.now c.whole.result c.requires.narrow (sym c.in-Some.ensures.value) c.whole.ensures))
 
 pub follow-step-requires : goal.follow-step-requires
 follow-step-requires t c = (
@@ -98,31 +101,31 @@ step-lower_expr-requires t c = (
   search (rules, the_lemmas, c.in-Index.is),
   (
     c.requires.narrow,
-    unsigned_some (typed c.in-Index.index (known_of c.args.known.now.entries)) (index_asked (known_of c.args.known.now.entries) c.args.suffix.now c.in-Index.field-0 c.in-Index.index c.args.typ.now c.in-Index.is c.requires.typed).0,
+    unsigned_some (typed c.in-Index.index (known_of c.args.known.now.entries)) (index_asked (known_of c.args.known.now.entries) c.args.suffix.now c.in-Index.field-0 c.in-Index.index c.args.view.typ.now c.in-Index.is c.requires.typed).0,
   ),
 )
 
 pub step-lone-source-requires : goal.step-lone-source-requires
 step-lone-source-requires t c =
     unsigned_lone (typed c.in-Index.index (known_of c.args.known.now.entries)) c.in_ok-lower_expr-in-Index.field-0
-    (index_asked (known_of c.args.known.now.entries) c.args.suffix.now c.in-Index.field-0 c.in-Index.index c.args.typ.now c.in-Index.is c.requires.typed).0 c.in_ok-lower_expr-in-Index.ensures.typed
+    (index_asked (known_of c.args.known.now.entries) c.args.suffix.now c.in-Index.field-0 c.in-Index.index c.args.view.typ.now c.in-Index.is c.requires.typed).0 c.in_ok-lower_expr-in-Index.ensures.typed
 
 pub step-returns-in_ok-view-in-Field : goal.step-returns-in_ok-view-in-Field
 step-returns-in_ok-view-in-Field t c =
-    steps_field c.args.known.now.entries c.args.suffix.now c.in-Field.name c.args.typ.now c.in_ok-view-in-Field.view.typ.now c.args.part c.in_ok-view-in-Field.view.part c.in-Field.is
+    steps_field c.args.known.now.entries c.args.suffix.now c.in-Field.name c.args.view.typ.now c.in_ok-view-in-Field.view.typ.now c.args.view.part c.in_ok-view-in-Field.view.part c.in-Field.is
     c.in_ok-view-in-Field.ensures.typ c.in_ok-view-in-Field.ensures.part
 
 pub step-returns-in_ok-view-in-At : goal.step-returns-in_ok-view-in-At
 step-returns-in_ok-view-in-At t c =
-    steps_at c.args.known.now.entries c.args.suffix.now c.in-At.field-0 c.in-At.field-1 c.in-At.number c.args.typ.now c.in_ok-view-in-At.view.typ.now c.args.part c.in_ok-view-in-At.view.part c.in-At.is
-    (at_asked (known_of c.args.known.now.entries) c.args.suffix.now c.in-At.field-0 c.in-At.field-1 c.in-At.number c.args.typ.now c.in-At.is c.requires.typed).0
+    steps_at c.args.known.now.entries c.args.suffix.now c.in-At.field-0 c.in-At.field-1 c.in-At.number c.args.view.typ.now c.in_ok-view-in-At.view.typ.now c.args.view.part c.in_ok-view-in-At.view.part c.in-At.is
+    (at_asked (known_of c.args.known.now.entries) c.args.suffix.now c.in-At.field-0 c.in-At.field-1 c.in-At.number c.args.view.typ.now c.in-At.is c.requires.typed).0
     c.in_ok-view-in-At.ensures.typ c.in_ok-view-in-At.ensures.part
 
 pub step-returns-in_ok-part-in-Index : goal.step-returns-in_ok-part-in-Index
 step-returns-in_ok-part-in-Index t c =
-    steps_index c.args.known.now.entries c.args.suffix.now c.in-Index.field-0 c.in-Index.index c.args.typ.now c.in_ok-elements-in-Index.elements.typ.now c.args.part c.in_ok-part-in-Index.part c.lone-source.result
+    steps_index c.args.known.now.entries c.args.suffix.now c.in-Index.field-0 c.in-Index.index c.args.view.typ.now c.in_ok-elements-in-Index.elements.typ.now c.args.view.part c.in_ok-part-in-Index.part c.lone-source.result
     (record { index = c.lone-source.result.expr; length = c.in_ok-elements-in-Index.elements.length; stride = c.in_ok-elements-in-Index.elements.stride }) c.in-Index.is
-    (index_asked (known_of c.args.known.now.entries) c.args.suffix.now c.in-Index.field-0 c.in-Index.index c.args.typ.now c.in-Index.is c.requires.typed).0
+    (index_asked (known_of c.args.known.now.entries) c.args.suffix.now c.in-Index.field-0 c.in-Index.index c.args.view.typ.now c.in-Index.is c.requires.typed).0
     (subst (IsLowered c.args.known.now.entries c.in-Index.index) c.lone-source.ensures c.in_ok-lower_expr-in-Index.ensures)
     c.in_ok-elements-in-Index.ensures.typ c.in_ok-elements-in-Index.ensures.length refl c.in_ok-elements-in-Index.ensures.inside
-    (narrow_element c.args.typ.now c.in_ok-elements-in-Index.elements.typ.now c.in_ok-elements-in-Index.ensures.typ) c.in_ok-part-in-Index.ensures.first c.in_ok-part-in-Index.ensures.picks
+    (narrow_element c.args.view.typ.now c.in_ok-elements-in-Index.elements.typ.now c.in_ok-elements-in-Index.ensures.typ) c.in_ok-part-in-Index.ensures.first c.in_ok-part-in-Index.ensures.picks
