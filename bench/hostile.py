@@ -3,7 +3,8 @@ of the times; all under a stack of 8 MB.
 
 usage: hostile.py PROGRAM [--check]
 
-With --check only the deepest texts that are read, under stacks of 8 MB and 4 MB; the last line is `N passed, M failed`.
+With --check each text is only asked for its answer: the deepest ones under stacks of 8 MB and 4 MB, the others under 8 MB and within bounds of
+time and memory that a busy machine keeps as well; the last line is `N passed, M failed`.
 """
 import os
 import resource
@@ -15,6 +16,13 @@ import time
 
 FRONT = "FIRRTL version 3.0.0\ncircuit M :\n"
 MEGABYTE = 1_048_576
+
+# What no text may take, whatever else the machine does.
+MOST_SECONDS = 20
+MOST_MEGABYTES = 1_000
+
+ACCEPTED = "ok"
+TOO_LARGE = "circuit TooLarge 2:9"
 
 
 def module(lines, name="M"):
@@ -150,23 +158,23 @@ DEEP = {
 MASKED = {"a memory of 128 lengths around a bundle, 128 deep": deep_memory(128)}
 
 ROWS = {
-    "n nodes of a bundle of n fields": (nodes_of_bundle, 1_000),
-    "n connects of n fields that main doesn't reach": (unreached_connects, 1_000),
-    "n instances of a module with n ports": (instances_of_ports, 500),
-    "2 n references to the last of n fields": (last_field, 6_000),
-    "n readers of one memory, each invalidated": (readers, 4_000),
-    "n writers of one memory of n fields": (writers, 500),
-    "n operands over a chain that runs backward": (backward_chain, 400),
-    "n operands over a chain that diverges": (diverging_chain, 400),
-    "n modules in one ring of instances": (module_ring, 2_000),
-    "n references with 127 indices each": (many_indices, 1_000),
-    "n declarations of long names": (long_names, 250),
-    "n infos": (infos, 15_000),
-    "one bundle of n fields": (one_bundle, 29_000),
-    "n wires of 100 vectors in one another": (nested_vectors, 1_500),
-    "n operands on one line": (one_line, 65_000),
-    "n wires, connects and nodes": (dense_statements, 6_000),
-    "n instances of a module with 200 ports": (wide_instances, 1_000),
+    "n nodes of a bundle of n fields": (nodes_of_bundle, 1_000, TOO_LARGE),
+    "n connects of n fields that main doesn't reach": (unreached_connects, 1_000, ACCEPTED),
+    "n instances of a module with n ports": (instances_of_ports, 500, TOO_LARGE),
+    "2 n references to the last of n fields": (last_field, 6_000, TOO_LARGE),
+    "n readers of one memory, each invalidated": (readers, 4_000, TOO_LARGE),
+    "n writers of one memory of n fields": (writers, 500, ACCEPTED),
+    "n operands over a chain that runs backward": (backward_chain, 400, ACCEPTED),
+    "n operands over a chain that diverges": (diverging_chain, 400, "circuit WidthOver 5:10"),
+    "n modules in one ring of instances": (module_ring, 2_000, "circuit InstanceLoop 6:15"),
+    "n references with 127 indices each": (many_indices, 1_000, ACCEPTED),
+    "n declarations of long names": (long_names, 250, ACCEPTED),
+    "n infos": (infos, 15_000, ACCEPTED),
+    "one bundle of n fields": (one_bundle, 29_000, TOO_LARGE),
+    "n wires of 100 vectors in one another": (nested_vectors, 1_500, ACCEPTED),
+    "n operands on one line": (one_line, 65_000, ACCEPTED),
+    "n wires, connects and nodes": (dense_statements, 6_000, ACCEPTED),
+    "n instances of a module with 200 ports": (wide_instances, 1_000, TOO_LARGE),
 }
 
 
@@ -189,16 +197,25 @@ def answer(program, text, stack):
     return said, time.perf_counter() - began, used.ru_maxrss / 1024
 
 
-def check(program):
-    passed = failed = 0
+def asked():
+    """Each text with what it is, the megabytes of its stack, and the answer that is wanted."""
     for meaning, text in DEEP.items():
         for megabytes in (8, 4):
-            said, _, _ = answer(program, text, megabytes * MEGABYTE)
-            if said == "ok":
-                passed += 1
-            else:
-                failed += 1
-                print(f"{meaning}, under a stack of {megabytes} MB: {said}")
+            yield meaning, text, megabytes, ACCEPTED
+    for meaning, (make, size, wanted) in ROWS.items():
+        for count in (size, 2 * size):
+            yield f"{meaning}, for n = {count:,}", make(count), 8, wanted
+
+
+def check(program):
+    passed = failed = 0
+    for meaning, text, megabytes, wanted in asked():
+        said, seconds, memory = answer(program, text, megabytes * MEGABYTE)
+        if said == wanted and seconds <= MOST_SECONDS and memory <= MOST_MEGABYTES:
+            passed += 1
+        else:
+            failed += 1
+            print(f"{meaning}, under a stack of {megabytes} MB: {said} after {seconds:.1f} seconds in {memory:.0f} MB, not {wanted}")
     print(f"{passed} passed, {failed} failed")
     return 1 if failed else 0
 
@@ -208,7 +225,7 @@ def measure(program):
     for meaning, text in (DEEP | MASKED).items():
         said, seconds, memory = answer(program, text, 8 * MEGABYTE)
         print(f"{meaning:48} {len(text):9,} {seconds:8.2f} {memory:7.0f} {'':15} {'':8} {'':7} {'':6}  {said}")
-    for meaning, (make, size) in ROWS.items():
+    for meaning, (make, size, _) in ROWS.items():
         small, large = make(size), make(2 * size)
         said, seconds, memory = answer(program, small, 8 * MEGABYTE)
         said_of_large, seconds_of_large, memory_of_large = answer(program, large, 8 * MEGABYTE)

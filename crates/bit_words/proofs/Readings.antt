@@ -15,7 +15,8 @@ letter_no_digit Octal h = omega arith
 letter_no_digit Decimal h = omega arith
 letter_no_digit Hexadecimal h = omega arith
 
-letter_same : (a b : Base) → letter a ≡ letter b → a ≡ b
+-- a base's letter tells the base
+pub letter_same : (a b : Base) → letter a ≡ letter b → a ≡ b
 letter_same Binary Binary e = refl
 letter_same Binary Octal e = absurd (omega arith)
 letter_same Binary Decimal e = absurd (omega arith)

@@ -29,13 +29,5 @@ pub fn computed(draft: &mut Draft, work: Instr) -> Result<u32, AllocError>
 fn with_target(work: Instr, target: u32) -> Instr
     ensures { result ≡ at_slot target work }
 {
-    Instr {
-        op: work.op,
-        shift: work.shift,
-        first: work.first,
-        second: work.second,
-        third: work.third,
-        target,
-        mask: work.mask,
-    }
+    Instr { target, ..work }
 }

@@ -7,7 +7,7 @@ ghost use Rattle.code_draft.specs.Drafts.{IsDraft, Makes, IsConstant, IsWord, Is
 ghost use Rattle.code_draft.specs.Segments.{Step};
 
 use crate::draft::Draft;
-use crate::steps::{add_instr, new_spot};
+use crate::steps::{add_instr, instr_of, new_spot};
 use bit_words::{Kind, Value, high_word, low_word};
 use flat_code::{Instr, Op, Spot};
 use std::alloc::AllocError;
@@ -85,13 +85,9 @@ fn fetch(op: Op, first: u32, target: u32, mask: u64) -> Instr
     ensures mask { result.mask ≡ mask }
 {
     Instr {
-        op,
-        shift: 0,
-        first,
-        second: 0,
-        third: 0,
         target,
         mask,
+        ..instr_of(op, first)
     }
 }
 

@@ -12,4 +12,5 @@ pub mod wide_values;
 pub use computing::computed;
 pub use draft::Draft;
 pub use fetching::{constant, input, load, low_mask};
+pub use steps::{add_instr, instr_of};
 pub use wide_values::wide_value;

@@ -6,7 +6,7 @@ ghost use Rattle.code_draft.specs.Drafts.{with_instr, with_wide, with_slots, spo
 
 use crate::draft::Draft;
 use bit_words::{Kind, List};
-use flat_code::{Instr, Spot, Wide};
+use flat_code::{Instr, Op, Spot, Wide};
 use std::alloc::{AllocError, Global};
 
 /// No code yet, over this many shared words.
@@ -27,10 +27,31 @@ pub fn empty(alloc: Global, words: u32) -> Draft
 }
 
 /// Adds an instruction.
-pub(crate) fn add_instr(draft: &mut Draft, instr: Instr) -> Result<(), AllocError>
+pub fn add_instr(draft: &mut Draft, instr: Instr) -> Result<(), AllocError>
     ensures { OnOk result (draft.new ≡ with_instr draft.old instr) }
 {
     draft.instrs.push(instr)
+}
+
+/// The instruction of this kind with this first operand, and 0 for all else.
+pub fn instr_of(op: Op, first: u32) -> Instr
+    ensures op { result.op ≡ op }
+    ensures shift { result.shift ≡ 0 }
+    ensures first { result.first ≡ first }
+    ensures second { result.second ≡ 0 }
+    ensures third { result.third ≡ 0 }
+    ensures target { result.target ≡ 0 }
+    ensures mask { result.mask ≡ 0 }
+{
+    Instr {
+        op,
+        shift: 0,
+        first,
+        second: 0,
+        third: 0,
+        target: 0,
+        mask: 0,
+    }
 }
 
 /// Adds a wide value, and gives its number.

@@ -1,16 +1,15 @@
 //! Wide values.
 
 ghost use Rattle.std.specs.Prelude.{◌≡◌, ◌≤◌, ◌<◌, ◌+◌, Some, All, IfOk, OnOk};
-ghost use Rattle.flat_code.specs.declared.instr.Op.TheVariants.{Wide as Wide_op};
 ghost use Rattle.flat_code.specs.Fine.{form_shape, spot_shapes, InRegion, region_of, spot_slots, slots_of};
 ghost use Rattle.net_meaning.specs.Shapes.{shaped};
 ghost use Rattle.code_draft.specs.Drafts.{IsDraft, Makes, Stands, IsForm};
 ghost use Rattle.code_draft.specs.Segments.{Step};
 
 use crate::draft::Draft;
-use crate::steps::{add_instr, add_wide, new_spot};
+use crate::steps::{add_instr, add_wide, instr_of, new_spot};
 use bit_words::{Kind, List};
-use flat_code::{Form, Instr, Op, Spot, Wide};
+use flat_code::{Form, Op, Spot, Wide};
 use std::alloc::AllocError;
 
 /// The value of a form on what stands at these spots, where it has this kind and this width of at most 128.
@@ -37,22 +36,6 @@ pub fn wide_value(
             target,
         },
     )?;
-    add_instr(draft, evaluation(number))?;
+    add_instr(draft, instr_of(Op::Wide, number))?;
     Ok(target)
-}
-
-/// The instruction that evaluates the wide value of this number.
-fn evaluation(number: u32) -> Instr
-    ensures op { result.op ≡ Wide_op }
-    ensures first { result.first ≡ number }
-{
-    Instr {
-        op: Op::Wide,
-        shift: 0,
-        first: number,
-        second: 0,
-        third: 0,
-        target: 0,
-        mask: 0,
-    }
 }

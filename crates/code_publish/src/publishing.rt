@@ -3,11 +3,10 @@
 ghost use Rattle.std.specs.Prelude.{◌≡◌, [], OnOk};
 ghost use Rattle.flat_code.specs.Fine.{spot_slots};
 ghost use Rattle.flat_code.specs.declared.instr.Op.TheVariants.{Publish};
-ghost use Rattle.code_draft.specs.Drafts.{with_instr};
 ghost use Rattle.code_draft.specs.Segments.{Segment};
 ghost use Rattle.code_publish.specs.Publishing.{Publishes};
 
-use code_draft::Draft;
+use code_draft::{Draft, add_instr, instr_of};
 use flat_code::{Instr, Op, Spot};
 use std::alloc::AllocError;
 
@@ -28,13 +27,6 @@ pub fn publish(draft: &mut Draft, spot: Spot, word: u32) -> Result<(), AllocErro
     add_instr(draft, high)
 }
 
-/// Adds an instruction.
-fn add_instr(draft: &mut Draft, instr: Instr) -> Result<(), AllocError>
-    ensures { OnOk result (draft.new ≡ with_instr draft.old instr) }
-{
-    draft.instrs.push(instr)
-}
-
 /// The instruction that publishes a slot as a shared word.
 fn publication(slot: u32, word: u32) -> Instr
     ensures op { result.op ≡ Publish }
@@ -42,12 +34,7 @@ fn publication(slot: u32, word: u32) -> Instr
     ensures second { result.second ≡ word }
 {
     Instr {
-        op: Op::Publish,
-        shift: 0,
-        first: slot,
         second: word,
-        third: 0,
-        target: 0,
-        mask: 0,
+        ..instr_of(Op::Publish, slot)
     }
 }

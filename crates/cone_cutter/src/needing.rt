@@ -4,10 +4,10 @@ ghost use Rattle.std.specs.Prelude.{◌≡◌, ◌++◌, [], ◌∷◌, length, 
 ghost use Rattle.ground_net.specs.Cones.{needs, register_needs, memory_needs, port_needs, reads_need, or_no_leaf, mentioned_by_reset};
 ghost use Rattle.cone_cutter.specs.Rows.{sink_of, need_rows};
 
-use crate::reading::{assignments_in, push_mentions};
+use crate::reading::assignments_in;
 use crate::sinks::SinkAt;
 use bit_words::List;
-use ground_net::{Net, NetMemory, NetPort, NetRegister, NetReset, NetWrite};
+use ground_net::{Net, NetMemory, NetPort, NetRegister, NetReset, NetWrite, push_mentions};
 use std::alloc::{AllocError, Global};
 
 /// For each sink the assignments that it needs itself.

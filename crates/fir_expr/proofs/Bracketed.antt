@@ -5,10 +5,10 @@ use Rattle.fir_layout.specs.declared.laid.Laid.{Laid}
 use Rattle.fir_layout.specs.Pieces.{Piece, A_token, piece_of, pieces_of}
 use Rattle.fir_grammar.specs.Grammar.{Terminal, The_call, The_mark, Takes}
 use Rattle.fir_grammar.specs.Faults.{Levels, levels, past, past_mark, with_suffix, last_suffixes, without_last, most}
-use Rattle.fir_expr.specs.Standing.{StandsIn, BeginsType, IsWhole}
-use Rattle.fir_expr.specs.Parts.{IsTaken}
-use Rattle.fir_expr.proofs.Composition.{piece_at}
-use Rattle.fir_expr.proofs.Depth.{levels_next, whole_stands}
+use Rattle.token_reader.specs.Standing.{StandsIn, BeginsType, IsWhole}
+use Rattle.token_reader.specs.Parts.{IsTaken}
+use Rattle.token_reader.proofs.Composition.{piece_at}
+use Rattle.token_reader.proofs.Depth.{levels_next, whole_stands}
 use Rattle.fir_expr.proofs.Passing.{mark_past, plain}
 
 -- with one bracket more, of no suffix or of an index, and with one less

@@ -5,7 +5,7 @@ use Rattle.fir_layout.specs.declared.laid.Laid.{Laid}
 use Rattle.fir_layout.specs.Pieces.{Piece, A_token, piece_of, pieces_of}
 use Rattle.fir_grammar.specs.Grammar.{The_mark, Takes, last_length, next_length, no_width, a_width}
 use Rattle.fir_grammar.proofs.Cases.{starts_mark}
-use Rattle.fir_expr.proofs.Composition.{Enters, enters_by_piece, piece_at}
+use Rattle.token_reader.proofs.Composition.{Enters, enters_by_piece, piece_at}
 
 -- tests of a first piece
 

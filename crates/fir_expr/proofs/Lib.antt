@@ -1,10 +1,5 @@
 pub mod OperandsChosen
 pub mod OperandsRead
-pub mod Composition
-pub mod Depth
-pub mod Sources
-pub mod Takes
-pub mod Called
 pub mod Passing
 pub mod Choices
 pub mod TypeCases
@@ -13,11 +8,8 @@ pub mod TypeFields
 pub mod TypeNames
 pub mod TypeLengths
 pub mod TypeFlips
-pub mod LiteralTakes
 pub mod LiteralCases
 pub mod LiteralHeads
 pub mod LiteralIntegers
 pub mod LiteralBrackets
-pub mod LineTables
 mod Underway
-pub mod Ascii

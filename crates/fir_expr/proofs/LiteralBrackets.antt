@@ -16,10 +16,11 @@ use Rattle.fir_grammar.specs.Faults.{most, Levels, levels, is_deep}
 use Rattle.fir_grammar.specs.Reading.{HasRead, IsRefused}
 use Rattle.fir_grammar.proofs.Cases.{choose, Chosen, starts_mark}
 use Rattle.fir_grammar.proofs.ReadingLaws.{takes_both}
-use Rattle.fir_expr.specs.Standing.{StandsIn}
-use Rattle.fir_expr.specs.Parts.{IsTaken, IsNotTaken, IsNumberAt, HasPassed, StartsWith, kind_name}
-use Rattle.fir_expr.proofs.Composition.{joined, read_then, Enters, enters_by_piece, enters_by_two, piece_at, refused_first, refused_behind, refused_case}
-use Rattle.fir_expr.proofs.Depth.{whole_stands}
+use Rattle.token_reader.specs.Standing.{StandsIn}
+use Rattle.token_reader.specs.Parts.{IsTaken, IsNotTaken, IsNumberAt, StartsWith}
+use Rattle.fir_expr.specs.Parts.{HasPassed, kind_name}
+use Rattle.token_reader.proofs.Composition.{joined, read_then, Enters, enters_by_piece, enters_by_two, piece_at, refused_first, refused_behind, refused_case}
+use Rattle.token_reader.proofs.Depth.{whole_stands}
 use Rattle.fir_expr.proofs.Passing.{passed_then, passed_case, passed_mark, passed_number, passed_placed, read_mark, read_placed, room_step}
 use Rattle.fir_expr.proofs.Bracketed.{IsOpener, opener_call, opener_mark, stands_opened, whole_closed}
 

@@ -7,11 +7,12 @@ use Rattle.fir_layout.specs.Pieces.{piece_of, pieces_of}
 use Rattle.fir_tree.specs.declared.fault.ParseFault.{ParseFault}
 use Rattle.fir_grammar.specs.Grammar.{A_number, Its_magnitude, A, Numbers, no_more_numbers, one_more_number}
 use Rattle.fir_grammar.specs.Reading.{IsRefused}
-use Rattle.fir_expr.specs.Standing.{StandsIn, IsWhole}
-use Rattle.fir_expr.specs.Parts.{IsNotTaken, IsNumberAt, HasPassed}
+use Rattle.token_reader.specs.Standing.{StandsIn, IsWhole}
+use Rattle.token_reader.specs.Parts.{IsNotTaken, IsNumberAt}
+use Rattle.fir_expr.specs.Parts.{HasPassed}
 use Rattle.fir_expr.specs.LiteralParts.{AddsNumbers}
-use Rattle.fir_expr.proofs.Composition.{Enters, enters_by_piece, piece_at, refused_first, refused_behind, refused_case}
-use Rattle.fir_expr.proofs.Depth.{whole_stands}
+use Rattle.token_reader.proofs.Composition.{Enters, enters_by_piece, piece_at, refused_first, refused_behind, refused_case}
+use Rattle.token_reader.proofs.Depth.{whole_stands}
 use Rattle.fir_expr.proofs.Passing.{passed_then, passed_case, passed_number, whole_texts}
 use Rattle.fir_expr.proofs.TypeCases.{passed_nothing}
 

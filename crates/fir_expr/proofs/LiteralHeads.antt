@@ -15,9 +15,10 @@ use Rattle.fir_grammar.proofs.Cases.{choose, Chosen, operation_in, operations}
 use Rattle.fir_grammar.proofs.ReadingLaws.{chosen_alone}
 use Rattle.fir_expr.specs.declared.literals.Head.{Head as TheHead}
 use Rattle.fir_expr.specs.declared.literals.Head.TheVariants as head
-use Rattle.fir_expr.specs.Parts.{StartsWith, GoesInto, kind_name, IsHeadAt}
+use Rattle.token_reader.specs.Parts.{StartsWith}
+use Rattle.fir_expr.specs.Parts.{GoesInto, kind_name, IsHeadAt}
 use Rattle.fir_expr.specs.LiteralHeads.{NamesNothing, IsHeadBefore, IsHeadOfCall}
-use Rattle.fir_expr.proofs.Composition.{enters_by_piece, enters_by_two, piece_at}
+use Rattle.token_reader.proofs.Composition.{enters_by_piece, enters_by_two, piece_at}
 use Rattle.fir_expr.proofs.Choices.{no_mark_first}
 
 -- a piece that goes on by no other case begins a reference

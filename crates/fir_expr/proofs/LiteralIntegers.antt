@@ -22,11 +22,12 @@ use Rattle.fir_grammar.specs.Faults.{Levels, levels, past, is_deep}
 use Rattle.fir_grammar.specs.Grammar.{The_mark, A_number, A_quoted_number, Takes, IsQuotedNumber, quoted, quoted_minus, Nothing, Its_magnitude, Its_number, Is, A, Integer, a_plain_integer, a_negative_integer, a_quoted_integer, a_quoted, no_symbol}
 use Rattle.fir_grammar.specs.Reading.{IsRefused}
 use Rattle.fir_grammar.proofs.Cases.{choose, starts_string}
-use Rattle.fir_expr.specs.Standing.{StandsIn}
-use Rattle.fir_expr.specs.Parts.{IsTaken, IsNotTaken, IsNumberAt, IsTokenIn, HasPassed}
+use Rattle.token_reader.specs.Standing.{StandsIn}
+use Rattle.token_reader.specs.Parts.{IsTaken, IsNotTaken, IsNumberAt, IsTokenIn}
+use Rattle.fir_expr.specs.Parts.{HasPassed}
 use Rattle.fir_expr.specs.LiteralIntegers.{IsString}
-use Rattle.fir_expr.proofs.Composition.{Enters, enters_by_piece, piece_at, one_at, read_piece, refused_behind, refused_case}
-use Rattle.fir_expr.proofs.Depth.{whole_stands}
+use Rattle.token_reader.proofs.Composition.{Enters, enters_by_piece, piece_at, one_at, read_piece, refused_behind, refused_case}
+use Rattle.token_reader.proofs.Depth.{whole_stands}
 use Rattle.fir_expr.proofs.Passing.{plain, passed_then, passed_case, passed_mark, passed_number, whole_plain, room_step}
 use Rattle.fir_expr.proofs.Choices.{is_mark_first, no_mark_first}
 

@@ -7,14 +7,14 @@ use Rattle.fir_layout.specs.Pieces.{Piece, A_token, piece_of, pieces_of}
 use Rattle.prim_ops.specs.declared.operation.PrimOp.{PrimOp}
 use Rattle.prim_ops.specs.Operations.{name_of}
 use Rattle.fir_grammar.specs.Grammar.{The_call, The_mark, Takes, Its_place, Symbol, Is, A, IsCase, Derives, mark, Expression, Expressions, Reference, Suffixes, cut, takes_on, a_mux, an_operation, no_more_expressions, one_more_expression, a_component, no_suffix, a_field_suffix, an_element_suffix, an_index_suffix, name}
-use Rattle.fir_grammar.specs.Reading.{part, IsSettled}
+use Rattle.fir_grammar.specs.Reading.{IsSettled}
 use Rattle.fir_grammar.proofs.Cases.{choose, starts_digits, operation_chosen}
 use Rattle.fir_grammar.proofs.Empty.{empty_rule}
 use Rattle.fir_grammar.proofs.ReadingLaws.{Derives-taken, derived_chosen, chosen_alone, never_alone}
-use Rattle.fir_expr.specs.Parts.{StartsWith}
+use Rattle.token_reader.specs.Parts.{StartsWith}
 use Rattle.fir_expr.specs.Operands.{IsDigits, HasDigits, HasNoDigits}
 use Rattle.fir_expr.proofs.Choices.{no_mark_first}
-use Rattle.fir_expr.proofs.Composition.{Enters, enters_by_piece, enters_by_two, enters_always, piece_at}
+use Rattle.token_reader.proofs.Composition.{Enters, enters_by_piece, enters_by_two, enters_always, piece_at}
 
 none_case : (other : List Symbol) → IsCase (Expressions 0) other → Path (List Symbol) other []
 none_case _ no_more_expressions = refl

@@ -19,13 +19,14 @@ use Rattle.fir_tree.specs.declared.fault.ParseFault.{ParseFault}
 use Rattle.fir_grammar.specs.Grammar.{The_call, The_mark, A_name, A_field, A_number, Takes, Nothing, Its_place, Its_name, Its_place_and_magnitude, Is, A, Expression, Expressions, Numbers, Reference, Suffixes, close, field, mark, start_of, a_reference, a_mux, an_operation, no_more_expressions, one_more_expression, a_component, no_suffix, a_field_suffix, an_element_suffix, an_index_suffix}
 use Rattle.fir_grammar.specs.Faults.{Levels, levels, past, past_text, with_suffix, last_suffixes, without_last, most}
 use Rattle.fir_grammar.specs.Reading.{IsRefused}
-use Rattle.fir_expr.specs.Standing.{StandsIn, BeginsType, IsWhole}
-use Rattle.fir_expr.specs.Parts.{IsTaken, IsNotTaken, IsNumberAt, IsNameAt, HasPassed, StartsWith, GoesInto, IsHeadAt}
+use Rattle.token_reader.specs.Standing.{StandsIn, BeginsType, IsWhole}
+use Rattle.token_reader.specs.Parts.{IsTaken, IsNotTaken, IsNumberAt, IsNameAt, StartsWith}
+use Rattle.fir_expr.specs.Parts.{HasPassed, GoesInto, IsHeadAt}
 use Rattle.fir_expr.specs.declared.literals.Head.{Head}
 use Rattle.fir_expr.specs.declared.literals.Head.TheVariants as head
 use Rattle.fir_expr.specs.Operands.{HasDigits, HasNoDigits, HasNoSuffix, HasOperands, HasSuffixes, HasStepped}
-use Rattle.fir_expr.proofs.Composition.{piece_at, read_nothing, read_then, read_case, refused_first, refused_behind, refused_case}
-use Rattle.fir_expr.proofs.Depth.{levels_next, whole_none, whole_stands, whole_then}
+use Rattle.token_reader.proofs.Composition.{piece_at, read_nothing, read_then, read_case, refused_first, refused_behind, refused_case}
+use Rattle.token_reader.proofs.Depth.{levels_next, whole_none, whole_stands, whole_then}
 use Rattle.fir_expr.proofs.Passing.{mark_past, passed_then, passed_case, passed_name, read_mark, read_placed, read_placed_magnitude, read_name_at, room_step, room_name, whole_texts, begins_texts}
 use Rattle.fir_expr.proofs.Bracketed.{opener_call, whole_closed, stands_indexed, whole_index, suffixes_index}
 use Rattle.fir_expr.proofs.OperandsChosen.{enters_none, enters_more, enters_component, enters_mux, enters_operation, enters_no_suffix, enters_field, enters_element, enters_index}

@@ -13,10 +13,11 @@ use Rattle.fir_grammar.specs.Grammar.{Terminal, The_word, The_mark, A_name, A_fi
 use Rattle.fir_grammar.specs.Faults.{Levels, levels, past, past_text, past_mark, afresh, last_suffixes, without_last}
 use Rattle.fir_tree.specs.Numbered.{AddsName}
 use Rattle.fir_grammar.specs.Reading.{HasRead}
-use Rattle.fir_expr.specs.Standing.{StandsIn, BeginsType, IsWhole, wanted}
-use Rattle.fir_expr.specs.Parts.{IsTaken, IsNumberAt, IsNameAt, HasPassed}
-use Rattle.fir_expr.proofs.Composition.{joined, read_then, read_case, read_piece, Enters, piece_at, drop_at}
-use Rattle.fir_expr.proofs.Depth.{levels_next, whole_stands, whole_then}
+use Rattle.token_reader.specs.Standing.{StandsIn, BeginsType, IsWhole, wanted}
+use Rattle.token_reader.specs.Parts.{IsTaken, IsNumberAt, IsNameAt}
+use Rattle.fir_expr.specs.Parts.{HasPassed}
+use Rattle.token_reader.proofs.Composition.{joined, read_then, read_case, read_piece, Enters, piece_at, drop_at}
+use Rattle.token_reader.proofs.Depth.{levels_next, whole_stands, whole_then}
 
 -- pieces and levels
 

@@ -7,10 +7,11 @@ use Rattle.fir_layout.specs.Pieces.{piece_of, pieces_of}
 use Rattle.fir_tree.specs.declared.fault.ParseFault.{ParseFault}
 use Rattle.fir_grammar.specs.Grammar.{The_mark, A_number, Takes, Nothing, Its_magnitude, Is, A, Width, a_width, no_width}
 use Rattle.fir_grammar.specs.Reading.{IsRefused}
-use Rattle.fir_expr.specs.Standing.{StandsIn, BeginsType}
-use Rattle.fir_expr.specs.Parts.{IsTaken, IsNotTaken, IsNumberAt, HasPassed}
-use Rattle.fir_expr.proofs.Composition.{read_nothing, refused_first, refused_behind, refused_case}
-use Rattle.fir_expr.proofs.Depth.{whole_stands, whole_none}
+use Rattle.token_reader.specs.Standing.{StandsIn, BeginsType}
+use Rattle.token_reader.specs.Parts.{IsTaken, IsNotTaken, IsNumberAt}
+use Rattle.fir_expr.specs.Parts.{HasPassed}
+use Rattle.token_reader.proofs.Composition.{read_nothing, refused_first, refused_behind, refused_case}
+use Rattle.token_reader.proofs.Depth.{whole_stands, whole_none}
 use Rattle.fir_expr.proofs.Passing.{passed_then, passed_case, passed_mark, passed_number, begins_mark, begins_texts}
 use Rattle.fir_expr.proofs.Choices.{enters_width, enters_no_width}
 

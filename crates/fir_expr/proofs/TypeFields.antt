@@ -9,11 +9,12 @@ use Rattle.place_text.specs.Places.{place}
 use Rattle.fir_grammar.specs.Grammar.{The_mark, Takes, Nothing, Its_place, A, Base_type, Field, Fields, last_field, next_field, a_bundle, start_of}
 use Rattle.fir_grammar.specs.Reading.{HasRead, IsRefused}
 use Rattle.fir_grammar.specs.Faults.{most}
-use Rattle.fir_expr.specs.Standing.{StandsIn, BeginsType, IsWhole, wanted}
-use Rattle.fir_expr.specs.Parts.{IsTaken, IsNotTaken, GoesInto, HasPassed}
+use Rattle.token_reader.specs.Standing.{StandsIn, BeginsType, IsWhole, wanted}
+use Rattle.token_reader.specs.Parts.{IsTaken, IsNotTaken}
+use Rattle.fir_expr.specs.Parts.{GoesInto, HasPassed}
 use Rattle.fir_expr.specs.TypeParts.{HasFields}
-use Rattle.fir_expr.proofs.Composition.{read_then, read_case, refused_first, refused_behind, refused_case, enters_by_piece, Enters, piece_at}
-use Rattle.fir_expr.proofs.Depth.{whole_then, whole_none}
+use Rattle.token_reader.proofs.Composition.{read_then, read_case, refused_first, refused_behind, refused_case, enters_by_piece, Enters, piece_at}
+use Rattle.token_reader.proofs.Depth.{whole_then, whole_none}
 use Rattle.fir_expr.proofs.Passing.{read_mark, read_placed, room_step}
 use Rattle.fir_expr.proofs.Bracketed.{opener_mark, stands_opened, whole_closed, begins_closed}
 use Rattle.fir_expr.proofs.Choices.{is_mark_first, no_mark_first}

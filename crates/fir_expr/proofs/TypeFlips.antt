@@ -10,11 +10,12 @@ use Rattle.fir_tree.specs.declared.fault.ParseFault.{ParseFault}
 use Rattle.fir_grammar.specs.Grammar.{The_word, The_mark, A_field, Takes, Nothing, Symbol, A, Field, IsCase, field, plain_field, flipped_field, Front, cut, takes_on, Type_of, colon, word}
 use Rattle.fir_grammar.specs.Reading.{IsRefused}
 use Rattle.fir_grammar.proofs.ReadingLaws.{chosen_alone, takes_both}
-use Rattle.fir_expr.specs.Standing.{StandsIn, BeginsType, wanted}
-use Rattle.fir_expr.specs.Parts.{IsTaken, IsNotTaken, IsNameAt, GoesInto, StartsWith, HasPassed}
+use Rattle.token_reader.specs.Standing.{StandsIn, BeginsType, wanted}
+use Rattle.token_reader.specs.Parts.{IsTaken, IsNotTaken, IsNameAt, StartsWith}
+use Rattle.fir_expr.specs.Parts.{GoesInto, HasPassed}
 use Rattle.fir_expr.specs.TypeParts.{Flips}
-use Rattle.fir_expr.proofs.Composition.{enters_by_two, enters_only, piece_at, refused_first, refused_behind, refused_case}
-use Rattle.fir_expr.proofs.Depth.{whole_stands}
+use Rattle.token_reader.proofs.Composition.{enters_by_two, enters_only, piece_at, refused_first, refused_behind, refused_case}
+use Rattle.token_reader.proofs.Depth.{whole_stands}
 use Rattle.fir_expr.proofs.Passing.{passed_then, passed_case, passed_word, passed_name, passed_mark, begins_texts, begins_mark}
 use Rattle.fir_expr.proofs.TypeNames.{word_taken}
 use Rattle.fir_expr.proofs.Choices.{is_mark_first, no_mark_first}

@@ -10,11 +10,12 @@ use Rattle.fir_tree.specs.declared.fault.ParseFault.{ParseFault}
 use Rattle.fir_grammar.specs.Grammar.{The_mark, A_number, Takes, Nothing, Its_magnitude, Symbol, A, IsCase, Type_of, Base_type, Lengths, mark, number, vectors, a_type, last_length, next_length}
 use Rattle.fir_grammar.specs.Faults.{levels, last_suffixes, most}
 use Rattle.fir_grammar.specs.Reading.{IsRefused}
-use Rattle.fir_expr.specs.Standing.{StandsIn}
-use Rattle.fir_expr.specs.Parts.{IsTaken, IsNotTaken, IsNumberAt, HasPassed}
+use Rattle.token_reader.specs.Standing.{StandsIn}
+use Rattle.token_reader.specs.Parts.{IsTaken, IsNotTaken, IsNumberAt}
+use Rattle.fir_expr.specs.Parts.{HasPassed}
 use Rattle.fir_expr.specs.TypeParts.{HasLengths}
 use Rattle.fir_expr.proofs.Bracketed.{stands_indexed, whole_index, suffixes_index}
-use Rattle.fir_expr.proofs.Composition.{Enters, enters_always, read_then, refused_first, refused_behind, refused_case}
+use Rattle.token_reader.proofs.Composition.{Enters, enters_always, read_then, refused_first, refused_behind, refused_case}
 use Rattle.fir_expr.proofs.Passing.{passed_then, passed_case, passed_number, read_mark, room_step}
 use Rattle.fir_expr.proofs.Choices.{enters_length, enters_last_length}
 use Rattle.fir_expr.proofs.TypeCases.{passed_nothing}

@@ -9,6 +9,7 @@ use Rattle.bit_words.specs.declared.value.Kind.TheVariants as sign
 use Rattle.fir_lexer.specs.declared.token.TokenKind.TheVariants as kind
 use Rattle.fir_layout.specs.declared.laid.Laid.{Laid}
 use Rattle.fir_layout.specs.Pieces.{Piece, A_token, piece_of, pieces_of}
+use Rattle.fir_types.specs.declared.fir_type.Shape.{Shape}
 use Rattle.fir_types.specs.declared.fir_type.Shape.TheVariants as shape
 use Rattle.fir_types.specs.declared.fir_type.FirType.{FirType}
 use Rattle.fir_tree.specs.declared.fault.ParseFault.{ParseFault}
@@ -16,10 +17,11 @@ use Rattle.fir_grammar.specs.Grammar.{Terminal, The_word, Takes, A, Base_type, W
 use Rattle.fir_grammar.specs.Faults.{Levels, levels, is_deep}
 use Rattle.fir_grammar.specs.Reading.{IsRefused}
 use Rattle.fir_grammar.proofs.Cases.{choose, starts_word}
-use Rattle.fir_expr.specs.Standing.{StandsIn, BeginsType}
-use Rattle.fir_expr.specs.Parts.{IsTaken, StartsWith, GoesInto, HasPassed, kind_name}
-use Rattle.fir_expr.specs.TypeParts.{shape_of}
-use Rattle.fir_expr.proofs.Composition.{enters_by_piece, refused_case, refused_behind, piece_at, one_at}
+use Rattle.token_reader.specs.Standing.{StandsIn, BeginsType}
+use Rattle.token_reader.specs.Parts.{IsTaken, StartsWith}
+use Rattle.fir_expr.specs.Parts.{GoesInto, HasPassed, kind_name}
+use Rattle.fir_expr.specs.TypeParts.{IsBareAt, shape_of}
+use Rattle.token_reader.proofs.Composition.{enters_by_piece, refused_case, refused_behind, piece_at, one_at}
 use Rattle.fir_expr.proofs.Passing.{passed_then, passed_case, passed_placed, begins_texts}
 
 -- what stands at a place where a terminal's piece stands
@@ -87,16 +89,24 @@ module _ {text : List ℕ} {list : List Laid} {i brackets : ℕ} {l : Laid} (s :
   integer_refused sign.Signed t r = refused_case a_signed (enters_by_piece (pieces_of text list) i a_signed (piece_of text l) (piece_at text list i l t.here) (λ ps. signed_chosen (piece_of text l) ps t.takes))
       (refused_behind (passed_placed [] tt s t).read r)
 
-  pub clock_read : (names : List (List ℕ)) → IsTaken (The_word (codes "Clock")) text list i l
-      → HasPassed (A Base_type ∷ []) text list i names (record { place = place text (start_of l); shape = shape.Clock }, tt) (i + 1) names
-  clock_read names t = passed_case a_clock (enters_by_piece (pieces_of text list) i a_clock (piece_of text l) (piece_at text list i l t.here) (λ ps. clock_chosen (piece_of text l) ps t.takes)) (passed_placed names tt s t)
-
-  pub reset_read : (names : List (List ℕ)) → IsTaken (The_word (codes "Reset")) text list i l
-      → HasPassed (A Base_type ∷ []) text list i names (record { place = place text (start_of l); shape = shape.Reset }, tt) (i + 1) names
-  reset_read names t = passed_case a_reset (enters_by_piece (pieces_of text list) i a_reset (piece_of text l) (piece_at text list i l t.here) (λ ps. reset_chosen (piece_of text l) ps t.takes)) (passed_placed names tt s t)
+  pub bare_read : (sort : Shape) (names : List (List ℕ)) → IsBareAt sort text list i → slice_get list i ≡ Some l
+      → HasPassed (A Base_type ∷ []) text list i names (record { place = place text (start_of l); shape = sort }, tt) (i + 1) names
+  bare_read shape.Clock names w h =
+      let t = word_taken (codes "Clock") text list i l w h in
+      passed_case a_clock (enters_by_piece (pieces_of text list) i a_clock (piece_of text l) (piece_at text list i l h) (λ ps. clock_chosen (piece_of text l) ps t.takes)) (passed_placed names tt s t)
+  bare_read shape.Reset names w h =
+      let t = word_taken (codes "Reset") text list i l w h in
+      passed_case a_reset (enters_by_piece (pieces_of text list) i a_reset (piece_of text l) (piece_at text list i l h) (λ ps. reset_chosen (piece_of text l) ps t.takes)) (passed_placed names tt s t)
+  bare_read _ names w h = absurd w
 
 pub word_begins : (word : List ℕ) {text : List ℕ} {list : List Laid} {i brackets : ℕ} {l : Laid} → BeginsType (pieces_of text list) i brackets → IsTaken (The_word word) text list i l → BeginsType (pieces_of text list) (i + 1) brackets
 word_begins word b t = begins_texts (The_word word) tt b.stands t
+
+pub bare_begins : (sort : Shape) (text : List ℕ) (list : List Laid) {i brackets : ℕ} {l : Laid} → BeginsType (pieces_of text list) i brackets → IsBareAt sort text list i → slice_get list i ≡ Some l
+    → BeginsType (pieces_of text list) (i + 1) brackets
+bare_begins shape.Clock text list b w h = word_begins (codes "Clock") b (word_taken (codes "Clock") text list _ _ w h)
+bare_begins shape.Reset text list b w h = word_begins (codes "Reset") b (word_taken (codes "Reset") text list _ _ w h)
+bare_begins _ text list b w h = absurd w
 
 -- a type may begin where one began before
 pub begins_so : {pieces : List Piece} {i brackets : ℕ} (r : Result (FirType × ℕ) ParseFault) → BeginsType pieces i brackets → IfOk r (λ x. (n : ℕ) → BeginsType pieces i n → BeginsType pieces x.1 n)

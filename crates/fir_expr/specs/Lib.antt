@@ -1,5 +1,5 @@
 -- what a reader must believe
-pub mod Standing
+pub use Rattle.token_reader.specs.Standing
 -- what the bodies keep, and what proofs need
 pub mod Operands
 pub mod Parts
@@ -7,4 +7,3 @@ pub mod TypeParts
 pub mod LiteralParts
 pub mod LiteralHeads
 pub mod LiteralIntegers
-pub mod LineStarts

@@ -9,7 +9,7 @@ use Rattle.fir_tree.specs.declared.fault.ParseFault.{ParseFault}
 use Rattle.fir_grammar.specs.Grammar.{The_mark, Takes, A, Expressions, Suffixes}
 use Rattle.fir_grammar.specs.Faults.{levels, last_suffixes}
 use Rattle.fir_grammar.specs.Reading.{IsRefused}
-use Rattle.fir_expr.specs.Standing.{StandsIn, wanted}
+use Rattle.token_reader.specs.Standing.{StandsIn, wanted}
 use Rattle.fir_expr.specs.Parts.{HasPassed}
 
 -- a number stands there, in whichever base

@@ -10,8 +10,9 @@ use Rattle.fir_types.specs.declared.fir_type.Shape.TheVariants as shape
 use Rattle.fir_types.specs.declared.fir_type.Field.{Field as BundleField}
 use Rattle.fir_grammar.specs.Grammar.{The_word, The_mark, A, Lengths, Fields, vectors, plain_field, flipped_field}
 use Rattle.fir_grammar.specs.Reading.{HasRead}
-use Rattle.fir_expr.specs.Standing.{IsWhole, wanted}
-use Rattle.fir_expr.specs.Parts.{IsTaken, StartsWith, GoesInto, HasPassed}
+use Rattle.token_reader.specs.Standing.{IsWhole, wanted}
+use Rattle.token_reader.specs.Parts.{IsTaken, StartsWith}
+use Rattle.fir_expr.specs.Parts.{GoesInto, HasPassed}
 
 -- lengths were read behind an element type, and the type has the vectors of it
 pub record HasLengths (element : FirType) (text : List ℕ) (list : List Laid) (i : ℕ) (typ : FirType) (j : ℕ) : Type 0 where
@@ -38,3 +39,9 @@ Flips false text list i j = GoesInto plain_field text list i × (j ≡ i)
 abbrev pub shape_of : Kind → Option ℕ → Shape
 shape_of sign.Unsigned width = shape.Unsigned width
 shape_of sign.Signed width = shape.Signed width
+
+-- the one word of a type of this shape stands at i
+abbrev pub IsBareAt : Shape → List ℕ → List Laid → ℕ → Type 0
+IsBareAt shape.Clock text list i = StartsWith (The_word (codes "Clock")) text list i
+IsBareAt shape.Reset text list i = StartsWith (The_word (codes "Reset")) text list i
+IsBareAt _ text list i = ⊥

@@ -6,19 +6,22 @@ ghost use Rattle.fir_layout.specs.Pieces.{piece_of, pieces_of};
 ghost use Rattle.fir_grammar.specs.Faults.{most, levels, last_suffixes};
 ghost use Rattle.fir_grammar.specs.Grammar.{A, Expression, Expressions, Reference, Suffixes, The_call, The_mark};
 ghost use Rattle.fir_grammar.specs.Reading.{IsRefused};
-ghost use Rattle.fir_expr.specs.Standing.{StandsIn, wanted};
-ghost use Rattle.fir_expr.specs.Parts.{IsSource, Answers, StartsWith};
+ghost use Rattle.token_reader.specs.Standing.{StandsIn, wanted};
+ghost use Rattle.token_reader.specs.Parts.{IsSource, StartsWith};
+ghost use Rattle.fir_expr.specs.Parts.{Answers};
 ghost use Rattle.fir_expr.specs.Operands.{IsDigits, HasDigits, HasNoDigits, HasNoSuffix, HasOperands, HasSuffixes, HasStepped};
 
-use crate::literals::{Head, head_at, literal, numbers, open_call, take_suffix, wide_literal};
-use crate::take::{is_mark, part_at, place_of_part, take_field, take_mark, take_name, take_number};
-use crate::text::Text;
+use crate::literals::{Head, head_at, literal, numbers, wide_literal};
 use bit_words::List;
 use fir_layout::Laid;
 use fir_lexer::{Token, TokenKind};
 use fir_tree::{Expr, Form, Names, ParseFault, Suffix};
 use prim_ops::{Prim, arity};
 use std::alloc::Global;
+use token_reader::{
+    NameSort, Text, is_mark, open_call, part_at, place_of_part, take_mark, take_name, take_number,
+    take_suffix,
+};
 
 /// Reads the longest expression. So many brackets are open before it.
 #[cycle(expr)]
@@ -164,7 +167,7 @@ pub fn reference(
     requires stands { StandsIn (pieces_of text.now laid.now) at brackets }
     ensures { Answers Reference text.now laid.now at names.old result names.new }
 {
-    let name = take_name(text, laid, names, at)?;
+    let name = take_name(text, laid, names, at, NameSort::Plain)?;
     let mut read = List::new(alloc);
     let behind = at + 1;
     let end = suffixes(alloc, text, laid, names, behind, brackets, 0, &mut read)?;
@@ -260,7 +263,7 @@ fn field(
 {
     take_suffix(text, laid, at, b'.', brackets, count)?;
     let behind = at + 1;
-    let name = take_field(text, laid, names, behind)?;
+    let name = take_name(text, laid, names, behind, NameSort::Field)?;
     Ok((Suffix::Field(name), behind + 1))
 }
 

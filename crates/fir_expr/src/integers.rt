@@ -8,16 +8,16 @@ ghost use Rattle.fir_lexer.specs.declared.token.Token.{Token as TheToken};
 ghost use Rattle.fir_lexer.specs.declared.pieces.PieceKind.TheVariants.{TokenOf};
 ghost use Rattle.fir_layout.specs.Pieces.{piece_of, pieces_of, bytes_of};
 ghost use Rattle.fir_grammar.specs.Grammar.{Integer, IsQuotedNumber, A_quoted_number, Takes};
-ghost use Rattle.fir_expr.specs.Standing.{StandsIn};
+ghost use Rattle.token_reader.specs.Standing.{StandsIn};
 ghost use Rattle.fir_expr.specs.LiteralIntegers.{IsString};
-ghost use Rattle.fir_expr.specs.Parts.{IsSource, IsPartOf, Answers};
+ghost use Rattle.token_reader.specs.Parts.{IsSource, IsPartOf};
+ghost use Rattle.fir_expr.specs.Parts.{Answers};
 
-use crate::take::{bytes, is_mark, part_at, refusal_at, take_number};
-use crate::text::Text;
 use bit_words::{Base, Number, digits_value};
 use fir_layout::Laid;
 use fir_lexer::{Token, TokenKind};
 use fir_tree::ParseFault;
+use token_reader::{Text, bytes, is_mark, part_at, refusal_at, take_number};
 
 /// Reads an integer: a number, a minus and a number, or a string of quoted number form.
 pub(crate) fn integer(text: &Text, laid: &[Laid], at: usize) -> Result<(Number, usize), ParseFault>

@@ -7,8 +7,6 @@ mod expressions;
 mod integers;
 mod literals;
 pub mod reader;
-mod take;
-mod text;
 mod types;
 
 pub use reader::{Reader, read_expr, read_reference, read_type};

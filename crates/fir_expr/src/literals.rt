@@ -1,27 +1,26 @@
 //! Literals, and what tells one form of expression from another (FIRRTL specification 3.0, "Expressions").
 
-ghost use Rattle.std.specs.Prelude.{◌≡◌, ◌≤◌, ◌<◌, ◌+◌, ◌^◌, ◌∷◌, [], ℕ, List, length, take, slice_get, Some, IfOk, IfErr, IfSome, IfNone, IsTrue, ◌↔◌, codes};
+ghost use Rattle.std.specs.Prelude.{◌≡◌, ◌<◌, ◌+◌, ◌∷◌, [], ℕ, List, Some, IfOk, IfErr, IfSome, IfNone, codes};
 ghost use Rattle.fir_layout.specs.Pieces.{piece_of, pieces_of};
-ghost use Rattle.fir_grammar.specs.Faults.{most, levels, last_suffixes};
 ghost use Rattle.fir_grammar.specs.Reading.{IsRefused};
-ghost use Rattle.fir_grammar.specs.Grammar.{A, Numbers, Expression, The_word, The_call, The_mark, Takes};
-ghost use Rattle.fir_expr.specs.Standing.{StandsIn, wanted};
+ghost use Rattle.fir_grammar.specs.Grammar.{A, Numbers, Expression, The_word, The_call, The_mark};
+ghost use Rattle.token_reader.specs.Standing.{StandsIn};
 ghost use Rattle.fir_expr.specs.LiteralParts.{AddsNumbers};
 ghost use Rattle.fir_expr.specs.LiteralHeads.{IsHeadBefore, IsHeadOfCall, IsHeadOfWord};
-ghost use Rattle.fir_expr.specs.Parts.{IsSource, IsPartOf, Answers, AnswersPiece, StartsWith, IsHeadAt, kind_name, is_suffix_mark};
+ghost use Rattle.token_reader.specs.Parts.{IsSource, StartsWith};
+ghost use Rattle.fir_expr.specs.Parts.{Answers, IsHeadAt, kind_name};
 
 use crate::integers::integer;
-use crate::take::{
-    MOST, before_bracket, bytes, is_mark, open_bracket, part_at, place_of_part, refusal_at,
-    take_mark, take_number,
-};
-use crate::text::Text;
 use bit_words::{Kind, List};
 use fir_layout::Laid;
 use fir_lexer::TokenKind;
 use fir_tree::{Expr, Form, ParseFault};
 use prim_ops::{Prim, named};
 use std::alloc::Global;
+use token_reader::{
+    Text, before_bracket, bytes, is_mark, open_bracket, open_call, part_at, place_of_part,
+    take_mark, take_number,
+};
 
 /// What the first tokens say an expression is.
 #[derive(Clone, Copy, Debug, PartialEq, Eq)]
@@ -109,54 +108,6 @@ fn literal_kind(word: &[u8]) -> Option<Kind>
         b"SInt" => Some(Kind::Signed),
         _ => None,
     }
-}
-
-/// Takes a word with its `(`, whichever it is. So many brackets are open before it.
-#[tactic(auto, using(crate::proofs::Takes::not_taken_memory, crate::proofs::Sources::source_part, crate::proofs::LiteralTakes::call_deep, crate::proofs::LiteralTakes::call_taken))]
-pub fn open_call(text: &Text, laid: &[Laid], at: usize, brackets: u32) -> Result<Laid, ParseFault>
-    requires source { IsSource text.now laid.now }
-    requires stands { StandsIn (pieces_of text.now laid.now) at brackets }
-    ensures taken { (name : List ℕ) → StartsWith (The_call name) text.now laid.now at → AnswersPiece (The_call name) text.now laid.now at result }
-    ensures within { IfOk result (λ _. at < length laid.now) }
-    ensures few { IfOk result (λ _. brackets < most) }
-{
-    let part = part_at(laid, at)?;
-    if brackets >= MOST {
-        return Err(ParseFault::TooDeep(place_of_part(text, part)));
-    }
-    Ok(part)
-}
-
-/// Takes a `.` or a `[` of a reference or type that has so many suffixes, where so many brackets are open.
-#[tactic(auto, using(crate::proofs::Takes::not_taken_memory, crate::proofs::Sources::source_part, crate::proofs::LiteralTakes::suffix_many, crate::proofs::LiteralTakes::suffix_inner, crate::proofs::LiteralTakes::suffix_taken))]
-pub fn take_suffix(
-    text: &Text,
-    laid: &[Laid],
-    at: usize,
-    mark: u8,
-    brackets: u32,
-    suffixes: u32,
-) -> Result<Laid, ParseFault>
-    requires source { IsSource text.now laid.now }
-    requires suffix { IsTrue (is_suffix_mark mark) }
-    requires stands { StandsIn (pieces_of text.now laid.now) at brackets }
-    requires counted { last_suffixes (levels (take at (pieces_of text.now laid.now))).suffixes ≡ suffixes }
-    ensures taken { AnswersPiece (The_mark mark) text.now laid.now at result }
-    ensures within { IfOk result (λ _. at < length laid.now) }
-    ensures few { IfOk result (λ _. suffixes < most) }
-    ensures few_brackets { IfOk result (λ _. mark ≡ 91 → brackets < most) }
-{
-    let part = part_at(laid, at)?;
-    if !is_mark(part, mark) {
-        return Err(refusal_at(text, laid, at));
-    }
-    if suffixes >= MOST {
-        return Err(ParseFault::TooDeep(place_of_part(text, part)));
-    }
-    if mark == b'[' && brackets >= MOST {
-        return Err(ParseFault::TooDeep(place_of_part(text, part)));
-    }
-    Ok(part)
 }
 
 /// Reads so many numbers.

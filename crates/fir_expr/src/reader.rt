@@ -6,13 +6,11 @@ ghost use Rattle.place_text.specs.Places.{place};
 ghost use Rattle.fir_layout.specs.declared.laid.Laid.{Laid as TheLaid};
 ghost use Rattle.fir_grammar.specs.Grammar.{Type_of, Expression, Reference, Terminal, A_name, A_number, Takes, start_of};
 ghost use Rattle.fir_grammar.specs.Reading.{Reads as ReadsRule, ReadsLongest};
-ghost use Rattle.fir_expr.specs.LineStarts.{AreLines};
-ghost use Rattle.fir_expr.specs.Parts.{IsSource, IsNotTaken, IsNumberAt, IsNameAt};
-ghost use Rattle.fir_expr.specs.Standing.{IsLaidFrom, StandsIn, BeginsType, IsWhole, wanted};
+ghost use Rattle.token_reader.specs.LineStarts.{AreLines};
+ghost use Rattle.token_reader.specs.Parts.{IsSource, IsNotTaken, IsNumberAt, IsNameAt};
+ghost use Rattle.token_reader.specs.Standing.{IsLaidFrom, StandsIn, BeginsType, IsWhole, wanted};
 
 use crate::expressions::{expr, reference};
-use crate::take::{number_at, refusal_at, start, take_name};
-use crate::text::{Text, lines_of};
 use crate::types::typ;
 use bit_words::List;
 use fir_layout::Laid;
@@ -20,6 +18,7 @@ use fir_tree::{Expr, Names, ParseFault};
 use fir_types::{FirType, Name};
 use place_text::Place;
 use std::alloc::{AllocError, Global};
+use token_reader::{NameSort, Text, lines_of, number_at, refusal_at, start, take_name};
 
 /// A place in a laid list, with the names read so far.
 #[derive(Drop)]
@@ -115,7 +114,7 @@ impl<'a> Reader<'a> {
         ensures brackets { self.new.brackets ≡ self.old.brackets }
     {
         let text = Text::new(self.bytes, self.lines.as_slice());
-        let name = take_name(&text, self.laid, &mut self.names, self.at)?;
+        let name = take_name(&text, self.laid, &mut self.names, self.at, NameSort::Plain)?;
         self.at += 1;
         Ok(name)
     }

@@ -1,24 +1,24 @@
 //! Types (FIRRTL specification 3.0, "Types").
 
-ghost use Rattle.std.specs.Prelude.{◌≡◌, ◌≤◌, ◌<◌, ◌+◌, ◌^◌, ◌-◌, ℕ, List, [], ◌∷◌, codes, length, take, IfOk, IfErr, IsTrue, ◌↔◌};
-ghost use Rattle.fir_layout.specs.Pieces.{piece_of, pieces_of};
+ghost use Rattle.std.specs.Prelude.{◌≡◌, ◌≤◌, ◌<◌, ◌+◌, ◌^◌, ◌-◌, ℕ, List, [], ◌∷◌, codes, length, take, IfOk, IfErr};
+ghost use Rattle.fir_layout.specs.Pieces.{pieces_of};
 ghost use Rattle.fir_grammar.specs.Faults.{most, levels, last_suffixes};
-ghost use Rattle.fir_grammar.specs.Grammar.{Type_of, Base_type, Width, Lengths, Fields, Field as FieldRule, A, The_word, Takes, mark, number, field, colon, a_bundle};
+ghost use Rattle.fir_grammar.specs.Grammar.{Type_of, Base_type, Width, Lengths, Fields, Field as FieldRule, A, The_word, mark, number, field, colon, a_bundle};
 ghost use Rattle.fir_grammar.specs.Reading.{IsRefused};
-ghost use Rattle.fir_expr.specs.Standing.{StandsIn, BeginsType, wanted};
-ghost use Rattle.fir_expr.specs.Parts.{IsSource, IsPartOf, Answers, HasPassed, StartsWith, GoesInto, kind_name};
-ghost use Rattle.fir_expr.specs.TypeParts.{HasLengths, HasFields, Flips, shape_of};
+ghost use Rattle.token_reader.specs.Standing.{StandsIn, BeginsType, wanted};
+ghost use Rattle.token_reader.specs.Parts.{IsSource, StartsWith};
+ghost use Rattle.fir_expr.specs.Parts.{Answers, HasPassed, GoesInto, kind_name};
+ghost use Rattle.fir_expr.specs.TypeParts.{HasLengths, HasFields, Flips, IsBareAt, shape_of};
 
-use crate::literals::take_suffix;
-use crate::take::{
-    is_mark, is_word, open_bracket, part_at, place_of_part, take_field, take_mark, take_number,
-};
-use crate::text::Text;
 use bit_words::{Kind, List, Shared};
 use fir_layout::Laid;
 use fir_tree::{Names, ParseFault};
 use fir_types::{Field, FirType, Name, Shape};
 use std::alloc::Global;
+use token_reader::{
+    NameSort, Text, is_mark, is_word, open_bracket, part_at, place_of_part, take_mark, take_name,
+    take_number, take_suffix,
+};
 
 /// Reads a width between `<` and `>`, where one stands.
 fn width(text: &Text, laid: &[Laid], at: usize) -> Result<(Option<u128>, usize), ParseFault>
@@ -68,31 +68,21 @@ fn integer_shape(kind: Kind, width: Option<u128>) -> Shape
     }
 }
 
-/// Reads `Clock`.
-fn clock_type(text: &Text, laid: &[Laid], at: usize) -> Result<(FirType, usize), ParseFault>
+/// Reads a type that is one word, `Clock` or `Reset`, of this shape.
+fn bare_type(
+    text: &Text,
+    laid: &[Laid],
+    at: usize,
+    shape: Shape,
+) -> Result<(FirType, usize), ParseFault>
     requires source { IsSource text.now laid.now }
     requires begins { (brackets : ℕ) × BeginsType (pieces_of text.now laid.now) at brackets }
-    requires word { StartsWith (The_word (codes "Clock")) text.now laid.now at }
+    requires word { IsBareAt shape text.now laid.now at }
     ensures read { (names : List (List ℕ)) → Answers Base_type text.now laid.now at names result names }
     ensures begins { IfOk result (λ x. (brackets : ℕ) → BeginsType (pieces_of text.now laid.now) at brackets → BeginsType (pieces_of text.now laid.now) x.1 brackets) }
 {
     let part = part_at(laid, at)?;
     let place = place_of_part(text, part);
-    let shape = Shape::Clock;
-    Ok((FirType { place, shape }, at + 1))
-}
-
-/// Reads `Reset`.
-fn reset_type(text: &Text, laid: &[Laid], at: usize) -> Result<(FirType, usize), ParseFault>
-    requires source { IsSource text.now laid.now }
-    requires begins { (brackets : ℕ) × BeginsType (pieces_of text.now laid.now) at brackets }
-    requires word { StartsWith (The_word (codes "Reset")) text.now laid.now at }
-    ensures read { (names : List (List ℕ)) → Answers Base_type text.now laid.now at names result names }
-    ensures begins { IfOk result (λ x. (brackets : ℕ) → BeginsType (pieces_of text.now laid.now) at brackets → BeginsType (pieces_of text.now laid.now) x.1 brackets) }
-{
-    let part = part_at(laid, at)?;
-    let place = place_of_part(text, part);
-    let shape = Shape::Reset;
     Ok((FirType { place, shape }, at + 1))
 }
 
@@ -211,10 +201,10 @@ fn base_type(
         return integer_type(text, laid, at, Kind::Signed);
     }
     if is_word(text, part, "Clock") {
-        return clock_type(text, laid, at);
+        return bare_type(text, laid, at, Shape::Clock);
     }
     if is_word(text, part, "Reset") {
-        return reset_type(text, laid, at);
+        return bare_type(text, laid, at, Shape::Reset);
     }
     bundle(alloc, text, laid, names, at, brackets)
 }
@@ -310,7 +300,7 @@ fn named_type(
     ensures further { IfOk result (λ x. at < x.2) }
     ensures err { IfErr result (λ fault. IsRefused (field ∷ colon ∷ A Type_of ∷ []) text.now laid.now at fault) }
 {
-    let name = take_field(text, laid, names, at)?;
+    let name = take_name(text, laid, names, at, NameSort::Field)?;
     let colon = at + 1;
     take_mark(text, laid, colon, b':')?;
     let begin = colon + 1;

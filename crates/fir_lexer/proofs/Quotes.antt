@@ -7,6 +7,7 @@ use Rattle.bit_words.specs.declared.number.Base.{Base}
 use Rattle.bit_words.specs.declared.number.Base.TheVariants.{Binary, Octal, Decimal, Hexadecimal}
 use Rattle.bit_words.specs.declared.number.NumberFault.{NumberFault}
 use Rattle.bit_words.specs.declared.number.NumberFault.TheVariants.{Over}
+use Rattle.bit_words.proofs.Readings.{letter_same}
 use Rattle.fir_lexer.specs.Tokens.{QuotesNumber, IsQuotedBase}
 
 -- an answer that is the only right one is Over exactly where the magnitude is past the range
@@ -37,24 +38,6 @@ quote_form (x ∷ y ∷ rest) l h a b some at =
     let long : 0 < length rest = rw e at some in
     let all : rest ≡ take (length rest - 1) rest ++ 34 ∷ [] = rw last at (split_last rest long) in
     rw (e, sym a, b) (ap (λ xs. x ∷ y ∷ xs) (rw (sym a) at all))
-
-letter_same : (a b : Base) → letter a ≡ letter b → a ≡ b
-letter_same Binary Binary e = refl
-letter_same Binary Octal e = absurd (omega arith)
-letter_same Binary Decimal e = absurd (omega arith)
-letter_same Binary Hexadecimal e = absurd (omega arith)
-letter_same Octal Binary e = absurd (omega arith)
-letter_same Octal Octal e = refl
-letter_same Octal Decimal e = absurd (omega arith)
-letter_same Octal Hexadecimal e = absurd (omega arith)
-letter_same Decimal Binary e = absurd (omega arith)
-letter_same Decimal Octal e = absurd (omega arith)
-letter_same Decimal Decimal e = refl
-letter_same Decimal Hexadecimal e = absurd (omega arith)
-letter_same Hexadecimal Binary e = absurd (omega arith)
-letter_same Hexadecimal Octal e = absurd (omega arith)
-letter_same Hexadecimal Decimal e = absurd (omega arith)
-letter_same Hexadecimal Hexadecimal e = refl
 
 -- a minus is no digit
 no_minus_digit : (base : Base) (ds : List ℕ) (m : ℕ) → WritesDigits base (45 ∷ ds) m → ⊥

@@ -10,8 +10,8 @@ use Rattle.fir_layout.specs.Layout.{token_in, tokens_in}
 use Rattle.fir_layout.specs.Pieces.{Piece, bytes_of, A_token, piece_of}
 use Rattle.place_text.specs.declared.place.Place.{Place}
 use Rattle.fir_grammar.proofs.Agreement.{magnitudes_agree}
-use Rattle.fir_expr.specs.Parts.{IsNumberAt}
-use Rattle.fir_expr.proofs.Composition.{one_at}
+use Rattle.token_reader.specs.Parts.{IsNumberAt}
+use Rattle.token_reader.proofs.Composition.{one_at}
 use Rattle.fir_tree.specs.declared.fault.ParseFault.{ParseFault}
 use Rattle.fir_tree.specs.declared.fault.ParseFault.TheVariants.{BadVersion}
 use Rattle.fir_grammar.specs.Grammar.{The_mark, A_number, Three, Takes, Nothing, Is, mark}

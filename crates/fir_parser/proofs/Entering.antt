@@ -14,7 +14,7 @@ use Rattle.fir_grammar.specs.Reading.{part}
 use Rattle.fir_grammar.proofs.Cases.{choose, starts_word, starts_mark, opens, closes}
 use Rattle.fir_grammar.proofs.ReadingLaws.{part-here, part-cons, chosen_alone, takes_both}
 use Rattle.fir_expr.specs.declared.reader.Reader.{Reader}
-use Rattle.fir_expr.proofs.Composition.{Enters, enters_by_piece, enters_by_two, piece_at}
+use Rattle.token_reader.proofs.Composition.{Enters, enters_by_piece, enters_by_two, piece_at}
 use Rattle.fir_parser.specs.Taking.{pieces}
 use Rattle.fir_parser.specs.Expected.{Meets, MeetsNext, BeginsPort}
 

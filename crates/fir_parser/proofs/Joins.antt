@@ -3,7 +3,7 @@ use Rattle.std.proofs.Common.{List, [], ◌∷◌, ◌++◌, ◌∙◌, refl, le
 use Rattle.fir_tree.specs.declared.fault.ParseFault.{ParseFault}
 use Rattle.fir_grammar.specs.Grammar.{Symbol, A, Rule, IsCase, Values, tree}
 use Rattle.fir_expr.specs.declared.reader.Reader.{Reader}
-use Rattle.fir_expr.proofs.Composition.{joined, read_nothing, read_then, refused_first, refused_behind, Enters, read_case, refused_case}
+use Rattle.token_reader.proofs.Composition.{joined, read_nothing, read_then, refused_first, refused_behind, Enters, read_case, refused_case}
 use Rattle.fir_parser.specs.Taking.{pieces, HasTaken, Refuses}
 
 pub joins : {ss more : List Symbol} {a b c : Reader} {vs : Values ss} {ws : Values more} → HasTaken ss a b vs → HasTaken more b c ws → HasTaken (ss ++ more) a c (joined ss more vs ws)

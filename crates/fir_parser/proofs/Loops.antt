@@ -11,7 +11,7 @@ use Rattle.fir_tree.specs.declared.circuit.Module.{Module as TheModule}
 use Rattle.fir_tree.specs.declared.fault.ParseFault.{ParseFault}
 use Rattle.fir_grammar.specs.Grammar.{The_word, Closes, Symbol, Is, A, Rule, Memory_lines, Memory_line, Statements, Statement, Modules, Module, Ports, Port, Branches, Block, Expression, word, colon, line_end, close_block, IsCase, a_wire, a_register, a_reset_register, a_memory, an_instance, a_node, a_connect, an_invalidate, a_when, a_skip, a_module, last_memory_line, next_memory_line, last_statement, next_statement, last_module, next_module, next_port, last_port, no_branch, else_when, else_, Values, Tree, Spells, no_symbol, a_rule, a_piece, a_place, a_name, a_magnitude, a_placed_magnitude, a_quoted}
 use Rattle.fir_expr.specs.declared.reader.Reader.{Reader}
-use Rattle.fir_expr.proofs.Composition.{Enters}
+use Rattle.token_reader.proofs.Composition.{Enters}
 use Rattle.fir_parser.specs.Taking.{pieces, HasTaken, Refuses}
 use Rattle.fir_parser.specs.Expected.{Meets, BeginsPort}
 use Rattle.fir_parser.specs.Branching.{Branched}

@@ -13,13 +13,13 @@ use Rattle.fir_grammar.specs.Grammar.{Terminal, The_word, The_mark, The_arrow, A
 use Rattle.fir_grammar.specs.Faults.{Levels, levels, past, is_deep, afresh, last_suffixes, without_last, most}
 use Rattle.fir_grammar.specs.Reading.{HasRead, no_memory}
 use Rattle.fir_expr.specs.declared.reader.Reader.{Reader}
-use Rattle.fir_expr.specs.Standing.{IsWhole, wanted}
-use Rattle.fir_expr.proofs.Composition.{piece_at, drop_at, read_piece, refused_deep}
+use Rattle.token_reader.specs.Standing.{IsWhole, wanted}
+use Rattle.token_reader.proofs.Composition.{piece_at, drop_at, read_piece, refused_deep}
 use Rattle.fir_types.specs.declared.name.Name.{Name}
 use Rattle.place_text.specs.declared.place.Place.{Place}
-use Rattle.fir_expr.specs.Parts.{IsNumberAt, IsNameAt}
+use Rattle.token_reader.specs.Parts.{IsNumberAt, IsNameAt}
 use Rattle.fir_grammar.proofs.Cases.{some_injective}
-use Rattle.fir_expr.proofs.Depth.{levels_next}
+use Rattle.token_reader.proofs.Depth.{levels_next}
 use Rattle.fir_parser.specs.Taking.{pieces, here, blocks_at, StandsAt, IsFresh, HasTaken, Refuses, Steps, IsInText}
 use Rattle.fir_parser.specs.declared.take.Expected.{Expected}
 use Rattle.fir_parser.specs.declared.take.Expected.TheVariants as expected

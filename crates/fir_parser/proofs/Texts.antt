@@ -9,9 +9,9 @@ use Rattle.fir_layout.specs.Layout.{IsInside, tokens_in, token_in}
 use Rattle.fir_types.specs.declared.name.Name.{Name}
 use Rattle.fir_tree.specs.declared.circuit.Module.{Module as TheModule}
 use Rattle.fir_expr.specs.declared.reader.Reader.{Reader}
-use Rattle.fir_expr.specs.Standing.{IsLaidFrom}
+use Rattle.token_reader.specs.Standing.{IsLaidFrom}
 use Rattle.fir_parser.specs.Taking.{pieces, StandsAt, HasTaken, Refuses}
-use Rattle.fir_expr.proofs.Composition.{Enters, piece_at}
+use Rattle.token_reader.proofs.Composition.{Enters, piece_at}
 use Rattle.fir_parser.proofs.Joins.{first, later, breaks}
 use Rattle.fir_parser.proofs.Entering.{enters_part}
 use Rattle.fir_parser.specs.Expected.{Meets, WordsStand, VersionRefused, no_number, other_number}

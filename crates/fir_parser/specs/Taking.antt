@@ -8,7 +8,7 @@ use Rattle.fir_grammar.specs.Grammar.{Symbol, Values}
 use Rattle.fir_grammar.specs.Faults.{Levels, levels, last_suffixes}
 use Rattle.fir_grammar.specs.Reading.{HasRead, IsRefused}
 use Rattle.fir_expr.specs.declared.reader.Reader.{Reader}
-use Rattle.fir_expr.specs.Standing.{IsLaidFrom, wanted}
+use Rattle.token_reader.specs.Standing.{IsLaidFrom, wanted}
 
 -- the pieces of a reader's list
 abbrev pub pieces : Reader → List Piece

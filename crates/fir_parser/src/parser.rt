@@ -7,7 +7,7 @@ ghost use Rattle.fir_grammar.specs.Faults.{IsDeepAt, FaultOf};
 ghost use Rattle.fir_tree.specs.declared.fault.ParseFault.{ParseFault as TheFault};
 ghost use Rattle.fir_tree.specs.declared.fault.ParseFault.TheVariants.{NoMemory};
 ghost use Rattle.fir_tree.specs.declared.circuit.Circuit.{Circuit as TheCircuit};
-ghost use Rattle.fir_expr.specs.Standing.{IsLaidFrom};
+ghost use Rattle.token_reader.specs.Standing.{IsLaidFrom};
 ghost use Rattle.fir_parser.specs.Taking.{StandsAt, HasTaken, Refuses, blocks_at};
 ghost use Rattle.fir_parser.specs.Reading.{is_apart};
 

@@ -6,7 +6,7 @@ ghost use Rattle.place_text.specs.Places.{place};
 ghost use Rattle.fir_layout.specs.Pieces.{bytes_of, piece_of};
 ghost use Rattle.fir_grammar.specs.Grammar.{Is, A, Nothing, Its_place, name, number, open_block, close_block, Opens, Type_of, Expression, Reference, The_word, Takes, start_of};
 ghost use Rattle.fir_grammar.specs.Faults.{most};
-ghost use Rattle.fir_expr.specs.Standing.{IsLaidFrom};
+ghost use Rattle.token_reader.specs.Standing.{IsLaidFrom};
 ghost use Rattle.fir_parser.specs.Taking.{StandsAt, IsFresh, HasTaken, Refuses, Steps, IsInText, blocks_at};
 ghost use Rattle.fir_parser.specs.Expected.{terminal, IsQuiet, Meets, MeetsNext, NamesHere};
 

@@ -3,7 +3,7 @@
 ghost use Rattle.std.specs.Prelude.{◌≡◌, ◌+◌, ◌-◌, ◌<◌, ◌≤◌, ◌^◌, [], ◌∷◌, length, IfOk, IfErr, OnOk, OnErr};
 ghost use Rattle.fir_grammar.specs.Grammar.{Is, Nothing, Three, A_number, The_mark, word, mark, line_end};
 ghost use Rattle.fir_grammar.specs.Faults.{most, last_suffixes};
-ghost use Rattle.fir_expr.specs.Standing.{IsLaidFrom};
+ghost use Rattle.token_reader.specs.Standing.{IsLaidFrom};
 ghost use Rattle.fir_parser.specs.Taking.{StandsAt, HasTaken, Refuses, Steps, blocks_at, here};
 ghost use Rattle.fir_parser.specs.Expected.{Meets, VersionRefused, WordsStand};
 

@@ -25,7 +25,7 @@ use Rattle.width_rules.specs.Solutions.{IsWidth}
 use Rattle.width_rules.specs.Sources.{formula_of, component_or_none}
 use Rattle.width_rules.specs.Circuits.{ports_from, open_ports, modules_from, all_open, instance_in, instance_component, rules_in}
 use Rattle.width_rules.proofs.Monotone.{width_is_width}
-use Rattle.width_fit.specs.Filling.{filled, number}
+use Rattle.type_filling.specs.Filling.{filled, number}
 use Rattle.width_fit.specs.Fitting.{IsFit}
 use Rattle.width_fit.specs.Judging as judging
 use Rattle.width_fit.specs.Judging.{Solved, slot_width, component_faults, ports_faults, told_from, told_of, where_reached}

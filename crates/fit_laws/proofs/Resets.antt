@@ -10,8 +10,8 @@ use Rattle.fir_types.specs.declared.fir_type.Shape.TheFolds.{map-Shape, map-Fiel
 use Rattle.fir_types.specs.declared.fir_type.Shape.TheViews.{roll-Shape, roll-Field, roll-FirType}
 use Rattle.fir_types.specs.declared.fir_type.Field.{Field, fold-Field}
 use Rattle.prim_ops.specs.declared.widths.Width.{Width}
-use Rattle.width_fit.specs.Filling.{taking, filled}
-use Rattle.width_fit.specs.Layers.{shape_taking, field_taking, fields_taking}
+use Rattle.type_filling.specs.Filling.{taking, filled}
+use Rattle.type_filling.specs.Layers.{shape_taking, field_taking, fields_taking}
 use Rattle.fit_laws.specs.Numbered.{reset_layer, has_reset}
 
 abbrev shape_reset : Shape → Bool

@@ -27,7 +27,8 @@ use Rattle.width_rules.specs.Sources as sources
 use Rattle.width_rules.specs.Sources.{measured}
 use Rattle.width_rules.specs.Circuits.{WithPorts, modules_from, instance_in, memory_slots}
 use Rattle.width_rules.proofs.FormulaLemmas.{width-Fixed}
-use Rattle.width_fit.specs.Filling.{filled, number, place_widths}
+use Rattle.type_filling.specs.Filling.{filled, number}
+use Rattle.width_fit.specs.Written.{place_widths}
 use Rattle.width_fit.specs.Judging as judging
 use Rattle.width_fit.specs.Judging.{Solved, survey, slot_width}
 use Rattle.width_fit.proofs.Measured.{same_measured}

@@ -20,7 +20,8 @@ use Rattle.type_check.specs.Parts.{Known, known_with}
 use Rattle.width_rules.specs.declared.component.Component.{Component}
 use Rattle.width_rules.specs.Places.{size}
 use Rattle.width_rules.specs.Sources.{measured}
-use Rattle.width_fit.specs.Filling.{filled, place_widths}
+use Rattle.type_filling.specs.Filling.{filled}
+use Rattle.width_fit.specs.Written.{place_widths}
 
 -- a component whose widths don't matter
 abbrev pub without_widths : ℕ × Part → ℕ × Component

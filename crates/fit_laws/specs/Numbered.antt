@@ -3,7 +3,7 @@ use Rattle.std.specs.Prelude.{◌≡◌, ℕ, nat_le, Bool, true, false, Option,
 use Rattle.std.specs.List.{list_all, list_any}
 use Rattle.fir_types.specs.declared.fir_type.FirType.{FirType, fold-FirType}
 use Rattle.fir_types.specs.declared.fir_type.Shape.TheOpen.{Shape-F}
-use Rattle.width_fit.specs.Filling.{place_widths}
+use Rattle.width_fit.specs.Written.{place_widths}
 
 -- a number from 0 to 128
 abbrev pub is_number : Option ℕ → Bool

@@ -22,7 +22,7 @@ use Rattle.fir_tree.specs.declared.stmt.Stmt.TheViews.{roll-Stmt, roll-Arm}
 use Rattle.width_rules.specs.declared.slot.Slot.{Slot}
 use Rattle.width_rules.specs.Places.{spots, size, slots_from, open_spots}
 use Rattle.width_rules.specs.Circuits.{WithPorts, ports_from, open_ports, modules_from}
-use Rattle.width_fit.specs.Filling.{filled}
+use Rattle.type_filling.specs.Filling.{filled}
 use Rattle.width_fit.specs.Judging.{Solved, slot_width, ports_declared}
 use Rattle.fir_meaning.specs.Components.{Declaration, Component, TypedModule, Sort, An_input, An_output, A_wire, A_register, A_reset_register, A_memory, An_instance, A_node, Told, ToldArm, told, of_told, of_told_arm, declared_from, declared_in_block, declared_by_port, declarations_of, port_of, typed_ports}
 use Rattle.fir_meaning.specs.States.{is_port}

@@ -27,7 +27,7 @@ use Rattle.width_rules.specs.declared.rule.Formula.{Formula}
 use Rattle.width_rules.specs.Circuits.{memory_slots, WithPorts, modules_from, all_open, bodies_from, rules_in, open_ports}
 use Rattle.width_rules.proofs.Bounds.{Each}
 use Rattle.width_rules.proofs.Ports.{modules_open, module_places}
-use Rattle.width_fit.specs.Filling.{filled}
+use Rattle.type_filling.specs.Filling.{filled}
 use Rattle.width_fit.specs.Judging.{Solved, told_of, slot_width}
 use Rattle.fir_meaning.specs.Components.{Declaration, Component, TypedModule, declarations_of, with_types, modules_of}
 use Rattle.fir_meaning.specs.MemoryPorts.{memory_ports}

@@ -24,7 +24,7 @@ use Rattle.width_rules.specs.Sources.{formula_of}
 use Rattle.width_rules.specs.Circuits.{memory_slots, instance_in, WithPorts}
 use Rattle.width_rules.proofs.Bounds.{Each}
 use Rattle.width_rules.proofs.Monotone.{width_is_width}
-use Rattle.width_fit.specs.Filling.{filled}
+use Rattle.type_filling.specs.Filling.{filled}
 use Rattle.width_fit.specs.Judging.{slot_width}
 use Rattle.fir_meaning.specs.Components.{Declaration, A_node, A_memory, An_instance}
 use Rattle.fir_meaning.specs.States.{is_register}

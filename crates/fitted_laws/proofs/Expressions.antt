@@ -57,7 +57,7 @@ use Rattle.width_rules.proofs.FormulaLemmas.{width-Fixed, width-Op, width-Greate
 use Rattle.width_rules.proofs.Bounds.{Each}
 use Rattle.width_fit.specs.declared.fault.WidthFault.{WidthFault}
 use Rattle.width_fit.specs.declared.fault.WidthFault.TheVariants.{ParameterRange}
-use Rattle.width_fit.specs.Filling.{filled}
+use Rattle.type_filling.specs.Filling.{filled}
 use Rattle.width_fit.specs.Judging as judging
 use Rattle.width_fit.specs.Judging.{Survey, survey, surveyed, slot_width, widths_of, is_over, where_, lone_width, fit_width, parameter_faults, choice_faults}
 use Rattle.cycle_values.specs.Shapes as rows

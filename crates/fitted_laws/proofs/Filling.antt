@@ -29,8 +29,8 @@ use Rattle.width_rules.specs.Places.{Spot, spots, size, turned, of_shape, of_fie
 use Rattle.width_rules.specs.Layers.{field_spots}
 use Rattle.width_rules.specs.Solutions.{IsWidth}
 use Rattle.width_rules.proofs.Bounds.{Each}
-use Rattle.width_fit.specs.Filling.{Taking, taking, filled, number, first_number, behind_first}
-use Rattle.width_fit.specs.Layers.{shape_taking, field_taking, fields_taking}
+use Rattle.type_filling.specs.Filling.{Taking, taking, filled, number, first_number, behind_first}
+use Rattle.type_filling.specs.Layers.{shape_taking, field_taking, fields_taking}
 use Rattle.cycle_values.specs.Shapes.{Shape as ValueShape, shaped}
 use Rattle.fir_meaning.specs.Components.{width_or_none}
 use Rattle.fir_meaning.specs.WellTyped.{leaf_shape, wider_each, wider, is_narrow}

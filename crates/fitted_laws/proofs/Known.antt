@@ -14,7 +14,7 @@ use Rattle.width_rules.specs.declared.rule.Rule.{Rule}
 use Rattle.width_rules.specs.Places.{Spot}
 use Rattle.width_rules.specs.Sources as sources
 use Rattle.width_rules.specs.Sources.{formula_of}
-use Rattle.width_fit.specs.Filling.{filled}
+use Rattle.type_filling.specs.Filling.{filled}
 use Rattle.width_fit.specs.Judging.{slot_width}
 use Rattle.fir_meaning.specs.WellTyped.{Known}
 use Rattle.fir_names.proofs.Graphs.{some_same}

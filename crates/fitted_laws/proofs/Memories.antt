@@ -30,7 +30,7 @@ use Rattle.width_rules.specs.Places.{Spot, spots, size}
 use Rattle.width_rules.specs.Layers.{field_spots}
 use Rattle.width_rules.specs.Circuits.{memory_slots, line_slots, mask_slots}
 use Rattle.width_rules.proofs.FormulaLemmas.{width-Fixed}
-use Rattle.width_fit.specs.Filling.{filled, first_number}
+use Rattle.type_filling.specs.Filling.{filled, first_number}
 use Rattle.width_fit.specs.Judging.{slot_width}
 use Rattle.fir_meaning.specs.Components.{ports_bundle}
 use Rattle.fitted_laws.proofs.Filling.{filled_field, filled_fields, filled-bundle, filled-vector, filled-unsigned, filled-signed, filled-clock, filled-reset, filled-place, size-bundle, size-vector, size-fields, size-unsigned, size-clock}

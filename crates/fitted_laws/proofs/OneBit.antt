@@ -16,7 +16,7 @@ use Rattle.cycle_values.specs.Shapes.{Shape, is_unsigned}
 use Rattle.width_rules.specs.declared.rule.Formula.{Formula}
 use Rattle.width_rules.specs.Formulas.{level, width_under}
 use Rattle.width_rules.specs.Sources.{Measured, lone}
-use Rattle.width_fit.specs.Filling.{filled, number}
+use Rattle.type_filling.specs.Filling.{filled, number}
 use Rattle.width_fit.specs.Judging.{lone_width, widths_of}
 use Rattle.fir_meaning.specs.Components.{width_or_none}
 use Rattle.fir_meaning.specs.WellTyped as typing

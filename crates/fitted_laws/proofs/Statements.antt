@@ -44,7 +44,7 @@ use Rattle.width_rules.specs.Sources.{Measured, formula_of, measured}
 use Rattle.width_rules.specs.Circuits as ruling
 use Rattle.width_rules.specs.Circuits.{WithPorts, places_for, memory_slots, connected, invalidated, node_rules}
 use Rattle.width_rules.proofs.Bounds.{Each}
-use Rattle.width_fit.specs.Filling.{filled}
+use Rattle.type_filling.specs.Filling.{filled}
 use Rattle.width_fit.specs.Judging as judging
 use Rattle.width_fit.specs.Judging.{Solved, Survey, survey, slot_width, widths_of, is_unknown, where_}
 use Rattle.width_fit.specs.declared.fault.WidthFault.TheVariants.{WidthUnknown}

@@ -31,7 +31,7 @@ use Rattle.width_rules.specs.Layers.{field_spots}
 use Rattle.width_rules.specs.Sources as sources
 use Rattle.width_rules.specs.Sources.{formula_of}
 use Rattle.width_rules.proofs.Spots.{spots-bundle, spots-vector, spots-field}
-use Rattle.width_fit.specs.Filling.{filled}
+use Rattle.type_filling.specs.Filling.{filled}
 use Rattle.width_fit.specs.Judging.{slot_width}
 use Rattle.fir_meaning.specs.Values.{field_of_shape, element_of_shape, length_of_shape, vector_length}
 use Rattle.fir_names.specs.Scopes.{In}

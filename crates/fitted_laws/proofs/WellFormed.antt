@@ -13,7 +13,7 @@ use Rattle.fir_tree.specs.declared.scope.Fitted.{Fitted}
 use Rattle.width_rules.specs.declared.slot.Slot.{Slot}
 use Rattle.width_rules.specs.Circuits.{WithPorts, modules_from, ports_from, instance_in, instance_component}
 use Rattle.width_rules.specs.Sources.{component_or_none}
-use Rattle.width_fit.specs.Filling.{filled}
+use Rattle.type_filling.specs.Filling.{filled}
 use Rattle.width_fit.specs.Judging.{slot_width}
 use Rattle.fir_meaning.specs.Components.{TypedModule, Component, HasBundles, A_memory, An_instance, target_in, typed_ports, ports_bundle, design_of, modules_of, module_at, module_named, component_named}
 use Rattle.fir_meaning.specs.WellTyped.{known_in}

@@ -11,7 +11,7 @@ ghost use Rattle.fir_tree.specs.declared.circuit.Module.{Module as AModule};
 ghost use Rattle.fir_tree.specs.declared.scope.Fitted.{Fitted as FittedCircuit};
 ghost use Rattle.fir_meaning.specs.Components.{TypedModule, declarations_of, modules_of};
 ghost use Rattle.fir_meaning.specs.WellTyped.{HasTypes, known_in};
-ghost use Rattle.width_fit.specs.Filling.{filled};
+ghost use Rattle.type_filling.specs.Filling.{filled};
 ghost use Rattle.circuit_laws.specs.WellFormed.{IsWellFormed};
 ghost use Rattle.fitted_laws.specs.Shaped.{is_shaped_circuit};
 ghost use Rattle.fitted_laws.specs.Accepted.{IsAccepted};

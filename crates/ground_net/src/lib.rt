@@ -1,6 +1,6 @@
 //! The net of a run, plain data with a meaning of its own: ground expressions and statements over numbered leaves, what they
 //! leave in a leaf and what the leaf reads; and the circuits, nets, orders and cuts that are made of them. Keeps the contracts
-//! of copies, of new numbers, and of the leaves by which a run is fed and watched.
+//! of copies, of new numbers, of what leaves read, and of the leaves by which a run is fed and watched.
 #![tactic(auto)]
 
 pub mod circuit;
@@ -9,6 +9,7 @@ pub mod ground;
 pub mod laws;
 pub mod net;
 pub mod ports;
+pub mod reading;
 pub mod renumbering;
 
 pub use circuit::{
@@ -25,4 +26,5 @@ pub use net::{
     NetWrite, Ordered, PortLeaf, Ports, Role,
 };
 pub use ports::ports_of;
+pub use reading::{push_mentions, reads_of};
 pub use renumbering::renumbered;

@@ -1,4 +1,3 @@
-mod Indexing
 mod Capping
 mod Weighing
 mod Calling

@@ -8,6 +8,7 @@ use Rattle.fir_types.specs.declared.fir_type.Field.{Field}
 use Rattle.fir_types.specs.declared.fir_type.Shape.TheVariants as shape
 use Rattle.fir_types.specs.declared.fir_type.Shape.TheVariants.{outs-Bundle}
 use Rattle.fir_types.specs.declared.fir_type.Shape.TheViews.{out-Shape}
+use Rattle.fir_types.specs.declared.name.Name.{Name}
 use Rattle.prim_ops.specs.declared.operation.PrimOp.{PrimOp}
 use Rattle.fir_tree.specs.declared.expr.Expr.{Expr, the_lemmas as expr_lemmas}
 use Rattle.fir_tree.specs.declared.expr.Form.TheVariants as form
@@ -15,7 +16,7 @@ use Rattle.fir_meaning.specs.Values.{field_type, or_itself, field_of_shape}
 use Rattle.size_check.specs.Caps.{cap}
 use Rattle.size_check.specs.Measures.{greatest}
 use Rattle.size_check.specs.Reaching.{capped_weight}
-use Rattle.size_check.specs.Weights.{Typing, Weight, Weighs, weight, most_of, of_choice, one_bit}
+use Rattle.size_check.specs.Weights.{Typing, Weight, Weighs, weight, whole, most_of, of_choice, one_bit}
 use Rattle.size_check.proofs.Capping.{cap_max, cap_one}
 
 greatest-append : (xs : List ℕ) (n : ℕ) → greatest (xs ++ n ∷ []) ≡ max (greatest xs) n
@@ -56,6 +57,9 @@ weight-prim e op es ps types is = grind (arith, common_steps, expr_lemmas)
 
 weight-mux : (e : Expr) (es : List Expr) (types : Typing) → e.form ≡ form.Mux es → weight e types ≡ of_choice (map (λ (w : Weighs). w types) (map weight es))
 weight-mux e es types is = grind (arith, common_steps, expr_lemmas)
+
+pub weight-whole : (e : Expr) (name : Name) (types : Typing) → e.form ≡ form.Ref name [] → weight e types ≡ whole (types name.id)
+weight-whole e name types is = grind (arith, common_steps, expr_lemmas)
 
 pub weigh_prim : (e : Expr) (op : PrimOp) (es : List Expr) (ps : List ℕ) (types : Typing) (typ : FirType) (m n : ℕ) → e.form ≡ form.Prim op es ps → typ ≡ one_bit
     → m ≡ cap (most_of (map (λ e. weight e types) es)) → n ≡ max m 1 → made typ n ≡ capped_weight (weight e types)

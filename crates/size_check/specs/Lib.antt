@@ -13,4 +13,3 @@ pub mod Rounds
 pub mod Kept
 pub mod Reaching
 pub mod Texts
-pub mod Indexes

@@ -1,6 +1,6 @@
 -- The types of a module's components (FIRRTL specification 3.0, "Statements"), in text order. A node has the type of its expression
 -- among the components before it. Of each name the first component counts; in an accepted circuit there is only one.
-use Rattle.std.specs.Prelude.{ℕ, ◌==◌, nat_eq, is_some, List, [], ◌∷◌, ◌++◌, map, find, Option, Some, None, if◌then◌else◌}
+use Rattle.std.specs.Prelude.{ℕ, nat_eq, is_some, List, [], ◌∷◌, ◌++◌, map, Option, Some, None, if◌then◌else◌}
 use Rattle.std.specs.Map.{lookup}
 use Rattle.fir_types.specs.declared.fir_type.FirType.{FirType}
 use Rattle.fir_types.specs.declared.port.Port.{Port}
@@ -9,6 +9,7 @@ use Rattle.fir_tree.specs.declared.circuit.Module.{Module}
 use Rattle.fir_tree.specs.declared.stmt.Stmt.{Stmt, fold-Stmt}
 use Rattle.fir_tree.specs.declared.stmt.Arm.{Arm, fold-Arm}
 use Rattle.fir_tree.specs.declared.stmt.Stmt.TheOpen.{Stmt-F, Arm-F}
+pub use Rattle.module_table.specs.Tables.{named}
 use Rattle.size_check.specs.Weights.{Typing, weight, no_type}
 
 -- the components that are known, with their types
@@ -32,10 +33,6 @@ Notes = Known → Known
 abbrev pub in_turn : List Notes → Notes
 in_turn [] known = known
 in_turn (first ∷ rest) known = in_turn rest (first known)
-
--- The first module of a name.
-abbrev pub named : List Module → ℕ → Option Module
-named modules name = find (λ m. m.name.id == name) modules
 
 abbrev pub instance_type : Option Module → FirType
 instance_type (Some target) = instance_of target.ports

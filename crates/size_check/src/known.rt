@@ -1,18 +1,17 @@
 //! The types of a module's components.
 
-ghost use Rattle.std.specs.Prelude.{◌≡◌, [], map, IfOk, OnOk};
+ghost use Rattle.std.specs.Prelude.{◌≡◌, [], map, IfOk, IfSome, OnOk};
 ghost use Rattle.size_check.specs.Kept.{types_of};
 ghost use Rattle.size_check.specs.Typings.{known_with, known_in, stmt_notes, arm_notes, port_notes, in_turn, named, instance_type as instance_type_of};
-ghost use Rattle.size_check.specs.Weights.{one_bit, no_type};
+ghost use Rattle.size_check.specs.Weights.{one_bit, no_type, weight};
 
-use crate::counted::{Counted, again, indexed, shared_of};
-use crate::modules::Modules;
 use crate::weights::weigh;
 use bit_words::{List, Shared};
 use field_index::FieldIndex;
 use fir_tree::{Arm, Expr, Module, Stmt};
 use fir_types::{FirType, Memory, Name, Port, Shape, copy, instance_type, memory_type};
 use indexmap::IndexMap;
+use module_table::{KnownType, Modules, insert_new, whole_name};
 use place_text::Place;
 use std::alloc::{AllocError, Global};
 
@@ -20,7 +19,7 @@ use std::alloc::{AllocError, Global};
 #[derive(Drop)]
 pub struct Known {
     /// By the numbers of their names: of each name the first.
-    pub types: IndexMap<u32, Counted>,
+    pub types: IndexMap<u32, KnownType>,
     /// The type of what is one leaf.
     pub bit: FirType,
     /// The type of what is nothing.
@@ -85,14 +84,34 @@ impl Known {
         }
     }
 
+    /// The component that an expression is, if it is one.
+    fn whole(&self, expr: &Expr) -> Option<&KnownType>
+        ensures { IfSome result (λ component. component.now.typ ≡ (weight expr.now (types_in self.now)).typ) }
+    {
+        let name = whole_name(expr)?;
+        self.types.get(&name)
+    }
+
+    /// The type of a node of an expression, shared where it is that of a component.
+    fn node_type(&self, expr: &Expr) -> Result<KnownType, AllocError>
+        ensures { IfOk result (λ node. node.typ ≡ (weight expr.now (types_in self.now)).typ) }
+    {
+        if let Some(component) = self.whole(expr) {
+            return component.share();
+        }
+        let reached = weigh(self, expr);
+        let typ = copy(reached.typ)?;
+        match reached.index {
+            Some(index) => Ok(KnownType::with_index(typ, Some(index.share()?))),
+            None => Ok(KnownType::with_index(typ, None)),
+        }
+    }
+
     /// Notes a component of a name, unless there is one.
-    fn insert_new(&mut self, name: Name, component: Counted) -> Result<(), AllocError>
+    fn note(&mut self, name: Name, component: KnownType) -> Result<(), AllocError>
         ensures { OnOk result (types_of self.new.types.entries ≡ known_with (types_of self.old.types.entries) name.id component.typ) }
     {
-        if self.types.get(&name.id).is_none() {
-            self.types.insert(name.id, component)?;
-        }
-        Ok(())
+        insert_new(&mut self.types, name.id, component)
     }
 }
 
@@ -110,7 +129,7 @@ fn note_ports(alloc: Global, known: &mut Known, ports: &[Port]) -> Result<(), Al
     ensures { OnOk result (types_of known.new.types.entries ≡ in_turn (map port_notes ports.now) (types_of known.old.types.entries)) }
 {
     for port in ports {
-        known.insert_new(port.name, indexed(alloc, copy(&port.typ)?)?)?;
+        known.note(port.name, KnownType::indexed(alloc, copy(&port.typ)?)?)?;
     }
     Ok(())
 }
@@ -141,19 +160,19 @@ fn note_statement(
 {
     match statement {
         Stmt::Wire(name, typ) | Stmt::Reg(name, typ, _) | Stmt::RegReset(name, typ, _, _, _) => {
-            known.insert_new(*name, indexed(alloc, copy(typ)?)?)
+            known.note(*name, KnownType::indexed(alloc, copy(typ)?)?)
         }
         Stmt::Mem(memory) => {
             let typ = memory_type(alloc, memory)?;
-            known.insert_new(memory.name, indexed(alloc, typ)?)
+            known.note(memory.name, KnownType::indexed(alloc, typ)?)
         }
         Stmt::Inst(name, target) => {
             let instance = instance_of(alloc, modules, *target)?;
-            known.insert_new(*name, instance)
+            known.note(*name, instance)
         }
         Stmt::Node(name, expr) => {
-            let node = shared_of(weigh(known, expr))?;
-            known.insert_new(*name, node)
+            let node = known.node_type(expr)?;
+            known.note(*name, node)
         }
         Stmt::When(arms, other) => {
             note_arms(alloc, modules, known, arms.as_slice())?;
@@ -179,11 +198,11 @@ fn note_arms(
 }
 
 /// An instance of the first module of a name, and what is nothing where there is none.
-fn instance_of(alloc: Global, modules: &Modules<'_>, target: Name) -> Result<Counted, AllocError>
+fn instance_of(alloc: Global, modules: &Modules<'_>, target: Name) -> Result<KnownType, AllocError>
     ensures { IfOk result (λ instance. instance.typ ≡ instance_type_of (named modules.now.all.now target.id)) }
 {
     match modules.instance(target.id) {
-        Some(instance) => again(instance),
-        None => indexed(alloc, instance_type(alloc, &[])?),
+        Some(instance) => instance.share(),
+        None => KnownType::indexed(alloc, instance_type(alloc, &[])?),
     }
 }

@@ -4,13 +4,11 @@
 #![tactic(auto)]
 
 mod calls;
-mod counted;
 pub mod fault;
 mod known;
 pub mod laws;
 pub mod measure;
 mod measuring;
-mod modules;
 mod names;
 mod owns;
 mod reached;

@@ -10,11 +10,11 @@ ghost use Rattle.size_check.specs.Typings.{named};
 
 use crate::fault::SizeFault;
 use crate::measure::Measure;
-use crate::modules::Modules;
 use crate::rounds::measure;
 use crate::sums::Total;
 use fir_tree::Checked;
 use fir_types::{Port, leaf_count};
+use module_table::Modules;
 use std::alloc::Global;
 
 /// The measure of a circuit. A circuit that passes a limit is too large, at its name.

@@ -6,7 +6,7 @@ mod Seconds
 mod Forms
 mod Judgements
 mod Ways
-mod Indexing
 mod Walking
 mod Kept
 mod Telling
+mod Wholes

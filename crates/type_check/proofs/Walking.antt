@@ -5,7 +5,6 @@ use Rattle.type_check.specs.declared.walk.Walk.{Walk}
 use Rattle.type_check.specs.declared.fault.TypeFault.{TypeFault}
 use Rattle.type_check.specs.Parts.{Known}
 use Rattle.type_check.specs.Statements.{Walk as Steps, Findings, and_then, in_turn, nothing, notes}
-use Rattle.type_check.specs.Kept.{parts_of}
 use Rattle.type_check.specs.Walks.{Walks}
 
 findings : {a b : Findings} → a.known ≡ b.known → a.nodes ≡ b.nodes → a.faults ≡ b.faults → a ≡ b
@@ -25,7 +24,7 @@ turns = record { alone = λ p i known. alone_at p known i; either = λ p q r i k
 
 pub walks_then : {p q : Steps} {a b c : Walk} → Walks p a b → Walks q b c → Walks (and_then p q) a c
 walks_then {p} {q} {a} {b} {c} h k =
-    let old = parts_of a.known.entries in
+    let old = a.known in
     record {
       known = k.known ∙ ap (λ e. (q e).known) h.known;
       types = k.types ∙ ap₂ (λ l e. l ++ (q e).nodes) h.types h.known ∙ append_assoc a.found.types.items (p old).nodes _;
@@ -33,7 +32,7 @@ walks_then {p} {q} {a} {b} {c} h k =
     }
 
 -- faults are noted, and then something is walked
-pub walks_noted : (faults : List TypeFault) {q : Steps} {a b c : Walk} → parts_of b.known.entries ≡ parts_of a.known.entries → b.found.types.items ≡ a.found.types.items
+pub walks_noted : (faults : List TypeFault) {q : Steps} {a b c : Walk} → b.known ≡ a.known → b.found.types.items ≡ a.found.types.items
     → b.found.faults.items ≡ a.found.faults.items ++ faults → Walks q b c → Walks (and_then (notes faults) q) a c
 walks_noted faults {q} {a} {b} known types more k =
     let h : Walks (notes faults) a b = record { known = known; types = types ∙ sym (append-nil _); faults = more } in

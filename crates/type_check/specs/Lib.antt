@@ -7,8 +7,6 @@ pub mod Statements
 pub mod Faults
 -- what the bodies keep, and what proofs need
 pub mod Noted
-pub mod Kept
 pub mod Walks
 pub mod Judging
-pub mod Indexes
 pub mod Ranks

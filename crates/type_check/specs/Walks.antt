@@ -2,7 +2,6 @@
 use Rattle.std.specs.Prelude.{◌≡◌, ◌++◌}
 use Rattle.type_check.specs.declared.found.Findings.{Findings}
 use Rattle.type_check.specs.declared.walk.Walk.{Walk}
-use Rattle.type_check.specs.Kept.{parts_of}
 use Rattle.type_check.specs.Expressions.{Judgement}
 use Rattle.type_check.specs.Statements.{Walk as Steps}
 
@@ -13,6 +12,6 @@ pub record Adds (judgement : Judgement) (old new : Findings) : Type 0 where
 
 -- statements were walked
 pub record Walks (steps : Steps) (old new : Walk) : Type 0 where
-  pub known : parts_of new.known.entries ≡ (steps (parts_of old.known.entries)).known
-  pub types : new.found.types.items ≡ old.found.types.items ++ (steps (parts_of old.known.entries)).nodes
-  pub faults : new.found.faults.items ≡ old.found.faults.items ++ (steps (parts_of old.known.entries)).faults
+  pub known : new.known ≡ (steps old.known).known
+  pub types : new.found.types.items ≡ old.found.types.items ++ (steps old.known).nodes
+  pub faults : new.found.faults.items ≡ old.found.faults.items ++ (steps old.known).faults

@@ -8,11 +8,11 @@ ghost use Rattle.fault_order.specs.Verdicts.{IsVerdict};
 
 use crate::fault::TypeFault;
 use crate::found::Findings;
-use crate::modules::Modules;
 use crate::walk::walk_module;
 use bit_words::List;
 use fault_order::earliest;
 use fir_tree::{Circuit, Module, Scope, Types};
+use module_table::Modules;
 use std::alloc::{AllocError, Global};
 
 /// The type of each expression in text order, or the first fault of the circuit's types by place, and at one place by kind

@@ -1,18 +1,21 @@
 //! The conditions on the expressions of statements. Each is judged where the expressions that it speaks of have types.
 
 ghost use Rattle.std.specs.Prelude.{◌≡◌, ◌++◌, [], OnOk};
+ghost use Rattle.type_check.specs.Expressions.{found_of};
 ghost use Rattle.type_check.specs.Parts.{unless, where_typed};
 ghost use Rattle.type_check.specs.Statements.{expects, connects, clock_faults, condition_faults, init_faults, sink_faults, source_faults, equal_faults};
 ghost use Rattle.type_check.specs.Walks.{Walks};
 
 use crate::fault::TypeFault;
 use crate::judge::judge;
-use crate::texts::{are_equivalent, is_passive, push_unless};
+use crate::texts::{are_equivalent, push_unless};
 use crate::walk::Walk;
+use crate::whole::{are_equivalent_at, is_passive_at};
 use circuit_parts::kinds::{is_clock, is_unsigned};
 use circuit_parts::{Flow, Part};
 use fir_tree::Expr;
 use fir_types::FirType;
+use module_table::Components;
 use place_text::Place;
 use std::alloc::{AllocError, Global};
 
@@ -80,10 +83,9 @@ pub fn connect(alloc: Global, walk: &mut Walk, left: &Expr, right: &Expr) -> Res
 {
     let sink = judge(alloc, &walk.known, &mut walk.found, left)?;
     let source = judge(alloc, &walk.known, &mut walk.found, right)?;
-    let faults = &mut walk.found.faults;
-    push_sink(faults, left.place, &sink)?;
-    push_source(faults, right.place, &source)?;
-    push_unequal(faults, right.place, &sink, &source)
+    push_sink(&mut walk.found.faults, left.place, &sink)?;
+    push_source(&mut walk.found.faults, &walk.known, right, &source)?;
+    push_unequal(walk, left, right, &sink, &source)
 }
 
 /// Adds a fault where what is driven can only be read.
@@ -100,30 +102,41 @@ fn push_sink(faults: &mut Vec<TypeFault>, at: Place, left: &Option<Part>) -> Res
 /// Adds a fault where what is read can only be driven. A sink without a `flip` can be read.
 fn push_source(
     faults: &mut Vec<TypeFault>,
-    at: Place,
-    right: &Option<Part>,
+    known: &Components,
+    right: &Expr,
+    source: &Option<Part>,
 ) -> Result<(), AllocError>
-    ensures { OnOk result (faults.new.items ≡ faults.old.items ++ where_typed (source_faults at) right.now) }
+    requires { source.now ≡ (found_of known.now right.now).part }
+    ensures { OnOk result (faults.new.items ≡ faults.old.items ++ where_typed (source_faults right.now.place) source.now) }
 {
-    if let Some(right) = right {
-        let fits = !matches!(right.flow, Flow::Sink) || is_passive(&right.typ);
-        push_unless(faults, fits, TypeFault::FlowSource(at))?;
+    if let Some(part) = source {
+        let fits = !matches!(part.flow, Flow::Sink) || is_passive_at(known, right, part);
+        push_unless(faults, fits, TypeFault::FlowSource(right.place))?;
     }
     Ok(())
 }
 
 /// Adds a fault where the types of both sides are not equivalent.
 fn push_unequal(
-    faults: &mut Vec<TypeFault>,
-    at: Place,
-    left: &Option<Part>,
-    right: &Option<Part>,
+    walk: &mut Walk,
+    left: &Expr,
+    right: &Expr,
+    sink: &Option<Part>,
+    source: &Option<Part>,
 ) -> Result<(), AllocError>
-    ensures { OnOk result (faults.new.items ≡ faults.old.items ++ where_typed (λ a. where_typed (equal_faults at a) right.now) left.now) }
+    requires sink { sink.now ≡ (found_of walk.old.known left.now).part }
+    requires source { source.now ≡ (found_of walk.old.known right.now).part }
+    ensures known { OnOk result (walk.new.known ≡ walk.old.known) }
+    ensures types { OnOk result (walk.new.found.types.items ≡ walk.old.found.types.items) }
+    ensures faults { OnOk result (walk.new.found.faults.items ≡ walk.old.found.faults.items ++ where_typed (λ a. where_typed (equal_faults right.now.place a) source.now) sink.now) }
 {
-    if let (Some(left), Some(right)) = (left, right) {
-        let fits = are_equivalent(&left.typ, &right.typ);
-        push_unless(faults, fits, TypeFault::NotEquivalent(at))?;
+    if let (Some(sink), Some(source)) = (sink, source) {
+        let fits = are_equivalent_at(&mut walk.known, left, right, sink, source)?;
+        push_unless(
+            &mut walk.found.faults,
+            fits,
+            TypeFault::NotEquivalent(right.place),
+        )?;
     }
     Ok(())
 }

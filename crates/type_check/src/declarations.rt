@@ -7,20 +7,21 @@ ghost use Rattle.circuit_parts.specs.Parts.{part_of, source_of, instance_in, por
 ghost use Rattle.type_check.specs.Texts.{twice_in, stored_faults};
 ghost use Rattle.type_check.specs.Memories.{memory_faults};
 ghost use Rattle.type_check.specs.Statements.{and_then, notes, declares, expects, names_node, port_walk, clock_faults, condition_faults, init_faults};
+ghost use Rattle.module_table.specs.Components.{part_in};
 ghost use Rattle.type_check.specs.Walks.{Walks};
 
-use crate::component::{Component, again, indexed, plain};
 use crate::conditions::{expect_clock, expect_condition, expect_init};
 use crate::fault::TypeFault;
 use crate::judge::judge;
 use crate::memory::push_memory;
-use crate::modules::{Modules, insert_new};
-use crate::texts::{is_passive, push_stored, push_twice, push_unless};
+use crate::texts::{push_stored, push_twice, push_unless};
 use crate::walk::Walk;
-use circuit_parts::steps::{port_flow, source};
-use circuit_parts::{Flow, Part};
+use crate::whole::known_type;
+use circuit_parts::Flow;
+use circuit_parts::steps::port_flow;
 use fir_tree::Expr;
 use fir_types::{FirType, Memory, Name, Port, copy, memory_type};
+use module_table::{Component, KnownType, Modules};
 use std::alloc::{AllocError, Global};
 
 /// A port, which is read or driven inside its module.
@@ -84,7 +85,8 @@ pub fn declare_memory(alloc: Global, walk: &mut Walk, memory: &Memory) -> Result
 {
     push_memory(alloc, &mut walk.found.faults, memory)?;
     let typ = memory_type(alloc, memory)?;
-    declare_memory_type(alloc, walk, memory.name, typ)
+    let known = KnownType::indexed(alloc, typ)?;
+    declare_source(walk, memory.name, known)
 }
 
 /// An instance of a module. It has no type where there is no module of the name.
@@ -99,7 +101,8 @@ pub fn declare_instance(
     let Some(instance) = modules.instance(target.id) else {
         return Ok(());
     };
-    declare_part(walk, name, again(instance)?)
+    let known = instance.share()?;
+    declare_source(walk, name, known)
 }
 
 /// A node, which has the type of its expression where that has one.
@@ -114,13 +117,13 @@ pub fn declare_node(
     let Some(part) = judge(alloc, &walk.known, &mut walk.found, expr)? else {
         return Ok(());
     };
-    let fits = is_passive(&part.typ);
+    let known = known_type(&walk.known, expr, part)?;
     push_unless(
         &mut walk.found.faults,
-        fits,
+        known.passive,
         TypeFault::NotPassive(expr.place),
     )?;
-    declare_source(walk, name, part.typ)
+    declare_source(walk, name, known)
 }
 
 /// Declares a component of this type and flow.
@@ -133,32 +136,21 @@ fn declare(
 ) -> Result<(), AllocError>
     ensures { OnOk result (Walks (declares name.id (Some (part_of typ.now flow))) walk.old walk.new) }
 {
-    let typ = copy(typ)?;
-    declare_part(walk, name, indexed(alloc, Part { typ, flow })?)
-}
-
-/// Declares a component of this type that can only be read, with an index of its fields.
-fn declare_memory_type(
-    alloc: Global,
-    walk: &mut Walk,
-    name: Name,
-    typ: FirType,
-) -> Result<(), AllocError>
-    ensures { OnOk result (Walks (declares name.id (Some (source_of typ))) walk.old walk.new) }
-{
-    declare_part(walk, name, indexed(alloc, source(typ))?)
+    let known = KnownType::indexed(alloc, copy(typ)?)?;
+    declare_part(walk, name, Component { known, flow })
 }
 
 /// Declares a component of this type that can only be read.
-fn declare_source(walk: &mut Walk, name: Name, typ: FirType) -> Result<(), AllocError>
-    ensures { OnOk result (Walks (declares name.id (Some (source_of typ))) walk.old walk.new) }
+fn declare_source(walk: &mut Walk, name: Name, known: KnownType) -> Result<(), AllocError>
+    ensures { OnOk result (Walks (declares name.id (Some (source_of known.typ))) walk.old walk.new) }
 {
-    declare_part(walk, name, plain(source(typ)))
+    let flow = Flow::Source;
+    declare_part(walk, name, Component { known, flow })
 }
 
 /// Declares a component, unless there is one of its name.
-fn declare_part(walk: &mut Walk, name: Name, component: Component) -> Result<(), AllocError>
-    ensures { OnOk result (Walks (declares name.id (Some component.part)) walk.old walk.new) }
+fn declare_part(walk: &mut Walk, name: Name, new: Component) -> Result<(), AllocError>
+    ensures { OnOk result (Walks (declares name.id (Some (part_in new))) walk.old walk.new) }
 {
-    insert_new(&mut walk.known, name.id, component)
+    walk.known.note(name.id, new)
 }

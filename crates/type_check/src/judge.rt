@@ -5,10 +5,9 @@ ghost use Rattle.type_check.specs.Expressions.{found_of, judged, suffix_step, ty
 ghost use Rattle.circuit_parts.specs.Kinds.{no_type};
 ghost use Rattle.type_check.specs.Parts.{component};
 ghost use Rattle.type_check.specs.Judging.{part_at, part_reached, operand_of, together, filled, AddsBelow};
-ghost use Rattle.type_check.specs.Kept.{parts_of};
+ghost use Rattle.module_table.specs.Components.{part_in};
 ghost use Rattle.type_check.specs.Walks.{Adds};
 
-use crate::component::Component;
 use crate::found::Findings;
 use crate::reached::Reached;
 use crate::rules::{Operand, judge_choice, judge_literal, judge_operation};
@@ -17,19 +16,19 @@ use circuit_parts::Part;
 use circuit_parts::kinds::no_type;
 use fir_tree::{Expr, Form, Suffix};
 use fir_types::{FirType, copy};
-use indexmap::IndexMap;
+use module_table::{Component, Components};
 use std::alloc::{AllocError, Global};
 
 /// The type and the flow of an expression, where it has a type. Adds the types of its nodes in text order, and its faults.
 #[cycle(judge)]
 pub fn judge(
     alloc: Global,
-    known: &IndexMap<u32, Component>,
+    known: &Components,
     found: &mut Findings,
     expr: &Expr,
 ) -> Result<Option<Part>, AllocError>
-    ensures part { IfOk result (λ part. part ≡ (found_of (parts_of known.now.entries) expr.now).part) }
-    ensures found { OnOk result (Adds (found_of (parts_of known.now.entries) expr.now) found.old found.new) }
+    ensures part { IfOk result (λ part. part ≡ (found_of known.now expr.now).part) }
+    ensures found { OnOk result (Adds (found_of known.now expr.now) found.old found.new) }
 {
     let at = found.types.len();
     found.types.push(no_type(alloc, expr.place)?)?;
@@ -58,12 +57,12 @@ fn fill(
 #[cycle(judge)]
 fn judge_form(
     alloc: Global,
-    known: &IndexMap<u32, Component>,
+    known: &Components,
     found: &mut Findings,
     expr: &Expr,
 ) -> Result<Option<Part>, AllocError>
-    ensures part { IfOk result (λ part. part ≡ (found_of (parts_of known.now.entries) expr.now).part) }
-    ensures found { OnOk result (AddsBelow expr.now.place (found_of (parts_of known.now.entries) expr.now) found.old found.new) }
+    ensures part { IfOk result (λ part. part ≡ (found_of known.now expr.now).part) }
+    ensures found { OnOk result (AddsBelow expr.now.place (found_of known.now expr.now) found.old found.new) }
 {
     match &expr.form {
         Form::Ref(name, suffixes) => {
@@ -96,12 +95,12 @@ fn judge_form(
 #[cycle(judge)]
 fn judge_all(
     alloc: Global,
-    known: &IndexMap<u32, Component>,
+    known: &Components,
     found: &mut Findings,
     exprs: &[Expr],
 ) -> Result<Option<Vec<Operand>>, AllocError>
-    ensures operands { IfOk result (λ operands. option_map (λ typed. map operand_of typed.items) operands ≡ typed_operands (parts_of known.now.entries) (map judged exprs.now)) }
-    ensures found { OnOk result (Adds (together (all_among (parts_of known.now.entries) (map judged exprs.now))) found.old found.new) }
+    ensures operands { IfOk result (λ operands. option_map (λ typed. map operand_of typed.items) operands ≡ typed_operands known.now (map judged exprs.now)) }
+    ensures found { OnOk result (Adds (together (all_among known.now (map judged exprs.now))) found.old found.new) }
 {
     let mut typed = Vec::new(alloc);
     let mut complete = true;
@@ -121,13 +120,13 @@ fn judge_all(
 #[cycle(judge)]
 fn walk_steps<'a>(
     alloc: Global,
-    known: &'a IndexMap<u32, Component>,
+    known: &'a Components,
     found: &mut Findings,
     base: Option<Reached<'a>>,
     suffixes: &[Suffix],
 ) -> Result<Option<Reached<'a>>, AllocError>
-    ensures part { IfOk result (λ reached. part_reached reached ≡ (along (map suffix_step suffixes.now) (parts_of known.now.entries) (part_reached base.entry)).part) }
-    ensures found { OnOk result (Adds (along (map suffix_step suffixes.now) (parts_of known.now.entries) (part_reached base.entry)) found.old found.new) }
+    ensures part { IfOk result (λ reached. part_reached reached ≡ (along (map suffix_step suffixes.now) known.now (part_reached base.entry)).part) }
+    ensures found { OnOk result (Adds (along (map suffix_step suffixes.now) known.now (part_reached base.entry)) found.old found.new) }
 {
     let mut reached = base;
     for suffix in suffixes {
@@ -140,13 +139,13 @@ fn walk_steps<'a>(
 #[cycle(judge)]
 fn take_step<'a>(
     alloc: Global,
-    known: &'a IndexMap<u32, Component>,
+    known: &'a Components,
     found: &mut Findings,
     base: Option<Reached<'a>>,
     suffix: &Suffix,
 ) -> Result<Option<Reached<'a>>, AllocError>
-    ensures part { IfOk result (λ reached. part_reached reached ≡ (suffix_step suffix.now (parts_of known.now.entries) (part_reached base.entry)).part) }
-    ensures found { OnOk result (Adds (suffix_step suffix.now (parts_of known.now.entries) (part_reached base.entry)) found.old found.new) }
+    ensures part { IfOk result (λ reached. part_reached reached ≡ (suffix_step suffix.now known.now (part_reached base.entry)).part) }
+    ensures found { OnOk result (Adds (suffix_step suffix.now known.now (part_reached base.entry)) found.old found.new) }
 {
     match suffix {
         Suffix::Field(name) => match base {
@@ -170,10 +169,10 @@ fn take_step<'a>(
 }
 
 /// The component of a name, where it is known.
-fn component(known: &IndexMap<u32, Component>, name: u32) -> Option<Reached<'_>>
-    ensures { part_reached result ≡ component (parts_of known.now.entries) name }
+fn component(known: &Components, name: u32) -> Option<Reached<'_>>
+    ensures { part_reached result ≡ component known.now name }
 {
-    match known.get(&name) {
+    match known.get(name) {
         Some(known) => Some(reached_at(known)),
         None => None,
     }
@@ -181,12 +180,12 @@ fn component(known: &IndexMap<u32, Component>, name: u32) -> Option<Reached<'_>>
 
 /// A component, with its index.
 fn reached_at(known: &Component) -> Reached<'_>
-    ensures { part_at result ≡ known.now.part }
+    ensures { part_at result ≡ part_in known.now }
 {
     Reached {
-        typ: &known.part.typ,
-        flow: known.part.flow,
-        index: known.index.as_ref(),
+        typ: &known.known.typ,
+        flow: known.flow,
+        index: known.known.index.as_ref(),
     }
 }
 

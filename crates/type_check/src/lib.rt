@@ -3,7 +3,6 @@
 #![tactic(auto)]
 
 mod checking;
-mod component;
 mod conditions;
 mod declarations;
 pub mod fault;
@@ -11,12 +10,12 @@ mod found;
 mod judge;
 pub mod laws;
 mod memory;
-mod modules;
 mod reached;
 mod rules;
 mod steps;
 mod texts;
 mod walk;
+mod whole;
 
 pub use checking::check;
 pub use fault::TypeFault;

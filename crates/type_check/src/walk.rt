@@ -4,24 +4,22 @@ ghost use Rattle.std.specs.Prelude.{◌≡◌, ◌++◌, [], map, OnOk};
 ghost use Rattle.type_check.specs.Statements.{module_walk, port_walk, stmt_walk, arm_walk, in_turn};
 ghost use Rattle.type_check.specs.Walks.{Walks};
 
-use crate::component::Component;
 use crate::conditions::{connect, expect_condition, invalidate};
 use crate::declarations::{
     declare_instance, declare_memory, declare_node, declare_port, declare_register,
     declare_reset_register, declare_wire,
 };
 use crate::found::Findings;
-use crate::modules::Modules;
 use fir_tree::{Arm, Module, Stmt};
 use fir_types::Port;
-use indexmap::IndexMap;
+use module_table::{Components, Modules};
 use std::alloc::{AllocError, Global};
 
 /// What a walk through a module has come to.
 #[derive(Drop)]
 pub struct Walk {
-    /// The components that are declared so far and have types, by the numbers of their names: of each name the first.
-    pub known: IndexMap<u32, Component>,
+    /// The components that are declared so far and have types.
+    pub known: Components,
     pub found: Findings,
 }
 
@@ -36,7 +34,7 @@ pub fn walk_module(
     ensures faults { OnOk result (found.new.faults.items ≡ found.old.faults.items ++ (module_walk modules.now.all.now holder.now []).faults) }
 {
     let mut walk = Walk {
-        known: IndexMap::new(alloc),
+        known: Components::new(alloc),
         found: Findings {
             types: Vec::new(alloc),
             faults: Vec::new(alloc),

@@ -22,7 +22,7 @@ use Rattle.width_fit.specs.declared.fault.WidthFault.TheVariants.{WidthUnknown, 
 use Rattle.width_fit.specs.declared.found.Findings.{Findings}
 use Rattle.width_fit.specs.declared.found.Surveyed.{Surveyed}
 use Rattle.width_fit.specs.declared.walk.Walk.{Walk}
-use Rattle.width_fit.specs.Filling.{filled}
+use Rattle.type_filling.specs.Filling.{filled}
 use Rattle.width_fit.specs.Judging.{Solved, survey, slot_width, is_over, is_unknown, where_, component_faults, condition_faults, asks, of_storage, of_memory, of_node}
 use Rattle.width_fit.specs.Surveys.{kept, condition_over, Adds}
 use Rattle.width_fit.specs.Walks.{Walks}

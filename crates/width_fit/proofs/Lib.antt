@@ -1,4 +1,3 @@
-mod Behind
 mod Declaring
 pub mod Filled
 mod Formulas
@@ -7,5 +6,6 @@ pub mod Measured
 mod FaultsTold
 mod Surveys
 mod Walking
+mod Parts
+mod Looking
 mod Whole
-pub mod Runs

@@ -29,7 +29,7 @@ use Rattle.width_rules.specs.Sources.{Known, Measured, named, component, measure
 use Rattle.width_fit.specs.declared.fault.WidthFault.{WidthFault}
 use Rattle.width_fit.specs.declared.found.Findings.{Findings}
 use Rattle.width_fit.specs.declared.found.Surveyed.{Surveyed}
-use Rattle.width_fit.specs.Filling.{filled}
+use Rattle.type_filling.specs.Filling.{filled}
 use Rattle.width_fit.specs.Judging.{Survey, survey, surveyed, suffix_step, widths_of, measured_literal, parameter_faults, choice_faults}
 use Rattle.width_fit.specs.Surveys.{kept, all_surveys, index_surveys, reference_survey, literal_survey, operation_survey, choice_survey, reference_kept, over_faults, parameters_over, first_condition, operated, chosen, kept_kind, kept_width, Adds, AddsAll, AddsBelow}
 use Rattle.width_fit.proofs.Formulas.{width-fixed, reference-widths, lone-kept, operated_is, chosen_is}

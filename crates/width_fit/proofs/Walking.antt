@@ -7,7 +7,7 @@ use Rattle.width_rules.specs.Sources.{Known, component_or_none, known_with}
 use Rattle.width_rules.specs.Circuits.{WithPorts}
 use Rattle.width_rules.specs.Walks.{AreInstances}
 use Rattle.width_fit.specs.declared.walk.Walk.{Walk}
-use Rattle.width_fit.specs.Filling.{filled}
+use Rattle.type_filling.specs.Filling.{filled}
 use Rattle.width_fit.specs.Judging.{Solved, Surveys, Findings, slot_width, declares, and_then, in_turn, of_stmt, of_arm, stmt_survey}
 use Rattle.width_fit.specs.Walks.{Walks, of_stmt_among, stmt_among}
 

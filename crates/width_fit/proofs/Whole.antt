@@ -1,53 +1,17 @@
 -- The walk through all modules.
-use Rattle.std.proofs.Common.{◌≡◌, ℕ, zero, suc, ◌+◌, ◌≤◌, min, Bool, false, List, [], ◌∷◌, ◌++◌, map, length, drop, get_or, refl, sym, ap, ap₂, ◌∙◌, arith, append-nil}
+use Rattle.std.proofs.Common.{◌≡◌, ℕ, ◌+◌, Bool, false, List, [], ◌∷◌, ◌++◌, map, length, drop, get_or, refl, ap, ap₂, ◌∙◌, append_assoc}
 use Rattle.std.specs.List.{flat_map}
 use Rattle.place_text.specs.declared.place.Place.{Place}
 use Rattle.prim_ops.specs.declared.widths.Width.{Width}
-use Rattle.fir_types.specs.declared.port.Port.{Port}
 use Rattle.fir_tree.specs.declared.scope.Checked.{Checked}
-use Rattle.width_rules.specs.declared.slot.Slot.{Slot}
 use Rattle.width_rules.specs.Sources.{Known}
 use Rattle.width_rules.specs.Circuits.{WithPorts, modules_from, all_open, known_ports, rules_in}
 use Rattle.width_rules.specs.Walks.{AreInstances}
 use Rattle.width_rules.proofs.Ports.{module_places, modules_open}
 use Rattle.width_fit.specs.Judging.{Solved, Findings, Told, in_turn, ports_declared, ports_faults, module_survey, told_from, told_of, where_reached}
-use Rattle.width_fit.specs.Walks.{module_among, told_among}
+use Rattle.width_fit.specs.declared.walk.Walk.{Walk}
+use Rattle.width_fit.specs.Walks.{Walks, WalksModule, stmt_among, module_among, told_among}
 use Rattle.width_fit.proofs.Walking.{same_walk}
-
--- the ports that have widths are all declared
-
-none_declared : (all : Solved) (ports : List Port) (widths : List (List Slot)) (n : ℕ) → min (length ports) (length widths) ≤ n → ports_declared all (drop n ports) (drop n widths) ≡ []
-none_declared all [] widths zero le = refl
-none_declared all [] widths (suc n) le = refl
-none_declared all (p ∷ ports) [] zero le = refl
-none_declared all (p ∷ ports) [] (suc n) le = without (drop n ports)
-  where
-    without : (ps : List Port) → ports_declared all ps [] ≡ []
-    without [] = refl
-    without (q ∷ ps) = refl
-none_declared all (p ∷ ports) (w ∷ widths) zero le = absurd (omega (arith, le))
-none_declared all (p ∷ ports) (w ∷ widths) (suc n) le = none_declared all ports widths n (omega (arith, le))
-
-none_faulty : (all : Solved) (ports : List Port) (widths : List (List Slot)) (n : ℕ) → min (length ports) (length widths) ≤ n → ports_faults all (drop n ports) (drop n widths) ≡ []
-none_faulty all [] widths zero le = refl
-none_faulty all [] widths (suc n) le = refl
-none_faulty all (p ∷ ports) [] zero le = refl
-none_faulty all (p ∷ ports) [] (suc n) le = without (drop n ports)
-  where
-    without : (ps : List Port) → ports_faults all ps [] ≡ []
-    without [] = refl
-    without (q ∷ ps) = refl
-none_faulty all (p ∷ ports) (w ∷ widths) zero le = absurd (omega (arith, le))
-none_faulty all (p ∷ ports) (w ∷ widths) (suc n) le = none_faulty all ports widths n (omega (arith, le))
-
-pub all_added : {X : Type 0} (old whole new left : List X) → old ++ whole ≡ new ++ left → left ≡ [] → new ≡ old ++ whole
-all_added old whole new left is none = sym (is ∙ ap (λ l. new ++ l) none ∙ append-nil new)
-
-pub all_declared : (all : Solved) (ports : List Port) (widths : List (List Slot)) (n : ℕ) → min (length ports) (length widths) ≤ n → ports_declared all (drop n ports) (drop n widths) ≡ []
-all_declared = none_declared
-
-pub all_told : (all : Solved) (ports : List Port) (widths : List (List Slot)) (n : ℕ) → min (length ports) (length widths) ≤ n → ports_faults all (drop n ports) (drop n widths) ≡ []
-all_told = none_faulty
 
 -- modules by the list of instances
 
@@ -85,3 +49,19 @@ told_is checked widths all with_ports instances places reached ms h ps is r =
 
 pub from_nothing : {X : Type 0} (old new told : List X) → old ≡ [] → new ≡ old ++ told → new ≡ told
 from_nothing old new told none is = is ∙ ap (λ l. l ++ told) none
+
+-- a module is walked: its ports, and then its body
+pub module_walks : (all : Solved) (instances : Known) (m : WithPorts) (a mid b : Walk) → mid.known.entries ≡ known_ports m.holder.ports m.ports [] → mid.places.items ≡ a.places.items
+    → mid.declared.items ≡ a.declared.items ++ ports_declared all m.holder.ports m.ports → mid.found.nodes.items ≡ a.found.nodes.items
+    → mid.found.faults.items ≡ a.found.faults.items ++ ports_faults all m.holder.ports m.ports → Walks (in_turn (map (stmt_among all instances) m.holder.body)) mid b
+    → WalksModule (module_among all instances m (length a.places.items)) (module_among all instances m (length a.places.items)).faults a b
+module_walks all instances m a mid b k p d n f w =
+    let walked = in_turn (map (stmt_among all instances) m.holder.body) in
+    let body = walked (known_ports m.holder.ports m.ports []) (length a.places.items) in
+    let same : walked mid.known.entries (length mid.places.items) ≡ body = ap₂ (λ known places. walked known (length places)) k p in
+    record {
+      count = w.count ∙ ap₂ (λ places (found : Findings). length places + found.count) p same;
+      declared = w.declared ∙ ap₂ (λ l (found : Findings). l ++ found.declared) d same ∙ append_assoc a.declared.items (ports_declared all m.holder.ports m.ports) body.declared;
+      nodes = w.nodes ∙ ap₂ (λ l (found : Findings). l ++ found.nodes) n same;
+      faults = w.faults ∙ ap₂ (λ l (found : Findings). l ++ found.faults) f same ∙ append_assoc a.found.faults.items (ports_faults all m.holder.ports m.ports) body.faults;
+    }

@@ -37,7 +37,7 @@ use Rattle.width_rules.specs.Circuits.{WithPorts, modules_from, all_open, rules_
 use Rattle.width_rules.specs.Circuits.{declares as storage}
 use Rattle.width_fit.specs.declared.fault.WidthFault.TheVariants.{WidthUnknown, WidthOver, ParameterRange, ConditionWidth}
 use Rattle.width_fit.specs.declared.fault.WidthFault.{WidthFault}
-use Rattle.width_fit.specs.Filling.{filled}
+use Rattle.type_filling.specs.Filling.{filled}
 
 -- What is known of all widths: those of the variables, and the rules.
 pub record Solved : Type 0 where

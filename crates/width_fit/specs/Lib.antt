@@ -1,12 +1,12 @@
 -- what a reader must believe
-pub mod Filling
 pub mod Judging
 pub mod Faults
 pub mod Fitting
+pub mod Written
 -- what the bodies keep, and what proofs need
-pub mod Layers
 pub mod Surveys
 pub mod Marks
 pub mod Walks
+pub mod Fits
+pub mod Held
 pub mod Ranks
-pub mod Runs

@@ -21,7 +21,7 @@ use Rattle.width_fit.specs.declared.fault.WidthFault.{WidthFault}
 use Rattle.width_fit.specs.declared.fault.WidthFault.TheVariants.{WidthOver, ParameterRange, ConditionWidth}
 use Rattle.width_fit.specs.declared.found.Findings.{Findings}
 use Rattle.width_fit.specs.declared.found.Surveyed.{Surveyed}
-use Rattle.width_fit.specs.Filling.{filled}
+use Rattle.type_filling.specs.Filling.{filled}
 use Rattle.width_fit.specs.Judging.{Survey, survey, surveyed, suffix_step, measured_literal, slot_width, widths_of, where_, is_over, fit_width, parameter_faults, choice_faults}
 
 -- what is kept of a survey

@@ -9,7 +9,7 @@ use Rattle.width_rules.specs.Circuits.{WithPorts, known_ports}
 use Rattle.width_fit.specs.declared.fault.WidthFault.{WidthFault}
 use Rattle.width_fit.specs.declared.given.Given.{Given}
 use Rattle.width_fit.specs.declared.walk.Walk.{Walk}
-use Rattle.width_fit.specs.Filling.{filled}
+use Rattle.type_filling.specs.Filling.{filled}
 use Rattle.width_fit.specs.Judging.{Solved, Surveys, Findings, Told, slot_width, declares, in_turn, of_stmt, of_arm, ports_declared, ports_faults, where_reached}
 
 -- what is known of all widths

@@ -37,7 +37,8 @@ pub fn push_over(
     push_where(faults, any_over(widths), WidthFault::WidthOver(place))
 }
 
-fn any_over(widths: &[Width]) -> bool
+/// Whether one of the widths is over the limit.
+pub fn any_over(widths: &[Width]) -> bool
     ensures { result ≡ list_any is_over widths.now }
 {
     for width in widths {

@@ -1,12 +1,12 @@
 //! What a survey has come to.
 
 use crate::fault::WidthFault;
-use crate::made::Made;
 use bit_words::List;
 use circuit_parts::Part;
 use fir_types::FirType;
 use place_text::Place;
 use prim_ops::Width;
+use type_filling::made::Made;
 
 /// The fitted types of expression nodes in text order, the faults, and the types at hand.
 #[derive(Drop)]

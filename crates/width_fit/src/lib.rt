@@ -4,13 +4,11 @@
 
 pub mod fault;
 mod faults;
-mod filling;
+mod fits;
 mod found;
 mod given;
 mod judging;
 pub mod laws;
-mod made;
-mod sharing;
 mod survey;
 mod telling;
 mod walk;

@@ -128,7 +128,7 @@ fn survey_reference(
 
 /// The indexes of a reference.
 #[cycle(survey)]
-fn survey_indexes(
+pub fn survey_indexes(
     alloc: Global,
     widths: &[Width],
     known: &IndexMap<u32, Indexed>,

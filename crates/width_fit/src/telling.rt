@@ -1,25 +1,30 @@
 //! The fitted types and the faults of a whole circuit.
 
 ghost use Rattle.std.specs.Prelude.{◌≡◌, ◌++◌, ◌∷◌, [], map, length, drop, get_or, false, IfOk, OnOk};
-ghost use Rattle.width_rules.specs.Circuits.{rules_in};
+ghost use Rattle.circuit_parts.specs.Parts.{part_of, port_flow};
+ghost use Rattle.width_rules.specs.Circuits.{rules_in, known_ports};
+ghost use Rattle.width_rules.specs.Sources.{known_with};
 ghost use Rattle.width_rules.specs.Walks.{ported};
-ghost use Rattle.width_fit.specs.Filling.{filled as filled_with};
+ghost use Rattle.type_filling.specs.Filling.{filled as filled_with};
 ghost use Rattle.width_fit.specs.Judging.{told_of, slot_width, component_faults, ports_declared, ports_faults, where_reached};
 ghost use Rattle.width_fit.specs.Walks.{solved, module_among, told_among, WalksModule, WalksAll};
+ghost use Rattle.width_fit.specs.Held.{HoldsFits};
 
-use crate::fault::WidthFault;
-use crate::filling::filled;
+use crate::fits::{declare, fit_of};
 use crate::found::Findings;
 use crate::given::Given;
-use crate::made::Made;
 use crate::walk::{Walk, push_component, walk_statements};
 use crate::widths::slot_widths;
 use bit_words::List;
+use circuit_parts::Part;
+use circuit_parts::steps::port_flow;
 use fir_tree::Checked;
-use fir_types::{FirType, Port};
+use fir_types::{FirType, Port, copy};
 use indexmap::IndexMap;
 use std::alloc::{AllocError, Global};
-use width_rules::gathering::{Ported, instances_of, note_ports, with_ports};
+use type_filling::filled;
+use type_filling::made::Made;
+use width_rules::gathering::{Ported, instances_of, with_ports};
 use width_rules::indexed::Indexed;
 use width_rules::slot::Slot;
 use width_rules::{Rules, Widths};
@@ -46,6 +51,7 @@ pub fn tell(
             faults: Vec::new(alloc),
             made: Made::new(alloc),
         },
+        fits: IndexMap::new(alloc),
     };
     let modules = with_ports(alloc, &mut walk.places, checked.circuit.modules.as_slice())?;
     let instances = instances_of(alloc, modules.as_slice())?;
@@ -113,41 +119,35 @@ fn walk_module(
 ) -> Result<(), AllocError>
     ensures { OnOk result (WalksModule (module_among (solved given.now) instances.now.entries (ported held.entry) (length walk.old.places.items)) (module_among (solved given.now) instances.now.entries (ported held.entry) (length walk.old.places.items)).faults walk.old walk.new) }
 {
-    let ports = held.holder.ports.as_slice();
-    declare_ports(
-        alloc,
-        given,
-        &mut walk.declared,
-        &mut walk.found.faults,
-        ports,
-        held.ports.as_slice(),
-    )?;
     walk.known = IndexMap::new(alloc);
-    note_ports(alloc, &mut walk.known, ports, held.ports)?;
+    walk.fits = IndexMap::new(alloc);
+    let ports = held.holder.ports.as_slice();
+    declare_ports(alloc, given, walk, ports, held.ports)?;
     walk_statements(alloc, given, instances, walk, held.holder.body.as_slice())
 }
 
-/// Adds the fitted types and the faults of ports with these widths.
+/// The ports of a module as components, with their fitted types and their faults.
 fn declare_ports(
     alloc: Global,
     given: &Given<'_>,
-    declared: &mut Vec<FirType>,
-    faults: &mut Vec<WidthFault>,
+    walk: &mut Walk,
     ports: &[Port],
-    widths: &[List<Slot>],
+    widths: List<List<Slot>>,
 ) -> Result<(), AllocError>
-    ensures declared { OnOk result (declared.new.items ≡ declared.old.items ++ ports_declared (solved given.now) ports.now widths.now) }
-    ensures faults { OnOk result (faults.new.items ≡ faults.old.items ++ ports_faults (solved given.now) ports.now widths.now) }
+    requires { HoldsFits given.now walk.old }
+    ensures known { OnOk result (walk.new.known.entries ≡ known_ports ports.now widths walk.old.known.entries) }
+    ensures places { OnOk result (walk.new.places.items ≡ walk.old.places.items) }
+    ensures declared { OnOk result (walk.new.declared.items ≡ walk.old.declared.items ++ ports_declared (solved given.now) ports.now widths) }
+    ensures nodes { OnOk result (walk.new.found.nodes.items ≡ walk.old.found.nodes.items) }
+    ensures faults { OnOk result (walk.new.found.faults.items ≡ walk.old.found.faults.items ++ ports_faults (solved given.now) ports.now widths) }
+    ensures fits { OnOk result (HoldsFits given.now walk.new) }
 {
-    for at in 0..ports.len().min(widths.len()) {
-        declare_port(
-            alloc,
-            given,
-            declared,
-            faults,
-            &ports[at],
-            widths[at].as_slice(),
-        )?;
+    let mut widths = widths.into_vec().into_iter();
+    for port in ports {
+        let Some(slots) = widths.next() else {
+            return Ok(());
+        };
+        declare_port(alloc, given, walk, port, slots)?;
     }
     Ok(())
 }
@@ -155,15 +155,39 @@ fn declare_ports(
 fn declare_port(
     alloc: Global,
     given: &Given<'_>,
-    declared: &mut Vec<FirType>,
-    faults: &mut Vec<WidthFault>,
+    walk: &mut Walk,
     port: &Port,
-    slots: &[Slot],
+    slots: List<Slot>,
 ) -> Result<(), AllocError>
-    ensures declared { OnOk result (declared.new.items ≡ declared.old.items ++ filled_with port.now.typ (map (slot_width given.now.widths.now) slots.now) ∷ []) }
-    ensures faults { OnOk result (faults.new.items ≡ faults.old.items ++ component_faults (solved given.now) port.now.name.place slots.now) }
+    requires { HoldsFits given.now walk.old }
+    ensures known { OnOk result (walk.new.known.entries ≡ known_with walk.old.known.entries port.now.name.id (record { part = part_of port.now.typ (port_flow port.now); slots = slots })) }
+    ensures places { OnOk result (walk.new.places.items ≡ walk.old.places.items) }
+    ensures declared { OnOk result (walk.new.declared.items ≡ walk.old.declared.items ++ filled_with port.now.typ (map (slot_width given.now.widths.now) slots) ∷ []) }
+    ensures nodes { OnOk result (walk.new.found.nodes.items ≡ walk.old.found.nodes.items) }
+    ensures faults { OnOk result (walk.new.found.faults.items ≡ walk.old.found.faults.items ++ component_faults (solved given.now) port.now.name.place slots) }
+    ensures fits { OnOk result (HoldsFits given.now walk.new) }
 {
-    let widths = slot_widths(alloc, given.widths, slots)?;
-    declared.push(filled(alloc, &port.typ, widths.as_slice())?)?;
-    push_component(faults, given, port.name.place, slots, widths.as_slice())
+    let widths = slot_widths(alloc, given.widths, slots.as_slice())?;
+    let fitted = filled(alloc, &port.typ, widths.as_slice())?;
+    let fit = fit_of(&fitted, &widths)?;
+    walk.declared.push(fitted)?;
+    push_component(
+        &mut walk.found.faults,
+        given,
+        port.name.place,
+        slots.as_slice(),
+        widths.as_slice(),
+    )?;
+    let part = Part {
+        typ: copy(&port.typ)?,
+        flow: port_flow(port),
+    };
+    let component = Indexed::new(alloc, part, slots)?;
+    declare(
+        &mut walk.known,
+        &mut walk.fits,
+        port.name.id,
+        component,
+        fit,
+    )
 }

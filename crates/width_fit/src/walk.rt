@@ -7,17 +7,19 @@ ghost use Rattle.width_rules.specs.Places.{spots, slots_from, open_spots};
 ghost use Rattle.width_rules.specs.Circuits.{places_for, memory_slots};
 ghost use Rattle.width_fit.specs.Judging.{in_turn, is_unknown, component_faults, slot_width, looks_at, asks, of_storage, of_memory, of_node};
 ghost use Rattle.width_fit.specs.Walks.{Walks, solved, of_instance_among, stmt_among, arm_among};
+ghost use Rattle.width_fit.specs.Held.{HoldsFits};
 
 use crate::fault::WidthFault;
 use crate::faults::{push_condition, push_over, push_where};
+use crate::fits::{Fit, declare, fit_of, part_of};
 use crate::found::Findings;
 use crate::given::Given;
-use crate::survey::survey_expr;
+use crate::survey::{survey_expr, survey_indexes};
 use crate::widths::slot_widths;
 use bit_words::List;
 use circuit_parts::steps::{no_part, source};
-use fir_tree::{Arm, Expr, Stmt};
-use fir_types::{FirType, Memory, Name, element_of, memory_type};
+use fir_tree::{Arm, Expr, Form, Stmt};
+use fir_types::{FirType, Memory, Name, copy, element_of, memory_type};
 use indexmap::IndexMap;
 use place_text::Place;
 use prim_ops::Width;
@@ -27,13 +29,15 @@ use width_rules::measuring::{look_up, no_component};
 use width_rules::memories::port_slots;
 use width_rules::sizes::variables;
 use width_rules::slot::Slot;
-use width_rules::walk::{duplex, note, slots_of_type};
+use width_rules::walk::{duplex, slots_of_type};
 
 /// What a walk has come to.
 #[derive(Drop)]
 pub struct Walk {
     /// The components of the module that are declared so far, by the numbers of their names.
     pub known: IndexMap<u32, Indexed>,
+    /// The fitted types of these components, where they have one.
+    pub fits: IndexMap<u32, Fit>,
     /// For each variable so far the place of its component.
     pub places: Vec<Place>,
     /// The fitted types of declarations in text order.
@@ -50,7 +54,9 @@ pub fn walk_statements(
     walk: &mut Walk,
     statements: &[Stmt],
 ) -> Result<(), AllocError>
-    ensures { OnOk result (Walks (in_turn (map (stmt_among (solved given.now) instances.now.entries) statements.now)) walk.old walk.new) }
+    requires { HoldsFits given.now walk.old }
+    ensures walks { OnOk result (Walks (in_turn (map (stmt_among (solved given.now) instances.now.entries) statements.now)) walk.old walk.new) }
+    ensures fits { OnOk result (HoldsFits given.now walk.new) }
 {
     for statement in statements {
         walk_statement(alloc, given, instances, walk, statement)?;
@@ -66,7 +72,9 @@ fn walk_statement(
     walk: &mut Walk,
     statement: &Stmt,
 ) -> Result<(), AllocError>
-    ensures { OnOk result (Walks (stmt_among (solved given.now) instances.now.entries statement.now) walk.old walk.new) }
+    requires { HoldsFits given.now walk.old }
+    ensures walks { OnOk result (Walks (stmt_among (solved given.now) instances.now.entries statement.now) walk.old walk.new) }
+    ensures fits { OnOk result (HoldsFits given.now walk.new) }
 {
     match statement {
         Stmt::Wire(name, typ) => declare_storage(alloc, given, walk, *name, typ),
@@ -106,7 +114,9 @@ fn walk_arms(
     walk: &mut Walk,
     arms: &[Arm],
 ) -> Result<(), AllocError>
-    ensures { OnOk result (Walks (in_turn (map (arm_among (solved given.now) instances.now.entries) arms.now)) walk.old walk.new) }
+    requires { HoldsFits given.now walk.old }
+    ensures walks { OnOk result (Walks (in_turn (map (arm_among (solved given.now) instances.now.entries) arms.now)) walk.old walk.new) }
+    ensures fits { OnOk result (HoldsFits given.now walk.new) }
 {
     for arm in arms {
         walk_arm(alloc, given, instances, walk, arm)?;
@@ -122,23 +132,39 @@ fn walk_arm(
     walk: &mut Walk,
     arm: &Arm,
 ) -> Result<(), AllocError>
-    ensures { OnOk result (Walks (arm_among (solved given.now) instances.now.entries arm.now) walk.old walk.new) }
+    requires { HoldsFits given.now walk.old }
+    ensures walks { OnOk result (Walks (arm_among (solved given.now) instances.now.entries arm.now) walk.old walk.new) }
+    ensures fits { OnOk result (HoldsFits given.now walk.new) }
 {
     ask(alloc, given, walk, &arm.condition)?;
     walk_statements(alloc, given, instances, walk, arm.body.as_slice())
 }
 
-/// An expression.
+/// An expression whose widths nobody asks for. The fitted type of a reference is a share of its component's, in time that its
+/// fields don't count for.
 fn look_at(alloc: Global, given: &Given<'_>, walk: &mut Walk, expr: &Expr) -> Result<(), AllocError>
-    ensures { OnOk result (Walks (looks_at given.now.widths.now expr.now) walk.old walk.new) }
+    requires { HoldsFits given.now walk.old }
+    ensures walks { OnOk result (Walks (looks_at given.now.widths.now expr.now) walk.old walk.new) }
+    ensures fits { OnOk result (HoldsFits given.now walk.new) }
 {
+    if let Form::Ref(name, suffixes) = &expr.form {
+        let suffixes = suffixes.as_slice();
+        if let Some((typ, is_over)) = part_of(&walk.known, &walk.fits, name.id, suffixes) {
+            walk.found.nodes.push(copy(typ)?)?;
+            survey_indexes(alloc, given.widths, &walk.known, &mut walk.found, suffixes)?;
+            let over = WidthFault::WidthOver(expr.place);
+            return push_where(&mut walk.found.faults, is_over, over);
+        }
+    }
     survey_expr(alloc, given.widths, &walk.known, &mut walk.found, expr)?;
     Ok(())
 }
 
 /// A condition or a reset, which has at most one bit.
 fn ask(alloc: Global, given: &Given<'_>, walk: &mut Walk, expr: &Expr) -> Result<(), AllocError>
-    ensures { OnOk result (Walks (asks given.now.widths.now expr.now) walk.old walk.new) }
+    requires { HoldsFits given.now walk.old }
+    ensures walks { OnOk result (Walks (asks given.now.widths.now expr.now) walk.old walk.new) }
+    ensures fits { OnOk result (HoldsFits given.now walk.new) }
 {
     let surveyed = survey_expr(alloc, given.widths, &walk.known, &mut walk.found, expr)?;
     push_condition(
@@ -156,11 +182,14 @@ fn declare_storage(
     name: Name,
     typ: &FirType,
 ) -> Result<(), AllocError>
-    ensures { OnOk result (Walks (of_storage (solved given.now) name typ.now) walk.old walk.new) }
+    requires { HoldsFits given.now walk.old }
+    ensures walks { OnOk result (Walks (of_storage (solved given.now) name typ.now) walk.old walk.new) }
+    ensures fits { OnOk result (HoldsFits given.now walk.new) }
 {
     let slots = slots_of_type(alloc, &mut walk.places, name.place, typ)?;
     let widths = slot_widths(alloc, given.widths, slots.as_slice())?;
     let fitted = walk.found.made.fit(alloc, typ, widths.as_slice())?;
+    let fit = fit_of(&fitted, &widths)?;
     walk.declared.push(fitted)?;
     push_component(
         &mut walk.found.faults,
@@ -171,7 +200,7 @@ fn declare_storage(
     )?;
     let part = duplex(alloc, typ)?;
     let component = Indexed::new(alloc, part, slots)?;
-    note(&mut walk.known, name.id, component)
+    declare(&mut walk.known, &mut walk.fits, name.id, component, fit)
 }
 
 /// A memory, whose ports share the widths of its elements.
@@ -181,7 +210,9 @@ fn declare_memory(
     walk: &mut Walk,
     memory: &Memory,
 ) -> Result<(), AllocError>
-    ensures { OnOk result (Walks (of_memory (solved given.now) memory.now) walk.old walk.new) }
+    requires { HoldsFits given.now walk.old }
+    ensures walks { OnOk result (Walks (of_memory (solved given.now) memory.now) walk.old walk.new) }
+    ensures fits { OnOk result (HoldsFits given.now walk.new) }
 {
     let (element, slots) = memory_slots(alloc, &mut walk.places, memory)?;
     let widths = slot_widths(alloc, given.widths, element.as_slice())?;
@@ -196,10 +227,12 @@ fn declare_memory(
     let typ = memory_type(alloc, memory)?;
     let widths = slot_widths(alloc, given.widths, slots.as_slice())?;
     let fitted = walk.found.made.fit_memory(alloc, &typ, widths.as_slice())?;
+    let fit = fit_of(&fitted, &widths)?;
     walk.declared.push(fitted)?;
     let part = source(typ);
     let component = Indexed::new(alloc, part, slots)?;
-    note(&mut walk.known, memory.name.id, component)
+    let name = memory.name.id;
+    declare(&mut walk.known, &mut walk.fits, name, component, fit)
 }
 
 /// The widths of a memory's elements, and those of all its ports.
@@ -229,15 +262,18 @@ fn declare_instance(
     name: Name,
     target: Name,
 ) -> Result<(), AllocError>
-    ensures { OnOk result (Walks (of_instance_among (solved given.now) instances.now.entries name target) walk.old walk.new) }
+    requires { HoldsFits given.now walk.old }
+    ensures walks { OnOk result (Walks (of_instance_among (solved given.now) instances.now.entries name target) walk.old walk.new) }
+    ensures fits { OnOk result (HoldsFits given.now walk.new) }
 {
     let nothing = no_component(alloc)?;
     let instance = look_up(instances, target.id, &nothing).share()?;
     let widths = slot_widths(alloc, given.widths, instance.get().slots.as_slice())?;
     let typ = &instance.get().part.typ;
     let fitted = walk.found.made.fit(alloc, typ, widths.as_slice())?;
+    let fit = fit_of(&fitted, &widths)?;
     walk.declared.push(fitted)?;
-    note(&mut walk.known, name.id, instance)
+    declare(&mut walk.known, &mut walk.fits, name.id, instance, fit)
 }
 
 /// A node, whose places all have variables.
@@ -248,12 +284,15 @@ fn declare_node(
     name: Name,
     expr: &Expr,
 ) -> Result<(), AllocError>
-    ensures { OnOk result (Walks (of_node (solved given.now) name expr.now) walk.old walk.new) }
+    requires { HoldsFits given.now walk.old }
+    ensures walks { OnOk result (Walks (of_node (solved given.now) name expr.now) walk.old walk.new) }
+    ensures fits { OnOk result (HoldsFits given.now walk.new) }
 {
     let part = survey_expr(alloc, given.widths, &walk.known, &mut walk.found, expr)?.part;
     let slots = variables(alloc, &mut walk.places, name.place, &part.typ)?;
     let widths = slot_widths(alloc, given.widths, slots.as_slice())?;
     let fitted = walk.found.made.fit(alloc, &part.typ, widths.as_slice())?;
+    let fit = fit_of(&fitted, &widths)?;
     walk.declared.push(fitted)?;
     push_component(
         &mut walk.found.faults,
@@ -264,7 +303,7 @@ fn declare_node(
     )?;
     let part = source(part.typ);
     let component = Indexed::new(alloc, part, slots)?;
-    note(&mut walk.known, name.id, component)
+    declare(&mut walk.known, &mut walk.fits, name.id, component, fit)
 }
 
 /// Adds the faults of a component at this place, whose widths these are.

@@ -9,6 +9,7 @@ use Rattle.prim_ops.specs.declared.operation.PrimOp.{PrimOp}
 use Rattle.fir_types.specs.declared.fir_type.FirType.{the_lemmas as the_type_lemmas}
 use Rattle.fir_types.specs.declared.fir_type.Shape.TheVariants as shape
 use Rattle.fir_types.specs.declared.fir_type.Field.{Field}
+use Rattle.fir_types.specs.declared.name.Name.{Name}
 use Rattle.fir_tree.specs.declared.expr.Expr.{Expr, the_lemmas}
 use Rattle.fir_tree.specs.declared.expr.Suffix.{Suffix}
 use Rattle.fir_tree.specs.declared.expr.Form.TheVariants as form
@@ -18,8 +19,11 @@ use Rattle.width_rules.specs.declared.slot.Slot.{Slot}
 use Rattle.width_rules.specs.declared.rule.Formula.{Formula}
 use Rattle.width_rules.specs.Places.{field_slots}
 use Rattle.width_rules.specs.declared.component.Component.{Component}
-use Rattle.width_rules.specs.Sources.{Known, Measured, measured, suffix_step, field_step, named, kind_of, lone, operation, choice, greater_of}
+use Rattle.width_rules.specs.Sources.{Known, Measured, measured, measured_reference, component, suffix_step, field_step, named, kind_of, lone, operation, choice, greater_of}
 use Rattle.width_rules.specs.Parts.{operation_over}
+
+pub measured-ref : (e : Expr) (name : Name) (suffixes : List Suffix) (known : Known) → e.form ≡ form.Ref name suffixes → measured e known ≡ measured_reference (named (map suffix_step suffixes) (component known name.id))
+measured-ref e name suffixes known h = grind (arith, common_steps, the_lemmas)
 
 measured-operation : (e : Expr) (op : PrimOp) (operands : List Expr) (params : List ℕ) (known : Known) → e.form ≡ form.Prim op operands params
     → measured e known ≡ operation op e.place (map (λ x. measured x known) operands) params

@@ -13,5 +13,6 @@ pub mod Ports
 pub mod Rows
 pub mod Ruled
 pub mod Spots
+pub mod Targets
 pub mod Walking
 pub mod Whole

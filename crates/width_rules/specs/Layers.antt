@@ -1,8 +1,8 @@
--- What the places of a type are by the fields of bundles, and the walk over two lists of formulas by the flips alone.
-use Rattle.std.specs.Prelude.{◌≡◌, ℕ, ◌++◌, Bool, not, if◌then◌else◌, List, [], ◌∷◌, map, length}
+-- The widths of places by the fields of bundles, and the walk over two lists of formulas by the flips alone.
+use Rattle.std.specs.Prelude.{◌≡◌, ℕ, ◌++◌, Bool, List, [], ◌∷◌, map, length}
 use Rattle.place_text.specs.declared.place.Place.{Place}
 use Rattle.fir_types.specs.declared.fir_type.FirType.{FirType}
-use Rattle.fir_types.specs.declared.fir_type.Field.{Field, fold-Field}
+use Rattle.fir_types.specs.declared.fir_type.Field.{Field}
 use Rattle.fir_types.specs.declared.memory.MemLine.{MemLine}
 use Rattle.fir_types.specs.declared.memory.MemLine.TheVariants as line
 use Rattle.fir_types.specs.declared.memory.PortMode.{PortMode}
@@ -10,27 +10,13 @@ use Rattle.fir_types.specs.declared.memory.PortMode.TheVariants as mode
 use Rattle.fir_types.specs.Bundles.{mask_of, mask_of_field, address_bits}
 use Rattle.circuit_parts.specs.declared.part.Flow.{Flow}
 use Rattle.circuit_parts.specs.Parts.{flow_through}
+pub use Rattle.width_spots.specs.Spots.{field_spots, field_size, flip_of, flips_under}
 use Rattle.width_rules.specs.declared.slot.Slot.{Slot}
 use Rattle.width_rules.specs.declared.slot.Slot.TheVariants as slot
 use Rattle.width_rules.specs.declared.rule.Formula.{Formula}
 use Rattle.width_rules.specs.declared.rule.Rule.{Rule}
-use Rattle.width_rules.specs.Places.{Spot, spots, of_shape, of_field, slots_from, open_spots}
+use Rattle.width_rules.specs.Places.{Spot, spots, slots_from, open_spots}
 use Rattle.width_rules.specs.Circuits.{driven, zeroed, places_for}
-
--- the places of a field, turned round where the field is flipped
-abbrev pub field_spots : Field → List Spot
-field_spots = fold-Field (List Spot) (List Spot) (List Spot) of_shape of_field (λ t. t.shape)
-
--- how many places a field has
-abbrev pub field_size : Field → ℕ
-field_size field = length (field_spots field)
-
--- whether a place is flipped, under a flip or not
-abbrev pub flip_of : Bool → Spot → Bool
-flip_of flip spot = if flip then not spot.flip else spot.flip
-
-abbrev pub flips_under : Bool → FirType → List Bool
-flips_under flip typ = map (flip_of flip) (spots typ)
 
 -- the width of a mask's place
 abbrev pub one_bit : Spot → Slot

@@ -7,5 +7,6 @@ pub mod Solutions
 -- what the bodies keep, and what proofs need
 pub mod Layers
 pub mod Parts
+pub mod Targets
 pub mod Walks
 pub mod Indexes

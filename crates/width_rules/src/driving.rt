@@ -8,13 +8,14 @@ ghost use Rattle.width_rules.specs.Layers.{connected_by, invalidated_by};
 
 use crate::measuring::formula_of;
 use crate::rule::{Formula, Rule};
-use crate::sizes::flips_of;
+use crate::sizes::MOST_RULES;
 use crate::slot::Slot;
 use bit_words::List;
 use circuit_parts::Flow;
 use circuit_parts::steps::through;
 use fir_types::FirType;
 use std::alloc::{AllocError, Global};
+use width_spots::flips_of;
 
 /// Adds the rules of a connect, whose left side has this type.
 pub fn push_connected(
@@ -68,11 +69,14 @@ fn push_driven(
     }
 }
 
-/// Adds the rule that a place is at least a formula, where the place has a variable.
+/// Adds the rule that a place is at least a formula, where the place has a variable. Too many rules are a want of memory.
 fn push_at_least(rules: &mut Vec<Rule>, place: Formula, source: Formula) -> Result<(), AllocError>
     ensures { OnOk result (rules.new.items ≡ rules.old.items ++ at_least place source) }
 {
     if let Formula::Var(target) = place {
+        if rules.len() >= MOST_RULES {
+            return Err(AllocError);
+        }
         rules.push(Rule {
             target,
             formula: source,

@@ -2,9 +2,9 @@
 
 ghost use Rattle.std.specs.Prelude.{◌≡◌, map, IfOk, IfSome};
 ghost use Rattle.width_rules.specs.Indexes.{Indexes, IsPlaceIn, weight};
+ghost use Rattle.width_rules.specs.Targets.{has_variable};
 
 use crate::component::Component;
-use crate::sizes::size;
 use crate::slot::Slot;
 use bit_words::{List, Shared};
 use circuit_parts::Part;
@@ -12,19 +12,22 @@ use field_index::{FieldIndex, FieldPlace};
 use fir_types::{Field, FirType, Shape, copy};
 use std::alloc::{AllocError, Global};
 use std::marker::Model;
+use width_spots::size;
 
 /// The number of fields from which on an index is made.
 const MANY: usize = 8;
 
-/// A component, with an index of its fields where they are many. Contracts see the component.
+/// A component, with an index of its fields where they are many, and whether a place has a variable. Contracts see the
+/// component.
 #[derive(Drop)]
 pub struct Indexed {
     component: Component,
     index: Option<Shared<FieldIndex>>,
+    varies: bool,
 }
 
 impl Model for Indexed {
-    ghost use Rattle.std.specs.Prelude.{IfSome};
+    ghost use Rattle.std.specs.Prelude.{◌≡◌, IfSome};
     ghost use Rattle.width_rules.specs.declared.component.Component.{Component as Value_of};
     ghost use Rattle.width_rules.specs.contracts.component.Component.{the_row};
 
@@ -33,10 +36,11 @@ impl Model for Indexed {
     ghost coded = { the_row.coded };
 
     ghost use Rattle.width_rules.specs.Indexes.{Indexes};
+    ghost use Rattle.width_rules.specs.Targets.{has_variable};
 
     ghost view = { λ a. a.component };
 
-    ghost invariant = { λ a. IfSome a.index (Indexes a.component.part.typ) };
+    ghost invariant = { λ a. IfSome a.index (Indexes a.component.part.typ) × (a.varies ≡ has_variable a.component.slots) };
 }
 
 impl Indexed {
@@ -45,10 +49,12 @@ impl Indexed {
         ensures { IfOk result (λ indexed. indexed ≡ record { part = part; slots = slots }) }
     {
         let index = index_of(alloc, &part.typ)?;
+        let varies = has_variable(slots.as_slice());
         let slots = Shared::new(alloc, slots)?;
         Ok(Indexed {
             component: Component { part, slots },
             index,
+            varies,
         })
     }
 
@@ -57,6 +63,13 @@ impl Indexed {
         ensures { result.now ≡ self.now }
     {
         &self.component
+    }
+
+    /// Whether a place has a variable. Takes constant time.
+    pub fn is_open(&self) -> bool
+        ensures { result ≡ has_variable self.now.slots }
+    {
+        self.varies
     }
 
     /// The same component once more. Takes no memory.
@@ -70,16 +83,15 @@ impl Indexed {
             },
             slots: self.component.slots.share()?,
         };
-        match &self.index {
-            Some(index) => Ok(Indexed {
-                component,
-                index: Some(index.share()?),
-            }),
-            None => Ok(Indexed {
-                component,
-                index: None,
-            }),
-        }
+        let index = match &self.index {
+            Some(index) => Some(index.share()?),
+            None => None,
+        };
+        Ok(Indexed {
+            component,
+            index,
+            varies: self.varies,
+        })
     }
 
     /// The place of the first field of a name, if there is an index that has one. Takes constant time.
@@ -91,6 +103,12 @@ impl Indexed {
             None => None,
         }
     }
+}
+
+fn has_variable(slots: &[Slot]) -> bool
+    ensures { result ≡ has_variable slots.now }
+{
+    slots.iter().any(|slot| matches!(slot, Slot::Var(_)))
 }
 
 fn index_of(alloc: Global, typ: &FirType) -> Result<Option<Shared<FieldIndex>>, AllocError>

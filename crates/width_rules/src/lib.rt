@@ -8,7 +8,6 @@ pub mod component;
 mod driving;
 pub mod gathering;
 pub mod indexed;
-pub mod laws;
 pub mod measuring;
 pub mod memories;
 pub mod rule;

@@ -1,12 +1,13 @@
 //! The widths of expressions.
 
-ghost use Rattle.std.specs.Prelude.{◌≡◌, ◌++◌, ◌∷◌, [], map, zip, None, OnOk, IfOk};
+ghost use Rattle.std.specs.Prelude.{◌≡◌, ◌++◌, ◌∷◌, [], map, zip, false, None, OnOk, IfOk};
 ghost use Rattle.bit_words.specs.Numbers.{integer_of_number};
 ghost use Rattle.prim_ops.specs.Kinds.{row_kind};
 ghost use Rattle.circuit_parts.specs.Parts.{source_of};
 ghost use Rattle.circuit_parts.specs.Kinds.{sign_of, ground, sign_or_unsigned};
 ghost use Rattle.width_rules.specs.Sources.{component, component_or_none, named, measured, measured_reference, suffix_step, formula_of, literal_width, lone, kind_of, greater_of, choice};
 ghost use Rattle.width_rules.specs.Parts.{measured_by, operation_over};
+ghost use Rattle.width_rules.specs.Targets.{has_variable, has_target};
 
 use crate::indexed::Indexed;
 use crate::rule::Formula;
@@ -148,6 +149,27 @@ fn reference(
     })
 }
 
+/// Whether a width of the expression may be a variable, as only a reference's can. Takes constant time.
+pub fn may_have_target(known: &IndexMap<u32, Indexed>, expr: &Expr) -> bool
+    ensures { result ≡ false → has_target (measured expr.now known.now.entries).formulas ≡ false }
+{
+    match &expr.form {
+        Form::Ref(name, _) => varies(known, name.id),
+        Form::Literal(_, _, _) => false,
+        Form::Prim(_, _, _) => false,
+        Form::Mux(_) => false,
+    }
+}
+
+fn varies(known: &IndexMap<u32, Indexed>, name: u32) -> bool
+    ensures { result ≡ has_variable (component known.now.entries name).slots }
+{
+    match known.get(&name) {
+        Some(component) => component.is_open(),
+        None => false,
+    }
+}
+
 /// The component of a name, or the other one.
 pub fn look_up<'a>(
     known: &'a IndexMap<u32, Indexed>,
@@ -174,11 +196,11 @@ pub fn no_component(alloc: Global) -> Result<Indexed, AllocError>
 pub fn formulas_of(alloc: Global, slots: &[Slot]) -> Result<List<Formula>, AllocError>
     ensures { IfOk result (λ formulas. formulas ≡ map formula_of slots.now) }
 {
-    let mut formulas = List::new(alloc);
+    let mut formulas = Vec::with_capacity(alloc, slots.len())?;
     for slot in slots {
         formulas.push(formula_of(*slot))?;
     }
-    Ok(formulas)
+    Ok(List::from_vec(formulas))
 }
 
 pub fn formula_of(slot: Slot) -> Formula

@@ -1,11 +1,8 @@
-//! The places of types.
+//! The widths of the places of types.
 
-ghost use Rattle.std.specs.Prelude.{◌≡◌, ◌++◌, ◌∷◌, [], ◌-◌, ◌^◌, ℕ, min, map, flat_map, sum, length, false, OnOk, IfOk};
-ghost use Rattle.std.specs.Prelude.{◌≤◌};
-ghost use Rattle.fir_types.specs.declared.fir_type.FirType.{FirType as AType, size-FirType};
-ghost use Rattle.fir_types.specs.declared.fir_type.Shape.TheVariants as shape;
+ghost use Rattle.std.specs.Prelude.{◌≡◌, ◌++◌, ◌∷◌, [], flat_map, length, OnOk, IfOk};
 ghost use Rattle.width_rules.specs.Places.{spots, size, one_spot, node_slots};
-ghost use Rattle.width_rules.specs.Layers.{field_spots, field_size, flip_of, flips_under, one_bit, mask_widths, mask_field_widths, Adds};
+ghost use Rattle.width_rules.specs.Layers.{field_spots, mask_widths, mask_field_widths, Adds};
 ghost use Rattle.width_rules.specs.Circuits.{places_for};
 
 use crate::slot::Slot;
@@ -13,48 +10,13 @@ use bit_words::List;
 use fir_types::{Field, FirType, Shape};
 use place_text::Place;
 use std::alloc::{AllocError, Global};
+use width_spots::{inside_lengths, size};
 
-/// The most places with variables that a circuit may have: so many take 8 GB, and more are a want of memory.
+/// The most places with variables that a circuit may have, and the most rules. So many of either take some 8 GB, and more are
+/// a want of memory.
 const MOST_PLACES: usize = 50_000_000;
 
-/// What stands inside a type's vector lengths, which has the same places.
-fn inside_lengths(typ: &FirType) -> &FirType
-    ensures places { spots result.now ≡ spots typ.now }
-    ensures masks { mask_widths result.now ≡ mask_widths typ.now }
-    ensures falls { size-FirType result.now ≤ size-FirType typ.now }
-    ensures flat { (element : AType) (length : ℕ) → result.now.shape ≡ shape.Vector element length → ⊥ }
-{
-    let mut inside = typ;
-    while let Shape::Vector(element, _) = &inside.shape {
-        inside = element.get();
-    }
-    inside
-}
-
-/// The number of places that have widths, or 2^64 - 1 where there are more. Takes no memory.
-#[cycle(size)]
-pub fn size(typ: &FirType) -> usize
-    ensures { result ≡ min (size typ.now) (2 ^ 64 - 1) }
-{
-    let inside = inside_lengths(typ);
-    match &inside.shape {
-        Shape::Unsigned(_) | Shape::Signed(_) | Shape::Reset => 1,
-        Shape::Clock => 0,
-        Shape::Bundle(fields) => sizes(fields.as_slice()),
-        Shape::Vector(_, _) => unreachable!(),
-    }
-}
-
-#[cycle(size)]
-fn sizes(fields: &[Field]) -> usize
-    ensures { result ≡ min (sum (map field_size fields.now)) (2 ^ 64 - 1) }
-{
-    let mut total: usize = 0;
-    for field in fields {
-        total = total.saturating_add(size(&field.typ));
-    }
-    total
-}
+pub const MOST_RULES: usize = 50_000_000;
 
 /// Adds the widths of a type's places. Each variable has the next number and this place.
 #[cycle(slots)]
@@ -141,41 +103,6 @@ pub fn variables(
         push_variable(&mut slots, places, place)?;
     }
     Ok(slots)
-}
-
-/// Whether each place is flipped.
-pub fn flips_of(alloc: Global, typ: &FirType) -> Result<Vec<bool>, AllocError>
-    ensures { IfOk result (λ flips. flips.items ≡ flips_under false typ.now) }
-{
-    let mut flips = Vec::new(alloc);
-    push_flips(&mut flips, false, typ)?;
-    Ok(flips)
-}
-
-#[cycle(flips)]
-fn push_flips(flips: &mut Vec<bool>, flip: bool, typ: &FirType) -> Result<(), AllocError>
-    ensures { OnOk result (flips.new.items ≡ flips.old.items ++ flips_under flip typ.now) }
-{
-    let inside = inside_lengths(typ);
-    match &inside.shape {
-        Shape::Unsigned(_) | Shape::Signed(_) | Shape::Reset => {
-            flips.push(flip)?;
-            Ok(())
-        }
-        Shape::Clock => Ok(()),
-        Shape::Bundle(fields) => push_field_flips(flips, flip, fields.as_slice()),
-        Shape::Vector(_, _) => unreachable!(),
-    }
-}
-
-#[cycle(flips)]
-fn push_field_flips(flips: &mut Vec<bool>, flip: bool, fields: &[Field]) -> Result<(), AllocError>
-    ensures { OnOk result (flips.new.items ≡ flips.old.items ++ map (flip_of flip) (flat_map field_spots fields.now)) }
-{
-    for field in fields {
-        push_flips(flips, flip != field.flip, &field.typ)?;
-    }
-    Ok(())
 }
 
 /// Adds the widths of a mask of this type, which are all 1.

@@ -8,12 +8,12 @@ ghost use Rattle.width_rules.specs.Parts.{viewed};
 
 use crate::component::Component;
 use crate::indexed::Indexed;
-use crate::sizes::size;
 use crate::slot::Slot;
 use circuit_parts::Flow;
 use circuit_parts::steps::through;
 use fir_tree::Suffix;
 use fir_types::{Field, FirType, Shape, field_of};
+use width_spots::size;
 
 /// A part of a component, where it stands.
 #[derive(Clone, Copy)]

@@ -11,7 +11,9 @@ ghost use Rattle.width_rules.specs.Walks.{Walks, memory_component, declares_comp
 
 use crate::driving::{push_connected, push_invalidated, push_node};
 use crate::indexed::Indexed;
-use crate::measuring::{Measure, formulas_of, look_up, measure_expr, no_component};
+use crate::measuring::{
+    Measure, formulas_of, look_up, may_have_target, measure_expr, no_component,
+};
 use crate::memories::port_slots;
 use crate::rule::Rule;
 use crate::sizes::{push_slots, variables};
@@ -193,9 +195,13 @@ fn declare_node(alloc: Global, found: &mut Found, name: Name, expr: &Expr) -> Re
     note(&mut found.known, name.id, component)
 }
 
+/// A connect, which gives no rule where no side has a variable.
 fn connect(alloc: Global, found: &mut Found, left: &Expr, right: &Expr) -> Result<(), AllocError>
     ensures { OnOk result (Walks (connects left.now right.now) found.old found.new) }
 {
+    if !may_have_target(&found.known, left) && !may_have_target(&found.known, right) {
+        return Ok(());
+    }
     let Measure {
         part,
         formulas: lefts,
@@ -210,6 +216,9 @@ fn connect(alloc: Global, found: &mut Found, left: &Expr, right: &Expr) -> Resul
 fn invalidate(alloc: Global, found: &mut Found, target: &Expr) -> Result<(), AllocError>
     ensures { OnOk result (Walks (invalidates target.now) found.old found.new) }
 {
+    if !may_have_target(&found.known, target) {
+        return Ok(());
+    }
     let Measure { part, formulas } = measure_expr(alloc, &found.known, target)?;
     push_invalidated(alloc, &mut found.rules, part.flow, &part.typ, formulas)
 }

@@ -2,9 +2,9 @@ use Rattle.std.proofs.Common.{ℕ, ◌+◌, ◌-◌, refl, ap, arith}
 use Rattle.std.proofs.lemmas.Result.{err_from_is_err_and}
 use Rattle.fir_grammar.specs.Reading.{no_memory}
 use Rattle.fir_expr.proofs.Bracketed.{opener_call, stands_opened, stands_indexed}
-use Rattle.fir_expr.proofs.Depth.{whole_stands}
+use Rattle.token_reader.proofs.Depth.{whole_stands}
 use Rattle.fir_expr.proofs.Passing.{room_step, room_name}
-use Rattle.fir_expr.proofs.Sources.{source_part}
+use Rattle.token_reader.proofs.Sources.{source_part}
 use Rattle.fir_expr.proofs.OperandsRead.{component_here, component_read, component_refused, operands_none, operands_no_operand, operands_refused, operands_more, mux_no_call, mux_no_operand, mux_not_closed, mux_read, operation_no_call, operation_no_operand, operation_no_number, operation_not_closed, operation_read, reference_no_name, name_begins, reference_refused, reference_read, suffixes_none, index_no_mark, index_refused, index_not_closed, index_stepped}
 use Rattle.prim_ops.specs.Operations.{name_of}
 use Rattle.std.specs.Prelude.{codes}

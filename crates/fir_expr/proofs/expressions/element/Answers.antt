@@ -1,6 +1,6 @@
 use Rattle.std.proofs.Common.{refl}
 use Rattle.std.proofs.lemmas.Result.{err_from_is_err_and}
-use Rattle.fir_expr.proofs.Sources.{source_part}
+use Rattle.token_reader.proofs.Sources.{source_part}
 use Rattle.fir_expr.proofs.OperandsRead.{element_no_mark, element_no_number, element_not_closed, element_stepped}
 use Rattle.fir_expr.proofs.expressions.element.Goals as goal
 

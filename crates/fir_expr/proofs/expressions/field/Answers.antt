@@ -7,8 +7,8 @@ use Rattle.fir_expr.proofs.expressions.field.Goals as goal
 pub returns-in_err-take_suffix-clause-err : goal.returns-in_err-take_suffix-clause-err
 returns-in_err-take_suffix-clause-err c = let p = err_from_is_err_and c.from_residual.result c.from_residual.ensures.1 in rw (p.1, p.2) (field_no_mark c.requires.begins c.in_err-take_suffix.ensures.taken)
 
-pub take_field-requires-clause-room : goal.take_field-requires-clause-room
-take_field-requires-clause-room c = let e = room_step c.args.names.now c.args.laid.now c.args.at _ c.in_ok-take_suffix.ensures.taken.here in omega (arith, e, c.requires.room)
+pub take_name-requires-clause-room : goal.take_name-requires-clause-room
+take_name-requires-clause-room c = let e = room_step c.args.names.now c.args.laid.now c.args.at _ c.in_ok-take_suffix.ensures.taken.here in omega (arith, e, c.requires.room)
 
 pub returns-in_err-name-clause-err : goal.returns-in_err-name-clause-err
 returns-in_err-name-clause-err c =

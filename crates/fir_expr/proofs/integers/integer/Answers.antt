@@ -3,8 +3,8 @@ use Rattle.std.proofs.lemmas.Result.{err_from_is_err_and}
 use Rattle.fir_layout.specs.declared.laid.Laid.{Laid}
 use Rattle.fir_grammar.specs.Grammar.{A_quoted_number}
 use Rattle.fir_grammar.specs.Reading.{no_memory}
-use Rattle.fir_expr.proofs.Sources.{source_part}
-use Rattle.fir_expr.proofs.Takes.{flat_mark_taken}
+use Rattle.token_reader.proofs.Sources.{source_part}
+use Rattle.token_reader.proofs.Takes.{flat_mark_taken}
 use Rattle.fir_expr.proofs.LiteralIntegers.{plain_no_number, plain_read, negative_no_number, negative_read, quoted_refused, no_quoted_part, quoted_read}
 use Rattle.fir_expr.proofs.integers.integer.Goals as goal
 

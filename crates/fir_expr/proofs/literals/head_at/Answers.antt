@@ -1,7 +1,7 @@
 use Rattle.std.proofs.Common.{Some, refl, ◌∙◌, ap, sym}
 use Rattle.fir_layout.specs.declared.laid.Laid.{Laid}
 use Rattle.fir_layout.specs.declared.laid.Laid.TheVariants.{Item}
-use Rattle.fir_expr.proofs.Sources.{source_part}
+use Rattle.token_reader.proofs.Sources.{source_part}
 use Rattle.fir_expr.proofs.LiteralHeads.{no_token, other_goes, call_head, kind_head, word_goes, other_kind_goes}
 use Rattle.fir_expr.proofs.literals.head_at.Goals as goal
 

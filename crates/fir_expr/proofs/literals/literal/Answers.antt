@@ -2,7 +2,7 @@ use Rattle.std.proofs.Common.{◌+◌}
 use Rattle.std.proofs.lemmas.Result.{err_from_is_err_and}
 use Rattle.fir_expr.specs.Parts.{kind_name}
 use Rattle.fir_expr.proofs.Bracketed.{opener_call, stands_opened}
-use Rattle.fir_expr.proofs.Sources.{source_part}
+use Rattle.token_reader.proofs.Sources.{source_part}
 use Rattle.fir_expr.proofs.LiteralBrackets.{literal_not_opened, literal_no_integer, literal_not_closed, literal_read}
 use Rattle.fir_expr.proofs.literals.literal.Goals as goal
 

@@ -4,8 +4,8 @@ use Rattle.place_text.specs.Places.{place}
 use Rattle.fir_layout.specs.declared.laid.Laid.{Laid}
 use Rattle.fir_grammar.specs.Grammar.{start_of}
 use Rattle.fir_grammar.specs.Reading.{no_memory}
-use Rattle.fir_expr.proofs.Composition.{one_at}
-use Rattle.fir_expr.proofs.Sources.{source_part}
+use Rattle.token_reader.proofs.Composition.{one_at}
+use Rattle.token_reader.proofs.Sources.{source_part}
 use Rattle.fir_expr.proofs.LiteralBrackets.{wide_no_less, wide_no_number, wide_no_greater, wide_no_bracket, wide_no_integer, wide_not_closed, wide_stands, wide_inside, wide_read}
 use Rattle.fir_expr.proofs.literals.wide_literal.Goals as goal
 

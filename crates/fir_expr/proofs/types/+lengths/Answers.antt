@@ -1,7 +1,7 @@
 use Rattle.std.proofs.lemmas.Result.{err_from_is_err_and}
 use Rattle.std.proofs.Common.{arith, []}
 use Rattle.fir_grammar.specs.Reading.{no_memory}
-use Rattle.fir_expr.proofs.Depth.{whole_stands}
+use Rattle.token_reader.proofs.Depth.{whole_stands}
 use Rattle.fir_expr.proofs.TypeLengths.{lengths_none, lengths_refused_first, lengths_refused, lengths_more}
 use Rattle.fir_expr.proofs.types.+lengths.Goals as goal
 

@@ -2,9 +2,9 @@ use Rattle.std.proofs.Common.{[], ◌∷◌, arith}
 use Rattle.std.proofs.lemmas.Result.{err_from_is_err_and}
 use Rattle.fir_grammar.specs.Grammar.{A, Type_of, colon, Its_name}
 use Rattle.fir_grammar.specs.Reading.{no_memory}
-use Rattle.fir_expr.proofs.Sources.{source_part}
-use Rattle.fir_expr.proofs.Composition.{refused_first}
-use Rattle.fir_expr.proofs.Depth.{whole_stands}
+use Rattle.token_reader.proofs.Sources.{source_part}
+use Rattle.token_reader.proofs.Composition.{refused_first}
+use Rattle.token_reader.proofs.Depth.{whole_stands}
 use Rattle.fir_expr.proofs.Passing.{room_step}
 use Rattle.fir_expr.proofs.TypeNames.{into_bundle, begins_so}
 use Rattle.fir_expr.proofs.TypeLengths.{type_no_base, type_no_lengths, type_read}
@@ -43,10 +43,10 @@ pub base_type-returns-then-is_word-2-clause-begins : goal.base_type-returns-then
 base_type-returns-then-is_word-2-clause-begins t c = begins_so c.integer_type-then-is_word-2.result c.requires.begins c.integer_type-then-is_word-2.ensures.begins
 
 pub base_type-returns-then-is_word-3-clause-begins : goal.base_type-returns-then-is_word-3-clause-begins
-base_type-returns-then-is_word-3-clause-begins t c = begins_so c.clock_type.result c.requires.begins c.clock_type.ensures.begins
+base_type-returns-then-is_word-3-clause-begins t c = begins_so c.bare_type.result c.requires.begins c.bare_type.ensures.begins
 
 pub base_type-returns-then-is_word-4-clause-begins : goal.base_type-returns-then-is_word-4-clause-begins
-base_type-returns-then-is_word-4-clause-begins t c = begins_so c.reset_type.result c.requires.begins c.reset_type.ensures.begins
+base_type-returns-then-is_word-4-clause-begins t c = begins_so c.bare_type-then-is_word-4.result c.requires.begins c.bare_type-then-is_word-4.ensures.begins
 
 pub base_type-bundle-requires : goal.base_type-bundle-requires
 base_type-bundle-requires t c = (

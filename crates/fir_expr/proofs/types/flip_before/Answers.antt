@@ -1,5 +1,5 @@
 use Rattle.std.proofs.Common.{refl}
-use Rattle.fir_expr.proofs.Sources.{source_part}
+use Rattle.token_reader.proofs.Sources.{source_part}
 use Rattle.fir_expr.proofs.TypeFlips.{into_plain, into_named_flip, into_flipped}
 use Rattle.fir_expr.proofs.types.flip_before.Goals as goal
 

@@ -1,7 +1,7 @@
 use Rattle.std.proofs.lemmas.Result.{err_from_is_err_and}
 use Rattle.fir_grammar.specs.Reading.{no_memory}
 use Rattle.fir_expr.specs.Parts.{kind_name}
-use Rattle.fir_expr.proofs.Sources.{source_part}
+use Rattle.token_reader.proofs.Sources.{source_part}
 use Rattle.fir_expr.proofs.TypeNames.{word_taken, word_begins, integer_read, integer_refused}
 use Rattle.fir_expr.proofs.types.integer_type.Goals as goal
 

@@ -2,7 +2,7 @@ use Rattle.std.proofs.Common.{refl}
 use Rattle.std.proofs.lemmas.Result.{err_from_is_err_and}
 use Rattle.fir_grammar.specs.Grammar.{number, mark, Nothing}
 use Rattle.std.specs.Prelude.{[], ◌∷◌}
-use Rattle.fir_expr.proofs.Composition.{refused_first}
+use Rattle.token_reader.proofs.Composition.{refused_first}
 use Rattle.fir_expr.proofs.TypeLengths.{length_no_number, length_not_closed, length_read, length_counted}
 use Rattle.fir_expr.proofs.types.length.Goals as goal
 

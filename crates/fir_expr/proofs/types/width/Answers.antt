@@ -1,7 +1,7 @@
 use Rattle.std.proofs.Common.{refl}
 use Rattle.std.proofs.lemmas.Result.{err_from_is_err_and}
 use Rattle.fir_grammar.specs.Reading.{no_memory}
-use Rattle.fir_expr.proofs.Takes.{flat_mark_taken}
+use Rattle.token_reader.proofs.Takes.{flat_mark_taken}
 use Rattle.fir_expr.proofs.TypeCases.{width_none, width_no_number, width_not_closed, width_read, width_begins}
 use Rattle.fir_expr.proofs.types.width.Goals as goal
 

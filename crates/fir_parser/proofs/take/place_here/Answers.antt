@@ -1,7 +1,7 @@
 use Rattle.std.proofs.Common.{◌≡◌, sym, arith, ⊎_elim}
 use Rattle.std.specs.Prelude.{slice_get, Some, None}
 use Rattle.std.proofs.lemmas.Option.{slice_get_cases}
-use Rattle.fir_expr.proofs.Composition.{one_at}
+use Rattle.token_reader.proofs.Composition.{one_at}
 use Rattle.fir_parser.proofs.take.place_here.Goals as goal
 
 pub returns : goal.returns

@@ -2,7 +2,7 @@ use Rattle.std.proofs.Common.{sym, Some, rules}
 use Rattle.std.specs.Option.{option_copied}
 use Rattle.size_check.proofs.Covering.{field_within}
 use Rattle.size_check.proofs.Weighing.{field_found}
-use Rattle.size_check.proofs.Kept.{fields_indexed}
+use Rattle.module_table.proofs.Fields.{fields_indexed}
 use Rattle.size_check.proofs.weights.field_type.Goals as goal
 
 pub returns-in-Some-clause-typ : goal.returns-in-Some-clause-typ

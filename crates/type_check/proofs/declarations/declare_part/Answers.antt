@@ -1,7 +1,8 @@
 use Rattle.std.proofs.Common.{refl}
 use Rattle.std.proofs.lemmas.Result.{on_ok_weaker}
+use Rattle.module_table.specs.Components.{part_in}
 use Rattle.type_check.proofs.Kept.{walks_declared}
 use Rattle.type_check.proofs.declarations.declare_part.Goals as goal
 
 pub returns : goal.returns
-returns c = on_ok_weaker c.insert_new.result (λ h. walks_declared c.args.name.id c.args.component h refl refl) c.insert_new.ensures
+returns c = on_ok_weaker c.note.result (λ h. walks_declared c.args.name.id (part_in c.args.new) h refl refl) c.note.ensures

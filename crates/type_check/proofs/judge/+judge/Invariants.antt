@@ -2,18 +2,17 @@ use Rattle.std.proofs.Common.{◌≡◌, map, take, if◌then◌else◌}
 use Rattle.std.specs.Prelude.{Some, None}
 use Rattle.type_check.specs.Expressions.{judged, suffix_step, typed_operands, all_among, along}
 use Rattle.type_check.specs.Judging.{part_reached, operand_of, together}
-use Rattle.type_check.specs.Kept.{parts_of}
 use Rattle.type_check.specs.Walks.{Adds}
 use Rattle.type_check.proofs.judge.+judge.Given as goal
 
 abbrev pub invariant-judge_all-loop-expr : goal.invariant-judge_all-loop-expr
 invariant-judge_all-loop-expr l = record {
-  operands : typed_operands (parts_of l.known.entries) (map judged (take l.expr-index l.exprs)) ≡ (if l.complete then Some (map operand_of l.typed.items) else None);
-  found : Adds (together (all_among (parts_of l.known.entries) (map judged (take l.expr-index l.exprs)))) l.fn.found l.found;
+  operands : typed_operands l.known (map judged (take l.expr-index l.exprs)) ≡ (if l.complete then Some (map operand_of l.typed.items) else None);
+  found : Adds (together (all_among l.known (map judged (take l.expr-index l.exprs)))) l.fn.found l.found;
 }
 
 abbrev pub invariant-walk_steps-loop-suffix : goal.invariant-walk_steps-loop-suffix
 invariant-walk_steps-loop-suffix l = record {
-  part : part_reached l.reached ≡ (along (map suffix_step (take l.suffix-index l.suffixes)) (parts_of l.known.entries) (part_reached l.fn.base)).part;
-  found : Adds (along (map suffix_step (take l.suffix-index l.suffixes)) (parts_of l.known.entries) (part_reached l.fn.base)) l.fn.found l.found;
+  part : part_reached l.reached ≡ (along (map suffix_step (take l.suffix-index l.suffixes)) l.known (part_reached l.fn.base)).part;
+  found : Adds (along (map suffix_step (take l.suffix-index l.suffixes)) l.known (part_reached l.fn.base)) l.fn.found l.found;
 }

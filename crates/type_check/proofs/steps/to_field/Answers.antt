@@ -4,7 +4,7 @@ use Rattle.std.specs.Option.{option_copied}
 use Rattle.circuit_parts.specs.Parts.{part_of}
 use Rattle.type_check.specs.Judging.{part_at}
 use Rattle.type_check.proofs.Ways.{first_field}
-use Rattle.type_check.proofs.Kept.{fields_indexed}
+use Rattle.module_table.proofs.Fields.{fields_indexed}
 use Rattle.type_check.proofs.steps.to_field.Goals as goal
 
 pub returns-in-Some-clause-part : goal.returns-in-Some-clause-part

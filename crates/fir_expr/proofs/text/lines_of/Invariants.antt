@@ -1,6 +1,0 @@
-use Rattle.std.proofs.Common.{◌≡◌}
-use Rattle.fir_expr.specs.LineStarts.{starts_to}
-use Rattle.fir_expr.proofs.text.lines_of.Given as goal
-
-abbrev pub invariant-loop-at : goal.invariant-loop-at
-invariant-loop-at l = l.lines ≡ starts_to l.text l.at

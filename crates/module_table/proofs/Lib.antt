@@ -1,0 +1,3 @@
+mod Indexing
+pub mod Fields
+mod Noting

@@ -1,0 +1,12 @@
+//! The modules of a circuit and the components of a module by name, and what is often asked of their types, found once and kept.
+#![tactic(auto)]
+
+pub mod components;
+pub mod known_type;
+pub mod modules;
+pub mod whole;
+
+pub use components::{Component, Components};
+pub use known_type::KnownType;
+pub use modules::{Modules, insert_new};
+pub use whole::whole_name;

@@ -1,0 +1,100 @@
+//! The modules of a circuit, by name.
+
+ghost use Rattle.std.specs.Prelude.{◌≡◌, Some, map, option_map, slice_get, IfOk, OnOk, OnErr};
+ghost use Rattle.std.specs.Option.{option_copied};
+ghost use Rattle.std.specs.Coded.{Coded-set, coded_list};
+ghost use Rattle.fir_types.specs.contracts.fir_type.FirType.{the_row as type_row};
+ghost use Rattle.module_table.specs.Tables.{IsIndex, named, bundle_of, with_new, typ_of};
+
+use crate::known_type::KnownType;
+use fir_tree::Module;
+use fir_types::instance_type;
+use indexmap::IndexMap;
+use std::alloc::{AllocError, Global};
+
+/// The modules of a circuit, with the number of the first of each name, and with what the instances of each share.
+#[derive(Drop)]
+pub struct Modules<'a> {
+    pub all: &'a [Module],
+    numbers: IndexMap<u32, usize>,
+    instances: Vec<KnownType>,
+    ghost indexed: { IsIndex all.now numbers.entries },
+    ghost bundled: { map typ_of instances.items ≡ map bundle_of all.now } by { Coded-set (coded_list type_row.coded) (map typ_of instances.items) (map bundle_of all.now) },
+}
+
+impl<'a> Modules<'a> {
+    /// These modules. Takes time and memory in proportion to their number and to the types of their ports.
+    pub fn new(alloc: Global, all: &'a [Module]) -> Result<Modules<'a>, AllocError>
+        ensures { IfOk result (λ modules. modules.all.now ≡ all.now) }
+    {
+        let numbers = numbers_of(alloc, all)?;
+        let instances = instances_of(alloc, all)?;
+        Ok(Modules {
+            all,
+            numbers,
+            instances,
+        })
+    }
+
+    /// The number of the first module of a name, given by the number of its text.
+    pub fn number(&self, name: u32) -> Option<usize>
+        ensures { option_map (slice_get self.now.all.now) result ≡ option_map Some (named self.now.all.now name) }
+    {
+        self.numbers.get(&name).copied()
+    }
+
+    /// The first module of a name, given by the number of its text.
+    pub fn first(&self, name: u32) -> Option<&Module>
+        ensures { option_copied result ≡ named self.now.all.now name }
+    {
+        let number = self.numbers.get(&name)?;
+        self.all.get(*number)
+    }
+
+    /// The type of the instances of the first module of a name, given by the number of its text.
+    pub fn instance(&self, name: u32) -> Option<&KnownType>
+        ensures { option_map typ_of (option_copied result) ≡ option_map bundle_of (named self.now.all.now name) }
+    {
+        let number = self.numbers.get(&name)?;
+        self.instances.get(*number)
+    }
+}
+
+/// The types of the modules' instances.
+fn instances_of(alloc: Global, modules: &[Module]) -> Result<Vec<KnownType>, AllocError>
+    ensures { IfOk result (λ instances. map typ_of instances.items ≡ map bundle_of modules.now) }
+{
+    let mut instances = Vec::new(alloc);
+    for module in modules {
+        let bundle = instance_type(alloc, module.ports.as_slice())?;
+        let known = KnownType::indexed(alloc, bundle)?;
+        instances.push(known)?;
+    }
+    Ok(instances)
+}
+
+/// The numbers of modules by name, of each name the first.
+fn numbers_of(alloc: Global, modules: &[Module]) -> Result<IndexMap<u32, usize>, AllocError>
+    ensures { IfOk result (λ numbers. IsIndex modules.now numbers.entries) }
+{
+    let mut numbers = IndexMap::new(alloc);
+    for number in 0..modules.len() {
+        insert_new(&mut numbers, modules[number].name.id, number)?;
+    }
+    Ok(numbers)
+}
+
+/// Inserts an entry, unless there is one of its name.
+pub fn insert_new<V: Drop>(
+    entries: &mut IndexMap<u32, V>,
+    name: u32,
+    value: V,
+) -> Result<(), AllocError>
+    ensures entries { OnOk result (entries.new.entries ≡ with_new entries.old.entries name value) }
+    ensures unchanged { OnErr result (entries.new.entries ≡ entries.old.entries) }
+{
+    if entries.get(&name).is_none() {
+        entries.insert(name, value)?;
+    }
+    Ok(())
+}

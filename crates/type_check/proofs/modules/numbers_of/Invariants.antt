@@ -1,6 +1,0 @@
-use Rattle.std.proofs.Common.{take}
-use Rattle.type_check.specs.Indexes.{IsIndexOf}
-use Rattle.type_check.proofs.modules.numbers_of.Given as goal
-
-abbrev pub invariant-loop-number : goal.invariant-loop-number
-invariant-loop-number l = IsIndexOf l.modules l.numbers.entries (take l.number l.modules)

@@ -1,0 +1,190 @@
+//! The bundles and vectors with widths that were made.
+
+ghost use Rattle.std.specs.Prelude.{◌≡◌, IfOk, IfSome};
+ghost use Rattle.type_filling.specs.Filling.{filled, taking};
+ghost use Rattle.type_filling.specs.Layers.{fields_taking};
+
+use crate::filling::{fill, push_filled};
+use crate::sharing::behind_type;
+use bit_words::{List, Shared};
+use fir_types::{Field, FirType, Shape, copy};
+use indexmap::IndexMap;
+use prim_ops::Width;
+use std::alloc::{AllocError, Global};
+
+/// The text that a bundle or a vector is from: inside the lengths of vectors the place of the first field's name, or of the
+/// type where it has none, and how many lengths there are.
+#[derive(Clone, Copy, Debug, PartialEq, Eq, Hash)]
+pub struct TypeText {
+    line: u32,
+    column: u32,
+    lengths: u64,
+}
+
+/// The types that were made for one text: the first and the last.
+#[derive(Drop)]
+pub struct Versions {
+    first: FirType,
+    last: FirType,
+}
+
+/// The bundles and vectors with widths that were made. A type whose text has it with the same widths is taken again from
+/// these, so that it takes memory once for its text and not once for each expression.
+#[derive(Drop)]
+pub struct Made {
+    types: IndexMap<TypeText, Versions>,
+}
+
+impl Made {
+    pub fn new(alloc: Global) -> Made {
+        Made {
+            types: IndexMap::new(alloc),
+        }
+    }
+
+    /// A type with these widths, in the order of its places.
+    pub fn fit(
+        &mut self,
+        alloc: Global,
+        typ: &FirType,
+        widths: &[Width],
+    ) -> Result<FirType, AllocError>
+        ensures { IfOk result (λ fitted. fitted ≡ filled typ.now widths.now) }
+    {
+        let (fitted, _) = self.take(alloc, typ, widths)?;
+        Ok(fitted)
+    }
+
+    /// The type of a memory with these widths. The fields of its ports that have one text and the same widths share one type.
+    pub fn fit_memory(
+        &mut self,
+        alloc: Global,
+        typ: &FirType,
+        widths: &[Width],
+    ) -> Result<FirType, AllocError>
+        ensures { IfOk result (λ fitted. fitted ≡ filled typ.now widths.now) }
+    {
+        let (fitted, _) = self.take_apart(alloc, typ, widths, 2)?;
+        Ok(fitted)
+    }
+
+    /// A type with the first widths, and those that are left. So many bundles in one another are made anew, and what their
+    /// fields have is taken one by one.
+    #[cycle(take)]
+    fn take_apart<'a>(
+        &mut self,
+        alloc: Global,
+        typ: &FirType,
+        widths: &'a [Width],
+        layers: u8,
+    ) -> Result<(FirType, &'a [Width]), AllocError>
+        ensures { IfOk result (λ taken. (taken.0, taken.1.now) ≡ taking typ.now widths.now) }
+    {
+        let Shape::Bundle(fields) = &typ.shape else {
+            return self.take(alloc, typ, widths);
+        };
+        if layers == 0 {
+            return self.take(alloc, typ, widths);
+        }
+        let (fields, rest) = self.take_fields(alloc, fields.as_slice(), widths, layers - 1)?;
+        let fitted = FirType {
+            place: typ.place,
+            shape: Shape::Bundle(Shared::new(alloc, fields)?),
+        };
+        Ok((fitted, rest))
+    }
+
+    #[cycle(take)]
+    fn take_fields<'a>(
+        &mut self,
+        alloc: Global,
+        fields: &[Field],
+        widths: &'a [Width],
+        layers: u8,
+    ) -> Result<(List<Field>, &'a [Width]), AllocError>
+        ensures { IfOk result (λ taken. (taken.0, taken.1.now) ≡ fields_taking fields.now widths.now) }
+    {
+        let mut fitted = List::new(alloc);
+        let mut rest = widths;
+        for field in fields {
+            let (typ, others) = self.take_apart(alloc, &field.typ, rest, layers)?;
+            push_filled(&mut fitted, field, typ)?;
+            rest = others;
+        }
+        Ok((fitted, rest))
+    }
+
+    /// A type with the first widths, and those that are left.
+    fn take<'a>(
+        &mut self,
+        alloc: Global,
+        typ: &FirType,
+        widths: &'a [Width],
+    ) -> Result<(FirType, &'a [Width]), AllocError>
+        ensures { IfOk result (λ taken. (taken.0, taken.1.now) ≡ taking typ.now widths.now) }
+    {
+        if !matches!(&typ.shape, Shape::Bundle(_) | Shape::Vector(_, _)) {
+            return fill(alloc, typ, widths);
+        }
+        let text = text_of(typ);
+        if let Some(taken) = self.again(text, typ, widths)? {
+            return Ok(taken);
+        }
+        let (fitted, rest) = fill(alloc, typ, widths)?;
+        self.keep(text, &fitted)?;
+        Ok((fitted, rest))
+    }
+
+    /// The same type once more, where it was made for this text, and the widths behind it.
+    fn again<'a>(
+        &self,
+        text: TypeText,
+        typ: &FirType,
+        widths: &'a [Width],
+    ) -> Result<Option<(FirType, &'a [Width])>, AllocError>
+        ensures { IfOk result (λ found. IfSome found (λ taken. taking typ.now widths.now ≡ (taken.0, taken.1.now))) }
+    {
+        let Some(versions) = self.types.get(&text) else {
+            return Ok(None);
+        };
+        if let Some(rest) = behind_type(typ, &versions.first, widths) {
+            return Ok(Some((copy(&versions.first)?, rest)));
+        }
+        if let Some(rest) = behind_type(typ, &versions.last, widths) {
+            return Ok(Some((copy(&versions.last)?, rest)));
+        }
+        Ok(None)
+    }
+
+    /// Notes a type that was made for this text.
+    fn keep(&mut self, text: TypeText, typ: &FirType) -> Result<(), AllocError> {
+        let first = match self.types.get(&text) {
+            Some(versions) => copy(&versions.first)?,
+            None => copy(typ)?,
+        };
+        let last = copy(typ)?;
+        self.types.insert(text, Versions { first, last })?;
+        Ok(())
+    }
+}
+
+fn text_of(typ: &FirType) -> TypeText {
+    let mut inside = typ;
+    let mut lengths: u64 = 0;
+    while let Shape::Vector(element, _) = &inside.shape {
+        lengths = lengths.saturating_add(1);
+        inside = element.get();
+    }
+    let place = match &inside.shape {
+        Shape::Bundle(fields) => match fields.as_slice().first() {
+            Some(field) => field.name.place,
+            None => inside.place,
+        },
+        _ => inside.place,
+    };
+    TypeText {
+        line: place.line,
+        column: place.column,
+        lengths,
+    }
+}

@@ -1,9 +1,0 @@
-use Rattle.std.proofs.Common.{◌≡◌, length}
-use Rattle.width_fit.specs.Runs.{within}
-use Rattle.width_fit.proofs.filling.put_within.Given as goal
-
-abbrev pub invariant-loop-place : goal.invariant-loop-place
-invariant-loop-place l = within l.left.items l.whole ≡ within l.fn.lengths.items l.fn.typ
-
-abbrev pub decreases-loop-place : goal.decreases-loop-place
-decreases-loop-place l = length l.left.items

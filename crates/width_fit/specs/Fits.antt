@@ -1,0 +1,20 @@
+-- The fitted types of the components that are known, which their parts take again.
+use Rattle.std.specs.Prelude.{◌≡◌, ℕ, nat_eq, Bool, List, map, Some}
+use Rattle.std.specs.List.{list_any}
+use Rattle.std.specs.Map.{lookup}
+use Rattle.fir_types.specs.declared.fir_type.FirType.{FirType}
+use Rattle.prim_ops.specs.declared.widths.Width.{Width}
+use Rattle.width_rules.specs.declared.component.Component.{Component}
+use Rattle.width_rules.specs.Sources.{Known, component}
+use Rattle.width_fit.specs.declared.fits.Fit.{Fit}
+use Rattle.type_filling.specs.Filling.{filled}
+use Rattle.width_fit.specs.Judging.{slot_width, is_over}
+
+-- the fitted type of a component or of a part of it, and whether one of its widths is over the limit
+pub record Fits (widths : List Width) (sized : Component) (typ : FirType) (over : Bool) : Type 0 where
+  pub typ_is : typ ≡ filled sized.part.typ (map (slot_width widths) sized.slots)
+  pub over_is : over ≡ list_any is_over (map (slot_width widths) sized.slots)
+
+-- each name that has a fitted type has that of its component
+pub record AreFits (widths : List Width) (known : Known) (fits : List (ℕ × Fit)) : Type 0 where
+  pub each : (name : ℕ) (fit : Fit) → lookup (nat_eq name) fits ≡ Some fit → Fits widths (component known name) fit.typ fit.is_over

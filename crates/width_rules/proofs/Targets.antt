@@ -1,0 +1,111 @@
+-- Where no width is a variable, a connect and an `invalidate` give no rule.
+use Rattle.std.proofs.Common.{◌≡◌, Bool, true, false, List, [], ◌∷◌, ◌++◌, map, zip, cond, Some, None, refl, sym, ap, ap₂, ◌∙◌, subst, arith, append-nil}
+use Rattle.std.proofs.lemmas.Bool.{or_parts, or_from, true≢false, eq-eqb}
+use Rattle.fir_types.specs.declared.name.Name.{Name}
+use Rattle.fir_tree.specs.declared.expr.Expr.{Expr}
+use Rattle.fir_tree.specs.declared.expr.Suffix.{Suffix}
+use Rattle.fir_tree.specs.declared.expr.Form.TheVariants as form
+use Rattle.circuit_parts.specs.declared.part.Flow.{Flow}
+use Rattle.circuit_parts.specs.declared.part.Flow.TheVariants.{Source, Sink, Duplex}
+use Rattle.circuit_parts.specs.Parts.{flow_through}
+use Rattle.width_rules.specs.declared.slot.Slot.{Slot}
+use Rattle.width_rules.specs.declared.slot.Slot.TheVariants as slot
+use Rattle.width_rules.specs.declared.rule.Formula.{Formula}
+use Rattle.width_rules.specs.declared.rule.Formula.TheVariants as formula
+use Rattle.width_rules.specs.declared.walk.Found.{Found}
+use Rattle.width_rules.specs.Formulas.{IsFormula}
+use Rattle.width_rules.specs.Places.{Spot}
+use Rattle.width_rules.specs.Sources.{Known, Measured, measured, component, component_or_none, measured_reference, named, suffix_step, greater_of, choice}
+use Rattle.width_rules.specs.Circuits.{at_least, driven, connected, zeroed, invalidated, connects, invalidates}
+use Rattle.width_rules.specs.Walks.{Walks}
+use Rattle.width_rules.specs.Targets.{has_variable, is_target, has_target}
+use Rattle.width_rules.proofs.Bounds.{SlotsFit, FormulasFit, var_below}
+use Rattle.width_rules.proofs.Fitting.{measured_fits}
+use Rattle.width_rules.proofs.Expressions.{measured-ref, measured-mux}
+
+-- No rules
+
+at_least_none : (f g : Formula) → is_target f ≡ false → at_least f g ≡ []
+at_least_none (formula.Var x) g h = absurd (true≢false h)
+at_least_none f g h = refl
+
+driven_none : (flip : Bool) (l r : Formula) → is_target l ≡ false → is_target r ≡ false → driven flip l r ≡ []
+driven_none false l r h k = at_least_none l r h
+driven_none true l r h k = at_least_none r l k
+
+connected_none : (ss : List Spot) (ls rs : List Formula) → has_target ls ≡ false → has_target rs ≡ false → connected ss ls rs ≡ []
+connected_none [] ls rs h k = refl
+connected_none (s ∷ ss) [] rs h k = refl
+connected_none (s ∷ ss) (l ∷ ls) [] h k = refl
+connected_none (s ∷ ss) (l ∷ ls) (r ∷ rs) h k =
+    let left = or_parts (is_target l) (has_target ls) h in
+    let right = or_parts (is_target r) (has_target rs) k in
+    ap₂ (λ x y. x ++ y) (driven_none s.flip l r left.0 right.0) (connected_none ss ls rs left.1 right.1)
+
+zeroed_none : (flow : Flow) (f : Formula) → is_target f ≡ false → zeroed flow f ≡ []
+zeroed_none Source f h = refl
+zeroed_none Sink f h = at_least_none f (formula.Fixed 0) h
+zeroed_none Duplex f h = at_least_none f (formula.Fixed 0) h
+
+invalidated_none : (flow : Flow) (ss : List Spot) (fs : List Formula) → has_target fs ≡ false → invalidated flow ss fs ≡ []
+invalidated_none flow [] fs h = refl
+invalidated_none flow (s ∷ ss) [] h = refl
+invalidated_none flow (s ∷ ss) (f ∷ fs) h =
+    let both = or_parts (is_target f) (has_target fs) h in
+    ap₂ (λ x y. x ++ y) (zeroed_none (flow_through s.flip flow) f both.0) (invalidated_none flow ss fs both.1)
+
+pub connects_none : (left right : Expr) (found : Found) → has_target (measured left found.known.entries).formulas ≡ false → has_target (measured right found.known.entries).formulas ≡ false
+    → Walks (connects left right) found found
+connects_none left right found h k = record {
+  known = refl;
+  places = sym (append-nil _);
+  rules = sym (ap (λ l. found.rules.items ++ l) (connected_none _ (measured left found.known.entries).formulas (measured right found.known.entries).formulas h k) ∙ append-nil _);
+}
+
+pub invalidates_none : (target : Expr) (found : Found) → has_target (measured target found.known.entries).formulas ≡ false → Walks (invalidates target) found found
+invalidates_none target found h = record {
+  known = refl;
+  places = sym (append-nil _);
+  rules = sym (ap (λ l. found.rules.items ++ l) (invalidated_none _ _ (measured target found.known.entries).formulas h) ∙ append-nil _);
+}
+
+-- Expressions
+
+none_fit : (slots : List Slot) → has_variable slots ≡ false → SlotsFit 0 slots
+none_fit [] h = tt
+none_fit (slot.Fixed n ∷ ss) h = (tt, none_fit ss h)
+none_fit (slot.Var x ∷ ss) h = absurd (true≢false h)
+
+none_of : (f : Formula) → IsFormula 0 f → is_target f ≡ false
+none_of (formula.Var x) h = absurd (omega (arith, var_below 0 x h))
+none_of f h = refl
+
+none_among : (fs : List Formula) → FormulasFit 0 fs → has_target fs ≡ false
+none_among [] h = refl
+none_among (f ∷ fs) h = or_from (is_target f) (has_target fs) (none_of f h.0) (none_among fs h.1)
+
+-- A reference among its own component alone, which has no variable.
+pub reference_has_none : (e : Expr) (name : Name) (suffixes : List Suffix) (known : Known) → e.form ≡ form.Ref name suffixes → has_variable (component known name.id).slots ≡ false
+    → has_target (measured e known).formulas ≡ false
+reference_has_none e name suffixes known is h =
+    let own = component known name.id in
+    let alone = (name.id, own) ∷ [] in
+    let found : component alone name.id ≡ own = ap (λ b. component_or_none (cond b (Some own) None)) (eq-eqb name.id name.id refl) in
+    let same : measured e alone ≡ measured e known
+    = measured-ref e name suffixes alone is ∙ ap (λ c. measured_reference (named (map suffix_step suffixes) c)) found ∙ sym (measured-ref e name suffixes known is) in
+    subst (λ m. has_target m.formulas ≡ false) same (none_among (measured e alone).formulas (measured_fits 0 e alone (none_fit own.slots h, tt)))
+
+greater_none : (fs gs : List Formula) → has_target (map greater_of (zip fs gs)) ≡ false
+greater_none [] gs = refl
+greater_none (f ∷ fs) [] = refl
+greater_none (f ∷ fs) (g ∷ gs) = greater_none fs gs
+
+choice_none : (ms : List Measured) → has_target (choice ms).formulas ≡ false
+choice_none [] = refl
+choice_none (a ∷ []) = refl
+choice_none (a ∷ b ∷ []) = refl
+choice_none (a ∷ b ∷ c ∷ []) = greater_none b.formulas c.formulas
+choice_none (a ∷ b ∷ c ∷ d ∷ ms) = refl
+
+pub mux_has_none : (e : Expr) (operands : List Expr) (known : Known) → e.form ≡ form.Mux operands → has_target (measured e known).formulas ≡ false
+mux_has_none e operands known is = ap (λ m. has_target m.formulas) (measured-mux e operands known is) ∙ choice_none (map (λ x. measured x known) operands)
