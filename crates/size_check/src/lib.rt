@@ -4,6 +4,7 @@
 #![tactic(auto)]
 
 mod calls;
+mod component;
 pub mod fault;
 mod known;
 pub mod laws;
