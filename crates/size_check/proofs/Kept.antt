@@ -1,6 +1,6 @@
 -- The components that are known, as the bodies keep them.
 use Rattle.std.proofs.Common.{◌≡◌, ℕ, List, [], ◌∷◌, ◌++◌, refl, sym, ap, ◌∙◌, subst, nat_eq, if◌then◌else◌, Bool, true, false, true≢false}
-use Rattle.std.specs.Prelude.{Option, Some, None, is_some, option_map, All, IfSome}
+use Rattle.std.specs.Prelude.{Option, Some, None, is_some, option_map, IfSome}
 use Rattle.std.specs.Option.{ForSome}
 use Rattle.std.specs.Map.{lookup}
 use Rattle.std.proofs.lemmas.List.{map-append}
@@ -10,7 +10,7 @@ use Rattle.std.proofs.lemmas.Map.Made.{lookup-map_values}
 use Rattle.fir_types.specs.declared.fir_type.FirType.{FirType}
 use Rattle.fir_tree.specs.declared.circuit.Module.{Module}
 use Rattle.fir_tree.specs.declared.expr.Expr.{Expr}
-use Rattle.leaf_names.specs.LeafNames.{Texts, text_of}
+use Rattle.leaf_names.specs.LeafNames.{Texts}
 use Rattle.field_index.specs.declared.index.FieldIndex.{FieldIndex}
 use Rattle.field_index.specs.Indexes.{IsIndexOfType}
 use Rattle.size_check.specs.declared.component.Component.{Component}
@@ -18,7 +18,7 @@ use Rattle.module_table.specs.Tables.{with_new, bundle_of}
 use Rattle.module_table.specs.Whole.{IsWhole}
 use Rattle.size_check.specs.Kept.{types_of, IsMeasured, AreMeasured}
 use Rattle.size_check.specs.Caps.{cap}
-use Rattle.size_check.specs.Texts.{way_bytes}
+use Rattle.name_sizes.specs.Texts.{way_bytes}
 use Rattle.size_check.specs.Typings.{typing, type_or_none, known_with, instance_type}
 use Rattle.size_check.specs.Weights.{Weight, weight, no_type}
 use Rattle.size_check.proofs.Weighing.{weight-whole}

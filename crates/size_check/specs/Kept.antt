@@ -3,7 +3,7 @@ use Rattle.std.specs.Prelude.{◌≡◌, ℕ, List, map, All, IfSome}
 use Rattle.leaf_names.specs.LeafNames.{Texts}
 use Rattle.size_check.specs.declared.component.Component.{Component}
 use Rattle.size_check.specs.Caps.{cap}
-use Rattle.size_check.specs.Texts.{way_bytes}
+use Rattle.name_sizes.specs.Texts.{way_bytes}
 use Rattle.size_check.specs.Typings.{Known}
 
 abbrev pub types_of : List (ℕ × Component) → Known

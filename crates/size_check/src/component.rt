@@ -2,9 +2,9 @@
 
 ghost use Rattle.std.specs.Prelude.{◌≡◌, IfOk};
 
-use crate::names::ways_of;
 use fir_tree::Names;
 use module_table::KnownType;
+use name_sizes::ways_of;
 use std::alloc::AllocError;
 
 /// A component: its type, with what is often asked of it.

@@ -6,7 +6,6 @@ ghost use Rattle.size_check.specs.Typings.{known_with, known_in, stmt_notes, arm
 ghost use Rattle.size_check.specs.Weights.{one_bit, no_type, weight};
 
 use crate::component::Component;
-use crate::names::{Ways, ways_of};
 use crate::weights::weigh;
 use bit_words::{List, Shared};
 use field_index::FieldIndex;
@@ -14,6 +13,7 @@ use fir_tree::{Arm, Expr, Module, Names, Stmt};
 use fir_types::{FirType, Memory, Name, Port, Shape, copy, instance_type, memory_type};
 use indexmap::IndexMap;
 use module_table::{KnownType, Modules, insert_new, whole_name};
+use name_sizes::{Ways, ways_of};
 use place_text::Place;
 use std::alloc::{AllocError, Global};
 
@@ -37,7 +37,7 @@ impl Known {
     ghost use Rattle.leaf_names.specs.LeafNames.{Texts};
     ghost use Rattle.size_check.specs.Caps.{cap};
     ghost use Rattle.size_check.specs.Reaching.{types_in};
-    ghost use Rattle.size_check.specs.Texts.{way_bytes};
+    ghost use Rattle.name_sizes.specs.Texts.{way_bytes};
 
     /// No component.
     pub fn new(alloc: Global) -> Result<Known, AllocError>

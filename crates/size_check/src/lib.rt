@@ -10,7 +10,6 @@ mod known;
 pub mod laws;
 pub mod measure;
 mod measuring;
-mod names;
 mod owns;
 mod reached;
 mod rounds;

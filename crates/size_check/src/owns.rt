@@ -11,7 +11,6 @@ ghost use Rattle.size_check.specs.Reaching.{types_in};
 ghost use Rattle.size_check.specs.Owns.{sized, flat, stored, celled, vector_of, kept_leaves, reads_in, all_own, arms_own, stmt_own, arm_own, port_own, module_own, of_memory};
 
 use crate::known::{Known, known_of};
-use crate::names::{Ways, names_by, names_of};
 use crate::sums::Sums;
 use crate::weights::{more, nodes, weigh};
 use bit_words::Shared;
@@ -20,6 +19,7 @@ use fir_types::{
     FirType, MemLine, Memory, Name, Port, PortMode, Shape, copy, depth_of, element_of, leaf_count,
 };
 use module_table::Modules;
+use name_sizes::{Ways, names_by, names_of};
 use place_text::Place;
 use std::alloc::{AllocError, Global};
 

@@ -4,7 +4,7 @@ use Rattle.std.specs.Map.{lookup}
 use Rattle.fir_types.specs.Leaves.{count}
 use Rattle.size_check.specs.Caps.{cap}
 use Rattle.size_check.specs.Reaching.{types_in}
-use Rattle.size_check.specs.Texts.{way_bytes}
+use Rattle.name_sizes.specs.Texts.{way_bytes}
 use Rattle.size_check.proofs.Kept.{kept_found, ways_measured}
 use Rattle.size_check.proofs.known.Known.ways.Goals as goal
 

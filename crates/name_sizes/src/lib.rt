@@ -1,12 +1,13 @@
-//! The leaves of types and the bytes of their names, without a list of them.
+//! The number of a type's leaves and the bytes of their names, without a list of them. Keeps the contract that both are those of the
+//! list, up to 2^128 - 1, which stands for all numbers from there on.
+#![tactic(auto)]
 
 ghost use Rattle.std.specs.Prelude.{◌≡◌, ◌+◌, ◌*◌, length, sum, map};
 ghost use Rattle.fir_types.specs.declared.fir_type.FirType.{FirType as AType};
 ghost use Rattle.fir_types.specs.Leaves.{count, field_count};
 ghost use Rattle.leaf_names.specs.LeafNames.{text_of};
-ghost use Rattle.size_check.specs.Caps.{cap};
-ghost use Rattle.size_check.specs.Owns.{name_bytes};
-ghost use Rattle.size_check.specs.Texts.{way_bytes, field_bytes, index_bytes};
+ghost use Rattle.name_sizes.specs.Caps.{cap};
+ghost use Rattle.name_sizes.specs.Texts.{name_bytes, way_bytes, field_bytes, index_bytes};
 
 use fir_tree::Names;
 use fir_types::{Field, FirType, Shape};

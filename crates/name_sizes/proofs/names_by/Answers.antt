@@ -2,10 +2,10 @@ use Rattle.std.proofs.Common.{◌∙◌, sym, ap}
 use Rattle.std.specs.Prelude.{length}
 use Rattle.fir_types.specs.Leaves.{count}
 use Rattle.leaf_names.specs.LeafNames.{text_of}
-use Rattle.size_check.specs.Caps.{cap}
-use Rattle.size_check.specs.Texts.{way_bytes}
-use Rattle.size_check.proofs.Wording.{names-type, name_capped}
-use Rattle.size_check.proofs.names.names_by.Goals as goal
+use Rattle.name_sizes.specs.Caps.{cap}
+use Rattle.name_sizes.specs.Texts.{way_bytes}
+use Rattle.name_sizes.proofs.Wording.{names-type, name_capped}
+use Rattle.name_sizes.proofs.names_by.Goals as goal
 
 pub returns-clause-bytes : goal.returns-clause-bytes
 returns-clause-bytes c typ leaves bytes =
