@@ -1,6 +1,6 @@
 -- What is capped once more stays, and what is capped before a sum is as good as what isn't.
-use Rattle.std.proofs.Common.{◌≡◌, ℕ, zero, suc, ◌+◌, ◌*◌, ◌-◌, ◌^◌, ◌≤◌, min, max, refl, ap, ◌∙◌, arith, lit≤}
-use Rattle.std.proofs.lemmas.Grind.{common_steps}
+use Rattle.std.proofs.Common.{◌≡◌, ℕ, ◌+◌, ◌*◌, ◌-◌, ◌^◌, ◌≤◌, min, max, refl, ap, ◌∙◌, arith, lit≤}
+use Rattle.name_sizes.proofs.Capping.{times_to}
 use Rattle.size_check.specs.declared.sums.Sums.{Sums}
 use Rattle.size_check.specs.declared.sums.Total.{Total}
 use Rattle.size_check.specs.Caps.{cap, capped, capped_total}
@@ -8,24 +8,11 @@ use Rattle.size_check.specs.Measures.{plus, nothing}
 use Rattle.size_check.specs.Standings.{add, no_total}
 use Rattle.size_check.specs.Owns.{sized}
 
-plus_to : (m a b : ℕ) → min (min a m + min b m) m ≡ min (a + b) m
-plus_to m a b = omega arith
-
 max_to : (m a b : ℕ) → max (min a m) (min b m) ≡ min (max a b) m
 max_to m a b = omega arith
 
-pub cap_plus : (a b : ℕ) → cap (cap a + cap b) ≡ cap (a + b)
-cap_plus a b = plus_to (2 ^ 128 - 1) a b
-
 pub cap_max : (a b : ℕ) → max (cap a) (cap b) ≡ cap (max a b)
 cap_max a b = max_to (2 ^ 128 - 1) a b
-
-times_to : (m k a : ℕ) → min (k * min a m) m ≡ min (k * a) m
-times_to m zero a = grind (arith, common_steps)
-times_to m (suc k) a = grind (arith, common_steps)
-
-pub cap_times : (k a : ℕ) → cap (k * cap a) ≡ cap (k * a)
-cap_times k a = times_to (2 ^ 128 - 1) k a
 
 one_to : (m a : ℕ) → 1 ≤ m → max (min a m) 1 ≡ min (max 1 a) m
 one_to m a h = omega arith

@@ -1,52 +1,60 @@
 -- The components that are known, as the bodies keep them.
-use Rattle.std.proofs.Common.{◌≡◌, ℕ, List, [], ◌∷◌, ◌++◌, refl, sym, ap, ◌∙◌, subst, nat_eq, if◌then◌else◌, true≢false}
+use Rattle.std.proofs.Common.{◌≡◌, ℕ, List, [], ◌∷◌, ◌++◌, refl, sym, ap, ◌∙◌, subst, nat_eq, if◌then◌else◌, Bool, true, false, true≢false}
 use Rattle.std.specs.Prelude.{Option, Some, None, is_some, option_map, IfSome}
 use Rattle.std.specs.Option.{ForSome}
 use Rattle.std.specs.Map.{lookup}
 use Rattle.std.proofs.lemmas.List.{map-append}
+use Rattle.std.proofs.lemmas.List.Elements.{All-nil, All-push}
+use Rattle.std.proofs.lemmas.Map.Entries.{All-lookup}
 use Rattle.std.proofs.lemmas.Map.Made.{lookup-map_values}
 use Rattle.fir_types.specs.declared.fir_type.FirType.{FirType}
 use Rattle.fir_tree.specs.declared.circuit.Module.{Module}
 use Rattle.fir_tree.specs.declared.expr.Expr.{Expr}
+use Rattle.leaf_names.specs.LeafNames.{Texts}
 use Rattle.field_index.specs.declared.index.FieldIndex.{FieldIndex}
 use Rattle.field_index.specs.Indexes.{IsIndexOfType}
-use Rattle.module_table.specs.declared.known_type.KnownType.{KnownType}
-use Rattle.module_table.specs.Tables.{typ_of, with_new, bundle_of}
+use Rattle.size_check.specs.declared.component.Component.{Component}
+use Rattle.module_table.specs.Tables.{with_new, bundle_of}
 use Rattle.module_table.specs.Whole.{IsWhole}
-use Rattle.size_check.specs.Kept.{types_of}
+use Rattle.size_check.specs.Kept.{types_of, IsMeasured, AreMeasured}
+use Rattle.size_check.specs.Caps.{cap}
+use Rattle.name_sizes.specs.Texts.{way_bytes}
 use Rattle.size_check.specs.Typings.{typing, type_or_none, known_with, instance_type}
 use Rattle.size_check.specs.Weights.{Weight, weight, no_type}
 use Rattle.size_check.proofs.Weighing.{weight-whole}
 
-found_typ : (es : List (ℕ × KnownType)) (id : ℕ) (found : Option KnownType) → lookup (nat_eq id) es ≡ found → lookup (nat_eq id) (types_of es) ≡ option_map typ_of found
-found_typ es id found h = lookup-map_values typ_of (nat_eq id) es ∙ ap (option_map typ_of) h
+abbrev pub kept_typ : Component → FirType
+kept_typ c = c.known.typ
 
-pub kept_found : (es : List (ℕ × KnownType)) (id : ℕ) (found : Option KnownType) → lookup (nat_eq id) es ≡ found → typing (types_of es) id ≡ type_or_none (option_map typ_of found)
+found_typ : (es : List (ℕ × Component)) (id : ℕ) (found : Option Component) → lookup (nat_eq id) es ≡ found → lookup (nat_eq id) (types_of es) ≡ option_map kept_typ found
+found_typ es id found h = lookup-map_values kept_typ (nat_eq id) es ∙ ap (option_map kept_typ) h
+
+pub kept_found : (es : List (ℕ × Component)) (id : ℕ) (found : Option Component) → lookup (nat_eq id) es ≡ found → typing (types_of es) id ≡ type_or_none (option_map kept_typ found)
 kept_found es id found h = ap type_or_none (found_typ es id found h)
 
-pub kept_new : (es : List (ℕ × KnownType)) (id : ℕ) (c : KnownType) → types_of (with_new es id c) ≡ known_with (types_of es) id c.typ
+pub kept_new : (es : List (ℕ × Component)) (id : ℕ) (c : Component) → types_of (with_new es id c) ≡ known_with (types_of es) id c.known.typ
 kept_new es id c =
     by (lookup (nat_eq id) es)
-    ∙ sym (ap (λ (o : Option FirType). if is_some o then types_of es else types_of es ++ (id, c.typ) ∷ []) (found_typ es id (lookup (nat_eq id) es) refl))
+    ∙ sym (ap (λ (o : Option FirType). if is_some o then types_of es else types_of es ++ (id, c.known.typ) ∷ []) (found_typ es id (lookup (nat_eq id) es) refl))
   where
-    by : (o : Option KnownType) → types_of (if is_some o then es else es ++ (id, c) ∷ []) ≡ (if is_some (option_map typ_of o) then types_of es else types_of es ++ (id, c.typ) ∷ [])
+    by : (o : Option Component) → types_of (if is_some o then es else es ++ (id, c) ∷ []) ≡ (if is_some (option_map kept_typ o) then types_of es else types_of es ++ (id, c.known.typ) ∷ [])
     by (Some k) = refl
-    by None = map-append (λ (x : ℕ × KnownType). (x.0, x.1.typ)) es ((id, c) ∷ [])
+    by None = map-append (λ (x : ℕ × Component). (x.0, x.1.known.typ)) es ((id, c) ∷ [])
 
-pub kept_index : (es : List (ℕ × KnownType)) (id : ℕ) (c : KnownType) (index : Option FieldIndex) → lookup (nat_eq id) es ≡ Some c → index ≡ c.index
+pub kept_index : (es : List (ℕ × Component)) (id : ℕ) (c : Component) (index : Option FieldIndex) → lookup (nat_eq id) es ≡ Some c → index ≡ c.known.index
     → ForSome index (IsIndexOfType (typing (types_of es) id))
 kept_index es id c index h e =
     subst (λ o. ForSome o (IsIndexOfType (typing (types_of es) id))) (sym e)
-    (subst (λ t. ForSome c.index (IsIndexOfType t)) (sym (kept_found es id (Some c) h)) c.indexed)
+    (subst (λ t. ForSome c.known.index (IsIndexOfType t)) (sym (kept_found es id (Some c) h)) c.known.indexed)
 
 -- a node of a whole component has its type
 
-whole_typ : (es : List (ℕ × KnownType)) (e : Expr) (id : ℕ) (c : KnownType) → IsWhole e id → lookup (nat_eq id) es ≡ Some c → c.typ ≡ (weight e (typing (types_of es))).typ
+whole_typ : (es : List (ℕ × Component)) (e : Expr) (id : ℕ) (c : Component) → IsWhole e id → lookup (nat_eq id) es ≡ Some c → c.known.typ ≡ (weight e (typing (types_of es))).typ
 whole_typ es e id c h found =
     sym (ap (λ (w : Weight). w.typ) (weight-whole e h.0 (typing (types_of es)) h.1) ∙ ap (typing (types_of es)) h.2 ∙ kept_found es id (Some c) found)
 
-pub whole_found : {B : Type 0} (now : B → KnownType) (r : Option B) (es : List (ℕ × KnownType)) (e : Expr) (id : ℕ) → IsWhole e id → option_map now r ≡ lookup (nat_eq id) es
-    → IfSome r (λ c. (now c).typ ≡ (weight e (typing (types_of es))).typ)
+pub whole_found : {B : Type 0} (now : B → Component) (r : Option B) (es : List (ℕ × Component)) (e : Expr) (id : ℕ) → IsWhole e id → option_map now r ≡ lookup (nat_eq id) es
+    → IfSome r (λ c. (now c).known.typ ≡ (weight e (typing (types_of es))).typ)
 whole_found now (Some c) es e id h found = whole_typ es e id (now c) h (sym found)
 whole_found now None es e id h found = tt {0}
 
@@ -59,3 +67,29 @@ instance_found None bundle h = absurd (true≢false (ap is_some h))
 pub no_instance : (target : Option Module) → ◌≡◌ {A = Option FirType} None (option_map bundle_of target) → no_type ≡ instance_type target
 no_instance (Some m) h = absurd (true≢false (sym (ap is_some h)))
 no_instance None h = refl
+
+-- the bytes of the ways to a component's leaves
+
+pub measured_found : (texts : Texts) (es : List (ℕ × Component)) (id : ℕ) (c : Component) → lookup (nat_eq id) es ≡ Some c → AreMeasured texts es → IsMeasured texts c
+measured_found texts es id c h all = subst (λ o. IfSome o (IsMeasured texts)) h (All-lookup (IsMeasured texts) (nat_eq id) es all)
+
+pub measured_new : (texts : Texts) (es : List (ℕ × Component)) (id : ℕ) (c : Component) → IsMeasured texts c → AreMeasured texts es → AreMeasured texts (with_new es id c)
+measured_new texts es id c h all = by (is_some (lookup (nat_eq id) es))
+  where
+    by : (there : Bool) → AreMeasured texts (if there then es else es ++ (id, c) ∷ [])
+    by true = all
+    by false = All-push (λ e. IsMeasured texts e.1) es (id, c) all h
+
+pub whole_measured : {B : Type 0} (now : B → Component) (r : Option B) (es : List (ℕ × Component)) (id : ℕ) → option_map now r ≡ lookup (nat_eq id) es
+    → IfSome r (λ c. (texts : Texts) → AreMeasured texts es → IsMeasured texts (now c))
+whole_measured now (Some c) es id h = λ texts all. measured_found texts es id (now c) (sym h) all
+whole_measured now None es id h = tt {0}
+
+pub none_measured : (texts : Texts) (es : List (ℕ × Component)) → es ≡ [] → AreMeasured texts es
+none_measured texts es h = subst (AreMeasured texts) (sym h) (All-nil (λ e. IsMeasured texts e.1))
+
+pub ways_measured : (texts : Texts) (es : List (ℕ × Component)) (id : ℕ) (c : Component) (bytes : ℕ) → lookup (nat_eq id) es ≡ Some c → c.way_bytes ≡ Some bytes → AreMeasured texts es
+    → bytes ≡ cap (way_bytes texts (typing (types_of es) id))
+ways_measured texts es id c bytes found some all =
+    subst (λ o. IfSome o (λ b. b ≡ cap (way_bytes texts c.known.typ))) some (measured_found texts es id c found all)
+    ∙ sym (ap (λ t. cap (way_bytes texts t)) (kept_found es id (Some c) found))

@@ -4,7 +4,6 @@ mod Calling
 mod Noting
 mod Kept
 mod Covering
-mod Wording
 mod Lines
 mod Owning
 mod Ending

@@ -15,7 +15,8 @@ use Rattle.size_check.specs.Owns.{module_own}
 use Rattle.size_check.specs.Typings.{named}
 use Rattle.size_check.specs.Rounds.{totals_at, owns_of, deeper}
 use Rattle.size_check.specs.Standings.{Standing, standings, of_found, of_call, behind, before, at_path, total_of, add, no_total, calls_in}
-use Rattle.size_check.proofs.Capping.{sums_same, total_same, capped_add, add_later, no_total_add, add_no_total, cap_times}
+use Rattle.name_sizes.proofs.Capping.{cap_times}
+use Rattle.size_check.proofs.Capping.{sums_same, total_same, capped_add, add_later, no_total_add, add_no_total}
 
 pub total-append : (texts : Texts) (modules : List Module) (xs ys : List Standing) → total_of texts modules (xs ++ ys) ≡ add (total_of texts modules xs) (total_of texts modules ys)
 total-append texts modules [] ys = sym (no_total_add (total_of texts modules ys))

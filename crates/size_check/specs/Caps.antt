@@ -1,10 +1,7 @@
 -- Numbers as the bodies hold them: 2^128 - 1 stands for all from there on.
-use Rattle.std.specs.Prelude.{ℕ, ◌-◌, ◌^◌, min}
+pub use Rattle.name_sizes.specs.Caps.{cap}
 use Rattle.size_check.specs.declared.sums.Sums.{Sums}
 use Rattle.size_check.specs.declared.sums.Total.{Total}
-
-abbrev pub cap : ℕ → ℕ
-cap n = min n (2 ^ 128 - 1)
 
 abbrev pub capped : Sums → Sums
 capped a = record { size = cap a.size; leaves = cap a.leaves; names = cap a.names; bytes = cap a.bytes; words = cap a.words }

@@ -12,4 +12,3 @@ pub mod Caps
 pub mod Rounds
 pub mod Kept
 pub mod Reaching
-pub mod Texts

@@ -4,7 +4,7 @@
 -- The size of a statement is 1, its expression nodes and those of the conditions that it stands under, times the greatest number of
 -- leaves, at least 1, that its declaration or one of its own nodes has. A `when` has the conditions of all its arms as its own; an
 -- arm stands under the conditions before it as well. Ports count as statements.
-use Rattle.std.specs.Prelude.{ℕ, ◌+◌, ◌*◌, max, sum, length, nat_eq, List, [], ◌∷◌, map, filter_map, if◌then◌else◌}
+use Rattle.std.specs.Prelude.{ℕ, ◌+◌, ◌*◌, max, sum, nat_eq, List, [], ◌∷◌, map, filter_map, if◌then◌else◌}
 use Rattle.fir_types.specs.declared.fir_type.FirType.{FirType}
 use Rattle.fir_types.specs.declared.fir_type.Shape.TheVariants as shape
 use Rattle.fir_types.specs.declared.memory.Memory.{Memory}
@@ -14,13 +14,14 @@ use Rattle.fir_types.specs.declared.memory.PortMode.{PortMode}
 use Rattle.fir_types.specs.declared.memory.PortMode.TheVariants as mode
 use Rattle.fir_types.specs.declared.port.Port.{Port}
 use Rattle.fir_types.specs.Bundles.{nowhere}
-use Rattle.fir_types.specs.Leaves.{count, leaves}
+use Rattle.fir_types.specs.Leaves.{count}
 use Rattle.fir_types.specs.Memories.{element_of, depth_of, read_latency_in, first_or}
 use Rattle.fir_tree.specs.declared.circuit.Module.{Module}
 use Rattle.fir_tree.specs.declared.stmt.Stmt.{Stmt, fold-Stmt}
 use Rattle.fir_tree.specs.declared.stmt.Arm.{Arm, fold-Arm}
 use Rattle.fir_tree.specs.declared.stmt.Stmt.TheOpen.{Stmt-F, Arm-F}
-use Rattle.leaf_names.specs.LeafNames.{Texts, leaf_text}
+use Rattle.leaf_names.specs.LeafNames.{Texts}
+use Rattle.name_sizes.specs.Texts.{name_bytes}
 use Rattle.size_check.specs.declared.sums.Sums.{Sums}
 use Rattle.size_check.specs.Measures.{nothing, plus, together, greatest}
 use Rattle.size_check.specs.Weights.{Typing, nodes, weight}
@@ -29,10 +30,6 @@ use Rattle.size_check.specs.Typings.{typing_in}
 -- The size of a statement with so many nodes, under conditions with so many, whose types have at most so many leaves.
 abbrev pub sized : ℕ → ℕ → ℕ → Sums
 sized own most around = record nothing { size = (1 + own + around) * max 1 most }
-
--- the bytes of the names of all leaves of a component
-abbrev pub name_bytes : Texts → ℕ → FirType → ℕ
-name_bytes texts id typ = sum (map (λ leaf. length (leaf_text texts id leaf.path)) (leaves typ))
 
 -- the leaves of a component, each with a flat name
 abbrev pub flat : Texts → ℕ → FirType → Sums

@@ -4,12 +4,12 @@
 #![tactic(auto)]
 
 mod calls;
+mod component;
 pub mod fault;
 mod known;
 pub mod laws;
 pub mod measure;
 mod measuring;
-mod names;
 mod owns;
 mod reached;
 mod rounds;

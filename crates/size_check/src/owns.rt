@@ -5,12 +5,12 @@ ghost use Rattle.fir_types.specs.Leaves.{count};
 ghost use Rattle.fir_types.specs.Memories.{read_latency_in, first_or};
 ghost use Rattle.size_check.specs.Weights.{nodes, weight};
 ghost use Rattle.size_check.specs.Caps.{cap, capped};
+ghost use Rattle.size_check.specs.Kept.{AreMeasured};
 ghost use Rattle.size_check.specs.Measures.{plus, together, greatest};
 ghost use Rattle.size_check.specs.Reaching.{types_in};
 ghost use Rattle.size_check.specs.Owns.{sized, flat, stored, celled, vector_of, kept_leaves, reads_in, all_own, arms_own, stmt_own, arm_own, port_own, module_own, of_memory};
 
 use crate::known::{Known, known_of};
-use crate::names::names_of;
 use crate::sums::Sums;
 use crate::weights::{more, nodes, weigh};
 use bit_words::Shared;
@@ -19,6 +19,7 @@ use fir_types::{
     FirType, MemLine, Memory, Name, Port, PortMode, Shape, copy, depth_of, element_of, leaf_count,
 };
 use module_table::Modules;
+use name_sizes::{Ways, names_by, names_of};
 use place_text::Place;
 use std::alloc::{AllocError, Global};
 
@@ -31,7 +32,7 @@ pub fn module_own(
 ) -> Result<Sums, AllocError>
     ensures { IfOk result (λ own. own ≡ capped (module_own names.now modules.now.all.now holder.now)) }
 {
-    let known = known_of(alloc, modules, holder)?;
+    let known = known_of(alloc, names, modules, holder)?;
     let ports = ports_own(names, holder.ports.as_slice())?;
     let body = block_own(alloc, names, &known, holder.body.as_slice(), 0)?;
     Ok(ports.plus(body))
@@ -58,6 +59,7 @@ fn block_own(
     statements: &[Stmt],
     around: u128,
 ) -> Result<Sums, AllocError>
+    requires { AreMeasured names.now known.now.types.entries }
     ensures { IfOk result (λ own. own ≡ capped (all_own (map (stmt_own names.now (types_in known.now)) statements.now) around)) }
 {
     let mut total = Sums::none();
@@ -76,6 +78,7 @@ fn statement_own(
     statement: &Stmt,
     around: u128,
 ) -> Result<Sums, AllocError>
+    requires { AreMeasured names.now known.now.types.entries }
     ensures { IfOk result (λ own. own ≡ capped (stmt_own names.now (types_in known.now) statement.now around)) }
 {
     match statement {
@@ -101,7 +104,7 @@ fn statement_own(
         Stmt::Mem(memory) => memory_own(alloc, names, known, memory, around),
         Stmt::Inst(name, _) => sized(0, known.leaves(name.id), around),
         Stmt::Node(name, expr) => {
-            let leaves = flat(names, *name, known.of(name.id));
+            let leaves = component_leaves(names, known, *name);
             let most = leaves.leaves.max(weigh(known, expr).most);
             let size = sized(nodes(expr)?, most, around)?;
             Ok(size.plus(leaves))
@@ -132,6 +135,7 @@ fn arms_own(
     arms: &[Arm],
     around: u128,
 ) -> Result<Sums, AllocError>
+    requires { AreMeasured names.now known.now.types.entries }
     ensures { IfOk result (λ own. own ≡ capped (arms_own (map (arm_own names.now (types_in known.now)) arms.now) around)) }
 {
     let mut total = Sums::none();
@@ -173,9 +177,10 @@ fn memory_own(
     memory: &Memory,
     around: u128,
 ) -> Result<Sums, AllocError>
+    requires { AreMeasured names.now known.now.types.entries }
     ensures { IfOk result (λ own. own ≡ capped (of_memory names.now (types_in known.now) memory.now around)) }
 {
-    let ports = flat(names, memory.name, known.of(memory.name.id));
+    let ports = component_leaves(names, known, memory.name);
     let size = sized(0, ports.leaves, around)?;
     let lines = memory.lines.as_slice();
     let element = element_of(lines, &known.none);
@@ -199,11 +204,26 @@ fn sized(own: u128, most: u128, around: u128) -> Result<Sums, AllocError>
     })
 }
 
-/// The leaves of a component, each with a flat name.
+/// The leaves of a component of a type, each with a flat name.
 fn flat(names: &Names, name: Name, typ: &FirType) -> Sums
     ensures { result ≡ capped (flat names.now name.id typ.now) }
 {
-    let named = names_of(names, name.id, typ);
+    flat_leaves(names_of(names, name.id, typ))
+}
+
+/// The leaves of a known component. Takes constant time where its ways are counted.
+fn component_leaves(names: &Names, known: &Known, name: Name) -> Sums
+    requires { AreMeasured names.now known.now.types.entries }
+    ensures { result ≡ capped (flat names.now name.id (types_in known.now name.id)) }
+{
+    let ways = known.ways(names, name.id);
+    flat_leaves(names_by(names, name.id, ways))
+}
+
+/// Leaves, each with a flat name of its own, where these are the bytes of the names.
+fn flat_leaves(named: Ways) -> Sums
+    ensures { result ≡ record { size = 0; leaves = named.leaves; names = named.leaves; bytes = named.bytes; words = 0 } }
+{
     Sums {
         size: 0,
         leaves: named.leaves,

@@ -10,11 +10,11 @@ ghost use Rattle.size_check.specs.Typings.{named};
 ghost use Rattle.leaf_names.specs.LeafNames.{Texts};
 
 use crate::calls::{Call, calls_of};
-use crate::names::name_length;
 use crate::owns::module_own;
 use crate::sums::{Sums, Total};
 use fir_tree::{Circuit, Module, Names};
 use module_table::Modules;
+use name_sizes::name_length;
 use std::alloc::{AllocError, Global};
 
 /// One more name than an instance path may have.

@@ -46,9 +46,9 @@ statement_own-returns-in_ok-size-in-RegReset t c =
 
 pub statement_own-returns-in_ok-size-in-Node : goal.statement_own-returns-in_ok-size-in-Node
 statement_own-returns-in_ok-size-in-Node t c =
-    let leaves = rw c.of.ensures at c.flat-leaves-in-Node.ensures in
+    let leaves = c.component_leaves-leaves.ensures in
     node_sums c.args.names.now (types_in c.args.known.now) c.args.statement.now c.in-Node.name c.in-Node.expr c.args.around
-    c.flat-leaves-in-Node.result.leaves c.weigh-in-Node.result.most c.max-most-in-Node.result c.in_ok-nodes-in-Node.field-0 c.in_ok-size-in-Node.size c.flat-leaves-in-Node.result c.plus-in-Node.result
+    c.component_leaves-leaves.result.leaves c.weigh-in-Node.result.most c.max-most-in-Node.result c.in_ok-nodes-in-Node.field-0 c.in_ok-size-in-Node.size c.component_leaves-leaves.result c.plus-in-Node.result
     c.in-Node.is (ap (λ s. s.leaves) leaves) (ap (λ w. w.most) c.weigh-in-Node.ensures) c.max-most-in-Node.ensures c.in_ok-nodes-in-Node.ensures
     c.in_ok-size-in-Node.ensures leaves c.plus-in-Node.ensures
 

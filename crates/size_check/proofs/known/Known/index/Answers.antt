@@ -7,5 +7,5 @@ use Rattle.size_check.proofs.known.Known.index.Goals as goal
 
 pub returns-in-Some : goal.returns-in-Some
 returns-in-Some c =
-    let found : lookup (nat_eq c.args.id) c.args.self.now.types.entries ≡ Some c.in-Some.known.now = search rules in
-    kept_index c.args.self.now.types.entries c.args.id c.in-Some.known.now (option_copied c.as_ref.result) found c.as_ref.ensures.value
+    let found : lookup (nat_eq c.args.id) c.args.self.now.types.entries ≡ Some c.in-Some.component.now = search rules in
+    kept_index c.args.self.now.types.entries c.args.id c.in-Some.component.now (option_copied c.as_ref.result) found c.as_ref.ensures.value

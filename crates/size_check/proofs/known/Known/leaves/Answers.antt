@@ -9,8 +9,8 @@ use Rattle.size_check.proofs.known.Known.leaves.Goals as goal
 
 pub returns-in-Some : goal.returns-in-Some
 returns-in-Some c =
-    let found : lookup (nat_eq c.args.id) c.args.self.now.types.entries ≡ Some c.in-Some.known.now = search rules in
-    c.in-Some.known.now.counted ∙ sym (ap (λ t. cap (count t)) (kept_found c.args.self.now.types.entries c.args.id (Some c.in-Some.known.now) found))
+    let found : lookup (nat_eq c.args.id) c.args.self.now.types.entries ≡ Some c.in-Some.component.now = search rules in
+    c.in-Some.component.now.known.counted ∙ sym (ap (λ t. cap (count t)) (kept_found c.args.self.now.types.entries c.args.id (Some c.in-Some.component.now) found))
 
 pub returns-in-None : goal.returns-in-None
 returns-in-None c =

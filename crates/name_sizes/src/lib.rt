@@ -1,11 +1,13 @@
-//! The leaves of types and the bytes of their names, without a list of them.
+//! The number of a type's leaves and the bytes of their names, without a list of them. Keeps the contract that both are those of the
+//! list, up to 2^128 - 1, which stands for all numbers from there on.
+#![tactic(auto)]
 
 ghost use Rattle.std.specs.Prelude.{◌≡◌, ◌+◌, ◌*◌, length, sum, map};
+ghost use Rattle.fir_types.specs.declared.fir_type.FirType.{FirType as AType};
 ghost use Rattle.fir_types.specs.Leaves.{count, field_count};
 ghost use Rattle.leaf_names.specs.LeafNames.{text_of};
-ghost use Rattle.size_check.specs.Caps.{cap};
-ghost use Rattle.size_check.specs.Owns.{name_bytes};
-ghost use Rattle.size_check.specs.Texts.{way_bytes, field_bytes, index_bytes};
+ghost use Rattle.name_sizes.specs.Caps.{cap};
+ghost use Rattle.name_sizes.specs.Texts.{name_bytes, way_bytes, field_bytes, index_bytes};
 
 use fir_tree::Names;
 use fir_types::{Field, FirType, Shape};
@@ -35,7 +37,15 @@ pub fn names_of(names: &Names, id: u32, typ: &FirType) -> Ways
     ensures leaves { result.leaves ≡ cap (count typ.now) }
     ensures bytes { result.bytes ≡ cap (name_bytes names.now id typ.now) }
 {
-    let Ways { leaves, bytes } = ways_of(names, typ);
+    names_by(names, id, ways_of(names, typ))
+}
+
+/// The same, where these are the ways to the leaves.
+pub fn names_by(names: &Names, id: u32, ways: Ways) -> Ways
+    ensures leaves { result.leaves ≡ ways.leaves }
+    ensures bytes { (typ : AType) → ways.leaves ≡ cap (count typ) → ways.bytes ≡ cap (way_bytes names.now typ) → result.bytes ≡ cap (name_bytes names.now id typ) }
+{
+    let Ways { leaves, bytes } = ways;
     Ways {
         leaves,
         bytes: leaves
@@ -84,7 +94,7 @@ impl Run {
 
 /// The leaves of a type, and the bytes of the ways to them.
 #[cycle(ways)]
-fn ways_of(names: &Names, typ: &FirType) -> Ways
+pub fn ways_of(names: &Names, typ: &FirType) -> Ways
     ensures leaves { result.leaves ≡ cap (count typ.now) }
     ensures bytes { result.bytes ≡ cap (way_bytes names.now typ.now) }
 {

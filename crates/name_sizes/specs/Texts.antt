@@ -1,10 +1,14 @@
--- The bytes of the ways to a type's leaves, without a list of them.
+-- The bytes of the names of a type's leaves, and of the ways to them.
 use Rattle.std.specs.Prelude.{ℕ, zero, suc, ◌+◌, sum, length, decimal, map, List}
 use Rattle.fir_types.specs.declared.fir_type.FirType.{FirType}
 use Rattle.fir_types.specs.declared.fir_type.Field.{Field}
 use Rattle.fir_types.specs.declared.leaf.TypeLeaf.{TypeLeaf}
 use Rattle.fir_types.specs.Leaves.{leaves, field_leaves}
-use Rattle.leaf_names.specs.LeafNames.{Texts, way_text}
+use Rattle.leaf_names.specs.LeafNames.{Texts, way_text, leaf_text}
+
+-- the bytes of the names of all leaves of a component
+abbrev pub name_bytes : Texts → ℕ → FirType → ℕ
+name_bytes texts id typ = sum (map (λ leaf. length (leaf_text texts id leaf.path)) (leaves typ))
 
 abbrev pub way_length : Texts → TypeLeaf → ℕ
 way_length texts leaf = length (way_text texts leaf.path)

@@ -2,12 +2,12 @@ use Rattle.std.proofs.Common.{◌∙◌, sym, ap}
 use Rattle.std.specs.Prelude.{length}
 use Rattle.fir_types.specs.Leaves.{count}
 use Rattle.leaf_names.specs.LeafNames.{text_of}
-use Rattle.size_check.specs.Texts.{way_bytes}
+use Rattle.name_sizes.specs.Texts.{way_bytes}
 use Rattle.fir_types.proofs.Layers.{count-bundle}
 use Rattle.fir_types.proofs.Runs.{element_falls}
-use Rattle.size_check.specs.Caps.{cap}
-use Rattle.size_check.proofs.Wording.{ways-field, ways-bundle, field_capped, leaves_on, bytes_on, bytes_around}
-use Rattle.size_check.proofs.names.+ways.Goals as goal
+use Rattle.name_sizes.specs.Caps.{cap}
+use Rattle.name_sizes.proofs.Wording.{ways-field, ways-bundle, field_capped, leaves_on, bytes_on, bytes_around}
+use Rattle.name_sizes.proofs.+ways.Goals as goal
 
 pub ways_of-loop-inside-preserved : goal.ways_of-loop-inside-preserved
 ways_of-loop-inside-preserved t c =

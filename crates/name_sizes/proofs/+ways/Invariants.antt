@@ -1,9 +1,9 @@
 use Rattle.std.proofs.Common.{◌≡◌, ◌≤◌, ◌+◌, ◌*◌, map, sum, take}
 use Rattle.fir_types.specs.declared.fir_type.FirType.{size-FirType}
 use Rattle.fir_types.specs.Leaves.{count, field_count}
-use Rattle.size_check.specs.Caps.{cap}
-use Rattle.size_check.specs.Texts.{way_bytes, field_bytes}
-use Rattle.size_check.proofs.names.+ways.Given as goal
+use Rattle.name_sizes.specs.Caps.{cap}
+use Rattle.name_sizes.specs.Texts.{way_bytes, field_bytes}
+use Rattle.name_sizes.proofs.+ways.Given as goal
 
 abbrev pub invariant-ways_of-loop-inside : goal.invariant-ways_of-loop-inside
 invariant-ways_of-loop-inside l = record {

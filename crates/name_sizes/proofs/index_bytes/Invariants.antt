@@ -1,7 +1,7 @@
 use Rattle.std.proofs.Common.{◌≡◌, ◌+◌, ◌*◌, ◌^◌}
-use Rattle.size_check.specs.Caps.{cap}
-use Rattle.size_check.proofs.Wording.{beyond}
-use Rattle.size_check.proofs.names.index_bytes.Given as goal
+use Rattle.name_sizes.specs.Caps.{cap}
+use Rattle.name_sizes.proofs.Wording.{beyond}
+use Rattle.name_sizes.proofs.index_bytes.Given as goal
 
 abbrev pub invariant-loop : goal.invariant-loop
 invariant-loop l = record {

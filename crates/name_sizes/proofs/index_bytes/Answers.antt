@@ -1,6 +1,6 @@
 use Rattle.std.proofs.Common.{refl}
-use Rattle.size_check.proofs.Wording.{power_plus, beyond_plus, beyond_begin, beyond_end}
-use Rattle.size_check.proofs.names.index_bytes.Goals as goal
+use Rattle.name_sizes.proofs.Wording.{power_plus, beyond_plus, beyond_begin, beyond_end}
+use Rattle.name_sizes.proofs.index_bytes.Goals as goal
 
 pub loop-init : goal.loop-init
 loop-init c = record { power = refl; total = beyond_begin c.args.length c.saturating_mul-total.result c.saturating_mul-total.ensures }

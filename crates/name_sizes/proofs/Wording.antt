@@ -18,10 +18,9 @@ use Rattle.fir_types.specs.Leaves.{leaves, count, field_leaves, elements, under}
 use Rattle.fir_types.proofs.Counts.{counted}
 use Rattle.fir_types.proofs.Layers.{leaves-bundle, leaves-vector, leaves-field, count-vector}
 use Rattle.leaf_names.specs.LeafNames.{Texts, text_of, step_text, way_text, leaf_text}
-use Rattle.size_check.specs.Caps.{cap}
-use Rattle.size_check.specs.Owns.{name_bytes}
-use Rattle.size_check.specs.Texts.{way_length, ways, way_bytes, field_bytes, index_bytes}
-use Rattle.size_check.proofs.Capping.{cap_plus, cap_times}
+use Rattle.name_sizes.specs.Caps.{cap}
+use Rattle.name_sizes.specs.Texts.{name_bytes, way_length, ways, way_bytes, field_bytes, index_bytes}
+use Rattle.name_sizes.proofs.Capping.{cap_plus, cap_times}
 
 none_there : {X : Type 0} (xs : List X) (i : ℕ) (d : X) → slice_get xs i ≡ None → get_or xs i d ≡ d
 none_there [] i d h = refl
