@@ -1,15 +1,9 @@
 -- Indexes of fields that stand beside types.
-use Rattle.std.specs.Prelude.{◌≡◌, ℕ, List, [], Option, Some, slice_get}
+use Rattle.std.specs.Prelude.{◌≡◌, ℕ, List, Option, Some, slice_get}
 use Rattle.fir_types.specs.declared.fir_type.FirType.{FirType}
-use Rattle.fir_types.specs.declared.fir_type.Field.{Field}
-use Rattle.fir_types.specs.declared.fir_type.Shape.TheVariants as shape
 use Rattle.field_index.specs.declared.index.FieldIndex.{FieldIndex}
-use Rattle.field_index.specs.Indexes.{IsIndexOf}
-
--- the index is that of the bundle's fields, without weights
-abbrev pub Indexes : FirType → FieldIndex → Type 0
-Indexes typ index = (fields : List Field) → typ.shape ≡ shape.Bundle fields → IsIndexOf index fields []
+use Rattle.field_index.specs.Indexes.{IsIndexOfType}
 
 -- each index is that of the type with its number
 abbrev pub AreIndexed : List FirType → List (Option FieldIndex) → Type 0
-AreIndexed types indexes = (i : ℕ) (typ : FirType) (index : FieldIndex) → slice_get types i ≡ Some typ → slice_get indexes i ≡ Some (Some index) → Indexes typ index
+AreIndexed types indexes = (i : ℕ) (typ : FirType) (index : FieldIndex) → slice_get types i ≡ Some typ → slice_get indexes i ≡ Some (Some index) → IsIndexOfType typ index

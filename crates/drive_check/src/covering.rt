@@ -1,6 +1,6 @@
 //! Whether all leaves that must be driven are.
 
-ghost use Rattle.std.specs.Prelude.{◌≡◌, ◌++◌, ⊤, false, drop, get_or, flat_map, IfOk, OnOk};
+ghost use Rattle.std.specs.Prelude.{◌≡◌, ◌++◌, ⊤, flat_map, IfOk, OnOk};
 ghost use Rattle.fault_order.specs.Verdicts.{IsVerdict};
 ghost use Rattle.circuit_laws.specs.WellFormed.{IsWellFormed};
 ghost use Rattle.drive_check.specs.Faults.{place_of, rank_of};
@@ -51,32 +51,12 @@ fn find(alloc: Global, fitted: &Fitted) -> Result<Vec<DriveFault>, AllocError>
     for number in 0..modules.len() {
         let holder = &modules[number];
         let names = names_of(alloc, holder)?;
-        if is_reached(reached, number) {
+        if reached.get(number).copied().unwrap_or(false) {
             push_module(alloc, &mut faults, holder, names.as_slice(), rest)?;
         }
-        rest = behind(rest, names.len());
+        rest = rest.get(names.len()..).unwrap_or(&[]);
     }
     Ok(faults)
-}
-
-fn is_reached(reached: &[bool], number: usize) -> bool
-    ensures { result ≡ get_or reached.now number false }
-{
-    match reached.get(number) {
-        Some(flag) => *flag,
-        None => false,
-    }
-}
-
-/// The types behind the first ones.
-fn behind(types: &[FirType], count: usize) -> &[FirType]
-    ensures { result.now ≡ drop count types.now }
-{
-    if count <= types.len() {
-        &types[count..]
-    } else {
-        &[]
-    }
 }
 
 /// Adds the faults of a module, which has these names and types.

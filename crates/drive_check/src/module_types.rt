@@ -30,8 +30,8 @@ impl<'a> ModuleTypes<'a> {
     ghost use Rattle.std.specs.Prelude.{Some, slice_get};
     ghost use Rattle.std.specs.Option.{ForSome};
     ghost use Rattle.fir_types.specs.declared.fir_type.FirType.{FirType as AType};
+    ghost use Rattle.field_index.specs.Indexes.{IsIndexOfType};
     ghost use Rattle.drive_check.specs.HeldTypes.{types_in};
-    ghost use Rattle.drive_check.specs.Indexed.{Indexes};
 
     /// The types of declarations with these names. Takes time and memory in proportion to their number and that of their fields.
     pub fn new(
@@ -88,7 +88,7 @@ impl<'a> ModuleTypes<'a> {
     }
 
     fn index_at(&self, number: usize) -> Option<&FieldIndex>
-        ensures { (typ : AType) → slice_get self.now.declared.now number ≡ Some typ → ForSome result (λ index. Indexes typ index.now) }
+        ensures { (typ : AType) → slice_get self.now.declared.now number ≡ Some typ → ForSome result (λ index. IsIndexOfType typ index.now) }
     {
         match self.indexes.get(number) {
             Some(Some(index)) => Some(index.get()),

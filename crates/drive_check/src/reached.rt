@@ -2,7 +2,7 @@
 
 ghost use Rattle.std.specs.Prelude.{◌≡◌};
 ghost use Rattle.std.specs.Option.{ForSome};
-ghost use Rattle.drive_check.specs.Indexed.{Indexes};
+ghost use Rattle.field_index.specs.Indexes.{IsIndexOfType};
 
 use crate::spot::{element_type, field_type};
 use field_index::FieldIndex;
@@ -13,7 +13,7 @@ use fir_types::{FirType, Shape};
 pub struct Reached<'a> {
     pub typ: &'a FirType,
     pub index: Option<&'a FieldIndex>,
-    ghost indexed: { ForSome index (λ index. Indexes typ.now index.now) },
+    ghost indexed: { ForSome index (λ index. IsIndexOfType typ.now index.now) },
 }
 
 impl<'a> Reached<'a> {

@@ -1,6 +1,6 @@
 //! The declarations of a circuit in text order.
 
-ghost use Rattle.std.specs.Prelude.{◌≡◌, ◌++◌, ◌∷◌, [], flat_map, drop, get_or, false, IfOk, OnOk};
+ghost use Rattle.std.specs.Prelude.{◌≡◌, ◌++◌, ◌∷◌, [], flat_map, IfOk, OnOk};
 ghost use Rattle.trace_print.specs.Components.{components_of, module_declared, stmt_declared, arm_declared};
 
 use crate::component::Component;
@@ -16,22 +16,11 @@ pub fn components(alloc: Global, checked: &Checked) -> Result<Vec<Component>, Al
     let mut all = Vec::new(alloc);
     let mut rest = checked.scope.reached.as_slice();
     for module in checked.circuit.modules.as_slice() {
-        let (reached, others) = take_flag(rest);
-        push_module(&mut all, module, reached)?;
+        let (reached, others) = rest.split_first().unwrap_or((&false, &[]));
+        push_module(&mut all, module, *reached)?;
         rest = others;
     }
     Ok(all)
-}
-
-/// The first flag, which is false where there is none, and those behind it.
-fn take_flag(flags: &[bool]) -> (bool, &[bool])
-    ensures first { result.0 ≡ get_or flags.now 0 false }
-    ensures rest { result.1.now ≡ drop 1 flags.now }
-{
-    match flags {
-        [first, others @ ..] => (*first, others),
-        [] => (false, flags),
-    }
 }
 
 fn push_module(all: &mut Vec<Component>, holder: &Module, reached: bool) -> Result<(), AllocError>

@@ -1,0 +1,16 @@
+use Rattle.std.proofs.Common.{◌≡◌, ◌++◌, map, take}
+use Rattle.std.specs.List.{flat_map}
+use Rattle.fir_types.specs.Leaves.{leaves, field_leaves, elements, under}
+use Rattle.drive_check.proofs.listing.Listing.+push.Given as goal
+
+abbrev pub invariant-push_counted-loop-field : goal.invariant-push_counted-loop-field
+invariant-push_counted-loop-field l = record {
+  listed : l.self.listed.items ≡ l.fn.self.listed.items ++ map (under l.fn.self.path.items l.flip) (flat_map field_leaves (take l.field-index l.field-items));
+  path : l.self.path.items ≡ l.fn.self.path.items;
+}
+
+abbrev pub invariant-push_counted-loop-index : goal.invariant-push_counted-loop-index
+invariant-push_counted-loop-index l = record {
+  listed : l.self.listed.items ≡ l.fn.self.listed.items ++ map (under l.fn.self.path.items l.flip) (elements (leaves l.element) l.index);
+  path : l.self.path.items ≡ l.fn.self.path.items;
+}
