@@ -5,24 +5,24 @@
 
 mod net;
 
+use bench_main::{Words, tell};
 use comb_order::{OrderFault, order};
 use net::{Shape, net_of};
 use std::alloc::Global;
-use std::env;
+use std::fmt;
+use std::fmt::{Display, Formatter};
 use std::process::ExitCode;
 
+/// The names of the shapes.
+const SHAPES: [(&str, Shape); 4] = [
+    ("forward", Shape::Forward),
+    ("backward", Shape::Backward),
+    ("ring", Shape::Ring),
+    ("tail", Shape::Tail),
+];
+
 fn main(rt: HostRuntime) -> ExitCode {
-    match run(&rt) {
-        Some(Answer::Ordered(count)) => match println!(rt; "ordered {count}") {
-            Ok(()) => ExitCode::from(0),
-            Err(_) => ExitCode::from(5),
-        },
-        Some(Answer::Looped(line)) => match println!(rt; "loop {line}") {
-            Ok(()) => ExitCode::from(0),
-            Err(_) => ExitCode::from(5),
-        },
-        None => ExitCode::from(1),
-    }
+    tell(&rt, run(&rt))
 }
 
 /// What became of a net.
@@ -34,18 +34,20 @@ enum Answer {
     Looped(u32),
 }
 
+impl Display for Answer {
+    fn fmt<W: fmt::Write>(&self, f: &mut Formatter<W>) -> fmt::Result {
+        match self {
+            Answer::Ordered(count) => write!(f, "ordered {count}"),
+            Answer::Looped(line) => write!(f, "loop {line}"),
+        }
+    }
+}
+
 /// The answer, where the words of the command line name a net.
 fn run(rt: &HostRuntime) -> Option<Answer> {
-    let mut words = env::args(rt).ok()?.skip(1);
-    let shape = match words.next()?.as_bytes() {
-        b"forward" => Shape::Forward,
-        b"backward" => Shape::Backward,
-        b"ring" => Shape::Ring,
-        b"tail" => Shape::Tail,
-        _ => return None,
-    };
-    let count: u32 = words.next()?.as_str().parse().ok()?;
-    answer_of(rt.alloc(), shape, count)
+    let mut words = Words::of(rt)?;
+    let shape = words.named(&SHAPES)?;
+    answer_of(rt.alloc(), shape, words.number()?)
 }
 
 /// The answer for a net of a shape, unless memory is wanting.

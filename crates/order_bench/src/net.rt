@@ -2,11 +2,11 @@
 
 ghost use Rattle.std.specs.Prelude.{◌≡◌, ◌<◌, length, IfOk, IfSome};
 ghost use Rattle.ground_net.specs.Reads.{MentionsLeaves};
-ghost use Rattle.order_bench.specs.Drivers.{ReadsBelow};
+ghost use Rattle.hand_nets.specs.Drivers.{ReadsBelow};
 
-use bit_words::{Kind, List};
-use ground_net::{Ground, Leaf, Net, Role};
-use place_text::Place;
+use bit_words::List;
+use ground_net::{Ground, Net, Role};
+use hand_nets::leaf_at;
 use std::alloc::{AllocError, Global};
 
 /// Which leaf each one reads.
@@ -30,7 +30,7 @@ pub fn net_of(alloc: Global, shape: Shape, count: u32) -> Result<Net, AllocError
     let mut leaves = List::new(alloc);
     let mut drivers = List::new(alloc);
     for index in 0..count {
-        leaves.push(leaf_at(alloc, index))?;
+        leaves.push(leaf_at(alloc, index, Role::Assigned))?;
         drivers.push(driver_of(shape, index, count))?;
     }
     Ok(Net {
@@ -40,20 +40,6 @@ pub fn net_of(alloc: Global, shape: Shape, count: u32) -> Result<Net, AllocError
         registers: List::new(alloc),
         memories: List::new(alloc),
     })
-}
-
-/// A leaf of one bit.
-fn leaf_at(alloc: Global, index: u32) -> Leaf {
-    Leaf {
-        name: List::new(alloc),
-        kind: Kind::Unsigned,
-        width: 1,
-        place: Place {
-            line: index.saturating_add(1),
-            column: 1,
-        },
-        role: Role::Assigned,
-    }
 }
 
 /// The driver of a leaf.

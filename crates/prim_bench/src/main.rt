@@ -6,33 +6,26 @@ ghost use Rattle.std.specs.Prelude.{◌≤◌};
 
 mod repeat;
 
+use bench_main::{Words, tell};
 use bit_words::{Kind, Value, from_words};
 use prim_ops::{Prim, arity, named};
 use repeat::{repeat_one, repeat_two};
-use std::env;
 use std::process::ExitCode;
 
+/// The names of the operands' kinds.
+const KINDS: [(&str, Kind); 2] = [("u", Kind::Unsigned), ("s", Kind::Signed)];
+
 fn main(rt: HostRuntime) -> ExitCode {
-    match run(&rt) {
-        Some(word) => match println!(rt; "{word}") {
-            Ok(()) => ExitCode::from(0),
-            Err(_) => ExitCode::from(5),
-        },
-        None => ExitCode::from(1),
-    }
+    tell(&rt, run(&rt))
 }
 
 /// The word to write, where the words of the command line name a run.
 fn run(rt: &HostRuntime) -> Option<u64> {
-    let mut words = env::args(rt).ok()?.skip(1);
-    let prim = named(words.next()?.as_bytes())?;
-    let kind = match words.next()?.as_bytes() {
-        b"u" => Kind::Unsigned,
-        b"s" => Kind::Signed,
-        _ => return None,
-    };
-    let width: u8 = words.next()?.as_str().parse().ok()?;
-    let count: u64 = words.next()?.as_str().parse().ok()?;
+    let mut words = Words::of(rt)?;
+    let prim = named(words.word()?.as_bytes())?;
+    let kind = words.named(&KINDS)?;
+    let width: u8 = words.number()?;
+    let count: u64 = words.number()?;
     if width > 128 {
         return None;
     }

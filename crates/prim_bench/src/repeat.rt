@@ -31,13 +31,7 @@ fn chain_two(prim: Prim, first: Value, second: Value, count: u64) -> u64
 {
     let mut last = first;
     for turn in 0..count {
-        let result = value_of(prim, &[last, second], &[]);
-        last = from_words(
-            first.kind,
-            first.width,
-            low_word(result) ^ mixed(turn),
-            high_word(result),
-        );
+        last = mixed(value_of(prim, &[last, second], &[]), turn, first);
     }
     low_word(last)
 }
@@ -67,18 +61,16 @@ fn chain_one(prim: Prim, first: Value, params: &[u128], count: u64) -> u64
 {
     let mut last = first;
     for turn in 0..count {
-        let result = value_of(prim, &[last], params);
-        last = from_words(
-            first.kind,
-            first.width,
-            low_word(result) ^ mixed(turn),
-            high_word(result),
-        );
+        last = mixed(value_of(prim, &[last], params), turn, first);
     }
     low_word(last)
 }
 
-/// A number with bits at all places, another for each turn.
-fn mixed(turn: u64) -> u64 {
-    turn.wrapping_mul(0x9e37_79b9_7f4a_7c15)
+/// A value of the first one's kind and width, whose bits are changed otherwise in each turn.
+fn mixed(given: Value, turn: u64, first: Value) -> Value
+    ensures kind { result.kind ≡ first.kind }
+    ensures width { result.width ≡ first.width }
+{
+    let low = low_word(given) ^ turn.wrapping_mul(0x9e37_79b9_7f4a_7c15);
+    from_words(first.kind, first.width, low, high_word(given))
 }

@@ -2,6 +2,7 @@
 
 ghost use Rattle.phase_core.specs.Script.{IsScript};
 
+use super::telling::expect;
 use bit_words::List;
 use phase_core::{PhaseState, Publication, Script, Step, View, apply, begin, is_script, run_steps};
 use std::alloc::{AllocError, Global};
@@ -52,72 +53,62 @@ fn take_steps(
     let mut list = Vec::new(alloc);
     for (step, holds) in steps {
         let taken = apply(alloc, script, &mut state, *step)?;
-        assert_eq!(rt; taken, *holds, "at {step:?}");
+        expect(rt, *step, taken, *holds);
         list.push(*step)?;
     }
     let all = run_steps(alloc, script, list.as_slice())?;
-    assert_eq!(rt; all.barrier, state.barrier);
-    assert_eq!(rt; all.words.as_slice(), state.words.as_slice());
-    assert_eq!(rt; all.views.as_slice(), state.views.as_slice());
-    assert_eq!(rt; all.closed, state.closed);
+    expect(rt, steps, told(&all), told(&state));
     Ok(state)
+}
+
+/// The barrier, the words, the views and whether the end was reached.
+fn told(state: &PhaseState) -> (u64, &[u64], &[Option<View>], bool) {
+    let (words, views) = (state.words.as_slice(), state.views.as_slice());
+    (state.barrier, words, views, state.closed)
 }
 
 /// Workers, their first words, and what each publishes in each cycle.
 #[derive(Clone, Copy)]
-struct Plan<'a> {
+struct Plan {
     workers: u32,
-    first: &'a [u64],
-    rows: &'a [&'a [u64]],
+    first: &'static [u64],
+    rows: &'static [&'static [u64]],
 }
 
-/// The state behind these steps, where the plan makes a script.
-fn state_after(
-    rt: &impl Abort,
-    alloc: Global,
-    plan: Plan<'_>,
-    steps: &[(Step, bool)],
-) -> Option<PhaseState> {
-    let script = script_of(alloc, plan.workers, plan.first, plan.rows).ok()?;
-    if is_script(&script) {
-        take_steps(rt, alloc, &script, steps).ok()
-    } else {
-        None
-    }
+/// A plan, steps with whether each holds, and the barrier, the words and whether the end was reached behind them.
+#[derive(Clone, Copy)]
+struct Run {
+    plan: Plan,
+    steps: &'static [(Step, bool)],
+    barrier: u64,
+    words: &'static [u64],
+    closed: bool,
 }
 
-/// Compares the barrier, the words and whether the end was reached.
-fn expect(rt: &impl Abort, state: Option<PhaseState>, barrier: u64, words: &[u64], closed: bool) {
-    match state {
-        Some(state) => {
-            assert_eq!(rt; state.barrier, barrier);
-            assert_eq!(rt; state.words.as_slice(), words);
-            assert_eq!(rt; state.closed, closed);
-        }
-        None => assert!(rt; false, "no script"),
-    }
-}
+/// One worker with one word.
+const ONE_WORKER: Plan = Plan {
+    workers: 1,
+    first: &[3],
+    rows: &[&[8]],
+};
 
-#[test]
-fn closes_at_once(rt: HostRuntime) {
-    let plan = Plan {
+/// No cycle.
+const AT_ONCE: Run = Run {
+    plan: Plan {
         workers: 1,
         first: &[],
         rows: &[],
-    };
-    let steps = [(Step::Close { view: 0 }, true)];
-    let state = state_after(&rt, rt.alloc(), plan, &steps);
-    expect(&rt, state, 0, &[], true);
-}
+    },
+    steps: &[(Step::Close { view: 0 }, true)],
+    barrier: 0,
+    words: &[],
+    closed: true,
+};
 
-#[test]
-fn runs_one_worker(rt: HostRuntime) {
-    let plan = Plan {
-        workers: 1,
-        first: &[3],
-        rows: &[&[8]],
-    };
-    let steps = [
+/// One cycle of one worker.
+const ONE_CYCLE: Run = Run {
+    plan: ONE_WORKER,
+    steps: &[
         (Step::Arrive { view: 0 }, true),
         (Step::Pass { view: 0 }, true),
         (Step::Publish { view: 0 }, true),
@@ -125,56 +116,54 @@ fn runs_one_worker(rt: HostRuntime) {
         (Step::Pass { view: 0 }, true),
         (Step::Load { view: 0, word: 0 }, true),
         (Step::Close { view: 0 }, true),
-    ];
-    let state = state_after(&rt, rt.alloc(), plan, &steps);
-    expect(&rt, state, 2, &[8], true);
-}
+    ],
+    barrier: 2,
+    words: &[8],
+    closed: true,
+};
 
-#[test]
-fn waits_for_a_publication(rt: HostRuntime) {
-    let plan = Plan {
-        workers: 1,
-        first: &[3],
-        rows: &[&[8]],
-    };
-    let steps = [
+/// What isn't published keeps the worker in its phase.
+const UNPUBLISHED: Run = Run {
+    plan: ONE_WORKER,
+    steps: &[
         (Step::Arrive { view: 0 }, true),
         (Step::Pass { view: 0 }, true),
         (Step::Arrive { view: 0 }, false),
         (Step::Pass { view: 0 }, false),
         (Step::Load { view: 0, word: 0 }, false),
         (Step::Close { view: 0 }, false),
-    ];
-    let state = state_after(&rt, rt.alloc(), plan, &steps);
-    expect(&rt, state, 1, &[3], false);
-}
+    ],
+    barrier: 1,
+    words: &[3],
+    closed: false,
+};
 
-#[test]
-fn waits_for_an_arrival(rt: HostRuntime) {
-    let plan = Plan {
+/// A worker waits for one that hasn't arrived.
+const UNARRIVED: Run = Run {
+    plan: Plan {
         workers: 2,
         first: &[5, 6],
         rows: &[&[9, 7]],
-    };
-    let steps = [
+    },
+    steps: &[
         (Step::Split { view: 0, at: 1 }, true),
         (Step::Load { view: 0, word: 0 }, true),
         (Step::Arrive { view: 0 }, true),
         (Step::Pass { view: 0 }, false),
-    ];
-    let state = state_after(&rt, rt.alloc(), plan, &steps);
-    expect(&rt, state, 1, &[5, 6], false);
-}
+    ],
+    barrier: 1,
+    words: &[5, 6],
+    closed: false,
+};
 
-// The worker 2 enters a phase only when the others have ended it.
-#[test]
-fn runs_three_workers(rt: HostRuntime) {
-    let plan = Plan {
+/// The worker 2 enters a phase only when the others have ended it.
+const THREE_WORKERS: Run = Run {
+    plan: Plan {
         workers: 3,
         first: &[1, 2, 3],
         rows: &[&[10, 20, 30], &[40, 50, 60]],
-    };
-    let steps = [
+    },
+    steps: &[
         (Step::Split { view: 0, at: 1 }, true),
         (Step::Split { view: 1, at: 2 }, true),
         (Step::Arrive { view: 0 }, true),
@@ -219,8 +208,43 @@ fn runs_three_workers(rt: HostRuntime) {
         (Step::Close { view: 0 }, false),
         (Step::Join { view: 0, other: 2 }, true),
         (Step::Close { view: 0 }, true),
-    ];
-    let state = state_after(&rt, rt.alloc(), plan, &steps);
+    ],
+    barrier: 12,
+    words: &[40, 50, 60],
+    closed: true,
+};
+
+/// The state behind these steps, where the plan makes a script.
+fn state_after(
+    rt: &impl Abort,
+    alloc: Global,
+    plan: Plan,
+    steps: &[(Step, bool)],
+) -> Option<PhaseState> {
+    let script = script_of(alloc, plan.workers, plan.first, plan.rows).ok()?;
+    if is_script(&script) {
+        take_steps(rt, alloc, &script, steps).ok()
+    } else {
+        None
+    }
+}
+
+#[test]
+fn steps_lead_to_states(rt: HostRuntime) {
+    for run in [AT_ONCE, ONE_CYCLE, UNPUBLISHED, UNARRIVED, THREE_WORKERS] {
+        match state_after(&rt, rt.alloc(), run.plan, run.steps) {
+            Some(state) => {
+                let found = (state.barrier, state.words.as_slice(), state.closed);
+                expect(&rt, run.steps, found, (run.barrier, run.words, run.closed));
+            }
+            None => assert!(rt; false, "no script"),
+        }
+    }
+}
+
+#[test]
+fn views_are_joined_into_the_first(rt: HostRuntime) {
+    let run = THREE_WORKERS;
     let last = View {
         low: 0,
         high: 3,
@@ -228,11 +252,12 @@ fn runs_three_workers(rt: HostRuntime) {
         passed: 4,
         done: 0,
     };
-    let views = [Some(last), None, None];
-    if let Some(state) = &state {
-        assert_eq!(rt; state.views.as_slice(), views.as_slice());
-    }
-    expect(&rt, state, 12, &[40, 50, 60], true);
+    let views = match state_after(&rt, rt.alloc(), run.plan, run.steps) {
+        Some(state) => state.views,
+        None => List::new(rt.alloc()),
+    };
+    let wanted = [Some(last), None, None];
+    expect(&rt, run.steps, views.as_slice(), &wanted);
 }
 
 #[test]

@@ -1,6 +1,6 @@
 use Rattle.std.proofs.Common.{[], ap, ◌∙◌, get_or}
 use Rattle.phase_core.proofs.Lists.{default_at, found_at}
-use Rattle.base_cases.proofs.posts.part.Goals as goal
+use Rattle.base_cases.proofs.cases.posts.part.Goals as goal
 
 pub returns-in-None-get : goal.returns-in-None-get
 returns-in-None-get c = default_at c.in-Some.round.now c.args.worker [] c.in-None-get.ensures.value

@@ -1,5 +1,6 @@
 //! Numbers as words write them.
 
+use super::telling::expect;
 use bit_words::{Base, Number, NumberFault, digits_value, read_magnitude, read_number};
 
 #[test]
@@ -30,10 +31,10 @@ fn words_are_numbers(rt: HostRuntime) {
         ("--1", none),
         ("+1", none),
     ] {
-        assert_eq!(rt; read_number(word.as_bytes()), reading, "at {word}");
+        expect(&rt, word, read_number(word.as_bytes()), reading);
     }
-    assert_eq!(rt; read_magnitude(b"0hfF"), Ok(255));
-    assert_eq!(rt; digits_value(Base::Octal, b"777"), Ok(511));
+    expect(&rt, "0hfF", read_magnitude(b"0hfF"), Ok(255));
+    expect(&rt, "777", digits_value(Base::Octal, b"777"), Ok(511));
 }
 
 fn number(negative: bool, magnitude: u128) -> Result<Number, NumberFault> {

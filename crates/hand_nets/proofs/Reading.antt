@@ -10,7 +10,7 @@ use Rattle.ground_net.specs.declared.net.Net.{Net}
 use Rattle.ground_net.specs.declared.net.Role.{Role}
 use Rattle.ground_net.specs.declared.net.Role.TheVariants as role
 use Rattle.ground_net.specs.Reads.{read_by, read_of, MentionsLeaves}
-use Rattle.order_bench.specs.Drivers.{ReadsBelow}
+use Rattle.hand_nets.specs.Drivers.{ReadsBelow}
 
 nothing : (b : ℕ) (n : ℕ) → Contains [] b → b < n
 nothing b n has = absurd (omega (arith, has.1))

@@ -1,23 +1,24 @@
 //! Lists and boxes that contracts see as what they hold.
 
+use super::telling::expect;
 use bit_words::{Boxed, Kind, List, Shared, SharedList, Value, from_words};
 use std::test::Fail;
 
 #[test]
 fn lists_and_boxes(rt: HostRuntime) -> Result<(), Fail> {
     let mut row: List<Value> = List::new(rt.alloc());
-    assert!(rt; row.is_empty());
+    expect(&rt, "an empty list", row.is_empty(), true);
     row.push(from_words(Kind::Unsigned, 8, 200, 0))?;
-    assert_eq!(rt; row.len(), 1);
-    assert_eq!(rt; row.get(0).map(|value| value.bits), Some(200));
-    assert_eq!(rt; row.get(1).is_none(), true);
+    let first = row.get(0).map(|value| value.bits);
+    expect(&rt, "a list of one", (row.len(), first), (1, Some(200)));
+    expect(&rt, "past the end", row.get(1).is_none(), true);
     let again = List::from_vec(row.into_vec());
-    assert_eq!(rt; again.as_slice().len(), 1);
+    expect(&rt, "the same list", again.as_slice().len(), 1);
     let mut copied: List<u32> = List::from_slice(rt.alloc(), &[3, 4])?;
     copied.set(1, 9);
-    assert_eq!(rt; copied.as_slice(), [3, 9].as_slice());
+    expect(&rt, "a set item", copied.as_slice(), &[3, 9]);
     let boxed = Boxed::new(rt.alloc(), 7_u32)?;
-    assert_eq!(rt; *boxed.get(), 7);
+    expect(&rt, "a box", *boxed.get(), 7);
     Ok(())
 }
 
@@ -26,8 +27,8 @@ fn one_value_has_several_owners(rt: HostRuntime) -> Result<(), Fail> {
     let list: List<u32> = List::from_slice(rt.alloc(), &[3, 4])?;
     let shared: SharedList<u32> = Shared::new(rt.alloc(), list)?;
     let again = shared.share()?;
-    assert_eq!(rt; shared.as_slice(), [3, 4].as_slice());
-    assert_eq!(rt; (again.len(), again.is_empty()), (2, false));
-    assert_eq!(rt; again.get().as_slice(), shared.as_slice());
+    expect(&rt, "the first owner", shared.as_slice(), &[3, 4]);
+    expect(&rt, "the second owner", again.get().as_slice(), &[3, 4]);
+    expect(&rt, "its list", (again.len(), again.is_empty()), (2, false));
     Ok(())
 }

@@ -5,7 +5,7 @@ use Rattle.phase_core.specs.declared.model.View.{View}
 use Rattle.phase_core.specs.Script.{publications}
 use Rattle.phase_core.specs.Sound.{part_of}
 use Rattle.phase_core.proofs.Lists.{at_index}
-use Rattle.base_cases.proofs.posts.publish.Goals as goal
+use Rattle.base_cases.proofs.cases.posts.publish.Goals as goal
 
 pub publish-requires-clause-next : goal.publish-requires-clause-next
 publish-requires-clause-next g c =

@@ -4,6 +4,7 @@ ghost use Rattle.std.specs.Prelude.{◌≡◌, ◌+◌, ◌*◌, ◌<◌, ◌≤
 ghost use Rattle.phase_core.specs.Script.{IsScript, values, publications};
 ghost use Rattle.register_table.specs.Shown.{Stands};
 
+use super::telling::expect;
 use bit_words::List;
 use phase_core::{Publication, Script, is_script};
 use register_table::{Plan, Post, RegisterTable};
@@ -159,8 +160,8 @@ fn two_posts_on_one_thread(rt: HostRuntime) -> Result<(), Fail> {
     assert!(rt; is_script(&script));
     assert!(rt; script.workers == 2 && script.cycles == 1 && script.first.len() == 1);
     let seen = run_by_hand::<Brand, _>(&rt, rt.alloc(), &script)?;
-    assert_eq!(rt; (seen.first, seen.second, seen.last), (5, 5, 9));
-    assert_eq!(rt; seen.words, [9]);
+    let found = (seen.first, seen.second, seen.last, seen.words);
+    expect(&rt, "two posts", found, (5, 5, 9, [9]));
     Ok(())
 }
 
@@ -244,6 +245,6 @@ fn two_posts_in_threads(rt: HostRuntime) -> Result<(), Fail> {
     assert!(rt; is_script(&script));
     assert!(rt; script.workers == 2 && script.first.len() == 2);
     let words = run_in_threads::<Brand, _>(&rt, rt.alloc(), &script)?;
-    assert_eq!(rt; words, [50, 60]);
+    expect(&rt, "two threads", words, [50, 60]);
     Ok(())
 }

@@ -1,5 +1,6 @@
 //! Places in texts, and the lines of faults.
 
+use super::telling::expect;
 use place_text::{Place, TextPart, fault_line, place_of};
 use std::test::Fail;
 
@@ -7,11 +8,8 @@ use std::test::Fail;
 fn finds_places(rt: HostRuntime) {
     let places = [(0, 1, 1), (1, 1, 2), (2, 2, 1), (3, 2, 2), (4, 2, 3)];
     for (offset, line, column) in places {
-        assert_eq!(rt;
-            place_of(b"a\nbc", offset),
-            Place { line, column },
-            "at {offset}"
-        );
+        let place = place_of(b"a\nbc", offset);
+        expect(&rt, offset, place, Place { line, column });
     }
 }
 
@@ -34,7 +32,7 @@ fn names_a_fault(rt: HostRuntime) -> Result<(), Fail> {
         ),
     ] {
         let written = fault_line(rt.alloc(), part, kind, Place { line, column })?;
-        assert_eq!(rt; written.as_slice(), wanted.as_bytes());
+        expect(&rt, kind, written.as_slice(), wanted.as_bytes());
     }
     Ok(())
 }

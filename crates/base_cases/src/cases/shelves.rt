@@ -1,5 +1,6 @@
 //! Shelves of texts and sinks of bytes, in memory and real ones.
 
+use super::telling::expect;
 use shelf_io::{
     Shelf, ShelfFailed, ShelfMemory, ShelfReal, SinkFailed, SinkMemory, SinkReal, TakeFault,
     put_all, take_text,
@@ -41,11 +42,8 @@ fn takes_texts(rt: HostRuntime) -> Result<(), Fail> {
         ("c", 2, "", Err(TakeFault::TooLong)),
         ("d", 3, "", Err(TakeFault::ReadFault)),
     ] {
-        assert_eq!(rt;
-            is_text(alloc, &mut texts, name, most, text),
-            wanted,
-            "at {name}"
-        );
+        let taken = is_text(alloc, &mut texts, name, most, text);
+        expect(&rt, name, taken, wanted);
     }
     Ok(())
 }
@@ -68,7 +66,7 @@ fn fails_at_listed_calls(rt: HostRuntime) {
         (7, [Ok(true), fault]),
         (11, [Ok(true), Ok(true)]),
     ] {
-        assert_eq!(rt; taken_twice(rt.alloc(), call), Some(wanted), "at {call}");
+        expect(&rt, call, taken_twice(rt.alloc(), call), Some(wanted));
     }
 }
 
@@ -83,8 +81,9 @@ fn puts_all(rt: HostRuntime) -> Result<(), Fail> {
         ("cde", Err(SinkFailed), "abcd"),
         ("ef", Err(SinkFailed), "abcde"),
     ] {
-        assert_eq!(rt; put_all(&mut sink, bytes.as_bytes()), answer, "at {bytes}");
-        assert_eq!(rt; sink.bytes(), written.as_bytes(), "at {bytes}");
+        let put = put_all(&mut sink, bytes.as_bytes());
+        let wanted = (answer, written.as_bytes());
+        expect(&rt, bytes, (put, sink.bytes()), wanted);
     }
     Ok(())
 }
@@ -96,22 +95,20 @@ fn reads_files(rt: HostRuntime) -> Result<(), Fail> {
     fs::write(&rt, name, b"abc".as_slice())?;
     let mut files = ShelfReal::new(&rt);
     for (most, wanted) in [(3, Ok(true)), (2, Err(TakeFault::TooLong))] {
-        assert_eq!(rt;
-            is_text(alloc, &mut files, name, most, "abc"),
-            wanted,
-            "at {most}"
-        );
+        let taken = is_text(alloc, &mut files, name, most, "abc");
+        expect(&rt, most, taken, wanted);
     }
     fs::remove_file(&rt, name)?;
     let gone = is_text(alloc, &mut files, name, 3, "abc");
-    assert_eq!(rt; gone, Err(TakeFault::ReadFault));
-    assert_eq!(rt; files.open("-"), Ok(()));
-    assert_eq!(rt; files.open("-"), Err(ShelfFailed));
+    expect(&rt, "a file that is gone", gone, Err(TakeFault::ReadFault));
+    expect(&rt, "standard input", files.open("-"), Ok(()));
+    expect(&rt, "the same again", files.open("-"), Err(ShelfFailed));
     Ok(())
 }
 
 #[test]
 fn prints(rt: HostRuntime) {
     let mut sink = SinkReal::new(&rt);
-    assert_eq!(rt; put_all(&mut sink, b"written by the real sink\n"), Ok(()));
+    let put = put_all(&mut sink, b"written by the real sink\n");
+    expect(&rt, "standard output", put, Ok(()));
 }

@@ -1,5 +1,6 @@
 //! Slots that are taken and given back, and a block that is cut into frames.
 
+use super::telling::expect;
 use std::alloc::Global;
 use std::process::Abort;
 use std::test::Fail;
@@ -8,9 +9,9 @@ use word_pool::{PoolFault, Region, Slots};
 /// What is taken once the first one taken was given back, and how many were live at once; the answers before it are told here.
 fn taken_again(rt: &impl Abort, slots: &mut Slots) -> Result<(u32, u32), PoolFault> {
     let first = slots.take()?;
-    assert_eq!(rt; first, 0);
-    assert_eq!(rt; slots.take(), Ok(1));
-    assert_eq!(rt; slots.take(), Err(PoolFault::Full(2)));
+    expect(rt, "the first", first, 0);
+    expect(rt, "the second", slots.take(), Ok(1));
+    expect(rt, "one more", slots.take(), Err(PoolFault::Full(2)));
     slots.give(first);
     Ok((slots.take()?, slots.high()))
 }
@@ -18,15 +19,16 @@ fn taken_again(rt: &impl Abort, slots: &mut Slots) -> Result<(u32, u32), PoolFau
 #[test]
 fn the_least_slot_is_taken(rt: HostRuntime) {
     let mut slots = Slots::new(rt.alloc(), 2);
-    assert_eq!(rt; slots.high(), 0);
-    assert_eq!(rt; taken_again(&rt, &mut slots), Ok((0, 2)));
+    expect(&rt, "none", slots.high(), 0);
+    let again = taken_again(&rt, &mut slots);
+    expect(&rt, "the first again", again, Ok((0, 2)));
 }
 
 #[test]
 fn no_slot_is_below_zero(rt: HostRuntime) {
     let mut slots = Slots::new(rt.alloc(), 0);
-    assert_eq!(rt; slots.take(), Err(PoolFault::Full(0)));
-    assert_eq!(rt; slots.high(), 0);
+    expect(&rt, "none", slots.take(), Err(PoolFault::Full(0)));
+    expect(&rt, "none taken", slots.high(), 0);
 }
 
 #[test]
@@ -34,9 +36,9 @@ fn reserved_slots_are_taken_from_zero(rt: HostRuntime) -> Result<(), Fail> {
     let mut slots = Slots::new(rt.alloc(), 4);
     slots.reserve(3)?;
     for wanted in 0..3 {
-        assert_eq!(rt; slots.take(), Ok(wanted));
+        expect(&rt, "a slot", slots.take(), Ok(wanted));
     }
-    assert_eq!(rt; slots.high(), 3);
+    expect(&rt, "all taken", slots.high(), 3);
     Ok(())
 }
 
@@ -67,7 +69,7 @@ fn frames_are_cut_from_the_front(rt: HostRuntime) -> Result<(), Fail> {
         ([usize::MAX, 1].as_slice(), "Full(5)"),
     ] {
         let told = told_frames(rt.alloc(), &mut region, lengths);
-        assert_eq!(rt; told.as_deref(), Some(wanted));
+        expect(&rt, lengths, told.as_deref(), Some(wanted));
     }
     Ok(())
 }

@@ -1,7 +1,9 @@
 //! Values: their decimal texts, and how they are fitted to kinds and widths.
 
+use super::telling::expect;
 use bit_words::{
-    Kind, Number, fit, fits, from_words, high_word, least_width, low_word, push_decimal, value_from,
+    Kind, Number, Value, fit, fits, from_words, high_word, least_width, low_word, push_decimal,
+    value_from,
 };
 use std::test::Fail;
 
@@ -26,24 +28,41 @@ fn values_have_decimal_texts(rt: HostRuntime) -> Result<(), Fail> {
     ] {
         let mut out = Vec::from_slice(rt.alloc(), b"= ")?;
         push_decimal(&mut out, value)?;
-        assert_eq!(rt; &out[..2], b"= ".as_slice());
-        assert_eq!(rt; &out[2..], text.as_bytes());
+        let wanted = format!(in rt.alloc(); "= {text}")?;
+        expect(&rt, text, out.as_slice(), wanted.as_bytes());
     }
     Ok(())
 }
 
 #[test]
 fn values_are_fitted(rt: HostRuntime) {
-    let minus_one = from_words(Kind::Signed, 4, 15, 0);
-    assert_eq!(rt; fit(Kind::Unsigned, 8, minus_one).bits, 255);
-    assert_eq!(rt; fit(Kind::Signed, 8, minus_one).bits, 255);
-    assert_eq!(rt; fit(Kind::Unsigned, 2, minus_one).bits, 3);
-    assert_eq!(rt; fit(Kind::Signed, 0, minus_one).bits, 0);
-    let fifteen = from_words(Kind::Unsigned, 4, 15, 0);
-    assert_eq!(rt; fit(Kind::Signed, 8, fifteen).bits, 15);
+    // -1 or 15 of 4 bits
+    for (of, kind, width, bits) in [
+        (Kind::Signed, Kind::Unsigned, 8, 255),
+        (Kind::Signed, Kind::Signed, 8, 255),
+        (Kind::Signed, Kind::Unsigned, 2, 3),
+        (Kind::Signed, Kind::Signed, 0, 0),
+        (Kind::Unsigned, Kind::Signed, 8, 15),
+    ] {
+        let value = from_words(of, 4, 15, 0);
+        expect(
+            &rt,
+            (of, kind, width),
+            fitted(kind, width, value),
+            Some(bits),
+        );
+    }
     let wide = from_words(Kind::Unsigned, 100, 7, 1 << 40);
-    assert_eq!(rt; low_word(wide), 7);
-    assert_eq!(rt; high_word(wide), 0);
+    expect(&rt, "words", (low_word(wide), high_word(wide)), (7, 0));
+}
+
+/// The bits of a value that is fitted, where the width is one.
+fn fitted(kind: Kind, width: u8, value: Value) -> Option<u128> {
+    if width <= 128 {
+        Some(fit(kind, width, value).bits)
+    } else {
+        None
+    }
 }
 
 #[test]
@@ -65,7 +84,12 @@ fn numbers_fit_widths(rt: HostRuntime) {
             negative,
             magnitude,
         };
-        assert_eq!(rt; fits(number, kind, width), answer);
+        expect(
+            &rt,
+            (number, kind, width),
+            fits(number, kind, width),
+            answer,
+        );
     }
 }
 
@@ -90,7 +114,7 @@ fn literals_take_the_least_width(rt: HostRuntime) {
             negative,
             magnitude,
         };
-        assert_eq!(rt; least_width(kind, number), width);
+        expect(&rt, (kind, number), least_width(kind, number), width);
     }
 }
 
@@ -107,12 +131,16 @@ fn literals_have_values(rt: HostRuntime) {
             negative,
             magnitude,
         };
-        if fits(number, Kind::Signed, u128::from(width)) {
-            let value = value_from(Kind::Signed, width, number);
-            assert_eq!(rt; value.bits, bits);
-            assert_eq!(rt; value.width, width);
-        } else {
-            assert!(rt; false);
-        }
+        expect(&rt, number, literal(width, number), Some((bits, width)));
+    }
+}
+
+/// The bits and the width of a signed literal that fits its width.
+fn literal(width: u8, number: Number) -> Option<(u128, u8)> {
+    if fits(number, Kind::Signed, u128::from(width)) && width <= 128 {
+        let value = value_from(Kind::Signed, width, number);
+        Some((value.bits, value.width))
+    } else {
+        None
     }
 }

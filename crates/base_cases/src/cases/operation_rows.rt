@@ -1,5 +1,6 @@
 //! The operations by their names, kinds, widths and parameters.
 
+use super::telling::expect;
 use bit_words::Kind;
 use prim_ops::{Prim, Width, arity, kind_of, named, params_fit, width_of};
 
@@ -41,20 +42,15 @@ const ROWS: [(&[u8], u32, u32); 31] = [
 #[test]
 fn each_operation_has_its_row(rt: HostRuntime) {
     for (name, operands, parameters) in ROWS {
-        match named(name) {
-            Some(prim) => {
-                assert_eq!(rt; arity(prim), (operands, parameters));
-                assert_eq!(rt; prim.name().as_bytes(), name);
-            }
-            None => assert!(rt; false),
-        }
+        let row = named(name).map(|prim| (prim.name().as_bytes(), arity(prim)));
+        expect(&rt, name, row, Some((name, (operands, parameters))));
     }
 }
 
 #[test]
 fn other_names_are_no_operations(rt: HostRuntime) {
     for name in [b"mux".as_slice(), b"validif", b"UInt", b"Add", b"bit", b""] {
-        assert!(rt; named(name).is_none());
+        expect(&rt, name, named(name), None);
     }
 }
 
@@ -148,7 +144,8 @@ fn operations_have_widths(rt: HostRuntime) {
             Width::Bits(5),
         ),
     ] {
-        assert_eq!(rt; width_in(prim, &kinds, &[first, second], &[]), Some(wanted));
+        let width = width_in(prim, &kinds, &[first, second], &[]);
+        expect(&rt, (prim, first, second), width, Some(wanted));
     }
 }
 
@@ -160,7 +157,7 @@ fn parameters_count_in_widths(rt: HostRuntime) {
         (u128::MAX, Width::Bits(1)),
     ] {
         let width = width_in(Prim::Shr, &[Kind::Signed], &[Width::Bits(8)], &[by]);
-        assert_eq!(rt; width, Some(wanted), "at {by}");
+        expect(&rt, by, width, Some(wanted));
     }
     for (high, low, wanted) in [
         (5, 2, Width::Bits(4)),
@@ -170,19 +167,31 @@ fn parameters_count_in_widths(rt: HostRuntime) {
         (u128::MAX, 0, Width::Over),
     ] {
         let width = width_in(Prim::Bits, &[Kind::Signed], &[Width::Bits(8)], &[high, low]);
-        assert_eq!(rt; width, Some(wanted), "at {high} and {low}");
+        expect(&rt, (high, low), width, Some(wanted));
     }
 }
 
 #[test]
 fn parameters_have_ranges(rt: HostRuntime) {
-    for (high, low, answer) in [(7, 0, true), (8, 0, false), (3, 4, false), (0, 0, true)] {
-        assert_eq!(rt; params_fit(Prim::Bits, &[8], &[high, low]), answer);
+    for (width, high, low, answer) in [
+        (8, 7, 0, true),
+        (8, 8, 0, false),
+        (8, 3, 4, false),
+        (8, 0, 0, true),
+        (0, 0, 0, false),
+    ] {
+        let fit = params_fit(Prim::Bits, &[width], &[high, low]);
+        expect(&rt, (width, high, low), fit, answer);
     }
-    assert!(rt; !params_fit(Prim::Bits, &[0], &[0, 0]));
-    assert!(rt; params_fit(Prim::Head, &[8], &[8]));
-    assert!(rt; !params_fit(Prim::Tail, &[8], &[9]));
-    assert!(rt; params_fit(Prim::Pad, &[8], &[u128::MAX]));
+    let head = params_fit(Prim::Head, &[8], &[8]);
+    let tail = params_fit(Prim::Tail, &[8], &[9]);
+    let pad = params_fit(Prim::Pad, &[8], &[u128::MAX]);
+    expect(
+        &rt,
+        "head, tail, pad",
+        (head, tail, pad),
+        (true, false, true),
+    );
 }
 
 #[test]
@@ -201,7 +210,8 @@ fn operations_have_kinds(rt: HostRuntime) {
             Some(Kind::Unsigned),
         ),
     ] {
-        assert_eq!(rt; kind_in(prim, &kinds), wanted);
+        expect(&rt, prim, kind_in(prim, &kinds), wanted);
     }
-    assert_eq!(rt; kind_in(Prim::Not, &[Kind::Signed]), Some(Kind::Unsigned));
+    let not = kind_in(Prim::Not, &[Kind::Signed]);
+    expect(&rt, Prim::Not, not, Some(Kind::Unsigned));
 }
