@@ -69,10 +69,13 @@ pub(crate) fn emit_nested(
     ensures makes { IfOk result (λ s. IsDraft draft.old → All (Stands draft.old) spots → Makes draft.old draft.new s (IsMade (nested_value inner.entry.prim inner.entry.params.now outer.entry.prim outer.entry.params.now) spots (spot_shape s))) }
     ensures follows { IfOk result (λ s. Follows spots draft.old draft.new s) }
 {
-    match lowest(draft, spots.as_slice(), inner, outer)? {
-        Some(spot) => Ok(spot),
-        None => emit_both(alloc, draft, spots, inner, outer),
+    if let Some(spot) = lowest(draft, spots.as_slice(), inner, outer)? {
+        return Ok(spot);
     }
+    let between = emit_operation(alloc, draft, inner.prim, spots, inner.params)?;
+    let mut one = List::new(alloc);
+    one.push(between)?;
+    emit_operation(alloc, draft, outer.prim, one, outer.params)
 }
 
 /// The same, where the outer operation takes lowest bits and words suffice for it; else none, and the code stays as it is.
@@ -93,25 +96,6 @@ fn lowest(
     }
     let measure = nested_measure(spots, inner, outer);
     lowest_word(draft, inner.prim, spots, measure)
-}
-
-/// The value of the inner operation, and then that of the outer one.
-fn emit_both(
-    alloc: Global,
-    draft: &mut Draft,
-    spots: List<Spot>,
-    inner: Row<'_>,
-    outer: Row<'_>,
-) -> Result<Spot, AllocError>
-    requires { IsSome (nested_shape inner.prim inner.params.now outer.prim outer.params.now (spot_shapes spots)) }
-    ensures shape { IfOk result (λ s. nested_shape inner.entry.prim inner.entry.params.now outer.entry.prim outer.entry.params.now (spot_shapes spots) ≡ Some (spot_shape s)) }
-    ensures makes { IfOk result (λ s. IsDraft draft.old → All (Stands draft.old) spots → Makes draft.old draft.new s (IsMade (nested_value inner.entry.prim inner.entry.params.now outer.entry.prim outer.entry.params.now) spots (spot_shape s))) }
-    ensures follows { IfOk result (λ s. Follows spots draft.old draft.new s) }
-{
-    let between = emit_operation(alloc, draft, inner.prim, spots, inner.params)?;
-    let mut one = List::new(alloc);
-    one.push(between)?;
-    emit_operation(alloc, draft, outer.prim, one, outer.params)
 }
 
 /// The kind and the width of the outer operation on the inner one.

@@ -1,12 +1,12 @@
 -- The integers of what captured reads show next.
-use Rattle.std.proofs.Common.{◌≡◌, ◌==◌, ℕ, zero, suc, ◌+◌, ◌*◌, ◌-◌, ◌%◌, ◌^◌, ◌<◌, ◌≤◌, min, Bool, true, false, ◌&&◌, not, nat_lt, if◌then◌else◌, List, [], ◌∷◌, length, slice_get, get_or, Option, Some, None, option_map, ℤ, pos, negsuc, unsigned_abs, int_eq, int_lt, All, refl, sym, subst, ap, ap₂, ◌∙◌, arith, fold, mod-eq_of_lt}
+use Rattle.std.proofs.Common.{◌≡◌, ◌==◌, ℕ, suc, ◌*◌, ◌-◌, ◌%◌, ◌^◌, ◌<◌, ◌≤◌, min, Bool, true, false, ◌&&◌, not, nat_lt, if◌then◌else◌, List, [], ◌∷◌, slice_get, Option, Some, None, option_map, ℤ, pos, negsuc, unsigned_abs, int_eq, int_lt, All, refl, sym, subst, ap, ap₂, ◌∙◌, arith, fold, mod-eq_of_lt}
 use Rattle.std.proofs.lemmas.Grind.{common_steps}
 use Rattle.std.proofs.lemmas.Bool.Decides.{nat_tests}
 use Rattle.std.proofs.lemmas.Nat.{pow_pos}
 use Rattle.bit_words.specs.declared.value.Kind.{Kind}
 use Rattle.bit_words.specs.declared.value.Kind.TheVariants.{Unsigned, Signed}
 use Rattle.bit_words.specs.declared.value.Value.{Value}
-use Rattle.bit_words.specs.Values.{integer, integer_of, bits_of}
+use Rattle.bit_words.specs.Values.{integer, integer_of}
 use Rattle.prim_ops.specs.declared.operation.PrimOp.TheVariants as op
 use Rattle.prim_ops.specs.Kinds.{kind_on_two}
 use Rattle.prim_ops.specs.Results.{one_if}
@@ -14,7 +14,7 @@ use Rattle.cycle_values.specs.Values.{fitted, is_one, operation, kind_or_unsigne
 use Rattle.cycle_values.specs.Ports.{Held, after_port, after_ports, read_by_port, set_to_write, set_to_read}
 use Rattle.cycle_values.proofs.Fittings.{same_value, min_small}
 use Rattle.ground_net.specs.declared.ground.Ground.{Ground}
-use Rattle.ground_net.specs.declared.ground.Ground.TheVariants.{Const, Leaf, Op, Mux, Load}
+use Rattle.ground_net.specs.declared.ground.Ground.TheVariants.{Const, Leaf}
 use Rattle.ground_net.specs.declared.net.NetMemory.{NetMemory}
 use Rattle.ground_net.specs.declared.net.NetPort.{NetPort}
 use Rattle.ground_net.specs.declared.net.NetWrite.{NetWrite}
@@ -24,7 +24,7 @@ use Rattle.ground_net.proofs.Layers.{value-Const, value-Leaf, value-Op, value-Mu
 use Rattle.net_meaning.specs.Shapes.{Shape, shaped, Table, HasShapes}
 use Rattle.net_meaning.specs.Cycles.{is_set, is_set_at, integer_at, where_it_writes, where_it_reads, written_leaf, mask_leaf, shown, taken, next_of_memory}
 use Rattle.memory_grounds.specs.declared.leaf.MemoryLeaf.{MemoryLeaf}
-use Rattle.memory_grounds.specs.Captures.{zero_bit, one_bit, both_ground, unless_ground, writing_ground, reading_ground, same_ground, below_ground, over_leaf, over_ground, there_ground, before_ground, after_ground, captured_ground, IsUInt, HasReader, HasWriter, HasCapture, ShowsHeld}
+use Rattle.memory_grounds.specs.Captures.{zero_bit, one_bit, both_ground, unless_ground, writing_ground, reading_ground, same_ground, below_ground, over_leaf, over_ground, there_ground, before_ground, after_ground, captured_ground, IsUInt, HasWriter, HasCapture, ShowsHeld}
 
 -- Zeros
 

@@ -1,21 +1,20 @@
 -- The kinds and widths of what captured reads show next.
-use Rattle.std.proofs.Common.{◌≡◌, ◌==◌, ℕ, suc, ◌+◌, ◌<◌, ◌≤◌, Bool, true, false, ◌&&◌, if◌then◌else◌, List, [], ◌∷◌, length, slice_get, Option, Some, None, option_and_then, pos, All, refl, sym, ap, ap₂, ◌∙◌, arith, fold}
+use Rattle.std.proofs.Common.{◌≡◌, ◌==◌, ℕ, suc, Bool, true, false, ◌&&◌, if◌then◌else◌, List, [], ◌∷◌, slice_get, Option, Some, None, option_and_then, pos, All, refl, ap, ap₂, ◌∙◌, arith, fold}
 use Rattle.std.proofs.lemmas.Grind.{common_steps}
 use Rattle.bit_words.specs.declared.value.Kind.{Kind}
 use Rattle.bit_words.specs.declared.value.Kind.TheVariants.{Unsigned, Signed}
-use Rattle.bit_words.specs.declared.value.Value.{Value}
 use Rattle.prim_ops.specs.declared.operation.PrimOp.TheVariants as op
 use Rattle.cycle_values.specs.Values.{fitted}
 use Rattle.ground_net.specs.declared.ground.Ground.{Ground}
-use Rattle.ground_net.specs.declared.ground.Ground.TheVariants.{Const, Leaf, Op, Mux, Load}
+use Rattle.ground_net.specs.declared.ground.Ground.TheVariants.{Const, Leaf, Mux, Load}
 use Rattle.ground_net.specs.declared.net.NetMemory.{NetMemory}
 use Rattle.ground_net.specs.declared.net.NetPort.{NetPort}
 use Rattle.ground_net.specs.declared.net.NetWrite.{NetWrite}
-use Rattle.net_meaning.specs.Shapes.{Shape, shaped, Table, shape, shape_of_value, all_of, shape_of_choice, shape_of_row, shape_of_load, same_kind, same_shape}
+use Rattle.net_meaning.specs.Shapes.{Shape, shaped, Table, shape, all_of, shape_of_choice, shape_of_row, shape_of_load, same_kind, same_shape}
 use Rattle.net_meaning.specs.Cycles.{written_leaf, mask_leaf}
 use Rattle.net_meaning.proofs.Shaping.{shape-Const, shape-Leaf, shape-Op, shape-Mux, shape-Load, fitted_shape}
 use Rattle.memory_grounds.specs.declared.leaf.MemoryLeaf.{MemoryLeaf}
-use Rattle.memory_grounds.specs.Captures.{zero_bit, one_bit, both_ground, unless_ground, writing_ground, reading_ground, same_ground, below_ground, over_leaf, over_ground, there_ground, before_ground, after_ground, captured_ground, IsUInt, HasReader, HasWriter, HasCapture}
+use Rattle.memory_grounds.specs.Captures.{zero_bit, one_bit, both_ground, unless_ground, writing_ground, reading_ground, same_ground, below_ground, over_leaf, over_ground, there_ground, captured_ground, IsUInt, HasReader, HasWriter, HasCapture}
 
 same_itself : (s : Shape) → same_shape s s ≡ true
 same_itself s = ap₂ (λ a b. a && b) (kind_itself s.kind) (number_itself s.width)

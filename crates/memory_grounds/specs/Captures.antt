@@ -1,5 +1,5 @@
 -- What a captured read of a memory shows next, as an expression (FIRRTL specification 3.0, "Memories").
-use Rattle.std.specs.Prelude.{◌≡◌, ℕ, nat_lt, Bool, List, [], ◌∷◌, fold, slice_get, ℤ, pos, unsigned_abs, Option, Some, None, All, if◌then◌else◌}
+use Rattle.std.specs.Prelude.{◌≡◌, ℕ, nat_lt, Bool, [], ◌∷◌, fold, slice_get, pos, unsigned_abs, Option, Some, None, All, if◌then◌else◌}
 use Rattle.bit_words.specs.declared.value.Kind.TheVariants.{Unsigned}
 use Rattle.bit_words.specs.declared.value.Value.{Value}
 use Rattle.bit_words.specs.Values.{integer_of}

@@ -31,21 +31,6 @@ pub fn captured_ground(
     ensures value { IfOk result (λ g. (table : Table) (sight : Sight) (held : Held ℕ) (read : NetRead) → HasCapture table memory.now port.now of → HasShapes table sight → ShowsHeld sight memory.now of held → port.now.read ≡ Some read → integer_of (value g sight) ≡ read_by_port memory.now.depth (taken after held (next_of_memory sight (Some memory.now) held)) (shown sight port.now) of.number) }
     ensures shape { IfOk result (λ g. (table : Table) → HasCapture table memory.now port.now of → shape g table ≡ Some (shaped of.kind of.width)) }
 {
-    let next = made(alloc, memory, port, of, after)?;
-    Ok(next)
-}
-
-/// The expression.
-fn made(
-    alloc: Global,
-    memory: &NetMemory,
-    port: &NetPort,
-    of: MemoryLeaf,
-    after: bool,
-) -> Result<Ground, AllocError>
-    ensures itself { IfOk result (λ g. g ≡ captured_of memory.now port.now of after) }
-    ensures depth { memory.now.depth < 2 ^ 128 }
-{
     let depth = depth_value(memory.depth);
     if after {
         after_ground(alloc, memory, port, of, depth)

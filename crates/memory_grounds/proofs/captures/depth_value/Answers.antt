@@ -1,4 +1,4 @@
-use Rattle.std.proofs.Common.{◌≡◌, refl}
+use Rattle.std.proofs.Common.{refl}
 use Rattle.memory_grounds.proofs.Reading.{number_made}
 use Rattle.memory_grounds.proofs.captures.depth_value.Goals as goal
 

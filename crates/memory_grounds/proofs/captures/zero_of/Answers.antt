@@ -1,4 +1,4 @@
-use Rattle.std.proofs.Common.{◌≡◌, refl}
+use Rattle.std.proofs.Common.{refl}
 use Rattle.memory_grounds.proofs.Reading.{zero_made}
 use Rattle.memory_grounds.proofs.captures.zero_of.Goals as goal
 
