@@ -3,9 +3,8 @@
 ghost use Rattle.std.specs.Prelude.{◌<◌, ◌≡◌, ◌^◌, length, All, IfOk};
 
 use bit_words::{Kind, List};
-use ground_net::{
-    Ground, GroundArm, GroundCircuit, GroundLeaf, GroundModule, GroundRole, GroundStmt,
-};
+use ground_net::{Ground, GroundArm, GroundCircuit, GroundLeaf, GroundRole, GroundStmt};
+use hand_nets::module_alone;
 use place_text::Place;
 use std::alloc::{AllocError, Global};
 
@@ -36,16 +35,7 @@ pub fn circuit_of(alloc: Global, form: Form, count: u32) -> Result<GroundCircuit
         Form::Arms => arms(alloc, count)?,
         Form::Last => last(alloc, count)?,
     };
-    let mut modules = List::new(alloc);
-    modules.push(GroundModule {
-        ports: 0,
-        leaves,
-        body,
-        registers: List::new(alloc),
-        memories: List::new(alloc),
-        instances: List::new(alloc),
-    })?;
-    Ok(GroundCircuit { modules, main: 0 })
+    module_alone(alloc, leaves, body)
 }
 
 fn leaves_of(alloc: Global, count: u32) -> Result<List<GroundLeaf>, AllocError>

@@ -4,37 +4,32 @@
 
 mod circuit;
 
+use bench_main::{Words, tell};
 use bit_words::List;
 use circuit::{Form, circuit_of};
 use expand_whens::expand;
 use ground_net::{DrivenCircuit, Ground};
 use std::alloc::{AllocError, Global};
-use std::env;
 use std::process::ExitCode;
 
+/// The names of the forms.
+const FORMS: [(&str, Form); 5] = [
+    ("plain", Form::Plain),
+    ("one", Form::One),
+    ("deep", Form::Deep),
+    ("arms", Form::Arms),
+    ("last", Form::Last),
+];
+
 fn main(rt: HostRuntime) -> ExitCode {
-    match run(&rt) {
-        Some(total) => match println!(rt; "{total}") {
-            Ok(()) => ExitCode::from(0),
-            Err(_) => ExitCode::from(5),
-        },
-        None => ExitCode::from(1),
-    }
+    tell(&rt, run(&rt))
 }
 
 /// The number of expressions, where the words of the command line name a circuit.
 fn run(rt: &HostRuntime) -> Option<u64> {
-    let mut words = env::args(rt).ok()?.skip(1);
-    let form = match words.next()?.as_bytes() {
-        b"plain" => Form::Plain,
-        b"one" => Form::One,
-        b"deep" => Form::Deep,
-        b"arms" => Form::Arms,
-        b"last" => Form::Last,
-        _ => return None,
-    };
-    let count: u32 = words.next()?.as_str().parse().ok()?;
-    total_expressions(rt.alloc(), form, count).ok()
+    let mut words = Words::of(rt)?;
+    let form = words.named(&FORMS)?;
+    total_expressions(rt.alloc(), form, words.number()?).ok()
 }
 
 /// The number of expressions in the drivers of all leaves.
