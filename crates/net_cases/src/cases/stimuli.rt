@@ -1,6 +1,6 @@
 //! Stimuli: the rows of values that a text gives main's inputs, or its first fault.
 
-use crate::telling::expect;
+use super::telling::expect;
 use bit_words::{Kind, List, Rows, push_decimal};
 use fault_order::Fault;
 use ground_net::{PortLeaf, Ports};

@@ -2,7 +2,7 @@ use Rattle.std.proofs.Common.{◌<◌, ◌^◌, length, IfOk, subst, ap, arith}
 use Rattle.ground_net.specs.Cones.{sinks}
 use Rattle.comb_order.specs.Faults.{IsOrdered}
 use Rattle.cone_cutter.proofs.SinkCount.{sinks_few}
-use Rattle.net_cases.proofs.orders.listing.Goals as goal
+use Rattle.net_cases.proofs.cases.orders.listing.Goals as goal
 
 pub cut-requires-clause-few_sinks : goal.cut-requires-clause-few_sinks
 cut-requires-clause-few_sinks c =

@@ -1,6 +1,6 @@
 use Rattle.std.proofs.Common.{◌≡◌, length}
-use Rattle.net_cases.proofs.Reading.{AllBelow}
-use Rattle.net_cases.proofs.nets.net_of.Given as goal
+use Rattle.hand_nets.proofs.Reading.{AllBelow}
+use Rattle.net_cases.proofs.cases.nets.net_of.Given as goal
 
 abbrev pub invariant-loop-index : goal.invariant-loop-index
 invariant-loop-index l = record {

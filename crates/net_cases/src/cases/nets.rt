@@ -1,13 +1,14 @@
 //! Nets that are made by hand.
 
-ghost use Rattle.std.specs.Prelude.{◌≡◌, ℕ, ◌+◌, ◌<◌, ◌≤◌, length, Some, IfOk};
+ghost use Rattle.std.specs.Prelude.{◌≤◌, length, IfOk};
 ghost use Rattle.ground_net.specs.Reads.{MentionsLeaves};
-ghost use Rattle.net_cases.specs.Drivers.{ReadsBelow};
+ghost use Rattle.hand_nets.specs.Drivers.{ReadsBelow};
 
 use bit_words::{Kind, List, Value};
 use ground_net::{
     Ground, Leaf, Net, NetMemory, NetPort, NetRead, NetRegister, NetReset, NetWrite, Role,
 };
+use hand_nets::choice;
 use place_text::Place;
 use std::alloc::{AllocError, Global};
 
@@ -99,17 +100,6 @@ fn driver_of(
     }
     let driver = choice(alloc, first, second, third)?;
     Ok(Some(driver))
-}
-
-/// The second leaf where the first one is 1, and else the third.
-fn choice(alloc: Global, first: u32, second: u32, third: u32) -> Result<Ground, AllocError>
-    ensures { IfOk result (λ driver. (n : ℕ) → first < n → second < n → third < n → ReadsBelow n (Some driver)) }
-{
-    let mut items = List::new(alloc);
-    items.push(Ground::Leaf(first))?;
-    items.push(Ground::Leaf(second))?;
-    items.push(Ground::Leaf(third))?;
-    Ok(Ground::Mux(items))
 }
 
 fn registers_of(alloc: Global, rows: &[Row]) -> Result<List<NetRegister>, AllocError> {

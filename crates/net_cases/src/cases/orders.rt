@@ -2,8 +2,8 @@
 
 ghost use Rattle.std.specs.Prelude.{◌<◌, ◌≤◌, length};
 
-use crate::nets::{MemoryRow, Plan, net_of};
-use crate::telling::expect;
+use super::nets::{MemoryRow, Plan, net_of};
+use super::telling::expect;
 use comb_order::{OrderFault, order};
 use cone_cutter::cut;
 use cut_print::cut_text;

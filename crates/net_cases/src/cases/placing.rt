@@ -1,6 +1,6 @@
 //! A flat circuit with memories that is made by hand, and its net.
 
-use crate::telling::expect;
+use super::telling::expect;
 use bit_words::{Kind, List};
 use ground_net::{
     ElementLeaf, FlatCircuit, Ground, GroundLeaf, GroundMemory, GroundRole, Net, NetPort, NetRead,

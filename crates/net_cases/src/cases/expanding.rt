@@ -2,12 +2,11 @@
 
 ghost use Rattle.std.specs.Prelude.{◌<◌, ◌^◌, length, All, IfOk};
 
-use crate::telling::expect;
+use super::telling::expect;
 use bit_words::{Kind, List, from_words};
 use expand_whens::expand;
-use ground_net::{
-    Ground, GroundArm, GroundCircuit, GroundLeaf, GroundModule, GroundRole, GroundStmt,
-};
+use ground_net::{Ground, GroundArm, GroundCircuit, GroundLeaf, GroundRole, GroundStmt};
+use hand_nets::module_alone;
 use place_text::Place;
 use std::alloc::{AllocError, Global};
 use std::io::Write;
@@ -128,17 +127,7 @@ fn circuit_of(alloc: Global, roles: &[GroundRole], body: Body) -> Result<GroundC
     if leaves.len() > 1000 {
         return Err(AllocError);
     }
-    let body = body_of(alloc, body)?;
-    let mut modules = List::new(alloc);
-    modules.push(GroundModule {
-        ports: 0,
-        leaves,
-        body,
-        registers: List::new(alloc),
-        memories: List::new(alloc),
-        instances: List::new(alloc),
-    })?;
-    Ok(GroundCircuit { modules, main: 0 })
+    module_alone(alloc, leaves, body_of(alloc, body)?)
 }
 
 /// The value of an expression of constants, leaves and choices, where its leaves have these values.
