@@ -1,72 +1,30 @@
 //! Steps of codes: what they publish.
 
-ghost use Rattle.std.specs.Prelude.{◌≡◌, length, IfOk};
-ghost use Rattle.std.proofs.Common.{refl, ◌∙◌};
-
-use crate::arranging::{APART, MIXED, arranged, reordered};
-use crate::codes::{Row, code_of};
-use crate::telling::expect;
+use super::arranging::{APART, MIXED, arranged, reordered};
+use super::codes::{Row, code_of};
+use super::telling::expect;
 use bit_words::List;
-use flat_code::{Code, Loads, step};
-use std::alloc::{AllocError, Global};
+use flat_code::{Code, step};
+use hand_codes::{WordList, repeated};
+use std::alloc::Global;
 use std::io::Write;
-
-/// Words in a list.
-#[derive(Drop)]
-struct Words<'a> {
-    items: &'a [u64],
-}
-
-impl<'a> Loads for Words<'a> {
-    ghost words = { λ l. l.items.now };
-
-    ghost ready = { λ l. Unit {0} };
-
-    ghost same = { λ a b. b.items.now ≡ a.items.now };
-
-    fn load(&mut self, word: u32) -> u64 {
-        self.items[word as usize]
-    }
-
-    ghost same_words = { λ a b h. h };
-
-    ghost same_ready = { λ a b h r. r };
-
-    ghost same_self = { λ a. refl };
-
-    ghost same_on = { λ a b c h k. k ∙ h };
-}
 
 /// The word and the value of each publication of a step in a frame of ones.
 pub fn published(alloc: Global, code: &Code, words: &[u64]) -> Option<Vec<u8>> {
     if words.len() != code.words as usize {
         return None;
     }
-    let mut frame = ones(alloc, code.frame_length()).ok()?;
+    let mut frame = repeated(alloc, 1, code.frame_length()).ok()?;
     let mut effects = code.effects(alloc).ok()?;
-    let mut loads = Words { items: words };
+    let mut loads = WordList { items: words };
     let inputs = List::new(alloc);
-    step(
-        code,
-        frame.as_mut_slice(),
-        &mut loads,
-        &inputs,
-        &mut effects,
-    );
+    let slots = frame.as_mut_slice();
+    step(code, slots, &mut loads, &inputs, &mut effects);
     let mut text = Vec::new(alloc);
     for publication in effects.publications.as_slice() {
         write!(text, "{} {};", publication.word, publication.value).ok()?;
     }
     Some(text)
-}
-
-/// So many ones.
-fn ones(alloc: Global, count: usize) -> Result<Vec<u64>, AllocError>
-    ensures { IfOk result (λ all. length all.items ≡ count) }
-{
-    let mut all = Vec::new(alloc);
-    all.resize(count, 1)?;
-    Ok(all)
 }
 
 /// What a code publishes, and what it publishes in another order and in few slots.

@@ -2,7 +2,7 @@ use Rattle.std.proofs.Common.{◌<◌, length, take, sym, subst, arith}
 use Rattle.std.proofs.lemmas.List.{take_more, take_all}
 use Rattle.std.proofs.lemmas.List.Elements.{All-push}
 use Rattle.flat_code.specs.Fine.{IsFine, AreFine}
-use Rattle.code_cases.proofs.codes.are_fine.Goals as goal
+use Rattle.code_cases.proofs.cases.codes.are_fine.Goals as goal
 
 pub loop-instr-preserved : goal.loop-instr-preserved
 loop-instr-preserved c =

@@ -2,8 +2,9 @@ use Rattle.std.proofs.Common.{◌∙◌, ℕ, List, length, arith, subst, sym, a
 use Rattle.flat_code.specs.declared.instr.Spot.{Spot}
 use Rattle.flat_code.specs.Fine.{IsSpot, IsPort, IsWide, ShownLast, nothing}
 use Rattle.flat_code.proofs.Solving.{ready_if_single}
-use Rattle.code_cases.proofs.Building.{pushes_few, single_now, fine_now}
-use Rattle.code_cases.proofs.codes.made_of.Goals as goal
+use Rattle.hand_codes.proofs.Pushing.{pushes_few}
+use Rattle.code_cases.proofs.Building.{single_now, fine_now}
+use Rattle.code_cases.proofs.cases.codes.made_of.Goals as goal
 
 pub invariant_of-result : goal.invariant_of-result
 invariant_of-result c =

@@ -3,9 +3,9 @@
 ghost use Rattle.std.specs.Prelude.{IfSome};
 ghost use Rattle.code_place.specs.Live.{IsSingle};
 
-use crate::codes::code_with;
-use crate::steps::published;
-use crate::telling::expect;
+use super::codes::code_with;
+use super::steps::published;
+use super::telling::expect;
 use bit_words::List;
 use code_arrange::arrange;
 use flat_code::{Code, Instr, Op};

@@ -1,7 +1,7 @@
 //! Codes in another order and in few slots.
 
-use crate::codes::{Row, code_of};
-use crate::telling::{expect, told_code};
+use super::codes::{Row, code_of};
+use super::telling::{expect, told_code};
 use bit_words::List;
 use code_arrange::arrange;
 use code_order::{exchange, faster, reorder};
