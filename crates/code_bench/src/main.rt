@@ -9,6 +9,7 @@ mod running;
 
 ghost use Rattle.std.specs.Prelude.{◌<◌, ◌≤◌};
 
+use bench_main::Words;
 use code_arrange::arrange;
 use code_order::reorder;
 use flat_code::Code;
@@ -16,7 +17,6 @@ use listing::list;
 use mix::mixed;
 use running::cycles;
 use std::alloc::Global;
-use std::env;
 use std::process::ExitCode;
 
 fn main(rt: HostRuntime) -> ExitCode {
@@ -28,14 +28,14 @@ fn main(rt: HostRuntime) -> ExitCode {
 
 /// Does what the words of the command line say.
 fn run(rt: &HostRuntime) -> Option<()> {
-    let mut words = env::args(rt).ok()?.skip(1);
-    let blocks: u32 = words.next()?.as_str().parse().ok()?;
-    let window: usize = words.next()?.as_str().parse().ok()?;
+    let mut words = Words::of(rt)?;
+    let blocks: u32 = words.number()?;
+    let window: usize = words.number()?;
     if blocks == 0 || blocks > 1_000_000 {
         return None;
     }
     let code = code_of(rt.alloc(), blocks, window)?;
-    let Some(count) = words.next() else {
+    let Some(count) = words.word() else {
         return list(rt, &code);
     };
     let word = cycles(rt.alloc(), &code, count.as_str().parse().ok()?)?;

@@ -1,48 +1,22 @@
 //! Cycles of a code.
 
-ghost use Rattle.std.specs.Prelude.{◌≡◌, length, IfOk};
-ghost use Rattle.std.proofs.Common.{refl, ◌∙◌};
+ghost use Rattle.std.specs.Prelude.{◌≡◌, length};
 
 use bit_words::{Kind, List, Row, from_words};
-use flat_code::{Code, Loads, step};
+use flat_code::{Code, step};
+use hand_codes::{WordList, repeated};
 use phase_core::Publication;
 use std::alloc::{AllocError, Global};
 
-/// Words in a list.
-#[derive(Drop)]
-struct Words<'a> {
-    items: &'a [u64],
-}
-
-impl<'a> Loads for Words<'a> {
-    ghost words = { λ l. l.items.now };
-
-    ghost ready = { λ l. Unit {0} };
-
-    ghost same = { λ a b. b.items.now ≡ a.items.now };
-
-    fn load(&mut self, word: u32) -> u64 {
-        self.items[word as usize]
-    }
-
-    ghost same_words = { λ a b h. h };
-
-    ghost same_ready = { λ a b h r. r };
-
-    ghost same_self = { λ a. refl };
-
-    ghost same_on = { λ a b c h k. k ∙ h };
-}
-
 /// Runs so many cycles, and answers a word that all publications go into.
 pub fn cycles(alloc: Global, code: &Code, count: u64) -> Option<u64> {
-    let mut words = zeros(alloc, code.words as usize).ok()?;
-    let mut frame = zeros(alloc, code.frame_length()).ok()?;
+    let mut words = repeated(alloc, 0, code.words as usize).ok()?;
+    let mut frame = repeated(alloc, 0, code.frame_length()).ok()?;
     let mut effects = code.effects(alloc).ok()?;
     let inputs = row(alloc).ok()?;
     let mut mark = 0;
     for _cycle in 0..count {
-        let mut loads = Words {
+        let mut loads = WordList {
             items: words.as_slice(),
         };
         step(
@@ -55,15 +29,6 @@ pub fn cycles(alloc: Global, code: &Code, count: u64) -> Option<u64> {
         mark = publish(effects.publications.as_slice(), words.as_mut_slice(), mark);
     }
     Some(mark)
-}
-
-/// So many zeros.
-fn zeros(alloc: Global, count: usize) -> Result<Vec<u64>, AllocError>
-    ensures { IfOk result (λ all. length all.items ≡ count) }
-{
-    let mut all = Vec::new(alloc);
-    all.resize(count, 0)?;
-    Ok(all)
 }
 
 /// Inputs of 100 bits.

@@ -2,12 +2,4 @@
 #![tactic(auto)]
 
 #[cfg(test)]
-mod arranging;
-#[cfg(test)]
-mod codes;
-#[cfg(test)]
-mod steps;
-#[cfg(test)]
-mod telling;
-#[cfg(test)]
-mod words;
+mod cases;

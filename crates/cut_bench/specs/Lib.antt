@@ -1,1 +1,1 @@
-pub mod Drivers
+pub mod Trios

@@ -6,14 +6,22 @@ mod net;
 
 ghost use Rattle.std.specs.Prelude.{◌<◌, ◌≤◌, ◌^◌};
 
+use bench_main::Words;
 use comb_order::{OrderFault, order};
 use cone_cutter::cut;
 use cut_print::cut_text;
 use net::{Shape, net_of};
 use std::alloc::Global;
+use std::io;
 use std::io::Write;
 use std::process::ExitCode;
-use std::{env, io};
+
+/// The names of the shapes.
+const SHAPES: [(&str, Shape); 3] = [
+    ("ring", Shape::Ring),
+    ("mesh", Shape::Mesh),
+    ("chain", Shape::Chain),
+];
 
 fn main(rt: HostRuntime) -> ExitCode {
     match run(&rt) {
@@ -27,15 +35,10 @@ fn main(rt: HostRuntime) -> ExitCode {
 
 /// The listing, where the words of the command line name a net and a number of partitions.
 fn run(rt: &HostRuntime) -> Option<Vec<u8>> {
-    let mut words = env::args(rt).ok()?.skip(1);
-    let shape = match words.next()?.as_bytes() {
-        b"ring" => Shape::Ring,
-        b"mesh" => Shape::Mesh,
-        b"chain" => Shape::Chain,
-        _ => return None,
-    };
-    let count: u32 = words.next()?.as_str().parse().ok()?;
-    let workers: u32 = words.next()?.as_str().parse().ok()?;
+    let mut words = Words::of(rt)?;
+    let shape = words.named(&SHAPES)?;
+    let count: u32 = words.number()?;
+    let workers: u32 = words.number()?;
     if count == 0 || count >= 1 << 31 || workers == 0 || workers > 64 {
         return None;
     }

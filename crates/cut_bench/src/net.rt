@@ -1,12 +1,12 @@
 //! Nets of registers, each of which reads an assignment or three.
 
-ghost use Rattle.std.specs.Prelude.{◌≡◌, ℕ, ◌+◌, ◌<◌, ◌^◌, length, Some, IfOk};
+ghost use Rattle.std.specs.Prelude.{◌≡◌, ℕ, ◌+◌, ◌<◌, ◌^◌, length, IfOk};
 ghost use Rattle.ground_net.specs.Reads.{MentionsLeaves};
-ghost use Rattle.cut_bench.specs.Drivers.{ReadsBelow, IsBelow};
+ghost use Rattle.cut_bench.specs.Trios.{IsBelow};
 
-use bit_words::{Kind, List};
-use ground_net::{Ground, Leaf, Net, NetRegister, Role};
-use place_text::Place;
+use bit_words::List;
+use ground_net::{Net, NetRegister, Role};
+use hand_nets::{choice, leaf_at};
 use std::alloc::{AllocError, Global};
 
 /// What registers and assignments read. There is an assignment for each register.
@@ -41,8 +41,10 @@ pub fn net_of(alloc: Global, shape: Shape, count: u32) -> Result<Net, AllocError
     let mut leaves = List::new(alloc);
     let mut drivers = List::new(alloc);
     for index in 0..count + count {
-        leaves.push(leaf_at(alloc, index, count))?;
-        drivers.push(Some(choice(alloc, sources(shape, index, count))?))?;
+        leaves.push(leaf_at(alloc, index, role_at(index, count)))?;
+        let reads = sources(shape, index, count);
+        let driver = choice(alloc, reads.first, reads.second, reads.third)?;
+        drivers.push(Some(driver))?;
     }
     Ok(Net {
         ports: 0,
@@ -53,21 +55,12 @@ pub fn net_of(alloc: Global, shape: Shape, count: u32) -> Result<Net, AllocError
     })
 }
 
-/// A leaf of one bit: of a register, or an assignment behind them all.
-fn leaf_at(alloc: Global, index: u32, count: u32) -> Leaf {
-    Leaf {
-        name: List::new(alloc),
-        kind: Kind::Unsigned,
-        width: 1,
-        place: Place {
-            line: index.saturating_add(1),
-            column: 1,
-        },
-        role: if index < count {
-            Role::Register(index)
-        } else {
-            Role::Assigned
-        },
+/// The role of a leaf: a register, or an assignment behind them all.
+fn role_at(index: u32, count: u32) -> Role {
+    if index < count {
+        Role::Register(index)
+    } else {
+        Role::Assigned
     }
 }
 
@@ -80,17 +73,6 @@ fn registers_of(alloc: Global, count: u32) -> Result<List<NetRegister>, AllocErr
         all.push(NetRegister { leaf, reset: None })?;
     }
     Ok(all)
-}
-
-/// The second leaf where the first one is 1, and else the third.
-fn choice(alloc: Global, reads: Trio) -> Result<Ground, AllocError>
-    ensures { IfOk result (λ driver. (n : ℕ) → IsBelow n reads → ReadsBelow n (Some driver)) }
-{
-    let mut items = List::new(alloc);
-    items.push(Ground::Leaf(reads.first))?;
-    items.push(Ground::Leaf(reads.second))?;
-    items.push(Ground::Leaf(reads.third))?;
-    Ok(Ground::Mux(items))
 }
 
 /// The leaves that one reads.

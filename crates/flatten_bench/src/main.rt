@@ -5,37 +5,27 @@
 
 mod circuit;
 
+use bench_main::{Words, tell};
 use circuit::{Form, circuit_of};
 use flatten_instances::flatten;
 use ground_net::{FlatCircuit, Ground};
 use std::alloc::{AllocError, Global};
-use std::env;
 use std::process::ExitCode;
 
 fn main(rt: HostRuntime) -> ExitCode {
-    match run(&rt) {
-        Some((leaves, registers, drivers)) => {
-            match println!(rt; "{leaves} {registers} {drivers}") {
-                Ok(()) => ExitCode::from(0),
-                Err(_) => ExitCode::from(5),
-            }
-        }
-        None => ExitCode::from(1),
-    }
+    tell(&rt, run(&rt))
 }
 
-/// The numbers, where the words of the command line name a circuit.
-fn run(rt: &HostRuntime) -> Option<(usize, usize, u64)> {
-    let mut words = env::args(rt).ok()?.skip(1);
-    let levels: u32 = words.next()?.as_str().parse().ok()?;
-    let instances: u32 = words.next()?.as_str().parse().ok()?;
-    let own: u32 = words.next()?.as_str().parse().ok()?;
+/// The numbers as a text, where the words of the command line name a circuit.
+fn run(rt: &HostRuntime) -> Option<String> {
+    let mut words = Words::of(rt)?;
     let form = Form {
-        levels,
-        instances,
-        own,
+        levels: words.number()?,
+        instances: words.number()?,
+        own: words.number()?,
     };
-    counts(rt.alloc(), form).ok()
+    let (leaves, registers, drivers) = counts(rt.alloc(), form).ok()?;
+    format!(in rt.alloc(); "{leaves} {registers} {drivers}").ok()
 }
 
 /// How many leaves, registers, and drivers that read a leaf a circuit has.

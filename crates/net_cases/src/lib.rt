@@ -2,14 +2,4 @@
 #![tactic(auto)]
 
 #[cfg(test)]
-mod expanding;
-#[cfg(test)]
-mod nets;
-#[cfg(test)]
-mod orders;
-#[cfg(test)]
-mod placing;
-#[cfg(test)]
-mod stimuli;
-#[cfg(test)]
-mod telling;
+mod cases;

@@ -4,37 +4,32 @@
 
 mod circuit;
 
+use bench_main::{Words, tell};
 use circuit::{Chain, circuit_of};
 use fir_tree::Fitted;
 use fir_types::Shape;
 use std::alloc::Global;
-use std::env;
 use std::process::ExitCode;
 use width_fit::{WidthFault, judge};
 use width_rules::rules_of;
 use width_solver::solve;
 
+/// The names of the chains.
+const CHAINS: [(&str, Chain); 3] = [
+    ("forward", Chain::Forward),
+    ("backward", Chain::Backward),
+    ("ring", Chain::Ring),
+];
+
 fn main(rt: HostRuntime) -> ExitCode {
-    match run(&rt) {
-        Some(total) => match println!(rt; "{total}") {
-            Ok(()) => ExitCode::from(0),
-            Err(_) => ExitCode::from(5),
-        },
-        None => ExitCode::from(1),
-    }
+    tell(&rt, run(&rt))
 }
 
 /// The sum of the widths, where the words of the command line name a circuit.
 fn run(rt: &HostRuntime) -> Option<u128> {
-    let mut words = env::args(rt).ok()?.skip(1);
-    let chain = match words.next()?.as_bytes() {
-        b"forward" => Chain::Forward,
-        b"backward" => Chain::Backward,
-        b"ring" => Chain::Ring,
-        _ => return None,
-    };
-    let count: u32 = words.next()?.as_str().parse().ok()?;
-    total_width(rt.alloc(), chain, count).ok()
+    let mut words = Words::of(rt)?;
+    let chain = words.named(&CHAINS)?;
+    total_width(rt.alloc(), chain, words.number()?).ok()
 }
 
 /// The sum of the widths of all components.

@@ -1,5 +1,5 @@
 use Rattle.std.proofs.Common.{◌≡◌, ◌+◌, length}
-use Rattle.cut_bench.proofs.Reading.{AllBelow}
+use Rattle.hand_nets.proofs.Reading.{AllBelow}
 use Rattle.cut_bench.proofs.net.net_of.Given as goal
 
 abbrev pub invariant-loop-index : goal.invariant-loop-index

@@ -1,0 +1,28 @@
+use Rattle.std.proofs.Common.{◌∙◌, ℕ, List, length, arith, subst, sym, ap, All}
+use Rattle.flat_code.specs.declared.instr.Spot.{Spot}
+use Rattle.flat_code.specs.Fine.{IsSpot, IsPort, IsWide, ShownLast, nothing}
+use Rattle.flat_code.proofs.Solving.{ready_if_single}
+use Rattle.hand_codes.proofs.Pushing.{pushes_few}
+use Rattle.code_cases.proofs.Building.{single_now, fine_now}
+use Rattle.code_cases.proofs.cases.codes.made_of.Goals as goal
+
+pub invariant_of-result : goal.invariant_of-result
+invariant_of-result c =
+    let n = c.args.slots in
+    let m = c.args.words in
+    let ports = c.new.result in
+    let wides = c.new-2.result in
+    let instrs = c.args.instrs in
+    let few = pushes_few instrs in
+    let count = c.len-most.ensures in
+    let single = single_now ports wides c.as_slice-2.result.now instrs c.new.ensures c.new-2.ensures c.as_slice-2.ensures (c.in_ok-writes_once.ensures c.if-not-branch.false) in
+    record {
+      fine = fine_now ports wides c.as_slice.result.now instrs c.new.ensures c.new-2.ensures c.as_slice.ensures n m (c.are_fine.ensures c.if-not-are_fine.false);
+      in_order = ready_if_single nothing ports wides instrs single;
+      ports_fine = subst (All (IsPort n m)) (sym c.new.ensures) (λ k d lt. absurd (omega arith));
+      wides_fine = subst (All (IsWide n m)) (sym c.new-2.ensures) (λ k d lt. absurd (omega arith));
+      shown_fine = subst (All (IsSpot n)) (sym c.new-3.ensures) (λ k d lt. absurd (omega arith));
+      shown_last = subst (λ x. ShownLast wides x instrs) (sym c.new-3.ensures) (λ k d lt. absurd (omega arith));
+      each_shown = ap (λ (x : List ℕ). length x) c.new-4.ensures ∙ sym (ap (λ (x : List Spot). length x) c.new-3.ensures);
+      at_most = omega (arith, few, count);
+    }

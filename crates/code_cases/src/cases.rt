@@ -1,0 +1,7 @@
+//! The cases, a module for each subject.
+
+mod arranging;
+mod codes;
+mod steps;
+mod telling;
+mod words;
