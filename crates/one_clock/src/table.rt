@@ -1,6 +1,6 @@
 //! What is known of the clocks of all modules that main reaches.
 
-ghost use Rattle.std.specs.Prelude.{◌≡◌, false, drop, get_or, IfOk, OnOk};
+ghost use Rattle.std.specs.Prelude.{◌≡◌, IfOk, OnOk};
 ghost use Rattle.circuit_laws.specs.WellFormed.{IsWellFormed};
 ghost use Rattle.drive_check.specs.Sites.{names_of};
 ghost use Rattle.drive_check.specs.Typing.{typed};
@@ -29,32 +29,12 @@ pub fn table_of(alloc: Global, fitted: &Fitted) -> Result<IndexMap<u32, ModuleCl
     for number in 0..modules.len() {
         let holder = &modules[number];
         let names = names_of(alloc, holder)?;
-        if is_reached(reached, number) {
+        if reached.get(number).copied().unwrap_or(false) {
             keep(alloc, &mut table, holder, names.as_slice(), rest)?;
         }
-        rest = behind(rest, names.len());
+        rest = rest.get(names.len()..).unwrap_or(&[]);
     }
     Ok(table)
-}
-
-fn is_reached(reached: &[bool], number: usize) -> bool
-    ensures { result ≡ get_or reached.now number false }
-{
-    match reached.get(number) {
-        Some(flag) => *flag,
-        None => false,
-    }
-}
-
-/// The types behind the first ones.
-fn behind(types: &[FirType], count: usize) -> &[FirType]
-    ensures { result.now ≡ drop count types.now }
-{
-    if count <= types.len() {
-        &types[count..]
-    } else {
-        &[]
-    }
 }
 
 /// Keeps what is known of a module, which has these names and types.
