@@ -1,6 +1,6 @@
 //! Circuits as ground statements (FIRRTL specification 3.0, "Circuits and Modules").
 
-ghost use Rattle.std.specs.Prelude.{◌≡◌, ◌<◌, ◌^◌, ◌↔◌, length, map, drop, slice_get, nat_eq, is_some, true, All, Some, IfOk, OnOk};
+ghost use Rattle.std.specs.Prelude.{◌≡◌, ◌<◌, ◌^◌, ◌↔◌, length, map, slice_get, nat_eq, is_some, true, All, Some, IfOk, OnOk};
 ghost use Rattle.std.specs.Map.{lookup};
 ghost use Rattle.circuit_laws.specs.WellFormed.{IsWellFormed};
 ghost use Rattle.fir_meaning.specs.Components.{declarations_of as all_declarations};
@@ -93,7 +93,7 @@ fn lower_modules(
         let count = count_of(alloc, &holders[number])?;
         let module = lower_at(alloc, fitted, numbers, number, rest)?;
         modules.push(module)?;
-        rest = behind(rest, count);
+        rest = rest.get(count..).unwrap_or(&[]);
     }
     Ok(modules)
 }
@@ -105,17 +105,6 @@ fn count_of(alloc: Global, holder: &Module) -> Result<usize, AllocError>
     pieces_are_components();
     let all = declarations_of(alloc, holder)?;
     Ok(all.len())
-}
-
-/// The types behind the first ones.
-fn behind(types: &[FirType], count: usize) -> &[FirType]
-    ensures { result.now ≡ drop count types.now }
-{
-    if count <= types.len() {
-        &types[count..]
-    } else {
-        &[]
-    }
 }
 
 /// The module of a number, where these are the types of the modules from there on.

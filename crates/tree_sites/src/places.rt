@@ -1,6 +1,6 @@
 //! All places of the run at which modules stand, and what the modules there declare.
 
-ghost use Rattle.std.specs.Prelude.{◌≡◌, ◌++◌, drop, option_map, IfOk, OnOk};
+ghost use Rattle.std.specs.Prelude.{◌≡◌, ◌++◌, option_map, IfOk, OnOk};
 ghost use Rattle.fir_meaning.specs.Components.{design_of, module_named, target_in};
 ghost use Rattle.circuit_laws.specs.WellFormed.{IsWellFormed};
 ghost use Rattle.tree_sites.specs.Held.{held_sort};
@@ -41,20 +41,9 @@ pub fn parts_of<'a>(
         if holder.name.id == name {
             return Ok(Some(Parts { declared, types }));
         }
-        types = behind(types, declared.len());
+        types = types.get(declared.len()..).unwrap_or(&[]);
     }
     Ok(None)
-}
-
-/// The types behind the first ones.
-fn behind(types: &[FirType], count: usize) -> &[FirType]
-    ensures { result.now ≡ drop count types.now }
-{
-    if count <= types.len() {
-        &types[count..]
-    } else {
-        &[]
-    }
 }
 
 /// All places at which modules stand, from main's on: what stands behind a place comes later. Takes time and memory in
