@@ -17,8 +17,7 @@ ghost use Rattle.code_memories.specs.Groups.{IsCaptureGroup};
 use code_draft::Draft;
 use code_emit::{Source, Sources, emit};
 use code_publish::publish;
-use code_writes::{PortAt, PortLeaf};
-use ground_net::Net;
+use code_writes::{MemoryAt, PortAt, PortLeaf, memory_of, port_of};
 use memory_grounds::{MemoryLeaf, captured_ground};
 use std::alloc::{AllocError, Global};
 
@@ -26,51 +25,30 @@ use std::alloc::{AllocError, Global};
 pub(crate) fn publish_captures(
     alloc: Global,
     draft: &mut Draft,
-    sources: &Sources,
-    net: &Net,
-    number: u32,
+    at: MemoryAt<'_>,
 ) -> Result<(), AllocError>
-    requires net { IsNet net.now }
-    requires few { state_words net.now < 2 ^ 32 }
-    requires memory { HasMemory net.now sources.now number }
-    ensures left { OnOk result ((memory : TheMemory) → slice_get net.now.memories number ≡ Some memory → PublishesLeft net.now sources.now (λ st sight. flat_map (λ port. flat_map (capture_left net.now sources.now st sight number) (captured_by number memory port port.read)) memory.ports) draft.old draft.new) }
-    ensures evaluates { OnOk result (EvaluatesOnly sources.now (IsCaptureGroup net.now number) draft.old draft.new) }
+    requires net { IsNet at.net.now }
+    requires few { state_words at.net.now < 2 ^ 32 }
+    requires memory { HasMemory at.net.now at.sources.now at.number }
+    ensures left { OnOk result ((memory : TheMemory) → slice_get at.entry.net.now.memories at.entry.number ≡ Some memory → PublishesLeft at.entry.net.now at.entry.sources.now (λ st sight. flat_map (λ port. flat_map (capture_left at.entry.net.now at.entry.sources.now st sight at.entry.number) (captured_by at.entry.number memory port port.read)) memory.ports) draft.old draft.new) }
+    ensures evaluates { OnOk result (EvaluatesOnly at.entry.sources.now (IsCaptureGroup at.entry.net.now at.entry.number) draft.old draft.new) }
 {
-    let Some(memory) = net.memories.get(number as usize) else {
-        unreachable!();
-    };
-    for port in 0..memory.ports.len() {
-        let at = PortAt {
-            memory: number,
-            port,
-        };
-        publish_reads(alloc, draft, sources, net, at)?;
+    for port in 0..memory_of(at).ports.len() {
+        publish_reads(alloc, draft, PortAt { memory: at, port })?;
     }
     Ok(())
 }
 
 /// Adds code that publishes what the captured reads of a port show next.
-fn publish_reads(
-    alloc: Global,
-    draft: &mut Draft,
-    sources: &Sources,
-    net: &Net,
-    at: PortAt,
-) -> Result<(), AllocError>
-    requires net { IsNet net.now }
-    requires few { state_words net.now < 2 ^ 32 }
-    requires memory { HasMemory net.now sources.now at.memory }
-    requires there { IsPortAt net.now at.memory at.port }
-    ensures left { OnOk result ((memory : TheMemory) (port : ThePort) → slice_get net.now.memories at.memory ≡ Some memory → slice_get memory.ports at.port ≡ Some port → PublishesLeft net.now sources.now (λ st sight. flat_map (capture_left net.now sources.now st sight at.memory) (captured_by at.memory memory port port.read)) draft.old draft.new) }
-    ensures evaluates { OnOk result (EvaluatesOnly sources.now (IsCaptureGroup net.now at.memory) draft.old draft.new) }
+fn publish_reads(alloc: Global, draft: &mut Draft, at: PortAt<'_>) -> Result<(), AllocError>
+    requires net { IsNet at.memory.net.now }
+    requires few { state_words at.memory.net.now < 2 ^ 32 }
+    requires memory { HasMemory at.memory.net.now at.memory.sources.now at.memory.number }
+    requires there { IsPortAt at.memory.net.now at.memory.number at.port }
+    ensures left { OnOk result ((memory : TheMemory) (port : ThePort) → slice_get at.entry.memory.net.now.memories at.entry.memory.number ≡ Some memory → slice_get memory.ports at.entry.port ≡ Some port → PublishesLeft at.entry.memory.net.now at.entry.memory.sources.now (λ st sight. flat_map (capture_left at.entry.memory.net.now at.entry.memory.sources.now st sight at.entry.memory.number) (captured_by at.entry.memory.number memory port port.read)) draft.old draft.new) }
+    ensures evaluates { OnOk result (EvaluatesOnly at.entry.memory.sources.now (IsCaptureGroup at.entry.memory.net.now at.entry.memory.number) draft.old draft.new) }
 {
-    let Some(memory) = net.memories.get(at.memory as usize) else {
-        unreachable!();
-    };
-    let Some(port) = memory.ports.get(at.port) else {
-        unreachable!();
-    };
-    let Some(read) = &port.read else {
+    let Some(read) = &port_of(memory_of(at.memory), at.port).read else {
         return Ok(());
     };
     if !read.captured {
@@ -82,32 +60,22 @@ fn publish_reads(
             port: at.port,
             leaf,
         };
-        publish_capture(alloc, draft, sources, net, place)?;
+        publish_capture(alloc, draft, place)?;
     }
     Ok(())
 }
 
 /// Adds code that publishes what the captured read of a leaf of an element shows next.
-fn publish_capture(
-    alloc: Global,
-    draft: &mut Draft,
-    sources: &Sources,
-    net: &Net,
-    at: PortLeaf,
-) -> Result<(), AllocError>
-    requires net { IsNet net.now }
-    requires few { state_words net.now < 2 ^ 32 }
-    requires memory { HasMemory net.now sources.now at.memory }
-    requires there { ReadsAt net.now at.memory at.port at.leaf }
-    ensures left { OnOk result ((memory : TheMemory) (port : ThePort) (read : TheRead) (shown : ℕ) → slice_get net.now.memories at.memory ≡ Some memory → slice_get memory.ports at.port ≡ Some port → port.read ≡ Some read → slice_get read.leaves at.leaf ≡ Some shown → PublishesLeft net.now sources.now (λ st sight. capture_left net.now sources.now st sight at.memory (capture_of at.memory memory port read (at.leaf, shown))) draft.old draft.new) }
-    ensures evaluates { OnOk result (EvaluatesOnly sources.now (IsCaptureGroup net.now at.memory) draft.old draft.new) }
+fn publish_capture(alloc: Global, draft: &mut Draft, at: PortLeaf<'_>) -> Result<(), AllocError>
+    requires net { IsNet at.memory.net.now }
+    requires few { state_words at.memory.net.now < 2 ^ 32 }
+    requires memory { HasMemory at.memory.net.now at.memory.sources.now at.memory.number }
+    requires there { ReadsAt at.memory.net.now at.memory.number at.port at.leaf }
+    ensures left { OnOk result ((memory : TheMemory) (port : ThePort) (read : TheRead) (shown : ℕ) → slice_get at.entry.memory.net.now.memories at.entry.memory.number ≡ Some memory → slice_get memory.ports at.entry.port ≡ Some port → port.read ≡ Some read → slice_get read.leaves at.entry.leaf ≡ Some shown → PublishesLeft at.entry.memory.net.now at.entry.memory.sources.now (λ st sight. capture_left at.entry.memory.net.now at.entry.memory.sources.now st sight at.entry.memory.number (capture_of at.entry.memory.number memory port read (at.entry.leaf, shown))) draft.old draft.new) }
+    ensures evaluates { OnOk result (EvaluatesOnly at.entry.memory.sources.now (IsCaptureGroup at.entry.memory.net.now at.entry.memory.number) draft.old draft.new) }
 {
-    let Some(memory) = net.memories.get(at.memory as usize) else {
-        unreachable!();
-    };
-    let Some(port) = memory.ports.get(at.port) else {
-        unreachable!();
-    };
+    let memory = memory_of(at.memory);
+    let port = port_of(memory, at.port);
     let Some(read) = &port.read else {
         unreachable!();
     };
@@ -118,14 +86,14 @@ fn publish_capture(
         unreachable!();
     };
     let of = MemoryLeaf {
-        memory: at.memory,
+        memory: at.memory.number,
         number: at.leaf as u32,
         kind: element.kind,
         width: element.width,
     };
-    let word = word_of(sources, *shown);
+    let word = word_of(at.memory.sources, *shown);
     let next = captured_ground(alloc, memory, port, of, read.after)?;
-    let spot = emit(alloc, draft, sources, &next)?;
+    let spot = emit(alloc, draft, at.memory.sources, &next)?;
     publish(draft, spot, word)
 }
 

@@ -12,7 +12,7 @@ ghost use Rattle.code_memories.specs.Groups.{IsMemoryGroup};
 use crate::captures::publish_captures;
 use code_draft::Draft;
 use code_emit::Sources;
-use code_writes::publish_writes;
+use code_writes::{MemoryAt, publish_writes};
 use ground_net::Net;
 use std::alloc::{AllocError, Global};
 
@@ -30,6 +30,11 @@ pub fn publish_memory(
     ensures publishes { OnOk result (PublishesSinks net.now sources.now (A_memory number ∷ []) draft.old draft.new) }
     ensures evaluates { OnOk result (EvaluatesOnly sources.now (IsMemoryGroup net.now number) draft.old draft.new) }
 {
-    publish_writes(alloc, draft, sources, net, number)?;
-    publish_captures(alloc, draft, sources, net, number)
+    let at = MemoryAt {
+        net,
+        sources,
+        number,
+    };
+    publish_writes(alloc, draft, at)?;
+    publish_captures(alloc, draft, at)
 }

@@ -7,5 +7,5 @@ pub mod leaves;
 pub mod places;
 pub mod writes;
 
-pub use places::{PortAt, PortLeaf};
+pub use places::{MemoryAt, PortAt, PortLeaf, memory_of, port_of};
 pub use writes::publish_writes;

@@ -14,60 +14,36 @@ ghost use Rattle.code_writes.specs.Writes.{IsPortAt, WritesAt, PublishesLeft, co
 ghost use Rattle.code_writes.specs.Groups.{IsWriteGroup};
 
 use crate::leaves::publish_target;
-use crate::places::{PortAt, PortLeaf, Target};
+use crate::places::{MemoryAt, PortAt, PortLeaf, Target, memory_of, port_of};
 use bit_words::List;
 use code_draft::Draft;
-use code_emit::Sources;
 use flat_code::Region;
-use ground_net::{Net, NetPort};
+use ground_net::NetPort;
 use std::alloc::{AllocError, Global};
 
 /// Adds code that publishes what the ports of a memory write, port by port and leaf by leaf.
-pub fn publish_writes(
-    alloc: Global,
-    draft: &mut Draft,
-    sources: &Sources,
-    net: &Net,
-    number: u32,
-) -> Result<(), AllocError>
-    requires net { IsNet net.now }
-    requires memory { HasMemory net.now sources.now number }
-    ensures left { OnOk result ((memory : TheMemory) → slice_get net.now.memories number ≡ Some memory → PublishesLeft net.now sources.now (λ st sight. writes_told net.now sight number memory) draft.old draft.new) }
-    ensures evaluates { OnOk result (EvaluatesOnly sources.now (IsWriteGroup net.now number) draft.old draft.new) }
+pub fn publish_writes(alloc: Global, draft: &mut Draft, at: MemoryAt<'_>) -> Result<(), AllocError>
+    requires net { IsNet at.net.now }
+    requires memory { HasMemory at.net.now at.sources.now at.number }
+    ensures left { OnOk result ((memory : TheMemory) → slice_get at.entry.net.now.memories at.entry.number ≡ Some memory → PublishesLeft at.entry.net.now at.entry.sources.now (λ st sight. writes_told at.entry.net.now sight at.entry.number memory) draft.old draft.new) }
+    ensures evaluates { OnOk result (EvaluatesOnly at.entry.sources.now (IsWriteGroup at.entry.net.now at.entry.number) draft.old draft.new) }
 {
-    let Some(memory) = net.memories.get(number as usize) else {
-        unreachable!();
-    };
-    for port in 0..memory.ports.len() {
-        let at = PortAt {
-            memory: number,
-            port,
-        };
-        publish_port(alloc, draft, sources, net, at)?;
+    for port in 0..memory_of(at).ports.len() {
+        publish_port(alloc, draft, PortAt { memory: at, port })?;
     }
     Ok(())
 }
 
 /// Adds code that publishes what a port writes.
-fn publish_port(
-    alloc: Global,
-    draft: &mut Draft,
-    sources: &Sources,
-    net: &Net,
-    at: PortAt,
-) -> Result<(), AllocError>
-    requires net { IsNet net.now }
-    requires memory { HasMemory net.now sources.now at.memory }
-    requires there { IsPortAt net.now at.memory at.port }
-    ensures left { OnOk result ((memory : TheMemory) (port : ThePort) → slice_get net.now.memories at.memory ≡ Some memory → slice_get memory.ports at.port ≡ Some port → PublishesLeft net.now sources.now (λ st sight. port_told net.now sight at.memory memory port) draft.old draft.new) }
-    ensures evaluates { OnOk result (EvaluatesOnly sources.now (IsWriteGroup net.now at.memory) draft.old draft.new) }
+fn publish_port(alloc: Global, draft: &mut Draft, at: PortAt<'_>) -> Result<(), AllocError>
+    requires net { IsNet at.memory.net.now }
+    requires memory { HasMemory at.memory.net.now at.memory.sources.now at.memory.number }
+    requires there { IsPortAt at.memory.net.now at.memory.number at.port }
+    ensures left { OnOk result ((memory : TheMemory) (port : ThePort) → slice_get at.entry.memory.net.now.memories at.entry.memory.number ≡ Some memory → slice_get memory.ports at.entry.port ≡ Some port → PublishesLeft at.entry.memory.net.now at.entry.memory.sources.now (λ st sight. port_told at.entry.memory.net.now sight at.entry.memory.number memory port) draft.old draft.new) }
+    ensures evaluates { OnOk result (EvaluatesOnly at.entry.memory.sources.now (IsWriteGroup at.entry.memory.net.now at.entry.memory.number) draft.old draft.new) }
 {
-    let Some(memory) = net.memories.get(at.memory as usize) else {
-        unreachable!();
-    };
-    let Some(port) = memory.ports.get(at.port) else {
-        unreachable!();
-    };
+    let memory = memory_of(at.memory);
+    let port = port_of(memory, at.port);
     if port.write.is_none() {
         return Ok(());
     }
@@ -77,31 +53,20 @@ fn publish_port(
             port: at.port,
             leaf,
         };
-        publish_leaf(alloc, draft, sources, net, place)?;
+        publish_leaf(alloc, draft, place)?;
     }
     Ok(())
 }
 
 /// Adds code that publishes what a port writes into a leaf of an element.
-fn publish_leaf(
-    alloc: Global,
-    draft: &mut Draft,
-    sources: &Sources,
-    net: &Net,
-    at: PortLeaf,
-) -> Result<(), AllocError>
-    requires net { IsNet net.now }
-    requires memory { HasMemory net.now sources.now at.memory }
-    requires there { WritesAt net.now at.memory at.port at.leaf }
-    ensures left { OnOk result ((memory : TheMemory) (port : ThePort) (leaf : TheLeaf) → slice_get net.now.memories at.memory ≡ Some memory → slice_get memory.ports at.port ≡ Some port → slice_get memory.elements at.leaf ≡ Some leaf → PublishesLeft net.now sources.now (λ st sight. leaf_told net.now at.memory memory (shown sight port) (at.leaf, element_shape leaf)) draft.old draft.new) }
-    ensures evaluates { OnOk result (EvaluatesOnly sources.now (IsWriteGroup net.now at.memory) draft.old draft.new) }
+fn publish_leaf(alloc: Global, draft: &mut Draft, at: PortLeaf<'_>) -> Result<(), AllocError>
+    requires net { IsNet at.memory.net.now }
+    requires memory { HasMemory at.memory.net.now at.memory.sources.now at.memory.number }
+    requires there { WritesAt at.memory.net.now at.memory.number at.port at.leaf }
+    ensures left { OnOk result ((memory : TheMemory) (port : ThePort) (leaf : TheLeaf) → slice_get at.entry.memory.net.now.memories at.entry.memory.number ≡ Some memory → slice_get memory.ports at.entry.port ≡ Some port → slice_get memory.elements at.entry.leaf ≡ Some leaf → PublishesLeft at.entry.memory.net.now at.entry.memory.sources.now (λ st sight. leaf_told at.entry.memory.net.now at.entry.memory.number memory (shown sight port) (at.entry.leaf, element_shape leaf)) draft.old draft.new) }
+    ensures evaluates { OnOk result (EvaluatesOnly at.entry.memory.sources.now (IsWriteGroup at.entry.memory.net.now at.entry.memory.number) draft.old draft.new) }
 {
-    let Some(memory) = net.memories.get(at.memory as usize) else {
-        unreachable!();
-    };
-    let Some(port) = memory.ports.get(at.port) else {
-        unreachable!();
-    };
+    let port = port_of(memory_of(at.memory), at.port);
     let Some(write) = &port.write else {
         unreachable!();
     };
@@ -114,10 +79,16 @@ fn publish_leaf(
     let target = Target {
         address: port.addr,
         source: *source,
-        region: region_of(sources, at.memory, at.leaf),
+        region: region_of(at.memory, at.leaf),
     };
     let conditions = conditions_of(alloc, port, *mask)?;
-    publish_target(alloc, draft, sources, target, conditions.as_slice())
+    publish_target(
+        alloc,
+        draft,
+        at.memory.sources,
+        target,
+        conditions.as_slice(),
+    )
 }
 
 /// The leaves that are conditions of a write: the enable, the mode of a readwriter, and the mask.
@@ -134,11 +105,11 @@ fn conditions_of(alloc: Global, port: &NetPort, mask: u32) -> Result<List<u32>, 
 }
 
 /// Where the words of a leaf of the elements of a memory stand.
-fn region_of(sources: &Sources, memory: u32, leaf: usize) -> Region
-    requires { IsSome (element_source sources.now memory leaf) }
-    ensures { IfSome (element_source sources.now memory leaf) (λ e. result ≡ e.region) }
+fn region_of(memory: MemoryAt<'_>, leaf: usize) -> Region
+    requires { IsSome (element_source memory.sources.now memory.number leaf) }
+    ensures { IfSome (element_source memory.entry.sources.now memory.entry.number leaf) (λ e. result ≡ e.region) }
 {
-    let Some(elements) = sources.memories.get(memory as usize) else {
+    let Some(elements) = memory.sources.memories.get(memory.number as usize) else {
         unreachable!();
     };
     match elements.get(leaf) {

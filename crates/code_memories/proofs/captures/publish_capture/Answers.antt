@@ -22,48 +22,48 @@ use Rattle.code_memories.proofs.captures.publish_capture.Goals as goal
 
 pub overflow_cast-of : goal.overflow_cast-of
 overflow_cast-of c =
-    let net = c.args.net.now in
+    let net = c.args.at.memory.net.now in
     let at = c.args.at in
-    let memory = c.in-Some.memory.now in
-    let there = sym c.in-Some.ensures.value in
-    let port = c.in-Some-get.port.now in
-    let listed = sym c.in-Some-get.ensures.value in
-    let read = c.in-Some-read.read in
-    let reads = c.in-Some-read.is in
-    let small = leaf_small net at.memory at.port at.leaf memory port read c.in-Some-get-2.shown.now c.requires.few there listed reads (late_here net at.memory at.port at.leaf c.requires.there memory port read there listed reads)
-    (sym c.in-Some-get-2.ensures.value) in
+    let memory = c.memory_of-memory.result.now in
+    let there = c.memory_of-memory.ensures in
+    let port = c.port_of-port.result.now in
+    let listed = c.port_of-port.ensures in
+    let read = c.in-Some.read in
+    let reads = c.in-Some.is in
+    let small = leaf_small net at.memory.number at.port at.leaf memory port read c.in-Some-get.shown.now c.requires.few there listed reads (late_here net at.memory.number at.port at.leaf c.requires.there memory port read there listed reads)
+    (sym c.in-Some-get.ensures.value) in
     omega (arith, small)
 
 pub word_of-word-requires : goal.word_of-word-requires
 word_of-word-requires c =
-    kept_here c.args.net.now c.args.sources.now c.args.at.memory c.requires.net c.requires.memory c.in-Some.memory.now (sym c.in-Some.ensures.value) c.args.at.port c.in-Some-get.port.now (sym c.in-Some-get.ensures.value) c.in-Some-read.read c.in-Some-read.is
-    c.args.at.leaf c.in-Some-get-2.shown.now c.in-Some-get-3.element.now (sym c.in-Some-get-2.ensures.value) (sym c.in-Some-get-3.ensures.value) c.requires.there
+    kept_here c.args.at.memory.net.now c.args.at.memory.sources.now c.args.at.memory.number c.requires.net c.requires.memory c.memory_of-memory.result.now c.memory_of-memory.ensures c.args.at.port c.port_of-port.result.now c.port_of-port.ensures c.in-Some.read c.in-Some.is
+    c.args.at.leaf c.in-Some-get.shown.now c.in-Some-get-2.element.now (sym c.in-Some-get.ensures.value) (sym c.in-Some-get-2.ensures.value) c.requires.there
 
 pub emit-requires : goal.emit-requires
 emit-requires c =
-    let S = c.args.sources.now in
-    let element = c.in-Some-get-3.element.now in
+    let S = c.args.at.memory.sources.now in
+    let element = c.in-Some-get-2.element.now in
     some_is (shape c.in_ok-next.next (sources_table S)) (shaped element.kind element.width) (c.in_ok-next.ensures.shape (sources_table S)
-    (has_here c.args.net.now S c.args.at.memory c.requires.net c.requires.memory c.in-Some.memory.now (sym c.in-Some.ensures.value) c.args.at.port c.in-Some-get.port.now (sym c.in-Some-get.ensures.value) c.in-Some-read.read c.in-Some-read.is
-    c.args.at.leaf c.in-Some-get-2.shown.now element (sym c.in-Some-get-2.ensures.value) (sym c.in-Some-get-3.ensures.value) c.requires.there (record { memory = c.args.at.memory; number = c.args.at.leaf; kind = element.kind; width = element.width; narrow = _ }) refl refl refl))
+    (has_here c.args.at.memory.net.now S c.args.at.memory.number c.requires.net c.requires.memory c.memory_of-memory.result.now c.memory_of-memory.ensures c.args.at.port c.port_of-port.result.now c.port_of-port.ensures c.in-Some.read c.in-Some.is
+    c.args.at.leaf c.in-Some-get.shown.now element (sym c.in-Some-get.ensures.value) (sym c.in-Some-get-2.ensures.value) c.requires.there (record { memory = c.args.at.memory.number; number = c.args.at.leaf; kind = element.kind; width = element.width; narrow = _ }) refl refl refl))
 
 pub returns-clause-left : goal.returns-clause-left
 returns-clause-left c =
-    let net = c.args.net.now in
-    let S = c.args.sources.now in
-    let m = c.args.at.memory in
+    let net = c.args.at.memory.net.now in
+    let S = c.args.at.memory.sources.now in
+    let m = c.args.at.memory.number in
     let p = c.args.at.port in
     let k = c.args.at.leaf in
-    let memory = c.in-Some.memory.now in
-    let there = sym c.in-Some.ensures.value in
-    let port = c.in-Some-get.port.now in
-    let listed = sym c.in-Some-get.ensures.value in
-    let read = c.in-Some-read.read in
-    let reads = c.in-Some-read.is in
-    let x = c.in-Some-get-2.shown.now in
-    let at = sym c.in-Some-get-2.ensures.value in
-    let element = c.in-Some-get-3.element.now in
-    let element_there = sym c.in-Some-get-3.ensures.value in
+    let memory = c.memory_of-memory.result.now in
+    let there = c.memory_of-memory.ensures in
+    let port = c.port_of-port.result.now in
+    let listed = c.port_of-port.ensures in
+    let read = c.in-Some.read in
+    let reads = c.in-Some.is in
+    let x = c.in-Some-get.shown.now in
+    let at = sym c.in-Some-get.ensures.value in
+    let element = c.in-Some-get-2.element.now in
+    let element_there = sym c.in-Some-get-2.ensures.value in
     let g = c.in_ok-next.next in
     let s = c.in_ok-spot.spot in
     let mid = c.emit.new.draft in
@@ -79,17 +79,17 @@ returns-clause-left c =
 
 pub returns-clause-evaluates : goal.returns-clause-evaluates
 returns-clause-evaluates c =
-    let net = c.args.net.now in
-    let S = c.args.sources.now in
-    let m = c.args.at.memory in
+    let net = c.args.at.memory.net.now in
+    let S = c.args.at.memory.sources.now in
+    let m = c.args.at.memory.number in
     let p = c.args.at.port in
     let k = c.args.at.leaf in
-    let memory = c.in-Some.memory.now in
-    let there = sym c.in-Some.ensures.value in
-    let port = c.in-Some-get.port.now in
-    let listed = sym c.in-Some-get.ensures.value in
-    let read = c.in-Some-read.read in
-    let element = c.in-Some-get-3.element.now in
+    let memory = c.memory_of-memory.result.now in
+    let there = c.memory_of-memory.ensures in
+    let port = c.port_of-port.result.now in
+    let listed = c.port_of-port.ensures in
+    let read = c.in-Some.read in
+    let element = c.in-Some-get-2.element.now in
     let g = c.in_ok-next.next in
     let s = c.in_ok-spot.spot in
     let old = c.args.draft.now in
@@ -97,6 +97,6 @@ returns-clause-evaluates c =
     let new = c.publish.new.draft in
     on_ok_so (Segment mid new (spot_slots s) [] 0) (EvaluatesOnly S (IsCaptureGroup net m) old new) c.publish.result c.publish.ensures.segment (λ told.
     one_such S (IsCaptureGroup net m) (g ∷ []) old new
-    (capture_group net m p k memory port read element (record { memory = m; number = c.args.at.leaf; kind = element.kind; width = element.width; narrow = element.narrow }) g there listed c.in-Some-read.is
-    (late_here net m p k c.requires.there memory port read there listed c.in-Some-read.is) (sym c.in-Some-get-3.ensures.value) refl refl refl refl c.in_ok-next.ensures.itself)
+    (capture_group net m p k memory port read element (record { memory = m; number = c.args.at.leaf; kind = element.kind; width = element.width; narrow = element.narrow }) g there listed c.in-Some.is
+    (late_here net m p k c.requires.there memory port read there listed c.in-Some.is) (sym c.in-Some-get-2.ensures.value) refl refl refl refl c.in_ok-next.ensures.itself)
     (one_told S g old mid new s c.in_ok-spot.ensures.spans told))

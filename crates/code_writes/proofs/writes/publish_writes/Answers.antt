@@ -9,26 +9,26 @@ use Rattle.code_writes.proofs.writes.publish_writes.Goals as goal
 
 pub loop-port-init : goal.loop-port-init
 loop-port-init c = record {
-  left = λ memory there. nothing_left_yet c.args.net.now c.args.sources.now c.args.draft.now;
-  evaluates = none_such c.args.sources.now (IsWriteGroup c.args.net.now c.args.number) c.args.draft.now;
+  left = λ memory there. nothing_left_yet c.args.at.net.now c.args.at.sources.now c.args.draft.now;
+  evaluates = none_such c.args.at.sources.now (IsWriteGroup c.args.at.net.now c.args.at.number) c.args.draft.now;
 }
 
 pub publish_port-requires-clause-there : goal.publish_port-requires-clause-there
 publish_port-requires-clause-there c =
-    let memory = c.in-Some.memory.now in
+    let memory = c.memory_of.result.now in
     let port = some_there memory.ports c.loop-port.port (omega (arith, c.loop-port-test.true)) in
-    record { memory = memory; there = sym c.in-Some.ensures.value; port = port.0; listed = port.1 }
+    record { memory = memory; there = c.memory_of.ensures; port = port.0; listed = port.1 }
 
 pub loop-port-preserved : goal.loop-port-preserved
 loop-port-preserved c = record {
   left = λ memory there.
-      let same = ap (λ (y : NetMemory). length y.ports) (some_same (sym there ∙ sym c.in-Some.ensures.value)) in
-      port_step c.args.net.now c.args.sources.now c.args.number memory there c.loop-port.port c.args.draft.now c.loop-port.draft c.publish_port.new.draft (omega (arith, c.loop-port-test.true, same)) (c.loop-port.invariant.left memory there)
+      let same = ap (λ (y : NetMemory). length y.ports) (some_same (sym there ∙ c.memory_of.ensures)) in
+      port_step c.args.at.net.now c.args.at.sources.now c.args.at.number memory there c.loop-port.port c.args.draft.now c.loop-port.draft c.publish_port.new.draft (omega (arith, c.loop-port-test.true, same)) (c.loop-port.invariant.left memory there)
       c.in_ok-publish_port.ensures.left;
-  evaluates = more_such c.args.sources.now (IsWriteGroup c.args.net.now c.args.number) c.args.draft.now c.loop-port.draft c.publish_port.new.draft c.loop-port.invariant.evaluates c.in_ok-publish_port.ensures.evaluates;
+  evaluates = more_such c.args.at.sources.now (IsWriteGroup c.args.at.net.now c.args.at.number) c.args.draft.now c.loop-port.draft c.publish_port.new.draft c.loop-port.invariant.evaluates c.in_ok-publish_port.ensures.evaluates;
 }
 
 pub returns-clause-left : goal.returns-clause-left
 returns-clause-left c = λ memory there.
-    let same = ap (λ (y : NetMemory). length y.ports) (some_same (sym there ∙ sym c.in-Some.ensures.value)) in
-    writes_done c.args.net.now c.args.sources.now c.args.number memory there c.loop-port.port c.args.draft.now c.loop-port.draft (omega (arith, c.loop-port-test.false, same)) (c.loop-port.invariant.left memory there) memory there
+    let same = ap (λ (y : NetMemory). length y.ports) (some_same (sym there ∙ c.memory_of.ensures)) in
+    writes_done c.args.at.net.now c.args.at.sources.now c.args.at.number memory there c.loop-port.port c.args.draft.now c.loop-port.draft (omega (arith, c.loop-port-test.false, same)) (c.loop-port.invariant.left memory there) memory there
