@@ -1,4 +1,4 @@
-use Rattle.std.proofs.Common.{sym, arith}
+use Rattle.std.proofs.Common.{arith}
 use Rattle.code_memories.proofs.Published.{reads_at}
 use Rattle.code_memories.proofs.Loops.{same_count, capture_step, reads_done}
 use Rattle.code_registers.proofs.Evaluating.{more_such}
