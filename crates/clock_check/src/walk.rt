@@ -1,10 +1,9 @@
 //! The walk through the statements of a module: from where its Clock leaves have their value.
 
 ghost use Rattle.std.specs.Prelude.{◌≡◌, ◌++◌, not, true, map, flat_map, zip, IfOk, OnOk};
-ghost use Rattle.fir_types.specs.Leaves.{leaves, is_clock};
 ghost use Rattle.fir_meaning.specs.Components.{Leaf, A_node, flow_of};
 ghost use Rattle.fir_meaning.specs.States.{is_source};
-ghost use Rattle.fir_meaning.specs.ClockRoot.{Undriven, in_branch, last_of, driven_by, driver_in, named_leaves};
+ghost use Rattle.fir_meaning.specs.ClockRoot.{Undriven, in_branch, last_of, driven_by, driver_in};
 ghost use Rattle.drive_check.specs.HeldTypes.{types_in};
 ghost use Rattle.drive_check.specs.Keys.{leaf_of_key};
 ghost use Rattle.clock_check.specs.Driving.{driver_of, clocked, arm_driven};
@@ -202,7 +201,7 @@ fn push_leaf(
 ) -> Result<(), AllocError>
     ensures { OnOk result (edges_of links.new.items ≡ edges_of links.old.items ++ driven_edge (driver_of drivers.now.known.entries) (sort_of component.1) component.0.id leaf.now) }
 {
-    if !is_clock(leaf) || !may_drive(component.1, leaf.flip) {
+    if !matches!(leaf.typ.shape, Shape::Clock) || !may_drive(component.1, leaf.flip) {
         return Ok(());
     }
     let sink = key_of(alloc, component.0.id, &[], leaf.path.as_slice())?;
@@ -212,12 +211,6 @@ fn push_leaf(
     let source = copied(alloc, found)?;
     links.push(Link { sink, source })?;
     Ok(())
-}
-
-fn is_clock(leaf: &TypeLeaf) -> bool
-    ensures { result ≡ is_clock leaf.now }
-{
-    matches!(leaf.typ.shape, Shape::Clock)
 }
 
 /// Whether statements may drive a leaf of a component, flipped or not.
@@ -272,7 +265,7 @@ fn push_beside(
 ) -> Result<(), AllocError>
     ensures { OnOk result (edges_of links.new.items ≡ edges_of links.old.items ++ node_edge name.id (leaf.now, leaf_of_key source.now)) }
 {
-    if !is_clock(leaf) {
+    if !matches!(leaf.typ.shape, Shape::Clock) {
         return Ok(());
     }
     let sink = key_of(alloc, name.id, &[], leaf.path.as_slice())?;

@@ -1,15 +1,13 @@
 //! The table of a module's leaves.
 
 ghost use Rattle.std.specs.Prelude.{◌≡◌, ◌++◌, map, flat_map, sum_by, IfOk, OnOk};
-ghost use Rattle.fir_types.specs.declared.fir_type.Shape.TheViews.{out-Shape};
-ghost use Rattle.fir_meaning.specs.Components.{is_clock_shape};
 ghost use Rattle.ground_tables.specs.Tables.{row_of_leaf, piece_rows, leaf_row, role_in, flags_of_piece, is_set_in, port_size};
 
 use crate::declarations::Sort;
 use crate::pieces::{Piece, leaf_number};
 use bit_words::List;
 use fir_tree::Names;
-use fir_types::{FirType, Shape, TypeLeaf};
+use fir_types::{Shape, TypeLeaf};
 use ground_exprs::part_sources::{kind_of, leaves_of, width_of};
 use ground_net::{GroundLeaf, GroundRole};
 use ground_parts::reading::sum_of;
@@ -66,18 +64,11 @@ fn ground_leaf(
     })
 }
 
-/// Whether a ground type is a `Clock`.
-fn is_clock(typ: &FirType) -> bool
-    ensures { result ≡ is_clock_shape (out-Shape typ.now.shape) }
-{
-    matches!(&typ.shape, Shape::Clock)
-}
-
 /// What a leaf is.
 fn role_of(sort: Sort<'_>, leaf: &TypeLeaf) -> GroundRole
     ensures { result ≡ role_in sort.entry leaf.now }
 {
-    if is_clock(&leaf.typ) {
+    if matches!(leaf.typ.shape, Shape::Clock) {
         return GroundRole::Clock;
     }
     match sort {
@@ -119,7 +110,7 @@ fn is_set(sort: Sort<'_>, leaf: &TypeLeaf) -> bool
         Sort::Wire | Sort::Register(_) | Sort::ResetRegister(_, _, _) => true,
         Sort::Node(_) => false,
     };
-    sink && !is_clock(&leaf.typ)
+    sink && !matches!(leaf.typ.shape, Shape::Clock)
 }
 
 /// How many leaves the ports have.
