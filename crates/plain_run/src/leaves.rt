@@ -1,7 +1,7 @@
 //! The leaves of main's ports (FIRRTL specification 3.0, "Ports").
 
 ghost use Rattle.std.specs.Prelude.{◌≡◌, ◌++◌, map, filter, IfOk, OnOk};
-ghost use Rattle.fir_meaning.specs.Components.{design_of, flow_of, is_clock};
+ghost use Rattle.fir_meaning.specs.Components.{design_of, flow_of};
 ghost use Rattle.fir_meaning.specs.States.{is_port, is_source};
 ghost use Rattle.drive_check.specs.Keys.{leaf_of_key};
 ghost use Rattle.tree_sites.specs.Held.{held, held_sort};
@@ -101,13 +101,7 @@ fn push_inputs(
 fn is_given(sort: Sort<'_>, leaf: &TypeLeaf) -> bool
     ensures { result ≡ is_given (held_sort sort.entry) leaf.now }
 {
-    is_source(sort, leaf.flip) && !is_clock(leaf)
-}
-
-fn is_clock(leaf: &TypeLeaf) -> bool
-    ensures { result ≡ is_clock leaf.now }
-{
-    matches!(leaf.typ.shape, Shape::Clock)
+    is_source(sort, leaf.flip) && !matches!(leaf.typ.shape, Shape::Clock)
 }
 
 /// Whether a leaf of a declaration, flipped or not, is only read in its module.

@@ -2,7 +2,7 @@
 
 ghost use Rattle.std.specs.Prelude.{◌≡◌, true, pos, IfOk};
 ghost use Rattle.bit_words.specs.Values.{integer_of};
-ghost use Rattle.fir_meaning.specs.Components.{A_node, flow_of, is_clock};
+ghost use Rattle.fir_meaning.specs.Components.{A_node, flow_of};
 ghost use Rattle.fir_meaning.specs.States.{leaf_of, is_source, is_port};
 ghost use Rattle.drive_check.specs.Keys.{leaf_of_key};
 ghost use Rattle.tree_sites.specs.Held.{held_sort};
@@ -37,7 +37,7 @@ pub fn asked(
     requires part { (x : Located) × IsPart (design_in run.now) x part.now }
     ensures { IfOk result (λ v. (x : Located) → IsPart (design_in run.now) x part.now → integer_of v ≡ asked (design_in run.now) (state_at run.now moment.now) (given_at run.now moment.now) (values_at run.now moment.now) x.path (x.m, x.c) leaf.now) }
 {
-    if is_clock(leaf) {
+    if matches!(leaf.typ.shape, Shape::Clock) {
         return Ok(nothing());
     }
     match part.declaration.sort {
@@ -57,12 +57,6 @@ pub fn asked(
         Sort::Instance(_) => Ok(nothing()),
         Sort::Node(expr) => of_node(alloc, run, moment, part, (expr, leaf)),
     }
-}
-
-fn is_clock(leaf: &TypeLeaf) -> bool
-    ensures { result ≡ is_clock leaf.now }
-{
-    matches!(leaf.typ.shape, Shape::Clock)
 }
 
 /// What a register's leaf holds.
