@@ -1,11 +1,11 @@
 -- Names with their numbers, and names that stand twice.
-use Rattle.std.proofs.Common.{◌≡◌, ℕ, ◌+◌, ◌<◌, Bool, true, false, List, [], ◌∷◌, ◌++◌, length, take, get_or, refl, sym, ap, ap₂, ◌∙◌, arith, append_assoc, append-nil, ◌||◌, if◌then◌else◌, not}
+use Rattle.std.proofs.Common.{◌≡◌, ℕ, ◌+◌, ◌<◌, Bool, true, false, List, [], ◌∷◌, ◌++◌, length, take, get_or, refl, sym, ap, ap₂, ◌∙◌, arith, append_assoc, append-nil, ◌||◌, not}
 use Rattle.std.specs.Prelude.{nat_eq}
 use Rattle.std.specs.List.{list_any}
 use Rattle.std.proofs.lemmas.List.{take_more, map-append, length-take-le, nil_from_length}
 use Rattle.std.proofs.lemmas.List.Folds.{list_any-append}
-use Rattle.std.proofs.lemmas.Bool.{eqb-true}
 use Rattle.indexmap.specs.IndexSet.{insert_key}
+use Rattle.key_laws.proofs.Held.{held_key}
 use Rattle.fir_types.specs.declared.name.Name.{Name}
 use Rattle.place_text.specs.declared.place.Place.{Place}
 use Rattle.fir_names.specs.declared.fault.NameFault.{NameFault}
@@ -37,21 +37,6 @@ twice-append says before (x ∷ xs) ys =
     ap (λ l. fault_where (list_any (nat_eq x.id) (texts before)) (says x.place) ++ l)
     (twice-append says (before ++ x ∷ []) xs ys ∙ ap (λ b. twice_behind says (before ++ x ∷ []) xs ++ twice_behind says b ys) (append_assoc before (x ∷ []) xs))
     ∙ sym (append_assoc (fault_where (list_any (nat_eq x.id) (texts before)) (says x.place)) _ _)
-
-held_key : (ks : List ℕ) (k t : ℕ) → list_any (nat_eq t) (insert_key nat_eq ks k) ≡ (list_any (nat_eq t) ks || (nat_eq t k || false))
-held_key ks k t = by (list_any (nat_eq k) ks) refl
-  where
-    known : (b : Bool) → nat_eq t k ≡ b → list_any (nat_eq k) ks ≡ true → list_any (nat_eq t) ks ≡ (list_any (nat_eq t) ks || (b || false))
-    known true e h = let is : list_any (nat_eq t) ks ≡ true = ap (λ x. list_any (nat_eq x) ks) (eqb-true t k e) ∙ h in rw is refl
-    known false e h = either (list_any (nat_eq t) ks)
-      where
-        either : (b : Bool) → b ≡ (b || false)
-        either true = refl
-        either false = refl
-
-    by : (b : Bool) → list_any (nat_eq k) ks ≡ b → list_any (nat_eq t) (if b then ks else ks ++ k ∷ []) ≡ (list_any (nat_eq t) ks || (nat_eq t k || false))
-    by true e = known (nat_eq t k) refl e
-    by false e = list_any-append (nat_eq t) ks (k ∷ [])
 
 not_not : (b : Bool) → not (not b) ≡ b
 not_not true = refl

@@ -1,12 +1,12 @@
 -- Names that one before them has as well, found with the set of those before.
-use Rattle.std.proofs.Common.{◌≡◌, ℕ, ◌+◌, ◌<◌, Bool, true, false, List, [], ◌∷◌, ◌++◌, map, length, take, get_or, refl, sym, ap, ap₂, ◌∙◌, append_assoc, append-nil, ◌||◌, if◌then◌else◌, not, arith}
+use Rattle.std.proofs.Common.{◌≡◌, ℕ, ◌+◌, ◌<◌, Bool, true, false, List, [], ◌∷◌, ◌++◌, map, length, take, get_or, refl, sym, ap, ap₂, ◌∙◌, append_assoc, append-nil, ◌||◌, not, arith}
 use Rattle.std.specs.Prelude.{nat_eq}
 use Rattle.std.specs.List.{list_any, flat_map}
 use Rattle.std.proofs.lemmas.Grind.{common_steps}
 use Rattle.std.proofs.lemmas.List.{take_more, map-append}
 use Rattle.std.proofs.lemmas.List.Folds.{list_any-append}
-use Rattle.std.proofs.lemmas.Bool.{eqb-true}
 use Rattle.indexmap.specs.IndexSet.{insert_key}
+use Rattle.key_laws.proofs.Held.{held_key}
 use Rattle.fir_types.specs.declared.fir_type.FirType.{FirType, the_lemmas}
 use Rattle.fir_types.specs.declared.fir_type.Shape.TheVariants as shape
 use Rattle.fir_types.specs.declared.fir_type.Field.{Field, fold-Field}
@@ -26,22 +26,6 @@ seconds-append before (x ∷ xs) ys =
     ap (λ l. when (has_name before x) (FieldTwice x.place) ++ l)
     (seconds-append (before ++ x ∷ []) xs ys ∙ ap (λ b. seconds_behind (before ++ x ∷ []) xs ++ seconds_behind b ys) (append_assoc before (x ∷ []) xs))
     ∙ sym (append_assoc (when (has_name before x) (FieldTwice x.place)) _ _)
-
--- one more key is held
-pub held_key : (ks : List ℕ) (k t : ℕ) → list_any (nat_eq t) (insert_key nat_eq ks k) ≡ (list_any (nat_eq t) ks || (nat_eq t k || false))
-held_key ks k t = by (list_any (nat_eq k) ks) refl
-  where
-    known : (b : Bool) → nat_eq t k ≡ b → list_any (nat_eq k) ks ≡ true → list_any (nat_eq t) ks ≡ (list_any (nat_eq t) ks || (b || false))
-    known true e h = let is : list_any (nat_eq t) ks ≡ true = ap (λ x. list_any (nat_eq x) ks) (eqb-true t k e) ∙ h in rw is refl
-    known false e h = either (list_any (nat_eq t) ks)
-      where
-        either : (b : Bool) → b ≡ (b || false)
-        either true = refl
-        either false = refl
-
-    by : (b : Bool) → list_any (nat_eq k) ks ≡ b → list_any (nat_eq t) (if b then ks else ks ++ k ∷ []) ≡ (list_any (nat_eq t) ks || (nat_eq t k || false))
-    by true e = known (nat_eq t k) refl e
-    by false e = list_any-append (nat_eq t) ks (k ∷ [])
 
 pub unless-not : (b : Bool) (fault : TypeFault) → unless (not b) fault ≡ when b fault
 unless-not true fault = refl
