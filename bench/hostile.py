@@ -158,7 +158,7 @@ DEEP = {
 MASKED = {"a memory of 128 lengths around a bundle, 128 deep": deep_memory(128)}
 
 ROWS = {
-    "n nodes of a bundle of n fields": (nodes_of_bundle, 1_000, TOO_LARGE),
+    "n nodes of a bundle of n fields": (nodes_of_bundle, 14_000, TOO_LARGE),
     "n connects of n fields that main doesn't reach": (unreached_connects, 1_000, ACCEPTED),
     "n instances of a module with n ports": (instances_of_ports, 500, TOO_LARGE),
     "2 n references to the last of n fields": (last_field, 6_000, TOO_LARGE),
