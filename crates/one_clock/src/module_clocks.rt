@@ -1,7 +1,6 @@
 //! What is known of the clocks of a module.
 
 ghost use Rattle.std.specs.Prelude.{◌≡◌, ◌++◌, map, flat_map, IfOk, OnOk};
-ghost use Rattle.fir_types.specs.Leaves.{is_clock};
 ghost use Rattle.fir_meaning.specs.Components.{flow_of};
 ghost use Rattle.fir_meaning.specs.States.{is_source};
 ghost use Rattle.drive_check.specs.HeldTypes.{types_in};
@@ -96,18 +95,12 @@ fn push_leaf(
 ) -> Result<(), AllocError>
     ensures { OnOk result (map leaf_of_key inputs.new.items ≡ map leaf_of_key inputs.old.items ++ input_leaf output name leaf.now) }
 {
-    if !is_clock(leaf) || !is_read(output, leaf.flip) {
+    if !matches!(leaf.typ.shape, Shape::Clock) || !is_read(output, leaf.flip) {
         return Ok(());
     }
     let key = key_of(alloc, name, &[], leaf.path.as_slice())?;
     inputs.push(key)?;
     Ok(())
-}
-
-fn is_clock(leaf: &TypeLeaf) -> bool
-    ensures { result ≡ is_clock leaf.now }
-{
-    matches!(leaf.typ.shape, Shape::Clock)
 }
 
 /// Whether the module only reads a leaf of an output or an input, flipped or not.
