@@ -74,7 +74,7 @@ module _ (run : Run) (ok : IsRun run) (x : Located) (part : Part) (is : IsPart (
     same = memory_is run ok x part is m so memory e
 
     named : memory.name.id ≡ x.c.declaration.name
-    named = eqb-true memory.name.id x.c.declaration.name (sym (ap (is_named x.c.declaration.name) e) ∙ named_there run ok x part is part.site.now.path refl)
+    named = eqb-true memory.name.id x.c.declaration.name (sym (ap (is_named x.c.declaration.name) e) ∙ named_there run ok x part is)
 
     own_leaves : (here : Scene) → here ≡ scene_of x.m x.path rho → here.integers m.now.name.id ≡ leaves_in s rho x
     own_leaves here scene = ap₂ (λ (q : Scene) (n : ℕ). q.integers n) scene (ap (λ (k : Memory). k.name.id) same ∙ named)

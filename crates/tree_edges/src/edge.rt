@@ -9,7 +9,8 @@ use crate::memories::next_of_memory;
 use crate::registers::next_of_leaves;
 use bit_words::{List, Value};
 use std::alloc::{AllocError, Global};
-use tree_sweep::{Held, Moment, Part, Run};
+use tree_sweep::finding::part_of;
+use tree_sweep::{Held, Here, Moment, Run};
 
 /// What is held when the next cycle begins, where this was held in the cycle and the leaves of the run have these values: the next state
 /// as far as the circuit goes. Takes time in proportion to the leaves of registers and memories, each with the statements
@@ -32,12 +33,13 @@ pub fn next_held(
     let mut contents = List::new(alloc);
     let mut captured = List::new(alloc);
     for at in 0..run.sites.len().min(run.declared.len()) {
-        let part = Part {
-            site: &run.sites[at],
-            declaration: run.declared[at],
+        let here = Here {
+            run,
+            moment: &moment,
+            part: part_of(run, at),
         };
-        registers.push(next_of_leaves(alloc, run, &moment, &part)?)?;
-        let next = next_of_memory(alloc, run, &moment, &part)?;
+        registers.push(next_of_leaves(alloc, here)?)?;
+        let next = next_of_memory(alloc, here)?;
         contents.push(next.elements)?;
         captured.push(next.read)?;
     }

@@ -17,9 +17,8 @@ use tree_drives::laws::leaves_of_elements_are_stored;
 use tree_drives::{SeenMemory, read_by, stored_leaves, write};
 use tree_sites::Sort;
 use tree_sweep::finding::nothing;
-use tree_sweep::memories::elements_on;
-use tree_sweep::{Moment, Part, Run};
-use tree_values::View;
+use tree_sweep::memories::elements_of;
+use tree_sweep::{Here, view_of};
 
 /// What is held of a memory after a cycle.
 #[derive(Drop)]
@@ -31,42 +30,30 @@ pub struct MemoryNext {
 }
 
 /// What is held of a memory after the cycle; nothing of another component.
-pub fn next_of_memory(
-    alloc: Global,
-    run: &Run<'_>,
-    moment: &Moment<'_>,
-    part: &Part<'_>,
-) -> Result<MemoryNext, AllocError>
-    requires run { IsRun run.now }
-    requires part { (x : Located) × IsPart (design_in run.now) x part.now }
-    ensures written { IfOk result (λ next. (x : Located) → IsPart (design_in run.now) x part.now → AreWritten (state_at run.now moment.now) (values_at run.now moment.now) x next.elements) }
-    ensures read { IfOk result (λ next. (x : Located) → IsPart (design_in run.now) x part.now → AreRead (state_at run.now moment.now) (values_at run.now moment.now) x next.read) }
+pub fn next_of_memory(alloc: Global, here: Here<'_>) -> Result<MemoryNext, AllocError>
+    requires run { IsRun here.run.now }
+    requires part { (x : Located) × IsPart (design_in here.run.now) x here.part }
+    ensures written { IfOk result (λ next. (x : Located) → IsPart (design_in here.entry.run.now) x here.entry.part → AreWritten (state_at here.entry.run.now here.entry.moment.now) (values_at here.entry.run.now here.entry.moment.now) x next.elements) }
+    ensures read { IfOk result (λ next. (x : Located) → IsPart (design_in here.entry.run.now) x here.entry.part → AreRead (state_at here.entry.run.now here.entry.moment.now) (values_at here.entry.run.now here.entry.moment.now) x next.read) }
 {
     leaves_of_elements_are_stored();
-    let Sort::Memory(memory) = part.declaration.sort else {
+    let Sort::Memory(memory) = here.part.declaration.sort else {
         return Ok(MemoryNext {
             elements: List::new(alloc),
             read: List::new(alloc),
         });
     };
-    let path = part.site.path.as_slice();
-    let contents = moment.held.contents.as_slice();
-    let before = elements_on(run.sites, contents, path, part.site.name);
-    let leaves = stored_leaves(alloc, part.site.leaves.as_slice())?;
-    let view = View {
-        sites: run.sites,
-        values: moment.values,
-        path,
-    };
+    let before = elements_of(here);
+    let leaves = stored_leaves(alloc, here.part.site.leaves.as_slice())?;
     let seen = SeenMemory {
-        view,
+        view: view_of(here),
         memory,
         leaves: leaves.as_slice(),
     };
     let mut elements = copied(alloc, before)?;
     write(alloc, &seen, &mut elements)?;
     let from = taken(memory.lines.as_slice(), before, elements.as_slice());
-    let read = read_leaves(alloc, &seen, from, part.site.leaves.as_slice())?;
+    let read = read_leaves(alloc, &seen, from, here.part.site.leaves.as_slice())?;
     Ok(MemoryNext { elements, read })
 }
 

@@ -14,28 +14,21 @@ use fir_types::TypeLeaf;
 use std::alloc::{AllocError, Global};
 use tree_drives::{Register, Reset, next_of_register};
 use tree_sites::{Declaration, Sort};
-use tree_sweep::finding::nothing;
-use tree_sweep::{Moment, Part, Run};
-use tree_values::View;
-use tree_values::sights::value_on;
+use tree_sweep::asking::kept;
+use tree_sweep::{Here, view_of};
 
 /// What a register holds next in each of its leaves; nothing of another component.
-pub fn next_of_leaves(
-    alloc: Global,
-    run: &Run<'_>,
-    moment: &Moment<'_>,
-    part: &Part<'_>,
-) -> Result<List<Value>, AllocError>
-    requires run { IsRun run.now }
-    requires part { (x : Located) × IsPart (design_in run.now) x part.now }
-    ensures { IfOk result (λ values. (x : Located) → IsPart (design_in run.now) x part.now → AreNextIn (state_at run.now moment.now) (values_at run.now moment.now) x values) }
+pub fn next_of_leaves(alloc: Global, here: Here<'_>) -> Result<List<Value>, AllocError>
+    requires run { IsRun here.run.now }
+    requires part { (x : Located) × IsPart (design_in here.run.now) x here.part }
+    ensures { IfOk result (λ values. (x : Located) → IsPart (design_in here.entry.run.now) x here.entry.part → AreNextIn (state_at here.entry.run.now here.entry.moment.now) (values_at here.entry.run.now here.entry.moment.now) x values) }
 {
     let mut values = List::new(alloc);
-    let Some(register) = register_of(&part.declaration) else {
+    let Some(register) = register_of(&here.part.declaration) else {
         return Ok(values);
     };
-    for leaf in part.site.leaves.as_slice() {
-        values.push(next_of_leaf(alloc, run, moment, part, (&register, leaf))?)?;
+    for leaf in here.part.site.leaves.as_slice() {
+        values.push(next_of_leaf(alloc, here, &register, leaf)?)?;
     }
     Ok(values)
 }
@@ -59,30 +52,15 @@ fn register_of<'a>(declaration: &Declaration<'a>) -> Option<Register<'a>>
 /// What a register holds next in a leaf.
 fn next_of_leaf(
     alloc: Global,
-    run: &Run<'_>,
-    moment: &Moment<'_>,
-    part: &Part<'_>,
-    here: (&Register<'_>, &TypeLeaf),
+    here: Here<'_>,
+    register: &Register<'_>,
+    leaf: &TypeLeaf,
 ) -> Result<Value, AllocError>
-    requires run { IsRun run.now }
-    requires part { (x : Located) × IsPart (design_in run.now) x part.now }
-    requires register { IsRegisterOf part.now.declaration here.0.now }
-    ensures { IfOk result (λ v. (x : Located) → IsPart (design_in run.now) x part.now → integer_of v ≡ next_in_leaf (state_at run.now moment.now) (values_at run.now moment.now) x here.entry.1.now) }
+    requires run { IsRun here.run.now }
+    requires part { (x : Located) × IsPart (design_in here.run.now) x here.part }
+    requires register { IsRegisterOf here.part.declaration register.now }
+    ensures { IfOk result (λ v. (x : Located) → IsPart (design_in here.entry.run.now) x here.entry.part → integer_of v ≡ next_in_leaf (state_at here.entry.run.now here.entry.moment.now) (values_at here.entry.run.now here.entry.moment.now) x leaf.now) }
 {
-    let path = part.site.path.as_slice();
-    let registers = moment.held.registers.as_slice();
-    let view = View {
-        sites: run.sites,
-        values: moment.values,
-        path,
-    };
-    let key = key_of(alloc, part.site.name, &[], here.1.path.as_slice())?;
-    let held = value_on(
-        run.sites,
-        registers,
-        path,
-        part.site.name,
-        key.way.as_slice(),
-    );
-    next_of_register(alloc, &view, &key, here.0, held.unwrap_or(nothing()))
+    let key = key_of(alloc, here.part.site.name, &[], leaf.path.as_slice())?;
+    next_of_register(alloc, &view_of(here), &key, register, kept(here, &key))
 }

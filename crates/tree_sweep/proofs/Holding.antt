@@ -114,4 +114,4 @@ module _ (run : Run) (ok : IsRun run) (x : Located) (part : Part) (is : IsPart (
       ap (λ l. read_by m.now (here.integers m.now.name.id) (contents_of l elements) port way) leaves
       ∙ (ap₂ (λ (s : Scene) (k : Contents). read_by m.now (s.integers m.now.name.id) k port way) scene (sym held)
       ∙ (ap (λ (n : Memory). read_by n ((scene_of x.m x.path rho).integers n.name.id) contents port way) memory_is
-      ∙ ap (λ n. read_by memory ((scene_of x.m x.path rho).integers n) contents port way) (memory_named memory x.c.declaration.name x.c.declaration.sort e (named_there run ok x part is part.site.now.path refl))))
+      ∙ ap (λ n. read_by memory ((scene_of x.m x.path rho).integers n) contents port way) (memory_named memory x.c.declaration.name x.c.declaration.sort e (named_there run ok x part is))))

@@ -9,7 +9,7 @@ use Rattle.fir_types.specs.Leaves.{leaves}
 use Rattle.fir_tree.specs.declared.expr.Expr.{Expr}
 use Rattle.fir_meaning.specs.Components.{Design, A_node}
 use Rattle.fir_meaning.specs.Values.{Scene, scene_of, value}
-use Rattle.fir_meaning.specs.WellTyped.{known_in, typed, is_typed, are_typed}
+use Rattle.fir_meaning.specs.WellTyped.{Known, known_in, typed, is_typed, are_typed}
 use Rattle.fir_meaning.specs.Drives.{same_way}
 use Rattle.fir_meaning.specs.States.{or_else, leaf_of}
 use Rattle.drive_check.specs.declared.leaf_set.LeafKey.{LeafKey}
@@ -70,17 +70,18 @@ module _ (design : Design) (x : Located) (part : Part) (is : IsPart design x par
   pub key_is : (key : LeafKey) (leaf : TypeLeaf) → key.component ≡ part.site.now.name → map step_of key.way.items ≡ leaf.path → leaf_of_key key ≡ leaf_of x.c leaf
   key_is key leaf c w = ap₂ (λ (n : ℕ) (p : List PathStep). record { component = n; way = p }) (c ∙ name_is) w
 
-module _ (run : Run) (ok : IsRun run) (x : Located) (part : Part) (is : IsPart (design_in run) x part) (path : List ℕ) (same : path ≡ part.site.now.path) where
-  here' : path ≡ x.path
-  here' = same ∙ path_is (design_in run) x part is
+module _ (run : Run) (ok : IsRun run) (x : Located) (part : Part) (is : IsPart (design_in run) x part) where
+  module _ (path : List ℕ) (same : path ≡ part.site.now.path) where
+    here' : path ≡ x.path
+    here' = same ∙ path_is (design_in run) x part is
 
-  pub scene_there : (values : List (List Value)) → scene_at run.sites.now values path ≡ scene_of x.m x.path (valuation_of run.sites.now values)
-  scene_there values =
-      ap (scene_at run.sites.now values) here' ∙ (ap (λ l. scene_at l values x.path) ok.layout.lists.sites
-      ∙ (scene_is (design_in run) ok.layout.all ok.layout.are x.path x.m is.located.reached values ∙ ap (λ l. scene_of x.m x.path (valuation_of l values)) (sym ok.layout.lists.sites)))
+    pub scene_there : (values : List (List Value)) → scene_at run.sites.now values path ≡ scene_of x.m x.path (valuation_of run.sites.now values)
+    scene_there values =
+        ap (scene_at run.sites.now values) here' ∙ (ap (λ l. scene_at l values x.path) ok.layout.lists.sites
+        ∙ (scene_is (design_in run) ok.layout.all ok.layout.are x.path x.m is.located.reached values ∙ ap (λ l. scene_of x.m x.path (valuation_of l values)) (sym ok.layout.lists.sites)))
 
-  known_there : known_at run.sites.now path ≡ known_in x.m
-  known_there = ap (known_at run.sites.now) here' ∙ (ap (λ l. known_at l x.path) ok.layout.lists.sites ∙ known_is (design_in run) ok.layout.all ok.layout.are x.path x.m is.located.reached)
+    pub known_there : known_at run.sites.now path ≡ known_in x.m
+    known_there = ap (known_at run.sites.now) here' ∙ (ap (λ l. known_at l x.path) ok.layout.lists.sites ∙ known_is (design_in run) ok.layout.all ok.layout.are x.path x.m is.located.reached)
 
   typed_there : (are_typed (known_in x.m) x.c.declaration.block ≡ true) × ((is_typed_sort (known_in x.m) x.c.declaration.sort && is_named x.c.declaration.name x.c.declaration.sort) ≡ true)
   typed_there =
@@ -90,17 +91,18 @@ module _ (run : Run) (ok : IsRun run) (x : Located) (part : Part) (is : IsPart (
   sort_there : (is_typed_sort (known_in x.m) x.c.declaration.sort ≡ true) × (is_named x.c.declaration.name x.c.declaration.sort ≡ true)
   sort_there = and_parts (is_typed_sort (known_in x.m) x.c.declaration.sort) (is_named x.c.declaration.name x.c.declaration.sort) typed_there.1
 
-  pub block_typed : are_typed (known_at run.sites.now path) part.declaration.block.now ≡ true
-  block_typed = ap₂ are_typed known_there (block_is (design_in run) x part is) ∙ typed_there.0
-
-  pub sort_typed : is_typed_sort (known_at run.sites.now path) (held_sort part.declaration.sort) ≡ true
-  sort_typed = ap₂ is_typed_sort known_there (sort_is (design_in run) x part is) ∙ sort_there.0
-
-  pub node_typed : (e : Expr) → x.c.declaration.sort ≡ A_node e → IsSome (typed e (known_at run.sites.now path))
-  node_typed e node = ap (λ k. is_typed k e) known_there ∙ (sym (ap (is_typed_sort (known_in x.m)) node) ∙ sort_there.0)
-
   pub named_there : is_named x.c.declaration.name x.c.declaration.sort ≡ true
   named_there = sort_there.1
+
+  module _ (known : Known) (seen : known ≡ known_in x.m) where
+    pub block_typed : are_typed known part.declaration.block.now ≡ true
+    block_typed = ap₂ are_typed seen (block_is (design_in run) x part is) ∙ typed_there.0
+
+    pub sort_typed : is_typed_sort known (held_sort part.declaration.sort) ≡ true
+    sort_typed = ap₂ is_typed_sort seen (sort_is (design_in run) x part is) ∙ sort_there.0
+
+    pub node_typed : (e : Expr) → x.c.declaration.sort ≡ A_node e → IsSome (typed e known)
+    node_typed e node = ap (λ k. is_typed k e) seen ∙ (sym (ap (is_typed_sort (known_in x.m)) node) ∙ sort_there.0)
 
 pub narrow_there : (run : Run) → IsRun run → AreNarrow run.sites.now
 narrow_there run ok = subst AreNarrow (sym ok.layout.lists.sites) (sites_narrow run.fitted.now ok.well ok.layout.all ok.layout.are)

@@ -1,6 +1,6 @@
 //! What stands in lists beside the components of a run.
 
-ghost use Rattle.std.specs.Prelude.{◌≡◌, map, pos, IfSome, IfNone, Some, None};
+ghost use Rattle.std.specs.Prelude.{◌≡◌, ◌<◌, map, length, slice_index_or, pos, IfSome, IfNone, Some, None};
 ghost use Rattle.bit_words.specs.Values.{integer_of};
 ghost use Rattle.fir_meaning.specs.Drives.{same_leaf, same_way};
 ghost use Rattle.fir_meaning.specs.States.{located};
@@ -24,6 +24,19 @@ pub fn nothing() -> Value
     zero(Kind::Unsigned, 0)
 }
 
+/// The component at a place of the run's list.
+pub fn part_of<'a>(run: &Run<'a>, at: usize) -> Part<'a>
+    requires site { at < length run.now.sites.now }
+    requires declaration { at < length run.now.declared.now }
+    ensures site { result.site.now ≡ slice_index_or run.now.sites.now at result.site.now }
+    ensures declaration { result.declaration ≡ slice_index_or run.now.declared.now at result.declaration }
+{
+    Part {
+        site: &run.sites[at],
+        declaration: run.declared[at],
+    }
+}
+
 /// The component of a name in the module at a path.
 pub fn part_at<'a>(run: &Run<'a>, path: &[u32], name: u32) -> Option<Part<'a>>
     requires { IsRun run.now }
@@ -31,12 +44,9 @@ pub fn part_at<'a>(run: &Run<'a>, path: &[u32], name: u32) -> Option<Part<'a>>
     ensures none { IfNone result (located (design_in run.now) path.now name ≡ None) }
 {
     for at in 0..run.sites.len().min(run.declared.len()) {
-        let site = &run.sites[at];
-        if stands_at(site, path, name) {
-            return Some(Part {
-                site,
-                declaration: run.declared[at],
-            });
+        let part = part_of(run, at);
+        if stands_at(part.site, path, name) {
+            return Some(part);
         }
     }
     None

@@ -4,9 +4,11 @@
 
 pub mod asking;
 pub mod finding;
+pub mod here;
 pub mod memories;
 pub mod run;
 pub mod sweeping;
 
+pub use here::{Here, view_of};
 pub use run::{Held, Moment, Part, Run};
 pub use sweeping::sweep;

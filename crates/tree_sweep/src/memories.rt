@@ -15,42 +15,36 @@ ghost use Rattle.tree_drives.specs.Contents.{contents_of, stored_leaves};
 ghost use Rattle.tree_sweep.specs.Runs.{IsRun, IsPart, design_in, state_at, given_at, values_at, contents_on, shown_of};
 
 use crate::finding::{captured, nothing};
-use crate::run::{Moment, Part, Run};
+use crate::here::{Here, view_of};
 use bit_words::{List, Value};
 use fir_types::{MemLine, Memory, PathStep, TypeLeaf};
 use std::alloc::{AllocError, Global};
 use tree_drives::laws::nothing_held_is_zero;
 use tree_drives::{SeenMemory, read_by, stored_leaves};
 use tree_sites::Sort;
+use tree_values::Site;
 use tree_values::sights::stands_at;
-use tree_values::{Site, View};
 
 /// What a leaf of a memory that is read shows: the contents at the beginning of the cycle for a latency of 0, and else what was
 /// captured.
-pub fn of_memory(
-    alloc: Global,
-    run: &Run<'_>,
-    moment: &Moment<'_>,
-    part: &Part<'_>,
-    leaf: &TypeLeaf,
-) -> Result<Value, AllocError>
-    requires run { IsRun run.now }
-    requires part { (x : Located) × IsPart (design_in run.now) x part.now }
-    ensures { IfOk result (λ v. (x : Located) → IsPart (design_in run.now) x part.now → (memory : AMemory) → x.c.declaration.sort ≡ A_memory memory → integer_of v ≡ of_read (design_in run.now) (state_at run.now moment.now) (given_at run.now moment.now) (values_at run.now moment.now) memory x.path (x.m, x.c) leaf.now.path) }
+pub fn of_memory(alloc: Global, here: Here<'_>, leaf: &TypeLeaf) -> Result<Value, AllocError>
+    requires run { IsRun here.run.now }
+    requires part { (x : Located) × IsPart (design_in here.run.now) x here.part }
+    ensures { IfOk result (λ v. (x : Located) → IsPart (design_in here.entry.run.now) x here.entry.part → (memory : AMemory) → x.c.declaration.sort ≡ A_memory memory → integer_of v ≡ of_read (design_in here.entry.run.now) (state_at here.entry.run.now here.entry.moment.now) (given_at here.entry.run.now here.entry.moment.now) (values_at here.entry.run.now here.entry.moment.now) memory x.path (x.m, x.c) leaf.now.path) }
 {
-    let Sort::Memory(memory) = part.declaration.sort else {
+    let Sort::Memory(memory) = here.part.declaration.sort else {
         return Ok(nothing());
     };
     let Some((port, way)) = shown_of(leaf.path.as_slice()) else {
         return Ok(nothing());
     };
     if latency_of(memory.lines.as_slice()) == 0 {
-        return read_now(alloc, run, moment, part, (port, way));
+        return read_now(alloc, here, (port, way));
     }
-    let component = (part.site.path.as_slice(), part.site.name);
+    let component = (here.part.site.path.as_slice(), here.part.site.name);
     Ok(captured(
-        run.sites,
-        moment.held.captured.as_slice(),
+        here.run.sites,
+        here.moment.held.captured.as_slice(),
         component,
         port,
         way,
@@ -80,8 +74,22 @@ pub fn latency_of(lines: &[MemLine]) -> u128
     0
 }
 
+/// The elements that a memory held when the cycle began.
+pub fn elements_of<'a>(here: Here<'a>) -> &'a [List<Value>]
+    requires run { IsRun here.run.now }
+    requires part { (x : Located) × IsPart (design_in here.run.now) x here.part }
+    ensures { (x : Located) → IsPart (design_in here.entry.run.now) x here.entry.part → (state_at here.entry.run.now here.entry.moment.now).contents x.path x.c.declaration.name ≡ contents_of (stored_leaves here.entry.part.site.now.leaves) result.now }
+{
+    elements_on(
+        here.run.sites,
+        here.moment.held.contents.as_slice(),
+        here.part.site.path.as_slice(),
+        here.part.site.name,
+    )
+}
+
 /// The elements of the first memory of a name at a path.
-pub fn elements_on<'a>(
+fn elements_on<'a>(
     sites: &[Site],
     contents: &'a [List<List<Value>>],
     path: &[u32],
@@ -99,33 +107,19 @@ pub fn elements_on<'a>(
 }
 
 /// What a port of a name reads in the cycle at a way of an element.
-fn read_now(
-    alloc: Global,
-    run: &Run<'_>,
-    moment: &Moment<'_>,
-    part: &Part<'_>,
-    read: (u32, &[PathStep]),
-) -> Result<Value, AllocError>
-    requires run { IsRun run.now }
-    requires part { (x : Located) × IsPart (design_in run.now) x part.now }
-    ensures { IfOk result (λ v. (x : Located) → IsPart (design_in run.now) x part.now → (memory : AMemory) → x.c.declaration.sort ≡ A_memory memory → integer_of v ≡ read_by memory ((scene_of x.m x.path (values_at run.now moment.now)).integers x.c.declaration.name) ((state_at run.now moment.now).contents x.path x.c.declaration.name) read.entry.0 read.entry.1.now) }
+fn read_now(alloc: Global, here: Here<'_>, read: (u32, &[PathStep])) -> Result<Value, AllocError>
+    requires run { IsRun here.run.now }
+    requires part { (x : Located) × IsPart (design_in here.run.now) x here.part }
+    ensures { IfOk result (λ v. (x : Located) → IsPart (design_in here.entry.run.now) x here.entry.part → (memory : AMemory) → x.c.declaration.sort ≡ A_memory memory → integer_of v ≡ read_by memory ((scene_of x.m x.path (values_at here.entry.run.now here.entry.moment.now)).integers x.c.declaration.name) ((state_at here.entry.run.now here.entry.moment.now).contents x.path x.c.declaration.name) read.entry.0 read.entry.1.now) }
 {
-    let Sort::Memory(memory) = part.declaration.sort else {
+    let Sort::Memory(memory) = here.part.declaration.sort else {
         return Ok(nothing());
     };
-    let path = part.site.path.as_slice();
-    let contents = moment.held.contents.as_slice();
-    let elements = elements_on(run.sites, contents, path, part.site.name);
-    let leaves = stored_leaves(alloc, part.site.leaves.as_slice())?;
-    let view = View {
-        sites: run.sites,
-        values: moment.values,
-        path,
-    };
+    let leaves = stored_leaves(alloc, here.part.site.leaves.as_slice())?;
     let seen = SeenMemory {
-        view,
+        view: view_of(here),
         memory,
         leaves: leaves.as_slice(),
     };
-    read_by(alloc, &seen, elements, read.0, read.1)
+    read_by(alloc, &seen, elements_of(here), read.0, read.1)
 }

@@ -9,7 +9,9 @@ ghost use Rattle.sweep_laws.specs.Sweeps.{asked, sweep as swept_once};
 ghost use Rattle.tree_sweep.specs.Runs.{IsRun, IsPart, design_in, state_at, given_at, values_at};
 
 use crate::asking::asked;
-use crate::run::{Moment, Part, Run};
+use crate::finding::part_of;
+use crate::here::Here;
+use crate::run::{Moment, Run};
 use bit_words::{List, Value};
 use std::alloc::{AllocError, Global};
 
@@ -25,29 +27,25 @@ pub fn sweep(
 {
     let mut after = List::new(alloc);
     for at in 0..run.sites.len().min(run.declared.len()) {
-        let part = Part {
-            site: &run.sites[at],
-            declaration: run.declared[at],
+        let here = Here {
+            run,
+            moment,
+            part: part_of(run, at),
         };
-        after.push(swept(alloc, run, moment, &part)?)?;
+        after.push(swept(alloc, here)?)?;
     }
     Ok(after)
 }
 
 /// What the leaves of a component have after the sweep.
-fn swept(
-    alloc: Global,
-    run: &Run<'_>,
-    moment: &Moment<'_>,
-    part: &Part<'_>,
-) -> Result<List<Value>, AllocError>
-    requires run { IsRun run.now }
-    requires part { (x : Located) × IsPart (design_in run.now) x part.now }
-    ensures { IfOk result (λ values. (x : Located) → IsPart (design_in run.now) x part.now → map integer_of values ≡ map (asked (design_in run.now) (state_at run.now moment.now) (given_at run.now moment.now) (values_at run.now moment.now) x.path (x.m, x.c)) (leaves x.c.typ)) }
+fn swept(alloc: Global, here: Here<'_>) -> Result<List<Value>, AllocError>
+    requires run { IsRun here.run.now }
+    requires part { (x : Located) × IsPart (design_in here.run.now) x here.part }
+    ensures { IfOk result (λ values. (x : Located) → IsPart (design_in here.entry.run.now) x here.entry.part → map integer_of values ≡ map (asked (design_in here.entry.run.now) (state_at here.entry.run.now here.entry.moment.now) (given_at here.entry.run.now here.entry.moment.now) (values_at here.entry.run.now here.entry.moment.now) x.path (x.m, x.c)) (leaves x.c.typ)) }
 {
     let mut values = List::new(alloc);
-    for leaf in part.site.leaves.as_slice() {
-        values.push(asked(alloc, run, moment, part, leaf)?)?;
+    for leaf in here.part.site.leaves.as_slice() {
+        values.push(asked(alloc, here, leaf)?)?;
     }
     Ok(values)
 }

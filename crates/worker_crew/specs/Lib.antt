@@ -4,3 +4,4 @@ pub mod Numbers
 pub mod Threads
 pub mod Frames
 pub mod Grids
+pub mod Jobs

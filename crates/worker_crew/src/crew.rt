@@ -97,8 +97,8 @@ impl<'a, N: Plan> Promise<Worker<'a, N>> for Lent<'a, N> {
 // Starts a thread for the worker. Where it is refused, or where none may be started, the worker comes back.
 pub(crate) fn start_one<
     's,
-    't: 's,
-    'a: 's,
+    't,
+    'a,
     E,
     N: Plan + Send + Sync,
     R: Threads + Wait + Sync,

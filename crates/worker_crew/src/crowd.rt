@@ -6,6 +6,7 @@ ghost use Rattle.worker_crew.specs.Frames.{Frames};
 ghost use Rattle.crew_workers.specs.Standing.{Each};
 ghost use Rattle.worker_crew.specs.Numbers.{same, held, lent, Manned};
 ghost use Rattle.worker_crew.specs.Threads.{Promised};
+ghost use Rattle.worker_crew.specs.Jobs.{IsJob};
 
 use crate::collect::{join_all, settle};
 use crate::crew::{Equipped, Lent, Orders, Shared, set_go, start_one};
@@ -98,15 +99,7 @@ fn keep_handle<'a, N: Plan>(
 }
 
 // Starts a thread for the worker, and keeps its handle or what comes back.
-fn start_next<
-    's,
-    't: 's,
-    'a: 's,
-    E,
-    N: Plan + Send + Sync,
-    R: Threads + Wait + Sync,
-    G: Gate + Sync,
->(
+fn start_next<'s, 't, 'a, E, N: Plan + Send + Sync, R: Threads + Wait + Sync, G: Gate + Sync>(
     scope: &Scope<'s, E>,
     orders: &'s Orders<'t, 'a, N, R, G>,
     start: &'s AtomicU64,
@@ -155,15 +148,7 @@ pub(crate) fn keep<'a, N: Plan>(
 
 // Starts a thread for each worker but the first, and at most as many as the orders say. The caller keeps the first, and
 // those that come back.
-fn start_all<
-    's,
-    't: 's,
-    'a: 's,
-    E,
-    N: Plan + Send + Sync,
-    R: Threads + Wait + Sync,
-    G: Gate + Sync,
->(
+fn start_all<'s, 't, 'a, E, N: Plan + Send + Sync, R: Threads + Wait + Sync, G: Gate + Sync>(
     scope: &Scope<'s, E>,
     orders: &'s Orders<'t, 'a, N, R, G>,
     mut workers: Vec<Worker<'a, N>>,
@@ -219,21 +204,13 @@ pub(crate) struct Job<'t, 'a, N: Plan, R, G> {
 pub(crate) fn run_in<
     's,
     't: 's,
-    'a: 's,
+    'a,
     E,
     N: Plan + Send + Sync,
     R: Threads + Wait + Sync,
     G: Gate + Sync,
 >(scope: &Scope<'s, E>, job: Job<'t, 'a, N, R, G>) -> Vec<Worker<'a, N>>
-    requires cycles { job.orders.now.stint.cycles ≡ N.script.cycles }
-    requires numbers { job.orders.now.stint.first + job.orders.now.stint.cycles < 2 ^ 64 }
-    requires frames { (vec_len job.hired.workers ≤ vec_len job.hired.frames) × Frames job.orders.now.shared.now.room job.hired.frames.items }
-    requires frame { vec_len job.hired.frame ≡ job.orders.now.shared.now.room }
-    requires starts { vec_len job.hired.workers ≤ length job.orders.now.starts.now }
-    requires empty { (vec_len job.hired.rooms.started ≡ 0) × (vec_len job.hired.rooms.roster.mine ≡ 0) × (vec_len job.hired.rooms.roster.done ≡ 0) }
-    requires room { (vec_len job.hired.workers ≤ vec_capacity job.hired.rooms.started) × (vec_len job.hired.workers ≤ vec_capacity job.hired.rooms.roster.mine) × (vec_len job.hired.workers ≤ vec_capacity job.hired.rooms.roster.done) }
-    requires fresh { Each (Fresh job.orders.now.shared.now) job.hired.workers.items }
-    requires manned { Manned (length job.orders.now.shared.now.codes.now) job.hired.workers.items }
+    requires { IsJob job }
     ensures done { Each (Done job.entry.orders.now.shared.now) result.items }
     ensures manned { Manned (length job.entry.orders.now.shared.now.codes.now) result.items }
 {

@@ -5,8 +5,7 @@ ghost use Rattle.phase_core.specs.Sound.{view};
 ghost use Rattle.register_table.specs.Shown.{ComesFrom};
 ghost use Rattle.worker_crew.specs.Crew.{Fresh};
 ghost use Rattle.worker_crew.specs.Numbers.{Manned};
-ghost use Rattle.crew_turns.specs.Turns.{Serves};
-ghost use Rattle.crew_turns.specs.Scripts.{script_of, Runs};
+ghost use Rattle.worker_crew.specs.Jobs.{CanRun};
 ghost use Rattle.crew_workers.specs.Standing.{Each};
 
 use crate::crew::Shared;
@@ -22,10 +21,7 @@ fn hire<'a, N: Plan>(
     number: usize,
     post: Post<N>,
 ) -> Result<Worker<'a, N>, AllocError>
-    requires script { N.script ≡ script_of shared.now.codes.now words.now shared.now.rows.now }
-    requires runs { Runs shared.now.codes.now words.now shared.now.rows.now }
-    requires few { length shared.now.codes.now ≤ 64 }
-    requires serves { Serves shared.now.codes.now shared.now.room }
+    requires ready { CanRun shared.now words.now }
     requires number { number < length shared.now.codes.now }
     requires table { ComesFrom post shared.now.table.now }
     requires view { post.view ≡ view number (number + 1) 0 0 0 }
@@ -45,10 +41,7 @@ pub(crate) fn hire_all<'a, N: Plan>(
     words: &[u64],
     post: Post<N>,
 ) -> Result<Vec<Worker<'a, N>>, AllocError>
-    requires script { N.script ≡ script_of shared.now.codes.now words.now shared.now.rows.now }
-    requires runs { Runs shared.now.codes.now words.now shared.now.rows.now }
-    requires few { length shared.now.codes.now ≤ 64 }
-    requires serves { Serves shared.now.codes.now shared.now.room }
+    requires ready { CanRun shared.now words.now }
     requires table { ComesFrom post shared.now.table.now }
     requires view { post.view ≡ view 0 (length shared.now.codes.now) 0 0 0 }
     ensures workers { IfOk result (λ ws. Each (Fresh shared.now) ws.items) }

@@ -9,6 +9,7 @@ ghost use Rattle.crew_turns.specs.Turns.{Serves};
 ghost use Rattle.worker_crew.specs.Frames.{Frames};
 ghost use Rattle.worker_crew.specs.Numbers.{Manned};
 ghost use Rattle.worker_crew.specs.Grids.{Wide};
+ghost use Rattle.worker_crew.specs.Jobs.{CanRun, IsJob};
 ghost use Rattle.crew_turns.specs.Scripts.{script_of, Runs, Outputs};
 ghost use Rattle.crew_workers.specs.Standing.{Each};
 
@@ -148,10 +149,7 @@ fn hire_crew<'a, N: Plan>(
     words: &[u64],
     post: Post<N>,
 ) -> Result<Hired<'a, N>, AllocError>
-    requires script { N.script ≡ script_of shared.now.codes.now words.now shared.now.rows.now }
-    requires runs { Runs shared.now.codes.now words.now shared.now.rows.now }
-    requires few { length shared.now.codes.now ≤ 64 }
-    requires serves { Serves shared.now.codes.now shared.now.room }
+    requires ready { CanRun shared.now words.now }
     requires table { ComesFrom post shared.now.table.now }
     requires view { post.view ≡ view 0 (length shared.now.codes.now) 0 0 0 }
     ensures many { IfOk result (λ h. vec_len h.workers ≡ length shared.now.codes.now) }
@@ -186,15 +184,7 @@ fn in_threads<'t, 'a, N: Plan + Send + Sync, R: Threads + Wait + Sync, G: Gate +
     rt: &R,
     job: Job<'t, 'a, N, R, G>,
 ) -> Vec<Worker<'a, N>>
-    requires cycles { job.orders.now.stint.cycles ≡ N.script.cycles }
-    requires numbers { job.orders.now.stint.first + job.orders.now.stint.cycles < 2 ^ 64 }
-    requires frames { (vec_len job.hired.workers ≤ vec_len job.hired.frames) × Frames job.orders.now.shared.now.room job.hired.frames.items }
-    requires frame { vec_len job.hired.frame ≡ job.orders.now.shared.now.room }
-    requires starts { vec_len job.hired.workers ≤ length job.orders.now.starts.now }
-    requires empty { (vec_len job.hired.rooms.started ≡ 0) × (vec_len job.hired.rooms.roster.mine ≡ 0) × (vec_len job.hired.rooms.roster.done ≡ 0) }
-    requires room { (vec_len job.hired.workers ≤ vec_capacity job.hired.rooms.started) × (vec_len job.hired.workers ≤ vec_capacity job.hired.rooms.roster.mine) × (vec_len job.hired.workers ≤ vec_capacity job.hired.rooms.roster.done) }
-    requires fresh { Each (Fresh job.orders.now.shared.now) job.hired.workers.items }
-    requires manned { Manned (length job.orders.now.shared.now.codes.now) job.hired.workers.items }
+    requires { IsJob job }
     ensures done { Each (Done job.entry.orders.now.shared.now) result.items }
     ensures manned { Manned (length job.entry.orders.now.shared.now.codes.now) result.items }
 {
@@ -202,15 +192,7 @@ fn in_threads<'t, 'a, N: Plan + Send + Sync, R: Threads + Wait + Sync, G: Gate +
         thread::scope_env(),
         rt,
         move |scope|
-            requires cycles { job.orders.now.stint.cycles ≡ N.script.cycles }
-            requires numbers { job.orders.now.stint.first + job.orders.now.stint.cycles < 2 ^ 64 }
-            requires frames { (vec_len job.hired.workers ≤ vec_len job.hired.frames) × Frames job.orders.now.shared.now.room job.hired.frames.items }
-            requires frame { vec_len job.hired.frame ≡ job.orders.now.shared.now.room }
-            requires starts { vec_len job.hired.workers ≤ length job.orders.now.starts.now }
-            requires empty { (vec_len job.hired.rooms.started ≡ 0) × (vec_len job.hired.rooms.roster.mine ≡ 0) × (vec_len job.hired.rooms.roster.done ≡ 0) }
-            requires room { (vec_len job.hired.workers ≤ vec_capacity job.hired.rooms.started) × (vec_len job.hired.workers ≤ vec_capacity job.hired.rooms.roster.mine) × (vec_len job.hired.workers ≤ vec_capacity job.hired.rooms.roster.done) }
-            requires fresh { Each (Fresh job.orders.now.shared.now) job.hired.workers.items }
-            requires manned { Manned (length job.orders.now.shared.now.codes.now) job.hired.workers.items }
+            requires { IsJob job }
             ensures done { Each (Done job.entry.orders.now.shared.now) result.items }
             ensures manned { Manned (length job.entry.orders.now.shared.now.codes.now) result.items }
         { run_in(scope, job) },

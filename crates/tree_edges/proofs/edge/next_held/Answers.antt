@@ -1,4 +1,4 @@
-use Rattle.std.proofs.Common.{get_or, ap, arith}
+use Rattle.std.proofs.Common.{arith}
 use Rattle.tree_sweep.specs.Runs.{design_in}
 use Rattle.tree_sweep.proofs.Parts.{part_there}
 use Rattle.tree_edges.proofs.Nexts.{held_more, held_all, same_next}
@@ -7,20 +7,20 @@ use Rattle.tree_edges.proofs.edge.next_held.Goals as goal
 pub next_of_leaves-requires-clause-part : goal.next_of_leaves-requires-clause-part
 next_of_leaves-requires-clause-part c =
     let run = c.args.run.now in
-    let y = part_there (design_in run) run.sites.now run.declared.now c.requires.layout c.loop-at.at _ (omega arith) (ap (get_or run.sites.now c.loop-at.at) c.index-run-at.is) (ap (get_or run.declared.now c.loop-at.at) c.index-run-at-in-loop-at.is) in
+    let y = part_there (design_in run) run.sites.now run.declared.now c.requires.layout c.loop-at.at _ (omega arith) c.part_of.ensures.site c.part_of.ensures.declaration in
     (y.0, y.1.is)
 
 pub next_of_memory-requires-clause-part : goal.next_of_memory-requires-clause-part
 next_of_memory-requires-clause-part c =
     let run = c.args.run.now in
-    let y = part_there (design_in run) run.sites.now run.declared.now c.requires.layout c.loop-at.at _ (omega arith) (ap (get_or run.sites.now c.loop-at.at) c.index-run-at.is) (ap (get_or run.declared.now c.loop-at.at) c.index-run-at-in-loop-at.is) in
+    let y = part_there (design_in run) run.sites.now run.declared.now c.requires.layout c.loop-at.at _ (omega arith) c.part_of.ensures.site c.part_of.ensures.declaration in
     (y.0, y.1.is)
 
 pub loop-at-preserved : goal.loop-at-preserved
 loop-at-preserved c = λ layout.
     let run = c.args.run.now in
     held_more (design_in run) run.sites.now run.declared.now layout _ _ c.loop-at.at c.loop-at.registers c.push.new.self c.loop-at.contents c.push-in-loop-at.new.self c.loop-at.captured c.push-in-loop-at-2.new.self
-    c.in_ok-next_of_leaves.field-0 c.in_ok-next.next.elements c.in_ok-next.next.read (omega arith) (ap (get_or run.sites.now c.loop-at.at) c.index-run-at.is) (ap (get_or run.declared.now c.loop-at.at) c.index-run-at-in-loop-at.is)
+    c.in_ok-next_of_leaves.field-0 c.in_ok-next.next.elements c.in_ok-next.next.read (omega arith) c.part_of.ensures.site c.part_of.ensures.declaration
     c.in_ok-push.ensures.ok c.in_ok-push-2.ensures.ok c.in_ok-push-3.ensures.ok c.in_ok-next_of_leaves.ensures c.in_ok-next.ensures.written c.in_ok-next.ensures.read (c.loop-at.invariant layout)
 
 pub returns : goal.returns

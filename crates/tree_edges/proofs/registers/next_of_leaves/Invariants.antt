@@ -8,5 +8,5 @@ use Rattle.tree_edges.specs.Edges.{Beside, next_in_leaf}
 use Rattle.tree_edges.proofs.registers.next_of_leaves.Given as goal
 
 abbrev pub invariant-loop-leaf : goal.invariant-loop-leaf
-invariant-loop-leaf l = (x : Located) → IsPart (design_in l.run) x l.part
-    → Beside (λ (leaf : TypeLeaf) (v : Value). integer_of v ≡ next_in_leaf (state_at l.run l.moment) (values_at l.run l.moment) x leaf) (take l.leaf-index l.leaf-items) l.values
+invariant-loop-leaf l = (x : Located) → IsPart (design_in l.here.run.now) x l.here.part
+    → Beside (λ (leaf : TypeLeaf) (v : Value). integer_of v ≡ next_in_leaf (state_at l.here.run.now l.here.moment.now) (values_at l.here.run.now l.here.moment.now) x leaf) (take l.leaf-index l.leaf-items) l.values

@@ -6,4 +6,4 @@ use Rattle.tree_sweep.proofs.asking.asked.Goals as goal
 
 pub of_node-requires-clause-part : goal.of_node-requires-clause-part
 of_node-requires-clause-part c =
-    (c.requires.part.0, c.requires.part.1, sym (sort_is (design_in c.args.run.now) c.requires.part.0 c.args.part.now c.requires.part.1) ∙ ap held_sort c.in-Node.is)
+    (c.requires.part.0, c.requires.part.1, sym (sort_is (design_in c.args.here.run.now) c.requires.part.0 c.args.here.part c.requires.part.1) ∙ ap held_sort c.in-Node.is)

@@ -7,7 +7,7 @@ use Rattle.tree_sweep.proofs.asking.left.Goals as goal
 
 pub returns : goal.returns
 returns c =
-    let run = c.args.run.now in
+    let run = c.args.here.run.now in
     IfOk-weaker c.left_at.result _ _
-    (λ v h x is. h x is ∙ ap (λ leaf. left_in_block (values_at run c.args.moment.now) x.path leaf (x.m, x.c)) (key_is (design_in run) x c.args.part.now is c.in_ok-key.key c.args.leaf.now c.in_ok-key.ensures.component (c.in_ok-key.ensures.way ∙ c.as_slice.ensures)))
+    (λ v h x is. h x is ∙ ap (λ leaf. left_in_block (values_at run c.args.here.moment.now) x.path leaf (x.m, x.c)) (key_is (design_in run) x c.args.here.part is c.in_ok-key.key c.args.leaf.now c.in_ok-key.ensures.component (c.in_ok-key.ensures.way ∙ c.as_slice.ensures)))
     c.left_at.ensures

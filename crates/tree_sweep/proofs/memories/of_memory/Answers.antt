@@ -7,9 +7,9 @@ use Rattle.tree_sweep.proofs.memories.of_memory.Goals as goal
 
 pub returns : goal.returns
 returns c = λ x is memory e.
-    let run = c.args.run.now in
-    let moment = c.args.moment.now in
-    let part = c.args.part.now in
+    let run = c.args.here.run.now in
+    let moment = c.args.here.moment.now in
+    let part = c.args.here.part in
     c.captured.ensures
     ∙ (captured_there (design_in run) x part is run.sites.now moment.held.now.captured c.as_slice-4.result.now c.as_slice-3.result.now c.in-Some.port c.in-Some.way.now c.as_slice-3.ensures c.as_slice-4.ensures
     ∙ captured_shown (design_in run) (state_at run moment) (given_at run moment) (values_at run moment) x part is c.args.leaf.now memory c.args.leaf.now.path c.in-Some.port c.in-Some.way.now

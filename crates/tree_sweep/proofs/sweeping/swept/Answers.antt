@@ -8,14 +8,14 @@ use Rattle.tree_sweep.proofs.sweeping.swept.Goals as goal
 
 pub loop-leaf-preserved : goal.loop-leaf-preserved
 loop-leaf-preserved c = λ x is.
-    let run = c.args.run.now in
-    let moment = c.args.moment.now in
+    let run = c.args.here.run.now in
+    let moment = c.args.here.moment.now in
     leaf_more (asked (design_in run) (state_at run moment) (given_at run moment) (values_at run moment) x.path (x.m, x.c)) c.as_slice-leaf-items.result.now c.loop-leaf.leaf-index c.leaf-item.result c.loop-leaf.values
     c.push.new.self c.in_ok-asked.field-0 (omega arith) c.leaf-item.is c.in_ok-push.ensures.ok (c.in_ok-asked.ensures x is) (c.loop-leaf.invariant x is)
 
 pub returns : goal.returns
 returns c = λ x is.
-    let run = c.args.run.now in
-    let moment = c.args.moment.now in
+    let run = c.args.here.run.now in
+    let moment = c.args.here.moment.now in
     all_leaves (asked (design_in run) (state_at run moment) (given_at run moment) (values_at run moment) x.path (x.m, x.c)) c.as_slice-leaf-items.result.now (leaves x.c.typ) c.loop-leaf.leaf-index c.loop-leaf.values (omega arith)
-    (c.as_slice-leaf-items.ensures ∙ leaves_are (design_in run) x c.args.part.now is) (c.loop-leaf.invariant x is)
+    (c.as_slice-leaf-items.ensures ∙ leaves_are (design_in run) x c.args.here.part is) (c.loop-leaf.invariant x is)

@@ -6,5 +6,5 @@ use Rattle.tree_sweep.specs.Runs.{IsPart, design_in, state_at, given_at, values_
 use Rattle.tree_sweep.proofs.sweeping.swept.Given as goal
 
 abbrev pub invariant-loop-leaf : goal.invariant-loop-leaf
-invariant-loop-leaf l = (x : Located) → IsPart (design_in l.run) x l.part
-    → map integer_of l.values ≡ map (asked (design_in l.run) (state_at l.run l.moment) (given_at l.run l.moment) (values_at l.run l.moment) x.path (x.m, x.c)) (take l.leaf-index l.leaf-items)
+invariant-loop-leaf l = (x : Located) → IsPart (design_in l.here.run.now) x l.here.part
+    → map integer_of l.values ≡ map (asked (design_in l.here.run.now) (state_at l.here.run.now l.here.moment.now) (given_at l.here.run.now l.here.moment.now) (values_at l.here.run.now l.here.moment.now) x.path (x.m, x.c)) (take l.leaf-index l.leaf-items)

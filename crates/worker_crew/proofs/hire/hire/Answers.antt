@@ -11,9 +11,9 @@ use Rattle.worker_crew.proofs.hire.hire.Goals as goal
 
 pub new-requires-clause-follows : goal.new-requires-clause-follows
 new-requires-clause-follows g c =
-    subst (λ (s : Script). Follows s c.args.number c.index-codes-number.result c.args.shared.now.rows.now) (sym c.requires.script)
+    subst (λ (s : Script). Follows s c.args.number c.index-codes-number.result c.args.shared.now.rows.now) (sym c.requires.ready.script)
     (subst (λ (x : Code). Follows (script_of c.args.shared.now.codes.now c.args.words.now c.args.shared.now.rows.now) c.args.number x c.args.shared.now.rows.now) (sym c.index-codes-number.is)
-    (follows c.args.shared.now.codes.now c.args.words.now c.args.shared.now.rows.now c.requires.runs c.args.number c.index-codes-number.result c.requires.number))
+    (follows c.args.shared.now.codes.now c.args.words.now c.args.shared.now.rows.now c.requires.ready.runs c.args.number c.index-codes-number.result c.requires.number))
 
 pub returns-clause-fresh : goal.returns-clause-fresh
 returns-clause-fresh g c =
@@ -29,6 +29,6 @@ returns-clause-fresh g c =
         numbered = omega (arith, e.duty.0, c.requires.number);
         code_is = λ d. ap (λ k. get_or codes k d) e.duty.0 ∙ get_or_default codes n d x c.requires.number ∙ sym c.index-codes-number.is ∙ code;
         rows_are = e.duty.2;
-        frame = subst (λ (y : Code). frame_length y ≤ c.args.shared.now.room) (sym c.index-codes-number.is ∙ code) (c.requires.serves.each n x c.requires.number);
+        frame = subst (λ (y : Code). frame_length y ≤ c.args.shared.now.room) (sym c.index-codes-number.is ∙ code) (c.requires.ready.serves.each n x c.requires.number);
       };
     }
