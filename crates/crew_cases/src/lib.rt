@@ -3,14 +3,4 @@
 #![tactic(auto)]
 
 #[cfg(test)]
-mod circuits;
-#[cfg(test)]
-mod frames;
-#[cfg(test)]
-mod gates;
-#[cfg(test)]
-mod meeting;
-#[cfg(test)]
-mod reading;
-#[cfg(test)]
-mod runs;
+mod cases;

@@ -3,8 +3,4 @@
 #![tactic(auto)]
 
 #[cfg(test)]
-mod circuits;
-#[cfg(test)]
-mod reading;
-#[cfg(test)]
-mod runs;
+mod cases;

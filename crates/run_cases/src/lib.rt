@@ -2,16 +2,4 @@
 #![tactic(auto)]
 
 #[cfg(test)]
-mod bodies;
-#[cfg(test)]
-mod loops;
-#[cfg(test)]
-mod passes;
-#[cfg(test)]
-mod refusals;
-#[cfg(test)]
-mod running;
-#[cfg(test)]
-mod runs;
-#[cfg(test)]
-mod telling;
+mod cases;

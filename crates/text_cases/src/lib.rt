@@ -2,38 +2,4 @@
 #![tactic(auto)]
 
 #[cfg(test)]
-mod bundles;
-#[cfg(test)]
-mod circuits;
-#[cfg(test)]
-mod expressions;
-#[cfg(test)]
-mod fault_orders;
-#[cfg(test)]
-mod fitting;
-#[cfg(test)]
-mod flows;
-#[cfg(test)]
-mod layouts;
-#[cfg(test)]
-mod leaves;
-#[cfg(test)]
-mod line_texts;
-#[cfg(test)]
-mod listings;
-#[cfg(test)]
-mod programs;
-#[cfg(test)]
-mod refusals;
-#[cfg(test)]
-mod rules;
-#[cfg(test)]
-mod scopes;
-#[cfg(test)]
-mod stages;
-#[cfg(test)]
-mod telling;
-#[cfg(test)]
-mod tokens;
-#[cfg(test)]
-mod types;
+mod cases;
