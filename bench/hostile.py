@@ -62,6 +62,15 @@ def nodes_of_bundle(size):
     return FRONT + module([f"input w : {fields(size)}"] + [f"node x{k} = w" for k in range(size)])
 
 
+def nodes_of_part(size):
+    return FRONT + module([f"input w : {{ a : {fields(size)} }}"] + [f"node x{k} = w.a" for k in range(size)])
+
+
+def nodes_of_instance(size):
+    inner = [f"output p{k} : UInt<1>" for k in range(size)] + [f"connect p{k}, UInt<1>(0)" for k in range(size)]
+    return FRONT + module(inner, "N") + module(["inst i of N"] + [f"node x{k} = i" for k in range(size)])
+
+
 def unreached_connects(size):
     inner = [f"input i : {fields(size)}", f"output o : {fields(size)}"] + ["connect o, i"] * size
     return FRONT + module(inner, "N") + module(["skip"])
@@ -159,6 +168,8 @@ MASKED = {"a memory of 128 lengths around a bundle, 128 deep": deep_memory(128)}
 
 ROWS = {
     "n nodes of a bundle of n fields": (nodes_of_bundle, 14_000, TOO_LARGE),
+    "n nodes of a part of n fields": (nodes_of_part, 1_750, TOO_LARGE),
+    "n nodes of an instance with n ports": (nodes_of_instance, 3_500, TOO_LARGE),
     "n connects of n fields that main doesn't reach": (unreached_connects, 1_000, ACCEPTED),
     "n instances of a module with n ports": (instances_of_ports, 500, TOO_LARGE),
     "2 n references to the last of n fields": (last_field, 6_000, TOO_LARGE),
