@@ -1,11 +1,9 @@
 //! The cases, a module for each subject.
 
 mod boxes;
-mod examples;
+mod fault_orders;
 mod fitting;
 mod number_words;
-mod operation_rows;
-mod operation_values;
 mod phases;
 mod pools;
 mod posts;

@@ -1,6 +1,7 @@
 //! The cases, a module for each subject.
 
 mod expanding;
+mod lines;
 mod nets;
 mod orders;
 mod placing;

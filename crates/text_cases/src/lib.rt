@@ -8,8 +8,6 @@ mod circuits;
 #[cfg(test)]
 mod expressions;
 #[cfg(test)]
-mod fault_orders;
-#[cfg(test)]
 mod fitting;
 #[cfg(test)]
 mod flows;
@@ -18,11 +16,7 @@ mod layouts;
 #[cfg(test)]
 mod leaves;
 #[cfg(test)]
-mod line_texts;
-#[cfg(test)]
 mod listings;
-#[cfg(test)]
-mod programs;
 #[cfg(test)]
 mod refusals;
 #[cfg(test)]

@@ -1,6 +1,5 @@
 //! The operations by their names, kinds, widths and parameters.
 
-use super::telling::expect;
 use bit_words::Kind;
 use prim_ops::{Prim, Width, arity, kind_of, named, params_fit, width_of};
 
@@ -43,14 +42,14 @@ const ROWS: [(&[u8], u32, u32); 31] = [
 fn each_operation_has_its_row(rt: HostRuntime) {
     for (name, operands, parameters) in ROWS {
         let row = named(name).map(|prim| (prim.name().as_bytes(), arity(prim)));
-        expect(&rt, name, row, Some((name, (operands, parameters))));
+        assert_eq!(rt; row, Some((name, (operands, parameters))));
     }
 }
 
 #[test]
 fn other_names_are_no_operations(rt: HostRuntime) {
     for name in [b"mux".as_slice(), b"validif", b"UInt", b"Add", b"bit", b""] {
-        expect(&rt, name, named(name), None);
+        assert_eq!(rt; named(name), None, "at {name:?}");
     }
 }
 
@@ -145,7 +144,7 @@ fn operations_have_widths(rt: HostRuntime) {
         ),
     ] {
         let width = width_in(prim, &kinds, &[first, second], &[]);
-        expect(&rt, (prim, first, second), width, Some(wanted));
+        assert_eq!(rt; width, Some(wanted), "at {prim:?} {first:?} {second:?}");
     }
 }
 
@@ -157,7 +156,7 @@ fn parameters_count_in_widths(rt: HostRuntime) {
         (u128::MAX, Width::Bits(1)),
     ] {
         let width = width_in(Prim::Shr, &[Kind::Signed], &[Width::Bits(8)], &[by]);
-        expect(&rt, by, width, Some(wanted));
+        assert_eq!(rt; width, Some(wanted), "at {by}");
     }
     for (high, low, wanted) in [
         (5, 2, Width::Bits(4)),
@@ -167,7 +166,7 @@ fn parameters_count_in_widths(rt: HostRuntime) {
         (u128::MAX, 0, Width::Over),
     ] {
         let width = width_in(Prim::Bits, &[Kind::Signed], &[Width::Bits(8)], &[high, low]);
-        expect(&rt, (high, low), width, Some(wanted));
+        assert_eq!(rt; width, Some(wanted), "at {high} {low}");
     }
 }
 
@@ -181,17 +180,12 @@ fn parameters_have_ranges(rt: HostRuntime) {
         (0, 0, 0, false),
     ] {
         let fit = params_fit(Prim::Bits, &[width], &[high, low]);
-        expect(&rt, (width, high, low), fit, answer);
+        assert_eq!(rt; fit, answer, "at {width} {high} {low}");
     }
     let head = params_fit(Prim::Head, &[8], &[8]);
     let tail = params_fit(Prim::Tail, &[8], &[9]);
     let pad = params_fit(Prim::Pad, &[8], &[u128::MAX]);
-    expect(
-        &rt,
-        "head, tail, pad",
-        (head, tail, pad),
-        (true, false, true),
-    );
+    assert_eq!(rt; (head, tail, pad), (true, false, true));
 }
 
 #[test]
@@ -210,8 +204,8 @@ fn operations_have_kinds(rt: HostRuntime) {
             Some(Kind::Unsigned),
         ),
     ] {
-        expect(&rt, prim, kind_in(prim, &kinds), wanted);
+        assert_eq!(rt; kind_in(prim, &kinds), wanted, "at {prim:?}");
     }
     let not = kind_in(Prim::Not, &[Kind::Signed]);
-    expect(&rt, Prim::Not, not, Some(Kind::Unsigned));
+    assert_eq!(rt; not, Some(Kind::Unsigned));
 }

@@ -1,7 +1,6 @@
 //! Values of operations that are known from outside.
 
 use super::examples::CASES;
-use super::telling::expect;
 use bit_words::{Base, Kind, Value, digits_value, from_words};
 use prim_ops::{Prim, Width, arity, kind_of, named, params_fit, value_of, width_of};
 
@@ -10,7 +9,7 @@ fn operations_have_their_values(rt: HostRuntime) {
     let mut count = 0_u32;
     for case in CASES.split(';') {
         if !case.trim().is_empty() {
-            expect(&rt, case, holds(case.trim()), Some(true));
+            assert_eq!(rt; holds(case.trim()), Some(true), "at {case}");
             count = count.wrapping_add(1);
         }
     }
@@ -36,7 +35,7 @@ const EXAMPLES: [&str; 12] = [
 #[test]
 fn examples_have_their_values(rt: HostRuntime) {
     for case in EXAMPLES {
-        expect(&rt, case, holds(case), Some(true));
+        assert_eq!(rt; holds(case), Some(true), "at {case}");
     }
 }
 

@@ -1,0 +1,5 @@
+//! The cases, a module for each subject.
+
+mod examples;
+mod rows;
+mod values;

@@ -1,0 +1,5 @@
+//! Cases for the operations: their table, and results that were computed elsewhere.
+#![tactic(auto)]
+
+#[cfg(test)]
+mod cases;
