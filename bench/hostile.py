@@ -29,8 +29,8 @@ def module(lines, name="M"):
     return f"  module {name} :\n" + "".join(f"    {line}\n" for line in lines)
 
 
-def fields(count):
-    return "{ " + ", ".join(f"f{k} : UInt<1>" for k in range(count)) + " }"
+def fields(count, typ="UInt<1>"):
+    return "{ " + ", ".join(f"f{k} : {typ}" for k in range(count)) + " }"
 
 
 # The deepest texts: 128 brackets, and 128 suffixes or lengths at each.
@@ -86,6 +86,15 @@ def last_field(size):
     return FRONT + module([f"input w : {fields(size)}"] + [f"node x{k} = w.f{size - 1}" for k in range(2 * size)])
 
 
+def last_of_part(size):
+    return FRONT + module([f"input w : {{ a : {fields(size)} }}"] + [f"node x{k} = w.a.f{size - 1}" for k in range(2 * size)])
+
+
+def unreached_instances(size):
+    ports = module([f"input p{k} : UInt<1>" for k in range(size)], "N")
+    return FRONT + ports + module([f"inst i{k} of N" for k in range(size)], "K") + module(["skip"])
+
+
 def readers(size):
     lines = ["data-type => UInt<8>", "depth => 2", "read-latency => 0", "write-latency => 1"]
     lines += [f"reader => r{k}" for k in range(size)] + ["read-under-write => undefined"]
@@ -93,10 +102,19 @@ def readers(size):
 
 
 def writers(size):
-    """Writers of one memory whose elements have as many fields."""
-    lines = [f"data-type => {fields(size)}", "depth => 2", "read-latency => 0", "write-latency => 1"]
+    """Writers of one memory whose elements have as many fields, in a module that main doesn't reach."""
+    return writers_of(fields(size), size, ["invalidate m"])
+
+
+def open_writers(size):
+    """The same with fields that have no width."""
+    return writers_of(fields(size, "UInt"), size, [])
+
+
+def writers_of(typ, size, behind):
+    lines = [f"data-type => {typ}", "depth => 2", "read-latency => 0", "write-latency => 1"]
     lines += [f"writer => w{k}" for k in range(size)] + ["read-under-write => undefined"]
-    return FRONT + module(["mem m :"] + ["  " + line for line in lines] + ["invalidate m"], "N") + module(["skip"])
+    return FRONT + module(["mem m :"] + ["  " + line for line in lines] + behind, "N") + module(["skip"])
 
 
 def backward_chain(size):
@@ -168,13 +186,16 @@ MASKED = {"a memory of 128 lengths around a bundle, 128 deep": deep_memory(128)}
 
 ROWS = {
     "n nodes of a bundle of n fields": (nodes_of_bundle, 14_000, TOO_LARGE),
-    "n nodes of a part of n fields": (nodes_of_part, 1_750, TOO_LARGE),
-    "n nodes of an instance with n ports": (nodes_of_instance, 3_500, TOO_LARGE),
+    "n nodes of a part of n fields": (nodes_of_part, 13_000, TOO_LARGE),
+    "n nodes of an instance with n ports": (nodes_of_instance, 6_500, TOO_LARGE),
     "n connects of n fields that main doesn't reach": (unreached_connects, 1_000, ACCEPTED),
     "n instances of a module with n ports": (instances_of_ports, 500, TOO_LARGE),
     "2 n references to the last of n fields": (last_field, 6_000, TOO_LARGE),
+    "2 n references to the last of a part's n fields": (last_of_part, 6_000, TOO_LARGE),
+    "n instances of n ports that main doesn't reach": (unreached_instances, 10_000, ACCEPTED),
     "n readers of one memory, each invalidated": (readers, 4_000, TOO_LARGE),
-    "n writers of one memory of n fields": (writers, 500, ACCEPTED),
+    "n writers of one memory of n fields": (writers, 12_000, ACCEPTED),
+    "n writers of one memory of n fields without widths": (open_writers, 12_000, ACCEPTED),
     "n operands over a chain that runs backward": (backward_chain, 400, ACCEPTED),
     "n operands over a chain that diverges": (diverging_chain, 400, "circuit WidthOver 5:10"),
     "n modules in one ring of instances": (module_ring, 2_000, "circuit InstanceLoop 6:15"),
