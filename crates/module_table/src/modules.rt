@@ -7,7 +7,7 @@ ghost use Rattle.fir_types.specs.contracts.fir_type.FirType.{the_row as type_row
 ghost use Rattle.module_table.specs.Tables.{IsIndex, named, bundle_of, with_new, typ_of};
 
 use crate::known_type::KnownType;
-use fir_tree::Module;
+use fir_tree::{Module, Names};
 use fir_types::instance_type;
 use indexmap::IndexMap;
 use std::alloc::{AllocError, Global};
@@ -15,6 +15,8 @@ use std::alloc::{AllocError, Global};
 /// The modules of a circuit, with the number of the first of each name, and with what the instances of each share.
 #[derive(Drop)]
 pub struct Modules<'a> {
+    /// The texts of the circuit's names.
+    pub names: &'a Names,
     pub all: &'a [Module],
     numbers: IndexMap<u32, usize>,
     instances: Vec<KnownType>,
@@ -24,12 +26,18 @@ pub struct Modules<'a> {
 
 impl<'a> Modules<'a> {
     /// These modules. Takes time and memory in proportion to their number and to the types of their ports.
-    pub fn new(alloc: Global, all: &'a [Module]) -> Result<Modules<'a>, AllocError>
-        ensures { IfOk result (λ modules. modules.all.now ≡ all.now) }
+    pub fn new(
+        alloc: Global,
+        names: &'a Names,
+        all: &'a [Module],
+    ) -> Result<Modules<'a>, AllocError>
+        ensures all { IfOk result (λ modules. modules.all.now ≡ all.now) }
+        ensures names { IfOk result (λ modules. modules.names.now ≡ names.now) }
     {
         let numbers = numbers_of(alloc, all)?;
         let instances = instances_of(alloc, all)?;
         Ok(Modules {
+            names,
             all,
             numbers,
             instances,

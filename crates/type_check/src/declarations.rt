@@ -25,7 +25,7 @@ use module_table::{Component, KnownType, Modules};
 use std::alloc::{AllocError, Global};
 
 /// A port, which is read or driven inside its module.
-pub fn declare_port(alloc: Global, walk: &mut Walk, port: &Port) -> Result<(), AllocError>
+pub fn declare_port(alloc: Global, walk: &mut Walk<'_>, port: &Port) -> Result<(), AllocError>
     ensures { OnOk result (Walks (port_walk port.now) walk.old walk.new) }
 {
     push_twice(alloc, &mut walk.found.faults, &port.typ)?;
@@ -35,7 +35,7 @@ pub fn declare_port(alloc: Global, walk: &mut Walk, port: &Port) -> Result<(), A
 /// A wire, which can be read and driven.
 pub fn declare_wire(
     alloc: Global,
-    walk: &mut Walk,
+    walk: &mut Walk<'_>,
     name: Name,
     typ: &FirType,
 ) -> Result<(), AllocError>
@@ -48,7 +48,7 @@ pub fn declare_wire(
 /// A register, with its clock.
 pub fn declare_register(
     alloc: Global,
-    walk: &mut Walk,
+    walk: &mut Walk<'_>,
     name: Name,
     typ: &FirType,
     clock: &Expr,
@@ -63,7 +63,7 @@ pub fn declare_register(
 /// A register with its clock, its reset, and its value after a reset.
 pub fn declare_reset_register(
     alloc: Global,
-    walk: &mut Walk,
+    walk: &mut Walk<'_>,
     name: Name,
     typ: &FirType,
     clock: &Expr,
@@ -80,7 +80,7 @@ pub fn declare_reset_register(
 }
 
 /// A memory, which is a bundle of its ports.
-pub fn declare_memory(alloc: Global, walk: &mut Walk, memory: &Memory) -> Result<(), AllocError>
+pub fn declare_memory(alloc: Global, walk: &mut Walk<'_>, memory: &Memory) -> Result<(), AllocError>
     ensures { OnOk result (Walks (and_then (notes (memory_faults memory.now)) (declares memory.now.name.id (Some (source_of (memory_of memory.now))))) walk.old walk.new) }
 {
     push_memory(alloc, &mut walk.found.faults, memory)?;
@@ -92,7 +92,7 @@ pub fn declare_memory(alloc: Global, walk: &mut Walk, memory: &Memory) -> Result
 /// An instance of a module. It has no type where there is no module of the name.
 pub fn declare_instance(
     modules: &Modules<'_>,
-    walk: &mut Walk,
+    walk: &mut Walk<'_>,
     name: Name,
     target: Name,
 ) -> Result<(), AllocError>
@@ -108,7 +108,7 @@ pub fn declare_instance(
 /// A node, which has the type of its expression where that has one.
 pub fn declare_node(
     alloc: Global,
-    walk: &mut Walk,
+    walk: &mut Walk<'_>,
     name: Name,
     expr: &Expr,
 ) -> Result<(), AllocError>
@@ -129,7 +129,7 @@ pub fn declare_node(
 /// Declares a component of this type and flow.
 fn declare(
     alloc: Global,
-    walk: &mut Walk,
+    walk: &mut Walk<'_>,
     name: Name,
     typ: &FirType,
     flow: Flow,
@@ -141,7 +141,7 @@ fn declare(
 }
 
 /// Declares a component of this type that can only be read.
-fn declare_source(walk: &mut Walk, name: Name, known: KnownType) -> Result<(), AllocError>
+fn declare_source(walk: &mut Walk<'_>, name: Name, known: KnownType) -> Result<(), AllocError>
     ensures { OnOk result (Walks (declares name.id (Some (source_of known.typ))) walk.old walk.new) }
 {
     let flow = Flow::Source;
@@ -149,7 +149,7 @@ fn declare_source(walk: &mut Walk, name: Name, known: KnownType) -> Result<(), A
 }
 
 /// Declares a component, unless there is one of its name.
-fn declare_part(walk: &mut Walk, name: Name, new: Component) -> Result<(), AllocError>
+fn declare_part(walk: &mut Walk<'_>, name: Name, new: Component) -> Result<(), AllocError>
     ensures { OnOk result (Walks (declares name.id (Some (part_in new))) walk.old walk.new) }
 {
     walk.known.note(name.id, new)

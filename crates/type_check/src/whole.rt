@@ -1,13 +1,16 @@
 //! What is known of expressions that are components as a whole, so that a type isn't walked once more.
 
 ghost use Rattle.std.specs.Prelude.{◌≡◌, Some, IfOk, IfSome, OnOk};
+ghost use Rattle.fir_types.specs.declared.fir_type.FirType.{FirType as AType};
 ghost use Rattle.type_check.specs.Expressions.{found_of};
+ghost use Rattle.type_check.specs.Judging.{Agrees};
+ghost use Rattle.type_check.specs.Parts.{Known};
 ghost use Rattle.module_table.specs.Components.{part_in};
 ghost use Rattle.type_check.specs.Texts.{is_passive, are_equivalent};
 
 use crate::texts::{are_equivalent, is_passive};
 use circuit_parts::Part;
-use fir_tree::Expr;
+use fir_tree::{Expr, Form};
 use fir_types::Shape;
 use module_table::{Component, Components, KnownType, whole_name};
 use std::alloc::AllocError;
@@ -62,4 +65,21 @@ pub fn are_equivalent_at(
         }
     }
     Ok(are_equivalent(&left.typ, &right.typ))
+}
+
+/// Of a choice the first of what it chooses from, which gives the choice its type; of choices in one another the innermost. Of
+/// another expression itself.
+fn first_chosen(expr: &Expr) -> &Expr
+    ensures { (known : Known) (typ : AType) → Agrees typ (found_of known result.now).part → Agrees typ (found_of known expr.now).part }
+{
+    let mut inside = expr;
+    loop {
+        let Form::Mux(operands) = &inside.form else {
+            return inside;
+        };
+        let [_, first, _] = operands.as_slice() else {
+            return inside;
+        };
+        inside = first;
+    }
 }
