@@ -35,7 +35,7 @@ impl<'a> Modules<'a> {
         ensures names { IfOk result (λ modules. modules.names.now ≡ names.now) }
     {
         let numbers = numbers_of(alloc, all)?;
-        let instances = instances_of(alloc, all)?;
+        let instances = instances_of(alloc, names, all)?;
         Ok(Modules {
             names,
             all,
@@ -69,13 +69,17 @@ impl<'a> Modules<'a> {
 }
 
 /// The types of the modules' instances.
-fn instances_of(alloc: Global, modules: &[Module]) -> Result<Vec<KnownType>, AllocError>
+fn instances_of(
+    alloc: Global,
+    names: &Names,
+    modules: &[Module],
+) -> Result<Vec<KnownType>, AllocError>
     ensures { IfOk result (λ instances. map typ_of instances.items ≡ map bundle_of modules.now) }
 {
     let mut instances = Vec::new(alloc);
     for module in modules {
         let bundle = instance_type(alloc, module.ports.as_slice())?;
-        let known = KnownType::indexed(alloc, bundle)?;
+        let known = KnownType::new(alloc, names, bundle)?;
         instances.push(known)?;
     }
     Ok(instances)

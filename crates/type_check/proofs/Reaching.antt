@@ -1,18 +1,29 @@
 -- The types of parts that are reached by steps alone.
-use Rattle.std.proofs.Common.{◌≡◌, ℕ, List, [], ◌∷◌, map, length, get_or, refl, sym, subst, arith}
+use Rattle.std.proofs.Common.{◌≡◌, ℕ, ◌+◌, ◌<◌, Bool, true, false, List, [], ◌∷◌, map, length, take, get_or, refl, sym, ap, ◌∙◌, subst, arith}
+use Rattle.std.specs.Prelude.{Option, Some, None, option_map, find, ◌==◌, nat_lt, IfSome}
 use Rattle.std.proofs.lemmas.Grind.{common_steps}
-use Rattle.std.specs.Prelude.{Option, Some, None, option_map}
 use Rattle.place_text.specs.declared.place.Place.{Place}
 use Rattle.fir_types.specs.declared.fir_type.FirType.{FirType}
-use Rattle.fir_tree.specs.declared.expr.Expr.{Expr}
+use Rattle.fir_types.specs.declared.fir_type.Shape.{Shape}
+use Rattle.fir_types.specs.declared.fir_type.Shape.TheOpen.{Shape-F}
+use Rattle.fir_types.specs.declared.fir_type.Shape.TheViews.{out-Shape}
+use Rattle.fir_types.specs.declared.fir_type.Field.{Field}
+use Rattle.fir_types.specs.declared.name.Name.{Name}
+use Rattle.type_index.specs.Knowing.{fields_in, element_in}
+use Rattle.fir_tree.specs.declared.expr.Expr.{Expr, the_lemmas}
 use Rattle.fir_tree.specs.declared.expr.Form.TheVariants as form
+use Rattle.fir_tree.specs.declared.expr.Suffix.{Suffix}
+use Rattle.fir_tree.specs.declared.expr.Suffix.TheVariants as suffix
 use Rattle.circuit_parts.specs.declared.part.Part.{Part}
 use Rattle.circuit_parts.specs.Parts.{source_of}
+use Rattle.circuit_parts.specs.Kinds.{is_unsigned}
 use Rattle.type_check.specs.declared.fault.TypeFault.{TypeFault}
-use Rattle.type_check.specs.Parts.{Known, typed_without}
-use Rattle.type_check.specs.Expressions.{Judgement, Operand, found_of, judged, over, choice, choice_faults, with_operand, typed_operands, all_among}
+use Rattle.type_check.specs.Parts.{Known, component, typed_without}
+use Rattle.type_check.specs.Expressions.{Judgement, Operand, found_of, judged, over, choice, choice_faults, with_operand, typed_operands, all_among, as_node, along, suffix_step, from_base, field_step, element_step, element_found, index_step, indexed, from_index}
 use Rattle.type_check.specs.Judging.{Agrees}
 use Rattle.type_check.proofs.Forms.{mux_is}
+use Rattle.type_check.proofs.Judgements.{map_more, along-push}
+use Rattle.type_check.proofs.Ways.{first_field}
 
 without_faults : (faults : List TypeFault) (typ : FirType) → Agrees typ (option_map source_of (typed_without faults typ))
 without_faults [] typ = refl
@@ -45,3 +56,115 @@ second_chosen known e (a ∷ []) f typ is three at h = absurd (grind (arith, com
 second_chosen known e (a ∷ b ∷ []) f typ is three at h = absurd (grind (arith, common_steps))
 second_chosen known e (a ∷ b ∷ c ∷ []) f typ is three at h = choice_agrees known e (a ∷ b ∷ c ∷ []) a b c typ is refl (subst (λ f. Agrees typ (found_of known f).part) at h)
 second_chosen known e (a ∷ b ∷ c ∷ d ∷ more) f typ is three at h = absurd (grind (arith, common_steps))
+
+-- Steps
+
+some_same : (a b : FirType) → Some a ≡ Some b → a ≡ b
+some_same a b h = cc
+
+pub field_from : (name : Name) (t : FirType) (field : Field) (base : Option Part) → find (λ f. f.name.id == name.id) (fields_in (out-Shape t.shape)) ≡ Some field
+    → Agrees t base → Agrees field.typ (from_base (λ part. field_step name part (out-Shape part.typ.shape)) base).part
+field_from name t field (Some part) found h = subst (λ j. Agrees field.typ j.part) (sym (first_field name part t field h found)) refl
+field_from name t field None found h = tt {0}
+
+element_if : (part : Part) (element : FirType) (there' : Bool) (at : Place) → Agrees element (element_found part element there' at).part
+element_if part element true at = refl
+element_if part element false at = tt {0}
+
+indexed_if : (at : Place) (part : Part) (element : FirType) (fits : Bool) → Agrees element (indexed at part element fits).part
+indexed_if at part element true = refl
+indexed_if at part element false = tt {0}
+
+element_at : (bracket at : Place) (n : ℕ) (part : Part) (layer : Shape-F Shape Field FirType) (element : FirType) → element_in layer ≡ Some element
+    → Agrees element (element_step bracket at n part layer).part
+element_at bracket at n part (Shape-F.Unsigned width) element is = absurd cc
+element_at bracket at n part (Shape-F.Signed width) element is = absurd cc
+element_at bracket at n part Shape-F.Clock element is = absurd cc
+element_at bracket at n part Shape-F.Reset element is = absurd cc
+element_at bracket at n part (Shape-F.Bundle fields) element is = absurd cc
+element_at bracket at n part (Shape-F.Vector own length) element is =
+    subst (λ e. Agrees e (element_found part own (nat_lt n length) at).part) (some_same own element is) (element_if part own (nat_lt n length) at)
+
+index_at : (bracket at : Place) (index part : Part) (layer : Shape-F Shape Field FirType) (element : FirType) → element_in layer ≡ Some element
+    → Agrees element (index_step bracket at index part layer).part
+index_at bracket at index part (Shape-F.Unsigned width) element is = absurd cc
+index_at bracket at index part (Shape-F.Signed width) element is = absurd cc
+index_at bracket at index part Shape-F.Clock element is = absurd cc
+index_at bracket at index part Shape-F.Reset element is = absurd cc
+index_at bracket at index part (Shape-F.Bundle fields) element is = absurd cc
+index_at bracket at index part (Shape-F.Vector own length) element is =
+    subst (λ e. Agrees e (indexed at part own (is_unsigned index.typ)).part) (some_same own element is) (indexed_if at part own (is_unsigned index.typ))
+
+pub element_from : (bracket at : Place) (n : ℕ) (t element : FirType) (base : Option Part) → element_in (out-Shape t.shape) ≡ Some element → Agrees t base
+    → Agrees element (from_base (λ part. element_step bracket at n part (out-Shape part.typ.shape)) base).part
+element_from bracket at n t element (Some part) is h =
+    element_at bracket at n part (out-Shape part.typ.shape) element (ap (λ t. element_in (out-Shape t.shape)) h ∙ is)
+element_from bracket at n t element None is h = tt {0}
+
+pub index_from : (bracket at : Place) (index : Option Part) (t element : FirType) (base : Option Part) → element_in (out-Shape t.shape) ≡ Some element → Agrees t base
+    → Agrees element (from_index bracket at index base).part
+index_from bracket at (Some index) t element (Some part) is h =
+    index_at bracket at index part (out-Shape part.typ.shape) element (ap (λ t. element_in (out-Shape t.shape)) h ∙ is)
+index_from bracket at (Some index) t element None is h = tt {0}
+index_from bracket at None t element base is h = tt {0}
+
+-- in the words of the steps themselves
+
+field_is : (s : Suffix) (name : Name) (known : Known) (base : Option Part) → s ≡ suffix.Field name
+    → suffix_step s known base ≡ from_base (λ part. field_step name part (out-Shape part.typ.shape)) base
+field_is s name known base is = grind (arith, common_steps, the_lemmas)
+
+at_is : (s : Suffix) (bracket at : Place) (n : ℕ) (known : Known) (base : Option Part) → s ≡ suffix.At bracket at n
+    → suffix_step s known base ≡ from_base (λ part. element_step bracket at n part (out-Shape part.typ.shape)) base
+at_is s bracket at n known base is = grind (arith, common_steps, the_lemmas)
+
+index_is : (s : Suffix) (bracket : Place) (index : Expr) (known : Known) (base : Option Part) → s ≡ suffix.Index bracket index
+    → (suffix_step s known base).part ≡ (from_index bracket (judged index).place (found_of known index).part base).part
+index_is s bracket index known base is = grind (arith, common_steps, the_lemmas)
+
+pub behind_field : (s : Suffix) (name : Name) (t : FirType) (field : Field) → s ≡ suffix.Field name
+    → find (λ f. f.name.id == name.id) (fields_in (out-Shape t.shape)) ≡ Some field
+    → (known : Known) (base : Option Part) → Agrees t base → Agrees field.typ (suffix_step s known base).part
+behind_field s name t field is found known base h = subst (λ j. Agrees field.typ j.part) (sym (field_is s name known base is)) (field_from name t field base found h)
+
+pub behind_at : (s : Suffix) (bracket at : Place) (n : ℕ) (t element : FirType) → s ≡ suffix.At bracket at n → element_in (out-Shape t.shape) ≡ Some element
+    → (known : Known) (base : Option Part) → Agrees t base → Agrees element (suffix_step s known base).part
+behind_at s bracket at n t element is there' known base h =
+    subst (λ j. Agrees element j.part) (sym (at_is s bracket at n known base is)) (element_from bracket at n t element base there' h)
+
+pub behind_index : (s : Suffix) (bracket : Place) (index : Expr) (t element : FirType) → s ≡ suffix.Index bracket index → element_in (out-Shape t.shape) ≡ Some element
+    → (known : Known) (base : Option Part) → Agrees t base → Agrees element (suffix_step s known base).part
+behind_index s bracket index t element is there' known base h =
+    subst (Agrees element) (sym (index_is s bracket index known base is)) (index_from bracket (judged index).place (found_of known index).part t element base there' h)
+
+-- one more step
+pub reached_more : (suffixes : List Suffix) (i : ℕ) (s : Suffix) (known : Known) (base : Option Part) (t : FirType) → i < length suffixes → s ≡ get_or suffixes i s
+    → Agrees t (suffix_step s known (along (map suffix_step (take i suffixes)) known base).part).part
+    → Agrees t (along (map suffix_step (take (i + 1) suffixes)) known base).part
+reached_more suffixes i s known base t lt is h =
+    let steps = map suffix_step (take i suffixes) in
+    subst (λ l. Agrees t (along l known base).part) (sym (map_more suffix_step suffixes i s lt is))
+    (subst (λ j. Agrees t j.part) (sym (along-push steps (suffix_step s) known base)) h)
+
+-- a reference by its steps
+ref_is : (known : Known) (e : Expr) (name : Name) (suffixes : List Suffix) → e.form ≡ form.Ref name suffixes
+    → found_of known e ≡ as_node e.place (along (map suffix_step suffixes) known (component known name.id))
+ref_is known e name suffixes is = grind (arith, common_steps, the_lemmas)
+
+reference_agrees : (known : Known) (e : Expr) (name : Name) (suffixes : List Suffix) (t : FirType) → e.form ≡ form.Ref name suffixes
+    → Agrees t (along (map suffix_step suffixes) known (component known name.id)).part → Agrees t (found_of known e).part
+reference_agrees known e name suffixes t is h = subst (λ j. Agrees t j.part) (sym (ref_is known e name suffixes is)) h
+
+-- a component by its name
+pub component_agrees : (one : Part) (part : Option Part) (typ : FirType) → Some one ≡ part → one.typ ≡ typ → Agrees typ part
+component_agrees one part typ is same = subst (Agrees typ) is same
+
+-- what is reached from the component is what the expression comes to
+pub reached_at : {K : Type 0} (typ_of : K → FirType) (reached : Option K) (known : Known) (e f : Expr) (name : Name) (suffixes : List Suffix) (base : FirType)
+    → f.form ≡ form.Ref name suffixes → ((known : Known) (typ : FirType) → Agrees typ (found_of known f).part → Agrees typ (found_of known e).part)
+    → Agrees base (component known name.id)
+    → IfSome reached (λ k. (known : Known) (part : Option Part) → Agrees base part → Agrees (typ_of k) (along (map suffix_step suffixes) known part).part)
+    → IfSome reached (λ k. Agrees (typ_of k) (found_of known e).part)
+reached_at typ_of (Some k) known e f name suffixes base is chosen there' h =
+    chosen known (typ_of k) (reference_agrees known f name suffixes (typ_of k) is (h known (component known name.id) there'))
+reached_at typ_of None known e f name suffixes base is chosen there' h = tt {0}

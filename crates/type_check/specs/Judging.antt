@@ -11,7 +11,7 @@ use Rattle.type_check.specs.Expressions.{Judgement, Operand, type_or_none}
 
 -- what a reference has come to, as a part
 abbrev pub part_at : Reached → Part
-part_at reached = part_of reached.typ.now reached.flow
+part_at reached = part_of reached.known.typ.now reached.flow
 
 abbrev pub part_reached : Option Reached → Option Part
 part_reached reached = option_map part_at reached

@@ -16,7 +16,7 @@ use crate::judge::judge;
 use crate::memory::push_memory;
 use crate::texts::{push_stored, push_twice, push_unless};
 use crate::walk::Walk;
-use crate::whole::known_type;
+use crate::whole::{is_passive_part, known_type};
 use circuit_parts::Flow;
 use circuit_parts::steps::port_flow;
 use fir_tree::Expr;
@@ -85,7 +85,7 @@ pub fn declare_memory(alloc: Global, walk: &mut Walk<'_>, memory: &Memory) -> Re
 {
     push_memory(alloc, &mut walk.found.faults, memory)?;
     let typ = memory_type(alloc, memory)?;
-    let known = KnownType::indexed(alloc, typ)?;
+    let known = KnownType::new(alloc, walk.names, typ)?;
     declare_source(walk, memory.name, known)
 }
 
@@ -117,10 +117,11 @@ pub fn declare_node(
     let Some(part) = judge(alloc, &walk.known, &mut walk.found, expr)? else {
         return Ok(());
     };
-    let known = known_type(&walk.known, expr, part)?;
+    let known = known_type(alloc, walk.names, &walk.known, expr, part)?;
+    let passive = is_passive_part(known.part());
     push_unless(
         &mut walk.found.faults,
-        known.passive,
+        passive,
         TypeFault::NotPassive(expr.place),
     )?;
     declare_source(walk, name, known)
@@ -136,7 +137,7 @@ fn declare(
 ) -> Result<(), AllocError>
     ensures { OnOk result (Walks (declares name.id (Some (part_of typ.now flow))) walk.old walk.new) }
 {
-    let known = KnownType::indexed(alloc, copy(typ)?)?;
+    let known = KnownType::new(alloc, walk.names, copy(typ)?)?;
     declare_part(walk, name, Component { known, flow })
 }
 
