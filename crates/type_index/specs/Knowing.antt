@@ -2,6 +2,8 @@
 use Rattle.std.specs.Prelude.{◌≡◌, ℕ, Bool, true, false, not, List, [], ◌∷◌, Option, Some, None, IfSome}
 use Rattle.fir_types.specs.declared.fir_type.FirType.{FirType}
 use Rattle.fir_types.specs.declared.fir_type.Shape.{Shape}
+use Rattle.fir_types.specs.declared.fir_type.Shape.TheOpen.{Shape-F}
+use Rattle.fir_types.specs.declared.fir_type.Shape.TheViews.{out-Shape}
 use Rattle.fir_types.specs.declared.fir_type.Shape.TheVariants as shape
 use Rattle.fir_types.specs.declared.fir_type.Field.{Field}
 use Rattle.fir_types.specs.Leaves.{count}
@@ -16,15 +18,15 @@ use Rattle.type_index.specs.declared.tree.Inside.{Inside}
 use Rattle.type_index.specs.declared.tree.Inside.TheVariants as inside
 
 -- a type without parts
-abbrev pub is_ground : Shape → Bool
-is_ground (shape.Bundle fields) = false
-is_ground (shape.Vector element length) = false
+abbrev pub is_ground : Shape-F Shape Field FirType → Bool
+is_ground (Shape-F.Bundle fields) = false
+is_ground (Shape-F.Vector element length) = false
 is_ground _ = true
 
 -- A tree has the shape of a type, and each part of it is right for the type's part.
 mutual
   pub data Matches (P : FirType → TypeIndex → Type 0) : FirType → TypeIndex → Type 0 where
-    ground : {typ : FirType} {index : TypeIndex} → is_ground typ.shape ≡ true → P typ index → Matches P typ index
+    ground : {typ : FirType} {index : TypeIndex} → is_ground (out-Shape typ.shape) ≡ true → P typ index → Matches P typ index
     vector : {typ : FirType} {index : TypeIndex} (element : FirType) (length : ℕ) (inner : TypeIndex) → typ.shape ≡ shape.Vector element length
         → index.inside ≡ inside.Vector inner → P typ index → Matches P element inner → Matches P typ index
     bundle : {typ : FirType} {index : TypeIndex} (fields : List Field) (among : Option FieldIndex) (inners : List TypeIndex) → typ.shape ≡ shape.Bundle fields
@@ -62,11 +64,11 @@ abbrev pub IsRight : Texts → FirType → TypeIndex → Type 0
 IsRight texts typ index = IsKnown typ index × HasBytes texts typ index
 
 -- the fields of a bundle, and no field of what is none
-abbrev pub fields_in : Shape → List Field
-fields_in (shape.Bundle fields) = fields
+abbrev pub fields_in : Shape-F Shape Field FirType → List Field
+fields_in (Shape-F.Bundle fields) = fields
 fields_in _ = []
 
 -- the element of a vector
-abbrev pub element_in : Shape → Option FirType
-element_in (shape.Vector element length) = Some element
+abbrev pub element_in : Shape-F Shape Field FirType → Option FirType
+element_in (Shape-F.Vector element length) = Some element
 element_in _ = None

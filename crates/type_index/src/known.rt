@@ -3,6 +3,7 @@
 ghost use Rattle.std.specs.Prelude.{◌≡◌, ◌==◌, find, option_map, IfSome};
 ghost use Rattle.std.specs.Option.{option_copied};
 ghost use Rattle.field_index.specs.Indexes.{first_at};
+ghost use Rattle.fir_types.specs.declared.fir_type.Shape.TheViews.{out-Shape};
 ghost use Rattle.leaf_names.specs.LeafNames.{Texts};
 ghost use Rattle.type_index.specs.Knowing.{Knows, HasWays, IsAmong, fields_in, element_in};
 
@@ -30,7 +31,7 @@ pub struct KnownField<'a> {
 impl<'a> Known<'a> {
     /// The first field that has the name with this number, where this is a bundle with such a field. Takes constant time.
     pub fn field(self, id: u32) -> Option<KnownField<'a>>
-        ensures field { option_map (λ (part : KnownField). part.field.now) result ≡ find (λ field. field.name.id == id) (fields_in self.entry.typ.now.shape) }
+        ensures field { option_map (λ (part : KnownField). part.field.now) result ≡ find (λ field. field.name.id == id) (fields_in (out-Shape self.entry.typ.now.shape)) }
         ensures ways { IfSome result (λ part. (texts : Texts) → HasWays texts self.entry.typ.now self.entry.index.now → HasWays texts part.field.now.typ part.index.now) }
     {
         let Shape::Bundle(fields) = &self.typ.shape else {
@@ -39,12 +40,9 @@ impl<'a> Known<'a> {
         let Inside::Bundle(among, parts) = &self.index.inside else {
             unreachable!();
         };
-        let fields = fields.as_slice();
-        let position = position_in(among.as_ref(), fields, id)?;
-        let Some(field) = fields.get(position) else {
-            unreachable!();
-        };
-        let Some(index) = parts.as_slice().get(position) else {
+        let position = position_in(among.as_ref(), fields.as_slice(), id)?;
+        let field = fields.get().get(position)?;
+        let Some(index) = parts.get().get(position) else {
             unreachable!();
         };
         Some(KnownField { field, index })
@@ -52,7 +50,7 @@ impl<'a> Known<'a> {
 
     /// The element, where this is a vector. Takes constant time.
     pub fn element(self) -> Option<Known<'a>>
-        ensures typ { option_map (λ (part : Known). part.typ.now) result ≡ element_in self.entry.typ.now.shape }
+        ensures typ { option_map (λ (part : Known). part.typ.now) result ≡ element_in (out-Shape self.entry.typ.now.shape) }
         ensures ways { IfSome result (λ part. (texts : Texts) → HasWays texts self.entry.typ.now self.entry.index.now → HasWays texts part.typ.now part.index.now) }
     {
         let Shape::Vector(element, _) = &self.typ.shape else {
