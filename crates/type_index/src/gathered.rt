@@ -1,6 +1,6 @@
 //! The trees of a bundle's fields, gathered one by one.
 
-ghost use Rattle.std.specs.Prelude.{◌≡◌, ◌++◌, ◌∷◌, [], List, IfOk, OnOk};
+ghost use Rattle.std.specs.Prelude.{◌≡◌, ◌++◌, ◌∷◌, [], ◌&&◌, not, List, IfOk, OnOk};
 ghost use Rattle.fir_types.specs.declared.fir_type.FirType.{FirType as AType};
 ghost use Rattle.fir_types.specs.declared.fir_type.Field.{Field as AField};
 ghost use Rattle.fir_types.specs.declared.fir_type.Shape.TheVariants as shape;
@@ -49,8 +49,9 @@ impl Gathered {
             bytes: part.bytes,
         };
         self.ways = self.ways.and(ways.named(names, field.name.id));
-        self.passive = self.passive && part.passive && !field.flip;
-        self.parts.push(part)
+        self.passive = still_passive(self.passive, part.passive, field.flip);
+        self.parts.push(part)?;
+        Ok(())
     }
 
     /// What is known of the bundle of these fields. Takes time and memory in proportion to their number.
@@ -70,4 +71,11 @@ impl Gathered {
             inside: Inside::Bundle(among, Shared::new(alloc, parts)?),
         })
     }
+}
+
+/// Whether fields are passive with one more, whose type is passive or not, and which is flipped or not.
+fn still_passive(before: bool, passive: bool, flip: bool) -> bool
+    ensures { result ≡ (before && passive && not flip) }
+{
+    before && passive && !flip
 }
