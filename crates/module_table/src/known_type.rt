@@ -1,6 +1,7 @@
 //! Types with what is often asked of them and of their parts, which is found once and then shared.
 
 ghost use Rattle.std.specs.Prelude.{◌≡◌, IfOk};
+ghost use Rattle.leaf_names.specs.LeafNames.{Texts};
 ghost use Rattle.type_index.specs.Knowing.{Knows, HasWays};
 
 use fir_tree::Names;
@@ -20,38 +21,35 @@ impl KnownType {
     /// A type with what is known of it. Takes time and memory in proportion to the type.
     pub fn new(alloc: Global, names: &Names, typ: FirType) -> Result<KnownType, AllocError>
         ensures typ { IfOk result (λ known. known.typ ≡ typ) }
-        ensures ways { IfOk result (λ known. HasWays names.now typ known.index) }
+        ensures ways { IfOk result (λ known. HasWays names.now known.typ known.index) }
     {
         let index = TypeIndex::new(alloc, names, &typ)?;
         Ok(KnownType { typ, index })
     }
 
-    /// A type that is known already. It shares what is known, so it takes constant time and no memory.
-    pub fn of_part(part: Known<'_>) -> Result<KnownType, AllocError>
+    /// A type of which this is known. It shares what is known, so it takes constant time and no memory.
+    pub fn of(part: Known<'_>) -> Result<KnownType, AllocError>
         ensures typ { IfOk result (λ known. known.typ ≡ part.entry.typ.now) }
-        ensures index { IfOk result (λ known. known.index ≡ part.entry.index.now) }
+        ensures ways { IfOk result (λ known. (texts : Texts) → HasWays texts part.entry.typ.now part.entry.index.now → HasWays texts known.typ known.index) }
     {
         let typ = copy(part.typ)?;
         let index = part.index.share()?;
         Ok(KnownType { typ, index })
     }
 
-    /// The same type once more. It takes constant time and no memory.
+    /// The same type once more. It shares what is known, so it takes constant time and no memory.
     pub fn share(&self) -> Result<KnownType, AllocError>
         ensures typ { IfOk result (λ once_more. once_more.typ ≡ self.now.typ) }
-        ensures index { IfOk result (λ once_more. once_more.index ≡ self.now.index) }
+        ensures ways { IfOk result (λ once_more. (texts : Texts) → HasWays texts self.now.typ self.now.index → HasWays texts once_more.typ once_more.index) }
     {
-        KnownType::of_part(self.part())
+        KnownType::of(self.known())
     }
 
-    /// The whole type as a part, from which steps lead on.
-    pub fn part(&self) -> Known<'_>
+    /// What is known, with the steps to the parts.
+    pub fn known(&self) -> Known<'_>
         ensures typ { result.typ.now ≡ self.now.typ }
         ensures index { result.index.now ≡ self.now.index }
     {
-        Known {
-            typ: &self.typ,
-            index: &self.index,
-        }
+        Known::new(&self.typ, &self.index)
     }
 }

@@ -1,10 +1,11 @@
 //! The modules of a circuit, by name.
 
-ghost use Rattle.std.specs.Prelude.{◌≡◌, Some, map, option_map, slice_get, IfOk, OnOk, OnErr};
+ghost use Rattle.std.specs.Prelude.{◌≡◌, Some, map, option_map, slice_get, IfOk, IfSome, OnOk, OnErr};
 ghost use Rattle.std.specs.Option.{option_copied};
 ghost use Rattle.std.specs.Coded.{Coded-set, coded_list};
 ghost use Rattle.fir_types.specs.contracts.fir_type.FirType.{the_row as type_row};
-ghost use Rattle.module_table.specs.Tables.{IsIndex, named, bundle_of, with_new, typ_of};
+ghost use Rattle.module_table.specs.Tables.{IsIndex, named, bundle_of, with_new, typ_of, AreMeasured};
+ghost use Rattle.type_index.specs.Knowing.{HasWays};
 
 use crate::known_type::KnownType;
 use fir_tree::{Module, Names};
@@ -18,10 +19,13 @@ pub struct Modules<'a> {
     /// The texts of the circuit's names.
     pub names: &'a Names,
     pub all: &'a [Module],
+    /// The texts of their names.
+    pub names: &'a Names,
     numbers: IndexMap<u32, usize>,
     instances: Vec<KnownType>,
     ghost indexed: { IsIndex all.now numbers.entries },
     ghost bundled: { map typ_of instances.items ≡ map bundle_of all.now } by { Coded-set (coded_list type_row.coded) (map typ_of instances.items) (map bundle_of all.now) },
+    ghost measured: { ∥ AreMeasured names.now instances.items ∥₁ },
 }
 
 impl<'a> Modules<'a> {
@@ -39,6 +43,7 @@ impl<'a> Modules<'a> {
         Ok(Modules {
             names,
             all,
+            names,
             numbers,
             instances,
         })
@@ -61,7 +66,8 @@ impl<'a> Modules<'a> {
 
     /// The type of the instances of the first module of a name, given by the number of its text.
     pub fn instance(&self, name: u32) -> Option<&KnownType>
-        ensures { option_map typ_of (option_copied result) ≡ option_map bundle_of (named self.now.all.now name) }
+        ensures typ { option_map typ_of (option_copied result) ≡ option_map bundle_of (named self.now.all.now name) }
+        ensures ways { IfSome result (λ known. ∥ HasWays self.now.names.now known.now.typ known.now.index ∥₁) }
     {
         let number = self.numbers.get(&name)?;
         self.instances.get(*number)
@@ -74,7 +80,8 @@ fn instances_of(
     names: &Names,
     modules: &[Module],
 ) -> Result<Vec<KnownType>, AllocError>
-    ensures { IfOk result (λ instances. map typ_of instances.items ≡ map bundle_of modules.now) }
+    ensures typs { IfOk result (λ instances. map typ_of instances.items ≡ map bundle_of modules.now) }
+    ensures ways { IfOk result (λ instances. AreMeasured names.now instances.items) }
 {
     let mut instances = Vec::new(alloc);
     for module in modules {

@@ -1,9 +1,11 @@
 -- The parts of a tree that is known.
-use Rattle.std.proofs.Common.{◌≡◌, ◌==◌, ℕ, zero, suc, ◌<◌, Bool, true, false, List, [], ◌∷◌, ◌++◌, ◌+◌, if◌then◌else◌, find, length, take, get_or, refl, sym, ap, ◌∙◌, subst, arith, add-one}
+use Rattle.std.proofs.Common.{◌≡◌, ◌==◌, ℕ, zero, suc, ◌<◌, Bool, true, false, not, List, [], ◌∷◌, ◌++◌, ◌+◌, if◌then◌else◌, find, length, take, get_or, refl, sym, ap, ◌∙◌, subst, arith, add-one}
 use Rattle.std.specs.Prelude.{Option, Some, None, option_map, slice_get}
 use Rattle.std.specs.Coded.{Coded-set, coded_option, coded_ℕ}
 use Rattle.std.proofs.lemmas.Grind.{common_steps}
 use Rattle.std.proofs.lemmas.Bool.{eq-eqb, eqb-true, false_from_ne_true}
+use Rattle.std.proofs.Math.Nat.{ℕ_set}
+use Rattle.std.proofs.Math.Bool.{Bool-set}
 use Rattle.std.proofs.Math.Logic.{∥∥₁_map, ∥∥₁_elim}
 use Rattle.fir_types.specs.declared.fir_type.FirType.{FirType}
 use Rattle.fir_types.specs.declared.fir_type.Shape.TheOpen.{Shape-F}
@@ -12,6 +14,11 @@ use Rattle.fir_types.specs.declared.fir_type.Shape.TheVariants.{outs-Bundle, out
 use Rattle.fir_types.specs.declared.fir_type.Shape.TheViews.{out-Shape}
 use Rattle.fir_types.specs.declared.fir_type.FirType.{the_lemmas as type_lemmas}
 use Rattle.fir_types.specs.declared.fir_type.Field.{Field}
+use Rattle.fir_types.specs.Leaves.{count}
+use Rattle.fir_types.specs.Passivity.{has_flip}
+use Rattle.leaf_names.specs.LeafNames.{Texts}
+use Rattle.name_sizes.specs.Caps.{cap}
+use Rattle.name_sizes.specs.Texts.{way_bytes}
 use Rattle.field_index.specs.declared.index.FieldIndex.{FieldIndex}
 use Rattle.field_index.specs.declared.index.FieldPlace.{FieldPlace}
 use Rattle.field_index.specs.Indexes.{first_at, place_in, IsIndexOf}
@@ -20,7 +27,7 @@ use Rattle.type_index.specs.declared.tree.TypeIndex.{TypeIndex, the_lemmas}
 use Rattle.type_index.specs.declared.tree.Inside.{Inside}
 use Rattle.type_index.specs.declared.tree.Inside.TheVariants as inside
 use Rattle.type_index.specs.declared.tree.Inside.TheViews.{out-Inside}
-use Rattle.type_index.specs.Knowing.{Matches, FieldsMatch, ground, vector, bundle, no_fields, one_field, is_ground, fields_in, Knows, IsKnown, IsAmong}
+use Rattle.type_index.specs.Knowing.{Matches, FieldsMatch, ground, vector, bundle, no_fields, one_field, is_ground, fields_in, Knows, HasWays, IsKnown, IsAmong}
 
 pub vector_out : (t e : FirType) (n : ℕ) → t.shape ≡ shape.Vector e n → out-Shape t.shape ≡ Shape-F.Vector e n
 vector_out t e n h = ap out-Shape h ∙ outs-Vector e n
@@ -209,3 +216,14 @@ pub field_found_at : (typ : FirType) (fs : List Field) (id i : ℕ) (at : Option
     → found ≡ slice_get fs i → found ≡ find (λ field. field.name.id == id) (fields_in (out-Shape typ.shape))
 field_found_at typ fs id i at found h s e f =
     f ∙ found_some fs id i (sym s ∙ e) ∙ ap (λ s. find (λ field. field.name.id == id) (fields_in s)) (sym (bundle_out typ fs h))
+
+-- what is known of the whole
+
+pub counted_known : (typ : FirType) (index : TypeIndex) → Knows typ index → index.leaves ≡ cap (count typ)
+counted_known typ index k = ∥∥₁_elim k (ℕ_set index.leaves (cap (count typ))) (λ m. (self m).leaves)
+
+pub flipless_known : (typ : FirType) (index : TypeIndex) → Knows typ index → index.passive ≡ not (has_flip typ)
+flipless_known typ index k = ∥∥₁_elim k (Bool-set index.passive (not (has_flip typ))) (λ m. (self m).passive)
+
+pub bytes_had : (texts : Texts) (typ : FirType) (index : TypeIndex) → HasWays texts typ index → index.bytes ≡ cap (way_bytes texts typ)
+bytes_had texts typ index m = self m

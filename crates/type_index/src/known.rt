@@ -1,9 +1,12 @@
 //! The steps from a type that is known to its parts.
 
-ghost use Rattle.std.specs.Prelude.{◌≡◌, ◌==◌, find, option_map, IfSome};
+ghost use Rattle.std.specs.Prelude.{◌≡◌, ◌==◌, not, find, option_map, IfSome};
 ghost use Rattle.std.specs.Option.{option_copied};
 ghost use Rattle.field_index.specs.Indexes.{first_at};
 ghost use Rattle.fir_types.specs.declared.fir_type.Shape.TheViews.{out-Shape};
+ghost use Rattle.fir_types.specs.Leaves.{count};
+ghost use Rattle.fir_types.specs.Passivity.{has_flip};
+ghost use Rattle.name_sizes.specs.Caps.{cap};
 ghost use Rattle.leaf_names.specs.LeafNames.{Texts};
 ghost use Rattle.type_index.specs.Knowing.{Knows, HasWays, IsAmong, fields_in, element_in};
 
@@ -18,6 +21,8 @@ pub struct Known<'a> {
     pub typ: &'a FirType,
     pub index: &'a TypeIndex,
     ghost knows: { Knows typ.now index.now },
+    ghost counted: { index.now.leaves ≡ cap (count typ.now) },
+    ghost flipless: { index.now.passive ≡ not (has_flip typ.now) },
 }
 
 /// A field of whose type all this is known.
@@ -28,7 +33,26 @@ pub struct KnownField<'a> {
     ghost knows: { Knows field.now.typ index.now },
 }
 
+impl<'a> KnownField<'a> {
+    /// Its type.
+    pub fn known(self) -> Known<'a>
+        ensures typ { result.typ.now ≡ self.entry.field.now.typ }
+        ensures index { result.index.now ≡ self.entry.index.now }
+    {
+        Known::new(&self.field.typ, self.index)
+    }
+}
+
 impl<'a> Known<'a> {
+    /// A type of which this is known.
+    pub fn new(typ: &'a FirType, index: &'a TypeIndex) -> Known<'a>
+        requires { Knows typ.now index.now }
+        ensures typ { result.typ.now ≡ typ.now }
+        ensures index { result.index.now ≡ index.now }
+    {
+        Known { typ, index }
+    }
+
     /// The first field that has the name with this number, where this is a bundle with such a field. Takes constant time.
     pub fn field(self, id: u32) -> Option<KnownField<'a>>
         ensures field { option_map (λ (part : KnownField). part.field.now) result ≡ find (λ field. field.name.id == id) (fields_in (out-Shape self.entry.typ.now.shape)) }
@@ -59,10 +83,7 @@ impl<'a> Known<'a> {
         let Inside::Vector(inner) = &self.index.inside else {
             unreachable!();
         };
-        Some(Known {
-            typ: element.get(),
-            index: inner.get(),
-        })
+        Some(Known::new(element.get(), inner.get()))
     }
 }
 

@@ -3,9 +3,11 @@
 //! a tree of the shape of the type.
 #![tactic(auto)]
 
+pub mod gathered;
 pub mod known;
 pub mod making;
 pub mod tree;
 
+pub use gathered::Gathered;
 pub use known::{Known, KnownField};
 pub use tree::{Inside, TypeIndex};

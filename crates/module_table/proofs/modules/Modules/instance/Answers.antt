@@ -7,8 +7,8 @@ use Rattle.module_table.specs.Tables.{typ_of}
 use Rattle.module_table.proofs.Indexing.{got_at, instance_at}
 use Rattle.module_table.proofs.modules.Modules.instance.Goals as goal
 
-pub returns : goal.returns
-returns c =
+pub returns-clause-typ : goal.returns-clause-typ
+returns-clause-typ c =
     let all = c.args.self.now in
     let number = c.in_ok-number.number.now in
     let found : lookup (nat_eq c.args.name) all.numbers.entries ≡ Some number = search rules in
@@ -17,3 +17,6 @@ returns c =
     ∙ ap (λ l. slice_get l number) c.deref.ensures.value in
     ap (option_map typ_of) at
     ∙ instance_at all.all.now all.numbers.entries all.instances.items c.args.name number all.indexed all.bundled found
+
+pub returns-clause-ways : goal.returns-clause-ways
+returns-clause-ways c = ?
