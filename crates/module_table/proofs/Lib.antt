@@ -1,2 +1,3 @@
 mod Indexing
+pub mod Fields
 mod Noting

@@ -16,8 +16,6 @@ use std::alloc::{AllocError, Global};
 /// The modules of a circuit, with the number of the first of each name, and with what the instances of each share.
 #[derive(Drop)]
 pub struct Modules<'a> {
-    /// The texts of the circuit's names.
-    pub names: &'a Names,
     pub all: &'a [Module],
     /// The texts of their names.
     pub names: &'a Names,
@@ -41,7 +39,6 @@ impl<'a> Modules<'a> {
         let numbers = numbers_of(alloc, all)?;
         let instances = instances_of(alloc, names, all)?;
         Ok(Modules {
-            names,
             all,
             names,
             numbers,

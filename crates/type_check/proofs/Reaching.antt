@@ -59,54 +59,10 @@ second_chosen known e (a ∷ b ∷ c ∷ d ∷ more) f typ is three at h = absur
 
 -- Steps
 
-some_same : (a b : FirType) → Some a ≡ Some b → a ≡ b
-some_same a b h = cc
-
-pub field_from : (name : Name) (t : FirType) (field : Field) (base : Option Part) → find (λ f. f.name.id == name.id) (fields_in (out-Shape t.shape)) ≡ Some field
+field_from : (name : Name) (t : FirType) (field : Field) (base : Option Part) → find (λ f. f.name.id == name.id) (fields_in (out-Shape t.shape)) ≡ Some field
     → Agrees t base → Agrees field.typ (from_base (λ part. field_step name part (out-Shape part.typ.shape)) base).part
 field_from name t field (Some part) found h = subst (λ j. Agrees field.typ j.part) (sym (first_field name part t field h found)) refl
 field_from name t field None found h = tt {0}
-
-element_if : (part : Part) (element : FirType) (there' : Bool) (at : Place) → Agrees element (element_found part element there' at).part
-element_if part element true at = refl
-element_if part element false at = tt {0}
-
-indexed_if : (at : Place) (part : Part) (element : FirType) (fits : Bool) → Agrees element (indexed at part element fits).part
-indexed_if at part element true = refl
-indexed_if at part element false = tt {0}
-
-element_at : (bracket at : Place) (n : ℕ) (part : Part) (layer : Shape-F Shape Field FirType) (element : FirType) → element_in layer ≡ Some element
-    → Agrees element (element_step bracket at n part layer).part
-element_at bracket at n part (Shape-F.Unsigned width) element is = absurd cc
-element_at bracket at n part (Shape-F.Signed width) element is = absurd cc
-element_at bracket at n part Shape-F.Clock element is = absurd cc
-element_at bracket at n part Shape-F.Reset element is = absurd cc
-element_at bracket at n part (Shape-F.Bundle fields) element is = absurd cc
-element_at bracket at n part (Shape-F.Vector own length) element is =
-    subst (λ e. Agrees e (element_found part own (nat_lt n length) at).part) (some_same own element is) (element_if part own (nat_lt n length) at)
-
-index_at : (bracket at : Place) (index part : Part) (layer : Shape-F Shape Field FirType) (element : FirType) → element_in layer ≡ Some element
-    → Agrees element (index_step bracket at index part layer).part
-index_at bracket at index part (Shape-F.Unsigned width) element is = absurd cc
-index_at bracket at index part (Shape-F.Signed width) element is = absurd cc
-index_at bracket at index part Shape-F.Clock element is = absurd cc
-index_at bracket at index part Shape-F.Reset element is = absurd cc
-index_at bracket at index part (Shape-F.Bundle fields) element is = absurd cc
-index_at bracket at index part (Shape-F.Vector own length) element is =
-    subst (λ e. Agrees e (indexed at part own (is_unsigned index.typ)).part) (some_same own element is) (indexed_if at part own (is_unsigned index.typ))
-
-pub element_from : (bracket at : Place) (n : ℕ) (t element : FirType) (base : Option Part) → element_in (out-Shape t.shape) ≡ Some element → Agrees t base
-    → Agrees element (from_base (λ part. element_step bracket at n part (out-Shape part.typ.shape)) base).part
-element_from bracket at n t element (Some part) is h =
-    element_at bracket at n part (out-Shape part.typ.shape) element (ap (λ t. element_in (out-Shape t.shape)) h ∙ is)
-element_from bracket at n t element None is h = tt {0}
-
-pub index_from : (bracket at : Place) (index : Option Part) (t element : FirType) (base : Option Part) → element_in (out-Shape t.shape) ≡ Some element → Agrees t base
-    → Agrees element (from_index bracket at index base).part
-index_from bracket at (Some index) t element (Some part) is h =
-    index_at bracket at index part (out-Shape part.typ.shape) element (ap (λ t. element_in (out-Shape t.shape)) h ∙ is)
-index_from bracket at (Some index) t element None is h = tt {0}
-index_from bracket at None t element base is h = tt {0}
 
 -- in the words of the steps themselves
 
@@ -114,28 +70,10 @@ field_is : (s : Suffix) (name : Name) (known : Known) (base : Option Part) → s
     → suffix_step s known base ≡ from_base (λ part. field_step name part (out-Shape part.typ.shape)) base
 field_is s name known base is = grind (arith, common_steps, the_lemmas)
 
-at_is : (s : Suffix) (bracket at : Place) (n : ℕ) (known : Known) (base : Option Part) → s ≡ suffix.At bracket at n
-    → suffix_step s known base ≡ from_base (λ part. element_step bracket at n part (out-Shape part.typ.shape)) base
-at_is s bracket at n known base is = grind (arith, common_steps, the_lemmas)
-
-index_is : (s : Suffix) (bracket : Place) (index : Expr) (known : Known) (base : Option Part) → s ≡ suffix.Index bracket index
-    → (suffix_step s known base).part ≡ (from_index bracket (judged index).place (found_of known index).part base).part
-index_is s bracket index known base is = grind (arith, common_steps, the_lemmas)
-
 pub behind_field : (s : Suffix) (name : Name) (t : FirType) (field : Field) → s ≡ suffix.Field name
     → find (λ f. f.name.id == name.id) (fields_in (out-Shape t.shape)) ≡ Some field
     → (known : Known) (base : Option Part) → Agrees t base → Agrees field.typ (suffix_step s known base).part
 behind_field s name t field is found known base h = subst (λ j. Agrees field.typ j.part) (sym (field_is s name known base is)) (field_from name t field base found h)
-
-pub behind_at : (s : Suffix) (bracket at : Place) (n : ℕ) (t element : FirType) → s ≡ suffix.At bracket at n → element_in (out-Shape t.shape) ≡ Some element
-    → (known : Known) (base : Option Part) → Agrees t base → Agrees element (suffix_step s known base).part
-behind_at s bracket at n t element is there' known base h =
-    subst (λ j. Agrees element j.part) (sym (at_is s bracket at n known base is)) (element_from bracket at n t element base there' h)
-
-pub behind_index : (s : Suffix) (bracket : Place) (index : Expr) (t element : FirType) → s ≡ suffix.Index bracket index → element_in (out-Shape t.shape) ≡ Some element
-    → (known : Known) (base : Option Part) → Agrees t base → Agrees element (suffix_step s known base).part
-behind_index s bracket index t element is there' known base h =
-    subst (Agrees element) (sym (index_is s bracket index known base is)) (index_from bracket (judged index).place (found_of known index).part t element base there' h)
 
 -- one more step
 pub reached_more : (suffixes : List Suffix) (i : ℕ) (s : Suffix) (known : Known) (base : Option Part) (t : FirType) → i < length suffixes → s ≡ get_or suffixes i s

@@ -16,7 +16,7 @@ use crate::judge::judge;
 use crate::memory::push_memory;
 use crate::texts::{push_stored, push_twice, push_unless};
 use crate::walk::Walk;
-use crate::whole::{is_passive_part, known_type};
+use crate::whole::known_type;
 use circuit_parts::Flow;
 use circuit_parts::steps::port_flow;
 use fir_tree::Expr;
@@ -118,10 +118,9 @@ pub fn declare_node(
         return Ok(());
     };
     let known = known_type(alloc, walk.names, &walk.known, expr, part)?;
-    let passive = is_passive_part(known.part());
     push_unless(
         &mut walk.found.faults,
-        passive,
+        known.known().index.passive,
         TypeFault::NotPassive(expr.place),
     )?;
     declare_source(walk, name, known)

@@ -183,7 +183,7 @@ fn reached_at(known: &Component) -> Reached<'_>
     ensures { part_at result ≡ part_in known.now }
 {
     Reached {
-        known: known.known.part(),
+        known: known.known.known(),
         flow: known.flow,
     }
 }

@@ -15,7 +15,6 @@ use circuit_parts::{Flow, Part};
 use fir_types::{Name, Shape};
 use place_text::Place;
 use std::alloc::AllocError;
-use type_index::Known;
 
 /// The field of this name, the first one. Adds a fault where there is none.
 pub fn to_field<'a>(
@@ -31,10 +30,7 @@ pub fn to_field<'a>(
     };
     match base.known.field(name.id) {
         Some(found) => Ok(Some(Reached {
-            known: Known {
-                typ: &found.field.typ,
-                index: found.index,
-            },
+            known: found.known(),
             flow: through(found.field.flip, base.flow),
         })),
         None => fail(faults, TypeFault::FieldUnknown(name.place)),

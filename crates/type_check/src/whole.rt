@@ -29,7 +29,7 @@ pub fn known_type(
     ensures { IfOk result (λ same. same.typ ≡ part.typ) }
 {
     match part_at(known, expr) {
-        Some(there) => KnownType::of_part(there),
+        Some(there) => KnownType::of(there),
         None => KnownType::new(alloc, names, part.typ),
     }
 }
@@ -40,16 +40,9 @@ pub fn is_passive_at(known: &Components, expr: &Expr, part: &Part) -> bool
     ensures { result ≡ is_passive part.now.typ }
 {
     match part_at(known, expr) {
-        Some(there) => is_passive_part(there),
+        Some(there) => there.index.passive,
         None => is_passive(&part.typ),
     }
-}
-
-/// Whether no `flip` stands in a type of which this is known.
-pub fn is_passive_part(part: Known<'_>) -> bool
-    ensures { result ≡ is_passive part.entry.typ.now }
-{
-    part.index.passive
 }
 
 /// What the reference that an expression is comes to by its steps alone, or the one that a choice chooses first.
@@ -61,7 +54,7 @@ fn part_at<'a>(known: &'a Components, expr: &Expr) -> Option<Known<'a>>
         return None;
     };
     let component = known.get(name.id)?;
-    part_along(component.known.part(), suffixes.as_slice())
+    part_along(component.known.known(), suffixes.as_slice())
 }
 
 /// The part behind some steps.
@@ -82,10 +75,7 @@ fn part_behind<'a>(base: Known<'a>, suffix: &Suffix) -> Option<Known<'a>>
     match suffix {
         Suffix::Field(name) => {
             let found = base.field(name.id)?;
-            Some(Known {
-                typ: &found.field.typ,
-                index: found.index,
-            })
+            Some(found.known())
         }
         Suffix::At(_, _, _) | Suffix::Index(_, _) => base.element(),
     }
