@@ -155,3 +155,8 @@ measured_at texts (y ∷ xs) (suc i) x m e = measured_at texts xs i x m.1 e
 
 pub known_at : (texts : Texts) (xs : List KnownType) (i : ℕ) (x : KnownType) → ∥ AreMeasured texts xs ∥₁ → Some x ≡ slice_get xs i → ∥ HasWays texts x.typ x.index ∥₁
 known_at texts xs i x k e = ∥∥₁_map k (λ m. measured_at texts xs i x m e)
+
+pub each_got : {B X : Type 0} (now : B → X) (P : X → Type 0) (xs : List X) (i : ℕ) (r : Option B) → ((x : X) → Some x ≡ slice_get xs i → P x)
+    → option_map now r ≡ slice_get xs i → IfSome r (λ b. P (now b))
+each_got now P xs i (Some b) h e = h (now b) e
+each_got now P xs i None h e = tt
