@@ -1,25 +1,22 @@
 -- The types of parts that are reached by steps alone.
-use Rattle.std.proofs.Common.{◌≡◌, ℕ, ◌+◌, ◌<◌, Bool, true, false, List, [], ◌∷◌, map, length, take, get_or, refl, sym, ap, ◌∙◌, subst, arith}
-use Rattle.std.specs.Prelude.{Option, Some, None, option_map, find, ◌==◌, nat_lt, IfSome}
+use Rattle.std.proofs.Common.{◌≡◌, ℕ, ◌+◌, ◌<◌, List, [], ◌∷◌, map, length, take, get_or, refl, sym, subst, arith}
+use Rattle.std.specs.Prelude.{Option, Some, None, option_map, find, ◌==◌, IfSome}
 use Rattle.std.proofs.lemmas.Grind.{common_steps}
 use Rattle.place_text.specs.declared.place.Place.{Place}
 use Rattle.fir_types.specs.declared.fir_type.FirType.{FirType}
-use Rattle.fir_types.specs.declared.fir_type.Shape.{Shape}
-use Rattle.fir_types.specs.declared.fir_type.Shape.TheOpen.{Shape-F}
 use Rattle.fir_types.specs.declared.fir_type.Shape.TheViews.{out-Shape}
 use Rattle.fir_types.specs.declared.fir_type.Field.{Field}
 use Rattle.fir_types.specs.declared.name.Name.{Name}
-use Rattle.type_index.specs.Knowing.{fields_in, element_in}
+use Rattle.type_index.specs.Knowing.{fields_in}
 use Rattle.fir_tree.specs.declared.expr.Expr.{Expr, the_lemmas}
 use Rattle.fir_tree.specs.declared.expr.Form.TheVariants as form
 use Rattle.fir_tree.specs.declared.expr.Suffix.{Suffix}
 use Rattle.fir_tree.specs.declared.expr.Suffix.TheVariants as suffix
 use Rattle.circuit_parts.specs.declared.part.Part.{Part}
 use Rattle.circuit_parts.specs.Parts.{source_of}
-use Rattle.circuit_parts.specs.Kinds.{is_unsigned}
 use Rattle.type_check.specs.declared.fault.TypeFault.{TypeFault}
 use Rattle.type_check.specs.Parts.{Known, component, typed_without}
-use Rattle.type_check.specs.Expressions.{Judgement, Operand, found_of, judged, over, choice, choice_faults, with_operand, typed_operands, all_among, as_node, along, suffix_step, from_base, field_step, element_step, element_found, index_step, indexed, from_index}
+use Rattle.type_check.specs.Expressions.{Judgement, Operand, found_of, judged, over, choice, choice_faults, with_operand, typed_operands, all_among, as_node, along, suffix_step, from_base, field_step}
 use Rattle.type_check.specs.Judging.{Agrees}
 use Rattle.type_check.proofs.Forms.{mux_is}
 use Rattle.type_check.proofs.Judgements.{map_more, along-push}

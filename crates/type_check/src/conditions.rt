@@ -35,7 +35,11 @@ pub fn expect_clock(alloc: Global, walk: &mut Walk<'_>, clock: &Expr) -> Result<
 }
 
 /// A condition of an arm, or a reset.
-pub fn expect_condition(alloc: Global, walk: &mut Walk<'_>, condition: &Expr) -> Result<(), AllocError>
+pub fn expect_condition(
+    alloc: Global,
+    walk: &mut Walk<'_>,
+    condition: &Expr,
+) -> Result<(), AllocError>
     ensures { OnOk result (Walks (expects (condition_faults condition.now.place) condition.now) walk.old walk.new) }
 {
     if let Some(part) = judge(alloc, &walk.known, &mut walk.found, condition)? {
@@ -78,7 +82,12 @@ pub fn invalidate(alloc: Global, walk: &mut Walk<'_>, target: &Expr) -> Result<(
 }
 
 /// A connect: the left side may be driven, the right side read, and both have equivalent types.
-pub fn connect(alloc: Global, walk: &mut Walk<'_>, left: &Expr, right: &Expr) -> Result<(), AllocError>
+pub fn connect(
+    alloc: Global,
+    walk: &mut Walk<'_>,
+    left: &Expr,
+    right: &Expr,
+) -> Result<(), AllocError>
     ensures { OnOk result (Walks (connects left.now right.now) walk.old walk.new) }
 {
     let sink = judge(alloc, &walk.known, &mut walk.found, left)?;

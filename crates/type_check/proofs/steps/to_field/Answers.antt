@@ -1,4 +1,4 @@
-use Rattle.std.proofs.Common.{rules, refl, ap, sym, append-nil, ◌∙◌, ◌++◌}
+use Rattle.std.proofs.Common.{rules, refl, ap, ap₂, sym, append-nil, ◌∙◌, ◌++◌}
 use Rattle.std.specs.Prelude.{Some}
 use Rattle.circuit_parts.specs.Parts.{part_of}
 use Rattle.type_check.specs.Judging.{part_at}
@@ -8,7 +8,7 @@ use Rattle.type_check.proofs.steps.to_field.Goals as goal
 pub returns-in-Some-clause-part : goal.returns-in-Some-clause-part
 returns-in-Some-clause-part c =
     let is = first_field c.args.name (part_at c.args.base) c.args.base.known.typ.now c.in-Some.found.field.now refl (search rules) in
-    ap (λ flow. Some (part_of c.in-Some.found.field.now.typ flow)) c.through.ensures ∙ ap (λ j. j.part) (sym is)
+    ap₂ (λ typ flow. Some (part_of typ flow)) c.known.ensures.typ c.through.ensures ∙ ap (λ j. j.part) (sym is)
 
 pub returns-in-Some-clause-faults : goal.returns-in-Some-clause-faults
 returns-in-Some-clause-faults c =

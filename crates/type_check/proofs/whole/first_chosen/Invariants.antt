@@ -1,6 +1,4 @@
-use Rattle.std.proofs.Common.{◌≤◌}
 use Rattle.fir_types.specs.declared.fir_type.FirType.{FirType}
-use Rattle.fir_tree.specs.declared.expr.Expr.{size-Expr}
 use Rattle.type_check.specs.Expressions.{found_of}
 use Rattle.type_check.specs.Judging.{Agrees}
 use Rattle.type_check.specs.Parts.{Known}
