@@ -7,4 +7,4 @@ pub mod index;
 pub mod wide;
 
 pub use index::{FieldIndex, FieldPlace};
-pub use wide::{field_by, index_of};
+pub use wide::{field_by, index_among, index_of};

@@ -1,14 +1,17 @@
 -- The numbers of modules by name, one module after another.
-use Rattle.std.proofs.Common.{◌≡◌, ℕ, ◌+◌, ◌<◌, Bool, true, false, List, [], ◌∷◌, ◌++◌, map, length, take, get_or, refl, sym, ap, ap₂, ◌∙◌, subst, if◌then◌else◌, true≢false}
+use Rattle.std.proofs.Common.{◌≡◌, ℕ, zero, suc, ◌+◌, ◌<◌, Bool, true, false, List, [], ◌∷◌, ◌++◌, map, length, take, get_or, refl, sym, ap, ap₂, ◌∙◌, subst, if◌then◌else◌, true≢false}
 use Rattle.std.specs.Prelude.{is_some, cond, nat_eq, Option, Some, None, option_map, slice_get, ◌==◌, ◌≤◌, IfSome, MatchOption}
 use Rattle.std.specs.Map.{lookup}
 use Rattle.std.proofs.lemmas.List.{take_more, map-append}
 use Rattle.std.proofs.lemmas.Option.{slice_get-get_or, slice_get-map, slice_get_read, slice_get_past}
 use Rattle.std.proofs.lemmas.Bool.{eqb-true, eqb-false}
+use Rattle.std.proofs.Math.Logic.{∥∥₁_map}
+use Rattle.leaf_names.specs.LeafNames.{Texts}
+use Rattle.type_index.specs.Knowing.{HasWays}
 use Rattle.fir_tree.specs.declared.circuit.Module.{Module}
 use Rattle.fir_types.specs.declared.fir_type.FirType.{FirType}
 use Rattle.module_table.specs.declared.known_type.KnownType.{KnownType}
-use Rattle.module_table.specs.Tables.{with_new, named, IsIndex, IsIndexOf, bundle_of, typ_of}
+use Rattle.module_table.specs.Tables.{with_new, named, IsIndex, IsIndexOf, bundle_of, typ_of, AreMeasured}
 
 abbrev or_else : {X : Type 0} → Option X → Option X → Option X
 or_else (Some x) o = Some x
@@ -131,3 +134,29 @@ pub instances_more : (modules : List Module) (i : ℕ) (m : Module) (instances a
 instances_more modules i m instances after known lt is h own e =
     ap (map typ_of) e ∙ map-append typ_of instances (known ∷ []) ∙ ap₂ (λ l t. l ++ t ∷ []) h (own ∙ ap bundle_of is)
     ∙ sym (ap (map bundle_of) (take_more modules i m lt) ∙ map-append bundle_of (take i modules) (get_or modules i m ∷ []))
+
+-- the ways of one more instance, and of one of them
+
+measured_push : (texts : Texts) (xs : List KnownType) (x : KnownType) → AreMeasured texts xs → HasWays texts x.typ x.index → AreMeasured texts (xs ++ x ∷ [])
+measured_push texts [] x m w = (w, tt)
+measured_push texts (y ∷ xs) x m w = (m.0, measured_push texts xs x m.1 w)
+
+pub measured_more : (texts : Texts) (xs after : List KnownType) (x : KnownType) → AreMeasured texts xs → HasWays texts x.typ x.index → after ≡ xs ++ x ∷ []
+    → AreMeasured texts after
+measured_more texts xs after x m w e = subst (AreMeasured texts) (sym e) (measured_push texts xs x m w)
+
+pub measured_at : (texts : Texts) (xs : List KnownType) (i : ℕ) (x : KnownType) → AreMeasured texts xs → Some x ≡ slice_get xs i → HasWays texts x.typ x.index
+measured_at texts [] i x m e = absurd cc
+measured_at texts (y ∷ xs) zero x m e = subst (λ z. HasWays texts z.typ z.index) (same y x (sym e)) m.0
+  where
+    same : (a b : KnownType) → Some a ≡ Some b → a ≡ b
+    same a b h = cc
+measured_at texts (y ∷ xs) (suc i) x m e = measured_at texts xs i x m.1 e
+
+pub known_at : (texts : Texts) (xs : List KnownType) (i : ℕ) (x : KnownType) → ∥ AreMeasured texts xs ∥₁ → Some x ≡ slice_get xs i → ∥ HasWays texts x.typ x.index ∥₁
+known_at texts xs i x k e = ∥∥₁_map k (λ m. measured_at texts xs i x m e)
+
+pub each_got : {B X : Type 0} (now : B → X) (P : X → Type 0) (xs : List X) (i : ℕ) (r : Option B) → ((x : X) → Some x ≡ slice_get xs i → P x)
+    → option_map now r ≡ slice_get xs i → IfSome r (λ b. P (now b))
+each_got now P xs i (Some b) h e = h (now b) e
+each_got now P xs i None h e = tt

@@ -4,6 +4,8 @@ use Rattle.std.specs.Map.{lookup}
 use Rattle.fir_tree.specs.declared.circuit.Module.{Module}
 use Rattle.fir_types.specs.declared.fir_type.FirType.{FirType}
 use Rattle.fir_types.specs.Bundles.{instance_of}
+use Rattle.leaf_names.specs.LeafNames.{Texts}
+use Rattle.type_index.specs.Knowing.{HasWays}
 use Rattle.module_table.specs.declared.known_type.KnownType.{KnownType}
 
 -- the first module of a name
@@ -16,6 +18,11 @@ bundle_of m = instance_of m.ports
 
 abbrev pub typ_of : KnownType → FirType
 typ_of known = known.typ
+
+-- each type has the bytes of the ways to its leaves, where the names have these texts
+abbrev pub AreMeasured : Texts → List KnownType → Type 0
+AreMeasured texts [] = Unit {0}
+AreMeasured texts (known ∷ rest) = HasWays texts known.typ known.index × AreMeasured texts rest
 
 -- the entries with one more, unless there is one of its name
 abbrev pub with_new : {X : Type 0} → List (ℕ × X) → ℕ → X → List (ℕ × X)

@@ -1,76 +1,55 @@
-//! Types with what is often asked of them, which is found once and then shared.
+//! Types with what is often asked of them and of their parts, which is found once and then shared.
 
-ghost use Rattle.std.specs.Prelude.{◌≡◌, ◌-◌, ◌^◌, min, not, IfOk};
-ghost use Rattle.std.specs.Option.{ForSome};
-ghost use Rattle.field_index.specs.Indexes.{IsIndexOfType};
-ghost use Rattle.fir_types.specs.Leaves.{count};
-ghost use Rattle.fir_types.specs.Passivity.{has_flip};
+ghost use Rattle.std.specs.Prelude.{◌≡◌, IfOk};
+ghost use Rattle.leaf_names.specs.LeafNames.{Texts};
+ghost use Rattle.type_index.specs.Knowing.{Knows, HasWays};
 
-use bit_words::Shared;
-use field_index::{FieldIndex, index_of};
-use fir_types::{FirType, copy, leaf_count, passive};
+use fir_tree::Names;
+use fir_types::{FirType, copy};
 use std::alloc::{AllocError, Global};
+use type_index::{Known, TypeIndex};
 
-/// A type with the number of its leaves, or 2^128 - 1 where there are more, and whether no `flip` stands in it. A bundle of many
-/// fields may have their index.
+/// A type with what is known of it and of its parts.
 #[derive(Drop)]
 pub struct KnownType {
     pub typ: FirType,
-    pub leaves: u128,
-    pub passive: bool,
-    pub index: Option<Shared<FieldIndex>>,
-    ghost counted: { leaves ≡ min (count typ) (2 ^ 128 - 1) },
-    ghost flipless: { passive ≡ not (has_flip typ) },
-    ghost indexed: { ForSome index (IsIndexOfType typ) },
+    pub index: TypeIndex,
+    ghost knows: { Knows typ index },
 }
 
 impl KnownType {
-    /// A type with an index, where its fields are many. Takes time in proportion to the type, and memory to the number of its
-    /// fields.
-    pub fn indexed(alloc: Global, typ: FirType) -> Result<KnownType, AllocError>
-        ensures { IfOk result (λ known. known.typ ≡ typ) }
+    /// A type with what is known of it. Takes time and memory in proportion to the type.
+    pub fn new(alloc: Global, names: &Names, typ: FirType) -> Result<KnownType, AllocError>
+        ensures typ { IfOk result (λ known. known.typ ≡ typ) }
+        ensures ways { IfOk result (λ known. HasWays names.now known.typ known.index) }
     {
-        let index = index_of(alloc, &typ)?;
-        Ok(KnownType::with_index(typ, index))
+        let index = TypeIndex::new(alloc, names, &typ)?;
+        Ok(KnownType { typ, index })
     }
 
-    /// A type with this index of its fields, if any. Takes time in proportion to the type, and no memory.
-    pub fn with_index(typ: FirType, index: Option<Shared<FieldIndex>>) -> KnownType
-        requires { ForSome index (IsIndexOfType typ) }
-        ensures { result.typ ≡ typ }
+    /// A type of which this is known. It shares what is known, so it takes constant time and no memory.
+    pub fn of(part: Known<'_>) -> Result<KnownType, AllocError>
+        ensures typ { IfOk result (λ known. known.typ ≡ part.entry.typ.now) }
+        ensures ways { IfOk result (λ known. (texts : Texts) → HasWays texts part.entry.typ.now part.entry.index.now → HasWays texts known.typ known.index) }
     {
-        let leaves = leaf_count(&typ);
-        let passive = passive(&typ);
-        KnownType {
-            typ,
-            leaves,
-            passive,
-            index,
-        }
+        let typ = copy(part.typ)?;
+        let index = part.index.share()?;
+        Ok(KnownType { typ, index })
     }
 
-    /// The same type once more. It shares the index, so it takes constant time and no memory.
+    /// The same type once more. It shares what is known, so it takes constant time and no memory.
     pub fn share(&self) -> Result<KnownType, AllocError>
-        ensures { IfOk result (λ once_more. once_more.typ ≡ self.now.typ) }
+        ensures typ { IfOk result (λ once_more. once_more.typ ≡ self.now.typ) }
+        ensures ways { IfOk result (λ once_more. (texts : Texts) → HasWays texts self.now.typ self.now.index → HasWays texts once_more.typ once_more.index) }
     {
-        let typ = copy(&self.typ)?;
-        let (leaves, passive) = (self.leaves, self.passive);
-        match &self.index {
-            Some(index) => {
-                let index = Some(index.share()?);
-                Ok(KnownType {
-                    typ,
-                    leaves,
-                    passive,
-                    index,
-                })
-            }
-            None => Ok(KnownType {
-                typ,
-                leaves,
-                passive,
-                index: None,
-            }),
-        }
+        KnownType::of(self.known())
+    }
+
+    /// What is known, with the steps to the parts.
+    pub fn known(&self) -> Known<'_>
+        ensures typ { result.typ.now ≡ self.now.typ }
+        ensures index { result.index.now ≡ self.now.index }
+    {
+        Known::new(&self.typ, &self.index)
     }
 }

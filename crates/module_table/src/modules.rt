@@ -1,13 +1,14 @@
 //! The modules of a circuit, by name.
 
-ghost use Rattle.std.specs.Prelude.{◌≡◌, Some, map, option_map, slice_get, IfOk, OnOk, OnErr};
+ghost use Rattle.std.specs.Prelude.{◌≡◌, Some, map, option_map, slice_get, IfOk, IfSome, OnOk, OnErr};
 ghost use Rattle.std.specs.Option.{option_copied};
 ghost use Rattle.std.specs.Coded.{Coded-set, coded_list};
 ghost use Rattle.fir_types.specs.contracts.fir_type.FirType.{the_row as type_row};
-ghost use Rattle.module_table.specs.Tables.{IsIndex, named, bundle_of, with_new, typ_of};
+ghost use Rattle.module_table.specs.Tables.{IsIndex, named, bundle_of, with_new, typ_of, AreMeasured};
+ghost use Rattle.type_index.specs.Knowing.{HasWays};
 
 use crate::known_type::KnownType;
-use fir_tree::Module;
+use fir_tree::{Module, Names};
 use fir_types::instance_type;
 use indexmap::IndexMap;
 use std::alloc::{AllocError, Global};
@@ -16,21 +17,30 @@ use std::alloc::{AllocError, Global};
 #[derive(Drop)]
 pub struct Modules<'a> {
     pub all: &'a [Module],
+    /// The texts of their names.
+    pub names: &'a Names,
     numbers: IndexMap<u32, usize>,
     instances: Vec<KnownType>,
     ghost indexed: { IsIndex all.now numbers.entries },
     ghost bundled: { map typ_of instances.items ≡ map bundle_of all.now } by { Coded-set (coded_list type_row.coded) (map typ_of instances.items) (map bundle_of all.now) },
+    ghost measured: { ∥ AreMeasured names.now instances.items ∥₁ },
 }
 
 impl<'a> Modules<'a> {
     /// These modules. Takes time and memory in proportion to their number and to the types of their ports.
-    pub fn new(alloc: Global, all: &'a [Module]) -> Result<Modules<'a>, AllocError>
-        ensures { IfOk result (λ modules. modules.all.now ≡ all.now) }
+    pub fn new(
+        alloc: Global,
+        names: &'a Names,
+        all: &'a [Module],
+    ) -> Result<Modules<'a>, AllocError>
+        ensures all { IfOk result (λ modules. modules.all.now ≡ all.now) }
+        ensures names { IfOk result (λ modules. modules.names.now ≡ names.now) }
     {
         let numbers = numbers_of(alloc, all)?;
-        let instances = instances_of(alloc, all)?;
+        let instances = instances_of(alloc, names, all)?;
         Ok(Modules {
             all,
+            names,
             numbers,
             instances,
         })
@@ -53,7 +63,8 @@ impl<'a> Modules<'a> {
 
     /// The type of the instances of the first module of a name, given by the number of its text.
     pub fn instance(&self, name: u32) -> Option<&KnownType>
-        ensures { option_map typ_of (option_copied result) ≡ option_map bundle_of (named self.now.all.now name) }
+        ensures typ { option_map typ_of (option_copied result) ≡ option_map bundle_of (named self.now.all.now name) }
+        ensures ways { IfSome result (λ known. ∥ HasWays self.now.names.now known.now.typ known.now.index ∥₁) }
     {
         let number = self.numbers.get(&name)?;
         self.instances.get(*number)
@@ -61,13 +72,18 @@ impl<'a> Modules<'a> {
 }
 
 /// The types of the modules' instances.
-fn instances_of(alloc: Global, modules: &[Module]) -> Result<Vec<KnownType>, AllocError>
-    ensures { IfOk result (λ instances. map typ_of instances.items ≡ map bundle_of modules.now) }
+fn instances_of(
+    alloc: Global,
+    names: &Names,
+    modules: &[Module],
+) -> Result<Vec<KnownType>, AllocError>
+    ensures typs { IfOk result (λ instances. map typ_of instances.items ≡ map bundle_of modules.now) }
+    ensures ways { IfOk result (λ instances. AreMeasured names.now instances.items) }
 {
     let mut instances = Vec::new(alloc);
     for module in modules {
         let bundle = instance_type(alloc, module.ports.as_slice())?;
-        let known = KnownType::indexed(alloc, bundle)?;
+        let known = KnownType::new(alloc, names, bundle)?;
         instances.push(known)?;
     }
     Ok(instances)

@@ -4,8 +4,10 @@
 
 ghost use Rattle.std.specs.Prelude.{◌≡◌, ◌+◌, ◌*◌, length, sum, map};
 ghost use Rattle.fir_types.specs.declared.fir_type.FirType.{FirType as AType};
+ghost use Rattle.fir_types.specs.declared.fir_type.Field.{Field as AField};
+ghost use Rattle.fir_types.specs.declared.fir_type.Shape.TheVariants as shape;
 ghost use Rattle.fir_types.specs.Leaves.{count, field_count};
-ghost use Rattle.leaf_names.specs.LeafNames.{text_of};
+ghost use Rattle.leaf_names.specs.LeafNames.{Texts, text_of};
 ghost use Rattle.name_sizes.specs.Caps.{cap};
 ghost use Rattle.name_sizes.specs.Texts.{name_bytes, way_bytes, field_bytes, index_bytes};
 
@@ -30,6 +32,45 @@ pub fn name_length(names: &Names, id: u32) -> u128
 pub struct Ways {
     pub leaves: u128,
     pub bytes: u128,
+}
+
+impl Ways {
+    /// Those of a vector of this length, where an element has these.
+    pub fn repeated(self, length: u128) -> Ways
+        ensures leaves { (vector element : AType) → vector.shape ≡ shape.Vector element length → self.leaves ≡ cap (count element) → result.leaves ≡ cap (count vector) }
+        ensures bytes { (texts : Texts) (vector element : AType) → vector.shape ≡ shape.Vector element length → self.leaves ≡ cap (count element) → self.bytes ≡ cap (way_bytes texts element) → result.bytes ≡ cap (way_bytes texts vector) }
+    {
+        let one = Run {
+            elements: 1,
+            indices: 0,
+        };
+        one.longer(length).around(self)
+    }
+
+    /// Those of a field of this name, where its type has these: each way begins with a dot and the field's name.
+    pub fn named(self, names: &Names, id: u32) -> Ways
+        ensures leaves { result.leaves ≡ self.leaves }
+        ensures bytes { (field : AField) → field.name.id ≡ id → self.leaves ≡ cap (count field.typ) → self.bytes ≡ cap (way_bytes names.now field.typ) → result.bytes ≡ cap (field_bytes names.now field) }
+    {
+        Ways {
+            leaves: self.leaves,
+            bytes: self
+                .leaves
+                .saturating_mul(name_length(names, id).saturating_add(1))
+                .saturating_add(self.bytes),
+        }
+    }
+
+    /// Both together.
+    pub fn and(self, other: Ways) -> Ways
+        ensures leaves { result.leaves ≡ cap (self.leaves + other.leaves) }
+        ensures bytes { result.bytes ≡ cap (self.bytes + other.bytes) }
+    {
+        Ways {
+            leaves: self.leaves.saturating_add(other.leaves),
+            bytes: self.bytes.saturating_add(other.bytes),
+        }
+    }
 }
 
 /// The leaves of a component, and the bytes of their names.
@@ -125,14 +166,14 @@ fn ways_of_fields(names: &Names, fields: &[Field]) -> Ways
     ensures leaves { result.leaves ≡ cap (sum (map field_count fields.now)) }
     ensures bytes { result.bytes ≡ cap (sum (map (field_bytes names.now) fields.now)) }
 {
-    let mut leaves: u128 = 0;
-    let mut bytes: u128 = 0;
+    let mut all = Ways {
+        leaves: 0,
+        bytes: 0,
+    };
     for field in fields {
-        let part = ways_of_field(names, field);
-        leaves = leaves.saturating_add(part.leaves);
-        bytes = bytes.saturating_add(part.bytes);
+        all = all.and(ways_of_field(names, field));
     }
-    Ways { leaves, bytes }
+    all
 }
 
 /// The leaves of a field, and the bytes of the ways to them: each begins with a dot and the field's name.
@@ -141,13 +182,7 @@ fn ways_of_field(names: &Names, field: &Field) -> Ways
     ensures leaves { result.leaves ≡ cap (field_count field.now) }
     ensures bytes { result.bytes ≡ cap (field_bytes names.now field.now) }
 {
-    let Ways { leaves, bytes } = ways_of(names, &field.typ);
-    Ways {
-        leaves,
-        bytes: leaves
-            .saturating_mul(name_length(names, field.name.id).saturating_add(1))
-            .saturating_add(bytes),
-    }
+    ways_of(names, &field.typ).named(names, field.name.id)
 }
 
 /// The bytes of `[0]`, `[1]` and so on, below a number.

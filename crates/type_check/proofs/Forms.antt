@@ -31,7 +31,7 @@ prim_is : (known : Known) (e : Expr) (op : PrimOp) (operands : List Expr) (param
     → found_of known e ≡ over e.place (operation op e.place) (all_among known (map judged operands)) (typed_operands known (map judged operands))
 prim_is known e op operands params is = grind (arith, common_steps, the_lemmas)
 
-mux_is : (known : Known) (e : Expr) (operands : List Expr) → e.form ≡ form.Mux operands
+pub mux_is : (known : Known) (e : Expr) (operands : List Expr) → e.form ≡ form.Mux operands
     → found_of known e ≡ over e.place (choice e.place) (all_among known (map judged operands)) (typed_operands known (map judged operands))
 mux_is known e operands is = grind (arith, common_steps, the_lemmas)
 

@@ -10,3 +10,4 @@ mod Walking
 mod Kept
 mod Telling
 mod Wholes
+mod Reaching

@@ -4,9 +4,10 @@ use Rattle.std.specs.Prelude.{Option, Some, None, find, ◌==◌}
 use Rattle.std.proofs.lemmas.Grind.{common_steps}
 use Rattle.bit_words.specs.declared.value.Kind.{Kind as Sign}
 use Rattle.prim_ops.specs.declared.operation.PrimOp.{PrimOp}
-use Rattle.fir_types.specs.declared.fir_type.Shape.TheVariants as shape
+use Rattle.fir_types.specs.declared.fir_type.FirType.{FirType}
+use Rattle.fir_types.specs.declared.fir_type.Shape.{Shape}
+use Rattle.fir_types.specs.declared.fir_type.Shape.TheOpen.{Shape-F}
 use Rattle.fir_types.specs.declared.fir_type.Shape.TheViews.{out-Shape}
-use Rattle.fir_types.specs.declared.fir_type.Shape.TheVariants.{outs-Bundle}
 use Rattle.fir_types.specs.declared.fir_type.Field.{Field}
 use Rattle.fir_types.specs.declared.name.Name.{Name}
 use Rattle.circuit_parts.specs.declared.part.Part.{Part}
@@ -15,12 +16,23 @@ use Rattle.type_check.specs.declared.rules.Operand.{Operand as Held}
 use Rattle.circuit_parts.specs.Kinds.{sign_of}
 use Rattle.type_check.specs.Expressions.{field_step, field_found, stands, row_of, with_sign, signs_of}
 use Rattle.type_check.specs.Judging.{operand_of}
+use Rattle.type_index.specs.Knowing.{fields_in}
 
-pub first_field : (name : Name) (base : Part) (fields : List Field) (field : Field) → base.typ.shape ≡ shape.Bundle fields
-    → find (λ f. f.name.id == name.id) fields ≡ Some field
+-- the first field of a name, where there is one
+there_in : (name : Name) (base : Part) (layer : Shape-F Shape Field FirType) (field : Field) → find (λ f. f.name.id == name.id) (fields_in layer) ≡ Some field
+    → field_step name base layer ≡ stands (part_of field.typ (flow_through field.flip base.flow))
+there_in name base (Shape-F.Unsigned width) field found = absurd cc
+there_in name base (Shape-F.Signed width) field found = absurd cc
+there_in name base Shape-F.Clock field found = absurd cc
+there_in name base Shape-F.Reset field found = absurd cc
+there_in name base (Shape-F.Bundle fields) field found = ap (field_found name base) found
+there_in name base (Shape-F.Vector element length) field found = absurd cc
+
+pub first_field : (name : Name) (base : Part) (typ : FirType) (field : Field) → base.typ ≡ typ
+    → find (λ f. f.name.id == name.id) (fields_in (out-Shape typ.shape)) ≡ Some field
     → field_step name base (out-Shape base.typ.shape) ≡ stands (part_of field.typ (flow_through field.flip base.flow))
-first_field name base fields field is found =
-    ap (λ s. field_step name base (out-Shape s)) is ∙ ap (field_step name base) (outs-Bundle fields) ∙ ap (field_found name base) found
+first_field name base typ field same found = there_in name base (out-Shape base.typ.shape) field
+    (ap (λ t. find (λ f. f.name.id == name.id) (fields_in (out-Shape t.shape))) same ∙ found)
 
 -- Rows of operations
 

@@ -1,15 +1,11 @@
 -- Expressions that are components as a whole.
-use Rattle.std.proofs.Common.{◌≡◌, ℕ, [], sym, ap, ◌∙◌, arith}
-use Rattle.std.specs.Prelude.{Option, Some, None, option_map, IfSome}
+use Rattle.std.proofs.Common.{◌≡◌, ℕ, [], ap, ◌∙◌, arith}
 use Rattle.std.proofs.lemmas.Grind.{common_steps}
 use Rattle.fir_types.specs.declared.name.Name.{Name}
 use Rattle.fir_tree.specs.declared.expr.Expr.{Expr, the_lemmas}
 use Rattle.fir_tree.specs.declared.expr.Form.TheVariants as form
-use Rattle.circuit_parts.specs.declared.part.Part.{Part}
 use Rattle.module_table.specs.Whole.{IsWhole}
-use Rattle.module_table.specs.declared.components.Component.{Component}
 use Rattle.type_check.specs.Expressions.{found_of, along, as_node}
-use Rattle.module_table.specs.Components.{part_in}
 use Rattle.type_check.specs.Parts.{Known, component}
 
 whole_is : (known : Known) (e : Expr) (name : Name) → e.form ≡ form.Ref name [] → found_of known e ≡ as_node e.place (along [] known (component known name.id))
@@ -17,9 +13,3 @@ whole_is known e name is = grind (arith, common_steps, the_lemmas)
 
 pub whole_part : (known : Known) (e : Expr) (id : ℕ) → IsWhole e id → (found_of known e).part ≡ component known id
 whole_part known e id h = ap (λ j. j.part) (whole_is known e h.0 h.1) ∙ ap (component known) h.2
-
--- what is known of the name is the part that the expression is
-pub part_at_whole : {B : Type 0} (now : B → Component) (r : Option B) (part known : Option Part) → part ≡ known → option_map part_in (option_map now r) ≡ known
-    → IfSome r (λ c. part ≡ Some (part_in (now c)))
-part_at_whole now (Some c) part known is has = is ∙ sym has
-part_at_whole now None part known is has = tt {0}

@@ -1,5 +1,5 @@
 -- What the walk through an expression has in hand and adds, in the words of the definitions.
-use Rattle.std.specs.Prelude.{◌≡◌, ℕ, List, ◌∷◌, ◌++◌, flat_map, slice_set, Option, Some, None, option_map}
+use Rattle.std.specs.Prelude.{◌≡◌, ℕ, List, ◌∷◌, ◌++◌, flat_map, slice_set, Option, Some, None, option_map, IfSome}
 use Rattle.place_text.specs.declared.place.Place.{Place}
 use Rattle.fir_types.specs.declared.fir_type.FirType.{FirType}
 use Rattle.type_check.specs.declared.found.Findings.{Findings}
@@ -11,7 +11,7 @@ use Rattle.type_check.specs.Expressions.{Judgement, Operand, type_or_none}
 
 -- what a reference has come to, as a part
 abbrev pub part_at : Reached → Part
-part_at reached = part_of reached.typ.now reached.flow
+part_at reached = part_of reached.known.typ.now reached.flow
 
 abbrev pub part_reached : Option Reached → Option Part
 part_reached reached = option_map part_at reached
@@ -39,3 +39,7 @@ pub record AddsBelow (place : Place) (judgement : Judgement) (old new : Findings
 abbrev pub filled : List FirType → ℕ → Option Part → List FirType
 filled types at (Some part) = slice_set types at part.typ
 filled types at None = types
+
+-- this is the type of the part, where there is one
+abbrev pub Agrees : FirType → Option Part → Type 0
+Agrees typ part = IfSome part (λ part. part.typ ≡ typ)

@@ -36,7 +36,7 @@ fn find(alloc: Global, circuit: &Circuit) -> Result<Findings, AllocError>
     ensures types { IfOk result (λ found. found.types.items ≡ types_of circuit.now) }
     ensures faults { IfOk result (λ found. found.faults.items ≡ faults_of circuit.now) }
 {
-    let modules = Modules::new(alloc, circuit.modules.as_slice())?;
+    let modules = Modules::new(alloc, &circuit.names, circuit.modules.as_slice())?;
     let mut found = Findings {
         types: Vec::new(alloc),
         faults: Vec::new(alloc),

@@ -20,7 +20,7 @@ use place_text::Place;
 use std::alloc::{AllocError, Global};
 
 /// A clock of a register.
-pub fn expect_clock(alloc: Global, walk: &mut Walk, clock: &Expr) -> Result<(), AllocError>
+pub fn expect_clock(alloc: Global, walk: &mut Walk<'_>, clock: &Expr) -> Result<(), AllocError>
     ensures { OnOk result (Walks (expects (clock_faults clock.now.place) clock.now) walk.old walk.new) }
 {
     if let Some(part) = judge(alloc, &walk.known, &mut walk.found, clock)? {
@@ -35,7 +35,11 @@ pub fn expect_clock(alloc: Global, walk: &mut Walk, clock: &Expr) -> Result<(), 
 }
 
 /// A condition of an arm, or a reset.
-pub fn expect_condition(alloc: Global, walk: &mut Walk, condition: &Expr) -> Result<(), AllocError>
+pub fn expect_condition(
+    alloc: Global,
+    walk: &mut Walk<'_>,
+    condition: &Expr,
+) -> Result<(), AllocError>
     ensures { OnOk result (Walks (expects (condition_faults condition.now.place) condition.now) walk.old walk.new) }
 {
     if let Some(part) = judge(alloc, &walk.known, &mut walk.found, condition)? {
@@ -52,7 +56,7 @@ pub fn expect_condition(alloc: Global, walk: &mut Walk, condition: &Expr) -> Res
 /// The value of a register of this type after a reset.
 pub fn expect_init(
     alloc: Global,
-    walk: &mut Walk,
+    walk: &mut Walk<'_>,
     typ: &FirType,
     init: &Expr,
 ) -> Result<(), AllocError>
@@ -70,7 +74,7 @@ pub fn expect_init(
 }
 
 /// What is said to have no value yet: it may be anything.
-pub fn invalidate(alloc: Global, walk: &mut Walk, target: &Expr) -> Result<(), AllocError>
+pub fn invalidate(alloc: Global, walk: &mut Walk<'_>, target: &Expr) -> Result<(), AllocError>
     ensures { OnOk result (Walks (expects (λ part. []) target.now) walk.old walk.new) }
 {
     judge(alloc, &walk.known, &mut walk.found, target)?;
@@ -78,7 +82,12 @@ pub fn invalidate(alloc: Global, walk: &mut Walk, target: &Expr) -> Result<(), A
 }
 
 /// A connect: the left side may be driven, the right side read, and both have equivalent types.
-pub fn connect(alloc: Global, walk: &mut Walk, left: &Expr, right: &Expr) -> Result<(), AllocError>
+pub fn connect(
+    alloc: Global,
+    walk: &mut Walk<'_>,
+    left: &Expr,
+    right: &Expr,
+) -> Result<(), AllocError>
     ensures { OnOk result (Walks (connects left.now right.now) walk.old walk.new) }
 {
     let sink = judge(alloc, &walk.known, &mut walk.found, left)?;
@@ -118,7 +127,7 @@ fn push_source(
 
 /// Adds a fault where the types of both sides are not equivalent.
 fn push_unequal(
-    walk: &mut Walk,
+    walk: &mut Walk<'_>,
     left: &Expr,
     right: &Expr,
     sink: &Option<Part>,

@@ -25,7 +25,7 @@ use module_table::{Component, KnownType, Modules};
 use std::alloc::{AllocError, Global};
 
 /// A port, which is read or driven inside its module.
-pub fn declare_port(alloc: Global, walk: &mut Walk, port: &Port) -> Result<(), AllocError>
+pub fn declare_port(alloc: Global, walk: &mut Walk<'_>, port: &Port) -> Result<(), AllocError>
     ensures { OnOk result (Walks (port_walk port.now) walk.old walk.new) }
 {
     push_twice(alloc, &mut walk.found.faults, &port.typ)?;
@@ -35,7 +35,7 @@ pub fn declare_port(alloc: Global, walk: &mut Walk, port: &Port) -> Result<(), A
 /// A wire, which can be read and driven.
 pub fn declare_wire(
     alloc: Global,
-    walk: &mut Walk,
+    walk: &mut Walk<'_>,
     name: Name,
     typ: &FirType,
 ) -> Result<(), AllocError>
@@ -48,7 +48,7 @@ pub fn declare_wire(
 /// A register, with its clock.
 pub fn declare_register(
     alloc: Global,
-    walk: &mut Walk,
+    walk: &mut Walk<'_>,
     name: Name,
     typ: &FirType,
     clock: &Expr,
@@ -63,7 +63,7 @@ pub fn declare_register(
 /// A register with its clock, its reset, and its value after a reset.
 pub fn declare_reset_register(
     alloc: Global,
-    walk: &mut Walk,
+    walk: &mut Walk<'_>,
     name: Name,
     typ: &FirType,
     clock: &Expr,
@@ -80,19 +80,19 @@ pub fn declare_reset_register(
 }
 
 /// A memory, which is a bundle of its ports.
-pub fn declare_memory(alloc: Global, walk: &mut Walk, memory: &Memory) -> Result<(), AllocError>
+pub fn declare_memory(alloc: Global, walk: &mut Walk<'_>, memory: &Memory) -> Result<(), AllocError>
     ensures { OnOk result (Walks (and_then (notes (memory_faults memory.now)) (declares memory.now.name.id (Some (source_of (memory_of memory.now))))) walk.old walk.new) }
 {
     push_memory(alloc, &mut walk.found.faults, memory)?;
     let typ = memory_type(alloc, memory)?;
-    let known = KnownType::indexed(alloc, typ)?;
+    let known = KnownType::new(alloc, walk.names, typ)?;
     declare_source(walk, memory.name, known)
 }
 
 /// An instance of a module. It has no type where there is no module of the name.
 pub fn declare_instance(
     modules: &Modules<'_>,
-    walk: &mut Walk,
+    walk: &mut Walk<'_>,
     name: Name,
     target: Name,
 ) -> Result<(), AllocError>
@@ -108,7 +108,7 @@ pub fn declare_instance(
 /// A node, which has the type of its expression where that has one.
 pub fn declare_node(
     alloc: Global,
-    walk: &mut Walk,
+    walk: &mut Walk<'_>,
     name: Name,
     expr: &Expr,
 ) -> Result<(), AllocError>
@@ -117,10 +117,10 @@ pub fn declare_node(
     let Some(part) = judge(alloc, &walk.known, &mut walk.found, expr)? else {
         return Ok(());
     };
-    let known = known_type(&walk.known, expr, part)?;
+    let known = known_type(alloc, walk.names, &walk.known, expr, part)?;
     push_unless(
         &mut walk.found.faults,
-        known.passive,
+        known.known().index.passive,
         TypeFault::NotPassive(expr.place),
     )?;
     declare_source(walk, name, known)
@@ -129,19 +129,19 @@ pub fn declare_node(
 /// Declares a component of this type and flow.
 fn declare(
     alloc: Global,
-    walk: &mut Walk,
+    walk: &mut Walk<'_>,
     name: Name,
     typ: &FirType,
     flow: Flow,
 ) -> Result<(), AllocError>
     ensures { OnOk result (Walks (declares name.id (Some (part_of typ.now flow))) walk.old walk.new) }
 {
-    let known = KnownType::indexed(alloc, copy(typ)?)?;
+    let known = KnownType::new(alloc, walk.names, copy(typ)?)?;
     declare_part(walk, name, Component { known, flow })
 }
 
 /// Declares a component of this type that can only be read.
-fn declare_source(walk: &mut Walk, name: Name, known: KnownType) -> Result<(), AllocError>
+fn declare_source(walk: &mut Walk<'_>, name: Name, known: KnownType) -> Result<(), AllocError>
     ensures { OnOk result (Walks (declares name.id (Some (source_of known.typ))) walk.old walk.new) }
 {
     let flow = Flow::Source;
@@ -149,7 +149,7 @@ fn declare_source(walk: &mut Walk, name: Name, known: KnownType) -> Result<(), A
 }
 
 /// Declares a component, unless there is one of its name.
-fn declare_part(walk: &mut Walk, name: Name, new: Component) -> Result<(), AllocError>
+fn declare_part(walk: &mut Walk<'_>, name: Name, new: Component) -> Result<(), AllocError>
     ensures { OnOk result (Walks (declares name.id (Some (part_in new))) walk.old walk.new) }
 {
     walk.known.note(name.id, new)

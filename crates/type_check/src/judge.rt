@@ -178,14 +178,13 @@ fn component(known: &Components, name: u32) -> Option<Reached<'_>>
     }
 }
 
-/// A component, with its index.
+/// A component, with what is known of its type.
 fn reached_at(known: &Component) -> Reached<'_>
     ensures { part_at result ≡ part_in known.now }
 {
     Reached {
-        typ: &known.known.typ,
+        known: known.known.known(),
         flow: known.flow,
-        index: known.known.index.as_ref(),
     }
 }
 
@@ -197,7 +196,7 @@ fn copied(alloc: Global, reached: Option<Reached<'_>>) -> Result<Option<Part>, A
         return Ok(None);
     };
     Ok(Some(Part {
-        typ: copy(reached.typ)?,
+        typ: copy(reached.known.typ)?,
         flow: reached.flow,
     }))
 }

@@ -1,19 +1,12 @@
 //! What a reference has come to.
 
-ghost use Rattle.std.specs.Option.{ForSome, option_copied};
-ghost use Rattle.field_index.specs.Indexes.{IsIndexOfType};
-
-use bit_words::Shared;
 use circuit_parts::Flow;
-use field_index::FieldIndex;
-use fir_types::FirType;
+use type_index::Known;
 
 /// What a reference has come to.
 #[derive(Clone, Copy)]
 pub struct Reached<'a> {
-    pub typ: &'a FirType,
+    /// Its type, with what is known of it.
+    pub known: Known<'a>,
     pub flow: Flow,
-    /// The index of its fields, which only a whole component can have.
-    pub index: Option<&'a Shared<FieldIndex>>,
-    ghost indexed: { ForSome (option_copied index) (IsIndexOfType typ.now) },
 }

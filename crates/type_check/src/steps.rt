@@ -1,8 +1,9 @@
 //! The steps of a reference, each from a part that has a type (FIRRTL specification 3.0, "References" and "Flows").
 
-ghost use Rattle.std.specs.Prelude.{◌≡◌, ◌++◌, ◌∷◌, [], None, IfOk, OnOk};
+ghost use Rattle.std.specs.Prelude.{◌≡◌, ◌++◌, ◌∷◌, [], None, option_map, IfOk, OnOk};
 ghost use Rattle.fir_types.specs.declared.fir_type.Shape.TheViews.{out-Shape};
-ghost use Rattle.circuit_parts.specs.Parts.{flow_through};
+ghost use Rattle.circuit_parts.specs.Parts.{flow_through, part_of};
+ghost use Rattle.type_index.specs.Knowing.{element_in};
 ghost use Rattle.type_check.specs.Expressions.{field_step, element_step, index_step};
 ghost use Rattle.type_check.specs.Judging.{part_at, part_reached};
 
@@ -11,7 +12,6 @@ use crate::reached::Reached;
 use circuit_parts::kinds::is_unsigned;
 use circuit_parts::steps::through;
 use circuit_parts::{Flow, Part};
-use field_index::field_by;
 use fir_types::{Name, Shape};
 use place_text::Place;
 use std::alloc::AllocError;
@@ -22,17 +22,16 @@ pub fn to_field<'a>(
     base: Reached<'a>,
     name: Name,
 ) -> Result<Option<Reached<'a>>, AllocError>
-    ensures part { IfOk result (λ reached. part_reached reached ≡ (field_step name (part_at base.entry) (out-Shape base.entry.typ.now.shape)).part) }
-    ensures faults { OnOk result (faults.new.items ≡ faults.old.items ++ (field_step name (part_at base.entry) (out-Shape base.entry.typ.now.shape)).faults) }
+    ensures part { IfOk result (λ reached. part_reached reached ≡ (field_step name (part_at base.entry) (out-Shape base.entry.known.typ.now.shape)).part) }
+    ensures faults { OnOk result (faults.new.items ≡ faults.old.items ++ (field_step name (part_at base.entry) (out-Shape base.entry.known.typ.now.shape)).faults) }
 {
-    let Shape::Bundle(fields) = &base.typ.shape else {
+    let Shape::Bundle(_) = &base.known.typ.shape else {
         return fail(faults, TypeFault::NotBundle(name.place));
     };
-    match field_by(base.index, fields.as_slice(), name.id) {
-        Some(field) => Ok(Some(Reached {
-            typ: &field.typ,
-            flow: through(field.flip, base.flow),
-            index: None,
+    match base.known.field(name.id) {
+        Some(found) => Ok(Some(Reached {
+            known: found.known(),
+            flow: through(found.field.flip, base.flow),
         })),
         None => fail(faults, TypeFault::FieldUnknown(name.place)),
     }
@@ -46,18 +45,14 @@ pub fn to_element<'a>(
     at: Place,
     number: u128,
 ) -> Result<Option<Reached<'a>>, AllocError>
-    ensures part { IfOk result (λ reached. part_reached reached ≡ (element_step bracket at number (part_at base.entry) (out-Shape base.entry.typ.now.shape)).part) }
-    ensures faults { OnOk result (faults.new.items ≡ faults.old.items ++ (element_step bracket at number (part_at base.entry) (out-Shape base.entry.typ.now.shape)).faults) }
+    ensures part { IfOk result (λ reached. part_reached reached ≡ (element_step bracket at number (part_at base.entry) (out-Shape base.entry.known.typ.now.shape)).part) }
+    ensures faults { OnOk result (faults.new.items ≡ faults.old.items ++ (element_step bracket at number (part_at base.entry) (out-Shape base.entry.known.typ.now.shape)).faults) }
 {
-    let Shape::Vector(element, length) = &base.typ.shape else {
+    let Shape::Vector(_, length) = &base.known.typ.shape else {
         return fail(faults, TypeFault::NotVector(bracket));
     };
     if number < *length {
-        Ok(Some(Reached {
-            typ: element.get(),
-            flow: base.flow,
-            index: None,
-        }))
+        Ok(element_of(base))
     } else {
         fail(faults, TypeFault::IndexRange(at))
     }
@@ -71,20 +66,29 @@ pub fn to_indexed<'a>(
     at: Place,
     index: &Part,
 ) -> Result<Option<Reached<'a>>, AllocError>
-    ensures part { IfOk result (λ reached. part_reached reached ≡ (index_step bracket at index.now (part_at base.entry) (out-Shape base.entry.typ.now.shape)).part) }
-    ensures faults { OnOk result (faults.new.items ≡ faults.old.items ++ (index_step bracket at index.now (part_at base.entry) (out-Shape base.entry.typ.now.shape)).faults) }
+    ensures part { IfOk result (λ reached. part_reached reached ≡ (index_step bracket at index.now (part_at base.entry) (out-Shape base.entry.known.typ.now.shape)).part) }
+    ensures faults { OnOk result (faults.new.items ≡ faults.old.items ++ (index_step bracket at index.now (part_at base.entry) (out-Shape base.entry.known.typ.now.shape)).faults) }
 {
-    let Shape::Vector(element, _) = &base.typ.shape else {
+    let Shape::Vector(_, _) = &base.known.typ.shape else {
         return fail(faults, TypeFault::NotVector(bracket));
     };
     if is_unsigned(&index.typ) {
-        Ok(Some(Reached {
-            typ: element.get(),
-            flow: base.flow,
-            index: None,
-        }))
+        Ok(element_of(base))
     } else {
         fail(faults, TypeFault::IndexKind(at))
+    }
+}
+
+/// The element, where this is a vector.
+fn element_of(base: Reached<'_>) -> Option<Reached<'_>>
+    ensures { part_reached result ≡ option_map (λ element. part_of element base.entry.flow) (element_in (out-Shape base.entry.known.typ.now.shape)) }
+{
+    match base.known.element() {
+        Some(element) => Some(Reached {
+            known: element,
+            flow: base.flow,
+        }),
+        None => None,
     }
 }
 

@@ -10,14 +10,16 @@ use crate::declarations::{
     declare_reset_register, declare_wire,
 };
 use crate::found::Findings;
-use fir_tree::{Arm, Module, Stmt};
+use fir_tree::{Arm, Module, Names, Stmt};
 use fir_types::Port;
 use module_table::{Components, Modules};
 use std::alloc::{AllocError, Global};
 
 /// What a walk through a module has come to.
 #[derive(Drop)]
-pub struct Walk {
+pub struct Walk<'a> {
+    /// The texts of the circuit's names.
+    pub names: &'a Names,
     /// The components that are declared so far and have types.
     pub known: Components,
     pub found: Findings,
@@ -34,6 +36,7 @@ pub fn walk_module(
     ensures faults { OnOk result (found.new.faults.items ≡ found.old.faults.items ++ (module_walk modules.now.all.now holder.now []).faults) }
 {
     let mut walk = Walk {
+        names: modules.names,
         known: Components::new(alloc),
         found: Findings {
             types: Vec::new(alloc),
@@ -46,7 +49,7 @@ pub fn walk_module(
     found.faults.append(&mut walk.found.faults)
 }
 
-fn walk_ports(alloc: Global, walk: &mut Walk, ports: &[Port]) -> Result<(), AllocError>
+fn walk_ports(alloc: Global, walk: &mut Walk<'_>, ports: &[Port]) -> Result<(), AllocError>
     ensures { OnOk result (Walks (in_turn (map port_walk ports.now)) walk.old walk.new) }
 {
     for port in ports {
@@ -59,7 +62,7 @@ fn walk_ports(alloc: Global, walk: &mut Walk, ports: &[Port]) -> Result<(), Allo
 fn walk_statements(
     alloc: Global,
     modules: &Modules<'_>,
-    walk: &mut Walk,
+    walk: &mut Walk<'_>,
     statements: &[Stmt],
 ) -> Result<(), AllocError>
     ensures { OnOk result (Walks (in_turn (map (stmt_walk modules.now.all.now) statements.now)) walk.old walk.new) }
@@ -74,7 +77,7 @@ fn walk_statements(
 fn walk_statement(
     alloc: Global,
     modules: &Modules<'_>,
-    walk: &mut Walk,
+    walk: &mut Walk<'_>,
     statement: &Stmt,
 ) -> Result<(), AllocError>
     ensures { OnOk result (Walks (stmt_walk modules.now.all.now statement.now) walk.old walk.new) }
@@ -102,7 +105,7 @@ fn walk_statement(
 fn walk_arms(
     alloc: Global,
     modules: &Modules<'_>,
-    walk: &mut Walk,
+    walk: &mut Walk<'_>,
     arms: &[Arm],
 ) -> Result<(), AllocError>
     ensures { OnOk result (Walks (in_turn (map (arm_walk modules.now.all.now) arms.now)) walk.old walk.new) }
@@ -117,7 +120,7 @@ fn walk_arms(
 fn walk_arm(
     alloc: Global,
     modules: &Modules<'_>,
-    walk: &mut Walk,
+    walk: &mut Walk<'_>,
     arm: &Arm,
 ) -> Result<(), AllocError>
     ensures { OnOk result (Walks (arm_walk modules.now.all.now arm.now) walk.old walk.new) }

@@ -1,33 +1,36 @@
-//! What is known of expressions that are components as a whole, so that a type isn't walked once more.
+//! What is known of expressions that are components or parts of them, so that a type isn't walked once more.
 
-ghost use Rattle.std.specs.Prelude.{◌≡◌, Some, IfOk, IfSome, OnOk};
-ghost use Rattle.type_check.specs.Expressions.{found_of};
-ghost use Rattle.module_table.specs.Components.{part_in};
+ghost use Rattle.std.specs.Prelude.{◌≡◌, map, Option, Some, IfOk, IfSome, OnOk};
+ghost use Rattle.fir_types.specs.declared.fir_type.FirType.{FirType as AType};
+ghost use Rattle.type_check.specs.Expressions.{found_of, suffix_step, along};
+ghost use Rattle.type_check.specs.Judging.{Agrees};
+ghost use Rattle.type_check.specs.Parts.{Known as TheKnown};
+ghost use Rattle.circuit_parts.specs.declared.part.Part.{Part as APart};
 ghost use Rattle.type_check.specs.Texts.{is_passive, are_equivalent};
 
 use crate::texts::{are_equivalent, is_passive};
 use circuit_parts::Part;
-use fir_tree::Expr;
+use fir_tree::{Expr, Form, Names, Suffix};
 use fir_types::Shape;
-use module_table::{Component, Components, KnownType, whole_name};
-use std::alloc::AllocError;
+use module_table::{Components, KnownType, whole_name};
+use std::alloc::{AllocError, Global};
+use type_index::Known;
 
-/// The component that an expression is, if it is one.
-fn component_at<'a>(known: &'a Components, expr: &Expr) -> Option<&'a Component>
-    ensures { IfSome result (λ component. (found_of known.now expr.now).part ≡ Some (part_in component.now)) }
-{
-    let name = whole_name(expr)?;
-    known.get(name)
-}
-
-/// The type of an expression that is this part, shared where it is that of a component.
-pub fn known_type(known: &Components, expr: &Expr, part: Part) -> Result<KnownType, AllocError>
+/// The type of an expression that is this part, with what is known of it. It is shared where it is that of a component or of a part
+/// of one.
+pub fn known_type(
+    alloc: Global,
+    names: &Names,
+    known: &Components,
+    expr: &Expr,
+    part: Part,
+) -> Result<KnownType, AllocError>
     requires { (found_of known.now expr.now).part ≡ Some part }
     ensures { IfOk result (λ same. same.typ ≡ part.typ) }
 {
-    match component_at(known, expr) {
-        Some(component) => component.known.share(),
-        None => Ok(KnownType::with_index(part.typ, None)),
+    match part_at(known, expr) {
+        Some(there) => KnownType::of(there),
+        None => KnownType::new(alloc, names, part.typ),
     }
 }
 
@@ -36,9 +39,45 @@ pub fn is_passive_at(known: &Components, expr: &Expr, part: &Part) -> bool
     requires { (found_of known.now expr.now).part ≡ Some part.now }
     ensures { result ≡ is_passive part.now.typ }
 {
-    match component_at(known, expr) {
-        Some(component) => component.known.passive,
+    match part_at(known, expr) {
+        Some(there) => there.index.passive,
         None => is_passive(&part.typ),
+    }
+}
+
+/// What the reference that an expression is comes to by its steps alone, or the one that a choice chooses first.
+fn part_at<'a>(known: &'a Components, expr: &Expr) -> Option<Known<'a>>
+    ensures { IfSome result (λ there. Agrees there.typ.now (found_of known.now expr.now).part) }
+{
+    let first = first_chosen(expr);
+    let Form::Ref(name, suffixes) = &first.form else {
+        return None;
+    };
+    let component = known.get(name.id)?;
+    part_along(component.known.known(), suffixes.as_slice())
+}
+
+/// The part behind some steps.
+fn part_along<'a>(base: Known<'a>, suffixes: &[Suffix]) -> Option<Known<'a>>
+    ensures { IfSome result (λ there. (known : TheKnown) (part : Option APart) → Agrees base.entry.typ.now part → Agrees there.typ.now (along (map suffix_step suffixes.now) known part).part) }
+{
+    let mut reached = base;
+    for suffix in suffixes {
+        reached = part_behind(reached, suffix)?;
+    }
+    Some(reached)
+}
+
+/// The part behind a step.
+fn part_behind<'a>(base: Known<'a>, suffix: &Suffix) -> Option<Known<'a>>
+    ensures { IfSome result (λ there. (known : TheKnown) (part : Option APart) → Agrees base.entry.typ.now part → Agrees there.typ.now (suffix_step suffix.now known part).part) }
+{
+    match suffix {
+        Suffix::Field(name) => {
+            let found = base.field(name.id)?;
+            Some(found.known())
+        }
+        Suffix::At(_, _, _) | Suffix::Index(_, _) => base.element(),
     }
 }
 
@@ -62,4 +101,21 @@ pub fn are_equivalent_at(
         }
     }
     Ok(are_equivalent(&left.typ, &right.typ))
+}
+
+/// Of a choice the first of what it chooses from, which gives the choice its type; of choices in one another the innermost. Of
+/// another expression itself.
+fn first_chosen(expr: &Expr) -> &Expr
+    ensures { (known : TheKnown) (typ : AType) → Agrees typ (found_of known result.now).part → Agrees typ (found_of known expr.now).part }
+{
+    let mut inside = expr;
+    loop {
+        let Form::Mux(operands) = &inside.form else {
+            return inside;
+        };
+        let [_, first, _] = operands.as_slice() else {
+            return inside;
+        };
+        inside = first;
+    }
 }

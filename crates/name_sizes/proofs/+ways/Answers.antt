@@ -1,4 +1,4 @@
-use Rattle.std.proofs.Common.{◌∙◌, sym, ap}
+use Rattle.std.proofs.Common.{◌∙◌, sym, ap, refl}
 use Rattle.std.specs.Prelude.{length}
 use Rattle.fir_types.specs.Leaves.{count}
 use Rattle.leaf_names.specs.LeafNames.{text_of}
@@ -6,7 +6,7 @@ use Rattle.name_sizes.specs.Texts.{way_bytes}
 use Rattle.fir_types.proofs.Layers.{count-bundle}
 use Rattle.fir_types.proofs.Runs.{element_falls}
 use Rattle.name_sizes.specs.Caps.{cap}
-use Rattle.name_sizes.proofs.Wording.{ways-field, ways-bundle, field_capped, leaves_on, bytes_on, bytes_around}
+use Rattle.name_sizes.proofs.Wording.{ways-bundle, leaves_on, bytes_on, bytes_around}
 use Rattle.name_sizes.proofs.+ways.Goals as goal
 
 pub ways_of-loop-inside-preserved : goal.ways_of-loop-inside-preserved
@@ -29,9 +29,4 @@ ways_of-returns-in-Bundle-clause-bytes t c =
     c.loop-inside.invariant.bytes leaves bytes c.around.ensures.bytes
 
 pub ways_of_field-returns-clause-bytes : goal.ways_of_field-returns-clause-bytes
-ways_of_field-returns-clause-bytes t c =
-    let field = c.args.field.now in
-    field_capped (count field.typ) (way_bytes c.args.names.now field.typ) (length (text_of c.args.names.now field.name.id))
-    c.ways_of-leaves.result.leaves c.saturating_add.result c.saturating_mul.result c.ways_of-leaves.result.bytes c.saturating_add-2.result
-    c.ways_of-leaves.ensures.leaves (rw c.name_length.ensures at c.saturating_add.ensures) c.saturating_mul.ensures c.ways_of-leaves.ensures.bytes c.saturating_add-2.ensures
-    ∙ sym (ap cap (ways-field c.args.names.now field))
+ways_of_field-returns-clause-bytes t c = c.named.ensures.bytes c.args.field.now refl c.ways_of.ensures.leaves c.ways_of.ensures.bytes

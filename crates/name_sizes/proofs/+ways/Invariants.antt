@@ -14,6 +14,6 @@ invariant-ways_of-loop-inside l = record {
 
 abbrev pub invariant-ways_of_fields-loop-field : goal.invariant-ways_of_fields-loop-field
 invariant-ways_of_fields-loop-field l = record {
-  leaves : l.leaves ≡ cap (sum (map field_count (take l.field-index l.fields)));
-  bytes : l.bytes ≡ cap (sum (map (field_bytes l.names) (take l.field-index l.fields)));
+  leaves : l.all.leaves ≡ cap (sum (map field_count (take l.field-index l.fields)));
+  bytes : l.all.bytes ≡ cap (sum (map (field_bytes l.names) (take l.field-index l.fields)));
 }

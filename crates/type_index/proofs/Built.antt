@@ -1,0 +1,211 @@
+-- Trees that are made are right.
+use Rattle.std.proofs.Common.{◌≡◌, ◌==◌, ℕ, zero, suc, ◌<◌, Bool, true, false, not, ◌||◌, ◌&&◌, List, [], ◌∷◌, ◌++◌, ◌+◌, map, sum, length, take, get_or, refl, sym, ap, ap₂, ◌∙◌, subst, arith, add-one, ◌⊎◌, inl, inr}
+use Rattle.std.specs.Prelude.{Option, Some, None}
+use Rattle.std.specs.List.{list_any}
+use Rattle.std.proofs.lemmas.Grind.{common_steps}
+use Rattle.std.proofs.lemmas.List.{take_more}
+use Rattle.std.proofs.lemmas.List.Folds.{list_any-append}
+use Rattle.place_text.specs.declared.place.Place.{Place}
+use Rattle.fir_types.specs.declared.fir_type.FirType.{FirType}
+use Rattle.fir_types.specs.declared.fir_type.FirType.{the_lemmas as type_lemmas}
+use Rattle.fir_types.specs.declared.fir_type.Shape.{Shape}
+use Rattle.fir_types.specs.declared.fir_type.Shape.TheVariants as shape
+use Rattle.fir_types.specs.declared.fir_type.Shape.TheVariants.{outs-Unsigned, outs-Signed, outs-Clock, outs-Reset}
+use Rattle.fir_types.specs.declared.fir_type.Shape.TheViews.{out-Shape}
+use Rattle.fir_types.specs.declared.fir_type.Field.{Field}
+use Rattle.fir_types.specs.Leaves.{count, leaves, field_count}
+use Rattle.fir_types.specs.Passivity.{has_flip, field_has_flip}
+use Rattle.fir_types.specs.Runs.{within}
+use Rattle.fir_types.proofs.Layers.{count-bundle, count-field, flip-bundle}
+use Rattle.fir_types.proofs.Masks.{flip-vector}
+use Rattle.fir_types.proofs.Runs.{within_last}
+use Rattle.leaf_names.specs.LeafNames.{Texts}
+use Rattle.name_sizes.specs.Caps.{cap}
+use Rattle.name_sizes.specs.Texts.{way_bytes, field_bytes}
+use Rattle.name_sizes.proofs.Capping.{cap_plus}
+use Rattle.name_sizes.proofs.Wording.{ways-bundle}
+use Rattle.field_index.specs.declared.index.FieldIndex.{FieldIndex}
+use Rattle.type_index.specs.declared.tree.TypeIndex.{TypeIndex, the_lemmas}
+use Rattle.type_index.specs.declared.tree.Inside.TheVariants as inside
+use Rattle.type_index.specs.declared.tree.Inside.TheViews.{out-Inside}
+use Rattle.type_index.specs.declared.gathered.Gathered.{Gathered}
+use Rattle.type_index.specs.Knowing.{Matches, FieldsMatch, ground, vector, bundle, no_fields, one_field, is_ground, IsKnown, IsAmong, IsRight}
+use Rattle.type_index.specs.Gathering.{Gathers}
+use Rattle.type_index.proofs.Parts.{same_fields}
+
+-- one field more
+
+fields_push : {P : FirType → TypeIndex → Type 0} (fs : List Field) (xs : List TypeIndex) (f : Field) (x : TypeIndex) → FieldsMatch P fs xs → Matches P f.typ x
+    → FieldsMatch P (fs ++ f ∷ []) (xs ++ x ∷ [])
+fields_push [] [] f x no_fields m = one_field m no_fields
+fields_push [] (y ∷ xs) f x r m = elim r [ ]
+fields_push (g ∷ fs) [] f x r m = elim r [ ]
+fields_push (g ∷ fs) (y ∷ xs) f x (one_field n r) m = one_field n (fields_push fs xs f x r m)
+
+sum_push : (g : Field → ℕ) (fs : List Field) (f : Field) → sum (map g (fs ++ f ∷ [])) ≡ sum (map g fs) + g f
+sum_push g fs f = grind (arith, common_steps)
+
+cap_push : (g : Field → ℕ) (fs : List Field) (f : Field) (before own after : ℕ) → before ≡ cap (sum (map g fs)) → own ≡ cap (g f) → after ≡ cap (before + own)
+    → after ≡ cap (sum (map g (fs ++ f ∷ [])))
+cap_push g fs f before own after b o e = e ∙ ap₂ (λ x y. cap (x + y)) b o ∙ cap_plus (sum (map g fs)) (g f) ∙ ap cap (sym (sum_push g fs f))
+
+flip-field : (f : Field) → field_has_flip f ≡ (f.flip || has_flip f.typ)
+flip-field f = grind (arith, common_steps, type_lemmas)
+
+none_of : (a b c : Bool) → (not a && not b && not c) ≡ not (a || ((c || b) || false))
+none_of true true true = refl
+none_of true true false = refl
+none_of true false true = refl
+none_of true false false = refl
+none_of false true true = refl
+none_of false true false = refl
+none_of false false true = refl
+none_of false false false = refl
+
+passive_push : (fs : List Field) (f : Field) (before own after : Bool) → before ≡ not (list_any field_has_flip fs) → own ≡ not (has_flip f.typ)
+    → after ≡ (before && own && not f.flip) → after ≡ not (list_any field_has_flip (fs ++ f ∷ []))
+passive_push fs f before own after b o e =
+    e ∙ ap₂ (λ x y. x && y && not f.flip) b o ∙ none_of (list_any field_has_flip fs) (has_flip f.typ) f.flip
+    ∙ ap (λ x. not (list_any field_has_flip fs || (x || false))) (sym (flip-field f)) ∙ ap not (sym (list_any-append field_has_flip fs (f ∷ [])))
+
+right : {P : FirType → TypeIndex → Type 0} {typ : FirType} {index : TypeIndex} → Matches P typ index → P typ index
+right (ground g p) = p
+right (vector e n i s q p m) = p
+right (bundle fs a xs s q p m) = p
+
+pub gathers_more : (texts : Texts) (fs : List Field) (f : Field) (part : TypeIndex) (before after : Gathered) (named_leaves named_bytes : ℕ)
+    → named_leaves ≡ part.leaves
+    → ((field : Field) → field.name.id ≡ f.name.id → part.leaves ≡ cap (count field.typ) → part.bytes ≡ cap (way_bytes texts field.typ) → named_bytes ≡ cap (field_bytes texts field))
+    → after.parts ≡ before.parts ++ part ∷ [] → after.ways.leaves ≡ cap (before.ways.leaves + named_leaves) → after.ways.bytes ≡ cap (before.ways.bytes + named_bytes)
+    → after.passive ≡ (before.passive && part.passive && not f.flip)
+    → Gathers texts fs before → Matches (IsRight texts) f.typ part → Gathers texts (fs ++ f ∷ []) after
+gathers_more texts fs f part before after named_leaves named_bytes nl nb p l b v g m =
+    let k : IsKnown f.typ part = (right m).0 in
+    let w : part.bytes ≡ cap (way_bytes texts f.typ) = (right m).1 in
+    record {
+      parts = subst (FieldsMatch (IsRight texts) (fs ++ f ∷ [])) (sym p) (fields_push fs before.parts f part g.parts m);
+      leaves = cap_push field_count fs f before.ways.leaves named_leaves after.ways.leaves g.leaves (nl ∙ k.leaves ∙ ap cap (sym (count-field f))) l;
+      bytes = cap_push (field_bytes texts) fs f before.ways.bytes named_bytes after.ways.bytes g.bytes (nb f refl k.leaves w) b;
+      passive = passive_push fs f before.passive part.passive after.passive g.passive k.passive v;
+    }
+
+pub gathers_taken : (texts : Texts) (fs : List Field) (i : ℕ) (f : Field) (gathered : Gathered) → i < length fs → f ≡ get_or fs i f
+    → Gathers texts (take i fs ++ f ∷ []) gathered → Gathers texts (take (i + 1) fs) gathered
+gathers_taken texts fs i f gathered lt is g =
+    subst (λ l. Gathers texts l gathered) (ap (λ x. take i fs ++ x ∷ []) is ∙ sym (take_more fs i f lt)) g
+
+-- bundles
+
+same_among : (a b : Option FieldIndex) (xs ys : List TypeIndex) → inside.Bundle a xs ≡ inside.Bundle b ys → a ≡ b
+same_among a b xs ys h =
+    let out : out-Inside (inside.Bundle a xs) ≡ out-Inside (inside.Bundle b ys) = ap out-Inside h in
+    grind (arith, common_steps, the_lemmas)
+
+pub bundle_matches : (texts : Texts) (typ : FirType) (fs : List Field) (gathered : Gathered) (among : Option FieldIndex) (index : TypeIndex) → typ.shape ≡ shape.Bundle fs
+    → Gathers texts fs gathered → IsAmong among fs → index.leaves ≡ gathered.ways.leaves → index.bytes ≡ gathered.ways.bytes → index.passive ≡ gathered.passive
+    → index.inside ≡ inside.Bundle among gathered.parts → Matches (IsRight texts) typ index
+bundle_matches texts typ fs gathered among index is g a l b v q =
+    bundle fs among gathered.parts is q (record {
+      leaves = l ∙ g.leaves ∙ ap cap (sym (count-bundle typ fs is));
+      passive = v ∙ g.passive ∙ ap not (sym (flip-bundle typ fs is));
+      among = λ fields other inners h k. subst (λ x. IsAmong x fields) (same_among among other gathered.parts inners (sym q ∙ k))
+          (subst (IsAmong among) (same_fields fs fields (sym is ∙ h)) a);
+    }, b ∙ g.bytes ∙ ap cap (sym (ways-bundle texts typ fs is))) g.parts
+
+-- vectors
+
+pub vector_matches : (texts : Texts) (typ element : FirType) (n : ℕ) (inner index : TypeIndex) → typ.shape ≡ shape.Vector element n → Matches (IsRight texts) element inner
+    → (inner.leaves ≡ cap (count element) → index.leaves ≡ cap (count typ))
+    → (inner.leaves ≡ cap (count element) → inner.bytes ≡ cap (way_bytes texts element) → index.bytes ≡ cap (way_bytes texts typ))
+    → index.passive ≡ inner.passive → index.inside ≡ inside.Vector inner → Matches (IsRight texts) typ index
+vector_matches texts typ element n inner index is m l b v q =
+    let k : IsKnown element inner = (right m).0 in
+    let w : inner.bytes ≡ cap (way_bytes texts element) = (right m).1 in
+    vector element n inner is q (record {
+      leaves = l k.leaves;
+      passive = v ∙ k.passive ∙ ap not (sym (flip-vector typ element n is));
+      among = λ fields among inners h e. absurd cc;
+    }, b k.leaves w) m
+
+abbrev around : Place × ℕ → FirType → FirType
+around length typ = record { place = length.0; shape = shape.Vector typ length.1 }
+
+abbrev pub Around : List (Place × ℕ) → List (Place × ℕ) → TypeIndex → TypeIndex → Type 0
+Around lengths left innermost index =
+    (texts : Texts) (typ : FirType) → Matches (IsRight texts) typ innermost
+    → (whole : FirType) × (within left whole ≡ within lengths typ) × Matches (IsRight texts) whole index
+
+pub around_begin : (lengths : List (Place × ℕ)) (innermost : TypeIndex) → Around lengths lengths innermost innermost
+around_begin lengths innermost texts typ m = (typ, refl, m)
+
+pub around_more : (lengths left after : List (Place × ℕ)) (last : Place × ℕ) (innermost inner index : TypeIndex) → left ≡ after ++ last ∷ []
+    → ((texts : Texts) (typ element : FirType) → typ.shape ≡ shape.Vector element last.1 → Matches (IsRight texts) element inner → Matches (IsRight texts) typ index)
+    → Around lengths left innermost inner → Around lengths after innermost index
+around_more lengths left after last innermost inner index is step h texts typ m =
+    let r = h texts typ m in
+    (around last r.0, sym (within_last after last r.0) ∙ ap (λ l. within l r.0) (sym is) ∙ r.1, step texts (around last r.0) r.0 refl r.2)
+
+pub around_end : (lengths left : List (Place × ℕ)) (innermost index : TypeIndex) → left ≡ [] → Around lengths left innermost index
+    → (texts : Texts) (typ : FirType) → Matches (IsRight texts) typ innermost → Matches (IsRight texts) (within lengths typ) index
+around_end lengths left innermost index is h texts typ m =
+    let r = h texts typ m in
+    subst (λ t. Matches (IsRight texts) t index) (sym (ap (λ l. within l r.0) is) ∙ r.1) r.2
+
+-- types without parts
+
+ground_matches : (texts : Texts) (typ : FirType) (index : TypeIndex) → is_ground (out-Shape typ.shape) ≡ true → ((fields : List Field) → typ.shape ≡ shape.Bundle fields → ⊥)
+    → count typ ≡ 1 → way_bytes texts typ ≡ 0 → has_flip typ ≡ false → index.leaves ≡ 1 → index.bytes ≡ 0 → index.passive ≡ true → Matches (IsRight texts) typ index
+ground_matches texts typ index g none c w f l b v =
+    ground g (record {
+      leaves = l ∙ ap cap (sym c);
+      passive = v ∙ ap not (sym f);
+      among = λ fields among inners h e. absurd (none fields h);
+    }, b ∙ ap cap (sym w))
+
+pub unsigned_matches : (texts : Texts) (typ : FirType) (w : Option ℕ) (index : TypeIndex) → typ.shape ≡ shape.Unsigned w
+    → index.leaves ≡ 1 → index.bytes ≡ 0 → index.passive ≡ true → Matches (IsRight texts) typ index
+unsigned_matches texts typ w index is l b v =
+    ground_matches texts typ index (ap is_ground (ap out-Shape is ∙ outs-Unsigned w)) (λ fields h. absurd cc) (grind (arith, common_steps, type_lemmas))
+    (grind (arith, common_steps, type_lemmas)) (grind (arith, common_steps, type_lemmas)) l b v
+
+pub signed_matches : (texts : Texts) (typ : FirType) (w : Option ℕ) (index : TypeIndex) → typ.shape ≡ shape.Signed w
+    → index.leaves ≡ 1 → index.bytes ≡ 0 → index.passive ≡ true → Matches (IsRight texts) typ index
+signed_matches texts typ w index is l b v =
+    ground_matches texts typ index (ap is_ground (ap out-Shape is ∙ outs-Signed w)) (λ fields h. absurd cc) (grind (arith, common_steps, type_lemmas))
+    (grind (arith, common_steps, type_lemmas)) (grind (arith, common_steps, type_lemmas)) l b v
+
+pub clock_matches : (texts : Texts) (typ : FirType) (index : TypeIndex) → typ.shape ≡ shape.Clock
+    → index.leaves ≡ 1 → index.bytes ≡ 0 → index.passive ≡ true → Matches (IsRight texts) typ index
+clock_matches texts typ index is l b v =
+    ground_matches texts typ index (ap is_ground (ap out-Shape is ∙ outs-Clock)) (λ fields h. absurd cc) (grind (arith, common_steps, type_lemmas))
+    (grind (arith, common_steps, type_lemmas)) (grind (arith, common_steps, type_lemmas)) l b v
+
+pub reset_matches : (texts : Texts) (typ : FirType) (index : TypeIndex) → typ.shape ≡ shape.Reset
+    → index.leaves ≡ 1 → index.bytes ≡ 0 → index.passive ≡ true → Matches (IsRight texts) typ index
+reset_matches texts typ index is l b v =
+    ground_matches texts typ index (ap is_ground (ap out-Shape is ∙ outs-Reset)) (λ fields h. absurd cc) (grind (arith, common_steps, type_lemmas))
+    (grind (arith, common_steps, type_lemmas)) (grind (arith, common_steps, type_lemmas)) l b v
+
+pub all_ground : (texts : Texts) (s : Shape) (typ : FirType) (index : TypeIndex)
+    → ((w : Option ℕ) × (s ≡ shape.Unsigned w)) ⊎ ((w : Option ℕ) × (s ≡ shape.Signed w)) ⊎ (s ≡ shape.Clock) ⊎ (s ≡ shape.Reset) → typ.shape ≡ s
+    → index.leaves ≡ 1 → index.bytes ≡ 0 → index.passive ≡ true → Matches (IsRight texts) typ index
+all_ground texts s typ index (inl (w, e)) is = unsigned_matches texts typ w index (is ∙ e)
+all_ground texts s typ index (inr (inl (w, e))) is = signed_matches texts typ w index (is ∙ e)
+all_ground texts s typ index (inr (inr (inl e))) is = clock_matches texts typ index (is ∙ e)
+all_ground texts s typ index (inr (inr (inr e))) is = reset_matches texts typ index (is ∙ e)
+
+-- what is right is known, and has its ways
+
+mutual
+  pub weaker : {P Q : FirType → TypeIndex → Type 0} → ((t : FirType) (x : TypeIndex) → P t x → Q t x) → {typ : FirType} {index : TypeIndex} → Matches P typ index → Matches Q typ index
+  weaker k {typ} {index} (ground g p) = ground g (k typ index p)
+  weaker k {typ} {index} (vector e n i s q p m) = vector e n i s q (k typ index p) (weaker k m)
+  weaker k {typ} {index} (bundle fs a xs s q p m) = bundle fs a xs s q (k typ index p) (weaker_fields k m)
+
+  weaker_fields : {P Q : FirType → TypeIndex → Type 0} → ((t : FirType) (x : TypeIndex) → P t x → Q t x) → {fs : List Field} {xs : List TypeIndex} → FieldsMatch P fs xs → FieldsMatch Q fs xs
+  weaker_fields k no_fields = no_fields
+  weaker_fields k (one_field m r) = one_field (weaker k m) (weaker_fields k r)
+
+pub nothing_gathered : (texts : Texts) (gathered : Gathered) → gathered.parts ≡ [] → gathered.ways.leaves ≡ 0 → gathered.ways.bytes ≡ 0 → gathered.passive ≡ true
+    → Gathers texts [] gathered
+nothing_gathered texts gathered p l b v = record { parts = subst (FieldsMatch (IsRight texts) []) (sym p) no_fields; leaves = l; bytes = b; passive = v }

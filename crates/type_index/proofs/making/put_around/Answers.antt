@@ -1,0 +1,18 @@
+use Rattle.std.proofs.Common.{◌≡◌, ◌++◌, ◌∷◌, [], arith, rules}
+use Rattle.std.proofs.lemmas.Grind.{common_steps}
+use Rattle.type_index.proofs.Built.{around_begin, around_more, around_end}
+use Rattle.type_index.proofs.making.put_around.Goals as goal
+
+pub loop-length-init : goal.loop-length-init
+loop-length-init c = around_begin c.args.lengths.items c.args.innermost
+
+pub loop-length-preserved : goal.loop-length-preserved
+loop-length-preserved c =
+    let is : c.loop-length.left.items ≡ c.pop.new.self.items ++ (c.in-Some.field-0-0, c.in-Some.length) ∷ [] = grind (arith, common_steps) in
+    around_more c.args.lengths.items c.loop-length.left.items c.pop.new.self.items (c.in-Some.field-0-0, c.in-Some.length) c.args.innermost c.loop-length.index
+    c.in_ok-index.index is c.in_ok-index.ensures c.loop-length.invariant
+
+pub returns : goal.returns
+returns c =
+    let is : c.loop-length.left.items ≡ [] = grind (arith, common_steps) in
+    around_end c.args.lengths.items c.loop-length.left.items c.args.innermost c.loop-length.index is c.loop-length.invariant

@@ -1,0 +1,74 @@
+-- What is known of a type and of all its parts.
+use Rattle.std.specs.Prelude.{◌≡◌, ℕ, Bool, true, false, not, List, [], ◌∷◌, Option, Some, None, IfSome}
+use Rattle.fir_types.specs.declared.fir_type.FirType.{FirType}
+use Rattle.fir_types.specs.declared.fir_type.Shape.{Shape}
+use Rattle.fir_types.specs.declared.fir_type.Shape.TheOpen.{Shape-F}
+use Rattle.fir_types.specs.declared.fir_type.Shape.TheViews.{out-Shape}
+use Rattle.fir_types.specs.declared.fir_type.Shape.TheVariants as shape
+use Rattle.fir_types.specs.declared.fir_type.Field.{Field}
+use Rattle.fir_types.specs.Leaves.{count}
+use Rattle.fir_types.specs.Passivity.{has_flip}
+use Rattle.field_index.specs.declared.index.FieldIndex.{FieldIndex}
+use Rattle.field_index.specs.Indexes.{IsIndexOf}
+use Rattle.leaf_names.specs.LeafNames.{Texts}
+use Rattle.name_sizes.specs.Caps.{cap}
+use Rattle.name_sizes.specs.Texts.{way_bytes}
+use Rattle.type_index.specs.declared.tree.TypeIndex.{TypeIndex}
+use Rattle.type_index.specs.declared.tree.Inside.{Inside}
+use Rattle.type_index.specs.declared.tree.Inside.TheVariants as inside
+
+-- a type without parts
+abbrev pub is_ground : Shape-F Shape Field FirType → Bool
+is_ground (Shape-F.Bundle fields) = false
+is_ground (Shape-F.Vector element length) = false
+is_ground _ = true
+
+-- A tree has the shape of a type, and each part of it is right for the type's part.
+mutual
+  pub data Matches (P : FirType → TypeIndex → Type 0) : FirType → TypeIndex → Type 0 where
+    ground : {typ : FirType} {index : TypeIndex} → is_ground (out-Shape typ.shape) ≡ true → P typ index → Matches P typ index
+    vector : {typ : FirType} {index : TypeIndex} (element : FirType) (length : ℕ) (inner : TypeIndex) → typ.shape ≡ shape.Vector element length
+        → index.inside ≡ inside.Vector inner → P typ index → Matches P element inner → Matches P typ index
+    bundle : {typ : FirType} {index : TypeIndex} (fields : List Field) (among : Option FieldIndex) (inners : List TypeIndex) → typ.shape ≡ shape.Bundle fields
+        → index.inside ≡ inside.Bundle among inners → P typ index → FieldsMatch P fields inners → Matches P typ index
+
+  pub data FieldsMatch (P : FirType → TypeIndex → Type 0) : List Field → List TypeIndex → Type 0 where
+    no_fields : FieldsMatch P [] []
+    one_field : {field : Field} {inner : TypeIndex} {fields : List Field} {inners : List TypeIndex} → Matches P field.typ inner
+        → FieldsMatch P fields inners → FieldsMatch P (field ∷ fields) (inner ∷ inners)
+
+-- an index of these fields, where there is one
+abbrev pub IsAmong : Option FieldIndex → List Field → Type 0
+IsAmong among fields = IfSome among (λ index. IsIndexOf index fields [])
+
+-- what is known of one part
+pub record IsKnown (typ : FirType) (index : TypeIndex) : Type 0 where
+  pub leaves : index.leaves ≡ cap (count typ)
+  pub passive : index.passive ≡ not (has_flip typ)
+  pub among : (fields : List Field) (among : Option FieldIndex) (inners : List TypeIndex) → typ.shape ≡ shape.Bundle fields → index.inside ≡ inside.Bundle among inners
+      → IsAmong among fields
+
+-- The leaves of each part, whether a flip stands in it, and the fields of bundles by name.
+abbrev pub Knows : FirType → TypeIndex → Type 0
+Knows typ index = ∥ Matches IsKnown typ index ∥₁
+
+abbrev pub HasBytes : Texts → FirType → TypeIndex → Type 0
+HasBytes texts typ index = index.bytes ≡ cap (way_bytes texts typ)
+
+-- The bytes of the ways to the leaves of each part, where the names have these texts.
+abbrev pub HasWays : Texts → FirType → TypeIndex → Type 0
+HasWays texts typ index = Matches (HasBytes texts) typ index
+
+-- both
+abbrev pub IsRight : Texts → FirType → TypeIndex → Type 0
+IsRight texts typ index = IsKnown typ index × HasBytes texts typ index
+
+-- the fields of a bundle, and no field of what is none
+abbrev pub fields_in : Shape-F Shape Field FirType → List Field
+fields_in (Shape-F.Bundle fields) = fields
+fields_in _ = []
+
+-- the element of a vector
+abbrev pub element_in : Shape-F Shape Field FirType → Option FirType
+element_in (Shape-F.Vector element length) = Some element
+element_in _ = None

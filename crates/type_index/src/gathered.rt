@@ -1,0 +1,81 @@
+//! The trees of a bundle's fields, gathered one by one.
+
+ghost use Rattle.std.specs.Prelude.{◌≡◌, ◌++◌, ◌∷◌, [], ◌&&◌, not, List, IfOk, OnOk};
+ghost use Rattle.fir_types.specs.declared.fir_type.FirType.{FirType as AType};
+ghost use Rattle.fir_types.specs.declared.fir_type.Field.{Field as AField};
+ghost use Rattle.fir_types.specs.declared.fir_type.Shape.TheVariants as shape;
+ghost use Rattle.leaf_names.specs.LeafNames.{Texts};
+ghost use Rattle.type_index.specs.Knowing.{Matches, IsRight, IsAmong};
+
+use crate::tree::{Inside, TypeIndex};
+use bit_words::{List, Shared, SharedList};
+use field_index::{FieldIndex, index_among};
+use fir_tree::Names;
+use fir_types::Field;
+use name_sizes::Ways;
+use std::alloc::{AllocError, Global};
+
+/// What is known of some fields of a bundle, in order, and of all of them together.
+#[derive(Drop)]
+pub struct Gathered {
+    parts: List<TypeIndex>,
+    ways: Ways,
+    passive: bool,
+}
+
+impl Gathered {
+    ghost use Rattle.type_index.specs.Gathering.{Gathers};
+
+    /// Of no field.
+    pub fn new(alloc: Global) -> Gathered
+        ensures { (texts : Texts) → Gathers texts [] result }
+    {
+        Gathered {
+            parts: List::new(alloc),
+            ways: Ways {
+                leaves: 0,
+                bytes: 0,
+            },
+            passive: true,
+        }
+    }
+
+    /// With one more field, of whose type this is known.
+    pub fn push(&mut self, names: &Names, field: &Field, part: TypeIndex) -> Result<(), AllocError>
+        ensures { OnOk result ((fields : List AField) → Gathers names.now fields self.old → Matches (IsRight names.now) field.now.typ part → Gathers names.now (fields ++ field.now ∷ []) self.new) }
+    {
+        let ways = Ways {
+            leaves: part.leaves,
+            bytes: part.bytes,
+        };
+        self.ways = self.ways.and(ways.named(names, field.name.id));
+        self.passive = still_passive(self.passive, part.passive, field.flip);
+        self.parts.push(part)?;
+        Ok(())
+    }
+
+    /// What is known of the bundle of these fields. Takes time and memory in proportion to their number.
+    pub fn finish(self, alloc: Global, fields: &[Field]) -> Result<TypeIndex, AllocError>
+        ensures { IfOk result (λ index. (texts : Texts) (typ : AType) → typ.shape ≡ shape.Bundle fields.now → Gathers texts fields.now self → Matches (IsRight texts) typ index) }
+    {
+        let Gathered {
+            parts,
+            ways,
+            passive,
+        } = self;
+        let among = index_among(alloc, fields)?;
+        Ok(TypeIndex {
+            leaves: ways.leaves,
+            bytes: ways.bytes,
+            passive,
+            inside: Inside::Bundle(among, Shared::new(alloc, parts)?),
+        })
+    }
+}
+
+/// Whether fields are passive with one more, whose type is passive or not, and which is flipped or not.
+fn still_passive(before: bool, passive: bool, flip: bool) -> bool
+    ensures { result ≡ (before && passive && not flip) }
+{
+    before && passive && !flip
+}

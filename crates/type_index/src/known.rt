@@ -1,0 +1,113 @@
+//! The steps from a type that is known to its parts.
+
+ghost use Rattle.std.specs.Prelude.{◌≡◌, ◌==◌, not, find, option_map, IfSome};
+ghost use Rattle.std.specs.Option.{option_copied};
+ghost use Rattle.field_index.specs.Indexes.{first_at};
+ghost use Rattle.fir_types.specs.declared.fir_type.Shape.TheViews.{out-Shape};
+ghost use Rattle.fir_types.specs.Leaves.{count};
+ghost use Rattle.fir_types.specs.Passivity.{has_flip};
+ghost use Rattle.name_sizes.specs.Caps.{cap};
+ghost use Rattle.leaf_names.specs.LeafNames.{Texts};
+ghost use Rattle.type_index.specs.Knowing.{Knows, HasWays, IsAmong, fields_in, element_in};
+
+use crate::tree::{Inside, TypeIndex};
+use bit_words::Shared;
+use field_index::FieldIndex;
+use fir_types::{Field, FirType, Shape};
+
+/// A type of which all this is known.
+#[derive(Clone, Copy)]
+pub struct Known<'a> {
+    pub typ: &'a FirType,
+    pub index: &'a TypeIndex,
+    ghost knows: { Knows typ.now index.now },
+    ghost counted: { index.now.leaves ≡ cap (count typ.now) },
+    ghost flipless: { index.now.passive ≡ not (has_flip typ.now) },
+}
+
+/// A field of whose type all this is known.
+#[derive(Clone, Copy)]
+pub struct KnownField<'a> {
+    pub field: &'a Field,
+    pub index: &'a TypeIndex,
+    ghost knows: { Knows field.now.typ index.now },
+}
+
+impl<'a> KnownField<'a> {
+    /// Its type.
+    pub fn known(self) -> Known<'a>
+        ensures typ { result.typ.now ≡ self.entry.field.now.typ }
+        ensures index { result.index.now ≡ self.entry.index.now }
+    {
+        Known::new(&self.field.typ, self.index)
+    }
+}
+
+impl<'a> Known<'a> {
+    /// A type of which this is known.
+    pub fn new(typ: &'a FirType, index: &'a TypeIndex) -> Known<'a>
+        requires { Knows typ.now index.now }
+        ensures typ { result.typ.now ≡ typ.now }
+        ensures index { result.index.now ≡ index.now }
+    {
+        Known { typ, index }
+    }
+
+    /// The first field that has the name with this number, where this is a bundle with such a field. Takes constant time.
+    pub fn field(self, id: u32) -> Option<KnownField<'a>>
+        ensures field { option_map (λ (part : KnownField). part.field.now) result ≡ find (λ field. field.name.id == id) (fields_in (out-Shape self.entry.typ.now.shape)) }
+        ensures ways { IfSome result (λ part. (texts : Texts) → HasWays texts self.entry.typ.now self.entry.index.now → HasWays texts part.field.now.typ part.index.now) }
+    {
+        let Shape::Bundle(fields) = &self.typ.shape else {
+            return None;
+        };
+        let Inside::Bundle(among, parts) = &self.index.inside else {
+            unreachable!();
+        };
+        let position = position_in(among.as_ref(), fields.as_slice(), id)?;
+        let field = fields.get().get(position)?;
+        let Some(index) = parts.get().get(position) else {
+            unreachable!();
+        };
+        Some(KnownField { field, index })
+    }
+
+    /// The element, where this is a vector. Takes constant time.
+    pub fn element(self) -> Option<Known<'a>>
+        ensures typ { option_map (λ (part : Known). part.typ.now) result ≡ element_in (out-Shape self.entry.typ.now.shape) }
+        ensures ways { IfSome result (λ part. (texts : Texts) → HasWays texts self.entry.typ.now self.entry.index.now → HasWays texts part.typ.now part.index.now) }
+    {
+        let Shape::Vector(element, _) = &self.typ.shape else {
+            return None;
+        };
+        let Inside::Vector(inner) = &self.index.inside else {
+            unreachable!();
+        };
+        Some(Known::new(element.get(), inner.get()))
+    }
+}
+
+/// The position of the first of these fields that has the name with this number, by their index where there is one.
+fn position_in(among: Option<&Shared<FieldIndex>>, fields: &[Field], id: u32) -> Option<usize>
+    requires { ∥ IsAmong (option_copied among) fields.now ∥₁ }
+    ensures { result ≡ first_at fields.now id }
+{
+    match among {
+        Some(index) => match index.get().place(id) {
+            Some(place) => Some(place.position),
+            None => None,
+        },
+        None => first_position(fields, id),
+    }
+}
+
+fn first_position(fields: &[Field], id: u32) -> Option<usize>
+    ensures { result ≡ first_at fields.now id }
+{
+    for position in 0..fields.len() {
+        if fields[position].name.id == id {
+            return Some(position);
+        }
+    }
+    None
+}

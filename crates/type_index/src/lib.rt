@@ -1,0 +1,13 @@
+//! What is often asked of a type and of each of its parts, found once and then shared: the number of leaves, the bytes of the ways to
+//! them, whether the part is passive, and the fields of a bundle by name. Keeps the contract that each answer is that of the part, in
+//! a tree of the shape of the type.
+#![tactic(auto)]
+
+pub mod gathered;
+pub mod known;
+pub mod making;
+pub mod tree;
+
+pub use gathered::Gathered;
+pub use known::{Known, KnownField};
+pub use tree::{Inside, TypeIndex};

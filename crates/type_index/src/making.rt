@@ -1,0 +1,109 @@
+//! Trees made from types, in time in proportion to the type.
+
+ghost use Rattle.std.specs.Prelude.{◌≡◌, IfOk};
+ghost use Rattle.fir_types.specs.declared.fir_type.FirType.{FirType as AType};
+ghost use Rattle.fir_types.specs.declared.fir_type.Shape.TheVariants as shape;
+ghost use Rattle.fir_types.specs.Runs.{within};
+ghost use Rattle.leaf_names.specs.LeafNames.{Texts};
+ghost use Rattle.type_index.specs.Knowing.{Matches, IsRight, Knows, HasWays};
+ghost use Rattle.type_index.specs.Gathering.{Gathers};
+
+use crate::gathered::Gathered;
+use crate::tree::{Inside, TypeIndex};
+use bit_words::Shared;
+use fir_tree::Names;
+use fir_types::{Field, FirType, Shape};
+use name_sizes::Ways;
+use place_text::Place;
+use std::alloc::{AllocError, Global};
+
+impl TypeIndex {
+    /// What is known of a type. Takes time and memory in proportion to it.
+    pub fn new(alloc: Global, names: &Names, typ: &FirType) -> Result<TypeIndex, AllocError>
+        ensures knows { IfOk result (λ index. Knows typ.now index) }
+        ensures ways { IfOk result (λ index. HasWays names.now typ.now index) }
+    {
+        make(alloc, names, typ)
+    }
+}
+
+#[cycle(make)]
+fn make(alloc: Global, names: &Names, typ: &FirType) -> Result<TypeIndex, AllocError>
+    ensures { IfOk result (λ index. Matches (IsRight names.now) typ.now index) }
+{
+    let mut lengths = Vec::new(alloc);
+    let mut inside = typ;
+    while let Shape::Vector(element, length) = &inside.shape {
+        lengths.push((inside.place, *length))?;
+        inside = element.get();
+    }
+    let innermost = make_shape(alloc, names, &inside.shape)?;
+    put_around(alloc, lengths, innermost)
+}
+
+#[cycle(make)]
+fn make_shape(alloc: Global, names: &Names, shape: &Shape) -> Result<TypeIndex, AllocError>
+    ensures { IfOk result (λ index. (typ : AType) → typ.shape ≡ shape.now → Matches (IsRight names.now) typ index) }
+{
+    match shape {
+        Shape::Unsigned(_) | Shape::Signed(_) | Shape::Clock | Shape::Reset => Ok(TypeIndex {
+            leaves: 1,
+            bytes: 0,
+            passive: true,
+            inside: Inside::Ground,
+        }),
+        Shape::Bundle(fields) => {
+            let gathered = make_fields(alloc, names, fields.as_slice())?;
+            gathered.finish(alloc, fields.as_slice())
+        }
+        Shape::Vector(element, length) => {
+            let inner = make(alloc, names, element.get())?;
+            put_one(alloc, inner, *length)
+        }
+    }
+}
+
+#[cycle(make)]
+fn make_fields(alloc: Global, names: &Names, fields: &[Field]) -> Result<Gathered, AllocError>
+    ensures { IfOk result (λ gathered. Gathers names.now fields.now gathered) }
+{
+    let mut gathered = Gathered::new(alloc);
+    for field in fields {
+        let part = make(alloc, names, &field.typ)?;
+        gathered.push(names, field, part)?;
+    }
+    Ok(gathered)
+}
+
+/// What is known of a vector of this length, where this is known of its element.
+fn put_one(alloc: Global, inner: TypeIndex, length: u128) -> Result<TypeIndex, AllocError>
+    ensures { IfOk result (λ index. (texts : Texts) (typ element : AType) → typ.shape ≡ shape.Vector element length → Matches (IsRight texts) element inner → Matches (IsRight texts) typ index) }
+{
+    let one = Ways {
+        leaves: inner.leaves,
+        bytes: inner.bytes,
+    };
+    let ways = one.repeated(length);
+    Ok(TypeIndex {
+        leaves: ways.leaves,
+        bytes: ways.bytes,
+        passive: inner.passive,
+        inside: Inside::Vector(Shared::new(alloc, inner)?),
+    })
+}
+
+/// What is known of a type with these lengths around it, the outermost first.
+fn put_around(
+    alloc: Global,
+    lengths: Vec<(Place, u128)>,
+    innermost: TypeIndex,
+) -> Result<TypeIndex, AllocError>
+    ensures { IfOk result (λ index. (texts : Texts) (typ : AType) → Matches (IsRight texts) typ innermost → Matches (IsRight texts) (within lengths.items typ) index) }
+{
+    let mut index = innermost;
+    let mut left = lengths;
+    while let Some((_, length)) = left.pop() {
+        index = put_one(alloc, index, length)?;
+    }
+    Ok(index)
+}
