@@ -46,8 +46,9 @@ impl TypeIndex {
     }
 }
 
+/// What is known of a type.
 #[cycle(make)]
-fn make(alloc: Global, names: &Names, typ: &FirType) -> Result<TypeIndex, AllocError>
+pub fn make(alloc: Global, names: &Names, typ: &FirType) -> Result<TypeIndex, AllocError>
     ensures { IfOk result (λ index. Matches (IsRight names.now) typ.now index) }
 {
     let mut lengths = Vec::new(alloc);
