@@ -1,13 +1,14 @@
 //! Types with what is often asked of them and of their parts, which is found once and then shared.
 
 ghost use Rattle.std.specs.Prelude.{◌≡◌, IfOk};
+ghost use Rattle.fir_types.specs.Bundles.{memory_of};
 ghost use Rattle.leaf_names.specs.LeafNames.{Texts};
 ghost use Rattle.type_index.specs.Knowing.{Knows, HasWays};
 
 use fir_tree::Names;
-use fir_types::{FirType, copy};
+use fir_types::{FirType, Memory, copy};
 use std::alloc::{AllocError, Global};
-use type_index::{Known, TypeIndex};
+use type_index::{Known, TypeIndex, of_memory};
 
 /// A type with what is known of it and of its parts.
 #[derive(Drop)]
@@ -24,6 +25,16 @@ impl KnownType {
         ensures ways { IfOk result (λ known. HasWays names.now known.typ known.index) }
     {
         let index = TypeIndex::new(alloc, names, &typ)?;
+        Ok(KnownType { typ, index })
+    }
+
+    /// The type of a memory with what is known of it. Its ports share what is known of an element, so it takes time and memory in
+    /// proportion to the type of an element and to the number of ports.
+    pub fn of_memory(alloc: Global, names: &Names, memory: &Memory) -> Result<KnownType, AllocError>
+        ensures typ { IfOk result (λ known. known.typ ≡ memory_of memory.now) }
+        ensures ways { IfOk result (λ known. HasWays names.now known.typ known.index) }
+    {
+        let (typ, index) = of_memory(alloc, names, memory)?;
         Ok(KnownType { typ, index })
     }
 

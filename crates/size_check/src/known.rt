@@ -1,21 +1,26 @@
 //! The types of a module's components.
 
-ghost use Rattle.std.specs.Prelude.{◌≡◌, [], map, IfOk, IfSome, OnOk};
+ghost use Rattle.std.specs.Prelude.{◌≡◌, [], map, IfOk, OnOk};
+ghost use Rattle.leaf_names.specs.LeafNames.{Texts};
 ghost use Rattle.size_check.specs.Kept.{types_of, IsMeasured, AreMeasured};
 ghost use Rattle.size_check.specs.Typings.{known_with, known_in, stmt_notes, arm_notes, port_notes, in_turn, named, instance_type as instance_type_of};
 ghost use Rattle.size_check.specs.Weights.{one_bit, no_type, weight};
+ghost use Rattle.type_index.specs.Knowing.{HasWays};
 
 use crate::component::Component;
 use crate::weights::weigh;
 use bit_words::{List, Shared};
-use field_index::FieldIndex;
 use fir_tree::{Arm, Expr, Module, Names, Stmt};
 use fir_types::{FirType, Memory, Name, Port, Shape, copy, instance_type, memory_type};
 use indexmap::IndexMap;
-use module_table::{KnownType, Modules, insert_new, whole_name};
-use name_sizes::{Ways, ways_of};
+use module_table::{KnownType, Modules, insert_new};
+use name_sizes::Ways;
 use place_text::Place;
 use std::alloc::{AllocError, Global};
+use type_index::{Known as Part, TypeIndex};
+
+/// The place of what stands nowhere in a text.
+const NOWHERE: Place = Place { line: 1, column: 1 };
 
 /// The components that are known, with their types.
 #[derive(Drop)]
@@ -23,48 +28,41 @@ pub struct Known {
     /// By the numbers of their names: of each name the first.
     pub types: IndexMap<u32, Component>,
     /// The type of what is one leaf.
-    pub bit: FirType,
+    pub bit: KnownType,
     /// The type of what is nothing.
-    pub none: FirType,
-    ghost is_bit: { bit ≡ one_bit },
-    ghost is_none: { none ≡ no_type },
+    pub none: KnownType,
+    ghost is_bit: { bit.typ ≡ one_bit },
+    ghost is_none: { none.typ ≡ no_type },
+    ghost bit_ways: { (texts : Texts) → ∥ HasWays texts bit.typ bit.index ∥₁ },
+    ghost none_ways: { (texts : Texts) → ∥ HasWays texts none.typ none.index ∥₁ },
 }
 
 impl Known {
-    ghost use Rattle.std.specs.Option.{ForSome, option_copied};
-    ghost use Rattle.field_index.specs.Indexes.{IsIndexOfType};
     ghost use Rattle.fir_types.specs.Leaves.{count};
-    ghost use Rattle.leaf_names.specs.LeafNames.{Texts};
     ghost use Rattle.size_check.specs.Caps.{cap};
-    ghost use Rattle.size_check.specs.Reaching.{types_in};
+    ghost use Rattle.size_check.specs.Reaching.{types_in, HasPart};
     ghost use Rattle.name_sizes.specs.Texts.{way_bytes};
 
     /// No component.
     pub fn new(alloc: Global) -> Result<Known, AllocError>
         ensures { IfOk result (λ known. known.types.entries ≡ []) }
     {
-        let place = Place { line: 1, column: 1 };
-        let none = FirType {
-            place,
-            shape: Shape::Bundle(Shared::new(alloc, List::new(alloc))?),
-        };
+        let none = nothing(alloc)?;
         Ok(Known {
             types: IndexMap::new(alloc),
-            bit: FirType {
-                place,
-                shape: Shape::Reset,
-            },
+            bit: bit(),
             none,
         })
     }
 
     /// The type of the component of a name, given by the number of its text.
-    pub fn of(&self, id: u32) -> &FirType
-        ensures { result.now ≡ types_in self.now id }
+    pub fn of(&self, id: u32) -> Part<'_>
+        ensures typ { result.typ.now ≡ types_in self.now id }
+        ensures ways { (texts : Texts) → AreMeasured texts self.now.types.entries → HasPart texts result }
     {
         match self.types.get(&id) {
-            Some(component) => &component.known.typ,
-            None => &self.none,
+            Some(component) => component.known.known(),
+            None => self.none.known(),
         }
     }
 
@@ -72,63 +70,29 @@ impl Known {
     pub fn leaves(&self, id: u32) -> u128
         ensures { result ≡ cap (count (types_in self.now id)) }
     {
-        match self.types.get(&id) {
-            Some(component) => component.known.leaves,
-            None => 0,
-        }
-    }
-
-    /// The index of its fields, where it has one.
-    pub fn index(&self, id: u32) -> Option<&Shared<FieldIndex>>
-        ensures { ForSome (option_copied result) (IsIndexOfType (types_in self.now id)) }
-    {
-        match self.types.get(&id) {
-            Some(component) => component.known.index.as_ref(),
-            None => None,
-        }
+        self.of(id).index.leaves
     }
 
     /// Its leaves, and the bytes of the ways to them.
-    pub fn ways(&self, names: &Names, id: u32) -> Ways
+    pub fn ways(&self, id: u32) -> Ways
         ensures leaves { result.leaves ≡ cap (count (types_in self.now id)) }
-        ensures bytes { AreMeasured names.now self.now.types.entries → result.bytes ≡ cap (way_bytes names.now (types_in self.now id)) }
+        ensures bytes { (texts : Texts) → AreMeasured texts self.now.types.entries → result.bytes ≡ cap (way_bytes texts (types_in self.now id)) }
     {
-        let Some(component) = self.types.get(&id) else {
-            return ways_of(names, &self.none);
-        };
-        match component.way_bytes {
-            Some(bytes) => Ways {
-                leaves: component.known.leaves,
-                bytes,
-            },
-            None => ways_of(names, &component.known.typ),
+        let part = self.of(id);
+        Ways {
+            leaves: part.index.leaves,
+            bytes: part.index.bytes,
         }
     }
 
-    /// The component that an expression is, if it is one.
-    fn whole(&self, expr: &Expr) -> Option<&Component>
-        ensures typ { IfSome result (λ component. component.now.known.typ ≡ (weight expr.now (types_in self.now)).typ) }
-        ensures measured { IfSome result (λ component. (texts : Texts) → AreMeasured texts self.now.types.entries → IsMeasured texts component.now) }
-    {
-        let name = whole_name(expr)?;
-        self.types.get(&name)
-    }
-
-    /// A node of an expression. It shares the type of a component where the expression is one.
-    fn node(&self, names: &Names, expr: &Expr) -> Result<Component, AllocError>
+    /// A node of an expression. It shares the type of the part that it is, with what is known of it.
+    fn node(&self, expr: &Expr) -> Result<Component, AllocError>
         ensures typ { IfOk result (λ node. node.known.typ ≡ (weight expr.now (types_in self.now)).typ) }
-        ensures measured { IfOk result (λ node. AreMeasured names.now self.now.types.entries → IsMeasured names.now node) }
+        ensures measured { IfOk result (λ node. (texts : Texts) → AreMeasured texts self.now.types.entries → IsMeasured texts node) }
     {
-        if let Some(component) = self.whole(expr) {
-            return component.share(names);
-        }
         let reached = weigh(self, expr);
-        let typ = copy(reached.typ)?;
-        let known = match reached.index {
-            Some(index) => KnownType::with_index(typ, Some(index.share()?)),
-            None => KnownType::with_index(typ, None),
-        };
-        Ok(Component::counted(names, known))
+        let known = KnownType::of(reached.part)?;
+        Ok(Component { known })
     }
 
     /// Notes a component of a name, unless there is one.
@@ -143,16 +107,15 @@ impl Known {
 /// The components of a module, where these are all modules.
 pub fn known_of(
     alloc: Global,
-    names: &Names,
     modules: &Modules<'_>,
     holder: &Module,
 ) -> Result<Known, AllocError>
     ensures types { IfOk result (λ known. types_of known.types.entries ≡ known_in modules.now.all.now holder.now) }
-    ensures measured { IfOk result (λ known. AreMeasured names.now known.types.entries) }
+    ensures measured { IfOk result (λ known. AreMeasured modules.now.names.now known.types.entries) }
 {
     let mut known = Known::new(alloc)?;
-    note_ports(alloc, names, &mut known, holder.ports.as_slice())?;
-    note_statements(alloc, names, modules, &mut known, holder.body.as_slice())?;
+    note_ports(alloc, modules.names, &mut known, holder.ports.as_slice())?;
+    note_statements(alloc, modules, &mut known, holder.body.as_slice())?;
     Ok(known)
 }
 
@@ -174,16 +137,15 @@ fn note_ports(
 #[cycle(note)]
 fn note_statements(
     alloc: Global,
-    names: &Names,
     modules: &Modules<'_>,
     known: &mut Known,
     statements: &[Stmt],
 ) -> Result<(), AllocError>
     ensures types { OnOk result (types_of known.new.types.entries ≡ in_turn (map (stmt_notes modules.now.all.now) statements.now) (types_of known.old.types.entries)) }
-    ensures measured { OnOk result (AreMeasured names.now known.old.types.entries → AreMeasured names.now known.new.types.entries) }
+    ensures measured { OnOk result (AreMeasured modules.now.names.now known.old.types.entries → AreMeasured modules.now.names.now known.new.types.entries) }
 {
     for statement in statements {
-        note_statement(alloc, names, modules, known, statement)?;
+        note_statement(alloc, modules, known, statement)?;
     }
     Ok(())
 }
@@ -191,33 +153,32 @@ fn note_statements(
 #[cycle(note)]
 fn note_statement(
     alloc: Global,
-    names: &Names,
     modules: &Modules<'_>,
     known: &mut Known,
     statement: &Stmt,
 ) -> Result<(), AllocError>
     ensures types { OnOk result (types_of known.new.types.entries ≡ stmt_notes modules.now.all.now statement.now (types_of known.old.types.entries)) }
-    ensures measured { OnOk result (AreMeasured names.now known.old.types.entries → AreMeasured names.now known.new.types.entries) }
+    ensures measured { OnOk result (AreMeasured modules.now.names.now known.old.types.entries → AreMeasured modules.now.names.now known.new.types.entries) }
 {
     match statement {
         Stmt::Wire(name, typ) | Stmt::Reg(name, typ, _) | Stmt::RegReset(name, typ, _, _, _) => {
-            known.note(*name, declared(alloc, names, copy(typ)?)?)
+            known.note(*name, declared(alloc, modules.names, copy(typ)?)?)
         }
         Stmt::Mem(memory) => {
             let typ = memory_type(alloc, memory)?;
-            known.note(memory.name, declared(alloc, names, typ)?)
+            known.note(memory.name, declared(alloc, modules.names, typ)?)
         }
         Stmt::Inst(name, target) => {
             let instance = instance_of(alloc, modules, *target)?;
-            known.note(*name, Component::uncounted(instance))
+            known.note(*name, Component { known: instance })
         }
         Stmt::Node(name, expr) => {
-            let node = known.node(names, expr)?;
+            let node = known.node(expr)?;
             known.note(*name, node)
         }
         Stmt::When(arms, other) => {
-            note_arms(alloc, names, modules, known, arms.as_slice())?;
-            note_statements(alloc, names, modules, known, other.as_slice())
+            note_arms(alloc, modules, known, arms.as_slice())?;
+            note_statements(alloc, modules, known, other.as_slice())
         }
         Stmt::Connect(_, _) | Stmt::Invalidate(_) | Stmt::Skip(_) => Ok(()),
     }
@@ -226,16 +187,15 @@ fn note_statement(
 #[cycle(note)]
 fn note_arms(
     alloc: Global,
-    names: &Names,
     modules: &Modules<'_>,
     known: &mut Known,
     arms: &[Arm],
 ) -> Result<(), AllocError>
     ensures types { OnOk result (types_of known.new.types.entries ≡ in_turn (map (arm_notes modules.now.all.now) arms.now) (types_of known.old.types.entries)) }
-    ensures measured { OnOk result (AreMeasured names.now known.old.types.entries → AreMeasured names.now known.new.types.entries) }
+    ensures measured { OnOk result (AreMeasured modules.now.names.now known.old.types.entries → AreMeasured modules.now.names.now known.new.types.entries) }
 {
     for arm in arms {
-        note_statements(alloc, names, modules, known, arm.body.as_slice())?;
+        note_statements(alloc, modules, known, arm.body.as_slice())?;
     }
     Ok(())
 }
@@ -245,16 +205,47 @@ fn declared(alloc: Global, names: &Names, typ: FirType) -> Result<Component, All
     ensures typ { IfOk result (λ component. component.known.typ ≡ typ) }
     ensures measured { IfOk result (λ component. IsMeasured names.now component) }
 {
-    let known = KnownType::indexed(alloc, typ)?;
-    Ok(Component::counted(names, known))
+    let known = KnownType::new(alloc, names, typ)?;
+    Ok(Component { known })
 }
 
 /// An instance of the first module of a name, and what is nothing where there is none.
 fn instance_of(alloc: Global, modules: &Modules<'_>, target: Name) -> Result<KnownType, AllocError>
-    ensures { IfOk result (λ instance. instance.typ ≡ instance_type_of (named modules.now.all.now target.id)) }
+    ensures typ { IfOk result (λ instance. instance.typ ≡ instance_type_of (named modules.now.all.now target.id)) }
+    ensures ways { IfOk result (λ instance. ∥ HasWays modules.now.names.now instance.typ instance.index ∥₁) }
 {
     match modules.instance(target.id) {
         Some(instance) => instance.share(),
-        None => KnownType::indexed(alloc, instance_type(alloc, &[])?),
+        None => KnownType::new(alloc, modules.names, instance_type(alloc, &[])?),
     }
+}
+
+/// The type of what is one leaf.
+fn bit() -> KnownType
+    ensures typ { result.typ ≡ one_bit }
+    ensures ways { (texts : Texts) → ∥ HasWays texts result.typ result.index ∥₁ }
+{
+    KnownType {
+        typ: FirType {
+            place: NOWHERE,
+            shape: Shape::Reset,
+        },
+        index: TypeIndex::of_reset(),
+    }
+}
+
+/// The type of what is nothing.
+fn nothing(alloc: Global) -> Result<KnownType, AllocError>
+    ensures typ { IfOk result (λ none. none.typ ≡ no_type) }
+    ensures ways { IfOk result (λ none. (texts : Texts) → ∥ HasWays texts none.typ none.index ∥₁) }
+{
+    let index = TypeIndex::of_nothing(alloc)?;
+    let fields = Shared::new(alloc, List::new(alloc))?;
+    Ok(KnownType {
+        typ: FirType {
+            place: NOWHERE,
+            shape: Shape::Bundle(fields),
+        },
+        index,
+    })
 }

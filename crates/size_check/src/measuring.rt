@@ -19,13 +19,13 @@ use std::alloc::Global;
 
 /// The measure of a circuit. A circuit that passes a limit is too large, at its name.
 ///
-/// A module is measured once, however often it stands. Memory is in proportion to the circuit; time too, but that each reference looks
-/// its fields up one after the other.
+/// A module is measured once, however often it stands. Time and memory are in proportion to the circuit, but that a memory counts as
+/// its ports times the fields of its elements.
 pub fn flat_measure(alloc: Global, checked: &Checked) -> Result<Measure, SizeFault>
     ensures { IsVerdict place_of rank_of (IsFault checked.now.circuit) (IsMeasure checked.now.circuit) result }
 {
     let circuit = &checked.circuit;
-    let modules = Modules::new(alloc, circuit.modules.as_slice())?;
+    let modules = Modules::new(alloc, &circuit.names, circuit.modules.as_slice())?;
     let total = measure(alloc, circuit, &modules)?;
     let ports = main_ports(&modules, circuit.main.id);
     match within_limits(total, ports) {

@@ -30,9 +30,10 @@ pub fn module_own(
     modules: &Modules<'_>,
     holder: &Module,
 ) -> Result<Sums, AllocError>
+    requires { modules.now.names.now ≡ names.now }
     ensures { IfOk result (λ own. own ≡ capped (module_own names.now modules.now.all.now holder.now)) }
 {
-    let known = known_of(alloc, names, modules, holder)?;
+    let known = known_of(alloc, modules, holder)?;
     let ports = ports_own(names, holder.ports.as_slice())?;
     let body = block_own(alloc, names, &known, holder.body.as_slice(), 0)?;
     Ok(ports.plus(body))
@@ -183,7 +184,7 @@ fn memory_own(
     let ports = component_leaves(names, known, memory.name);
     let size = sized(0, ports.leaves, around)?;
     let lines = memory.lines.as_slice();
-    let element = element_of(lines, &known.none);
+    let element = element_of(lines, &known.none.typ);
     let vector = vector_of(alloc, element, depth_of(lines))?;
     let elements = celled(names, memory.name, &vector);
     let kept = stored(captured(lines, element));
@@ -211,12 +212,12 @@ fn flat(names: &Names, name: Name, typ: &FirType) -> Sums
     flat_leaves(names_of(names, name.id, typ))
 }
 
-/// The leaves of a known component. Takes constant time where its ways are counted.
+/// The leaves of a known component. Takes constant time.
 fn component_leaves(names: &Names, known: &Known, name: Name) -> Sums
     requires { AreMeasured names.now known.now.types.entries }
     ensures { result ≡ capped (flat names.now name.id (types_in known.now name.id)) }
 {
-    let ways = known.ways(names, name.id);
+    let ways = known.ways(name.id);
     flat_leaves(names_by(names, name.id, ways))
 }
 

@@ -22,7 +22,8 @@ const ROUNDS: u32 = 33;
 
 /// What stands at the instance paths of at most 33 names from the main module on.
 pub fn measure(alloc: Global, circuit: &Circuit, modules: &Modules<'_>) -> Result<Total, AllocError>
-    requires { modules.now.all.now ≡ circuit.now.modules }
+    requires all { modules.now.all.now ≡ circuit.now.modules }
+    requires names { modules.now.names.now ≡ circuit.now.names }
     ensures { IfOk result (λ total. total ≡ capped_total (measured circuit.now)) }
 {
     let owns = owns_of(alloc, &circuit.names, modules)?;
@@ -32,6 +33,7 @@ pub fn measure(alloc: Global, circuit: &Circuit, modules: &Modules<'_>) -> Resul
 
 /// What each module has of its own.
 fn owns_of(alloc: Global, names: &Names, modules: &Modules<'_>) -> Result<Vec<Sums>, AllocError>
+    requires { modules.now.names.now ≡ names.now }
     ensures { IfOk result (λ owns. owns.items ≡ owns_of names.now modules.now.all.now) }
 {
     let mut owns = Vec::new(alloc);

@@ -1,18 +1,18 @@
 //! The nodes of expressions, and the leaves of their types.
 
-ghost use Rattle.std.specs.Prelude.{◌≡◌, ◌≤◌, ◌+◌, max, map, sum, IfOk};
-ghost use Rattle.fir_types.specs.Leaves.{count};
+ghost use Rattle.std.specs.Prelude.{◌≡◌, ◌+◌, max, map, sum, IfOk};
 ghost use Rattle.fir_meaning.specs.Values.{field_type, element_type};
 ghost use Rattle.size_check.specs.Caps.{cap};
-ghost use Rattle.size_check.specs.Reaching.{types_in, weight_of, capped_weight};
+ghost use Rattle.leaf_names.specs.LeafNames.{Texts};
+ghost use Rattle.size_check.specs.Kept.{AreMeasured};
+ghost use Rattle.size_check.specs.Reaching.{types_in, weight_of, capped_weight, HasPart};
 ghost use Rattle.size_check.specs.Weights.{nodes, suffix_nodes, weight, suffix_step, along, whole, reach, most_of, of_choice, one_bit};
 
 use crate::known::Known;
 use crate::reached::Reached;
-use field_index::field_by;
 use fir_tree::{Expr, Form, Suffix};
-use fir_types::{FirType, Shape, leaf_count};
 use std::alloc::AllocError;
+use type_index::Known as Part;
 
 /// How many nodes an expression has. More than fit the number are a want of memory.
 #[cycle(nodes)]
@@ -73,7 +73,8 @@ pub fn more(count: u128, other: u128) -> Result<u128, AllocError>
 /// An expression among the components that are known.
 #[cycle(weigh)]
 pub fn weigh<'a>(known: &'a Known, expr: &Expr) -> Reached<'a>
-    ensures { weight_of result ≡ capped_weight (weight expr.now (types_in known.now)) }
+    ensures weight { weight_of result ≡ capped_weight (weight expr.now (types_in known.now)) }
+    ensures ways { (texts : Texts) → AreMeasured texts known.now.types.entries → HasPart texts result.part }
 {
     match &expr.form {
         Form::Ref(name, suffixes) => follow(known, name.id, suffixes.as_slice()),
@@ -97,40 +98,40 @@ fn most_in(known: &Known, exprs: &[Expr]) -> u128
 
 #[cycle(weigh)]
 fn choose<'a>(known: &'a Known, operands: &[Expr]) -> Reached<'a>
-    ensures { weight_of result ≡ capped_weight (of_choice (map (λ e. weight e (types_in known.now)) operands.now)) }
+    ensures weight { weight_of result ≡ capped_weight (of_choice (map (λ e. weight e (types_in known.now)) operands.now)) }
+    ensures ways { (texts : Texts) → AreMeasured texts known.now.types.entries → HasPart texts result.part }
 {
     let [condition, first, rest @ ..] = operands else {
         return Reached {
-            typ: &known.none,
+            part: known.none.known(),
             most: most_in(known, operands),
-            index: None,
         };
     };
     let asked = weigh(known, condition).most;
     let reached = weigh(known, first);
     Reached {
-        typ: reached.typ,
+        part: reached.part,
         most: asked.max(reached.most.max(most_in(known, rest))),
-        index: reached.index,
     }
 }
 
 /// The result of an operation, of whose operands a node has at most so many leaves.
 fn operation(known: &Known, most: u128) -> Reached<'_>
-    ensures typ { result.typ.now ≡ one_bit }
+    ensures typ { result.part.typ.now ≡ one_bit }
     ensures most { result.most ≡ max most 1 }
+    ensures ways { (texts : Texts) → HasPart texts result.part }
 {
     Reached {
-        typ: &known.bit,
+        part: known.bit.known(),
         most: most.max(1),
-        index: None,
     }
 }
 
 /// What the suffixes lead to from a component.
 #[cycle(weigh)]
 fn follow<'a>(known: &'a Known, name: u32, suffixes: &[Suffix]) -> Reached<'a>
-    ensures { weight_of result ≡ capped_weight (along (types_in known.now) name (map suffix_step suffixes.now)) }
+    ensures weight { weight_of result ≡ capped_weight (along (types_in known.now) name (map suffix_step suffixes.now)) }
+    ensures ways { (texts : Texts) → AreMeasured texts known.now.types.entries → HasPart texts result.part }
 {
     let mut reached = start(known, name);
     for suffix in suffixes {
@@ -141,84 +142,72 @@ fn follow<'a>(known: &'a Known, name: u32, suffixes: &[Suffix]) -> Reached<'a>
 
 #[cycle(weigh)]
 fn take_step<'a>(known: &'a Known, before: Reached<'a>, suffix: &Suffix) -> Reached<'a>
-    ensures { weight_of result ≡ capped_weight (suffix_step suffix.now (types_in known.now) (weight_of before.entry)) }
+    ensures weight { weight_of result ≡ capped_weight (suffix_step suffix.now (types_in known.now) (weight_of before.entry)) }
+    ensures ways { (texts : Texts) → HasPart texts before.entry.part → HasPart texts result.part }
 {
     match suffix {
-        Suffix::Field(name) => to_field(before, name.id),
-        Suffix::At(_, _, _) => to_element(before, 0),
-        Suffix::Index(_, index) => to_element(before, weigh(known, index).most),
+        Suffix::Field(name) => to_part(before, field_of(before.part, name.id), 0),
+        Suffix::At(_, _, _) => to_part(before, element_of(before.part), 0),
+        Suffix::Index(_, index) => {
+            let most = weigh(known, index).most;
+            to_part(before, element_of(before.part), most)
+        }
     }
 }
 
 /// A component as a whole.
 fn start(known: &Known, name: u32) -> Reached<'_>
-    ensures { weight_of result ≡ capped_weight (whole (types_in known.now name)) }
+    ensures weight { weight_of result ≡ capped_weight (whole (types_in known.now name)) }
+    ensures ways { (texts : Texts) → AreMeasured texts known.now.types.entries → HasPart texts result.part }
 {
+    let part = known.of(name);
     Reached {
-        typ: known.of(name),
-        most: known.leaves(name),
-        index: known.index(name),
+        part,
+        most: part.index.leaves,
     }
 }
 
 /// What is one leaf.
 fn one_leaf(known: &Known) -> Reached<'_>
-    ensures { weight_of result ≡ capped_weight (whole one_bit) }
+    ensures weight { weight_of result ≡ capped_weight (whole one_bit) }
+    ensures ways { (texts : Texts) → HasPart texts result.part }
 {
     Reached {
-        typ: &known.bit,
+        part: known.bit.known(),
         most: 1,
-        index: None,
     }
 }
 
-/// The field of a name. It has no more leaves than its bundle.
-fn to_field(before: Reached<'_>, id: u32) -> Reached<'_>
-    ensures { weight_of result ≡ capped_weight (reach (field_type id before.entry.typ.now) 0 (weight_of before.entry)) }
-{
-    Reached {
-        typ: field_type(before, id),
-        most: before.most,
-        index: None,
-    }
-}
-
-/// An element, beside which an index stands. It has no more leaves than its vector, unless that has no element.
-fn to_element(before: Reached<'_>, index: u128) -> Reached<'_>
-    ensures { weight_of result ≡ capped_weight (reach (element_type before.entry.typ.now) index (weight_of before.entry)) }
+/// A part, beside which an index stands.
+fn to_part<'a>(before: Reached<'a>, part: Part<'a>, index: u128) -> Reached<'a>
+    ensures weight { weight_of result ≡ capped_weight (reach part.entry.typ.now index (weight_of before.entry)) }
+    ensures part { (texts : Texts) → HasPart texts part.entry → HasPart texts result.part }
 {
     let most = before.most.max(index);
-    let Shape::Vector(element, length) = &before.typ.shape else {
-        return Reached {
-            typ: before.typ,
-            most,
-            index: before.index,
-        };
-    };
-    if *length == 0 {
-        return Reached {
-            typ: element.get(),
-            most: most.max(leaf_count(element.get())),
-            index: None,
-        };
-    }
     Reached {
-        typ: element.get(),
-        most,
-        index: None,
+        part,
+        most: most.max(part.index.leaves),
     }
 }
 
-/// The type of a bundle's first field of a name. What has no such field stays.
-fn field_type<'a>(before: Reached<'a>, id: u32) -> &'a FirType
-    ensures typ { result.now ≡ field_type id before.entry.typ.now }
-    ensures leaves { count result.now ≤ count before.entry.typ.now }
+/// A bundle's first field of a name. What has no such field stays.
+fn field_of(before: Part<'_>, id: u32) -> Part<'_>
+    ensures typ { result.typ.now ≡ field_type id before.entry.typ.now }
+    ensures ways { (texts : Texts) → HasPart texts before.entry → HasPart texts result }
 {
-    let Shape::Bundle(fields) = &before.typ.shape else {
-        return before.typ;
-    };
-    match field_by(before.index, fields.as_slice(), id) {
-        Some(field) => &field.typ,
-        None => before.typ,
+    match before.field(id) {
+        Some(field) => field.known(),
+        None => before,
+    }
+}
+
+/// An element. What is no vector stays.
+fn element_of(before: Part<'_>) -> Part<'_>
+    ensures typ { result.typ.now ≡ element_type before.entry.typ.now }
+    ensures ways { (texts : Texts) → HasPart texts before.entry → HasPart texts result }
+{
+    match before.element() {
+        Some(part) => part,
+        None => before,
     }
 }

@@ -6,8 +6,10 @@
 pub mod gathered;
 pub mod known;
 pub mod making;
+pub mod memories;
 pub mod tree;
 
 pub use gathered::Gathered;
 pub use known::{Known, KnownField};
+pub use memories::of_memory;
 pub use tree::{Inside, TypeIndex};

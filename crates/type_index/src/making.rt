@@ -1,6 +1,6 @@
 //! Trees made from types, in time in proportion to the type.
 
-ghost use Rattle.std.specs.Prelude.{◌≡◌, IfOk};
+ghost use Rattle.std.specs.Prelude.{◌≡◌, [], IfOk};
 ghost use Rattle.fir_types.specs.declared.fir_type.FirType.{FirType as AType};
 ghost use Rattle.fir_types.specs.declared.fir_type.Shape.TheVariants as shape;
 ghost use Rattle.fir_types.specs.Runs.{within};
@@ -25,10 +25,30 @@ impl TypeIndex {
     {
         make(alloc, names, typ)
     }
+
+    /// What is known of `Reset`, whatever the texts of names.
+    pub fn of_reset() -> TypeIndex
+        ensures { (texts : Texts) (typ : AType) → typ.shape ≡ shape.Reset → Matches (IsRight texts) typ result }
+    {
+        TypeIndex {
+            leaves: 1,
+            bytes: 0,
+            passive: true,
+            inside: Inside::Ground,
+        }
+    }
+
+    /// What is known of the bundle without fields, whatever the texts of names.
+    pub fn of_nothing(alloc: Global) -> Result<TypeIndex, AllocError>
+        ensures { IfOk result (λ index. (texts : Texts) (typ : AType) → typ.shape ≡ shape.Bundle [] → Matches (IsRight texts) typ index) }
+    {
+        Gathered::new(alloc).finish(alloc, &[])
+    }
 }
 
+/// What is known of a type.
 #[cycle(make)]
-fn make(alloc: Global, names: &Names, typ: &FirType) -> Result<TypeIndex, AllocError>
+pub fn make(alloc: Global, names: &Names, typ: &FirType) -> Result<TypeIndex, AllocError>
     ensures { IfOk result (λ index. Matches (IsRight names.now) typ.now index) }
 {
     let mut lengths = Vec::new(alloc);
