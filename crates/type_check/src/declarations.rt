@@ -20,7 +20,7 @@ use crate::whole::known_type;
 use circuit_parts::Flow;
 use circuit_parts::steps::port_flow;
 use fir_tree::Expr;
-use fir_types::{FirType, Memory, Name, Port, copy, memory_type};
+use fir_types::{FirType, Memory, Name, Port, copy};
 use module_table::{Component, KnownType, Modules};
 use std::alloc::{AllocError, Global};
 
@@ -84,8 +84,7 @@ pub fn declare_memory(alloc: Global, walk: &mut Walk<'_>, memory: &Memory) -> Re
     ensures { OnOk result (Walks (and_then (notes (memory_faults memory.now)) (declares memory.now.name.id (Some (source_of (memory_of memory.now))))) walk.old walk.new) }
 {
     push_memory(alloc, &mut walk.found.faults, memory)?;
-    let typ = memory_type(alloc, memory)?;
-    let known = KnownType::new(alloc, walk.names, typ)?;
+    let known = KnownType::of_memory(alloc, walk.names, memory)?;
     declare_source(walk, memory.name, known)
 }
 
