@@ -1,3 +1,4 @@
+pub mod Capped
 pub mod FormulaLemmas
 pub mod Growing
 pub mod Indexing

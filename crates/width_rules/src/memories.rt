@@ -1,6 +1,7 @@
 //! The widths of memories.
 
 ghost use Rattle.std.specs.Prelude.{◌≡◌, ◌++◌, ◌∷◌, filter_map, flat_map, OnOk, IfOk};
+ghost use Rattle.fir_types.specs.Bundles.{address_bits};
 ghost use Rattle.fir_types.specs.Memories.{depth_in, first_or};
 ghost use Rattle.width_rules.specs.Layers.{line_widths, mode_widths};
 
@@ -19,7 +20,7 @@ pub fn port_slots(
 ) -> Result<List<Slot>, AllocError>
     ensures { IfOk result (λ slots. slots ≡ flat_map (line_widths element.now (first_or 1 (filter_map depth_in lines.now)) widths.now) lines.now) }
 {
-    let address = address_width(depth_of(lines));
+    let address = address_bits(depth_of(lines));
     let mut slots = List::new(alloc);
     for line in lines {
         if let MemLine::MemPort(_, mode, _) = line {
@@ -29,10 +30,18 @@ pub fn port_slots(
     Ok(slots)
 }
 
+/// The bits of an address, which are at most 128.
+#[tactic(auto, using(crate::proofs::Capped::address_small))]
+fn address_bits(depth: u128) -> u8
+    ensures { result ≡ address_bits depth }
+{
+    address_width(depth) as u8
+}
+
 fn push_port(
     slots: &mut List<Slot>,
     mode: PortMode,
-    address: u128,
+    address: u8,
     element: &FirType,
     widths: &[Slot],
 ) -> Result<(), AllocError>
