@@ -40,11 +40,18 @@ pub fn memory_of_slots(
     let empty = no_part(alloc)?.typ;
     let lines = memory.lines.as_slice();
     let element = element_of(lines, &empty);
-    let varies = has_port(lines) && has_variable(slots.as_slice());
+    let varies = may_vary(lines, slots.as_slice());
     let widths = port_widths(alloc, depth_of(lines), element, slots)?;
     let lists = port_lists(lines, List::new(alloc), &widths)?;
     let part = source(memory_type(alloc, memory)?);
     Indexed::of_lists(alloc, part, lists, varies)
+}
+
+/// Whether a port has a width that is a variable.
+fn may_vary(lines: &[MemLine], slots: &[Slot]) -> bool
+    ensures { result ≡ (list_any is_port lines.now && has_variable slots.now) }
+{
+    has_port(lines) && has_variable(slots)
 }
 
 /// Whether a line declares a port.
@@ -66,7 +73,7 @@ fn port_widths(
     ensures { IfOk result (λ widths. widths ≡ record { first = Slot.Fixed (address_bits depth) ∷ Slot.Fixed 1 ∷ []; element = slots; bit = Slot.Fixed 1 ∷ []; mask = mask_widths element.now }) }
 {
     let mut first = List::new(alloc);
-    first.push(Slot::Fixed(address_width(depth)))?;
+    first.push(Slot::Fixed(address_bits(depth)))?;
     first.push(Slot::Fixed(1))?;
     let mut bit = List::new(alloc);
     bit.push(Slot::Fixed(1))?;
@@ -78,6 +85,14 @@ fn port_widths(
         bit: Shared::new(alloc, bit)?,
         mask: Shared::new(alloc, mask)?,
     })
+}
+
+/// The bits of an address, which are at most 128.
+#[tactic(auto, using(crate::proofs::Capped::address_small))]
+fn address_bits(depth: u128) -> u8
+    ensures { result ≡ address_bits depth }
+{
+    address_width(depth) as u8
 }
 
 /// The lists of all ports behind others.

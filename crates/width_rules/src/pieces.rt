@@ -24,7 +24,8 @@ pub fn slots_behind(slots: Slots<'_>, before: usize, count: usize) -> Slots<'_>
 
 /// The first widths.
 pub fn first_slots(slots: Slots<'_>, count: usize) -> Slots<'_>
-    ensures { slots_in result ≡ take count (slots_in slots.entry) }
+    ensures own { slots_in result ≡ take count (slots_in slots.entry) }
+    ensures short { length (slots_in slots.entry) ≤ 2 ^ 64 - 1 }
 {
     match slots {
         Slots::Listed(list) => {
@@ -40,7 +41,8 @@ pub fn first_slots(slots: Slots<'_>, count: usize) -> Slots<'_>
 
 /// The widths behind the first.
 pub fn without_first(slots: Slots<'_>, count: usize) -> Slots<'_>
-    ensures { slots_in result ≡ drop count (slots_in slots.entry) }
+    ensures rest { slots_in result ≡ drop count (slots_in slots.entry) }
+    ensures short { length (slots_in slots.entry) ≤ 2 ^ 64 - 1 }
 {
     match slots {
         Slots::Listed(list) => {
