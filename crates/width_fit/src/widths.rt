@@ -33,7 +33,7 @@ fn slot_width(widths: &[Width], slot: Slot) -> Width
     ensures { result ≡ slot_width widths.now slot }
 {
     match slot {
-        Slot::Fixed(bits) => bounded(bits),
+        Slot::Fixed(bits) => bounded(u128::from(bits)),
         Slot::Var(variable) => match widths.get(variable as usize) {
             Some(width) => *width,
             None => Width::Bits(0),
