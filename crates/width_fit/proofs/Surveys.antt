@@ -32,7 +32,8 @@ use Rattle.width_fit.specs.declared.found.Surveyed.{Surveyed}
 use Rattle.type_filling.specs.Filling.{filled}
 use Rattle.width_fit.specs.Judging.{Survey, survey, surveyed, suffix_step, widths_of, measured_literal, parameter_faults, choice_faults}
 use Rattle.width_fit.specs.Surveys.{kept, all_surveys, index_surveys, reference_survey, literal_survey, operation_survey, choice_survey, reference_kept, over_faults, parameters_over, first_condition, operated, chosen, kept_kind, kept_width, Adds, AddsAll, AddsBelow}
-use Rattle.width_fit.proofs.Formulas.{width-fixed, reference-widths, lone-kept, operated_is, chosen_is}
+use Rattle.width_rules.proofs.Capped.{width-capped}
+use Rattle.width_fit.proofs.Formulas.{reference-widths, lone-kept, operated_is, chosen_is}
 
 -- Forms
 
@@ -193,7 +194,7 @@ pub literal_is : (ws : List Width) (kind : Sign) (width : Option ℕ) (number : 
     → record { place = place; part = source_of (ground place kind width); widths = w ∷ [] } ≡ kept ws (literal_survey ws kind width number place)
 literal_is ws kind width number place bits w is bound =
     ap (λ v. record { place = place; part = source_of (ground place kind width); widths = v ∷ [] })
-    (bound ∙ ap bounded is ∙ sym (width-fixed (literal_width kind (integer_of_number number) width) ws))
+    (bound ∙ ap bounded is ∙ sym (width-capped (literal_width kind (integer_of_number number) width) ws))
 
 pub literal_adds : (ws : List Width) (kind : Sign) (width : Option ℕ) (number : Number) (place : Place) (bits : ℕ) (w : Width) (old new : List WidthFault)
     → bits ≡ literal_width kind (integer_of_number number) width → w ≡ bounded bits → new ≡ old ++ over_faults place (w ∷ [])

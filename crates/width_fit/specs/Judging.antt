@@ -24,7 +24,7 @@ use Rattle.width_rules.specs.declared.slot.Slot.{Slot}
 use Rattle.width_rules.specs.declared.slot.Slot.TheVariants as slot
 use Rattle.width_rules.specs.declared.rule.Rule.{Rule}
 use Rattle.width_rules.specs.Formulas.{level, width_under}
-use Rattle.width_rules.specs.Places.{spots, size, slots_from, open_spots, node_slots}
+use Rattle.width_rules.specs.Places.{capped, spots, size, slots_from, open_spots, node_slots}
 use Rattle.width_rules.specs.Sources.{Known, Measured, measured_reference, component, named, field_step, element_step, operation, choice, literal_width, formula_of, lone}
 use Rattle.circuit_parts.specs.Parts.{source_of}
 use Rattle.circuit_parts.specs.Kinds.{ground}
@@ -123,7 +123,7 @@ pub record Step : Type 0 where
 
 abbrev pub measured_literal : Sign → Option ℕ → Number → Place → Measured
 measured_literal kind width number place =
-    record { part = source_of (ground place kind width); formulas = formula.Fixed (literal_width kind (integer_of_number number) width) ∷ [] }
+    record { part = source_of (ground place kind width); formulas = formula.Fixed (capped (literal_width kind (integer_of_number number) width)) ∷ [] }
 
 abbrev pub of_form : List Width → Form-F (Place → Among) Step Among → Place → Among
 of_form widths (Form-F.Ref name suffixes) place known =

@@ -1,3 +1,4 @@
+pub mod Capped
 pub mod FormulaLemmas
 pub mod Growing
 pub mod Indexing
@@ -16,3 +17,4 @@ pub mod Spots
 pub mod Targets
 pub mod Walking
 pub mod Whole
+pub mod Cuts

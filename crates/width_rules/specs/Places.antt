@@ -1,5 +1,5 @@
 -- The widths of the places of a type (FIRRTL specification 3.0, "Width Inference"): the places are those of `spots`.
-use Rattle.std.specs.Prelude.{ℕ, ◌+◌, ◌==◌, if◌then◌else◌, List, [], ◌∷◌, take, drop, Option, Some, None}
+use Rattle.std.specs.Prelude.{ℕ, ◌+◌, min, ◌==◌, if◌then◌else◌, List, [], ◌∷◌, take, drop, Option, Some, None}
 use Rattle.fir_types.specs.declared.fir_type.FirType.{FirType}
 use Rattle.fir_types.specs.declared.fir_type.Shape.{Shape}
 use Rattle.fir_types.specs.declared.fir_type.Shape.TheOpen.{Shape-F}
@@ -9,9 +9,13 @@ pub use Rattle.width_spots.specs.Spots.{Spot, one_spot, turned, of_shape, of_fie
 use Rattle.width_rules.specs.declared.slot.Slot.{Slot}
 use Rattle.width_rules.specs.declared.slot.Slot.TheVariants.{Fixed, Var}
 
+-- A number of bits as it counts. A width past 128 bits is over the limit, whatever it is, so each counts as 129.
+abbrev pub capped : ℕ → ℕ
+capped width = min width 129
+
 -- The widths of a declared type's places, where its variables are numbered from n on: a place without a width has a variable.
 abbrev pub slot_of : ℕ → Option ℕ → Slot
-slot_of n (Some width) = Fixed width
+slot_of n (Some width) = Fixed (capped width)
 slot_of n None = Var n
 
 abbrev pub is_open : Option ℕ → ℕ

@@ -18,7 +18,7 @@ use Rattle.width_rules.specs.declared.slot.Slot.{Slot}
 use Rattle.width_rules.specs.declared.slot.Slot.TheVariants as slot
 use Rattle.width_rules.specs.declared.rule.Formula.{Formula}
 use Rattle.width_rules.specs.declared.rule.Formula.TheVariants as formula
-use Rattle.width_rules.specs.Places.{slots_of_field}
+use Rattle.width_rules.specs.Places.{capped, slots_of_field}
 
 -- the components that are declared so far, by the numbers of their names
 abbrev pub Known : Type 0
@@ -102,7 +102,7 @@ measured_reference sized = record { part = sized.part; formulas = map formula_of
 abbrev pub of_form : Form-F (Place → Among) (Component → Component) Among → Place → Among
 of_form (Form-F.Ref name suffixes) place known = measured_reference (named suffixes (component known name.id))
 of_form (Form-F.Literal kind width number) place known =
-    record { part = source_of (ground place kind width); formulas = formula.Fixed (literal_width kind (integer_of_number number) width) ∷ [] }
+    record { part = source_of (ground place kind width); formulas = formula.Fixed (capped (literal_width kind (integer_of_number number) width)) ∷ [] }
 of_form (Form-F.Prim op operands params) place known = operation op place (map (λ e. e known) operands) params
 of_form (Form-F.Mux operands) place known = choice (map (λ e. e known) operands)
 

@@ -5,16 +5,19 @@ ghost use Rattle.bit_words.specs.Numbers.{integer_of_number};
 ghost use Rattle.prim_ops.specs.Kinds.{row_kind};
 ghost use Rattle.circuit_parts.specs.Parts.{source_of};
 ghost use Rattle.circuit_parts.specs.Kinds.{sign_of, ground, sign_or_unsigned};
+ghost use Rattle.width_rules.specs.Places.{capped};
 ghost use Rattle.width_rules.specs.Sources.{component, component_or_none, named, measured, measured_reference, suffix_step, formula_of, literal_width, lone, kind_of, greater_of, choice};
 ghost use Rattle.width_rules.specs.Parts.{measured_by, operation_over};
+ghost use Rattle.width_rules.specs.Pieces.{slots_in};
 ghost use Rattle.width_rules.specs.Targets.{has_variable, has_target};
 
 use crate::indexed::Indexed;
+use crate::pieces::{Slots, listed};
 use crate::rule::Formula;
-use crate::slot::Slot;
+use crate::slot::{Slot, capped};
 use crate::steps::walk_steps;
 use bit_words::literal::least_width;
-use bit_words::{Kind, List, Number};
+use bit_words::{Kind, List, Number, Shared};
 use circuit_parts::kinds::ground;
 use circuit_parts::steps::{no_part, source};
 use circuit_parts::{Flow, Part};
@@ -126,7 +129,7 @@ fn pair(alloc: Global, first: Formula, second: Formula) -> Result<Formula, Alloc
     let mut both = List::new(alloc);
     both.push(first)?;
     both.push(second)?;
-    Ok(Formula::Greatest(both))
+    Ok(Formula::Greatest(Shared::new(alloc, both)?))
 }
 
 fn reference(
@@ -145,7 +148,7 @@ fn reference(
             typ: copy(view.typ)?,
             flow: view.flow,
         },
-        formulas: formulas_of(alloc, view.slots)?,
+        formulas: formulas_in(alloc, view.slots)?,
     })
 }
 
@@ -192,6 +195,19 @@ pub fn no_component(alloc: Global) -> Result<Indexed, AllocError>
     Indexed::new(alloc, no_part(alloc)?, List::new(alloc))
 }
 
+/// Widths of a component as formulas.
+fn formulas_in(alloc: Global, slots: Slots<'_>) -> Result<List<Formula>, AllocError>
+    ensures { IfOk result (λ formulas. formulas ≡ map formula_of (slots_in slots.entry)) }
+{
+    match slots {
+        Slots::Listed(list) => formulas_of(alloc, list),
+        Slots::Between(_, _, _) => {
+            let own = listed(alloc, slots)?;
+            formulas_of(alloc, own.as_slice())
+        }
+    }
+}
+
 /// Widths as formulas.
 pub fn formulas_of(alloc: Global, slots: &[Slot]) -> Result<List<Formula>, AllocError>
     ensures { IfOk result (λ formulas. formulas ≡ map formula_of slots.now) }
@@ -219,10 +235,10 @@ fn literal(
     width: Option<u128>,
     number: Number,
 ) -> Result<Measure, AllocError>
-    ensures { IfOk result (λ m. measured_by m ≡ record { part = source_of (ground place kind width); formulas = Formula.Fixed (literal_width kind (integer_of_number number) width) ∷ [] }) }
+    ensures { IfOk result (λ m. measured_by m ≡ record { part = source_of (ground place kind width); formulas = Formula.Fixed (capped (literal_width kind (integer_of_number number) width)) ∷ [] }) }
 {
     let mut formulas = List::new(alloc);
-    formulas.push(Formula::Fixed(width_of(kind, width, number)))?;
+    formulas.push(Formula::Fixed(capped(width_of(kind, width, number))))?;
     Ok(Measure {
         part: source(ground(place, kind, width)),
         formulas,
@@ -254,6 +270,9 @@ fn operation(
     let mut whole = List::new(alloc);
     let takes = params.len() == arity(prim).1 as usize;
     if row.is_some() && takes {
+        let kinds = Shared::new(alloc, kinds)?;
+        let formulas = Shared::new(alloc, formulas)?;
+        let params = Shared::new(alloc, params)?;
         whole.push(Formula::Op(prim, kinds, formulas, params))?;
     } else {
         whole.push(Formula::Fixed(0))?;

@@ -1,20 +1,20 @@
 //! Rules and formulas over width variables (FIRRTL specification 3.0, "Width Inference").
 
-use bit_words::{Kind, List};
+use bit_words::{Kind, List, SharedList};
 use place_text::Place;
 use prim_ops::Prim;
 
 /// A width, by the variables.
 #[derive(Debug, Drop)]
 pub enum Formula {
-    /// This many bits.
-    Fixed(u128),
+    /// This many bits, where 129 stands for any number past 128.
+    Fixed(u8),
     /// The variable of this number.
     Var(u32),
     /// The width of an operation's result: the kinds and the widths of its operands, and its parameters.
-    Op(Prim, List<Kind>, List<Formula>, List<u128>),
+    Op(Prim, SharedList<Kind>, SharedList<Formula>, SharedList<u128>),
     /// The greatest of some widths.
-    Greatest(List<Formula>),
+    Greatest(SharedList<Formula>),
 }
 
 /// The variable `target` is at least the formula.
@@ -23,6 +23,9 @@ pub struct Rule {
     pub target: u32,
     pub formula: Formula,
 }
+
+// A wide bundle in many nodes gives a rule for each of its places in each of them, so a rule is kept small.
+const _: () = prove!(size_of::<Rule>() <= 40);
 
 /// The rules of a circuit.
 #[derive(Debug, Drop)]

@@ -5,18 +5,19 @@ ghost use Rattle.width_rules.specs.Places.{spots, size, one_spot, node_slots};
 ghost use Rattle.width_rules.specs.Layers.{field_spots, mask_widths, mask_field_widths, Adds};
 ghost use Rattle.width_rules.specs.Circuits.{places_for};
 
-use crate::slot::Slot;
+use crate::slot::{Slot, capped};
 use bit_words::List;
 use fir_types::{Field, FirType, Shape};
 use place_text::Place;
 use std::alloc::{AllocError, Global};
 use width_spots::{inside_lengths, size};
 
-/// The most places with variables that a circuit may have, and the most rules. So many of either take some 8 GB, and more are
-/// a want of memory.
+/// The most places with variables that a circuit may have; more are a want of memory. Each takes 16 bytes, 8 for where it is
+/// and 8 for its width in its component, and so many take 0.8 GB.
 const MOST_PLACES: usize = 50_000_000;
 
-pub const MOST_RULES: usize = 50_000_000;
+/// The most rules that a circuit may have; more are a want of memory. Each takes 40 bytes, and so many take 0.8 GB.
+pub const MOST_RULES: usize = 20_000_000;
 
 /// Adds the widths of a type's places. Each variable has the next number and this place.
 #[cycle(slots)]
@@ -63,7 +64,7 @@ fn push_slot(
     ensures { OnOk result (Adds place (one_spot width) slots.old slots.new places.old.items places.new.items) }
 {
     match width {
-        Some(width) => slots.push(Slot::Fixed(width)),
+        Some(width) => slots.push(Slot::Fixed(capped(width))),
         None => push_variable(slots, places, place),
     }
 }

@@ -18,7 +18,7 @@ pub fn width_of_formula(formula: &Formula, widths: &[Width]) -> Width
     ensures { result ≡ width_under formula.now widths.now }
 {
     match formula {
-        Formula::Fixed(bits) => bounded(*bits),
+        Formula::Fixed(bits) => bounded(u128::from(*bits)),
         Formula::Var(variable) => widths[*variable as usize],
         Formula::Op(prim, kinds, parts, params) => {
             width_of_operation(

@@ -5,7 +5,7 @@ ghost use Rattle.width_rules.specs.Formulas.{IsFormula};
 ghost use Rattle.width_rules.specs.Solutions.{AreRules};
 ghost use Rattle.width_solver.specs.Small.{AskTheSame, Replaces};
 
-use bit_words::List;
+use bit_words::{List, Shared};
 use std::alloc::{AllocError, Global};
 use width_rules::{Formula, Rule};
 
@@ -78,13 +78,15 @@ fn small_formula(alloc: Global, small: &mut Small, formula: &Formula) -> Result<
         Formula::Var(variable) => Ok(Formula::Var(*variable)),
         Formula::Op(prim, kinds, parts, params) => {
             let leaves = leaves_of(alloc, small, parts.as_slice())?;
-            let kinds = List::from_slice(alloc, kinds.as_slice())?;
-            let params = List::from_slice(alloc, params.as_slice())?;
-            Ok(Formula::Op(*prim, kinds, leaves, params))
+            let kinds = kinds.share()?;
+            let params = params.share()?;
+            let operands = Shared::new(alloc, leaves)?;
+            Ok(Formula::Op(*prim, kinds, operands, params))
         }
         Formula::Greatest(parts) => {
             let leaves = leaves_of(alloc, small, parts.as_slice())?;
-            Ok(Formula::Greatest(leaves))
+            let operands = Shared::new(alloc, leaves)?;
+            Ok(Formula::Greatest(operands))
         }
     }
 }

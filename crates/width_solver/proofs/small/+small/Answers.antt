@@ -1,4 +1,4 @@
-use Rattle.std.proofs.Common.{◌≡◌, rules, ◌∙◌}
+use Rattle.std.proofs.Common.{rules}
 use Rattle.std.proofs.lemmas.List.Elements.{All-from_recursion}
 use Rattle.width_rules.specs.declared.rule.Formula.{the_lemmas}
 use Rattle.width_rules.specs.Formulas.{IsFormula}
@@ -39,13 +39,11 @@ small_formula-returns-in-Fixed t c = rw c.in-Fixed.is (replaces_itself _ c.args.
 pub small_formula-returns-in-Var : goal.small_formula-returns-in-Var
 small_formula-returns-in-Var t c = rw c.in-Var.is (replaces_itself _ c.args.small.now.count c.args.small.now.rules.items (rw c.in-Var.is at c.requires.fits))
 
-pub small_formula-returns-in_ok-params-in-Op : goal.small_formula-returns-in_ok-params-in-Op
-small_formula-returns-in_ok-params-in-Op t c =
-    let kinds : c.in_ok-kinds-in-Op.kinds ≡ c.in-Op.kinds = c.in_ok-kinds-in-Op.ensures ∙ c.as_slice-in-Op.ensures in
-    let params : c.in_ok-params-in-Op.params ≡ c.in-Op.params = c.in_ok-params-in-Op.ensures ∙ c.as_slice-in-Op-2.ensures in
-    rw (c.in-Op.is, kinds, params)
+pub small_formula-returns-in_ok-operands-in-Op : goal.small_formula-returns-in_ok-operands-in-Op
+small_formula-returns-in_ok-operands-in-Op t c =
+    rw (c.in-Op.is, c.in_ok-kinds-in-Op.ensures, c.in_ok-params-in-Op.ensures, c.in_ok-operands-in-Op.ensures)
     (replaces_op c.in-Op.prim c.in-Op.kinds c.in-Op.parts _ c.in-Op.params _ _ _ _ (rw c.in-Op.is at c.requires.fits) (rw c.as_slice.ensures at c.in_ok-leaves-in-Op.ensures))
 
-pub small_formula-returns-in_ok-leaves-in-Greatest : goal.small_formula-returns-in_ok-leaves-in-Greatest
-small_formula-returns-in_ok-leaves-in-Greatest t c =
-    rw c.in-Greatest.is (replaces_greatest c.in-Greatest.parts _ _ _ _ _ (rw c.as_slice-in-Greatest.ensures at c.in_ok-leaves-in-Greatest.ensures))
+pub small_formula-returns-in_ok-operands-in-Greatest : goal.small_formula-returns-in_ok-operands-in-Greatest
+small_formula-returns-in_ok-operands-in-Greatest t c =
+    rw (c.in-Greatest.is, c.in_ok-operands-in-Greatest.ensures) (replaces_greatest c.in-Greatest.parts _ _ _ _ _ (rw c.as_slice-in-Greatest.ensures at c.in_ok-leaves-in-Greatest.ensures))
