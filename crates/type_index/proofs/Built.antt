@@ -105,12 +105,15 @@ pub bundle_matches : (texts : Texts) (typ : FirType) (fs : List Field) (gathered
     → Gathers texts fs gathered → IsAmong among fs → index.leaves ≡ gathered.ways.leaves → index.bytes ≡ gathered.ways.bytes → index.passive ≡ gathered.passive
     → index.inside ≡ inside.Bundle among gathered.parts → Matches (IsRight texts) typ index
 bundle_matches texts typ fs gathered among index is g a l b v q =
-    bundle fs among gathered.parts is q (record {
-      leaves = l ∙ g.leaves ∙ ap cap (sym (count-bundle typ fs is));
-      passive = v ∙ g.passive ∙ ap not (sym (flip-bundle typ fs is));
-      among = λ fields other inners h k. subst (λ x. IsAmong x fields) (same_among among other gathered.parts inners (sym q ∙ k))
-          (subst (IsAmong among) (same_fields fs fields (sym is ∙ h)) a);
-    }, b ∙ g.bytes ∙ ap cap (sym (ways-bundle texts typ fs is))) g.parts
+    bundle fs among gathered.parts is q (
+      record {
+        leaves = l ∙ g.leaves ∙ ap cap (sym (count-bundle typ fs is));
+        passive = v ∙ g.passive ∙ ap not (sym (flip-bundle typ fs is));
+        among = λ fields other inners h k. subst (λ x. IsAmong x fields) (same_among among other gathered.parts inners (sym q ∙ k))
+            (subst (IsAmong among) (same_fields fs fields (sym is ∙ h)) a);
+      },
+      b ∙ g.bytes ∙ ap cap (sym (ways-bundle texts typ fs is)),
+    ) g.parts
 
 -- vectors
 
@@ -121,11 +124,14 @@ pub vector_matches : (texts : Texts) (typ element : FirType) (n : ℕ) (inner in
 vector_matches texts typ element n inner index is m l b v q =
     let k : IsKnown element inner = (right m).0 in
     let w : inner.bytes ≡ cap (way_bytes texts element) = (right m).1 in
-    vector element n inner is q (record {
-      leaves = l k.leaves;
-      passive = v ∙ k.passive ∙ ap not (sym (flip-vector typ element n is));
-      among = λ fields among inners h e. absurd cc;
-    }, b k.leaves w) m
+    vector element n inner is q (
+      record {
+        leaves = l k.leaves;
+        passive = v ∙ k.passive ∙ ap not (sym (flip-vector typ element n is));
+        among = λ fields among inners h e. absurd cc;
+      },
+      b k.leaves w,
+    ) m
 
 abbrev around : Place × ℕ → FirType → FirType
 around length typ = record { place = length.0; shape = shape.Vector typ length.1 }
@@ -156,11 +162,14 @@ around_end lengths left innermost index is h texts typ m =
 ground_matches : (texts : Texts) (typ : FirType) (index : TypeIndex) → is_ground (out-Shape typ.shape) ≡ true → ((fields : List Field) → typ.shape ≡ shape.Bundle fields → ⊥)
     → count typ ≡ 1 → way_bytes texts typ ≡ 0 → has_flip typ ≡ false → index.leaves ≡ 1 → index.bytes ≡ 0 → index.passive ≡ true → Matches (IsRight texts) typ index
 ground_matches texts typ index g none c w f l b v =
-    ground g (record {
-      leaves = l ∙ ap cap (sym c);
-      passive = v ∙ ap not (sym f);
-      among = λ fields among inners h e. absurd (none fields h);
-    }, b ∙ ap cap (sym w))
+    ground g (
+      record {
+        leaves = l ∙ ap cap (sym c);
+        passive = v ∙ ap not (sym f);
+        among = λ fields among inners h e. absurd (none fields h);
+      },
+      b ∙ ap cap (sym w),
+    )
 
 pub unsigned_matches : (texts : Texts) (typ : FirType) (w : Option ℕ) (index : TypeIndex) → typ.shape ≡ shape.Unsigned w
     → index.leaves ≡ 1 → index.bytes ≡ 0 → index.passive ≡ true → Matches (IsRight texts) typ index
