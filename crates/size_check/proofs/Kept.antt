@@ -1,7 +1,6 @@
 -- The components that are known, as the bodies keep them.
 use Rattle.std.proofs.Common.{◌≡◌, ℕ, List, [], ◌∷◌, ◌++◌, refl, sym, ap, ◌∙◌, subst, nat_eq, if◌then◌else◌, Bool, true, false, true≢false}
 use Rattle.std.specs.Prelude.{Option, Some, None, is_some, option_map, IfSome}
-use Rattle.std.specs.Option.{ForSome}
 use Rattle.std.specs.Map.{lookup}
 use Rattle.std.proofs.lemmas.List.{map-append}
 use Rattle.std.proofs.lemmas.List.Elements.{All-nil, All-push}
@@ -9,19 +8,19 @@ use Rattle.std.proofs.lemmas.Map.Entries.{All-lookup}
 use Rattle.std.proofs.lemmas.Map.Made.{lookup-map_values}
 use Rattle.fir_types.specs.declared.fir_type.FirType.{FirType}
 use Rattle.fir_tree.specs.declared.circuit.Module.{Module}
-use Rattle.fir_tree.specs.declared.expr.Expr.{Expr}
 use Rattle.leaf_names.specs.LeafNames.{Texts}
-use Rattle.field_index.specs.declared.index.FieldIndex.{FieldIndex}
-use Rattle.field_index.specs.Indexes.{IsIndexOfType}
+use Rattle.std.proofs.Math.Logic.{∥∥₁_elim}
+use Rattle.std.proofs.Math.Nat.{ℕ_set}
+use Rattle.type_index.specs.declared.tree.TypeIndex.{TypeIndex}
+use Rattle.type_index.specs.Knowing.{HasWays}
+use Rattle.type_index.proofs.Parts.{self}
 use Rattle.size_check.specs.declared.component.Component.{Component}
 use Rattle.module_table.specs.Tables.{with_new, bundle_of}
-use Rattle.module_table.specs.Whole.{IsWhole}
 use Rattle.size_check.specs.Kept.{types_of, IsMeasured, AreMeasured}
 use Rattle.size_check.specs.Caps.{cap}
 use Rattle.name_sizes.specs.Texts.{way_bytes}
 use Rattle.size_check.specs.Typings.{typing, type_or_none, known_with, instance_type}
-use Rattle.size_check.specs.Weights.{Weight, weight, no_type}
-use Rattle.size_check.proofs.Weighing.{weight-whole}
+use Rattle.size_check.specs.Weights.{no_type}
 
 abbrev pub kept_typ : Component → FirType
 kept_typ c = c.known.typ
@@ -40,23 +39,6 @@ kept_new es id c =
     by : (o : Option Component) → types_of (if is_some o then es else es ++ (id, c) ∷ []) ≡ (if is_some (option_map kept_typ o) then types_of es else types_of es ++ (id, c.known.typ) ∷ [])
     by (Some k) = refl
     by None = map-append (λ (x : ℕ × Component). (x.0, x.1.known.typ)) es ((id, c) ∷ [])
-
-pub kept_index : (es : List (ℕ × Component)) (id : ℕ) (c : Component) (index : Option FieldIndex) → lookup (nat_eq id) es ≡ Some c → index ≡ c.known.index
-    → ForSome index (IsIndexOfType (typing (types_of es) id))
-kept_index es id c index h e =
-    subst (λ o. ForSome o (IsIndexOfType (typing (types_of es) id))) (sym e)
-    (subst (λ t. ForSome c.known.index (IsIndexOfType t)) (sym (kept_found es id (Some c) h)) c.known.indexed)
-
--- a node of a whole component has its type
-
-whole_typ : (es : List (ℕ × Component)) (e : Expr) (id : ℕ) (c : Component) → IsWhole e id → lookup (nat_eq id) es ≡ Some c → c.known.typ ≡ (weight e (typing (types_of es))).typ
-whole_typ es e id c h found =
-    sym (ap (λ (w : Weight). w.typ) (weight-whole e h.0 (typing (types_of es)) h.1) ∙ ap (typing (types_of es)) h.2 ∙ kept_found es id (Some c) found)
-
-pub whole_found : {B : Type 0} (now : B → Component) (r : Option B) (es : List (ℕ × Component)) (e : Expr) (id : ℕ) → IsWhole e id → option_map now r ≡ lookup (nat_eq id) es
-    → IfSome r (λ c. (now c).known.typ ≡ (weight e (typing (types_of es))).typ)
-whole_found now (Some c) es e id h found = whole_typ es e id (now c) h (sym found)
-whole_found now None es e id h found = tt {0}
 
 -- an instance of the first module of a name
 
@@ -80,16 +62,13 @@ measured_new texts es id c h all = by (is_some (lookup (nat_eq id) es))
     by true = all
     by false = All-push (λ e. IsMeasured texts e.1) es (id, c) all h
 
-pub whole_measured : {B : Type 0} (now : B → Component) (r : Option B) (es : List (ℕ × Component)) (id : ℕ) → option_map now r ≡ lookup (nat_eq id) es
-    → IfSome r (λ c. (texts : Texts) → AreMeasured texts es → IsMeasured texts (now c))
-whole_measured now (Some c) es id h = λ texts all. measured_found texts es id (now c) (sym h) all
-whole_measured now None es id h = tt {0}
-
 pub none_measured : (texts : Texts) (es : List (ℕ × Component)) → es ≡ [] → AreMeasured texts es
 none_measured texts es h = subst (AreMeasured texts) (sym h) (All-nil (λ e. IsMeasured texts e.1))
 
-pub ways_measured : (texts : Texts) (es : List (ℕ × Component)) (id : ℕ) (c : Component) (bytes : ℕ) → lookup (nat_eq id) es ≡ Some c → c.way_bytes ≡ Some bytes → AreMeasured texts es
-    → bytes ≡ cap (way_bytes texts (typing (types_of es) id))
-ways_measured texts es id c bytes found some all =
-    subst (λ o. IfSome o (λ b. b ≡ cap (way_bytes texts c.known.typ))) some (measured_found texts es id c found all)
-    ∙ sym (ap (λ t. cap (way_bytes texts t)) (kept_found es id (Some c) found))
+pub part_measured : (texts : Texts) (es : List (ℕ × Component)) (id : ℕ) (c : Component) → lookup (nat_eq id) es ≡ Some c → AreMeasured texts es
+    → ∥ HasWays texts c.known.typ c.known.index ∥₁
+part_measured texts es id c found all = measured_found texts es id c found all
+
+-- the bytes of a part
+pub bytes_of : (texts : Texts) (typ : FirType) (index : TypeIndex) → ∥ HasWays texts typ index ∥₁ → index.bytes ≡ cap (way_bytes texts typ)
+bytes_of texts typ index k = ∥∥₁_elim k (ℕ_set index.bytes (cap (way_bytes texts typ))) (λ m. self m)

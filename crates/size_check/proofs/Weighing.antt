@@ -1,18 +1,19 @@
 -- What is said of expressions, one part more.
-use Rattle.std.proofs.Common.{◌≡◌, ℕ, ◌+◌, ◌<◌, List, [], ◌∷◌, ◌++◌, max, map, take, length, get_or, refl, sym, ap, ap₂, ◌∙◌, arith}
+use Rattle.std.proofs.Common.{◌≡◌, ℕ, zero, suc, ◌+◌, ◌<◌, ◌≤◌, List, [], ◌∷◌, ◌++◌, max, map, take, drop, length, get_or, refl, sym, ap, ap₂, ◌∙◌, arith}
 use Rattle.std.specs.Prelude.{Option, option_map, find, ◌==◌}
 use Rattle.std.proofs.lemmas.Grind.{common_steps}
 use Rattle.std.proofs.lemmas.List.{map_more}
 use Rattle.fir_types.specs.declared.fir_type.FirType.{FirType}
 use Rattle.fir_types.specs.declared.fir_type.Field.{Field}
-use Rattle.fir_types.specs.declared.fir_type.Shape.TheVariants as shape
-use Rattle.fir_types.specs.declared.fir_type.Shape.TheVariants.{outs-Bundle}
+use Rattle.fir_types.specs.declared.fir_type.Shape.{Shape}
+use Rattle.fir_types.specs.declared.fir_type.Shape.TheOpen.{Shape-F}
+use Rattle.type_index.specs.Knowing.{fields_in, element_in}
 use Rattle.fir_types.specs.declared.fir_type.Shape.TheViews.{out-Shape}
 use Rattle.fir_types.specs.declared.name.Name.{Name}
 use Rattle.prim_ops.specs.declared.operation.PrimOp.{PrimOp}
 use Rattle.fir_tree.specs.declared.expr.Expr.{Expr, the_lemmas as expr_lemmas}
 use Rattle.fir_tree.specs.declared.expr.Form.TheVariants as form
-use Rattle.fir_meaning.specs.Values.{field_type, or_itself, field_of_shape}
+use Rattle.fir_meaning.specs.Values.{field_type, element_type, or_itself, field_of_shape, element_of_shape}
 use Rattle.size_check.specs.Caps.{cap}
 use Rattle.size_check.specs.Measures.{greatest}
 use Rattle.size_check.specs.Reaching.{capped_weight}
@@ -71,8 +72,57 @@ pub weigh_mux : (e : Expr) (es : List Expr) (types : Typing) (w : Weight) → e.
     → w ≡ capped_weight (weight e types)
 weigh_mux e es types w is h = h ∙ sym (ap capped_weight (weight-mux e es types is ∙ ap of_choice (all_weights types es)))
 
-pub field_found : (typ : FirType) (fields : List Field) (id : ℕ) (found : Option Field) → typ.shape ≡ shape.Bundle fields → find (λ f. f.name.id == id) fields ≡ found
+-- the type of a part, by the field or element that is found
+
+pub field_type_is : (typ : FirType) (id : ℕ) (found : Option Field) → found ≡ find (λ f. f.name.id == id) (fields_in (out-Shape typ.shape))
     → field_type id typ ≡ or_itself typ (option_map (λ f. f.typ) found)
-field_found typ fields id found e h =
-    ap (λ s. or_itself typ (field_of_shape id (out-Shape s))) e ∙ ap (λ l. or_itself typ (field_of_shape id l)) (outs-Bundle fields)
-    ∙ ap (λ (o : Option Field). or_itself typ (option_map (λ f. f.typ) o)) h
+field_type_is typ id found e = by (out-Shape typ.shape) ∙ ap (λ (o : Option Field). or_itself typ (option_map (λ f. f.typ) o)) (sym e)
+  where
+    by : (s : Shape-F Shape Field FirType) → or_itself typ (field_of_shape id s) ≡ or_itself typ (option_map (λ f. f.typ) (find (λ f. f.name.id == id) (fields_in s)))
+    by (Shape-F.Unsigned w) = refl
+    by (Shape-F.Signed w) = refl
+    by Shape-F.Clock = refl
+    by Shape-F.Reset = refl
+    by (Shape-F.Bundle fs) = refl
+    by (Shape-F.Vector element n) = refl
+
+pub element_type_is : (typ : FirType) (found : Option FirType) → found ≡ element_in (out-Shape typ.shape) → element_type typ ≡ or_itself typ found
+element_type_is typ found e = by (out-Shape typ.shape) ∙ ap (or_itself typ) (sym e)
+  where
+    by : (s : Shape-F Shape Field FirType) → or_itself typ (element_of_shape s) ≡ or_itself typ (element_in s)
+    by (Shape-F.Unsigned w) = refl
+    by (Shape-F.Signed w) = refl
+    by Shape-F.Clock = refl
+    by Shape-F.Reset = refl
+    by (Shape-F.Bundle fs) = refl
+    by (Shape-F.Vector element n) = refl
+
+-- a choice, of which the second operand is reached
+pub choice_made : (f : Expr → Weight) (es : List Expr) (condition first : Expr) (asked : ℕ) (w : Weight) (rest inner most : ℕ) → 2 ≤ length es
+    → condition ≡ get_or es 0 condition → first ≡ get_or es 1 first → asked ≡ cap (f condition).most → w ≡ capped_weight (f first)
+    → rest ≡ cap (most_of (map f (drop 2 es))) → inner ≡ max w.most rest → most ≡ max asked inner
+    → made w.typ most ≡ capped_weight (of_choice (map f es))
+choice_made f [] condition first asked w rest inner most two c d a e r i m = absurd (omega arith)
+choice_made f (x ∷ []) condition first asked w rest inner most two c d a e r i m = absurd (omega arith)
+choice_made f (x ∷ y ∷ es) condition first asked w rest inner most two c d a e r i m =
+    let g = most_of (map f es) in
+    let typ : w.typ ≡ (f y).typ = ap (λ v. v.typ) e ∙ ap (λ z. (f z).typ) d in
+    let second : w.most ≡ cap (f y).most = ap (λ v. v.most) e ∙ ap (λ z. cap (f z).most) d in
+    let one : asked ≡ cap (f x).most = a ∙ ap (λ z. cap (f z).most) c in
+    let both : inner ≡ cap (max (f y).most g) = i ∙ ap₂ max second r ∙ cap_max (f y).most g in
+    ap₂ made typ (m ∙ ap₂ max one both ∙ cap_max (f x).most (max (f y).most g))
+
+take_all : {X : Type 0} (xs : List X) (n : ℕ) → length xs ≤ n → take n xs ≡ xs
+take_all [] zero h = refl
+take_all [] (suc n) h = refl
+take_all (x ∷ xs) zero h = absurd (omega arith)
+take_all (x ∷ xs) (suc n) h = ap (λ l. x ∷ l) (take_all xs n (omega arith))
+
+pub rest_most : (f : Expr → Weight) (es : List Expr) (n rest : ℕ) → rest ≡ cap (most_of (map f (take n (drop 2 es)))) → length es ≤ n + 2
+    → rest ≡ cap (most_of (map f (drop 2 es)))
+rest_most f es n rest e h = e ∙ ap (λ l. cap (most_of (map f l))) (take_all (drop 2 es) n (behind es n h))
+  where
+    behind : (es : List Expr) (n : ℕ) → length es ≤ n + 2 → length (drop 2 es) ≤ n
+    behind [] n h = omega arith
+    behind (x ∷ []) n h = omega arith
+    behind (x ∷ y ∷ es) n h = omega arith

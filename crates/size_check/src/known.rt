@@ -1,6 +1,8 @@
 //! The types of a module's components.
 
 ghost use Rattle.std.specs.Prelude.{◌≡◌, [], map, IfOk, OnOk};
+ghost use Rattle.std.specs.Coded.{Coded-set};
+ghost use Rattle.fir_types.specs.contracts.fir_type.FirType.{the_row as type_row};
 ghost use Rattle.leaf_names.specs.LeafNames.{Texts};
 ghost use Rattle.size_check.specs.Kept.{types_of, IsMeasured, AreMeasured};
 ghost use Rattle.size_check.specs.Typings.{known_with, known_in, stmt_notes, arm_notes, port_notes, in_turn, named, instance_type as instance_type_of};
@@ -31,8 +33,8 @@ pub struct Known {
     pub bit: KnownType,
     /// The type of what is nothing.
     pub none: KnownType,
-    ghost is_bit: { bit.typ ≡ one_bit },
-    ghost is_none: { none.typ ≡ no_type },
+    ghost is_bit: { bit.typ ≡ one_bit } by { Coded-set type_row.coded bit.typ one_bit },
+    ghost is_none: { none.typ ≡ no_type } by { Coded-set type_row.coded none.typ no_type },
     ghost bit_ways: { (texts : Texts) → ∥ HasWays texts bit.typ bit.index ∥₁ },
     ghost none_ways: { (texts : Texts) → ∥ HasWays texts none.typ none.index ∥₁ },
 }
@@ -105,11 +107,7 @@ impl Known {
 }
 
 /// The components of a module, where these are all modules.
-pub fn known_of(
-    alloc: Global,
-    modules: &Modules<'_>,
-    holder: &Module,
-) -> Result<Known, AllocError>
+pub fn known_of(alloc: Global, modules: &Modules<'_>, holder: &Module) -> Result<Known, AllocError>
     ensures types { IfOk result (λ known. types_of known.types.entries ≡ known_in modules.now.all.now holder.now) }
     ensures measured { IfOk result (λ known. AreMeasured modules.now.names.now known.types.entries) }
 {

@@ -32,7 +32,7 @@ pub statement_own-returns-in_ok-size-in-Reg : goal.statement_own-returns-in_ok-s
 statement_own-returns-in_ok-size-in-Reg t c =
     reg_sums c.args.names.now (types_in c.args.known.now) c.args.statement.now c.in-Reg.name c.in-Reg.typ c.in-Reg.clock c.args.around
     c.register-kept.result.leaves c.in_ok-nodes-in-Reg.field-0 c.weigh.result.most c.max-most.result c.in_ok-size-in-Reg.size c.register-kept.result c.plus-in-Reg.result
-    c.in-Reg.is (register_leaves c.args.names.now c.in-Reg.name.id c.in-Reg.typ c.register-kept.result c.register-kept.ensures) (ap (λ w. w.most) c.weigh.ensures) c.max-most.ensures c.in_ok-nodes-in-Reg.ensures c.in_ok-size-in-Reg.ensures c.register-kept.ensures c.plus-in-Reg.ensures
+    c.in-Reg.is (register_leaves c.args.names.now c.in-Reg.name.id c.in-Reg.typ c.register-kept.result c.register-kept.ensures) (ap (λ w. w.most) c.weigh.ensures.weight) c.max-most.ensures c.in_ok-nodes-in-Reg.ensures c.in_ok-size-in-Reg.ensures c.register-kept.ensures c.plus-in-Reg.ensures
 
 pub statement_own-returns-in_ok-size-in-RegReset : goal.statement_own-returns-in_ok-size-in-RegReset
 statement_own-returns-in_ok-size-in-RegReset t c =
@@ -41,15 +41,15 @@ statement_own-returns-in_ok-size-in-RegReset t c =
     reset_sums c.args.names.now (types_in c.args.known.now) c.args.statement.now c.in-RegReset.name c.in-RegReset.typ c.in-RegReset.clock c.in-RegReset.reset c.in-RegReset.init c.args.around
     c.register-kept-in-RegReset.result.leaves c.weigh-in-RegReset.result.most c.max-first.result c.weigh-in-RegReset-2.result.most c.weigh-in-RegReset-3.result.most c.max-second.result c.max.result
     c.in_ok-own-in-RegReset.own c.in_ok-size-in-RegReset.size c.register-kept-in-RegReset.result c.plus-in-RegReset.result
-    c.in-RegReset.is (register_leaves c.args.names.now c.in-RegReset.name.id c.in-RegReset.typ c.register-kept-in-RegReset.result c.register-kept-in-RegReset.ensures) (ap (λ w. w.most) c.weigh-in-RegReset.ensures) c.max-first.ensures (ap (λ w. w.most) c.weigh-in-RegReset-2.ensures)
-    (ap (λ w. w.most) c.weigh-in-RegReset-3.ensures) c.max-second.ensures c.max.ensures own c.in_ok-size-in-RegReset.ensures c.register-kept-in-RegReset.ensures c.plus-in-RegReset.ensures
+    c.in-RegReset.is (register_leaves c.args.names.now c.in-RegReset.name.id c.in-RegReset.typ c.register-kept-in-RegReset.result c.register-kept-in-RegReset.ensures) (ap (λ w. w.most) c.weigh-in-RegReset.ensures.weight) c.max-first.ensures (ap (λ w. w.most) c.weigh-in-RegReset-2.ensures.weight)
+    (ap (λ w. w.most) c.weigh-in-RegReset-3.ensures.weight) c.max-second.ensures c.max.ensures own c.in_ok-size-in-RegReset.ensures c.register-kept-in-RegReset.ensures c.plus-in-RegReset.ensures
 
 pub statement_own-returns-in_ok-size-in-Node : goal.statement_own-returns-in_ok-size-in-Node
 statement_own-returns-in_ok-size-in-Node t c =
     let leaves = c.component_leaves-leaves.ensures in
     node_sums c.args.names.now (types_in c.args.known.now) c.args.statement.now c.in-Node.name c.in-Node.expr c.args.around
     c.component_leaves-leaves.result.leaves c.weigh-in-Node.result.most c.max-most-in-Node.result c.in_ok-nodes-in-Node.field-0 c.in_ok-size-in-Node.size c.component_leaves-leaves.result c.plus-in-Node.result
-    c.in-Node.is (ap (λ s. s.leaves) leaves) (ap (λ w. w.most) c.weigh-in-Node.ensures) c.max-most-in-Node.ensures c.in_ok-nodes-in-Node.ensures
+    c.in-Node.is (ap (λ s. s.leaves) leaves) (ap (λ w. w.most) c.weigh-in-Node.ensures.weight) c.max-most-in-Node.ensures c.in_ok-nodes-in-Node.ensures
     c.in_ok-size-in-Node.ensures leaves c.plus-in-Node.ensures
 
 pub statement_own-returns-in_ok-more-in-Connect : goal.statement_own-returns-in_ok-more-in-Connect
@@ -58,7 +58,7 @@ statement_own-returns-in_ok-more-in-Connect t c =
     ok_then c.sized-in-Connect.result
     (λ after z. connect_sums c.args.names.now (types_in c.args.known.now) c.args.statement.now c.in-Connect.left c.in-Connect.right c.args.around
     c.weigh-in-Connect.result.most c.weigh-in-Connect-2.result.most c.max-most-in-Connect.result c.in_ok-more-in-Connect.field-0 after
-    c.in-Connect.is (ap (λ w. w.most) c.weigh-in-Connect.ensures) (ap (λ w. w.most) c.weigh-in-Connect-2.ensures) c.max-most-in-Connect.ensures own z)
+    c.in-Connect.is (ap (λ w. w.most) c.weigh-in-Connect.ensures.weight) (ap (λ w. w.most) c.weigh-in-Connect-2.ensures.weight) c.max-most-in-Connect.ensures own z)
     c.sized-in-Connect.ensures
 
 pub statement_own-returns-in_ok-last-in-When : goal.statement_own-returns-in_ok-last-in-When
