@@ -3,6 +3,7 @@
 ghost use Rattle.std.specs.Prelude.{◌≡◌, [], map, IfOk, OnOk};
 ghost use Rattle.std.specs.Coded.{Coded-set};
 ghost use Rattle.fir_types.specs.contracts.fir_type.FirType.{the_row as type_row};
+ghost use Rattle.fir_types.specs.Bundles.{memory_of};
 ghost use Rattle.leaf_names.specs.LeafNames.{Texts};
 ghost use Rattle.size_check.specs.Kept.{types_of, IsMeasured, AreMeasured};
 ghost use Rattle.size_check.specs.Typings.{known_with, known_in, stmt_notes, arm_notes, port_notes, in_turn, named, instance_type as instance_type_of};
@@ -13,7 +14,7 @@ use crate::component::Component;
 use crate::weights::weigh;
 use bit_words::{List, Shared};
 use fir_tree::{Arm, Expr, Module, Names, Stmt};
-use fir_types::{FirType, Memory, Name, Port, Shape, copy, instance_type, memory_type};
+use fir_types::{FirType, Memory, Name, Port, Shape, copy, instance_type};
 use indexmap::IndexMap;
 use module_table::{KnownType, Modules, insert_new};
 use name_sizes::Ways;
@@ -163,8 +164,8 @@ fn note_statement(
             known.note(*name, declared(alloc, modules.names, copy(typ)?)?)
         }
         Stmt::Mem(memory) => {
-            let typ = memory_type(alloc, memory)?;
-            known.note(memory.name, declared(alloc, modules.names, typ)?)
+            let ports = declared_memory(alloc, modules.names, memory)?;
+            known.note(memory.name, ports)
         }
         Stmt::Inst(name, target) => {
             let instance = instance_of(alloc, modules, *target)?;
@@ -204,6 +205,19 @@ fn declared(alloc: Global, names: &Names, typ: FirType) -> Result<Component, All
     ensures measured { IfOk result (λ component. IsMeasured names.now component) }
 {
     let known = KnownType::new(alloc, names, typ)?;
+    Ok(Component { known })
+}
+
+/// A memory, whose ports share what is known of an element.
+fn declared_memory(
+    alloc: Global,
+    names: &Names,
+    memory: &Memory,
+) -> Result<Component, AllocError>
+    ensures typ { IfOk result (λ component. component.known.typ ≡ memory_of memory.now) }
+    ensures measured { IfOk result (λ component. IsMeasured names.now component) }
+{
+    let known = KnownType::of_memory(alloc, names, memory)?;
     Ok(Component { known })
 }
 
