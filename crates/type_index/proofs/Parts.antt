@@ -1,5 +1,5 @@
 -- The parts of a tree that is known.
-use Rattle.std.proofs.Common.{◌≡◌, ◌==◌, ℕ, zero, suc, ◌<◌, Bool, true, false, not, List, [], ◌∷◌, ◌++◌, ◌+◌, if◌then◌else◌, find, length, take, get_or, refl, sym, ap, ◌∙◌, subst, arith, add-one}
+use Rattle.std.proofs.Common.{◌≡◌, ◌==◌, ℕ, zero, suc, ◌<◌, Bool, true, false, not, List, [], ◌∷◌, ◌+◌, if◌then◌else◌, find, length, take, get_or, refl, sym, ap, ◌∙◌, subst, arith, add-one}
 use Rattle.std.specs.Prelude.{Option, Some, None, option_map, slice_get}
 use Rattle.std.specs.Coded.{Coded-set, coded_option, coded_ℕ}
 use Rattle.std.proofs.lemmas.Grind.{common_steps}
@@ -24,10 +24,9 @@ use Rattle.field_index.specs.declared.index.FieldPlace.{FieldPlace}
 use Rattle.field_index.specs.Indexes.{first_at, place_in, IsIndexOf}
 use Rattle.field_index.proofs.Places.{at_place, field_found}
 use Rattle.type_index.specs.declared.tree.TypeIndex.{TypeIndex, the_lemmas}
-use Rattle.type_index.specs.declared.tree.Inside.{Inside}
 use Rattle.type_index.specs.declared.tree.Inside.TheVariants as inside
 use Rattle.type_index.specs.declared.tree.Inside.TheViews.{out-Inside}
-use Rattle.type_index.specs.Knowing.{Matches, FieldsMatch, ground, vector, bundle, no_fields, one_field, is_ground, fields_in, Knows, HasWays, IsKnown, IsAmong}
+use Rattle.type_index.specs.Knowing.{Matches, FieldsMatch, ground, vector, bundle, no_fields, one_field, is_ground, fields_in, Knows, HasWays, IsAmong}
 
 pub vector_out : (t e : FirType) (n : ℕ) → t.shape ≡ shape.Vector e n → out-Shape t.shape ≡ Shape-F.Vector e n
 vector_out t e n h = ap out-Shape h ∙ outs-Vector e n

@@ -14,7 +14,6 @@ use Rattle.leaf_names.specs.LeafNames.{Texts}
 use Rattle.name_sizes.specs.Caps.{cap}
 use Rattle.name_sizes.specs.Texts.{way_bytes}
 use Rattle.type_index.specs.declared.tree.TypeIndex.{TypeIndex}
-use Rattle.type_index.specs.declared.tree.Inside.{Inside}
 use Rattle.type_index.specs.declared.tree.Inside.TheVariants as inside
 
 -- a type without parts

@@ -1,4 +1,3 @@
-use Rattle.std.proofs.Common.{refl}
 use Rattle.type_index.proofs.Built.{gathers_more}
 use Rattle.type_index.proofs.gathered.Gathered.push.Goals as goal
 
