@@ -1,8 +1,4 @@
 use Rattle.std.proofs.Common.{◌∙◌, sym, ap, refl}
-use Rattle.std.specs.Prelude.{length}
-use Rattle.fir_types.specs.Leaves.{count}
-use Rattle.leaf_names.specs.LeafNames.{text_of}
-use Rattle.name_sizes.specs.Texts.{way_bytes}
 use Rattle.fir_types.proofs.Layers.{count-bundle}
 use Rattle.fir_types.proofs.Runs.{element_falls}
 use Rattle.name_sizes.specs.Caps.{cap}

@@ -1,4 +1,3 @@
-use Rattle.std.proofs.Common.{refl}
 use Rattle.name_sizes.proofs.Wording.{leaves_begin, bytes_begin, leaves_on, bytes_on, leaves_around, bytes_around}
 use Rattle.name_sizes.proofs.Ways.repeated.Goals as goal
 

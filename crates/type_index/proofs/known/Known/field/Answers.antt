@@ -1,4 +1,4 @@
-use Rattle.std.proofs.Common.{◌∙◌, sym, ap}
+use Rattle.std.proofs.Common.{sym}
 use Rattle.std.specs.Prelude.{Some, None}
 use Rattle.type_index.proofs.Parts.{knows_among, knows_field, no_part, part_is, parts_of, nothing_found, field_found_at}
 use Rattle.type_index.proofs.known.Known.field.Goals as goal
