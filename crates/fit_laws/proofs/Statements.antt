@@ -26,7 +26,7 @@ use Rattle.width_rules.specs.Places.{Spot, spots, size, slot_of, is_open, slots_
 use Rattle.width_rules.specs.Sources as sources
 use Rattle.width_rules.specs.Sources.{measured}
 use Rattle.width_rules.specs.Circuits.{WithPorts, modules_from, instance_in, memory_slots}
-use Rattle.width_rules.proofs.FormulaLemmas.{width-Fixed}
+use Rattle.width_rules.proofs.Capped.{width-capped}
 use Rattle.type_filling.specs.Filling.{filled, number}
 use Rattle.width_fit.specs.Written.{place_widths}
 use Rattle.width_fit.specs.Judging as judging
@@ -75,7 +75,7 @@ kept_slots ws n [] = tt
 kept_slots ws n (s ∷ ss) = (one s.width, kept_slots ws (n + is_open s.width) ss) where
   one : (o : Option ℕ) → KeepsWidth o (number (slot_width ws (slot_of n o)))
   one None = tt
-  one (Some w) = λ h. ap number (width-Fixed w ws ∙ ap (λ b. if b then Bits w else Over) (le-leb w 128 h))
+  one (Some w) = λ h. ap number (width-capped w ws ∙ ap (λ b. if b then Bits w else Over) (le-leb w 128 h))
 
 pub filled_slots : (ws : List Width) (d : Typed) (slots : List Slot) → length slots ≡ size d.typ
     → (d.written ≡ true → AllZip KeepsWidth (place_widths d.typ) (map number (map (slot_width ws) slots))) → IsFilled d (filled d.typ (map (slot_width ws) slots))

@@ -49,11 +49,12 @@ use Rattle.width_rules.specs.declared.slot.Slot.{Slot}
 use Rattle.width_rules.specs.declared.rule.Formula.{Formula}
 use Rattle.width_rules.specs.declared.rule.Formula.TheVariants as formula
 use Rattle.width_rules.specs.Formulas.{width_under}
-use Rattle.width_rules.specs.Places.{Spot, spots, size}
+use Rattle.width_rules.specs.Places.{capped, Spot, spots, size}
 use Rattle.width_rules.specs.Sources as sources
 use Rattle.width_rules.specs.Sources.{Measured, formula_of, lone, kind_of, operation_formula, greater_of, component, component_or_none, named, measured_reference, element_step}
 use Rattle.width_rules.proofs.Rows.{row_arity}
-use Rattle.width_rules.proofs.FormulaLemmas.{width-Fixed, width-Op, width-Greatest}
+use Rattle.width_rules.proofs.Capped.{width-capped}
+use Rattle.width_rules.proofs.FormulaLemmas.{width-Op, width-Greatest}
 use Rattle.width_rules.proofs.Bounds.{Each}
 use Rattle.width_fit.specs.declared.fault.WidthFault.{WidthFault}
 use Rattle.width_fit.specs.declared.fault.WidthFault.TheVariants.{ParameterRange}
@@ -383,8 +384,8 @@ module _ (Q : Flow → Formula → Type 0) (allows : Allows Q) (ws : List Width)
       × (nat_le (sources.literal_width kind (integer_of_number number) width) 128 ≡ true)
   literal_widths kind width number place h =
       let n : ℕ = sources.literal_width kind (integer_of_number number) width in
-      let b = bounded_number n (subst IsNumber (width-Fixed n ws) h.0) in
-      (ap (λ w. w ∷ []) (width-Fixed n ws ∙ b.0), b.1)
+      let b = bounded_number n (subst IsNumber (width-capped n ws) h.0) in
+      (ap (λ w. w ∷ []) (width-capped n ws ∙ b.0), b.1)
 
   ground_shapes : (place : Place) (kind : Kind) (width : Option ℕ) (w : ℕ) → leaf_shapes (filled (ground place kind width) (Bits w ∷ [])) ≡ shaped kind w ∷ []
   ground_shapes place Unsigned width w = filled_unsigned (a_uint width refl) (Bits w ∷ [])
@@ -420,7 +421,7 @@ module _ (Q : Flow → Formula → Type 0) (allows : Allows Q) (ws : List Width)
           measured = refl;
           counted = sym (ground_size place kind width);
           once = ground_once place kind width;
-          placed = one_placed Source typ (formula.Fixed n) (λ through. allows.fixed through n);
+          placed = one_placed Source typ (formula.Fixed (capped n)) (λ through. allows.fixed through (capped n));
           numbers = nums;
           typed_is = λ K fits none.
               let w = literal_widths kind width number place (nums none) in

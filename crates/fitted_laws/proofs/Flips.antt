@@ -28,7 +28,7 @@ use Rattle.width_rules.specs.Places.{Spot, spots, turned, slot_of, is_open, slot
 use Rattle.width_rules.specs.Layers.{field_spots}
 use Rattle.width_rules.proofs.Bounds.{Each, each_append}
 use Rattle.width_rules.proofs.Spots.{spots-bundle, spots-vector, spots-field}
-use Rattle.width_rules.proofs.FormulaLemmas.{width-Fixed}
+use Rattle.width_rules.proofs.Capped.{width-capped}
 use Rattle.width_fit.specs.Judging.{slot_width, is_over}
 use Rattle.fir_meaning.specs.Components.{width_or_none}
 use Rattle.fir_meaning.specs.WellTyped.{is_narrow}
@@ -220,7 +220,7 @@ slots_small ws n (s ∷ ss) h =
 
     one : (width : Option ℕ) → is_over (slot_width ws (slot_of n width)) ≡ false → width_or_none width ≤ 128
     one None e = omega arith
-    one (Some w) e = small (nat_le w 128) w refl (sym (ap is_over (width-Fixed w ws)) ∙ e)
+    one (Some w) e = small (nat_le w 128) w refl (sym (ap is_over (width-capped w ws)) ∙ e)
 
 -- a type whose declared places aren't over has no ground type of more than 128 bits
 pub places_narrow : (ws : List Width) (n : ℕ) (t : FirType) → list_any (λ (s : Slot). is_over (slot_width ws s)) (slots_from n (spots t)) ≡ false → is_narrow t ≡ true
