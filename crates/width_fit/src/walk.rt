@@ -16,7 +16,7 @@ use crate::widths::{slot_widths, widths_in};
 use bit_words::List;
 use circuit_parts::steps::{no_part, source};
 use fir_tree::{Arm, Expr, Form, Stmt};
-use fir_types::{FirType, Memory, Name, element_of};
+use fir_types::{FirType, Memory, Name, copy, element_of};
 use indexmap::IndexMap;
 use place_text::Place;
 use prim_ops::Width;
