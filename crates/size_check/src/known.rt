@@ -209,11 +209,7 @@ fn declared(alloc: Global, names: &Names, typ: FirType) -> Result<Component, All
 }
 
 /// A memory, whose ports share what is known of an element.
-fn declared_memory(
-    alloc: Global,
-    names: &Names,
-    memory: &Memory,
-) -> Result<Component, AllocError>
+fn declared_memory(alloc: Global, names: &Names, memory: &Memory) -> Result<Component, AllocError>
     ensures typ { IfOk result (λ component. component.known.typ ≡ memory_of memory.now) }
     ensures measured { IfOk result (λ component. IsMeasured names.now component) }
 {
