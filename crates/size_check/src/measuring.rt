@@ -19,8 +19,7 @@ use std::alloc::Global;
 
 /// The measure of a circuit. A circuit that passes a limit is too large, at its name.
 ///
-/// A module is measured once, however often it stands. Time and memory are in proportion to the circuit, but that a memory counts as
-/// its ports times the fields of its elements.
+/// A module is measured once, however often it stands. Time and memory are in proportion to the circuit.
 pub fn flat_measure(alloc: Global, checked: &Checked) -> Result<Measure, SizeFault>
     ensures { IsVerdict place_of rank_of (IsFault checked.now.circuit) (IsMeasure checked.now.circuit) result }
 {
