@@ -1,3 +1,2 @@
 mod Indexing
-pub mod Fields
 mod Noting
