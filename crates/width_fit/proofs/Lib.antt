@@ -1,3 +1,4 @@
+mod Cuts
 mod Declaring
 pub mod Filled
 mod Formulas

@@ -11,7 +11,7 @@ ghost use Rattle.width_fit.specs.Surveys.{kept, all_surveys, index_surveys, refe
 use crate::fault::WidthFault;
 use crate::faults::{push_condition, push_over, push_parameters};
 use crate::found::{Findings, Surveyed};
-use crate::widths::{kinds_of, lone_widths, slot_widths, wider_each, width_in_row};
+use crate::widths::{kinds_of, lone_widths, wider_each, width_in_row, widths_in};
 use bit_words::{Kind, List, Number};
 use circuit_parts::Part;
 use circuit_parts::kinds::{ground, no_type};
@@ -178,7 +178,7 @@ fn reference(
             typ: copy(view.typ)?,
             flow: view.flow,
         },
-        widths: slot_widths(alloc, widths, view.slots)?,
+        widths: widths_in(alloc, widths, view.slots)?,
     })
 }
 

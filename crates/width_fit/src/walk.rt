@@ -2,9 +2,6 @@
 
 ghost use Rattle.std.specs.Prelude.{◌≡◌, ◌++◌, map, length, IfOk, OnOk};
 ghost use Rattle.std.specs.List.{list_any};
-ghost use Rattle.fir_types.specs.Memories.{element_of};
-ghost use Rattle.width_rules.specs.Places.{spots, slots_from, open_spots};
-ghost use Rattle.width_rules.specs.Circuits.{places_for, memory_slots};
 ghost use Rattle.width_fit.specs.Judging.{in_turn, is_unknown, component_faults, slot_width, looks_at, asks, of_storage, of_memory, of_node};
 ghost use Rattle.width_fit.specs.Walks.{Walks, solved, of_instance_among, stmt_among, arm_among};
 ghost use Rattle.width_fit.specs.Held.{HoldsFits};
@@ -15,18 +12,18 @@ use crate::fits::{Fit, declare, fit_of, part_of};
 use crate::found::Findings;
 use crate::given::Given;
 use crate::survey::{survey_expr, survey_indexes};
-use crate::widths::slot_widths;
+use crate::widths::{slot_widths, widths_in};
 use bit_words::List;
 use circuit_parts::steps::{no_part, source};
 use fir_tree::{Arm, Expr, Form, Stmt};
-use fir_types::{FirType, Memory, Name, copy, element_of, memory_type};
+use fir_types::{FirType, Memory, Name, copy, element_of};
 use indexmap::IndexMap;
 use place_text::Place;
 use prim_ops::Width;
 use std::alloc::{AllocError, Global};
 use width_rules::indexed::Indexed;
 use width_rules::measuring::{look_up, no_component};
-use width_rules::memories::port_slots;
+use width_rules::memories::memory_of_slots;
 use width_rules::sizes::variables;
 use width_rules::slot::Slot;
 use width_rules::walk::{duplex, slots_of_type};
@@ -214,43 +211,26 @@ fn declare_memory(
     ensures walks { OnOk result (Walks (of_memory (solved given.now) memory.now) walk.old walk.new) }
     ensures fits { OnOk result (HoldsFits given.now walk.new) }
 {
-    let (element, slots) = memory_slots(alloc, &mut walk.places, memory)?;
-    let widths = slot_widths(alloc, given.widths, element.as_slice())?;
+    let empty = no_part(alloc)?.typ;
+    let element = element_of(memory.lines.as_slice(), &empty);
     let place = memory.name.place;
+    let slots = slots_of_type(alloc, &mut walk.places, place, element)?;
+    let widths = slot_widths(alloc, given.widths, slots.as_slice())?;
     push_component(
         &mut walk.found.faults,
         given,
         place,
-        element.as_slice(),
+        slots.as_slice(),
         widths.as_slice(),
     )?;
-    let typ = memory_type(alloc, memory)?;
-    let widths = slot_widths(alloc, given.widths, slots.as_slice())?;
-    let fitted = walk.found.made.fit_memory(alloc, &typ, widths.as_slice())?;
+    let component = memory_of_slots(alloc, memory, slots)?;
+    let widths = widths_in(alloc, given.widths, component.slots())?;
+    let typ = &component.part().typ;
+    let fitted = walk.found.made.fit_memory(alloc, typ, widths.as_slice())?;
     let fit = fit_of(&fitted, &widths)?;
     walk.declared.push(fitted)?;
-    let part = source(typ);
-    let component = Indexed::new(alloc, part, slots)?;
     let name = memory.name.id;
     declare(&mut walk.known, &mut walk.fits, name, component, fit)
-}
-
-/// The widths of a memory's elements, and those of all its ports.
-fn memory_slots(
-    alloc: Global,
-    places: &mut Vec<Place>,
-    memory: &Memory,
-) -> Result<(List<Slot>, List<Slot>), AllocError>
-    ensures element { IfOk result (λ slots. slots.0 ≡ slots_from (length places.old.items) (spots (element_of memory.now))) }
-    ensures ports { IfOk result (λ slots. slots.1 ≡ memory_slots memory.now (slots_from (length places.old.items) (spots (element_of memory.now)))) }
-    ensures places { OnOk result (places.new.items ≡ places.old.items ++ places_for memory.now.name.place (open_spots (spots (element_of memory.now)))) }
-{
-    let empty = no_part(alloc)?.typ;
-    let lines = memory.lines.as_slice();
-    let element = element_of(lines, &empty);
-    let own = slots_of_type(alloc, places, memory.name.place, element)?;
-    let ports = port_slots(alloc, lines, element, own.as_slice())?;
-    Ok((own, ports))
 }
 
 /// An instance, whose widths are those of its module's ports.
@@ -268,8 +248,8 @@ fn declare_instance(
 {
     let nothing = no_component(alloc)?;
     let instance = look_up(instances, target.id, &nothing).share()?;
-    let widths = slot_widths(alloc, given.widths, instance.get().slots.as_slice())?;
-    let typ = &instance.get().part.typ;
+    let widths = widths_in(alloc, given.widths, instance.slots())?;
+    let typ = &instance.part().typ;
     let fitted = walk.found.made.fit(alloc, typ, widths.as_slice())?;
     let fit = fit_of(&fitted, &widths)?;
     walk.declared.push(fitted)?;

@@ -3,7 +3,7 @@ use Rattle.std.proofs.Common.{◌≡◌, ℕ, zero, suc, ◌+◌, ◌-◌, ◌^�
 use Rattle.std.specs.Prelude.{cond, Option, Some, None, option_map, IfSome}
 use Rattle.std.specs.Option.{unwrap_or}
 use Rattle.std.proofs.lemmas.Grind.{common_steps}
-use Rattle.std.proofs.lemmas.List.{drop-drop}
+use Rattle.std.proofs.lemmas.List.{drop-drop, drop_more}
 use Rattle.fir_types.specs.declared.fir_type.FirType.{FirType}
 use Rattle.fir_types.specs.declared.fir_type.Field.{Field}
 use Rattle.fir_types.specs.declared.fir_type.Shape.TheVariants as shape
@@ -90,3 +90,25 @@ indexed_told name base fs place f flow count slots is at lt got turns fits count
         ∙ cut (size f.typ) (sum (take i (map weight fs))) (before fs i) base.slots fits (capped fs i) ∙ sym here.1 in
         field_found name base fs f flow slots is here.0 turns cuts
     by None e placed = absurd cc
+
+-- the fields before the first of a name, passed one by one
+
+drop_capped : (z : ℕ) (xs : List Slot) → length xs ≤ 2 ^ 64 - 1 → drop (min z (2 ^ 64 - 1)) xs ≡ drop z xs
+drop_capped z xs h = sym (drop_min (min z (2 ^ 64 - 1)) xs) ∙ ap (λ n. drop n xs) (let k : min (min z (2 ^ 64 - 1)) (length xs) ≡ min z (length xs) = omega (arith, h) in k) ∙ drop_min z xs
+
+take_capped : (z : ℕ) (xs : List Slot) → length xs ≤ 2 ^ 64 - 1 → take (min z (2 ^ 64 - 1)) xs ≡ take z xs
+take_capped z xs h = sym (take_min (min z (2 ^ 64 - 1)) xs) ∙ ap (λ n. take n xs) (let k : min (min z (2 ^ 64 - 1)) (length xs) ≡ min z (length xs) = omega (arith, h) in k) ∙ take_min z xs
+
+pub field_passed : (name : ℕ) (fs : List Field) (i : ℕ) (f : Field) (count : ℕ) (whole rest after : List Slot) → i < length fs → f ≡ get_or fs i f → (f.name.id == name) ≡ false
+    → count ≡ min (size f.typ) (2 ^ 64 - 1) → length rest ≤ 2 ^ 64 - 1 → after ≡ drop count rest → whole ≡ field_slots name (drop i fs) rest → whole ≡ field_slots name (drop (i + 1) fs) after
+field_passed name fs i f count whole rest after lt is other counted short a h =
+    h ∙ ap (λ l. field_slots name l rest) (drop_more fs i f lt ∙ ap (λ x. x ∷ drop (i + 1) fs) (sym is))
+    ∙ ap (λ b. cond b (take (size f.typ) rest) (field_slots name (drop (i + 1) fs) (drop (size f.typ) rest))) other
+    ∙ ap (field_slots name (drop (i + 1) fs)) (sym (a ∙ ap (λ n. drop n rest) counted ∙ drop_capped (size f.typ) rest short))
+
+pub field_reached : (name : ℕ) (fs : List Field) (i : ℕ) (f : Field) (count : ℕ) (whole rest own : List Slot) → i < length fs → f ≡ get_or fs i f → (f.name.id == name) ≡ true
+    → count ≡ min (size f.typ) (2 ^ 64 - 1) → length rest ≤ 2 ^ 64 - 1 → own ≡ take count rest → whole ≡ field_slots name (drop i fs) rest → own ≡ whole
+field_reached name fs i f count whole rest own lt is same counted short a h =
+    a ∙ ap (λ n. take n rest) counted ∙ take_capped (size f.typ) rest short
+    ∙ sym (h ∙ ap (λ l. field_slots name l rest) (drop_more fs i f lt ∙ ap (λ x. x ∷ drop (i + 1) fs) (sym is))
+    ∙ ap (λ b. cond b (take (size f.typ) rest) (field_slots name (drop (i + 1) fs) (drop (size f.typ) rest))) same)

@@ -17,3 +17,4 @@ pub mod Spots
 pub mod Targets
 pub mod Walking
 pub mod Whole
+pub mod Cuts

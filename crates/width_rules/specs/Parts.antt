@@ -13,10 +13,11 @@ use Rattle.width_rules.specs.declared.rule.Formula.TheVariants as formula
 use Rattle.width_rules.specs.declared.steps.View.{View}
 use Rattle.width_rules.specs.declared.measuring.Measure.{Measure}
 use Rattle.width_rules.specs.Sources.{Measured}
+use Rattle.width_rules.specs.Pieces.{slots_in}
 
 -- the part that is looked at
 abbrev pub viewed : View → Component
-viewed view = record { part = record { typ = view.typ.now; flow = view.flow }; slots = view.slots.now }
+viewed view = record { part = record { typ = view.typ.now; flow = view.flow }; slots = slots_in view.slots }
 
 abbrev pub measured_by : Measure → Measured
 measured_by measure = record { part = measure.part; formulas = measure.formulas }

@@ -6,7 +6,7 @@ ghost use Rattle.width_rules.specs.Walks.{AreInstances, ported, body_among, bodi
 ghost use Rattle.width_rules.specs.Solutions.{AreRules};
 
 use crate::indexed::Indexed;
-use crate::memories::push_all;
+use crate::pieces::push_all;
 use crate::rule::Rules;
 use crate::slot::Slot;
 use crate::walk::{Found, note, slots_of_type, walk_statements};

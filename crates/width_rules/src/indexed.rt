@@ -2,11 +2,13 @@
 
 ghost use Rattle.std.specs.Prelude.{◌≡◌, map, IfOk, IfSome};
 ghost use Rattle.width_rules.specs.Indexes.{Indexes, IsPlaceIn, weight};
+ghost use Rattle.width_rules.specs.Pieces.{joined, slots_in, held_slots};
 ghost use Rattle.width_rules.specs.Targets.{has_variable};
 
-use crate::component::Component;
+use crate::held::Held;
+use crate::pieces::{Slots, count_of};
 use crate::slot::Slot;
-use bit_words::{List, Shared};
+use bit_words::{List, Shared, SharedList};
 use circuit_parts::Part;
 use field_index::{FieldIndex, FieldPlace};
 use fir_types::{Field, FirType, Shape, copy};
@@ -17,11 +19,12 @@ use width_spots::size;
 /// The number of fields from which on an index is made.
 const MANY: usize = 8;
 
-/// A component, with an index of its fields where they are many, and whether a place has a variable. Contracts see the
-/// component.
+/// A component, with an index of its fields where they are many, and whether a place has a variable. Its widths may stand in
+/// lists that are shared. Contracts see the component.
 #[derive(Drop)]
 pub struct Indexed {
-    component: Component,
+    part: Part,
+    held: Held,
     index: Option<Shared<FieldIndex>>,
     varies: bool,
 }
@@ -36,11 +39,12 @@ impl Model for Indexed {
     ghost coded = { the_row.coded };
 
     ghost use Rattle.width_rules.specs.Indexes.{Indexes};
+    ghost use Rattle.width_rules.specs.Pieces.{held_slots, IsCounted};
     ghost use Rattle.width_rules.specs.Targets.{has_variable};
 
-    ghost view = { λ a. a.component };
+    ghost view = { λ a. record { part = a.part; slots = held_slots a.held } };
 
-    ghost invariant = { λ a. IfSome a.index (Indexes a.component.part.typ) × (a.varies ≡ has_variable a.component.slots) };
+    ghost invariant = { λ a. IfSome a.index (Indexes a.part.typ) × (a.varies ≡ has_variable (held_slots a.held)) × IsCounted a.held };
 }
 
 impl Indexed {
@@ -48,21 +52,52 @@ impl Indexed {
     pub fn new(alloc: Global, part: Part, slots: List<Slot>) -> Result<Indexed, AllocError>
         ensures { IfOk result (λ indexed. indexed ≡ record { part = part; slots = slots }) }
     {
-        let index = index_of(alloc, &part.typ)?;
         let varies = has_variable(slots.as_slice());
-        let slots = Shared::new(alloc, slots)?;
+        let held = Held::One(Shared::new(alloc, slots)?);
         Ok(Indexed {
-            component: Component { part, slots },
-            index,
+            index: index_of(alloc, &part.typ)?,
+            part,
+            held,
             varies,
         })
     }
 
-    /// The component.
-    pub fn get(&self) -> &Component
-        ensures { result.now ≡ self.now }
+    /// A component with the widths of several lists, one behind another, of which it is told whether one is a variable. Takes
+    /// time and memory in proportion to the fields of its type and to the number of lists.
+    pub fn of_lists(
+        alloc: Global,
+        part: Part,
+        lists: List<SharedList<Slot>>,
+        varies: bool,
+    ) -> Result<Indexed, AllocError>
+        requires { varies ≡ has_variable (joined lists) }
+        ensures { IfOk result (λ indexed. indexed ≡ record { part = part; slots = joined lists }) }
     {
-        &self.component
+        let count = count_of(lists.as_slice())?;
+        let held = Held::Many(Shared::new(alloc, lists)?, count);
+        Ok(Indexed {
+            index: index_of(alloc, &part.typ)?,
+            part,
+            held,
+            varies,
+        })
+    }
+
+    /// The type with its flow.
+    pub fn part(&self) -> &Part
+        ensures { result.now ≡ self.now.part }
+    {
+        &self.part
+    }
+
+    /// The widths. Takes constant time.
+    pub fn slots(&self) -> Slots<'_>
+        ensures { slots_in result ≡ self.now.slots }
+    {
+        match &self.held {
+            Held::One(slots) => Slots::Listed(slots.as_slice()),
+            Held::Many(lists, count) => Slots::Between(lists.as_slice(), 0, *count),
+        }
     }
 
     /// Whether a place has a variable. Takes constant time.
@@ -76,19 +111,17 @@ impl Indexed {
     pub fn share(&self) -> Result<Indexed, AllocError>
         ensures { IfOk result (λ copied. copied ≡ self.now) }
     {
-        let component = Component {
-            part: Part {
-                typ: copy(&self.component.part.typ)?,
-                flow: self.component.part.flow,
-            },
-            slots: self.component.slots.share()?,
+        let part = Part {
+            typ: copy(&self.part.typ)?,
+            flow: self.part.flow,
         };
         let index = match &self.index {
             Some(index) => Some(index.share()?),
             None => None,
         };
         Ok(Indexed {
-            component,
+            part,
+            held: share_held(&self.held)?,
             index,
             varies: self.varies,
         })
@@ -105,7 +138,17 @@ impl Indexed {
     }
 }
 
-fn has_variable(slots: &[Slot]) -> bool
+fn share_held(held: &Held) -> Result<Held, AllocError>
+    ensures { IfOk result (λ shared. shared ≡ held.now) }
+{
+    match held {
+        Held::One(slots) => Ok(Held::One(slots.share()?)),
+        Held::Many(lists, count) => Ok(Held::Many(lists.share()?, *count)),
+    }
+}
+
+/// Whether a width is a variable.
+pub fn has_variable(slots: &[Slot]) -> bool
     ensures { result ≡ has_variable slots.now }
 {
     slots.iter().any(|slot| matches!(slot, Slot::Var(_)))

@@ -7,9 +7,11 @@
 pub mod component;
 mod driving;
 pub mod gathering;
+pub mod held;
 pub mod indexed;
 pub mod measuring;
 pub mod memories;
+pub mod pieces;
 pub mod rule;
 pub mod sizes;
 pub mod slot;

@@ -8,9 +8,11 @@ ghost use Rattle.circuit_parts.specs.Kinds.{sign_of, ground, sign_or_unsigned};
 ghost use Rattle.width_rules.specs.Places.{capped};
 ghost use Rattle.width_rules.specs.Sources.{component, component_or_none, named, measured, measured_reference, suffix_step, formula_of, literal_width, lone, kind_of, greater_of, choice};
 ghost use Rattle.width_rules.specs.Parts.{measured_by, operation_over};
+ghost use Rattle.width_rules.specs.Pieces.{slots_in};
 ghost use Rattle.width_rules.specs.Targets.{has_variable, has_target};
 
 use crate::indexed::Indexed;
+use crate::pieces::{Slots, listed};
 use crate::rule::Formula;
 use crate::slot::{Slot, capped};
 use crate::steps::walk_steps;
@@ -146,7 +148,7 @@ fn reference(
             typ: copy(view.typ)?,
             flow: view.flow,
         },
-        formulas: formulas_of(alloc, view.slots)?,
+        formulas: formulas_in(alloc, view.slots)?,
     })
 }
 
@@ -191,6 +193,19 @@ pub fn no_component(alloc: Global) -> Result<Indexed, AllocError>
     ensures { IfOk result (λ nothing. nothing ≡ component_or_none None) }
 {
     Indexed::new(alloc, no_part(alloc)?, List::new(alloc))
+}
+
+/// Widths of a component as formulas.
+fn formulas_in(alloc: Global, slots: Slots<'_>) -> Result<List<Formula>, AllocError>
+    ensures { IfOk result (λ formulas. formulas ≡ map formula_of (slots_in slots.entry)) }
+{
+    match slots {
+        Slots::Listed(list) => formulas_of(alloc, list),
+        Slots::Between(_, _, _) => {
+            let own = listed(alloc, slots)?;
+            formulas_of(alloc, own.as_slice())
+        }
+    }
 }
 
 /// Widths as formulas.

@@ -1,14 +1,14 @@
 //! The steps of references.
 
-ghost use Rattle.std.specs.Prelude.{◌≡◌, ◌≤◌, ◌-◌, ◌^◌, map, take, drop, length, IfSome};
+ghost use Rattle.std.specs.Prelude.{◌≡◌, map, IfSome};
 ghost use Rattle.circuit_parts.specs.Parts.{flow_through, field_part, element_part};
 ghost use Rattle.width_rules.specs.Places.{field_slots, slots_of_field};
 ghost use Rattle.width_rules.specs.Sources.{field_step, element_step, named, suffix_step};
 ghost use Rattle.width_rules.specs.Parts.{viewed};
+ghost use Rattle.width_rules.specs.Pieces.{slots_in};
 
-use crate::component::Component;
 use crate::indexed::Indexed;
-use crate::slot::Slot;
+use crate::pieces::{Slots, first_slots, slots_behind, without_first};
 use circuit_parts::Flow;
 use circuit_parts::steps::through;
 use fir_tree::Suffix;
@@ -20,7 +20,7 @@ use width_spots::size;
 pub struct View<'a> {
     pub typ: &'a FirType,
     pub flow: Flow,
-    pub slots: &'a [Slot],
+    pub slots: Slots<'a>,
 }
 
 /// The part that a reference names. Takes no memory. A first step to a field is by the index where there is one.
@@ -29,7 +29,7 @@ pub fn walk_steps<'a>(component: &'a Indexed, suffixes: &[Suffix]) -> View<'a>
 {
     match suffixes.split_first() {
         Some((first, others)) => walk_on(first_step(component, first), others),
-        None => whole(component.get()),
+        None => whole(component),
     }
 }
 
@@ -44,13 +44,14 @@ fn walk_on<'a>(from: View<'a>, suffixes: &[Suffix]) -> View<'a>
 }
 
 /// A whole component.
-fn whole(component: &Component) -> View<'_>
+fn whole(component: &Indexed) -> View<'_>
     ensures { viewed result ≡ component.now }
 {
+    let part = component.part();
     View {
-        typ: &component.part.typ,
-        flow: component.part.flow,
-        slots: component.slots.as_slice(),
+        typ: &part.typ,
+        flow: part.flow,
+        slots: component.slots(),
     }
 }
 
@@ -59,7 +60,7 @@ fn first_step<'a>(component: &'a Indexed, suffix: &Suffix) -> View<'a>
 {
     match suffix {
         Suffix::Field(name) => first_field(component, name.id),
-        Suffix::At(_, _, _) | Suffix::Index(_, _) => step_to_element(whole(component.get())),
+        Suffix::At(_, _, _) | Suffix::Index(_, _) => step_to_element(whole(component)),
     }
 }
 
@@ -68,7 +69,7 @@ fn first_field<'a>(component: &'a Indexed, name: u32) -> View<'a>
 {
     match indexed_field(component, name) {
         Some(view) => view,
-        None => step_to_field(whole(component.get()), name),
+        None => step_to_field(whole(component), name),
     }
 }
 
@@ -79,8 +80,8 @@ fn indexed_field<'a>(component: &'a Indexed, name: u32) -> Option<View<'a>>
     let Some(place) = component.place(name) else {
         return None;
     };
-    let inside = component.get();
-    let Shape::Bundle(fields) = &inside.part.typ.shape else {
+    let inside = component.part();
+    let Shape::Bundle(fields) = &inside.typ.shape else {
         return None;
     };
     let Some(field) = fields.as_slice().get(place.position) else {
@@ -88,19 +89,9 @@ fn indexed_field<'a>(component: &'a Indexed, name: u32) -> Option<View<'a>>
     };
     Some(View {
         typ: &field.typ,
-        flow: through(field.flip, inside.part.flow),
-        slots: slots_behind(inside.slots.as_slice(), place.before, size(&field.typ)),
+        flow: through(field.flip, inside.flow),
+        slots: slots_behind(component.slots(), place.before, size(&field.typ)),
     })
-}
-
-/// So many widths behind so many others.
-fn slots_behind(slots: &[Slot], before: usize, count: usize) -> &[Slot]
-    ensures own { result.now ≡ take count (drop before slots.now) }
-    ensures short { length slots.now ≤ 2 ^ 64 - 1 }
-{
-    let (_, behind) = slots.split_at(before.min(slots.len()));
-    let (own, _) = behind.split_at(count.min(behind.len()));
-    own
 }
 
 fn step<'a>(view: View<'a>, suffix: &Suffix) -> View<'a>
@@ -131,16 +122,16 @@ fn step_to_field<'a>(view: View<'a>, name: u32) -> View<'a>
 }
 
 /// The widths of the first field of a name, among those of all fields.
-fn slots_of<'a>(name: u32, fields: &[Field], slots: &'a [Slot]) -> &'a [Slot]
-    ensures { result.now ≡ field_slots name fields.now slots.now }
+fn slots_of<'a>(name: u32, fields: &[Field], slots: Slots<'a>) -> Slots<'a>
+    ensures { slots_in result ≡ field_slots name fields.now (slots_in slots.entry) }
 {
     let mut rest = slots;
     for field in fields {
-        let (own, others) = rest.split_at(size(&field.typ).min(rest.len()));
+        let count = size(&field.typ);
         if field.name.id == name {
-            return own;
+            return first_slots(rest, count);
         }
-        rest = others;
+        rest = without_first(rest, count);
     }
     rest
 }

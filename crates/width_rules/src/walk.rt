@@ -14,7 +14,7 @@ use crate::indexed::Indexed;
 use crate::measuring::{
     Measure, formulas_of, look_up, may_have_target, measure_expr, no_component,
 };
-use crate::memories::port_slots;
+use crate::memories::memory_of_slots;
 use crate::rule::Rule;
 use crate::sizes::{push_slots, variables};
 use crate::slot::Slot;
@@ -22,7 +22,7 @@ use bit_words::List;
 use circuit_parts::steps::{no_part, source};
 use circuit_parts::{Flow, Part};
 use fir_tree::{Arm, Expr, Stmt};
-use fir_types::{FirType, Memory, Name, copy, element_of, memory_type};
+use fir_types::{FirType, Memory, Name, copy, element_of};
 use indexmap::IndexMap;
 use place_text::Place;
 use std::alloc::{AllocError, Global};
@@ -161,12 +161,9 @@ pub fn memory_component(
     ensures places { OnOk result (places.new.items ≡ places.old.items ++ places_for memory.now.name.place (open_spots (spots (element_of memory.now)))) }
 {
     let empty = no_part(alloc)?.typ;
-    let lines = memory.lines.as_slice();
-    let element = element_of(lines, &empty);
-    let widths = slots_of_type(alloc, places, memory.name.place, element)?;
-    let slots = port_slots(alloc, lines, element, widths.as_slice())?;
-    let part = source(memory_type(alloc, memory)?);
-    Indexed::new(alloc, part, slots)
+    let element = element_of(memory.lines.as_slice(), &empty);
+    let slots = slots_of_type(alloc, places, memory.name.place, element)?;
+    memory_of_slots(alloc, memory, slots)
 }
 
 fn declare_instance(

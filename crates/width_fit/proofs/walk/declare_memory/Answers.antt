@@ -1,10 +1,12 @@
-use Rattle.std.proofs.Common.{refl, ap, ◌∙◌, map, ◌++◌}
+use Rattle.std.proofs.Common.{rules, refl, ap, sym, ◌∙◌, ◌≡◌, ◌++◌, length}
 use Rattle.std.proofs.lemmas.Result.{on_ok_weaker}
-use Rattle.width_rules.specs.Sources.{known_with}
-use Rattle.type_filling.specs.Filling.{filled}
-use Rattle.width_fit.specs.Judging.{slot_width, component_faults}
+use Rattle.fir_types.specs.Memories.{element_of}
+use Rattle.circuit_parts.specs.Parts.{source_of}
+use Rattle.width_rules.specs.declared.component.Component.{Component}
+use Rattle.width_rules.specs.Places.{spots, slots_from, open_spots}
+use Rattle.width_rules.specs.Circuits.{memory_slots, places_for}
+use Rattle.width_fit.specs.Judging.{component_faults}
 use Rattle.width_fit.specs.Walks.{solved}
-use Rattle.circuit_parts.specs.declared.part.Part.{Part}
 use Rattle.width_fit.proofs.Looking.{fits_of}
 use Rattle.width_fit.proofs.Declaring.{memory_walks}
 use Rattle.width_fit.proofs.walk.declare_memory.Goals as goal
@@ -12,20 +14,25 @@ use Rattle.width_fit.proofs.walk.declare_memory.Goals as goal
 pub returns-clause-walks : goal.returns-clause-walks
 returns-clause-walks c =
     let all = solved c.args.given.now in
+    let memory = c.args.memory.now in
+    let sized = c.in_ok-component.component in
+    let is = c.in_ok-component.ensures in
+    let element : c.element_of-element.result.now ≡ element_of memory = search rules in
+    let own : c.in_ok-slots.slots ≡ slots_from (length c.args.walk.now.places.items) (spots (element_of memory)) = search rules in
     on_ok_weaker c.declare.result
-    (memory_walks all c.args.memory.now c.in_ok-element.element c.in_ok-element.slots c.in_ok-typ.typ c.in_ok-fitted.fitted c.source-part.result c.args.walk.now _
-    c.in_ok-element.ensures.element c.in_ok-element.ensures.ports c.in_ok-element.ensures.places c.in_ok-typ.ensures
-    (c.in_ok-fitted.ensures ∙ ap (filled c.in_ok-typ.typ) (c.as_slice-5.ensures ∙ c.in_ok-widths-2.ensures ∙ ap (map (slot_width all.widths)) c.as_slice-4.ensures))
+    (memory_walks all memory c.in_ok-slots.slots sized.slots sized.part.typ c.in_ok-fitted.fitted sized.part c.args.walk.now _
+    own (ap (λ (s : Component). s.slots) is ∙ ap (memory_slots memory) own)
+    (c.in_ok-slots.ensures.places ∙ ap (λ t. c.args.walk.now.places.items ++ places_for memory.name.place (open_spots (spots t))) element) (ap (λ (s : Component). s.part.typ) is) (search rules)
     c.in_ok-push.ensures.items refl
-    (c.in_ok-push_component.ensures ∙ ap (λ s. c.args.walk.now.found.faults.items ++ component_faults all c.args.memory.now.name.place s) c.as_slice-2.ensures)
-    c.source-part.ensures)
-    (on_ok_weaker c.declare.result (λ e. e ∙ ap (known_with c.args.walk.now.known.entries c.args.memory.now.name.id) c.in_ok-component.ensures) c.declare.ensures.known)
+    (c.in_ok-push_component.ensures ∙ ap (λ s. c.args.walk.now.found.faults.items ++ component_faults all memory.name.place s) c.as_slice-3.ensures)
+    (ap (λ (s : Component). s.part) is ∙ sym (ap (λ (s : Component). source_of s.part.typ) is)))
+    c.declare.ensures.known
 
 pub returns-clause-fits : goal.returns-clause-fits
 returns-clause-fits c =
     let ws = c.args.given.now.widths.now in
+    let sized = c.in_ok-component.component in
     c.declare.ensures.fits ws
-    (fits_of ws c.in_ok-component.component c.source-part.result c.in_ok-element.slots c.in_ok-typ.typ c.in_ok-fitted.fitted c.in_ok-widths-2.widths c.in_ok-fit.fit c.in_ok-component.ensures
-    (ap (λ (p : Part). p.typ) c.source-part.ensures) (c.in_ok-widths-2.ensures ∙ ap (map (slot_width ws)) c.as_slice-4.ensures) (c.in_ok-fitted.ensures ∙ ap (filled c.in_ok-typ.typ) c.as_slice-5.ensures)
+    (fits_of ws sized sized.part sized.slots sized.part.typ c.in_ok-fitted.fitted c.in_ok-widths-2.widths c.in_ok-fit.fit refl refl (search rules) (search rules)
     c.in_ok-fit.ensures.typ c.in_ok-fit.ensures.over)
     c.requires

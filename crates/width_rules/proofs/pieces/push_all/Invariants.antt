@@ -1,5 +1,5 @@
 use Rattle.std.proofs.Common.{◌≡◌, ◌++◌, take}
-use Rattle.width_rules.proofs.memories.push_all.Given as goal
+use Rattle.width_rules.proofs.pieces.push_all.Given as goal
 
 abbrev pub invariant-loop-slot : goal.invariant-loop-slot
 invariant-loop-slot l = l.slots ≡ l.fn.slots ++ take l.slot-index l.more
