@@ -111,7 +111,7 @@ fn fill_fields<'a>(
 }
 
 /// Adds a field with this type.
-pub fn push_filled(fitted: &mut List<Field>, field: &Field, typ: FirType) -> Result<(), AllocError>
+fn push_filled(fitted: &mut List<Field>, field: &Field, typ: FirType) -> Result<(), AllocError>
     ensures { OnOk result (fitted.new ≡ fitted.old ++ record { flip = field.now.flip; name = field.now.name; typ = typ } ∷ []) }
 {
     fitted.push(Field {

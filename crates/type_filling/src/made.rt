@@ -2,12 +2,10 @@
 
 ghost use Rattle.std.specs.Prelude.{◌≡◌, IfOk, IfSome};
 ghost use Rattle.type_filling.specs.Filling.{filled, taking};
-ghost use Rattle.type_filling.specs.Layers.{fields_taking};
 
-use crate::filling::{fill, push_filled};
+use crate::filling::fill;
 use crate::sharing::behind_type;
-use bit_words::{List, Shared};
-use fir_types::{Field, FirType, Shape, copy};
+use fir_types::{FirType, Shape, copy};
 use indexmap::IndexMap;
 use prim_ops::Width;
 use std::alloc::{AllocError, Global};
@@ -53,65 +51,6 @@ impl Made {
     {
         let (fitted, _) = self.take(alloc, typ, widths)?;
         Ok(fitted)
-    }
-
-    /// The type of a memory with these widths. The fields of its ports that have one text and the same widths share one type.
-    pub fn fit_memory(
-        &mut self,
-        alloc: Global,
-        typ: &FirType,
-        widths: &[Width],
-    ) -> Result<FirType, AllocError>
-        ensures { IfOk result (λ fitted. fitted ≡ filled typ.now widths.now) }
-    {
-        let (fitted, _) = self.take_apart(alloc, typ, widths, 2)?;
-        Ok(fitted)
-    }
-
-    /// A type with the first widths, and those that are left. So many bundles in one another are made anew, and what their
-    /// fields have is taken one by one.
-    #[cycle(take)]
-    fn take_apart<'a>(
-        &mut self,
-        alloc: Global,
-        typ: &FirType,
-        widths: &'a [Width],
-        layers: u8,
-    ) -> Result<(FirType, &'a [Width]), AllocError>
-        ensures { IfOk result (λ taken. (taken.0, taken.1.now) ≡ taking typ.now widths.now) }
-    {
-        let Shape::Bundle(fields) = &typ.shape else {
-            return self.take(alloc, typ, widths);
-        };
-        if layers == 0 {
-            return self.take(alloc, typ, widths);
-        }
-        let (fields, rest) = self.take_fields(alloc, fields.as_slice(), widths, layers - 1)?;
-        let fitted = FirType {
-            place: typ.place,
-            shape: Shape::Bundle(Shared::new(alloc, fields)?),
-        };
-        Ok((fitted, rest))
-    }
-
-    #[cycle(take)]
-    fn take_fields<'a>(
-        &mut self,
-        alloc: Global,
-        fields: &[Field],
-        widths: &'a [Width],
-        layers: u8,
-    ) -> Result<(List<Field>, &'a [Width]), AllocError>
-        ensures { IfOk result (λ taken. (taken.0, taken.1.now) ≡ fields_taking fields.now widths.now) }
-    {
-        let mut fitted = List::new(alloc);
-        let mut rest = widths;
-        for field in fields {
-            let (typ, others) = self.take_apart(alloc, &field.typ, rest, layers)?;
-            push_filled(&mut fitted, field, typ)?;
-            rest = others;
-        }
-        Ok((fitted, rest))
     }
 
     /// A type with the first widths, and those that are left.

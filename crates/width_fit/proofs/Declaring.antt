@@ -15,7 +15,8 @@ use Rattle.circuit_parts.specs.declared.part.Flow.TheVariants.{Duplex}
 use Rattle.circuit_parts.specs.Parts.{part_of, source_of}
 use Rattle.width_rules.specs.declared.slot.Slot.{Slot}
 use Rattle.width_rules.specs.Places.{spots, size, slots_from, open_spots, node_slots}
-use Rattle.width_rules.specs.Sources.{known_with}
+use Rattle.width_rules.specs.declared.component.Component.{Component}
+use Rattle.width_rules.specs.Sources.{Known, component, known_with}
 use Rattle.width_rules.specs.Circuits.{places_for, memory_slots}
 use Rattle.width_fit.specs.declared.fault.WidthFault.{WidthFault}
 use Rattle.width_fit.specs.declared.fault.WidthFault.TheVariants.{WidthUnknown, WidthOver}
@@ -25,11 +26,12 @@ use Rattle.width_fit.specs.declared.walk.Walk.{Walk}
 use Rattle.type_filling.specs.Filling.{filled}
 use Rattle.width_fit.specs.Judging.{Solved, survey, slot_width, is_over, is_unknown, where_, component_faults, condition_faults, asks, of_storage, of_memory, of_node}
 use Rattle.width_fit.specs.Surveys.{kept, condition_over, Adds}
-use Rattle.width_fit.specs.Walks.{Walks}
+use Rattle.width_fit.specs.Fits.{Fits}
+use Rattle.width_fit.specs.Walks.{Walks, of_instance_among}
 use Rattle.width_fit.proofs.Formulas.{lone-kept}
 use Rattle.width_fit.proofs.Measured.{same_measured}
 
-any-map : {A B : Type 0} (p : B → Bool) (f : A → B) (xs : List A) → list_any p (map f xs) ≡ list_any (λ x. p (f x)) xs
+pub any-map : {A B : Type 0} (p : B → Bool) (f : A → B) (xs : List A) → list_any p (map f xs) ≡ list_any (λ x. p (f x)) xs
 any-map p f [] = refl
 any-map p f (x ∷ xs) = grind (arith, any-map p f xs)
 
@@ -101,3 +103,14 @@ asks_walks ws e held widths mid a b h adds k p d n w f =
       nodes = n ∙ adds.nodes;
       faults = f ∙ ap₂ (λ l o. l ++ o) adds.faults (ap (condition_over held.place) w ∙ told) ∙ append_assoc a.found.faults.items found.faults (condition_faults ws found);
     }
+
+pub instance_walks : (all : Solved) (instances : Known) (name target : Name) (sized : Component) (typ : FirType) (over : Bool) (a b : Walk) → sized ≡ component instances target.id
+    → Fits all.widths (component instances target.id) typ over → b.known.entries ≡ known_with a.known.entries name.id sized → b.places.items ≡ a.places.items
+    → b.declared.items ≡ a.declared.items ++ typ ∷ [] → b.found.nodes.items ≡ a.found.nodes.items → b.found.faults.items ≡ a.found.faults.items → Walks (of_instance_among all instances name target) a b
+instance_walks all instances name target sized typ over a b is fit k p d n f = record {
+  known = k ∙ ap (known_with a.known.entries name.id) is;
+  count = ap length p ∙ (let c : length a.places.items ≡ length a.places.items + 0 = omega arith in c);
+  declared = d ∙ ap (λ t. a.declared.items ++ t ∷ []) fit.typ_is;
+  nodes = n ∙ sym (append-nil _);
+  faults = f ∙ sym (append-nil _);
+}

@@ -18,7 +18,7 @@ use Rattle.type_filling.specs.Filling.{Taking, taking, filled, number, first_num
 use Rattle.width_fit.specs.Written.{place_widths}
 use Rattle.type_filling.specs.Layers.{shape_taking, field_taking, fields_taking}
 
-abbrev shape_spots : Shape → List Spot
+abbrev pub shape_spots : Shape → List Spot
 shape_spots = fold-Shape (List Spot) (List Spot) (List Spot) of_shape of_field (λ t. t.shape)
 
 -- the widths of these places

@@ -9,4 +9,5 @@ mod Surveys
 mod Walking
 mod Parts
 mod Looking
+mod MemoryTypes
 mod Whole

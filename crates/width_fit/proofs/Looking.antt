@@ -135,3 +135,18 @@ fits_declared ws known fits new id sized fit none put own h =
         let whole : component_or_none (or_else (lookup (nat_eq name) known) (cond (nat_eq name id) (Some sized) None)) ≡ component known name
         = ap (λ b. component_or_none (or_else (lookup (nat_eq name) known) (cond b (Some sized) None))) (turned name id ∙ is) ∙ alone (lookup (nat_eq name) known) in
         subst (λ c. Fits ws c other.typ other.is_over) (sym whole) (h.each name other e)
+
+-- one fitted type more, of a component by its name
+pub fits_put : (ws : List Width) (known : Known) (fits new : List (ℕ × Fit)) (id : ℕ) (fit : Fit)
+    → ((name : ℕ) → lookup (nat_eq name) new ≡ cond (nat_eq id name) (Some fit) (lookup (nat_eq name) fits))
+    → Fits ws (component known id) fit.typ fit.is_over → AreFits ws known fits → AreFits ws known new
+fits_put ws known fits new id fit put own h = record { each = λ name other e. by name other (nat_eq id name) refl (sym (put name) ∙ e) }
+  where
+    one : (f g : Fit) → Some f ≡ Some g → f ≡ g
+    one f g e = cc
+
+    by : (name : ℕ) (other : Fit) (b : Bool) → nat_eq id name ≡ b → cond b (Some fit) (lookup (nat_eq name) fits) ≡ Some other
+        → Fits ws (component known name) other.typ other.is_over
+    by name other true is e =
+        subst (λ n. Fits ws (component known n) other.typ other.is_over) (eqb-true id name is) (subst (λ (f : Fit). Fits ws (component known id) f.typ f.is_over) (one fit other e) own)
+    by name other false is e = h.each name other e

@@ -6,6 +6,7 @@ pub mod Written
 -- what the bodies keep, and what proofs need
 pub mod Surveys
 pub mod Marks
+pub mod Memories
 pub mod Walks
 pub mod Fits
 pub mod Held

@@ -26,6 +26,18 @@ pub struct Fit {
     pub is_over: bool,
 }
 
+impl Fit {
+    /// The same once more. Takes no memory.
+    pub fn share(&self) -> Result<Fit, AllocError>
+        ensures { IfOk result (λ fit. fit ≡ self.now) }
+    {
+        Ok(Fit {
+            typ: copy(&self.typ)?,
+            is_over: self.is_over,
+        })
+    }
+}
+
 /// What is kept of a fitted type with these widths. It takes no memory but the type's own.
 pub fn fit_of(fitted: &FirType, widths: &List<Width>) -> Result<Fit, AllocError>
     ensures typ { IfOk result (λ fit. fit.typ ≡ fitted.now) }

@@ -2,21 +2,37 @@
 
 ghost use Rattle.std.specs.Prelude.{◌≡◌, ℕ, nat_eq, ◌||◌, false, get_or, IfOk, OnOk};
 ghost use Rattle.width_fit.specs.Judging.{is_unknown};
+ghost use Rattle.width_rules.specs.Sources.{component};
+ghost use Rattle.width_fit.specs.Fits.{Fits, AreFits};
 ghost use Rattle.width_fit.specs.Marks.{Marks};
 
+use crate::fits::Fit;
+use crate::instances::fit_of_component;
+use indexmap::IndexMap;
 use prim_ops::Width;
 use std::alloc::{AllocError, Global};
 use width_rules::Rule;
+use width_rules::indexed::Indexed;
+use width_rules::measuring::{look_up, no_component};
 use width_rules::slot::Slot;
 
-/// The widths of the variables and the rules.
+/// The components of the modules' instances, by the names of the modules, and their fitted types.
+#[derive(Drop)]
+pub struct Instances {
+    pub components: IndexMap<u32, Indexed>,
+    pub fits: IndexMap<u32, Fit>,
+}
+
+/// The widths of the variables, the rules, and the instances of modules.
 #[derive(Drop)]
 pub struct Given<'a> {
     pub widths: &'a [Width],
     pub rules: &'a [Rule],
+    pub instances: Instances,
     /// For each variable whether it is the target of a rule. It may be shorter than the widths.
     marks: Vec<bool>,
     ghost marked: { Marks rules.now marks.items },
+    ghost fitted: { AreFits widths.now instances.components.entries instances.fits.entries },
 }
 
 impl<'a> Given<'a> {
@@ -25,16 +41,32 @@ impl<'a> Given<'a> {
         alloc: Global,
         widths: &'a [Width],
         rules: &'a [Rule],
+        instances: Instances,
     ) -> Result<Given<'a>, AllocError>
+        requires { AreFits widths.now instances.components.entries instances.fits.entries }
         ensures widths { IfOk result (λ given. given.widths.now ≡ widths.now) }
         ensures rules { IfOk result (λ given. given.rules.now ≡ rules.now) }
+        ensures instances { IfOk result (λ given. given.instances ≡ instances) }
     {
         let marks = marks_of(alloc, rules)?;
         Ok(Given {
             widths,
             rules,
+            instances,
             marks,
         })
+    }
+
+    /// The fitted type of an instance of the module of this name, which all instances of the module share.
+    pub fn fit_of_instance(&self, alloc: Global, module: u32) -> Result<Fit, AllocError>
+        ensures { IfOk result (λ fit. Fits self.now.widths.now (component self.now.instances.components.entries module) fit.typ fit.is_over) }
+    {
+        if let Some(fit) = self.instances.fits.get(&module) {
+            return fit.share();
+        }
+        let nothing = no_component(alloc)?;
+        let component = look_up(&self.instances.components, module, &nothing);
+        fit_of_component(alloc, self.widths, component)
     }
 
     /// Whether the place has a variable that no rule has as its target.

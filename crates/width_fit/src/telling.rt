@@ -12,7 +12,8 @@ ghost use Rattle.width_fit.specs.Held.{HoldsFits};
 
 use crate::fits::{declare, fit_of};
 use crate::found::Findings;
-use crate::given::Given;
+use crate::given::{Given, Instances};
+use crate::instances::fits_of_instances;
 use crate::walk::{Walk, push_component, walk_statements};
 use crate::widths::slot_widths;
 use bit_words::List;
@@ -41,7 +42,6 @@ pub fn tell(
     ensures nodes { IfOk result (λ told. told.1.nodes.items ≡ (told_of checked.now widths.now).nodes) }
     ensures faults { IfOk result (λ told. told.1.faults.items ≡ (told_of checked.now widths.now).faults) }
 {
-    let given = Given::new(alloc, widths.as_slice(), rules.rules.as_slice())?;
     let mut walk = Walk {
         known: IndexMap::new(alloc),
         places: Vec::new(alloc),
@@ -54,9 +54,17 @@ pub fn tell(
         fits: IndexMap::new(alloc),
     };
     let modules = with_ports(alloc, &mut walk.places, checked.circuit.modules.as_slice())?;
-    let instances = instances_of(alloc, modules.as_slice())?;
+    let components = instances_of(alloc, modules.as_slice())?;
+    let fits = fits_of_instances(alloc, widths.as_slice(), &components, modules.as_slice())?;
+    let instances = Instances { components, fits };
+    let given = Given::new(
+        alloc,
+        widths.as_slice(),
+        rules.rules.as_slice(),
+        instances,
+    )?;
     let reached = checked.scope.reached.as_slice();
-    walk_modules(alloc, &given, &instances, &mut walk, modules, reached)?;
+    walk_modules(alloc, &given, &mut walk, modules, reached)?;
     Ok((walk.declared, walk.found))
 }
 
@@ -64,17 +72,16 @@ pub fn tell(
 fn walk_modules(
     alloc: Global,
     given: &Given<'_>,
-    instances: &IndexMap<u32, Indexed>,
     walk: &mut Walk,
     modules: Vec<Ported<'_>>,
     reached: &[bool],
 ) -> Result<(), AllocError>
-    ensures { OnOk result (WalksAll (told_among (solved given.now) instances.now.entries (length walk.old.places.items) (map ported modules.entry.items) reached.now) walk.old walk.new) }
+    ensures { OnOk result (WalksAll (told_among (solved given.now) given.now.instances.components.entries (length walk.old.places.items) (map ported modules.entry.items) reached.now) walk.old walk.new) }
 {
     let mut rest = reached;
     for held in modules {
         let (is_reached, others) = take_flag(rest);
-        walk_reached(alloc, given, instances, walk, held, is_reached)?;
+        walk_reached(alloc, given, walk, held, is_reached)?;
         rest = others;
     }
     Ok(())
@@ -95,15 +102,14 @@ fn take_flag(flags: &[bool]) -> (bool, &[bool])
 fn walk_reached(
     alloc: Global,
     given: &Given<'_>,
-    instances: &IndexMap<u32, Indexed>,
     walk: &mut Walk,
     held: Ported<'_>,
     is_reached: bool,
 ) -> Result<(), AllocError>
-    ensures { OnOk result (WalksModule (module_among (solved given.now) instances.now.entries (ported held.entry) (length walk.old.places.items)) (where_reached is_reached (module_among (solved given.now) instances.now.entries (ported held.entry) (length walk.old.places.items)).faults) walk.old walk.new) }
+    ensures { OnOk result (WalksModule (module_among (solved given.now) given.now.instances.components.entries (ported held.entry) (length walk.old.places.items)) (where_reached is_reached (module_among (solved given.now) given.now.instances.components.entries (ported held.entry) (length walk.old.places.items)).faults) walk.old walk.new) }
 {
     let before = walk.found.faults.len();
-    walk_module(alloc, given, instances, walk, held)?;
+    walk_module(alloc, given, walk, held)?;
     if !is_reached {
         walk.found.faults.truncate(before);
     }
@@ -113,17 +119,16 @@ fn walk_reached(
 fn walk_module(
     alloc: Global,
     given: &Given<'_>,
-    instances: &IndexMap<u32, Indexed>,
     walk: &mut Walk,
     held: Ported<'_>,
 ) -> Result<(), AllocError>
-    ensures { OnOk result (WalksModule (module_among (solved given.now) instances.now.entries (ported held.entry) (length walk.old.places.items)) (module_among (solved given.now) instances.now.entries (ported held.entry) (length walk.old.places.items)).faults walk.old walk.new) }
+    ensures { OnOk result (WalksModule (module_among (solved given.now) given.now.instances.components.entries (ported held.entry) (length walk.old.places.items)) (module_among (solved given.now) given.now.instances.components.entries (ported held.entry) (length walk.old.places.items)).faults walk.old walk.new) }
 {
     walk.known = IndexMap::new(alloc);
     walk.fits = IndexMap::new(alloc);
     let ports = held.holder.ports.as_slice();
     declare_ports(alloc, given, walk, ports, held.ports)?;
-    walk_statements(alloc, given, instances, walk, held.holder.body.as_slice())
+    walk_statements(alloc, given, walk, held.holder.body.as_slice())
 }
 
 /// The ports of a module as components, with their fitted types and their faults.

@@ -11,8 +11,9 @@ use crate::faults::{push_condition, push_over, push_where};
 use crate::fits::{Fit, declare, fit_of, part_of};
 use crate::found::Findings;
 use crate::given::Given;
+use crate::memories::fit_of_memory;
 use crate::survey::{survey_expr, survey_indexes};
-use crate::widths::{slot_widths, widths_in};
+use crate::widths::slot_widths;
 use bit_words::List;
 use circuit_parts::steps::{no_part, source};
 use fir_tree::{Arm, Expr, Form, Stmt};
@@ -42,21 +43,20 @@ pub struct Walk {
     pub found: Findings,
 }
 
-/// Statements in order. An instance has the component that is listed by its module's name.
+/// Statements in order.
 #[cycle(walk)]
 pub fn walk_statements(
     alloc: Global,
     given: &Given<'_>,
-    instances: &IndexMap<u32, Indexed>,
     walk: &mut Walk,
     statements: &[Stmt],
 ) -> Result<(), AllocError>
     requires { HoldsFits given.now walk.old }
-    ensures walks { OnOk result (Walks (in_turn (map (stmt_among (solved given.now) instances.now.entries) statements.now)) walk.old walk.new) }
+    ensures walks { OnOk result (Walks (in_turn (map (stmt_among (solved given.now) given.now.instances.components.entries) statements.now)) walk.old walk.new) }
     ensures fits { OnOk result (HoldsFits given.now walk.new) }
 {
     for statement in statements {
-        walk_statement(alloc, given, instances, walk, statement)?;
+        walk_statement(alloc, given, walk, statement)?;
     }
     Ok(())
 }
@@ -65,12 +65,11 @@ pub fn walk_statements(
 fn walk_statement(
     alloc: Global,
     given: &Given<'_>,
-    instances: &IndexMap<u32, Indexed>,
     walk: &mut Walk,
     statement: &Stmt,
 ) -> Result<(), AllocError>
     requires { HoldsFits given.now walk.old }
-    ensures walks { OnOk result (Walks (stmt_among (solved given.now) instances.now.entries statement.now) walk.old walk.new) }
+    ensures walks { OnOk result (Walks (stmt_among (solved given.now) given.now.instances.components.entries statement.now) walk.old walk.new) }
     ensures fits { OnOk result (HoldsFits given.now walk.new) }
 {
     match statement {
@@ -87,7 +86,7 @@ fn walk_statement(
         }
         Stmt::Mem(memory) => declare_memory(alloc, given, walk, memory),
         Stmt::Inst(name, target) => {
-            declare_instance(alloc, given, instances, walk, *name, *target)
+            declare_instance(alloc, given, walk, *name, *target)
         }
         Stmt::Node(name, expr) => declare_node(alloc, given, walk, *name, expr),
         Stmt::Connect(left, right) => {
@@ -96,8 +95,8 @@ fn walk_statement(
         }
         Stmt::Invalidate(target) => look_at(alloc, given, walk, target),
         Stmt::When(arms, other) => {
-            walk_arms(alloc, given, instances, walk, arms.as_slice())?;
-            walk_statements(alloc, given, instances, walk, other.as_slice())
+            walk_arms(alloc, given, walk, arms.as_slice())?;
+            walk_statements(alloc, given, walk, other.as_slice())
         }
         Stmt::Skip(_) => Ok(()),
     }
@@ -107,16 +106,15 @@ fn walk_statement(
 fn walk_arms(
     alloc: Global,
     given: &Given<'_>,
-    instances: &IndexMap<u32, Indexed>,
     walk: &mut Walk,
     arms: &[Arm],
 ) -> Result<(), AllocError>
     requires { HoldsFits given.now walk.old }
-    ensures walks { OnOk result (Walks (in_turn (map (arm_among (solved given.now) instances.now.entries) arms.now)) walk.old walk.new) }
+    ensures walks { OnOk result (Walks (in_turn (map (arm_among (solved given.now) given.now.instances.components.entries) arms.now)) walk.old walk.new) }
     ensures fits { OnOk result (HoldsFits given.now walk.new) }
 {
     for arm in arms {
-        walk_arm(alloc, given, instances, walk, arm)?;
+        walk_arm(alloc, given, walk, arm)?;
     }
     Ok(())
 }
@@ -125,16 +123,15 @@ fn walk_arms(
 fn walk_arm(
     alloc: Global,
     given: &Given<'_>,
-    instances: &IndexMap<u32, Indexed>,
     walk: &mut Walk,
     arm: &Arm,
 ) -> Result<(), AllocError>
     requires { HoldsFits given.now walk.old }
-    ensures walks { OnOk result (Walks (arm_among (solved given.now) instances.now.entries arm.now) walk.old walk.new) }
+    ensures walks { OnOk result (Walks (arm_among (solved given.now) given.now.instances.components.entries arm.now) walk.old walk.new) }
     ensures fits { OnOk result (HoldsFits given.now walk.new) }
 {
     ask(alloc, given, walk, &arm.condition)?;
-    walk_statements(alloc, given, instances, walk, arm.body.as_slice())
+    walk_statements(alloc, given, walk, arm.body.as_slice())
 }
 
 /// An expression whose widths nobody asks for. The fitted type of a reference is a share of its component's, in time that its
@@ -200,7 +197,7 @@ fn declare_storage(
     declare(&mut walk.known, &mut walk.fits, name.id, component, fit)
 }
 
-/// A memory, whose ports share the widths of its elements.
+/// A memory, whose ports share the fitted type of its elements.
 fn declare_memory(
     alloc: Global,
     given: &Given<'_>,
@@ -223,12 +220,10 @@ fn declare_memory(
         slots.as_slice(),
         widths.as_slice(),
     )?;
+    let fitted = walk.found.made.fit(alloc, element, widths.as_slice())?;
+    let fit = fit_of_memory(alloc, memory, &fitted, widths.as_slice())?;
+    walk.declared.push(copy(&fit.typ)?)?;
     let component = memory_of_slots(alloc, memory, slots)?;
-    let widths = widths_in(alloc, given.widths, component.slots())?;
-    let typ = &component.part().typ;
-    let fitted = walk.found.made.fit_memory(alloc, typ, widths.as_slice())?;
-    let fit = fit_of(&fitted, &widths)?;
-    walk.declared.push(fitted)?;
     let name = memory.name.id;
     declare(&mut walk.known, &mut walk.fits, name, component, fit)
 }
@@ -237,22 +232,18 @@ fn declare_memory(
 fn declare_instance(
     alloc: Global,
     given: &Given<'_>,
-    instances: &IndexMap<u32, Indexed>,
     walk: &mut Walk,
     name: Name,
     target: Name,
 ) -> Result<(), AllocError>
     requires { HoldsFits given.now walk.old }
-    ensures walks { OnOk result (Walks (of_instance_among (solved given.now) instances.now.entries name target) walk.old walk.new) }
+    ensures walks { OnOk result (Walks (of_instance_among (solved given.now) given.now.instances.components.entries name target) walk.old walk.new) }
     ensures fits { OnOk result (HoldsFits given.now walk.new) }
 {
     let nothing = no_component(alloc)?;
-    let instance = look_up(instances, target.id, &nothing).share()?;
-    let widths = widths_in(alloc, given.widths, instance.slots())?;
-    let typ = &instance.part().typ;
-    let fitted = walk.found.made.fit(alloc, typ, widths.as_slice())?;
-    let fit = fit_of(&fitted, &widths)?;
-    walk.declared.push(fitted)?;
+    let instance = look_up(&given.instances.components, target.id, &nothing).share()?;
+    let fit = given.fit_of_instance(alloc, target.id)?;
+    walk.declared.push(copy(&fit.typ)?)?;
     declare(&mut walk.known, &mut walk.fits, name.id, instance, fit)
 }
 

@@ -11,9 +11,9 @@ use Rattle.width_fit.proofs.telling.tell.Goals as goal
 
 pub returns-clause-declared : goal.returns-clause-declared
 returns-clause-declared c =
-    let same = told_is c.args.checked.now c.args.widths.now (solved c.in_ok-given.given) (map ported c.in_ok-modules.modules.items) c.in_ok-instances.instances.entries c.with_ports.new.places.items c.as_slice-reached.result.now
+    let same = told_is c.args.checked.now c.args.widths.now (solved c.in_ok-given.given) (map ported c.in_ok-modules.modules.items) c.in_ok-components.components.entries c.with_ports.new.places.items c.as_slice-reached.result.now
     (c.in_ok-modules.ensures.modules ∙ ap₂ (λ p ms. modules_from (length p) ms) c.new-3.ensures.items c.as_slice-3.ensures)
-    (rw c.as_slice-4.ensures.value at c.in_ok-instances.ensures)
+    (rw c.as_slice-4.ensures.value at c.in_ok-components.ensures)
     (c.in_ok-modules.ensures.places ∙ ap₂ (λ p ms. p ++ flat_map module_places ms) c.new-3.ensures.items c.as_slice-3.ensures)
     (ap₂ (λ w r. record { widths = w; rules = r }) (c.in_ok-given.ensures.widths ∙ c.as_slice.ensures) (c.in_ok-given.ensures.rules ∙ c.as_slice-2.ensures ∙ ap (λ (r : Rules). r.rules) c.requires))
     c.as_slice-reached.ensures in
@@ -21,9 +21,9 @@ returns-clause-declared c =
 
 pub returns-clause-nodes : goal.returns-clause-nodes
 returns-clause-nodes c =
-    let same = told_is c.args.checked.now c.args.widths.now (solved c.in_ok-given.given) (map ported c.in_ok-modules.modules.items) c.in_ok-instances.instances.entries c.with_ports.new.places.items c.as_slice-reached.result.now
+    let same = told_is c.args.checked.now c.args.widths.now (solved c.in_ok-given.given) (map ported c.in_ok-modules.modules.items) c.in_ok-components.components.entries c.with_ports.new.places.items c.as_slice-reached.result.now
     (c.in_ok-modules.ensures.modules ∙ ap₂ (λ p ms. modules_from (length p) ms) c.new-3.ensures.items c.as_slice-3.ensures)
-    (rw c.as_slice-4.ensures.value at c.in_ok-instances.ensures)
+    (rw c.as_slice-4.ensures.value at c.in_ok-components.ensures)
     (c.in_ok-modules.ensures.places ∙ ap₂ (λ p ms. p ++ flat_map module_places ms) c.new-3.ensures.items c.as_slice-3.ensures)
     (ap₂ (λ w r. record { widths = w; rules = r }) (c.in_ok-given.ensures.widths ∙ c.as_slice.ensures) (c.in_ok-given.ensures.rules ∙ c.as_slice-2.ensures ∙ ap (λ (r : Rules). r.rules) c.requires))
     c.as_slice-reached.ensures in
@@ -31,9 +31,9 @@ returns-clause-nodes c =
 
 pub returns-clause-faults : goal.returns-clause-faults
 returns-clause-faults c =
-    let same = told_is c.args.checked.now c.args.widths.now (solved c.in_ok-given.given) (map ported c.in_ok-modules.modules.items) c.in_ok-instances.instances.entries c.with_ports.new.places.items c.as_slice-reached.result.now
+    let same = told_is c.args.checked.now c.args.widths.now (solved c.in_ok-given.given) (map ported c.in_ok-modules.modules.items) c.in_ok-components.components.entries c.with_ports.new.places.items c.as_slice-reached.result.now
     (c.in_ok-modules.ensures.modules ∙ ap₂ (λ p ms. modules_from (length p) ms) c.new-3.ensures.items c.as_slice-3.ensures)
-    (rw c.as_slice-4.ensures.value at c.in_ok-instances.ensures)
+    (rw c.as_slice-4.ensures.value at c.in_ok-components.ensures)
     (c.in_ok-modules.ensures.places ∙ ap₂ (λ p ms. p ++ flat_map module_places ms) c.new-3.ensures.items c.as_slice-3.ensures)
     (ap₂ (λ w r. record { widths = w; rules = r }) (c.in_ok-given.ensures.widths ∙ c.as_slice.ensures) (c.in_ok-given.ensures.rules ∙ c.as_slice-2.ensures ∙ ap (λ (r : Rules). r.rules) c.requires))
     c.as_slice-reached.ensures in

@@ -13,7 +13,7 @@ declare_ports-requires c = no_fits _ _ _ (search rules)
 pub returns : goal.returns
 returns c =
     let all = solved c.args.given.now in
-    let instances = c.args.instances.now.entries in
+    let instances = c.args.given.now.instances.components.entries in
     let ported' = ported c.args.held in
     on_ok_weaker c.walk_statements.result
     (λ w. module_walks all instances ported' c.args.walk.now c.declare_ports.new.walk c.walk_statements.new.walk (search rules) c.in_ok-declare_ports.ensures.places

@@ -6,12 +6,12 @@ use Rattle.width_fit.proofs.walk.+walk.Given as goal
 
 abbrev pub invariant-walk_statements-loop-statement : goal.invariant-walk_statements-loop-statement
 invariant-walk_statements-loop-statement l = record {
-  walks : Walks (in_turn (map (stmt_among (solved l.given) l.instances.entries) (take l.statement-index l.statements))) l.fn.walk l.walk;
+  walks : Walks (in_turn (map (stmt_among (solved l.given) l.given.instances.components.entries) (take l.statement-index l.statements))) l.fn.walk l.walk;
   fits : HoldsFits l.given l.walk;
 }
 
 abbrev pub invariant-walk_arms-loop-arm : goal.invariant-walk_arms-loop-arm
 invariant-walk_arms-loop-arm l = record {
-  walks : Walks (in_turn (map (arm_among (solved l.given) l.instances.entries) (take l.arm-index l.arms))) l.fn.walk l.walk;
+  walks : Walks (in_turn (map (arm_among (solved l.given) l.given.instances.components.entries) (take l.arm-index l.arms))) l.fn.walk l.walk;
   fits : HoldsFits l.given l.walk;
 }

@@ -1,12 +1,23 @@
-use Rattle.std.proofs.Common.{rules, refl}
-use Rattle.width_fit.proofs.Looking.{fits_of}
+use Rattle.std.proofs.Common.{◌≡◌, rules, refl, sym, subst}
+use Rattle.std.proofs.lemmas.Result.{on_ok_weaker}
+use Rattle.width_rules.specs.Sources.{component}
+use Rattle.width_fit.specs.Fits.{Fits}
+use Rattle.width_fit.specs.Walks.{solved}
+use Rattle.width_fit.proofs.Declaring.{instance_walks}
 use Rattle.width_fit.proofs.walk.declare_instance.Goals as goal
+
+pub returns-clause-walks : goal.returns-clause-walks
+returns-clause-walks c =
+    let all = solved c.args.given.now in
+    let instances = c.args.given.now.instances.components.entries in
+    let is : c.in_ok-instance.instance ≡ component instances c.args.target.id = search rules in
+    on_ok_weaker c.declare.result
+    (instance_walks all instances c.args.name c.args.target c.in_ok-instance.instance c.in_ok-fit.fit.typ c.in_ok-fit.fit.is_over c.args.walk.now _ is c.in_ok-fit.ensures)
+    (search rules)
 
 pub returns-clause-fits : goal.returns-clause-fits
 returns-clause-fits c =
     let ws = c.args.given.now.widths.now in
-    let sized = c.in_ok-instance.instance in
-    c.declare.ensures.fits ws
-    (fits_of ws sized sized.part sized.slots sized.part.typ c.in_ok-fitted.fitted c.in_ok-widths.widths c.in_ok-fit.fit refl refl (search rules) (search rules)
-    c.in_ok-fit.ensures.typ c.in_ok-fit.ensures.over)
-    c.requires
+    let instances = c.args.given.now.instances.components.entries in
+    let is : c.in_ok-instance.instance ≡ component instances c.args.target.id = search rules in
+    c.declare.ensures.fits ws (subst (λ k. Fits ws k c.in_ok-fit.fit.typ c.in_ok-fit.fit.is_over) (sym is) c.in_ok-fit.ensures) c.requires
