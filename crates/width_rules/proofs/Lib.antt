@@ -11,6 +11,7 @@ pub mod Fitting
 pub mod Flips
 pub mod Literals
 pub mod Ports
+mod PortPlaces
 pub mod Rows
 pub mod Ruled
 pub mod Spots

@@ -12,6 +12,10 @@ use Rattle.width_rules.specs.Places.{size}
 abbrev pub weight : Field → ℕ
 weight field = min (size field.typ) (2 ^ 64 - 1)
 
+-- how many places each field of a bundle has
+abbrev pub Weighs : FirType → List ℕ → Type 0
+Weighs typ weights = (fields : List Field) → typ.shape ≡ shape.Bundle fields → weights ≡ map weight fields
+
 -- the index of a bundle's fields
 abbrev pub Indexes : FirType → FieldIndex → Type 0
 Indexes typ index = (fields : List Field) → typ.shape ≡ shape.Bundle fields → IsIndexOf index fields (map weight fields)

@@ -1,5 +1,5 @@
 -- The widths of places by the fields of bundles, and the walk over two lists of formulas by the flips alone.
-use Rattle.std.specs.Prelude.{◌≡◌, ℕ, ◌++◌, Bool, List, [], ◌∷◌, map, length}
+use Rattle.std.specs.Prelude.{◌≡◌, ℕ, ◌+◌, ◌-◌, ◌^◌, min, ◌++◌, Bool, List, [], ◌∷◌, map, length, Option, Some, None}
 use Rattle.place_text.specs.declared.place.Place.{Place}
 use Rattle.fir_types.specs.declared.fir_type.FirType.{FirType}
 use Rattle.fir_types.specs.declared.fir_type.Field.{Field}
@@ -48,6 +48,16 @@ abbrev pub mode_widths : FirType → List Slot → PortMode → List Slot
 mode_widths typ element mode.Reader = element
 mode_widths typ element mode.Writer = element ++ mask_widths typ
 mode_widths typ element mode.ReadWriter = element ++ (slot.Fixed 1 ∷ (element ++ mask_widths typ))
+
+-- how many places a memory's port has, by those of an element and of a mask
+abbrev pub mode_places : ℕ → ℕ → PortMode → ℕ
+mode_places element mask mode.Reader = element + 2
+mode_places element mask mode.Writer = (element + mask) + 2
+mode_places element mask mode.ReadWriter = ((element + element) + mask) + 3
+
+abbrev pub line_places : ℕ → ℕ → MemLine → Option ℕ
+line_places element mask (line.MemPort at m name) = Some (min (mode_places element mask m) (2 ^ 64 - 1))
+line_places element mask _ = None
 
 abbrev pub line_widths : FirType → ℕ → List Slot → MemLine → List Slot
 line_widths typ depth element (line.MemPort at m name) = slot.Fixed (address_bits depth) ∷ (slot.Fixed 1 ∷ mode_widths typ element m)

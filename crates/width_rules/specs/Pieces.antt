@@ -1,5 +1,5 @@
 -- Widths in several lists, one behind another, as the code holds them.
-use Rattle.std.specs.Prelude.{◌≡◌, ℕ, List, [], ◌∷◌, ◌++◌, take, drop, length, flat_map}
+use Rattle.std.specs.Prelude.{◌≡◌, List, [], ◌∷◌, take, drop, length, flat_map}
 use Rattle.fir_types.specs.declared.memory.MemLine.{MemLine}
 use Rattle.fir_types.specs.declared.memory.MemLine.TheVariants as line
 use Rattle.fir_types.specs.declared.memory.PortMode.{PortMode}

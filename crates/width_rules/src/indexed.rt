@@ -1,7 +1,7 @@
 //! Components with an index of their fields.
 
 ghost use Rattle.std.specs.Prelude.{◌≡◌, map, IfOk, IfSome};
-ghost use Rattle.width_rules.specs.Indexes.{Indexes, IsPlaceIn, weight};
+ghost use Rattle.width_rules.specs.Indexes.{Indexes, IsPlaceIn, Weighs, weight};
 ghost use Rattle.width_rules.specs.Pieces.{joined, slots_in, held_slots};
 ghost use Rattle.width_rules.specs.Targets.{has_variable};
 
@@ -62,21 +62,23 @@ impl Indexed {
         })
     }
 
-    /// A component with the widths of several lists, one behind another, of which it is told whether one is a variable. Takes
-    /// time and memory in proportion to the fields of its type and to the number of lists.
+    /// A component with the widths of several lists, one behind another, of which it is told whether one is a variable, and how
+    /// many places each field of its type has. Takes time and memory in proportion to the number of fields and of lists.
     pub fn of_lists(
         alloc: Global,
         part: Part,
         lists: List<SharedList<Slot>>,
         varies: bool,
+        weights: &[usize],
     ) -> Result<Indexed, AllocError>
-        requires { varies ≡ has_variable (joined lists) }
+        requires told { varies ≡ has_variable (joined lists) }
+        requires weighed { Weighs part.typ weights.now }
         ensures { IfOk result (λ indexed. indexed ≡ record { part = part; slots = joined lists }) }
     {
         let count = count_of(lists.as_slice())?;
         let held = Held::Many(Shared::new(alloc, lists)?, count);
         Ok(Indexed {
-            index: index_of(alloc, &part.typ)?,
+            index: index_with(alloc, &part.typ, weights)?,
             part,
             held,
             varies,
@@ -160,11 +162,26 @@ fn index_of(alloc: Global, typ: &FirType) -> Result<Option<Shared<FieldIndex>>, 
     let Shape::Bundle(fields) = &typ.shape else {
         return Ok(None);
     };
+    let weights = weights_of(alloc, fields.as_slice())?;
+    index_with(alloc, typ, weights.as_slice())
+}
+
+/// The index of a bundle's fields, where they are many, with how many places each has.
+fn index_with(
+    alloc: Global,
+    typ: &FirType,
+    weights: &[usize],
+) -> Result<Option<Shared<FieldIndex>>, AllocError>
+    requires { Weighs typ.now weights.now }
+    ensures { IfOk result (λ index. IfSome index (Indexes typ.now)) }
+{
+    let Shape::Bundle(fields) = &typ.shape else {
+        return Ok(None);
+    };
     if fields.len() < MANY {
         return Ok(None);
     }
-    let weights = weights_of(alloc, fields.as_slice())?;
-    let index = FieldIndex::new(alloc, fields.as_slice(), weights.as_slice())?;
+    let index = FieldIndex::new(alloc, fields.as_slice(), weights)?;
     Ok(Some(Shared::new(alloc, index)?))
 }
 
