@@ -105,9 +105,9 @@ asks_walks ws e held widths mid a b h adds k p d n w f =
     }
 
 pub instance_walks : (all : Solved) (instances : Known) (name target : Name) (sized : Component) (typ : FirType) (over : Bool) (a b : Walk) → sized ≡ component instances target.id
-    → Fits all.widths (component instances target.id) typ over → b.known.entries ≡ known_with a.known.entries name.id sized → b.places.items ≡ a.places.items
-    → b.declared.items ≡ a.declared.items ++ typ ∷ [] → b.found.nodes.items ≡ a.found.nodes.items → b.found.faults.items ≡ a.found.faults.items → Walks (of_instance_among all instances name target) a b
-instance_walks all instances name target sized typ over a b is fit k p d n f = record {
+    → Fits all.widths (component instances target.id) typ over → b.places.items ≡ a.places.items → b.declared.items ≡ a.declared.items ++ typ ∷ [] → b.found.nodes.items ≡ a.found.nodes.items
+    → b.found.faults.items ≡ a.found.faults.items → b.known.entries ≡ known_with a.known.entries name.id sized → Walks (of_instance_among all instances name target) a b
+instance_walks all instances name target sized typ over a b is fit p d n f k = record {
   known = k ∙ ap (known_with a.known.entries name.id) is;
   count = ap length p ∙ (let c : length a.places.items ≡ length a.places.items + 0 = omega arith in c);
   declared = d ∙ ap (λ t. a.declared.items ++ t ∷ []) fit.typ_is;

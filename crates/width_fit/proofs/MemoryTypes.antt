@@ -1,8 +1,8 @@
 -- The fitted type of a memory is the type of the memory over the fitted type of its elements.
-use Rattle.std.proofs.Common.{◌≡◌, ℕ, suc, ◌+◌, ◌≤◌, Bool, true, false, ◌&&◌, List, [], ◌∷◌, ◌++◌, map, length, take, drop, Option, Some, None, refl, sym, ap, ap₂, ◌∙◌, subst, arith, append_assoc, append-nil, filter_map}
+use Rattle.std.proofs.Common.{◌≡◌, ℕ, suc, ◌+◌, ◌≤◌, Bool, true, ◌&&◌, List, [], ◌∷◌, ◌++◌, map, length, take, drop, refl, sym, ap, ap₂, ◌∙◌, subst, arith, append_assoc, append-nil, filter_map}
 use Rattle.std.specs.List.{flat_map, list_any}
 use Rattle.std.proofs.lemmas.Grind.{common_steps}
-use Rattle.std.proofs.lemmas.List.{length-map, map-append, take_all}
+use Rattle.std.proofs.lemmas.List.{length-map, map-append}
 use Rattle.std.proofs.lemmas.List.Folds.{flat_map-map}
 use Rattle.place_text.specs.declared.place.Place.{Place}
 use Rattle.fir_types.specs.declared.fir_type.FirType.{FirType, ind-FirType, the_lemmas}
@@ -21,7 +21,6 @@ use Rattle.fir_types.specs.Bundles.{mask_of, mask_of_shape, mask_of_field, nowhe
 use Rattle.fir_types.specs.Memories.{element_of, element_in, depth_of, depth_in, first_or}
 use Rattle.prim_ops.specs.declared.widths.Width.{Width}
 use Rattle.prim_ops.specs.declared.widths.Width.TheVariants.{Bits}
-use Rattle.prim_ops.specs.Widths.{bounded}
 use Rattle.width_rules.specs.declared.slot.Slot.{Slot}
 use Rattle.width_rules.specs.declared.slot.Slot.TheVariants as slot
 use Rattle.circuit_parts.specs.Parts.{source_of}
@@ -34,7 +33,7 @@ use Rattle.width_rules.proofs.Capped.{address_small}
 use Rattle.width_rules.proofs.Cuts.{any_in_ports}
 use Rattle.width_rules.proofs.FormulaLemmas.{width-Fixed}
 use Rattle.width_rules.proofs.Walking.{lines_are}
-use Rattle.type_filling.specs.Filling.{taking, filled, number}
+use Rattle.type_filling.specs.Filling.{taking, filled}
 use Rattle.type_filling.specs.Layers.{shape_taking, field_taking, fields_taking}
 use Rattle.width_fit.specs.Judging.{slot_width, is_over}
 use Rattle.width_fit.specs.Memories.{line_with, memory_with}
@@ -233,10 +232,10 @@ module _ (all : List Width) where
         let second : FirType → List Field = λ t. en ∷ third t in
         let taken : fields_taking (addr ∷ second typ) (width (slot.Fixed (address_bits depth)) ∷ (width (slot.Fixed 1) ∷ data_widths)) ≡ (addr ∷ second fitted, rest)
         = then_fields addr addr (second typ) (second fitted) _ (width (slot.Fixed 1) ∷ data_widths) rest
-            (field_is addr (uint_at place (address_bits depth)) _ _ (uint_taking place (address_bits depth) _ _ (fixed_width (address_bits depth) (address_small depth))))
-            (then_fields en en (third typ) (third fitted) _ data_widths rest (field_is en (uint_at place 1) _ _ (uint_taking place 1 _ _ one_width))
-            (then_fields clk clk (fields_of_mode place typ m) (fields_of_mode place fitted m) _ data_widths rest (field_is clk (clock_at place) _ _ (clock_taking place data_widths))
-            (mode_taking place m rest))) in
+        (field_is addr (uint_at place (address_bits depth)) _ _ (uint_taking place (address_bits depth) _ _ (fixed_width (address_bits depth) (address_small depth))))
+        (then_fields en en (third typ) (third fitted) _ data_widths rest (field_is en (uint_at place 1) _ _ (uint_taking place 1 _ _ one_width))
+        (then_fields clk clk (fields_of_mode place typ m) (fields_of_mode place fitted m) _ data_widths rest (field_is clk (clock_at place) _ _ (clock_taking place data_widths))
+        (mode_taking place m rest))) in
         bundle_taking place (addr ∷ second typ) _ ∙ ap (λ (t : List Field × List Width). (record { place = place; shape = shape.Bundle t.0 }, t.1)) taken
 
     lines_taking : (ls : List MemLine) (rest : List Width)

@@ -3,7 +3,7 @@
 ghost use Rattle.std.specs.Prelude.{◌≡◌, ℕ, nat_eq, ◌||◌, false, get_or, IfOk, OnOk};
 ghost use Rattle.width_fit.specs.Judging.{is_unknown};
 ghost use Rattle.width_rules.specs.Sources.{component};
-ghost use Rattle.width_fit.specs.Fits.{Fits, AreFits};
+ghost use Rattle.width_fit.specs.Fits.{Fits, AreFits, AreFits-prop};
 ghost use Rattle.width_fit.specs.Marks.{Marks};
 
 use crate::fits::Fit;
@@ -32,7 +32,7 @@ pub struct Given<'a> {
     /// For each variable whether it is the target of a rule. It may be shorter than the widths.
     marks: Vec<bool>,
     ghost marked: { Marks rules.now marks.items },
-    ghost fitted: { AreFits widths.now instances.components.entries instances.fits.entries },
+    ghost fitted: { AreFits widths.now instances.components.entries instances.fits.entries } by { AreFits-prop widths.now instances.components.entries instances.fits.entries },
 }
 
 impl<'a> Given<'a> {
@@ -58,14 +58,14 @@ impl<'a> Given<'a> {
     }
 
     /// The fitted type of an instance of the module of this name, which all instances of the module share.
-    pub fn fit_of_instance(&self, alloc: Global, module: u32) -> Result<Fit, AllocError>
-        ensures { IfOk result (λ fit. Fits self.now.widths.now (component self.now.instances.components.entries module) fit.typ fit.is_over) }
+    pub fn fit_of_instance(&self, alloc: Global, target: u32) -> Result<Fit, AllocError>
+        ensures { IfOk result (λ fit. Fits self.now.widths.now (component self.now.instances.components.entries target) fit.typ fit.is_over) }
     {
-        if let Some(fit) = self.instances.fits.get(&module) {
+        if let Some(fit) = self.instances.fits.get(&target) {
             return fit.share();
         }
         let nothing = no_component(alloc)?;
-        let component = look_up(&self.instances.components, module, &nothing);
+        let component = look_up(&self.instances.components, target, &nothing);
         fit_of_component(alloc, self.widths, component)
     }
 

@@ -1,6 +1,6 @@
 //! The fitted types of instances, one for each module.
 
-ghost use Rattle.std.specs.Prelude.{◌≡◌, IfOk};
+ghost use Rattle.std.specs.Prelude.{IfOk};
 ghost use Rattle.width_rules.specs.Sources.{component};
 ghost use Rattle.width_fit.specs.Fits.{Fits, AreFits};
 

@@ -32,11 +32,7 @@ pub fn fit_of_memory(
 }
 
 /// The type of a memory whose elements have this type. Takes time and memory in proportion to the type and to the memory's lines.
-fn type_with(
-    alloc: Global,
-    memory: &Memory,
-    element: &FirType,
-) -> Result<FirType, AllocError>
+fn type_with(alloc: Global, memory: &Memory, element: &FirType) -> Result<FirType, AllocError>
     ensures { IfOk result (λ typ. typ ≡ memory_of (memory_with element.now memory.now)) }
 {
     let mut lines = List::new(alloc);

@@ -57,12 +57,7 @@ pub fn tell(
     let components = instances_of(alloc, modules.as_slice())?;
     let fits = fits_of_instances(alloc, widths.as_slice(), &components, modules.as_slice())?;
     let instances = Instances { components, fits };
-    let given = Given::new(
-        alloc,
-        widths.as_slice(),
-        rules.rules.as_slice(),
-        instances,
-    )?;
+    let given = Given::new(alloc, widths.as_slice(), rules.rules.as_slice(), instances)?;
     let reached = checked.scope.reached.as_slice();
     walk_modules(alloc, &given, &mut walk, modules, reached)?;
     Ok((walk.declared, walk.found))

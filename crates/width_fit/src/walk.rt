@@ -85,9 +85,7 @@ fn walk_statement(
             declare_storage(alloc, given, walk, *name, typ)
         }
         Stmt::Mem(memory) => declare_memory(alloc, given, walk, memory),
-        Stmt::Inst(name, target) => {
-            declare_instance(alloc, given, walk, *name, *target)
-        }
+        Stmt::Inst(name, target) => { declare_instance(alloc, given, walk, *name, *target) }
         Stmt::Node(name, expr) => declare_node(alloc, given, walk, *name, expr),
         Stmt::Connect(left, right) => {
             look_at(alloc, given, walk, left)?;
@@ -120,12 +118,7 @@ fn walk_arms(
 }
 
 #[cycle(walk)]
-fn walk_arm(
-    alloc: Global,
-    given: &Given<'_>,
-    walk: &mut Walk,
-    arm: &Arm,
-) -> Result<(), AllocError>
+fn walk_arm(alloc: Global, given: &Given<'_>, walk: &mut Walk, arm: &Arm) -> Result<(), AllocError>
     requires { HoldsFits given.now walk.old }
     ensures walks { OnOk result (Walks (arm_among (solved given.now) given.now.instances.components.entries arm.now) walk.old walk.new) }
     ensures fits { OnOk result (HoldsFits given.now walk.new) }

@@ -11,9 +11,12 @@ returns-clause-walks c =
     let all = solved c.args.given.now in
     let instances = c.args.given.now.instances.components.entries in
     let is : c.in_ok-instance.instance ≡ component instances c.args.target.id = search rules in
+    let copied : c.in_ok-copy.field-0 ≡ c.in_ok-fit.fit.typ = search rules in
+    let over = c.in_ok-fit.fit.is_over in
     on_ok_weaker c.declare.result
-    (instance_walks all instances c.args.name c.args.target c.in_ok-instance.instance c.in_ok-fit.fit.typ c.in_ok-fit.fit.is_over c.args.walk.now _ is c.in_ok-fit.ensures)
-    (search rules)
+    (instance_walks all instances c.args.name c.args.target c.in_ok-instance.instance c.in_ok-copy.field-0 over c.args.walk.now _ is
+    (subst (λ t. Fits all.widths (component instances c.args.target.id) t over) (sym copied) c.in_ok-fit.ensures) refl c.in_ok-push.ensures.items refl refl)
+    c.declare.ensures.known
 
 pub returns-clause-fits : goal.returns-clause-fits
 returns-clause-fits c =

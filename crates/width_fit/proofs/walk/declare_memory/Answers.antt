@@ -2,7 +2,6 @@ use Rattle.std.proofs.Common.{rules, refl, ap, sym, ◌∙◌, ◌≡◌, ◌++�
 use Rattle.std.proofs.lemmas.Result.{on_ok_weaker}
 use Rattle.fir_types.specs.Memories.{element_of}
 use Rattle.fir_types.specs.Bundles.{memory_of}
-use Rattle.circuit_parts.specs.Parts.{source_of}
 use Rattle.width_rules.specs.declared.component.Component.{Component}
 use Rattle.width_rules.specs.Places.{spots, slots_from, open_spots}
 use Rattle.width_rules.specs.Circuits.{memory_slots, places_for}
@@ -25,14 +24,15 @@ returns-clause-walks c =
     let own : slots ≡ slots_from n (spots (element_of memory)) = search rules in
     let fitted : c.in_ok-fit.fit.typ ≡ filled (memory_of memory) (map (slot_width all.widths) (memory_slots memory slots))
     = memory_fitted all.widths memory n slots c.element_of-element.result.now c.in_ok-fitted.fitted c.in_ok-fit.fit.typ c.in_ok-widths.widths element c.in_ok-slots.ensures.slots
-        (search rules) (search rules) c.in_ok-fit.ensures.typ in
+    (search rules) (search rules) c.in_ok-fit.ensures.typ in
+    let copied : c.in_ok-copy.field-0 ≡ c.in_ok-fit.fit.typ = search rules in
     on_ok_weaker c.declare.result
-    (memory_walks all memory slots sized.slots (memory_of memory) c.in_ok-fit.fit.typ sized.part c.args.walk.now _
+    (memory_walks all memory slots sized.slots (memory_of memory) c.in_ok-copy.field-0 sized.part c.args.walk.now _
     own (ap (λ (s : Component). s.slots) is ∙ ap (memory_slots memory) own)
     (c.in_ok-slots.ensures.places ∙ ap (λ t. c.args.walk.now.places.items ++ places_for memory.name.place (open_spots (spots t))) element) refl
-    (fitted ∙ ap (λ (s : Component). filled (memory_of memory) (map (slot_width all.widths) s.slots)) (sym is))
-    (search rules) refl
-    (c.in_ok-push_component.ensures ∙ ap (λ s. c.args.walk.now.found.faults.items ++ component_faults all memory.name.place s) (search rules))
+    (copied ∙ fitted ∙ ap (λ (s : Component). filled (memory_of memory) (map (slot_width all.widths) s.slots)) (sym is))
+    c.in_ok-push.ensures.items refl
+    (c.in_ok-push_component.ensures ∙ ap (λ s. c.args.walk.now.found.faults.items ++ component_faults all memory.name.place s) c.as_slice-3.ensures)
     (ap (λ (s : Component). s.part) is))
     c.declare.ensures.known
 
@@ -47,5 +47,5 @@ returns-clause-fits c =
     let widths : c.in_ok-widths.widths ≡ map (slot_width ws) slots = search rules in
     let fitted : c.in_ok-fit.fit.typ ≡ filled (memory_of memory) (map (slot_width ws) (memory_slots memory slots))
     = memory_fitted ws memory n slots c.element_of-element.result.now c.in_ok-fitted.fitted c.in_ok-fit.fit.typ c.in_ok-widths.widths element c.in_ok-slots.ensures.slots
-        widths (search rules) c.in_ok-fit.ensures.typ in
+    widths (search rules) c.in_ok-fit.ensures.typ in
     c.declare.ensures.fits ws (memory_fits ws memory slots c.in_ok-widths.widths sized c.in_ok-fit.fit c.in_ok-component.ensures widths fitted (search rules)) c.requires
