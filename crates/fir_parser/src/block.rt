@@ -1,6 +1,6 @@
 //! Statements with their blocks.
 
-ghost use Rattle.std.specs.Prelude.{◌≡◌, ◌+◌, ◌-◌, ◌≤◌, ◌<◌, [], ◌∷◌, ◌++◌, List, codes, IfOk, IfErr, OnOk};
+ghost use Rattle.std.specs.Prelude.{◌≡◌, ◌≤◌, [], ◌∷◌, codes, IfOk, IfErr, OnOk};
 ghost use Rattle.fir_grammar.specs.Grammar.{A, The_word, Statement, Statements, Block, Branches, Expression, word, colon, line_end};
 ghost use Rattle.fir_grammar.specs.Faults.{most};
 ghost use Rattle.fir_tree.specs.declared.fault.ParseFault.TheVariants.{NoMemory};

@@ -1,6 +1,6 @@
 //! The beginnings of lines.
 
-ghost use Rattle.std.specs.Prelude.{◌≡◌, ◌⊎◌, [], ◌∷◌, IfOk, IfErr, OnOk};
+ghost use Rattle.std.specs.Prelude.{◌≡◌, ◌⊎◌, [], ◌∷◌, OnOk};
 ghost use Rattle.fir_grammar.specs.Grammar.{Is, A, Nothing, The_word, The_mark, name, mark, colon, Type_of};
 ghost use Rattle.fir_parser.specs.Taking.{StandsAt, IsFresh, ReadsAll};
 

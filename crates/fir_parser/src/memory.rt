@@ -1,8 +1,7 @@
 //! Memories: their lines (FIRRTL specification 3.0, "Memories").
 
-ghost use Rattle.std.specs.Prelude.{◌≡◌, ◌+◌, ◌-◌, ◌≤◌, ◌<◌, [], ◌∷◌, codes, IfOk, IfErr, OnOk};
-ghost use Rattle.fir_grammar.specs.Grammar.{Is, A, Its_place, The_word, Statement, Memory_line, Memory_lines, Under_write, arrow, line_end, number, name};
-ghost use Rattle.fir_grammar.specs.Faults.{most};
+ghost use Rattle.std.specs.Prelude.{◌≡◌, [], ◌∷◌, codes, OnOk};
+ghost use Rattle.fir_grammar.specs.Grammar.{Is, Its_place, The_word, Statement, Memory_line, Memory_lines, Under_write, arrow};
 ghost use Rattle.fir_parser.specs.Taking.{StandsAt, InBlocks, IsFresh, Reads, ReadsAll, ReadsToEnd};
 ghost use Rattle.fir_parser.specs.Keys.{IsKeyAt, word_of};
 ghost use Rattle.fir_parser.specs.Expected.{Meets};

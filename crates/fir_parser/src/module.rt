@@ -1,7 +1,7 @@
 //! Modules with their ports (FIRRTL specification 3.0, "Circuits and Modules").
 
-ghost use Rattle.std.specs.Prelude.{◌≡◌, ◌-◌, [], ◌∷◌, codes, IfOk, IfErr, OnOk, MatchBool};
-ghost use Rattle.fir_grammar.specs.Grammar.{A, The_word, Circuit_body, Modules, Module, Module_body, Ports, Port, line_end};
+ghost use Rattle.std.specs.Prelude.{◌≡◌, [], ◌∷◌, MatchBool};
+ghost use Rattle.fir_grammar.specs.Grammar.{A, Circuit_body, Modules, Module, Module_body, Ports, Port, line_end};
 ghost use Rattle.fir_parser.specs.Taking.{StandsAt, InBlocks, Reads, ReadsAll, ReadsToEnd};
 ghost use Rattle.fir_parser.specs.Expected.{BeginsPort, side_of};
 

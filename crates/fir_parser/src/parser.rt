@@ -1,14 +1,14 @@
 //! The reader of circuits.
 
-ghost use Rattle.std.specs.Prelude.{◌≡◌, ◌<◌, ◌≤◌, ◌+◌, ◌-◌, ◌^◌, ◌⊎◌, ◌++◌, ℕ, [], ◌∷◌, length, drop, codes, IfOk, IfErr, OnOk, IsTrue, MatchResult};
+ghost use Rattle.std.specs.Prelude.{◌≡◌, ◌<◌, ◌+◌, ◌-◌, ◌^◌, ◌⊎◌, ◌++◌, ℕ, [], ◌∷◌, length, drop, IfOk, IfErr, OnOk, IsTrue, MatchResult};
 ghost use Rattle.fir_layout.specs.Pieces.{pieces_of};
-ghost use Rattle.fir_grammar.specs.Grammar.{Is, A, Nothing, Ends, Three, A_number, Circuit_body, Text, IsCircuit, word, mark, name, colon, line_end, field_names};
+ghost use Rattle.fir_grammar.specs.Grammar.{Is, A, Nothing, Ends, Circuit_body, Text, IsCircuit, word, name, colon, line_end, field_names};
 ghost use Rattle.fir_grammar.specs.Faults.{IsDeepAt, FaultOf};
 ghost use Rattle.fir_tree.specs.declared.fault.ParseFault.{ParseFault as TheFault};
 ghost use Rattle.fir_tree.specs.declared.fault.ParseFault.TheVariants.{NoMemory};
 ghost use Rattle.fir_tree.specs.declared.circuit.Circuit.{Circuit as TheCircuit};
 ghost use Rattle.token_reader.specs.Standing.{IsLaidFrom};
-ghost use Rattle.fir_parser.specs.Taking.{StandsAt, InBlocks, HasTaken, Refuses};
+ghost use Rattle.fir_parser.specs.Taking.{InBlocks, HasTaken, Refuses};
 ghost use Rattle.fir_parser.specs.Reading.{is_apart};
 
 use crate::header::read_named;

@@ -1,7 +1,7 @@
 //! Statements other than `when`.
 
-ghost use Rattle.std.specs.Prelude.{◌≡◌, [], ◌∷◌, codes, IfOk, IfErr, OnOk};
-ghost use Rattle.fir_grammar.specs.Grammar.{A, The_word, Statement, word_at, line_end};
+ghost use Rattle.std.specs.Prelude.{[], ◌∷◌, codes};
+ghost use Rattle.fir_grammar.specs.Grammar.{The_word, Statement, word_at, line_end};
 ghost use Rattle.fir_parser.specs.Taking.{StandsAt, InBlocks, Reads, ReadsAll};
 ghost use Rattle.fir_parser.specs.Expected.{Meets, Begins};
 

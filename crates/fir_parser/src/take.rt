@@ -1,10 +1,10 @@
 //! Single symbols of the grammar.
 
-ghost use Rattle.std.specs.Prelude.{◌≡◌, ◌<◌, ◌≤◌, ◌+◌, ◌-◌, ◌^◌, ◌⊎◌, ℕ, [], ◌∷◌, length, slice_get, Some, IfOk, IfErr, IfSome, OnOk, OnErr, MatchBool};
+ghost use Rattle.std.specs.Prelude.{◌≡◌, ◌<◌, ◌≤◌, ◌+◌, ◌-◌, ◌^◌, [], ◌∷◌, length, slice_get, Some, IfSome, OnOk, OnErr, MatchBool};
 ghost use Rattle.fir_layout.specs.declared.laid.Laid.{Laid as TheLaid};
 ghost use Rattle.place_text.specs.Places.{place};
 ghost use Rattle.fir_layout.specs.Pieces.{bytes_of, piece_of};
-ghost use Rattle.fir_grammar.specs.Grammar.{Is, A, Nothing, Its_place, name, number, open_block, close_block, Opens, Type_of, Expression, Reference, The_word, Takes, start_of};
+ghost use Rattle.fir_grammar.specs.Grammar.{Is, Nothing, Its_place, name, number, open_block, close_block, Type_of, Expression, Reference, The_word, Takes, start_of};
 ghost use Rattle.fir_grammar.specs.Faults.{most};
 ghost use Rattle.token_reader.specs.Standing.{IsLaidFrom};
 ghost use Rattle.fir_parser.specs.Taking.{StandsAt, InBlocks, IsFresh, Steps, IsInText, Answers, Reads, ReadsAll, blocks_at};

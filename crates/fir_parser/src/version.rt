@@ -1,6 +1,6 @@
 //! The version line.
 
-ghost use Rattle.std.specs.Prelude.{◌≡◌, ◌+◌, ◌-◌, ◌<◌, ◌≤◌, ◌^◌, [], ◌∷◌, length, IfOk, IfErr, OnOk, OnErr};
+ghost use Rattle.std.specs.Prelude.{◌≡◌, ◌+◌, ◌-◌, ◌<◌, ◌^◌, [], ◌∷◌, length, IfErr, OnOk, OnErr};
 ghost use Rattle.fir_grammar.specs.Grammar.{Is, Nothing, Three, A_number, The_mark, word, mark, line_end};
 ghost use Rattle.fir_grammar.specs.Faults.{most, last_suffixes};
 ghost use Rattle.token_reader.specs.Standing.{IsLaidFrom};
