@@ -1,5 +1,5 @@
 -- Lists of operands and of suffixes as they are read one behind the other.
-use Rattle.std.specs.Prelude.{◌≡◌, ℕ, ◌+◌, ◌≤◌, List, [], ◌∷◌, ◌++◌, take, slice_get, Some}
+use Rattle.std.specs.Prelude.{◌≡◌, ℕ, ◌+◌, ◌<◌, ◌≤◌, List, [], ◌∷◌, ◌++◌, take, slice_get, Some, Result, Ok, Err}
 use Rattle.fir_lexer.specs.declared.token.TokenKind.TheVariants as kind
 use Rattle.fir_layout.specs.declared.laid.Laid.{Laid}
 use Rattle.fir_layout.specs.Pieces.{Piece, A_token, piece_of, pieces_of}
@@ -7,7 +7,7 @@ use Rattle.fir_tree.specs.declared.expr.Expr.{Expr}
 use Rattle.fir_tree.specs.declared.expr.Suffix.{Suffix}
 use Rattle.fir_tree.specs.declared.fault.ParseFault.{ParseFault}
 use Rattle.fir_grammar.specs.Grammar.{The_mark, Takes, A, Expressions, Suffixes}
-use Rattle.fir_grammar.specs.Faults.{levels, last_suffixes}
+use Rattle.fir_grammar.specs.Faults.{levels, last_suffixes, most}
 use Rattle.fir_grammar.specs.Reading.{IsRefused}
 use Rattle.token_reader.specs.Standing.{StandsIn, wanted}
 use Rattle.fir_expr.specs.Parts.{HasPassed}
@@ -55,3 +55,8 @@ pub record HasStepped (text : List ℕ) (list : List Laid) (i : ℕ) (names : Li
   pub stands : {brackets : ℕ} → StandsIn (pieces_of text list) i brackets → StandsIn (pieces_of text list) j brackets
   pub counted : last_suffixes (levels (take j (pieces_of text list))).suffixes ≡ last_suffixes (levels (take i (pieces_of text list))).suffixes + 1
   pub room : wanted after list j ≤ wanted names list i
+
+-- what a reader of one suffix answers, where so many are read before it: there are fewer than there may be
+abbrev pub AnswersSuffix : List ℕ → List Laid → ℕ → List (List ℕ) → ℕ → Result (Suffix × ℕ) ParseFault → List (List ℕ) → Type 0
+AnswersSuffix text list i names count (Ok x) after = HasStepped text list i names x.0 x.1 after × (count < most)
+AnswersSuffix text list i names count (Err fault) after = IsRefused (A Suffixes ∷ []) text list i fault

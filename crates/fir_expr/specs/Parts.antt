@@ -1,5 +1,5 @@
 -- Rules that a reader has read, and what the pieces at a place say of them.
-use Rattle.std.specs.Prelude.{ℕ, ◌+◌, ◌≤◌, List, [], ◌∷◌, ◌++◌, codes, Result, Ok, Err}
+use Rattle.std.specs.Prelude.{ℕ, ◌+◌, ◌-◌, ◌^◌, ◌<◌, ◌≤◌, List, [], ◌∷◌, ◌++◌, codes, Result, Ok, Err}
 use Rattle.bit_words.specs.declared.value.Kind.{Kind}
 use Rattle.bit_words.specs.declared.value.Kind.TheVariants as sign
 use Rattle.prim_ops.specs.Operations.{name_of}
@@ -8,8 +8,8 @@ use Rattle.fir_layout.specs.Pieces.{pieces_of}
 use Rattle.fir_tree.specs.declared.fault.ParseFault.{ParseFault}
 use Rattle.fir_grammar.specs.Grammar.{The_word, The_call, The_mark, IsCase, a_reference, A, Rule, Tree, Symbol, Values}
 use Rattle.fir_grammar.specs.Reading.{HasRead, IsRefused, Leads, IsSettled}
-use Rattle.token_reader.specs.Standing.{IsWhole, wanted}
-use Rattle.token_reader.specs.Parts.{StartsWith}
+use Rattle.token_reader.specs.Standing.{IsWhole, StandsIn, wanted}
+use Rattle.token_reader.specs.Parts.{IsSource, StartsWith}
 use Rattle.fir_expr.specs.declared.literals.Head.{Head}
 use Rattle.fir_expr.specs.declared.literals.Head.TheVariants as head
 
@@ -18,6 +18,12 @@ pub record HasPassed (symbols : List Symbol) (text : List ℕ) (list : List Laid
   pub read : HasRead symbols text list i names vs j after
   pub whole : IsWhole (pieces_of text list) i j
   pub room : wanted after list j ≤ wanted names list i
+
+-- an expression may begin at the place, where so many brackets are open, and there is room for the names that follow
+pub record MayBegin (text : List ℕ) (list : List Laid) (names : List (List ℕ)) (at brackets : ℕ) : Type 0 where
+  pub source : IsSource text list
+  pub room : wanted names list at < 2 ^ 32 - 1
+  pub stands : StandsIn (pieces_of text list) at brackets
 
 -- what a reader of one rule answers, with the place behind it
 abbrev pub Answers : (r : Rule) → List ℕ → List Laid → ℕ → List (List ℕ) → Result (Tree r × ℕ) ParseFault → List (List ℕ) → Type 0

@@ -1,6 +1,6 @@
 //! Integers of literals (FIRRTL specification 3.0, "Expressions").
 
-ghost use Rattle.std.specs.Prelude.{◌≡◌, ◌≢◌, ◌<◌, ◌+◌, ◌∷◌, ◌++◌, ◌⊎◌, [], ℕ, Bool, true, false, List, slice_index, Some, IfSome, IfNone, IsTrue, ◌↔◌};
+ghost use Rattle.std.specs.Prelude.{◌≡◌, ◌≢◌, ◌+◌, ◌∷◌, ◌++◌, ◌⊎◌, [], ℕ, Bool, true, false, List, slice_index, IfSome, IfNone, IsTrue, ◌↔◌};
 ghost use Rattle.bit_words.specs.Numbers.{letter};
 ghost use Rattle.bit_words.specs.declared.number.Base.{Base as TheBase};
 ghost use Rattle.fir_lexer.specs.Tokens.{IsPastRange, IsQuotedBase};
@@ -13,14 +13,14 @@ ghost use Rattle.fir_expr.specs.LiteralIntegers.{IsString};
 ghost use Rattle.token_reader.specs.Parts.{IsSource, IsPartOf};
 ghost use Rattle.fir_expr.specs.Parts.{Answers};
 
+use crate::Read;
 use bit_words::{Base, Number, digits_value};
 use fir_layout::Laid;
-use fir_lexer::{Token, TokenKind};
-use fir_tree::ParseFault;
+use fir_lexer::TokenKind;
 use token_reader::{Text, bytes, is_mark, part_at, refusal_at, take_number};
 
 /// Reads an integer: a number, a minus and a number, or a string of quoted number form.
-pub(crate) fn integer(text: &Text, laid: &[Laid], at: usize) -> Result<(Number, usize), ParseFault>
+pub(crate) fn integer(text: &Text, laid: &[Laid], at: usize) -> Read<Number>
     requires source { IsSource text.now laid.now }
     requires stands { (brackets : ℕ) × StandsIn (pieces_of text.now laid.now) at brackets }
     ensures { (names : List (List ℕ)) → Answers Integer text.now laid.now at names result names }
@@ -55,13 +55,7 @@ fn signed(negative: bool, magnitude: u128) -> Number
 fn is_string(part: Laid) -> bool
     ensures { (text : List ℕ) → IsTrue result ↔ IsString (piece_of text part) }
 {
-    matches!(
-        part,
-        Laid::Item(Token {
-            kind: TokenKind::Text,
-            ..
-        })
-    )
+    matches!(part, Laid::Item(token) if token.kind == TokenKind::Text)
 }
 
 /// The number of a part that is a string of quoted number form.
@@ -106,21 +100,10 @@ fn between_quotes(string: &[u8]) -> Option<(Base, &[u8])>
     let [inner @ .., b'"'] = rest else {
         return None;
     };
-    let Some(base) = quoted_base(*letter) else {
-        return None;
-    };
-    Some((base, inner))
-}
-
-/// The base that a letter names in a string.
-fn quoted_base(byte: u8) -> Option<Base>
-    ensures some { IfSome result (λ base. (letter base ≡ byte) × IsQuotedBase base) }
-    ensures none { IfNone result ((base : TheBase) → IsQuotedBase base → letter base ≢ byte) }
-{
-    match byte {
-        b'h' => Some(Base::Hexadecimal),
-        b'o' => Some(Base::Octal),
-        b'b' => Some(Base::Binary),
+    match *letter {
+        b'h' => Some((Base::Hexadecimal, inner)),
+        b'o' => Some((Base::Octal, inner)),
+        b'b' => Some((Base::Binary, inner)),
         _ => None,
     }
 }

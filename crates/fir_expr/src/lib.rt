@@ -7,6 +7,10 @@ mod expressions;
 mod integers;
 mod literals;
 pub mod reader;
+mod source;
 mod types;
+
+/// What is read, and the place behind it.
+type Read<T> = Result<(T, usize), fir_tree::ParseFault>;
 
 pub use reader::{Reader, read_expr, read_reference, read_type};

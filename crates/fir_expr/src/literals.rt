@@ -1,6 +1,6 @@
 //! Literals, and what tells one form of expression from another (FIRRTL specification 3.0, "Expressions").
 
-ghost use Rattle.std.specs.Prelude.{◌≡◌, ◌<◌, ◌+◌, ◌∷◌, [], ℕ, List, Some, IfOk, IfErr, IfSome, IfNone, codes};
+ghost use Rattle.std.specs.Prelude.{◌≡◌, ◌+◌, ◌∷◌, [], ℕ, List, IfOk, IfErr, IfSome, IfNone, codes};
 ghost use Rattle.fir_layout.specs.Pieces.{piece_of, pieces_of};
 ghost use Rattle.fir_grammar.specs.Reading.{IsRefused};
 ghost use Rattle.fir_grammar.specs.Grammar.{A, Numbers, Expression, The_word, The_call, The_mark};
@@ -10,6 +10,7 @@ ghost use Rattle.fir_expr.specs.LiteralHeads.{IsHeadBefore, IsHeadOfCall, IsHead
 ghost use Rattle.token_reader.specs.Parts.{IsSource, StartsWith};
 ghost use Rattle.fir_expr.specs.Parts.{Answers, IsHeadAt, kind_name};
 
+use crate::Read;
 use crate::integers::integer;
 use bit_words::{Kind, List};
 use fir_layout::Laid;
@@ -111,13 +112,7 @@ fn literal_kind(word: &[u8]) -> Option<Kind>
 }
 
 /// Reads so many numbers.
-pub fn numbers(
-    alloc: Global,
-    text: &Text,
-    laid: &[Laid],
-    at: usize,
-    count: u32,
-) -> Result<(List<u128>, usize), ParseFault>
+pub fn numbers(alloc: Global, text: &Text, laid: &[Laid], at: usize, count: u32) -> Read<List<u128>>
     requires source { IsSource text.now laid.now }
     requires stands { (brackets : ℕ) × StandsIn (pieces_of text.now laid.now) at brackets }
     ensures { (names : List (List ℕ)) → Answers (Numbers count) text.now laid.now at names result names }
@@ -151,13 +146,7 @@ fn push_numbers(
 }
 
 /// Reads `UInt(` or `SInt(`, an integer and `)`. So many brackets are open before it.
-pub fn literal(
-    text: &Text,
-    laid: &[Laid],
-    at: usize,
-    kind: Kind,
-    brackets: u32,
-) -> Result<(Expr, usize), ParseFault>
+pub fn literal(text: &Text, laid: &[Laid], at: usize, kind: Kind, brackets: u32) -> Read<Expr>
     requires source { IsSource text.now laid.now }
     requires stands { StandsIn (pieces_of text.now laid.now) at brackets }
     requires head { StartsWith (The_call (kind_name kind)) text.now laid.now at }
@@ -174,13 +163,7 @@ pub fn literal(
 }
 
 /// Reads `UInt` or `SInt`, a width between `<` and `>`, and an integer between brackets.
-pub fn wide_literal(
-    text: &Text,
-    laid: &[Laid],
-    at: usize,
-    kind: Kind,
-    brackets: u32,
-) -> Result<(Expr, usize), ParseFault>
+pub fn wide_literal(text: &Text, laid: &[Laid], at: usize, kind: Kind, brackets: u32) -> Read<Expr>
     requires source { IsSource text.now laid.now }
     requires stands { StandsIn (pieces_of text.now laid.now) at brackets }
     requires head { StartsWith (The_word (kind_name kind)) text.now laid.now at }

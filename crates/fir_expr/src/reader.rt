@@ -11,6 +11,7 @@ ghost use Rattle.token_reader.specs.Parts.{IsSource, IsNotTaken, IsNumberAt, IsN
 ghost use Rattle.token_reader.specs.Standing.{IsLaidFrom, StandsIn, BeginsType, IsWhole, wanted};
 
 use crate::expressions::{expr, reference};
+use crate::source::Source;
 use crate::types::typ;
 use bit_words::List;
 use fir_layout::Laid;
@@ -142,14 +143,12 @@ pub fn read_type(alloc: Global, reader: &mut Reader) -> Result<FirType, ParseFau
     ensures room { IfOk result (λ _. wanted reader.new.names reader.old.laid.now reader.new.at ≤ wanted reader.old.names reader.old.laid.now reader.old.at) }
 {
     let text = Text::new(reader.bytes, reader.lines.as_slice());
-    let (read, end) = typ(
+    let from = Source {
         alloc,
-        &text,
-        reader.laid,
-        &mut reader.names,
-        reader.at,
-        reader.brackets,
-    )?;
+        text: &text,
+        laid: reader.laid,
+    };
+    let (read, end) = typ(&from, &mut reader.names, reader.at, reader.brackets)?;
     reader.at = end;
     Ok(read)
 }
@@ -170,14 +169,12 @@ pub fn read_expr(alloc: Global, reader: &mut Reader) -> Result<Expr, ParseFault>
     ensures room { IfOk result (λ _. wanted reader.new.names reader.old.laid.now reader.new.at ≤ wanted reader.old.names reader.old.laid.now reader.old.at) }
 {
     let text = Text::new(reader.bytes, reader.lines.as_slice());
-    let (read, end) = expr(
+    let from = Source {
         alloc,
-        &text,
-        reader.laid,
-        &mut reader.names,
-        reader.at,
-        reader.brackets,
-    )?;
+        text: &text,
+        laid: reader.laid,
+    };
+    let (read, end) = expr(&from, &mut reader.names, reader.at, reader.brackets)?;
     reader.at = end;
     Ok(read)
 }
@@ -199,14 +196,12 @@ pub fn read_reference(alloc: Global, reader: &mut Reader) -> Result<Expr, ParseF
     ensures room { IfOk result (λ _. wanted reader.new.names reader.old.laid.now reader.new.at ≤ wanted reader.old.names reader.old.laid.now reader.old.at) }
 {
     let text = Text::new(reader.bytes, reader.lines.as_slice());
-    let (read, end) = reference(
+    let from = Source {
         alloc,
-        &text,
-        reader.laid,
-        &mut reader.names,
-        reader.at,
-        reader.brackets,
-    )?;
+        text: &text,
+        laid: reader.laid,
+    };
+    let (read, end) = reference(&from, &mut reader.names, reader.at, reader.brackets)?;
     reader.at = end;
     Ok(read)
 }

@@ -1,6 +1,6 @@
 -- Which case of a rule goes on, by what stands at the reader's place.
 use Prim.Native.String.{String}
-use Rattle.std.proofs.Common.{◌≡◌, ℕ, ◌+◌, ◌<◌, ◌≤◌, Bool, true, false, List, [], ◌∷◌, length, Some, None, refl, sym, ap, ◌∙◌, subst, arith, codes, bytes_eq, slice_get, get_or, inl, inr, ◌⊎◌, ⊎_elim, eqb, eqb→eq, eq-eqb}
+use Rattle.std.proofs.Common.{◌≡◌, ℕ, ◌+◌, ◌<◌, ◌≤◌, Bool, true, false, not, MatchBool, List, [], ◌∷◌, length, Some, None, refl, sym, ap, ◌∙◌, subst, arith, codes, bytes_eq, slice_get, get_or, inl, inr, ◌⊎◌, ⊎_elim, eqb, eqb→eq, eq-eqb}
 use Rattle.std.proofs.lemmas.Grind.{common_steps}
 use Rattle.std.proofs.lemmas.Option.{slice_get_cases}
 use Rattle.std.proofs.lemmas.List.{length-map}
@@ -9,14 +9,16 @@ use Rattle.std.proofs.lemmas.Slice.Eq.{bytes_eq-Decides}
 use Rattle.fir_lexer.specs.declared.token.TokenKind.TheVariants as kind
 use Rattle.fir_layout.specs.declared.laid.Laid.{Laid}
 use Rattle.fir_layout.specs.Pieces.{Piece, A_token, A_line_end, A_block_opens, A_block_closes, The_end, piece_of}
-use Rattle.fir_grammar.specs.Grammar.{The_word, The_mark, Opens, Closes, Takes, Symbol, Rule, IsCase, next_memory_line, next_statement, next_module, next_port, last_port, no_block, no_module_body, no_modules, no_branch, else_, else_when, an_output, under_undefined, a_readwriter, a_skip, a_module, cut, takes_on, goes_into}
+use Rattle.fir_grammar.specs.Grammar.{The_word, The_mark, Is, A, Nothing, name, colon, Port, Type_of, Opens, Closes, Takes, Symbol, Rule, IsCase, tree, next_memory_line, next_statement, next_module, next_port, last_port, no_block, no_module_body, no_modules, no_branch, else_, else_when, an_input, an_output, under_undefined, a_readwriter, a_skip, a_module, cut, takes_on, goes_into}
+use Rattle.fir_types.specs.declared.name.Name.{Name}
+use Rattle.fir_types.specs.declared.fir_type.FirType.{FirType}
 use Rattle.fir_grammar.specs.Reading.{part}
 use Rattle.fir_grammar.proofs.Cases.{choose, starts_word, starts_mark, opens, closes}
 use Rattle.fir_grammar.proofs.ReadingLaws.{part-here, part-cons, chosen_alone, takes_both}
 use Rattle.fir_expr.specs.declared.reader.Reader.{Reader}
 use Rattle.token_reader.proofs.Composition.{Enters, enters_by_piece, enters_by_two, piece_at}
 use Rattle.fir_parser.specs.Taking.{pieces}
-use Rattle.fir_parser.specs.Expected.{Meets, MeetsNext, BeginsPort}
+use Rattle.fir_parser.specs.Expected.{Meets, MeetsNext, BeginsPort, side_of}
 
 word_is : (text : List ℕ) (p : Piece) → Takes (The_word text) p → A_token kind.Word text ≡ p
 word_is text (A_token kind.Word bytes) h = sym (ap (λ (b : List ℕ). A_token kind.Word b) h)
@@ -235,3 +237,16 @@ enters_else_when reader m none = else_when_at reader m none (slice_get_cases rea
 pub into_port : (reader : Reader) → BeginsPort reader → Enters (pieces reader) reader.at next_port
 into_port reader (inl m) = enters_word next_port "input" (λ ps. refl) reader m
 into_port reader (inr m) = enters_word next_port "output" (λ ps. refl) reader m
+
+-- an output where no `input` stands
+abbrev pub side_case : (output : Bool) → IsCase Port (Is Nothing (The_word (side_of output)) ∷ name ∷ colon ∷ A Type_of ∷ [])
+side_case true = an_output
+side_case false = an_input
+
+pub enters_side : (reader : Reader) (met : Bool) → MatchBool met (Meets (The_word (codes "input")) reader) (¬ (Meets (The_word (codes "input")) reader)) → Enters (pieces reader) reader.at (side_case (not met))
+enters_side reader true m = enters_word an_input "input" (λ ps. refl) reader m
+enters_side reader false none = into_output reader none
+
+pub side_port : (output : Bool) (id : Name) (typ : FirType) → tree (side_case output) (id, (typ, tt)) ≡ record { output = output; name = id; typ = typ }
+side_port true id typ = refl
+side_port false id typ = refl

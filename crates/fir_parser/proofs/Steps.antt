@@ -9,7 +9,7 @@ use Rattle.fir_layout.specs.Pieces.{Piece, A_token, A_line_end, A_block_opens, A
 use Rattle.place_text.specs.Places.{place}
 use Rattle.fir_tree.specs.declared.fault.ParseFault.{ParseFault}
 use Rattle.fir_tree.specs.declared.fault.ParseFault.TheVariants.{NoMemory, TooDeep}
-use Rattle.fir_grammar.specs.Grammar.{Terminal, The_word, The_mark, The_arrow, A_name, A_number, Line_ends, Opens, Closes, Ends, Takes, Kept, Nothing, Its_place, Its_name, Its_magnitude, Symbol, Is, no_symbol, a_piece, a_place, a_name, a_magnitude, start_of}
+use Rattle.fir_grammar.specs.Grammar.{Terminal, The_word, The_mark, The_arrow, A_name, A_number, Line_ends, Opens, Closes, Ends, Takes, Kept, Nothing, Its_place, Its_name, Its_magnitude, Symbol, Is, A, Rule, Tree, no_symbol, a_piece, a_place, a_name, a_magnitude, start_of}
 use Rattle.fir_grammar.specs.Faults.{Levels, levels, past, is_deep, afresh, last_suffixes, without_last, most}
 use Rattle.fir_grammar.specs.Reading.{HasRead, no_memory}
 use Rattle.fir_expr.specs.declared.reader.Reader.{Reader}
@@ -20,7 +20,7 @@ use Rattle.place_text.specs.declared.place.Place.{Place}
 use Rattle.token_reader.specs.Parts.{IsNumberAt, IsNameAt}
 use Rattle.fir_grammar.proofs.Cases.{some_injective}
 use Rattle.token_reader.proofs.Depth.{levels_next}
-use Rattle.fir_parser.specs.Taking.{pieces, here, blocks_at, StandsAt, IsFresh, HasTaken, Refuses, Steps, IsInText}
+use Rattle.fir_parser.specs.Taking.{pieces, here, blocks_at, StandsAt, IsFresh, HasTaken, Refuses, Passes, Steps, IsInText}
 use Rattle.fir_parser.specs.declared.take.Expected.{Expected}
 use Rattle.fir_parser.specs.declared.take.Expected.TheVariants as expected
 use Rattle.fir_parser.specs.Expected.{terminal, IsQuiet, Meets, NamesHere}
@@ -339,3 +339,12 @@ stands_whole old new start bytes laid brackets within whole room = record {
 
 pub blocks_whole : (old new : Reader) → new.bytes.now ≡ old.bytes.now → new.laid.now ≡ old.laid.now → IsWhole (pieces old) old.at new.at → blocks_at new ≡ blocks_at old
 blocks_whole old new bytes laid whole = ap (λ (l : Levels). l.blocks) (same_levels new.bytes.now old.bytes.now new.laid.now old.laid.now new.at bytes laid) ∙ whole.blocks
+
+pub passes_whole : {r : Rule} {v : Tree r} (old new : Reader) → StandsAt old → new.bytes.now ≡ old.bytes.now → new.laid.now ≡ old.laid.now → new.brackets ≡ old.brackets
+    → HasRead (A r ∷ []) old.bytes.now old.laid.now old.at old.names (v, tt) new.at new.names → IsWhole (pieces old) old.at new.at → wanted new.names old.laid.now new.at ≤ wanted old.names old.laid.now old.at
+    → Passes (A r ∷ []) old new (blocks_at old) (v, tt)
+passes_whole old new start bytes laid brackets read whole room = record {
+  taken = record { bytes = bytes; laid = laid; read = read };
+  at = stands_whole old new start bytes laid brackets read.within whole room;
+  blocks = blocks_whole old new bytes laid whole;
+}

@@ -10,7 +10,7 @@ use Rattle.fir_types.specs.declared.name.Name.{Name}
 use Rattle.fir_tree.specs.declared.circuit.Module.{Module as TheModule}
 use Rattle.fir_expr.specs.declared.reader.Reader.{Reader}
 use Rattle.token_reader.specs.Standing.{IsLaidFrom}
-use Rattle.fir_parser.specs.Taking.{pieces, StandsAt, HasTaken, Refuses}
+use Rattle.fir_parser.specs.Taking.{pieces, StandsAt, HasTaken, Refuses, InBlocks}
 use Rattle.token_reader.proofs.Composition.{Enters, piece_at}
 use Rattle.fir_parser.proofs.Joins.{first, later, breaks}
 use Rattle.fir_parser.proofs.Entering.{enters_part}
@@ -230,7 +230,10 @@ tokens_fewer (l ∷ ls) =
     let c = tokens_fewer ls in
     omega (arith, a, b, c)
 
-pub stands_start : (r : Reader) → length r.bytes.now < 2 ^ 32 - 1 → IsLaidFrom r.bytes.now r.laid.now → r.at ≡ 0 → r.names ≡ field_names → r.brackets ≡ 0 → length r.laid.now < 4294967286 → StandsAt r
+stands_start : (r : Reader) → length r.bytes.now < 2 ^ 32 - 1 → IsLaidFrom r.bytes.now r.laid.now → r.at ≡ 0 → r.names ≡ field_names → r.brackets ≡ 0 → length r.laid.now < 4294967286 → StandsAt r
 stands_start r short laid at names brackets few =
     let c = tokens_fewer r.laid.now in
     record { short = short; laid = laid; within = rw at (omega arith); room = rw (at, names) (omega (arith, c, few)); outside = brackets; one = rw at refl; no_dot = rw at refl }
+
+pub stands_first : (r : Reader) → length r.bytes.now < 2 ^ 32 - 1 → IsLaidFrom r.bytes.now r.laid.now → r.at ≡ 0 → r.names ≡ field_names → r.brackets ≡ 0 → length r.laid.now < 4294967286 → InBlocks 0 r
+stands_first r short laid at names brackets few = (stands_start r short laid at names brackets few, rw at refl)

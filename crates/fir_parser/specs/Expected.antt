@@ -1,5 +1,6 @@
 -- What a reader asks of the piece at its place.
-use Rattle.std.specs.Prelude.{◌≡◌, ◌⊎◌, ◌+◌, codes, [], ◌∷◌, slice_get, Some}
+use Prim.Native.String.{String}
+use Rattle.std.specs.Prelude.{◌≡◌, ◌⊎◌, ◌+◌, ℕ, Bool, true, false, List, codes, [], ◌∷◌, slice_get, Some}
 use Rattle.fir_layout.specs.declared.laid.Laid.{Laid}
 use Rattle.fir_layout.specs.Pieces.{piece_of}
 use Rattle.fir_tree.specs.declared.fault.ParseFault.{ParseFault}
@@ -8,6 +9,7 @@ use Rattle.place_text.specs.Places.{place}
 use Rattle.fir_tree.specs.declared.fault.ParseFault.TheVariants.{BadVersion}
 use Rattle.fir_grammar.specs.Reading.{IsRefused}
 use Rattle.fir_expr.specs.declared.reader.Reader.{Reader}
+use Rattle.fir_parser.specs.Taking.{StandsAt}
 use Rattle.fir_parser.specs.declared.take.Expected.{Expected}
 use Rattle.fir_parser.specs.declared.take.Expected.TheVariants as expected
 
@@ -37,6 +39,10 @@ pub record Meets (s : Terminal) (reader : Reader) : Type 0 where
   pub stands : slice_get reader.laid.now reader.at ≡ Some laid
   pub takes : Takes s (piece_of reader.bytes.now laid)
 
+-- a line begins there with this word
+abbrev pub Begins : String → Reader → Type 0
+Begins text reader = StandsAt reader × Meets (The_word (codes text)) reader
+
 -- and the piece behind it
 pub record MeetsNext (s : Terminal) (reader : Reader) : Type 0 where
   pub laid : Laid
@@ -50,6 +56,11 @@ pub record NamesHere (reader : Reader) (fault : ParseFault) : Type 0 where
 -- `input` or `output` stands at the reader's place
 abbrev pub BeginsPort : Reader → Type 0
 BeginsPort reader = Meets (The_word (codes "input")) reader ⊎ Meets (The_word (codes "output")) reader
+
+-- the word of an output or an input
+abbrev pub side_of : Bool → List ℕ
+side_of true = codes "output"
+side_of false = codes "input"
 
 -- the version's first number was refused: no number stands there, or another one than 3
 pub data VersionRefused (reader : Reader) : ParseFault → Type 0 where

@@ -1,4 +1,5 @@
 pub mod Branching
 pub mod Expected
+pub mod Keys
 pub mod Reading
 pub mod Taking

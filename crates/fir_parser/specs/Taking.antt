@@ -1,10 +1,10 @@
 -- Where a reader of circuits stands, and what it takes from one place to another.
-use Rattle.std.specs.Prelude.{◌≡◌, ℕ, ◌+◌, ◌-◌, ◌^◌, ◌≤◌, ◌<◌, false, List, length, take}
+use Rattle.std.specs.Prelude.{◌≡◌, ℕ, ◌+◌, ◌-◌, ◌^◌, ◌≤◌, ◌<◌, false, List, [], ◌∷◌, length, take, Result, Ok, Err}
 use Rattle.fir_layout.specs.declared.laid.Laid.{Laid}
 use Rattle.fir_layout.specs.declared.laid.Laid.TheVariants.{Item, LineEnd, Open, Close, End}
 use Rattle.fir_layout.specs.Pieces.{Piece, pieces_of}
 use Rattle.fir_tree.specs.declared.fault.ParseFault.{ParseFault}
-use Rattle.fir_grammar.specs.Grammar.{Symbol, Values}
+use Rattle.fir_grammar.specs.Grammar.{Symbol, A, Rule, Tree, Values}
 use Rattle.fir_grammar.specs.Faults.{Levels, levels, last_suffixes}
 use Rattle.fir_grammar.specs.Reading.{HasRead, IsRefused}
 use Rattle.fir_expr.specs.declared.reader.Reader.{Reader}
@@ -46,6 +46,33 @@ pub record HasTaken (symbols : List Symbol) (old new : Reader) (vs : Values symb
 -- the symbols were refused
 pub record Refuses (symbols : List Symbol) (old : Reader) (fault : ParseFault) : Type 0 where
   pub refused : IsRefused symbols old.bytes.now old.laid.now old.at fault
+
+-- the symbols were read, a line may begin or go on behind them, and so many blocks are open there
+pub record Passes (symbols : List Symbol) (old new : Reader) (left : ℕ) (vs : Values symbols) : Type 0 where
+  pub taken : HasTaken symbols old new vs
+  pub at : StandsAt new
+  pub blocks : blocks_at new ≡ left
+
+-- what a reader of the symbols answers that leaves so many blocks open: a value that says what they give, or a refusal of them
+abbrev pub Answers : {T : Type 0} (symbols : List Symbol) → (T → Values symbols) → ℕ → Reader → Reader → Result T ParseFault → Type 0
+Answers symbols values blocks old new (Ok it) = Passes symbols old new blocks (values it)
+Answers symbols values blocks old new (Err fault) = Refuses symbols old fault
+
+-- what a reader of symbols answers that leaves as many blocks open
+abbrev pub ReadsAll : {T : Type 0} (symbols : List Symbol) → (T → Values symbols) → Reader → Reader → Result T ParseFault → Type 0
+ReadsAll symbols values old new result = Answers symbols values (blocks_at old) old new result
+
+-- what a reader of a rule answers
+abbrev pub Reads : (r : Rule) → Reader → Reader → Result (Tree r) ParseFault → Type 0
+Reads r old new result = Answers (A r ∷ []) (λ it. (it, tt)) (blocks_at old) old new result
+
+-- and one that reads up to the end of the block
+abbrev pub ReadsToEnd : (r : Rule) → Reader → Reader → Result (Tree r) ParseFault → Type 0
+ReadsToEnd r old new result = Answers (A r ∷ []) (λ it. (it, tt)) (blocks_at old - 1) old new result
+
+-- a line may begin at the reader's place, where so many blocks are open
+abbrev pub InBlocks : ℕ → Reader → Type 0
+InBlocks blocks reader = StandsAt reader × (blocks_at reader ≡ blocks)
 
 -- the reader moved behind one part
 pub record Steps (old new : Reader) : Type 0 where

@@ -1,11 +1,11 @@
 //! Statements with their blocks.
 
-ghost use Rattle.std.specs.Prelude.{◌≡◌, ◌+◌, ◌-◌, ◌≤◌, ◌<◌, [], ◌∷◌, ◌++◌, List, codes, IfOk, IfErr, OnOk};
+ghost use Rattle.std.specs.Prelude.{◌≡◌, ◌≤◌, [], ◌∷◌, codes, IfOk, IfErr, OnOk};
 ghost use Rattle.fir_grammar.specs.Grammar.{A, The_word, Statement, Statements, Block, Branches, Expression, word, colon, line_end};
 ghost use Rattle.fir_grammar.specs.Faults.{most};
 ghost use Rattle.fir_tree.specs.declared.fault.ParseFault.TheVariants.{NoMemory};
 ghost use Rattle.fir_parser.specs.Branching.{Branched};
-ghost use Rattle.fir_parser.specs.Taking.{StandsAt, HasTaken, Refuses, blocks_at};
+ghost use Rattle.fir_parser.specs.Taking.{StandsAt, InBlocks, Refuses, Reads, ReadsAll, ReadsToEnd, blocks_at};
 ghost use Rattle.fir_parser.specs.Expected.{Meets};
 
 use crate::statement::read_plain;
@@ -22,13 +22,9 @@ pub fn read_statements(
     reader: &mut Reader,
     blocks: u32,
 ) -> Result<List<Stmt>, ParseFault>
-    requires at { StandsAt reader.old }
-    requires counted { blocks_at reader.old ≡ blocks }
+    requires inside { InBlocks blocks reader.old }
     requires few { blocks ≤ most }
-    ensures ok { IfOk result (λ it. HasTaken (A Statements ∷ []) reader.old reader.new (it, tt)) }
-    ensures at { OnOk result (StandsAt reader.new) }
-    ensures blocks { OnOk result (blocks_at reader.new ≡ blocks_at reader.old - 1) }
-    ensures refused { IfErr result (λ fault. Refuses (A Statements ∷ []) reader.old fault) }
+    ensures { ReadsToEnd Statements reader.old reader.new result }
 {
     let mut statements = List::new(alloc);
     while !meets(reader, Expected::Close) {
@@ -42,13 +38,9 @@ pub fn read_statements(
 /// A statement. So many blocks are open before it.
 #[cycle(block)]
 fn read_statement(alloc: Global, reader: &mut Reader, blocks: u32) -> Result<Stmt, ParseFault>
-    requires at { StandsAt reader.old }
-    requires counted { blocks_at reader.old ≡ blocks }
+    requires inside { InBlocks blocks reader.old }
     requires few { blocks ≤ most }
-    ensures ok { IfOk result (λ it. HasTaken (A Statement ∷ []) reader.old reader.new (it, tt)) }
-    ensures at { OnOk result (StandsAt reader.new) }
-    ensures blocks { OnOk result (blocks_at reader.new ≡ blocks_at reader.old) }
-    ensures refused { IfErr result (λ fault. Refuses (A Statement ∷ []) reader.old fault) }
+    ensures { Reads Statement reader.old reader.new result }
 {
     if meets(reader, Expected::Word("when")) {
         return read_when(alloc, reader, blocks);
@@ -59,14 +51,10 @@ fn read_statement(alloc: Global, reader: &mut Reader, blocks: u32) -> Result<Stm
 /// A `when` with its branches.
 #[cycle(block)]
 fn read_when(alloc: Global, reader: &mut Reader, blocks: u32) -> Result<Stmt, ParseFault>
-    requires at { StandsAt reader.old }
-    requires counted { blocks_at reader.old ≡ blocks }
+    requires inside { InBlocks blocks reader.old }
     requires few { blocks ≤ most }
     requires word { Meets (The_word (codes "when")) reader.old }
-    ensures ok { IfOk result (λ it. HasTaken (A Statement ∷ []) reader.old reader.new (it, tt)) }
-    ensures at { OnOk result (StandsAt reader.new) }
-    ensures blocks { OnOk result (blocks_at reader.new ≡ blocks_at reader.old) }
-    ensures refused { IfErr result (λ fault. Refuses (A Statement ∷ []) reader.old fault) }
+    ensures { Reads Statement reader.old reader.new result }
 {
     take(reader, Expected::Word("when"))?;
     let arm = read_arm(alloc, reader, blocks)?;
@@ -89,19 +77,28 @@ fn one_arm(alloc: Global, arm: Arm) -> Result<List<Arm>, ParseFault>
 /// The condition of an arm and its block.
 #[cycle(block)]
 fn read_arm(alloc: Global, reader: &mut Reader, blocks: u32) -> Result<Arm, ParseFault>
-    requires at { StandsAt reader.old }
-    requires counted { blocks_at reader.old ≡ blocks }
+    requires inside { InBlocks blocks reader.old }
     requires few { blocks ≤ most }
-    ensures ok { IfOk result (λ it. HasTaken (A Expression ∷ colon ∷ line_end ∷ A Block ∷ []) reader.old reader.new (it.condition, (it.body, tt))) }
-    ensures at { OnOk result (StandsAt reader.new) }
-    ensures blocks { OnOk result (blocks_at reader.new ≡ blocks_at reader.old) }
-    ensures refused { IfErr result (λ fault. Refuses (A Expression ∷ colon ∷ line_end ∷ A Block ∷ []) reader.old fault) }
+    ensures { ReadsAll (A Expression ∷ colon ∷ line_end ∷ A Block ∷ []) (λ it. (it.condition, (it.body, tt))) reader.old reader.new result }
 {
     let condition = take_expression(alloc, reader)?;
     take(reader, Expected::Mark(b':'))?;
     take(reader, Expected::LineEnd)?;
     let body = read_block(alloc, reader, blocks)?;
     Ok(Arm { condition, body })
+}
+
+/// `else when` with its condition and its block.
+#[cycle(block)]
+fn read_else_when(alloc: Global, reader: &mut Reader, blocks: u32) -> Result<Arm, ParseFault>
+    requires inside { InBlocks blocks reader.old }
+    requires few { blocks ≤ most }
+    ensures { ReadsAll (word "else" ∷ word "when" ∷ A Expression ∷ colon ∷ line_end ∷ A Block ∷ []) (λ it. (it.condition, (it.body, tt))) reader.old reader.new result }
+{
+    take(reader, Expected::Word("else"))?;
+    take(reader, Expected::Word("when"))?;
+    let arm = read_arm(alloc, reader, blocks)?;
+    Ok(arm)
 }
 
 /// Behind these arms, each `else when` and the `else`.
@@ -112,8 +109,7 @@ fn read_branches(
     blocks: u32,
     before: List<Arm>,
 ) -> Result<(List<Arm>, List<Stmt>), ParseFault>
-    requires at { StandsAt reader.old }
-    requires counted { blocks_at reader.old ≡ blocks }
+    requires inside { InBlocks blocks reader.old }
     requires few { blocks ≤ most }
     ensures ok { IfOk result (λ it. Branched before reader.old reader.new it.0 it.1) }
     ensures at { OnOk result (StandsAt reader.new) }
@@ -132,33 +128,12 @@ fn read_branches(
     Ok((arms, List::new(alloc)))
 }
 
-/// `else when` with its condition and its block.
-#[cycle(block)]
-fn read_else_when(alloc: Global, reader: &mut Reader, blocks: u32) -> Result<Arm, ParseFault>
-    requires at { StandsAt reader.old }
-    requires counted { blocks_at reader.old ≡ blocks }
-    requires few { blocks ≤ most }
-    ensures ok { IfOk result (λ it. HasTaken (word "else" ∷ word "when" ∷ A Expression ∷ colon ∷ line_end ∷ A Block ∷ []) reader.old reader.new (it.condition, (it.body, tt))) }
-    ensures at { OnOk result (StandsAt reader.new) }
-    ensures blocks { OnOk result (blocks_at reader.new ≡ blocks_at reader.old) }
-    ensures refused { IfErr result (λ fault. Refuses (word "else" ∷ word "when" ∷ A Expression ∷ colon ∷ line_end ∷ A Block ∷ []) reader.old fault) }
-{
-    take(reader, Expected::Word("else"))?;
-    take(reader, Expected::Word("when"))?;
-    let arm = read_arm(alloc, reader, blocks)?;
-    Ok(arm)
-}
-
 /// `else` and its block.
 #[cycle(block)]
 fn read_else(alloc: Global, reader: &mut Reader, blocks: u32) -> Result<List<Stmt>, ParseFault>
-    requires at { StandsAt reader.old }
-    requires counted { blocks_at reader.old ≡ blocks }
+    requires inside { InBlocks blocks reader.old }
     requires few { blocks ≤ most }
-    ensures ok { IfOk result (λ it. HasTaken (word "else" ∷ colon ∷ line_end ∷ A Block ∷ []) reader.old reader.new (it, tt)) }
-    ensures at { OnOk result (StandsAt reader.new) }
-    ensures blocks { OnOk result (blocks_at reader.new ≡ blocks_at reader.old) }
-    ensures refused { IfErr result (λ fault. Refuses (word "else" ∷ colon ∷ line_end ∷ A Block ∷ []) reader.old fault) }
+    ensures { ReadsAll (word "else" ∷ colon ∷ line_end ∷ A Block ∷ []) (λ it. (it, tt)) reader.old reader.new result }
 {
     take(reader, Expected::Word("else"))?;
     take(reader, Expected::Mark(b':'))?;
@@ -170,13 +145,9 @@ fn read_else(alloc: Global, reader: &mut Reader, blocks: u32) -> Result<List<Stm
 /// A block, or nothing where none stands.
 #[cycle(block)]
 fn read_block(alloc: Global, reader: &mut Reader, blocks: u32) -> Result<List<Stmt>, ParseFault>
-    requires at { StandsAt reader.old }
-    requires counted { blocks_at reader.old ≡ blocks }
+    requires inside { InBlocks blocks reader.old }
     requires few { blocks ≤ most }
-    ensures ok { IfOk result (λ it. HasTaken (A Block ∷ []) reader.old reader.new (it, tt)) }
-    ensures at { OnOk result (StandsAt reader.new) }
-    ensures blocks { OnOk result (blocks_at reader.new ≡ blocks_at reader.old) }
-    ensures refused { IfErr result (λ fault. Refuses (A Block ∷ []) reader.old fault) }
+    ensures { Reads Block reader.old reader.new result }
 {
     if !meets(reader, Expected::Open) {
         return Ok(List::new(alloc));

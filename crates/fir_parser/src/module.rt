@@ -1,9 +1,9 @@
 //! Modules with their ports (FIRRTL specification 3.0, "Circuits and Modules").
 
-ghost use Rattle.std.specs.Prelude.{◌≡◌, ◌-◌, [], ◌∷◌, codes, IfOk, IfErr, OnOk, MatchBool};
-ghost use Rattle.fir_grammar.specs.Grammar.{A, The_word, Circuit_body, Modules, Module, Module_body, Ports, Port, line_end};
-ghost use Rattle.fir_parser.specs.Taking.{StandsAt, HasTaken, Refuses, blocks_at};
-ghost use Rattle.fir_parser.specs.Expected.{Meets, BeginsPort};
+ghost use Rattle.std.specs.Prelude.{◌≡◌, [], ◌∷◌, MatchBool};
+ghost use Rattle.fir_grammar.specs.Grammar.{A, Circuit_body, Modules, Module, Module_body, Ports, Port, line_end};
+ghost use Rattle.fir_parser.specs.Taking.{StandsAt, InBlocks, Reads, ReadsAll, ReadsToEnd};
+ghost use Rattle.fir_parser.specs.Expected.{BeginsPort, side_of};
 
 use crate::block::read_statements;
 use crate::header::{read_named, read_typed};
@@ -19,12 +19,8 @@ pub fn read_circuit_body(
     alloc: Global,
     reader: &mut Reader,
 ) -> Result<List<fir_tree::Module>, ParseFault>
-    requires at { StandsAt reader.old }
-    requires counted { blocks_at reader.old ≡ 0 }
-    ensures ok { IfOk result (λ it. HasTaken (A Circuit_body ∷ []) reader.old reader.new (it, tt)) }
-    ensures at { OnOk result (StandsAt reader.new) }
-    ensures blocks { OnOk result (blocks_at reader.new ≡ blocks_at reader.old) }
-    ensures refused { IfErr result (λ fault. Refuses (A Circuit_body ∷ []) reader.old fault) }
+    requires { InBlocks 0 reader.old }
+    ensures { Reads Circuit_body reader.old reader.new result }
 {
     if !meets(reader, Expected::Open) {
         return Ok(List::new(alloc));
@@ -36,12 +32,8 @@ pub fn read_circuit_body(
 
 /// The modules of a circuit and the end of their block.
 fn read_modules(alloc: Global, reader: &mut Reader) -> Result<List<fir_tree::Module>, ParseFault>
-    requires at { StandsAt reader.old }
-    requires counted { blocks_at reader.old ≡ 1 }
-    ensures ok { IfOk result (λ it. HasTaken (A Modules ∷ []) reader.old reader.new (it, tt)) }
-    ensures at { OnOk result (StandsAt reader.new) }
-    ensures blocks { OnOk result (blocks_at reader.new ≡ blocks_at reader.old - 1) }
-    ensures refused { IfErr result (λ fault. Refuses (A Modules ∷ []) reader.old fault) }
+    requires { InBlocks 1 reader.old }
+    ensures { ReadsToEnd Modules reader.old reader.new result }
 {
     let mut modules = List::new(alloc);
     while !meets(reader, Expected::Close) {
@@ -54,12 +46,8 @@ fn read_modules(alloc: Global, reader: &mut Reader) -> Result<List<fir_tree::Mod
 
 /// A module.
 fn read_module(alloc: Global, reader: &mut Reader) -> Result<fir_tree::Module, ParseFault>
-    requires at { StandsAt reader.old }
-    requires counted { blocks_at reader.old ≡ 1 }
-    ensures ok { IfOk result (λ it. HasTaken (A Module ∷ []) reader.old reader.new (it, tt)) }
-    ensures at { OnOk result (StandsAt reader.new) }
-    ensures blocks { OnOk result (blocks_at reader.new ≡ blocks_at reader.old) }
-    ensures refused { IfErr result (λ fault. Refuses (A Module ∷ []) reader.old fault) }
+    requires { InBlocks 1 reader.old }
+    ensures { Reads Module reader.old reader.new result }
 {
     let name = read_named(reader, "module", b':')?;
     take(reader, Expected::LineEnd)?;
@@ -68,17 +56,13 @@ fn read_module(alloc: Global, reader: &mut Reader) -> Result<fir_tree::Module, P
     Ok(fir_tree::Module { name, ports, body })
 }
 
+/// The ports and the statements of a module.
+type Inside = (List<ModulePort>, List<Stmt>);
+
 /// The ports and the statements of a module in their block, or none where no block stands.
-fn read_module_body(
-    alloc: Global,
-    reader: &mut Reader,
-) -> Result<(List<ModulePort>, List<Stmt>), ParseFault>
-    requires at { StandsAt reader.old }
-    requires counted { blocks_at reader.old ≡ 1 }
-    ensures ok { IfOk result (λ it. HasTaken (A Module_body ∷ []) reader.old reader.new (it, tt)) }
-    ensures at { OnOk result (StandsAt reader.new) }
-    ensures blocks { OnOk result (blocks_at reader.new ≡ blocks_at reader.old) }
-    ensures refused { IfErr result (λ fault. Refuses (A Module_body ∷ []) reader.old fault) }
+fn read_module_body(alloc: Global, reader: &mut Reader) -> Result<Inside, ParseFault>
+    requires { InBlocks 1 reader.old }
+    ensures { Reads Module_body reader.old reader.new result }
 {
     if !meets(reader, Expected::Open) {
         return Ok((List::new(alloc), List::new(alloc)));
@@ -89,16 +73,9 @@ fn read_module_body(
 }
 
 /// The ports of a module, then its statements and the end of their block.
-fn read_ports(
-    alloc: Global,
-    reader: &mut Reader,
-) -> Result<(List<ModulePort>, List<Stmt>), ParseFault>
-    requires at { StandsAt reader.old }
-    requires counted { blocks_at reader.old ≡ 2 }
-    ensures ok { IfOk result (λ it. HasTaken (A Ports ∷ []) reader.old reader.new (it, tt)) }
-    ensures at { OnOk result (StandsAt reader.new) }
-    ensures blocks { OnOk result (blocks_at reader.new ≡ blocks_at reader.old - 1) }
-    ensures refused { IfErr result (λ fault. Refuses (A Ports ∷ []) reader.old fault) }
+fn read_ports(alloc: Global, reader: &mut Reader) -> Result<Inside, ParseFault>
+    requires { InBlocks 2 reader.old }
+    ensures { ReadsToEnd Ports reader.old reader.new result }
 {
     let mut ports = List::new(alloc);
     while begins_port(reader) {
@@ -120,10 +97,7 @@ fn begins_port(reader: &Reader) -> bool
 /// A port and the end of its line.
 fn read_port(alloc: Global, reader: &mut Reader) -> Result<ModulePort, ParseFault>
     requires at { StandsAt reader.old }
-    ensures ok { IfOk result (λ it. HasTaken (A Port ∷ line_end ∷ []) reader.old reader.new (it, tt)) }
-    ensures at { OnOk result (StandsAt reader.new) }
-    ensures blocks { OnOk result (blocks_at reader.new ≡ blocks_at reader.old) }
-    ensures refused { IfErr result (λ fault. Refuses (A Port ∷ line_end ∷ []) reader.old fault) }
+    ensures { ReadsAll (A Port ∷ line_end ∷ []) (λ it. (it, tt)) reader.old reader.new result }
 {
     let port = read_sided(alloc, reader)?;
     take(reader, Expected::LineEnd)?;
@@ -133,37 +107,16 @@ fn read_port(alloc: Global, reader: &mut Reader) -> Result<ModulePort, ParseFaul
 /// An input or an output.
 fn read_sided(alloc: Global, reader: &mut Reader) -> Result<ModulePort, ParseFault>
     requires at { StandsAt reader.old }
-    ensures ok { IfOk result (λ it. HasTaken (A Port ∷ []) reader.old reader.new (it, tt)) }
-    ensures at { OnOk result (StandsAt reader.new) }
-    ensures blocks { OnOk result (blocks_at reader.new ≡ blocks_at reader.old) }
-    ensures refused { IfErr result (λ fault. Refuses (A Port ∷ []) reader.old fault) }
+    ensures { Reads Port reader.old reader.new result }
 {
-    if meets(reader, Expected::Word("input")) {
-        return read_input(alloc, reader);
-    }
-    let typed = read_typed(alloc, reader, "output")?;
-    let (name, typ) = typed;
-    Ok(ModulePort {
-        output: true,
-        name,
-        typ,
-    })
+    let output = !meets(reader, Expected::Word("input"));
+    let (name, typ) = read_typed(alloc, reader, side(output))?;
+    Ok(ModulePort { output, name, typ })
 }
 
-/// An input.
-fn read_input(alloc: Global, reader: &mut Reader) -> Result<ModulePort, ParseFault>
-    requires at { StandsAt reader.old }
-    requires word { Meets (The_word (codes "input")) reader.old }
-    ensures ok { IfOk result (λ it. HasTaken (A Port ∷ []) reader.old reader.new (it, tt)) }
-    ensures at { OnOk result (StandsAt reader.new) }
-    ensures blocks { OnOk result (blocks_at reader.new ≡ blocks_at reader.old) }
-    ensures refused { IfErr result (λ fault. Refuses (A Port ∷ []) reader.old fault) }
+/// The word of a port.
+fn side(output: bool) -> &'static str
+    ensures { result.now ≡ side_of output }
 {
-    let typed = read_typed(alloc, reader, "input")?;
-    let (name, typ) = typed;
-    Ok(ModulePort {
-        output: false,
-        name,
-        typ,
-    })
+    if output { "output" } else { "input" }
 }

@@ -1,14 +1,14 @@
 //! The reader of circuits.
 
-ghost use Rattle.std.specs.Prelude.{◌≡◌, ◌<◌, ◌≤◌, ◌+◌, ◌-◌, ◌^◌, ◌⊎◌, ◌++◌, ℕ, [], ◌∷◌, length, drop, codes, IfOk, IfErr, OnOk, IsTrue, MatchResult};
+ghost use Rattle.std.specs.Prelude.{◌≡◌, ◌<◌, ◌+◌, ◌-◌, ◌^◌, ◌⊎◌, ◌++◌, ℕ, [], ◌∷◌, length, drop, IfOk, IfErr, OnOk, IsTrue, MatchResult};
 ghost use Rattle.fir_layout.specs.Pieces.{pieces_of};
-ghost use Rattle.fir_grammar.specs.Grammar.{Is, A, Nothing, Ends, Three, A_number, Circuit_body, Text, IsCircuit, word, mark, name, colon, line_end, field_names};
+ghost use Rattle.fir_grammar.specs.Grammar.{Is, A, Nothing, Ends, Circuit_body, Text, IsCircuit, word, name, colon, line_end, field_names};
 ghost use Rattle.fir_grammar.specs.Faults.{IsDeepAt, FaultOf};
 ghost use Rattle.fir_tree.specs.declared.fault.ParseFault.{ParseFault as TheFault};
 ghost use Rattle.fir_tree.specs.declared.fault.ParseFault.TheVariants.{NoMemory};
 ghost use Rattle.fir_tree.specs.declared.circuit.Circuit.{Circuit as TheCircuit};
 ghost use Rattle.token_reader.specs.Standing.{IsLaidFrom};
-ghost use Rattle.fir_parser.specs.Taking.{StandsAt, HasTaken, Refuses, blocks_at};
+ghost use Rattle.fir_parser.specs.Taking.{InBlocks, HasTaken, Refuses};
 ghost use Rattle.fir_parser.specs.Reading.{is_apart};
 
 use crate::header::read_named;
@@ -64,8 +64,7 @@ fn read_all<'a>(alloc: Global, bytes: &'a [u8], laid: &'a [Laid]) -> Result<Circ
 
 /// The version line and the circuit.
 fn read_text(alloc: Global, reader: &mut Reader) -> Result<(Name, List<Module>), ParseFault>
-    requires at { StandsAt reader.old }
-    requires counted { blocks_at reader.old ≡ 0 }
+    requires inside { InBlocks 0 reader.old }
     requires start { reader.old.at ≡ 0 }
     ensures ok { IfOk result (λ it. HasTaken (A Text ∷ []) reader.old reader.new ((it.0, it.1), tt)) }
     ensures end { OnOk result (drop reader.new.at reader.old.laid.now ≡ []) }
@@ -81,8 +80,7 @@ fn read_text(alloc: Global, reader: &mut Reader) -> Result<(Name, List<Module>),
 
 /// The circuit behind the version line, up to the end of the text.
 fn read_circuit(alloc: Global, reader: &mut Reader) -> Result<(Name, List<Module>), ParseFault>
-    requires at { StandsAt reader.old }
-    requires counted { blocks_at reader.old ≡ 0 }
+    requires { InBlocks 0 reader.old }
     ensures ok { IfOk result (λ it. HasTaken (word "circuit" ∷ name ∷ colon ∷ line_end ∷ A Circuit_body ∷ Is Nothing Ends ∷ []) reader.old reader.new (it.0, (it.1, tt))) }
     ensures end { OnOk result (drop reader.new.at reader.old.laid.now ≡ []) }
     ensures refused { IfErr result (λ fault. Refuses (word "circuit" ∷ name ∷ colon ∷ line_end ∷ A Circuit_body ∷ Is Nothing Ends ∷ []) reader.old fault) }

@@ -1,9 +1,9 @@
 //! Statements other than `when`.
 
-ghost use Rattle.std.specs.Prelude.{◌≡◌, [], ◌∷◌, codes, IfOk, IfErr, OnOk};
-ghost use Rattle.fir_grammar.specs.Grammar.{A, The_word, Statement, word_at, line_end};
-ghost use Rattle.fir_parser.specs.Taking.{StandsAt, HasTaken, Refuses, blocks_at};
-ghost use Rattle.fir_parser.specs.Expected.{Meets};
+ghost use Rattle.std.specs.Prelude.{[], ◌∷◌, codes};
+ghost use Rattle.fir_grammar.specs.Grammar.{The_word, Statement, word_at, line_end};
+ghost use Rattle.fir_parser.specs.Taking.{StandsAt, InBlocks, Reads, ReadsAll};
+ghost use Rattle.fir_parser.specs.Expected.{Meets, Begins};
 
 use crate::header::{read_named, read_typed};
 use crate::memory::read_memory;
@@ -17,16 +17,18 @@ use std::alloc::Global;
 
 /// A statement other than a `when`.
 pub fn read_plain(alloc: Global, reader: &mut Reader, blocks: u32) -> Result<Stmt, ParseFault>
-    requires at { StandsAt reader.old }
-    requires counted { blocks_at reader.old ≡ blocks }
+    requires inside { InBlocks blocks reader.old }
     requires other { ¬ (Meets (The_word (codes "when")) reader.old) }
-    ensures ok { IfOk result (λ it. HasTaken (A Statement ∷ []) reader.old reader.new (it, tt)) }
-    ensures at { OnOk result (StandsAt reader.new) }
-    ensures blocks { OnOk result (blocks_at reader.new ≡ blocks_at reader.old) }
-    ensures refused { IfErr result (λ fault. Refuses (A Statement ∷ []) reader.old fault) }
+    ensures { Reads Statement reader.old reader.new result }
 {
     if meets(reader, Expected::Word("wire")) {
         return read_wire(alloc, reader);
+    }
+    if meets(reader, Expected::Word("node")) {
+        return read_node(alloc, reader);
+    }
+    if meets(reader, Expected::Word("mem")) {
+        return read_memory(alloc, reader, blocks);
     }
     if meets(reader, Expected::Word("reg")) {
         return read_reg(alloc, reader);
@@ -34,14 +36,8 @@ pub fn read_plain(alloc: Global, reader: &mut Reader, blocks: u32) -> Result<Stm
     if meets(reader, Expected::Word("regreset")) {
         return read_regreset(alloc, reader);
     }
-    if meets(reader, Expected::Word("mem")) {
-        return read_memory(alloc, reader, blocks);
-    }
     if meets(reader, Expected::Word("inst")) {
         return read_inst(reader);
-    }
-    if meets(reader, Expected::Word("node")) {
-        return read_node(alloc, reader);
     }
     if meets(reader, Expected::Word("connect")) {
         return read_connect(alloc, reader);
@@ -55,12 +51,8 @@ pub fn read_plain(alloc: Global, reader: &mut Reader, blocks: u32) -> Result<Stm
 
 /// A wire with its type.
 fn read_wire(alloc: Global, reader: &mut Reader) -> Result<Stmt, ParseFault>
-    requires at { StandsAt reader.old }
-    requires word { Meets (The_word (codes "wire")) reader.old }
-    ensures ok { IfOk result (λ it. HasTaken (A Statement ∷ []) reader.old reader.new (it, tt)) }
-    ensures at { OnOk result (StandsAt reader.new) }
-    ensures blocks { OnOk result (blocks_at reader.new ≡ blocks_at reader.old) }
-    ensures refused { IfErr result (λ fault. Refuses (A Statement ∷ []) reader.old fault) }
+    requires { Begins "wire" reader.old }
+    ensures { Reads Statement reader.old reader.new result }
 {
     let typed = read_typed(alloc, reader, "wire")?;
     take(reader, Expected::LineEnd)?;
@@ -70,12 +62,8 @@ fn read_wire(alloc: Global, reader: &mut Reader) -> Result<Stmt, ParseFault>
 
 /// A register with its type and its clock.
 fn read_reg(alloc: Global, reader: &mut Reader) -> Result<Stmt, ParseFault>
-    requires at { StandsAt reader.old }
-    requires word { Meets (The_word (codes "reg")) reader.old }
-    ensures ok { IfOk result (λ it. HasTaken (A Statement ∷ []) reader.old reader.new (it, tt)) }
-    ensures at { OnOk result (StandsAt reader.new) }
-    ensures blocks { OnOk result (blocks_at reader.new ≡ blocks_at reader.old) }
-    ensures refused { IfErr result (λ fault. Refuses (A Statement ∷ []) reader.old fault) }
+    requires { Begins "reg" reader.old }
+    ensures { Reads Statement reader.old reader.new result }
 {
     let typed = read_typed(alloc, reader, "reg")?;
     let clock = take_expression(alloc, reader)?;
@@ -86,12 +74,8 @@ fn read_reg(alloc: Global, reader: &mut Reader) -> Result<Stmt, ParseFault>
 
 /// A register with its type, its clock, its reset and its value after a reset.
 fn read_regreset(alloc: Global, reader: &mut Reader) -> Result<Stmt, ParseFault>
-    requires at { StandsAt reader.old }
-    requires word { Meets (The_word (codes "regreset")) reader.old }
-    ensures ok { IfOk result (λ it. HasTaken (A Statement ∷ []) reader.old reader.new (it, tt)) }
-    ensures at { OnOk result (StandsAt reader.new) }
-    ensures blocks { OnOk result (blocks_at reader.new ≡ blocks_at reader.old) }
-    ensures refused { IfErr result (λ fault. Refuses (A Statement ∷ []) reader.old fault) }
+    requires { Begins "regreset" reader.old }
+    ensures { Reads Statement reader.old reader.new result }
 {
     let typed = read_typed(alloc, reader, "regreset")?;
     let clock = take_expression(alloc, reader)?;
@@ -104,12 +88,8 @@ fn read_regreset(alloc: Global, reader: &mut Reader) -> Result<Stmt, ParseFault>
 
 /// An instance of a module.
 fn read_inst(reader: &mut Reader) -> Result<Stmt, ParseFault>
-    requires at { StandsAt reader.old }
-    requires word { Meets (The_word (codes "inst")) reader.old }
-    ensures ok { IfOk result (λ it. HasTaken (A Statement ∷ []) reader.old reader.new (it, tt)) }
-    ensures at { OnOk result (StandsAt reader.new) }
-    ensures blocks { OnOk result (blocks_at reader.new ≡ blocks_at reader.old) }
-    ensures refused { IfErr result (λ fault. Refuses (A Statement ∷ []) reader.old fault) }
+    requires { Begins "inst" reader.old }
+    ensures { Reads Statement reader.old reader.new result }
 {
     take(reader, Expected::Word("inst"))?;
     let name = take_name(reader)?;
@@ -121,12 +101,8 @@ fn read_inst(reader: &mut Reader) -> Result<Stmt, ParseFault>
 
 /// A node with its value.
 fn read_node(alloc: Global, reader: &mut Reader) -> Result<Stmt, ParseFault>
-    requires at { StandsAt reader.old }
-    requires word { Meets (The_word (codes "node")) reader.old }
-    ensures ok { IfOk result (λ it. HasTaken (A Statement ∷ []) reader.old reader.new (it, tt)) }
-    ensures at { OnOk result (StandsAt reader.new) }
-    ensures blocks { OnOk result (blocks_at reader.new ≡ blocks_at reader.old) }
-    ensures refused { IfErr result (λ fault. Refuses (A Statement ∷ []) reader.old fault) }
+    requires { Begins "node" reader.old }
+    ensures { Reads Statement reader.old reader.new result }
 {
     let name = read_named(reader, "node", b'=')?;
     let value = take_expression(alloc, reader)?;
@@ -134,14 +110,21 @@ fn read_node(alloc: Global, reader: &mut Reader) -> Result<Stmt, ParseFault>
     Ok(Stmt::Node(name, value))
 }
 
+/// An invalidation.
+fn read_invalidate(alloc: Global, reader: &mut Reader) -> Result<Stmt, ParseFault>
+    requires { Begins "invalidate" reader.old }
+    ensures { Reads Statement reader.old reader.new result }
+{
+    take(reader, Expected::Word("invalidate"))?;
+    let driven = take_reference(alloc, reader)?;
+    take(reader, Expected::LineEnd)?;
+    Ok(Stmt::Invalidate(driven))
+}
+
 /// A connection: the driven side, then the source.
 fn read_connect(alloc: Global, reader: &mut Reader) -> Result<Stmt, ParseFault>
-    requires at { StandsAt reader.old }
-    requires word { Meets (The_word (codes "connect")) reader.old }
-    ensures ok { IfOk result (λ it. HasTaken (A Statement ∷ []) reader.old reader.new (it, tt)) }
-    ensures at { OnOk result (StandsAt reader.new) }
-    ensures blocks { OnOk result (blocks_at reader.new ≡ blocks_at reader.old) }
-    ensures refused { IfErr result (λ fault. Refuses (A Statement ∷ []) reader.old fault) }
+    requires { Begins "connect" reader.old }
+    ensures { Reads Statement reader.old reader.new result }
 {
     take(reader, Expected::Word("connect"))?;
     let driven = take_reference(alloc, reader)?;
@@ -150,28 +133,10 @@ fn read_connect(alloc: Global, reader: &mut Reader) -> Result<Stmt, ParseFault>
     Ok(Stmt::Connect(driven, source))
 }
 
-/// An invalidation.
-fn read_invalidate(alloc: Global, reader: &mut Reader) -> Result<Stmt, ParseFault>
-    requires at { StandsAt reader.old }
-    requires word { Meets (The_word (codes "invalidate")) reader.old }
-    ensures ok { IfOk result (λ it. HasTaken (A Statement ∷ []) reader.old reader.new (it, tt)) }
-    ensures at { OnOk result (StandsAt reader.new) }
-    ensures blocks { OnOk result (blocks_at reader.new ≡ blocks_at reader.old) }
-    ensures refused { IfErr result (λ fault. Refuses (A Statement ∷ []) reader.old fault) }
-{
-    take(reader, Expected::Word("invalidate"))?;
-    let driven = take_reference(alloc, reader)?;
-    take(reader, Expected::LineEnd)?;
-    Ok(Stmt::Invalidate(driven))
-}
-
 /// The word `skip` and the end of its line.
 fn read_skip(reader: &mut Reader) -> Result<Place, ParseFault>
     requires at { StandsAt reader.old }
-    ensures ok { IfOk result (λ place. HasTaken (word_at "skip" ∷ line_end ∷ []) reader.old reader.new (place, tt)) }
-    ensures at { OnOk result (StandsAt reader.new) }
-    ensures blocks { OnOk result (blocks_at reader.new ≡ blocks_at reader.old) }
-    ensures refused { IfErr result (λ fault. Refuses (word_at "skip" ∷ line_end ∷ []) reader.old fault) }
+    ensures { ReadsAll (word_at "skip" ∷ line_end ∷ []) (λ place. (place, tt)) reader.old reader.new result }
 {
     let place = take_placed_word(reader, "skip")?;
     take(reader, Expected::LineEnd)?;

@@ -1,13 +1,13 @@
 //! Single symbols of the grammar.
 
-ghost use Rattle.std.specs.Prelude.{◌≡◌, ◌<◌, ◌≤◌, ◌+◌, ◌-◌, ◌^◌, ◌⊎◌, ℕ, [], ◌∷◌, length, slice_get, Some, IfOk, IfErr, IfSome, OnOk, OnErr, MatchBool};
+ghost use Rattle.std.specs.Prelude.{◌≡◌, ◌<◌, ◌≤◌, ◌+◌, ◌-◌, ◌^◌, [], ◌∷◌, length, slice_get, Some, IfSome, OnOk, OnErr, MatchBool};
 ghost use Rattle.fir_layout.specs.declared.laid.Laid.{Laid as TheLaid};
 ghost use Rattle.place_text.specs.Places.{place};
 ghost use Rattle.fir_layout.specs.Pieces.{bytes_of, piece_of};
-ghost use Rattle.fir_grammar.specs.Grammar.{Is, A, Nothing, Its_place, name, number, open_block, close_block, Opens, Type_of, Expression, Reference, The_word, Takes, start_of};
+ghost use Rattle.fir_grammar.specs.Grammar.{Is, Nothing, Its_place, name, number, open_block, close_block, Type_of, Expression, Reference, The_word, Takes, start_of};
 ghost use Rattle.fir_grammar.specs.Faults.{most};
 ghost use Rattle.token_reader.specs.Standing.{IsLaidFrom};
-ghost use Rattle.fir_parser.specs.Taking.{StandsAt, IsFresh, HasTaken, Refuses, Steps, IsInText, blocks_at};
+ghost use Rattle.fir_parser.specs.Taking.{StandsAt, InBlocks, IsFresh, Steps, IsInText, Answers, Reads, ReadsAll, blocks_at};
 ghost use Rattle.fir_parser.specs.Expected.{terminal, IsQuiet, Meets, MeetsNext, NamesHere};
 
 use fir_expr::{Reader, read_expr, read_reference, read_type};
@@ -138,13 +138,10 @@ pub fn advance(reader: &mut Reader)
 pub fn take(reader: &mut Reader, expected: Expected) -> Result<(), ParseFault>
     requires at { StandsAt reader.old }
     requires quiet { IsQuiet expected }
-    ensures ok { OnOk result (HasTaken (Is Nothing (terminal expected.entry) ∷ []) reader.old reader.new tt) }
-    ensures at { OnOk result (StandsAt reader.new) }
-    ensures blocks { OnOk result (blocks_at reader.new ≡ blocks_at reader.old) }
+    ensures reads { ReadsAll (Is Nothing (terminal expected.entry) ∷ []) (λ _. tt) reader.old reader.new result }
     ensures fresh { OnOk result (IsFresh reader.old → IsFresh reader.new) }
     ensures missed { OnErr result (¬ (Meets (terminal expected.entry) reader.old)) }
     ensures met { OnOk result (Meets (terminal expected.entry) reader.old) }
-    ensures refused { IfErr result (λ fault. Refuses (Is Nothing (terminal expected.entry) ∷ []) reader.old fault) }
 {
     if !meets(reader, expected) {
         return Err(fault_here(reader));
@@ -156,11 +153,8 @@ pub fn take(reader: &mut Reader, expected: Expected) -> Result<(), ParseFault>
 /// Takes a word and gives its place.
 pub fn take_placed_word(reader: &mut Reader, text: &str) -> Result<Place, ParseFault>
     requires at { StandsAt reader.old }
-    ensures ok { IfOk result (λ at. HasTaken (Is Its_place (The_word text.now) ∷ []) reader.old reader.new (at, tt)) }
-    ensures at { OnOk result (StandsAt reader.new) }
-    ensures blocks { OnOk result (blocks_at reader.new ≡ blocks_at reader.old) }
+    ensures reads { ReadsAll (Is Its_place (The_word text.now) ∷ []) (λ at. (at, tt)) reader.old reader.new result }
     ensures fresh { OnOk result (IsFresh reader.new) }
-    ensures refused { IfErr result (λ fault. Refuses (Is Its_place (The_word text.now) ∷ []) reader.old fault) }
 {
     if !meets(reader, Expected::Word(text)) {
         return Err(fault_here(reader));
@@ -173,11 +167,8 @@ pub fn take_placed_word(reader: &mut Reader, text: &str) -> Result<Place, ParseF
 /// Takes a name.
 pub fn take_name(reader: &mut Reader) -> Result<Name, ParseFault>
     requires at { StandsAt reader.old }
-    ensures ok { IfOk result (λ id. HasTaken (name ∷ []) reader.old reader.new (id, tt)) }
-    ensures at { OnOk result (StandsAt reader.new) }
-    ensures blocks { OnOk result (blocks_at reader.new ≡ blocks_at reader.old) }
+    ensures reads { ReadsAll (name ∷ []) (λ id. (id, tt)) reader.old reader.new result }
     ensures fresh { OnOk result (IsFresh reader.new) }
-    ensures refused { IfErr result (λ fault. Refuses (name ∷ []) reader.old fault) }
 {
     let name = reader.take_name()?;
     Ok(name)
@@ -186,10 +177,7 @@ pub fn take_name(reader: &mut Reader) -> Result<Name, ParseFault>
 /// Takes a number.
 pub fn take_number(reader: &mut Reader) -> Result<u128, ParseFault>
     requires at { StandsAt reader.old }
-    ensures ok { IfOk result (λ n. HasTaken (number ∷ []) reader.old reader.new (n, tt)) }
-    ensures at { OnOk result (StandsAt reader.new) }
-    ensures blocks { OnOk result (blocks_at reader.new ≡ blocks_at reader.old) }
-    ensures refused { IfErr result (λ fault. Refuses (number ∷ []) reader.old fault) }
+    ensures { ReadsAll (number ∷ []) (λ n. (n, tt)) reader.old reader.new result }
 {
     let Some(number) = reader.number_here() else {
         return Err(fault_here(reader));
@@ -201,13 +189,9 @@ pub fn take_number(reader: &mut Reader) -> Result<u128, ParseFault>
 
 /// Takes the beginning of a block, where so many blocks are open.
 pub fn take_open(reader: &mut Reader, blocks: u32) -> Result<(), ParseFault>
-    requires at { StandsAt reader.old }
-    requires counted { blocks_at reader.old ≡ blocks }
-    ensures ok { OnOk result (HasTaken (open_block ∷ []) reader.old reader.new tt) }
-    ensures at { OnOk result (StandsAt reader.new) }
-    ensures blocks { OnOk result (blocks_at reader.new ≡ blocks + 1) }
+    requires { InBlocks blocks reader.old }
+    ensures reads { Answers (open_block ∷ []) (λ _. tt) (blocks + 1) reader.old reader.new result }
     ensures few { OnOk result (blocks < most) }
-    ensures refused { IfErr result (λ fault. Refuses (open_block ∷ []) reader.old fault) }
 {
     if !meets(reader, Expected::Open) {
         return Err(fault_here(reader));
@@ -222,10 +206,7 @@ pub fn take_open(reader: &mut Reader, blocks: u32) -> Result<(), ParseFault>
 /// Takes the end of a block.
 pub fn take_close(reader: &mut Reader) -> Result<(), ParseFault>
     requires at { StandsAt reader.old }
-    ensures ok { OnOk result (HasTaken (close_block ∷ []) reader.old reader.new tt) }
-    ensures at { OnOk result (StandsAt reader.new) }
-    ensures blocks { OnOk result (blocks_at reader.new ≡ blocks_at reader.old - 1) }
-    ensures refused { IfErr result (λ fault. Refuses (close_block ∷ []) reader.old fault) }
+    ensures { Answers (close_block ∷ []) (λ _. tt) (blocks_at reader.old - 1) reader.old reader.new result }
 {
     if !meets(reader, Expected::Close) {
         return Err(fault_here(reader));
@@ -238,10 +219,7 @@ pub fn take_close(reader: &mut Reader) -> Result<(), ParseFault>
 pub fn take_type(alloc: Global, reader: &mut Reader) -> Result<FirType, ParseFault>
     requires at { StandsAt reader.old }
     requires fresh { IsFresh reader.old }
-    ensures ok { IfOk result (λ it. HasTaken (A Type_of ∷ []) reader.old reader.new (it, tt)) }
-    ensures at { OnOk result (StandsAt reader.new) }
-    ensures blocks { OnOk result (blocks_at reader.new ≡ blocks_at reader.old) }
-    ensures refused { IfErr result (λ fault. Refuses (A Type_of ∷ []) reader.old fault) }
+    ensures { Reads Type_of reader.old reader.new result }
 {
     let it = read_type(alloc, reader)?;
     Ok(it)
@@ -250,10 +228,7 @@ pub fn take_type(alloc: Global, reader: &mut Reader) -> Result<FirType, ParseFau
 /// Takes an expression.
 pub fn take_expression(alloc: Global, reader: &mut Reader) -> Result<Expr, ParseFault>
     requires at { StandsAt reader.old }
-    ensures ok { IfOk result (λ it. HasTaken (A Expression ∷ []) reader.old reader.new (it, tt)) }
-    ensures at { OnOk result (StandsAt reader.new) }
-    ensures blocks { OnOk result (blocks_at reader.new ≡ blocks_at reader.old) }
-    ensures refused { IfErr result (λ fault. Refuses (A Expression ∷ []) reader.old fault) }
+    ensures { Reads Expression reader.old reader.new result }
 {
     let it = read_expr(alloc, reader)?;
     Ok(it)
@@ -262,10 +237,7 @@ pub fn take_expression(alloc: Global, reader: &mut Reader) -> Result<Expr, Parse
 /// Takes a reference.
 pub fn take_reference(alloc: Global, reader: &mut Reader) -> Result<Expr, ParseFault>
     requires at { StandsAt reader.old }
-    ensures ok { IfOk result (λ it. HasTaken (A Reference ∷ []) reader.old reader.new (it, tt)) }
-    ensures at { OnOk result (StandsAt reader.new) }
-    ensures blocks { OnOk result (blocks_at reader.new ≡ blocks_at reader.old) }
-    ensures refused { IfErr result (λ fault. Refuses (A Reference ∷ []) reader.old fault) }
+    ensures { Reads Reference reader.old reader.new result }
 {
     let it = read_reference(alloc, reader)?;
     Ok(it)

@@ -1,10 +1,10 @@
 //! The version line.
 
-ghost use Rattle.std.specs.Prelude.{◌≡◌, ◌+◌, ◌-◌, ◌<◌, ◌≤◌, ◌^◌, [], ◌∷◌, length, IfOk, IfErr, OnOk, OnErr};
+ghost use Rattle.std.specs.Prelude.{◌≡◌, ◌+◌, ◌-◌, ◌<◌, ◌^◌, [], ◌∷◌, length, IfErr, OnOk, OnErr};
 ghost use Rattle.fir_grammar.specs.Grammar.{Is, Nothing, Three, A_number, The_mark, word, mark, line_end};
 ghost use Rattle.fir_grammar.specs.Faults.{most, last_suffixes};
 ghost use Rattle.token_reader.specs.Standing.{IsLaidFrom};
-ghost use Rattle.fir_parser.specs.Taking.{StandsAt, HasTaken, Refuses, Steps, blocks_at, here};
+ghost use Rattle.fir_parser.specs.Taking.{StandsAt, HasTaken, Refuses, ReadsAll, Steps, blocks_at, here};
 ghost use Rattle.fir_parser.specs.Expected.{Meets, VersionRefused, WordsStand};
 
 use crate::take::{Expected, advance, fault_here, meets, take};
@@ -14,10 +14,7 @@ use fir_tree::ParseFault;
 /// The words before the version's numbers.
 pub fn read_words(reader: &mut Reader) -> Result<(), ParseFault>
     requires at { StandsAt reader.old }
-    ensures ok { OnOk result (HasTaken (word "FIRRTL" ∷ word "version" ∷ []) reader.old reader.new tt) }
-    ensures at { OnOk result (StandsAt reader.new) }
-    ensures blocks { OnOk result (blocks_at reader.new ≡ blocks_at reader.old) }
-    ensures refused { IfErr result (λ fault. Refuses (word "FIRRTL" ∷ word "version" ∷ []) reader.old fault) }
+    ensures reads { ReadsAll (word "FIRRTL" ∷ word "version" ∷ []) (λ _. tt) reader.old reader.new result }
     ensures absent { OnErr result (¬ (WordsStand reader.old)) }
     ensures two { OnOk result (reader.new.at ≡ reader.old.at + 2) }
 {
@@ -50,10 +47,7 @@ pub fn take_three(reader: &mut Reader) -> Result<(), ParseFault>
 pub fn read_numbers(reader: &mut Reader) -> Result<(), ParseFault>
     requires at { StandsAt reader.old }
     requires suffixes { last_suffixes (here reader.old).suffixes ≡ 0 }
-    ensures ok { OnOk result (HasTaken (mark 46 ∷ Is Nothing A_number ∷ mark 46 ∷ Is Nothing A_number ∷ line_end ∷ []) reader.old reader.new tt) }
-    ensures at { OnOk result (StandsAt reader.new) }
-    ensures blocks { OnOk result (blocks_at reader.new ≡ blocks_at reader.old) }
-    ensures refused { IfErr result (λ fault. Refuses (mark 46 ∷ Is Nothing A_number ∷ mark 46 ∷ Is Nothing A_number ∷ line_end ∷ []) reader.old fault) }
+    ensures { ReadsAll (mark 46 ∷ Is Nothing A_number ∷ mark 46 ∷ Is Nothing A_number ∷ line_end ∷ []) (λ _. tt) reader.old reader.new result }
 {
     take_next_number(reader)?;
     take_next_number(reader)?;
@@ -65,11 +59,8 @@ pub fn read_numbers(reader: &mut Reader) -> Result<(), ParseFault>
 fn take_next_number(reader: &mut Reader) -> Result<(), ParseFault>
     requires at { StandsAt reader.old }
     requires suffixes { last_suffixes (here reader.old).suffixes < most }
-    ensures ok { OnOk result (HasTaken (mark 46 ∷ Is Nothing A_number ∷ []) reader.old reader.new tt) }
-    ensures at { OnOk result (StandsAt reader.new) }
-    ensures blocks { OnOk result (blocks_at reader.new ≡ blocks_at reader.old) }
+    ensures reads { ReadsAll (mark 46 ∷ Is Nothing A_number ∷ []) (λ _. tt) reader.old reader.new result }
     ensures suffixes { OnOk result (last_suffixes (here reader.new).suffixes ≡ last_suffixes (here reader.old).suffixes + 1) }
-    ensures refused { IfErr result (λ fault. Refuses (mark 46 ∷ Is Nothing A_number ∷ []) reader.old fault) }
 {
     step_dot(reader)?;
     step_number(reader)?;

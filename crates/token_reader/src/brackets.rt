@@ -7,7 +7,7 @@ ghost use Rattle.fir_grammar.specs.Faults.{most, levels, last_suffixes};
 ghost use Rattle.token_reader.specs.Standing.{StandsIn};
 ghost use Rattle.token_reader.specs.Parts.{IsSource, AnswersPiece, StartsWith, is_opening, is_suffix_mark};
 
-use crate::take::{is_mark, part_at, place_of_part, refusal_at};
+use crate::take::{mark_at, part_at, place_of_part};
 use crate::text::Text;
 use fir_layout::Laid;
 use fir_tree::ParseFault;
@@ -31,10 +31,7 @@ pub fn open_bracket(
     ensures few { IfOk result (λ _. brackets < most) }
     ensures within { IfOk result (λ _. at < length laid.now) }
 {
-    let part = part_at(laid, at)?;
-    if !is_mark(part, mark) {
-        return Err(refusal_at(text, laid, at));
-    }
+    let part = mark_at(text, laid, at, mark)?;
     if brackets >= MOST {
         return Err(ParseFault::TooDeep(place_of_part(text, part)));
     }
@@ -68,18 +65,15 @@ pub fn take_suffix(
     suffixes: u32,
 ) -> Result<Laid, ParseFault>
     requires source { IsSource text.now laid.now }
-    requires suffix { IsTrue (is_suffix_mark mark) }
     requires stands { StandsIn (pieces_of text.now laid.now) at brackets }
     requires counted { last_suffixes (levels (take at (pieces_of text.now laid.now))).suffixes ≡ suffixes }
+    requires suffix { IsTrue (is_suffix_mark mark) }
     ensures taken { AnswersPiece (The_mark mark) text.now laid.now at result }
     ensures within { IfOk result (λ _. at < length laid.now) }
     ensures few { IfOk result (λ _. suffixes < most) }
     ensures few_brackets { IfOk result (λ _. mark ≡ 91 → brackets < most) }
 {
-    let part = part_at(laid, at)?;
-    if !is_mark(part, mark) {
-        return Err(refusal_at(text, laid, at));
-    }
+    let part = mark_at(text, laid, at, mark)?;
     if suffixes >= MOST {
         return Err(ParseFault::TooDeep(place_of_part(text, part)));
     }

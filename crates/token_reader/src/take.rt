@@ -226,13 +226,14 @@ pub fn refusal_at(text: &Text, laid: &[Laid], at: usize) -> ParseFault
     }
 }
 
-/// Takes a mark that opens no bracket and begins no suffix.
-#[tactic(auto, using(crate::proofs::Takes::not_taken_memory, crate::proofs::Takes::flat_mark_taken))]
-pub fn take_mark(text: &Text, laid: &[Laid], at: usize, mark: u8) -> Result<Laid, ParseFault>
-    requires source { IsSource text.now laid.now }
-    requires flat { IsTrue (is_flat mark) }
-    ensures taken { AnswersPiece (The_mark mark) text.now laid.now at result }
+/// The part at a place, which has to be this mark.
+#[tactic(auto, using(crate::proofs::Takes::not_taken_memory))]
+pub fn mark_at(text: &Text, laid: &[Laid], at: usize, mark: u8) -> Result<Laid, ParseFault>
+    requires { IsSource text.now laid.now }
+    ensures here { IfOk result (λ part. slice_get laid.now at ≡ Some part) }
+    ensures takes { IfOk result (λ part. Takes (The_mark mark) (piece_of text.now part)) }
     ensures within { IfOk result (λ _. at < length laid.now) }
+    ensures err { IfErr result (λ fault. IsNotTaken (The_mark mark) text.now laid.now at fault) }
 {
     let part = part_at(laid, at)?;
     if is_mark(part, mark) {
@@ -240,6 +241,18 @@ pub fn take_mark(text: &Text, laid: &[Laid], at: usize, mark: u8) -> Result<Laid
     } else {
         Err(refusal_at(text, laid, at))
     }
+}
+
+/// Takes a mark that opens no bracket and begins no suffix.
+#[tactic(auto, using(crate::proofs::Takes::flat_mark_taken))]
+pub fn take_mark(text: &Text, laid: &[Laid], at: usize, mark: u8) -> Result<Laid, ParseFault>
+    requires source { IsSource text.now laid.now }
+    requires flat { IsTrue (is_flat mark) }
+    ensures taken { AnswersPiece (The_mark mark) text.now laid.now at result }
+    ensures within { IfOk result (λ _. at < length laid.now) }
+{
+    let part = mark_at(text, laid, at, mark)?;
+    Ok(part)
 }
 
 /// Takes a number. The answer has its place and its magnitude.

@@ -29,86 +29,86 @@ expr-returns-in_ok-component-in-Component t c = component_read (component_here c
 pub mux-returns-in_err-call : goal.mux-returns-in_err-call
 mux-returns-in_err-call t c =
     let p = err_from_is_err_and c.from_residual.result c.from_residual.ensures.1 in
-    rw (p.1, p.2) (mux_no_call c.requires.stands c.requires.head (c.in_err-call.ensures.taken (codes "mux") c.requires.head))
+    rw (p.1, p.2) (mux_no_call c.requires.start.stands c.requires.head (c.in_err-call.ensures.taken (codes "mux") c.requires.head))
 
 pub mux-operands-requires : goal.mux-operands-requires
 mux-operands-requires t c =
     let taken = c.in_ok-call.ensures.taken (codes "mux") c.requires.head in
     let few = c.in_ok-call.ensures.few in
     let within = c.in_ok-call.ensures.within in
-    let e = room_step c.args.names.now c.args.laid.now c.args.at c.in_ok-call.call taken.here in
-    (omega (arith, few, c.decreases), (c.requires.source, (omega (arith, e, c.requires.room), (omega (arith, within), stands_opened (opener_call (codes "mux")) taken c.requires.stands few))))
+    let e = room_step c.args.names.now c.args.from.now.laid.now c.args.at c.in_ok-call.call taken.here in
+    (omega (arith, few, c.decreases), (record { source = c.requires.start.source; room = omega (arith, e, c.requires.start.room); stands = stands_opened (opener_call (codes "mux")) taken c.requires.start.stands few }, omega (arith, within)))
 
 pub mux-returns-in_err-close : goal.mux-returns-in_err-close
 mux-returns-in_err-close t c =
     let p = err_from_is_err_and c.from_residual-in_err-close.result c.from_residual-in_err-close.ensures.1 in
-    rw (p.1, p.2) (mux_no_operand c.requires.stands c.requires.head (c.in_ok-call.ensures.taken (codes "mux") c.requires.head) c.in_err-close.ensures.err)
+    rw (p.1, p.2) (mux_no_operand c.requires.start.stands c.requires.head (c.in_ok-call.ensures.taken (codes "mux") c.requires.head) c.in_err-close.ensures.err)
 
 pub mux-returns-in_err-take_mark : goal.mux-returns-in_err-take_mark
 mux-returns-in_err-take_mark t c =
     let p = err_from_is_err_and c.from_residual-in_err-take_mark.result c.from_residual-in_err-take_mark.ensures.1 in
-    rw (p.1, p.2) (mux_not_closed c.requires.stands c.requires.head (c.in_ok-call.ensures.taken (codes "mux") c.requires.head) c.in_ok-close.ensures.ok c.new-read.ensures c.in_err-take_mark.ensures.taken)
+    rw (p.1, p.2) (mux_not_closed c.requires.start.stands c.requires.head (c.in_ok-call.ensures.taken (codes "mux") c.requires.head) c.in_ok-close.ensures.ok c.new-read.ensures c.in_err-take_mark.ensures.taken)
 
 pub mux-place_of_part-place-requires-clause-inside : goal.mux-place_of_part-place-requires-clause-inside
 mux-place_of_part-place-requires-clause-inside t c =
-    source_part c.args.text.now c.args.laid.now c.args.at c.in_ok-call.call c.requires.source (c.in_ok-call.ensures.taken (codes "mux") c.requires.head).here
+    source_part c.args.from.now.text.now c.args.from.now.laid.now c.args.at c.in_ok-call.call c.requires.start.source (c.in_ok-call.ensures.taken (codes "mux") c.requires.head).here
 
 pub mux-returns : goal.mux-returns
 mux-returns t c = rw c.place_of_part-place.ensures
-    (mux_read c.requires.stands c.requires.head (c.in_ok-call.ensures.taken (codes "mux") c.requires.head) c.in_ok-close.ensures.ok c.new-read.ensures c.in_ok-take_mark.ensures.taken)
+    (mux_read c.requires.start.stands c.requires.head (c.in_ok-call.ensures.taken (codes "mux") c.requires.head) c.in_ok-close.ensures.ok c.new-read.ensures c.in_ok-take_mark.ensures.taken)
 
 -- operations
 
 pub operation-returns-in_err-call : goal.operation-returns-in_err-call
 operation-returns-in_err-call t c =
     let p = err_from_is_err_and c.from_residual.result c.from_residual.ensures.1 in
-    rw (p.1, p.2) (operation_no_call c.args.prim c.requires.stands c.requires.head refl refl (c.in_err-call.ensures.taken (name_of c.args.prim) c.requires.head))
+    rw (p.1, p.2) (operation_no_call c.args.prim c.requires.start.stands c.requires.head refl refl (c.in_err-call.ensures.taken (name_of c.args.prim) c.requires.head))
 
 pub operation-operands-requires : goal.operation-operands-requires
 operation-operands-requires t c =
     let taken = c.in_ok-call.ensures.taken (name_of c.args.prim) c.requires.head in
     let few = c.in_ok-call.ensures.few in
     let within = c.in_ok-call.ensures.within in
-    let e = room_step c.args.names.now c.args.laid.now c.args.at c.in_ok-call.call taken.here in
-    (omega (arith, few, c.decreases), (c.requires.source, (omega (arith, e, c.requires.room), (omega (arith, within), stands_opened (opener_call (name_of c.args.prim)) taken c.requires.stands few))))
+    let e = room_step c.args.names.now c.args.from.now.laid.now c.args.at c.in_ok-call.call taken.here in
+    (omega (arith, few, c.decreases), (record { source = c.requires.start.source; room = omega (arith, e, c.requires.start.room); stands = stands_opened (opener_call (name_of c.args.prim)) taken c.requires.start.stands few }, omega (arith, within)))
 
 pub operation-returns-in_err-behind : goal.operation-returns-in_err-behind
 operation-returns-in_err-behind t c =
     let p = err_from_is_err_and c.from_residual-in_err-behind.result c.from_residual-in_err-behind.ensures.1 in
-    rw (p.1, p.2) (operation_no_operand c.args.prim c.requires.stands c.requires.head (ap (λ (x : ℕ × ℕ). x.0) c.arity-counts.ensures) refl (c.in_ok-call.ensures.taken (name_of c.args.prim) c.requires.head) c.in_err-behind.ensures.err)
+    rw (p.1, p.2) (operation_no_operand c.args.prim c.requires.start.stands c.requires.head (ap (λ (x : ℕ × ℕ). x.0) c.arity-counts.ensures) refl (c.in_ok-call.ensures.taken (name_of c.args.prim) c.requires.head) c.in_err-behind.ensures.err)
 
 pub operation-numbers-requires-clause-stands : goal.operation-numbers-requires-clause-stands
 operation-numbers-requires-clause-stands t c = (
   c.args.brackets + 1,
   whole_stands c.in_ok-behind.ensures.ok.passed.whole
-      (stands_opened (opener_call (name_of c.args.prim)) (c.in_ok-call.ensures.taken (name_of c.args.prim) c.requires.head) c.requires.stands c.in_ok-call.ensures.few),
+      (stands_opened (opener_call (name_of c.args.prim)) (c.in_ok-call.ensures.taken (name_of c.args.prim) c.requires.head) c.requires.start.stands c.in_ok-call.ensures.few),
 )
 
 pub operation-returns-in_err-parameters : goal.operation-returns-in_err-parameters
 operation-returns-in_err-parameters t c =
     let p = err_from_is_err_and c.from_residual-in_err-parameters.result c.from_residual-in_err-parameters.ensures.1 in
-    rw (p.1, p.2) (operation_no_number c.args.prim c.requires.stands c.requires.head (ap (λ (x : ℕ × ℕ). x.0) c.arity-counts.ensures) (ap (λ (x : ℕ × ℕ). x.1) c.arity-counts.ensures)
+    rw (p.1, p.2) (operation_no_number c.args.prim c.requires.start.stands c.requires.head (ap (λ (x : ℕ × ℕ). x.0) c.arity-counts.ensures) (ap (λ (x : ℕ × ℕ). x.1) c.arity-counts.ensures)
     (c.in_ok-call.ensures.taken (name_of c.args.prim) c.requires.head) c.in_ok-behind.ensures.ok c.new-read.ensures (c.in_err-parameters.ensures c.operands.new.names))
 
 pub operation-returns-in_err-take_mark : goal.operation-returns-in_err-take_mark
 operation-returns-in_err-take_mark t c =
     let p = err_from_is_err_and c.from_residual-in_err-take_mark.result c.from_residual-in_err-take_mark.ensures.1 in
-    rw (p.1, p.2) (operation_not_closed c.args.prim c.requires.stands c.requires.head (ap (λ (x : ℕ × ℕ). x.0) c.arity-counts.ensures) (ap (λ (x : ℕ × ℕ). x.1) c.arity-counts.ensures)
+    rw (p.1, p.2) (operation_not_closed c.args.prim c.requires.start.stands c.requires.head (ap (λ (x : ℕ × ℕ). x.0) c.arity-counts.ensures) (ap (λ (x : ℕ × ℕ). x.1) c.arity-counts.ensures)
     (c.in_ok-call.ensures.taken (name_of c.args.prim) c.requires.head) c.in_ok-behind.ensures.ok c.new-read.ensures (c.in_ok-parameters.ensures c.operands.new.names) c.in_err-take_mark.ensures.taken)
 
 pub operation-place_of_part-place-requires-clause-inside : goal.operation-place_of_part-place-requires-clause-inside
 operation-place_of_part-place-requires-clause-inside t c =
-    source_part c.args.text.now c.args.laid.now c.args.at c.in_ok-call.call c.requires.source (c.in_ok-call.ensures.taken (name_of c.args.prim) c.requires.head).here
+    source_part c.args.from.now.text.now c.args.from.now.laid.now c.args.at c.in_ok-call.call c.requires.start.source (c.in_ok-call.ensures.taken (name_of c.args.prim) c.requires.head).here
 
 pub operation-returns : goal.operation-returns
 operation-returns t c = rw c.place_of_part-place.ensures
-    (operation_read c.args.prim c.requires.stands c.requires.head (ap (λ (x : ℕ × ℕ). x.0) c.arity-counts.ensures) (ap (λ (x : ℕ × ℕ). x.1) c.arity-counts.ensures)
+    (operation_read c.args.prim c.requires.start.stands c.requires.head (ap (λ (x : ℕ × ℕ). x.0) c.arity-counts.ensures) (ap (λ (x : ℕ × ℕ). x.1) c.arity-counts.ensures)
     (c.in_ok-call.ensures.taken (name_of c.args.prim) c.requires.head) c.in_ok-behind.ensures.ok c.new-read.ensures (c.in_ok-parameters.ensures c.operands.new.names) c.in_ok-take_mark.ensures.taken)
 
 -- operands
 
 pub operands-returns-then-count-eq0-clause-ok : goal.operands-returns-then-count-eq0-clause-ok
-operands-returns-then-count-eq0-clause-ok t c = operands_none c.args.names.now c.args.read.now c.requires.stands c.requires.within (omega (arith, c.if-count-eq0.true))
+operands-returns-then-count-eq0-clause-ok t c = operands_none c.args.names.now c.args.read.now c.requires.start.stands c.requires.within (omega (arith, c.if-count-eq0.true))
 
 pub operands-returns-in_err-operand-clause-err : goal.operands-returns-in_err-operand-clause-err
 operands-returns-in_err-operand-clause-err t c =
@@ -128,12 +128,12 @@ operands-returns-clause-ok t c =
     operands_more c.in_ok-operand.ensures (c.args.count - 1) (omega (arith, c.if-count-eq0.false)) (rw c.in_ok-push.ensures.ok at c.in_ok-end.ensures.ok)
 
 pub operands-expr-requires : goal.operands-expr-requires
-operands-expr-requires t c = (omega (arith, c.decreases), (c.requires.source, (c.requires.room, c.requires.stands)))
+operands-expr-requires t c = (omega (arith, c.decreases), c.requires.start)
 
 pub operands-operands-requires : goal.operands-operands-requires
 operands-operands-requires t c = (
   omega (arith, c.if-count-eq0.false, c.decreases),
-  (c.requires.source, (omega (arith, c.in_ok-operand.ensures.room, c.requires.room), (c.in_ok-operand.ensures.read.within, whole_stands c.in_ok-operand.ensures.whole c.requires.stands))),
+  (record { source = c.requires.start.source; room = omega (arith, c.in_ok-operand.ensures.room, c.requires.start.room); stands = whole_stands c.in_ok-operand.ensures.whole c.requires.start.stands }, c.in_ok-operand.ensures.read.within),
 )
 
 -- references
@@ -144,8 +144,8 @@ reference-returns-in_err-name t c = let p = err_from_is_err_and c.from_residual.
 pub reference-suffixes-requires : goal.reference-suffixes-requires
 reference-suffixes-requires t c =
     let n = c.in_ok-name.ensures.ok in
-    let e = room_name c.args.names.now c.take_name.new.names c.args.laid.now c.args.at n.token n.taken.here n.grows in
-    (omega (arith, c.decreases), (c.requires.source, (omega (arith, e, c.requires.room), ((name_begins n c.requires.stands).stands, (name_begins n c.requires.stands).no_suffix))))
+    let e = room_name c.args.names.now c.take_name.new.names c.args.from.now.laid.now c.args.at n.token n.taken.here n.grows in
+    (omega (arith, c.decreases), (record { source = c.requires.source; room = omega (arith, e, c.requires.room); stands = (name_begins n c.requires.stands).stands }, (name_begins n c.requires.stands).no_suffix))
 
 pub reference-returns-in_err-end : goal.reference-returns-in_err-end
 reference-returns-in_err-end t c =
@@ -169,6 +169,12 @@ suffixes-loop-next-preserved t c =
     let step = rw c.in-Some.is at c.in_ok-next.ensures.some in
     rw c.in_ok-push.ensures.ok (underway_more c.loop-next.invariant step)
 
+pub suffixes-suffix-requires : goal.suffixes-suffix-requires
+suffixes-suffix-requires t c = (
+  omega arith,
+  (record { source = c.requires.start.source; room = omega (arith, c.loop-next.invariant.room, c.requires.start.room); stands = c.loop-next.invariant.stands }, c.loop-next.invariant.counted),
+)
+
 -- one suffix
 
 pub suffix-returns-in_err-part-clause-err : goal.suffix-returns-in_err-part-clause-err
@@ -176,33 +182,35 @@ suffix-returns-in_err-part-clause-err t c = let p = err_from_is_err_and c.from_r
 
 -- indices
 
-pub index-returns-in_err-first-clause-err : goal.index-returns-in_err-first-clause-err
-index-returns-in_err-first-clause-err t c = let p = err_from_is_err_and c.from_residual.result c.from_residual.ensures.1 in rw (p.1, p.2, c.in_err-first.ensures.err) no_memory
+pub index-returns-in_err-first : goal.index-returns-in_err-first
+index-returns-in_err-first t c = let p = err_from_is_err_and c.from_residual.result c.from_residual.ensures.1 in rw (p.1, p.2, c.in_err-first.ensures.err) no_memory
 
-pub dynamic-returns-in_err-mark-clause-err : goal.dynamic-returns-in_err-mark-clause-err
-dynamic-returns-in_err-mark-clause-err t c =
+pub dynamic-returns-in_err-mark : goal.dynamic-returns-in_err-mark
+dynamic-returns-in_err-mark t c =
     let p = err_from_is_err_and c.from_residual.result c.from_residual.ensures.1 in rw (p.1, p.2) (index_no_mark c.requires.begins c.requires.number c.in_err-mark.ensures.taken)
 
 pub dynamic-expr-requires : goal.dynamic-expr-requires
 dynamic-expr-requires t c =
     let taken = c.in_ok-mark.ensures.taken in
     let few = c.in_ok-mark.ensures.few_brackets refl in
-    let e = room_step c.args.names.now c.args.laid.now c.args.at c.in_ok-mark.mark taken.here in
-    (omega (arith, few, c.decreases), (c.requires.source, (omega (arith, e, c.requires.room), stands_indexed taken c.requires.stands few)))
+    let e = room_step c.args.names.now c.args.from.now.laid.now c.args.at c.in_ok-mark.mark taken.here in
+    (omega (arith, few, c.decreases), record { source = c.requires.start.source; room = omega (arith, e, c.requires.start.room); stands = stands_indexed taken c.requires.start.stands few })
 
-pub dynamic-returns-in_err-index-clause-err : goal.dynamic-returns-in_err-index-clause-err
-dynamic-returns-in_err-index-clause-err t c =
+pub dynamic-returns-in_err-index : goal.dynamic-returns-in_err-index
+dynamic-returns-in_err-index t c =
     let p = err_from_is_err_and c.from_residual-in_err-index.result c.from_residual-in_err-index.ensures.1 in
     rw (p.1, p.2) (index_refused c.requires.begins c.requires.number c.in_ok-mark.ensures.taken c.in_err-index.ensures)
 
-pub dynamic-returns-in_err-take_mark-clause-err : goal.dynamic-returns-in_err-take_mark-clause-err
-dynamic-returns-in_err-take_mark-clause-err t c =
+pub dynamic-returns-in_err-take_mark : goal.dynamic-returns-in_err-take_mark
+dynamic-returns-in_err-take_mark t c =
     let p = err_from_is_err_and c.from_residual-in_err-take_mark.result c.from_residual-in_err-take_mark.ensures.1 in
     rw (p.1, p.2) (index_not_closed c.requires.begins c.requires.number c.in_ok-mark.ensures.taken c.in_ok-index.ensures c.in_err-take_mark.ensures.taken)
 
 pub dynamic-place_of_part-requires-clause-inside : goal.dynamic-place_of_part-requires-clause-inside
-dynamic-place_of_part-requires-clause-inside t c = source_part c.args.text.now c.args.laid.now c.args.at c.in_ok-mark.mark c.requires.source c.in_ok-mark.ensures.taken.here
+dynamic-place_of_part-requires-clause-inside t c = source_part c.args.from.now.text.now c.args.from.now.laid.now c.args.at c.in_ok-mark.mark c.requires.start.source c.in_ok-mark.ensures.taken.here
 
-pub dynamic-returns-clause-ok : goal.dynamic-returns-clause-ok
-dynamic-returns-clause-ok t c = rw c.place_of_part.ensures
-    (index_stepped c.requires.begins c.requires.number c.in_ok-mark.ensures.taken c.in_ok-index.ensures c.requires.stands c.in_ok-take_mark.ensures.taken)
+pub dynamic-returns : goal.dynamic-returns
+dynamic-returns t c = (
+  rw c.place_of_part.ensures (index_stepped c.requires.begins c.requires.number c.in_ok-mark.ensures.taken c.in_ok-index.ensures c.requires.start.stands c.in_ok-take_mark.ensures.taken),
+  c.in_ok-mark.ensures.few,
+)

@@ -25,16 +25,16 @@ pub base_type-returns-in_err-part-clause-read : goal.base_type-returns-in_err-pa
 base_type-returns-in_err-part-clause-read t c = let p = err_from_is_err_and c.from_residual.result c.from_residual.ensures.1 in rw (p.1, p.2, c.in_err-part.ensures.err) no_memory
 
 pub base_type-is_word-requires : goal.base_type-is_word-requires
-base_type-is_word-requires t c = source_part c.args.text.now c.args.laid.now c.args.at c.in_ok-part.part c.requires.source c.in_ok-part.ensures.ok
+base_type-is_word-requires t c = source_part c.args.from.now.text.now c.args.from.now.laid.now c.args.at c.in_ok-part.part c.requires.source c.in_ok-part.ensures.ok
 
 pub base_type-is_word-requires-2 : goal.base_type-is_word-requires-2
-base_type-is_word-requires-2 t c = source_part c.args.text.now c.args.laid.now c.args.at c.in_ok-part.part c.requires.source c.in_ok-part.ensures.ok
+base_type-is_word-requires-2 t c = source_part c.args.from.now.text.now c.args.from.now.laid.now c.args.at c.in_ok-part.part c.requires.source c.in_ok-part.ensures.ok
 
 pub base_type-is_word-requires-3 : goal.base_type-is_word-requires-3
-base_type-is_word-requires-3 t c = source_part c.args.text.now c.args.laid.now c.args.at c.in_ok-part.part c.requires.source c.in_ok-part.ensures.ok
+base_type-is_word-requires-3 t c = source_part c.args.from.now.text.now c.args.from.now.laid.now c.args.at c.in_ok-part.part c.requires.source c.in_ok-part.ensures.ok
 
 pub base_type-is_word-requires-4 : goal.base_type-is_word-requires-4
-base_type-is_word-requires-4 t c = source_part c.args.text.now c.args.laid.now c.args.at c.in_ok-part.part c.requires.source c.in_ok-part.ensures.ok
+base_type-is_word-requires-4 t c = source_part c.args.from.now.text.now c.args.from.now.laid.now c.args.at c.in_ok-part.part c.requires.source c.in_ok-part.ensures.ok
 
 pub base_type-returns-then-is_word-clause-begins : goal.base_type-returns-then-is_word-clause-begins
 base_type-returns-then-is_word-clause-begins t c = begins_so c.integer_type.result c.requires.begins c.integer_type.ensures.begins
@@ -57,7 +57,7 @@ base_type-bundle-requires t c = (
       c.requires.room,
       (
         c.requires.begins,
-        into_bundle c.args.text.now c.args.laid.now c.args.at c.in_ok-part.part c.in_ok-part.ensures.ok
+        into_bundle c.args.from.now.text.now c.args.from.now.laid.now c.args.at c.in_ok-part.part c.in_ok-part.ensures.ok
             (λ u. let e = c.is_word.ensures.1 u in let n = c.if-is_word.false in cc) (λ u. let e = c.is_word-2.ensures.1 u in let n = c.if-is_word-2.false in cc)
             (λ u. let e = c.is_word-3.ensures.1 u in let n = c.if-is_word-3.false in cc) (λ u. let e = c.is_word-4.ensures.1 u in let n = c.if-is_word-4.false in cc),
       ),
@@ -69,11 +69,11 @@ pub bundle-returns-in_err-part-clause-read : goal.bundle-returns-in_err-part-cla
 bundle-returns-in_err-part-clause-read t c = let p = err_from_is_err_and c.from_residual.result c.from_residual.ensures.1 in rw (p.1, p.2) (bundle_not_opened c.requires.into c.in_err-part.ensures.taken)
 
 pub bundle-place_of_part-place-requires-clause-inside : goal.bundle-place_of_part-place-requires-clause-inside
-bundle-place_of_part-place-requires-clause-inside t c = source_part c.args.text.now c.args.laid.now c.args.at c.in_ok-part.part c.requires.source c.in_ok-part.ensures.taken.here
+bundle-place_of_part-place-requires-clause-inside t c = source_part c.args.from.now.text.now c.args.from.now.laid.now c.args.at c.in_ok-part.part c.requires.source c.in_ok-part.ensures.taken.here
 
 pub bundle-fields-requires : goal.bundle-fields-requires
 bundle-fields-requires t c =
-    let step = room_step c.args.names.now c.args.laid.now c.args.at c.in_ok-part.part c.in_ok-part.ensures.taken.here in
+    let step = room_step c.args.names.now c.args.from.now.laid.now c.args.at c.in_ok-part.part c.in_ok-part.ensures.taken.here in
     (omega (arith, c.in_ok-part.ensures.few), (c.requires.source, (omega (arith, step, c.requires.room), (bundle_stands c.requires.begins c.requires.into c.in_ok-part.ensures.taken c.in_ok-part.ensures.few, omega (arith, c.in_ok-part.ensures.within)))))
 
 pub bundle-returns-in_err-fields-clause-read : goal.bundle-returns-in_err-fields-clause-read
@@ -95,16 +95,16 @@ field-returns-in_err-flip-clause-read t c = let p = err_from_is_err_and c.from_r
 
 pub field-named_type-requires : goal.field-named_type-requires
 field-named_type-requires t c =
-    let room = field_room c.args.text.now c.args.laid.now c.args.at c.in_ok-flip.named c.args.brackets c.requires.stands c.args.names.now c.in_ok-flip.flip c.in_ok-flip.ensures.ok in
-    (omega arith, (c.requires.source, (omega (arith, room, c.requires.room), field_stands c.args.text.now c.args.laid.now c.args.at c.in_ok-flip.named c.args.brackets c.requires.stands c.in_ok-flip.flip c.in_ok-flip.ensures.ok)))
+    let room = field_room c.args.from.now.text.now c.args.from.now.laid.now c.args.at c.in_ok-flip.named c.args.brackets c.requires.stands c.args.names.now c.in_ok-flip.flip c.in_ok-flip.ensures.ok in
+    (omega arith, (c.requires.source, (omega (arith, room, c.requires.room), field_stands c.args.from.now.text.now c.args.from.now.laid.now c.args.at c.in_ok-flip.named c.args.brackets c.requires.stands c.in_ok-flip.flip c.in_ok-flip.ensures.ok)))
 
 pub field-returns-in_err-name-clause-read : goal.field-returns-in_err-name-clause-read
 field-returns-in_err-name-clause-read t c =
     let p = err_from_is_err_and c.from_residual-in_err-name.result c.from_residual-in_err-name.ensures.1 in
-    rw (p.1, p.2) (field_fails c.args.text.now c.args.laid.now c.args.at c.in_ok-flip.named c.args.brackets c.requires.stands c.in_ok-flip.flip c.in_ok-flip.ensures.ok c.in_err-name.ensures.err)
+    rw (p.1, p.2) (field_fails c.args.from.now.text.now c.args.from.now.laid.now c.args.at c.in_ok-flip.named c.args.brackets c.requires.stands c.in_ok-flip.flip c.in_ok-flip.ensures.ok c.in_err-name.ensures.err)
 
 pub field-returns-clause-read : goal.field-returns-clause-read
-field-returns-clause-read t c = field_read c.args.text.now c.args.laid.now c.args.at c.in_ok-flip.named c.args.brackets c.requires.stands c.in_ok-flip.flip c.in_ok-flip.ensures.ok c.in_ok-name.ensures.ok
+field-returns-clause-read t c = field_read c.args.from.now.text.now c.args.from.now.laid.now c.args.at c.in_ok-flip.named c.args.brackets c.requires.stands c.in_ok-flip.flip c.in_ok-flip.ensures.ok c.in_ok-name.ensures.ok
 
 pub fields-loop-fields-init : goal.fields-loop-fields-init
 fields-loop-fields-init t c = rw c.new-fields.ensures (no_fields c.args.names.now c.requires.stands c.requires.within)
@@ -118,7 +118,7 @@ fields-field-requires t c = (omega arith, (c.requires.source, (omega (arith, c.l
 pub fields-returns-in_err-field-clause-err : goal.fields-returns-in_err-field-clause-err
 fields-returns-in_err-field-clause-err t c =
     let p = err_from_is_err_and c.from_residual-in_err-field.result c.from_residual-in_err-field.ensures.1 in
-    rw (p.1, p.2) (field_refused c.loop-fields.invariant c.in_ok-part_at.ensures.ok (λ u. let e = (c.is_mark.ensures c.args.text.now).1 u in let n = c.if-not-is_mark.true in cc) c.in_err-field.ensures.read)
+    rw (p.1, p.2) (field_refused c.loop-fields.invariant c.in_ok-part_at.ensures.ok (λ u. let e = (c.is_mark.ensures c.args.from.now.text.now).1 u in let n = c.if-not-is_mark.true in cc) c.in_err-field.ensures.read)
 
 pub fields-returns-in_err-push-clause-err : goal.fields-returns-in_err-push-clause-err
 fields-returns-in_err-push-clause-err t c = let p = err_from_is_err_and c.from_residual-in_err-push.result c.from_residual-in_err-push.ensures.1 in rw (p.1, p.2) no_memory
@@ -128,12 +128,12 @@ fields-loop-fields-smaller t c = omega (arith, c.in_ok-field.ensures.further, c.
 
 pub fields-loop-fields-preserved : goal.fields-loop-fields-preserved
 fields-loop-fields-preserved t c = rw c.in_ok-push.ensures.ok
-    (more_fields c.loop-fields.invariant c.in_ok-part_at.ensures.ok (λ u. let e = (c.is_mark.ensures c.args.text.now).1 u in let n = c.if-not-is_mark.true in cc) c.in_ok-field.ensures.read)
+    (more_fields c.loop-fields.invariant c.in_ok-part_at.ensures.ok (λ u. let e = (c.is_mark.ensures c.args.from.now.text.now).1 u in let n = c.if-not-is_mark.true in cc) c.in_ok-field.ensures.read)
 
 pub fields-returns-in_err-take_mark-clause-err : goal.fields-returns-in_err-take_mark-clause-err
 fields-returns-in_err-take_mark-clause-err t c =
     let p = err_from_is_err_and c.from_residual-in_err-take_mark.result c.from_residual-in_err-take_mark.ensures.1 in
-    rw (p.1, p.2) (close_refused c.loop-fields.invariant c.in_ok-part_at.ensures.ok ((c.is_mark.ensures c.args.text.now).0 c.if-not-is_mark.false) c.in_err-take_mark.ensures.taken)
+    rw (p.1, p.2) (close_refused c.loop-fields.invariant c.in_ok-part_at.ensures.ok ((c.is_mark.ensures c.args.from.now.text.now).0 c.if-not-is_mark.false) c.in_err-take_mark.ensures.taken)
 
 pub fields-returns-clause-ok : goal.fields-returns-clause-ok
 fields-returns-clause-ok t c = all_fields c.loop-fields.invariant c.in_ok-take_mark.ensures.taken.here c.in_ok-take_mark.ensures.taken

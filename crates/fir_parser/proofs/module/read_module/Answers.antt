@@ -1,23 +1,27 @@
 use Rattle.std.proofs.lemmas.Result.{err_from_is_err_and}
-use Rattle.fir_parser.proofs.Joins.{joins, first, later, makes, breaks}
+use Rattle.std.proofs.Common.{◌∙◌}
+use Rattle.fir_parser.proofs.Joins.{joins_on, first, later_on, makes_on, breaks}
 use Rattle.fir_grammar.specs.Grammar.{a_module}
 use Rattle.fir_parser.proofs.Entering.{into_module_always}
 use Rattle.fir_parser.proofs.module.read_module.Goals as goal
 
-pub returns-in_err-name-clause-refused : goal.returns-in_err-name-clause-refused
-returns-in_err-name-clause-refused c =
+pub returns-in_err-name : goal.returns-in_err-name
+returns-in_err-name c =
     let p = err_from_is_err_and c.from_residual.result c.from_residual.ensures.1 in
-    rw (p.1, p.2) (breaks a_module (into_module_always c.args.reader.now) (first _ c.in_err-name.ensures.refused))
+    rw (p.1, p.2) (breaks a_module (into_module_always c.args.reader.now) (first _ c.in_err-name.ensures.reads))
 
-pub returns-in_err-take-clause-refused : goal.returns-in_err-take-clause-refused
-returns-in_err-take-clause-refused c =
+pub returns-in_err-take : goal.returns-in_err-take
+returns-in_err-take c =
     let p = err_from_is_err_and c.from_residual-in_err-take.result c.from_residual-in_err-take.ensures.1 in
-    rw (p.1, p.2) (breaks a_module (into_module_always c.args.reader.now) (later c.in_ok-name.ensures.ok (first _ c.in_err-take.ensures.refused)))
+    rw (p.1, p.2) (breaks a_module (into_module_always c.args.reader.now) (later_on c.in_ok-name.ensures.reads (first _ c.in_err-take.ensures.reads)))
 
-pub returns-in_err-inside-clause-refused : goal.returns-in_err-inside-clause-refused
-returns-in_err-inside-clause-refused c =
+pub returns-in_err-inside : goal.returns-in_err-inside
+returns-in_err-inside c =
     let p = err_from_is_err_and c.from_residual-in_err-inside.result c.from_residual-in_err-inside.ensures.1 in
-    rw (p.1, p.2) (breaks a_module (into_module_always c.args.reader.now) (later (joins c.in_ok-name.ensures.ok c.in_ok-take.ensures.ok) c.in_err-inside.ensures.refused))
+    rw (p.1, p.2) (breaks a_module (into_module_always c.args.reader.now) (later_on (joins_on c.in_ok-name.ensures.reads c.in_ok-take.ensures.reads) c.in_err-inside.ensures))
 
-pub returns-clause-ok : goal.returns-clause-ok
-returns-clause-ok c = (makes a_module (into_module_always c.args.reader.now) (joins (joins c.in_ok-name.ensures.ok c.in_ok-take.ensures.ok) c.in_ok-inside.ensures.ok))
+pub returns : goal.returns
+returns c = (makes_on a_module (into_module_always c.args.reader.now) (joins_on (joins_on c.in_ok-name.ensures.reads c.in_ok-take.ensures.reads) c.in_ok-inside.ensures))
+
+pub read_module_body-requires : goal.read_module_body-requires
+read_module_body-requires c = (c.in_ok-take.ensures.reads.at, c.in_ok-take.ensures.reads.blocks ∙ (c.in_ok-name.ensures.reads.blocks ∙ c.requires.1))

@@ -1,8 +1,8 @@
-use Rattle.fir_parser.proofs.Texts.{stands_start}
+use Rattle.fir_parser.proofs.Texts.{stands_first}
 use Rattle.fir_parser.proofs.parser.read_all.Goals as goal
 
-pub read_text-requires-clause-at : goal.read_text-requires-clause-at
-read_text-requires-clause-at c = stands_start _ (rw (c.index_lines.ensures.bytes, c.new-reader.ensures.bytes) c.requires.short)
+pub read_text-requires-clause-inside : goal.read_text-requires-clause-inside
+read_text-requires-clause-inside c = stands_first _ (rw (c.index_lines.ensures.bytes, c.new-reader.ensures.bytes) c.requires.short)
     (rw (c.index_lines.ensures.bytes, c.new-reader.ensures.bytes, c.index_lines.ensures.laid, c.new-reader.ensures.laid) c.requires.laid) (rw c.index_lines.ensures.at c.new-reader.ensures.at) c.in_ok-add_field_names.ensures.ok
     (rw c.index_lines.ensures.brackets c.new-reader.ensures.brackets) (rw (c.index_lines.ensures.laid, c.new-reader.ensures.laid) c.if-laid-ge-MOST_PARTS.false)
 

@@ -3,23 +3,15 @@ use Rattle.fir_grammar.specs.Grammar.{Its_place, The_word}
 use Rattle.fir_parser.proofs.Steps.{refuses, taken_placed, stands_behind, blocks_behind, fresh_word}
 use Rattle.fir_parser.proofs.take.take_placed_word.Goals as goal
 
-pub returns-then-not-meets-clause-refused : goal.returns-then-not-meets-clause-refused
-returns-then-not-meets-clause-refused c = refuses Its_place (The_word c.args.text.now) _ _ c.if-not-meets.ensures c.fault_here.ensures
+pub returns-then-not-meets-clause-reads : goal.returns-then-not-meets-clause-reads
+returns-then-not-meets-clause-reads c = refuses Its_place (The_word c.args.text.now) _ _ c.if-not-meets.ensures c.fault_here.ensures
 
 pub place_here-place-requires-clause-within : goal.place_here-place-requires-clause-within
 place_here-place-requires-clause-within c = let m = c.if-not-meets.ensures in slice_get_within _ _ m.laid m.stands
 
-pub returns-clause-ok : goal.returns-clause-ok
-returns-clause-ok c = let m = c.if-not-meets.ensures in
-    rw (c.place_here-place.ensures m.laid m.stands) (taken_placed c.args.reader.now c.advance.new.reader m.laid (The_word c.args.text.now) c.requires.at tt m.stands m.takes c.advance.ensures)
-
-pub returns-clause-at : goal.returns-clause-at
-returns-clause-at c = let m = c.if-not-meets.ensures in
-    stands_behind c.args.reader.now c.advance.new.reader m.laid (The_word c.args.text.now) c.requires.at tt m.stands m.takes c.advance.ensures
-
-pub returns-clause-blocks : goal.returns-clause-blocks
-returns-clause-blocks c = let m = c.if-not-meets.ensures in
-    blocks_behind c.args.reader.now c.advance.new.reader m.laid (The_word c.args.text.now) c.requires.at tt m.stands m.takes c.advance.ensures
+pub returns-clause-reads : goal.returns-clause-reads
+returns-clause-reads c = let m = c.if-not-meets.ensures in
+    record { taken = rw (c.place_here-place.ensures m.laid m.stands) (taken_placed c.args.reader.now c.advance.new.reader m.laid (The_word c.args.text.now) c.requires.at tt m.stands m.takes c.advance.ensures); at = stands_behind c.args.reader.now c.advance.new.reader m.laid (The_word c.args.text.now) c.requires.at tt m.stands m.takes c.advance.ensures; blocks = blocks_behind c.args.reader.now c.advance.new.reader m.laid (The_word c.args.text.now) c.requires.at tt m.stands m.takes c.advance.ensures }
 
 pub returns-clause-fresh : goal.returns-clause-fresh
 returns-clause-fresh c = let m = c.if-not-meets.ensures in
