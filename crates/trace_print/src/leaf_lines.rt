@@ -28,12 +28,12 @@ pub fn push_lines(
         Shape::Reset => push_width(text, front.as_slice(), "UInt", Some(1)),
         Shape::Clock => Ok(()),
         Shape::Bundle(fields) => {
-            let length = front.len();
+            let before = front.len();
             for field in fields.as_slice() {
                 front.push(b'.')?;
                 push_name(front, names, field.name.id)?;
                 push_lines(text, front, names, &field.typ, false)?;
-                front.truncate(length);
+                front.truncate(before);
             }
             Ok(())
         }

@@ -25,7 +25,7 @@ loop-index-preserved t c =
     record {
       text = elements_more c.args.names.now (leaves c.in-Vector.element) c.loop-index.index c.args.front.now.items c.push-in-loop-index-2.new.self.items c.args.text.now.items
           c.loop-index.text.items c.push_lines-in-loop-index.new.text.items c.loop-index.invariant.text way (rw c.get.ensures at c.in_ok-push_lines-in-Vector.ensures.text);
-      front = cut_back c.args.front.now.items _ c.push-in-loop-index-2.new.self.items c.push_lines-in-loop-index.new.front.items c.truncate-in-loop-index.new.self.items c.len-before.result way
+      front = cut_back c.args.front.now.items _ c.push-in-loop-index-2.new.self.items c.push_lines-in-loop-index.new.front.items c.truncate-in-loop-index.new.self.items c.len-before-in-Vector.result way
           c.in_ok-push_lines-in-Vector.ensures.front (grind (arith, common_steps)) c.truncate-in-loop-index.ensures.items;
     }
 
@@ -36,6 +36,6 @@ loop-field-preserved t c =
     record {
       text = fields_more c.args.names.now c.as_slice-field-items.result.now c.loop-field.field-index c.field-item.result c.args.front.now.items c.push_name.new.text.items c.args.text.now.items
           c.loop-field.text.items c.push_lines.new.text.items c.loop-field-test.true c.field-item.is c.loop-field.invariant.text way c.in_ok-push_lines-in-Bundle.ensures.text;
-      front = cut_back c.args.front.now.items _ c.push_name.new.text.items c.push_lines.new.front.items c.truncate.new.self.items c.len-length.result way c.in_ok-push_lines-in-Bundle.ensures.front
+      front = cut_back c.args.front.now.items _ c.push_name.new.text.items c.push_lines.new.front.items c.truncate.new.self.items c.len-before.result way c.in_ok-push_lines-in-Bundle.ensures.front
           (grind (arith, common_steps)) c.truncate.ensures.items;
     }
