@@ -21,7 +21,8 @@ use Rattle.clap.proofs.CallerLemmas.{required_has_value}
 use Rattle.clap.proofs.FaultLemmas.{free_args}
 use Rattle.clap.proofs.SimpleLemmas.{ready_simple, simple_groups}
 use Rattle.clap.proofs.WalkLemmas.{both}
-use Rattle.command_words.specs.Commands.{cycles_rule, make_command, size_rule, workers_rule}
+use Rattle.command_words.specs.Commands.{app_named, cycles_rule, size_rule, workers_rule}
+use Rattle.command_words.specs.declared.commands.Name.TheVariants.{Make}
 use Rattle.command_words.proofs.Numbers.{own_flag, own_name}
 
 -- the three arguments of three rules
@@ -80,7 +81,7 @@ plain_command old ready leaves free =
     )
 
 -- `make` has its number
-pub size_given : (old : Command) (m : ArgMatches) → IsParsedFrom old m → app_of old ≡ make_command → is_some (one_text (found_of m) (codes "size")) ≡ true
+pub size_given : (old : Command) (m : ArgMatches) → IsParsedFrom old m → app_of old ≡ app_named Make → is_some (one_text (found_of m) (codes "size")) ≡ true
 size_given old m p same =
     let ready : is_ready (app_of old).top ≡ true = ap (λ (a : App). is_ready a.top) same in
     let leaves : list_all is_ready_leaf (app_of old).subs ≡ true = ap (λ (a : App). list_all is_ready_leaf a.subs) same in

@@ -1,23 +1,32 @@
 -- What the words of a command line ask for.
-use Rattle.std.specs.Prelude.{ℕ, ◌≤◌, ⊤, pos, true, List, [], ◌∷◌, Option, Some, None, option_map, unwrap_or, if◌then◌else◌, codes}
+use Rattle.std.specs.Prelude.{◌≡◌, ℕ, ◌≤◌, ⊤, pos, true, false, List, [], ◌∷◌, Option, Some, None, option_map, unwrap_or, if◌then◌else◌, codes}
 use Rattle.std.specs.Str.{bytes_eq}
 use Rattle.std.specs.Str.Parse.{digits_value, without_leading_plus}
 use Rattle.clap.specs.Walk.{is_empty}
-use Rattle.clap.specs.Words.{App, Row, Rule, Text, fault_of, first_of, matches_of, new_app, new_rule, one_of}
+use Rattle.clap.specs.Words.{App, IsParsedFrom, Row, Rule, Text, app_of, fault_of, first_of, matches_of, new_app, new_rule, one_of, rule_of}
 use Rattle.clap.specs.declared.builder.action.ArgAction.TheVariants.{Set}
+use Rattle.clap.specs.declared.builder.arg.Arg.{Arg}
+use Rattle.clap.specs.declared.builder.command.Command.{Command as Clap}
+use Rattle.clap.specs.declared.builder.value_parser.ValueParser.{ValueParser}
 use Rattle.clap.specs.declared.builder.value_parser.ValueParser.TheVariants.{Signed}
+use Rattle.clap.specs.declared.parser.matches.ArgMatches.{ArgMatches}
 use Rattle.command_words.specs.declared.command.Command.{Command}
 use Rattle.command_words.specs.declared.command.Command.TheVariants as command
+use Rattle.command_words.specs.declared.commands.Name.{Name}
+use Rattle.command_words.specs.declared.commands.Name.TheVariants as name
 
 -- The arguments as clap has them. An option is set by its word at most once, and a number lies in its range.
+abbrev pub number_rule : Text → ValueParser → Rule
+number_rule id parser = record (new_rule id) { action = Some Set; parser = Some parser }
+
 abbrev pub workers_rule : Rule
-workers_rule = record (new_rule (codes "workers")) { long = Some (codes "workers"); action = Some Set; parser = Some (Signed (pos 1) (pos 64)) }
+workers_rule = record (number_rule (codes "workers") (Signed (pos 1) (pos 64))) { long = Some (codes "workers") }
 
 abbrev pub cycles_rule : Rule
-cycles_rule = record (new_rule (codes "cycles")) { long = Some (codes "cycles"); action = Some Set; parser = Some (Signed (pos 1) (pos 4096)) }
+cycles_rule = record (number_rule (codes "cycles") (Signed (pos 1) (pos 4096))) { long = Some (codes "cycles") }
 
 abbrev pub size_rule : Rule
-size_rule = record (new_rule (codes "size")) { required = true; action = Some Set; parser = Some (Signed (pos 1) (pos 4096)) }
+size_rule = record (number_rule (codes "size") (Signed (pos 1) (pos 4096))) { required = true }
 
 abbrev pub circuit_rule : Rule
 circuit_rule = new_rule (codes "circuit")
@@ -25,28 +34,28 @@ circuit_rule = new_rule (codes "circuit")
 abbrev pub stimulus_rule : Rule
 stimulus_rule = new_rule (codes "stimulus")
 
+-- the code's argument has this rule, in its own command alone
+abbrev pub Follows : Rule → Arg → Type 0
+Follows rule argument = (rule_of argument ≡ rule) × (argument.global ≡ false)
+
 -- the command of a name, with these arguments and without help and version flags
 abbrev pub command_with : Text → List Rule → App
 command_with name rules = record (new_app name) { top = record (new_app name).top { rules = rules; disable_help_flag = true; disable_version_flag = true } }
 
-abbrev pub run_command : App
-run_command = command_with (codes "run") (workers_rule ∷ circuit_rule ∷ stimulus_rule ∷ [])
-
-abbrev pub check_command : App
-check_command = command_with (codes "check") (circuit_rule ∷ [])
-
-abbrev pub widths_command : App
-widths_command = command_with (codes "widths") (circuit_rule ∷ [])
-
-abbrev pub cut_command : App
-cut_command = command_with (codes "cut") (workers_rule ∷ circuit_rule ∷ [])
-
-abbrev pub make_command : App
-make_command = command_with (codes "make") (workers_rule ∷ cycles_rule ∷ size_rule ∷ [])
+abbrev pub app_named : Name → App
+app_named name.Run = command_with (codes "run") (workers_rule ∷ circuit_rule ∷ stimulus_rule ∷ [])
+app_named name.Check = command_with (codes "check") (circuit_rule ∷ [])
+app_named name.Widths = command_with (codes "widths") (circuit_rule ∷ [])
+app_named name.Cut = command_with (codes "cut") (workers_rule ∷ circuit_rule ∷ [])
+app_named name.Make = command_with (codes "make") (workers_rule ∷ cycles_rule ∷ size_rule ∷ [])
 
 -- clap's matches of a command line, whose first word is the command; none where clap refuses the other words
 abbrev pub matched : App → List Text → Option (List Row)
 matched app words = if is_empty (fault_of app words) then Some (matches_of app words) else None
+
+-- the code's matches are clap's of this command
+abbrev pub AreOf : Name → ArgMatches → Type 0
+AreOf name matches = (command : Clap) × (app_of command ≡ app_named name) × IsParsedFrom command matches
 
 -- What a command line asks for, with names as their bytes.
 pub data Request : Type 0 where
@@ -85,35 +94,32 @@ circuit_in rows = unwrap_or (first_of (codes "circuit") rows) (codes "-")
 abbrev pub stimulus_in : List Row → Option Text
 stimulus_in rows = first_of (codes "stimulus") rows
 
-abbrev pub run_request : List Row → Request
-run_request rows = Run (workers_in rows) (circuit_in rows) (stimulus_in rows)
+abbrev pub request_by : Name → List Row → Request
+request_by name.Run rows = Run (workers_in rows) (circuit_in rows) (stimulus_in rows)
+request_by name.Check rows = Check (circuit_in rows)
+request_by name.Widths rows = Widths (circuit_in rows)
+request_by name.Cut rows = Cut (workers_in rows) (circuit_in rows)
+request_by name.Make rows = Make (workers_in rows) (cycles_in rows) (size_in rows)
 
-abbrev pub check_request : List Row → Request
-check_request rows = Check (circuit_in rows)
-
-abbrev pub widths_request : List Row → Request
-widths_request rows = Widths (circuit_in rows)
-
-abbrev pub cut_request : List Row → Request
-cut_request rows = Cut (workers_in rows) (circuit_in rows)
-
-abbrev pub make_request : List Row → Request
-make_request rows = Make (workers_in rows) (cycles_in rows) (size_in rows)
-
--- the request of a command line whose first word is this name
-abbrev pub request_named : Text → List Text → Option Request
-request_named name words =
-    if bytes_eq name (codes "run") then option_map run_request (matched run_command words)
-    else (if bytes_eq name (codes "check") then option_map check_request (matched check_command words)
-    else (if bytes_eq name (codes "widths") then option_map widths_request (matched widths_command words)
-    else (if bytes_eq name (codes "cut") then option_map cut_request (matched cut_command words)
-    else (if bytes_eq name (codes "make") then option_map make_request (matched make_command words)
+-- the command that a word names
+abbrev pub name_of : Text → Option Name
+name_of word =
+    if bytes_eq word (codes "run") then Some name.Run
+    else (if bytes_eq word (codes "check") then Some name.Check
+    else (if bytes_eq word (codes "widths") then Some name.Widths
+    else (if bytes_eq word (codes "cut") then Some name.Cut
+    else (if bytes_eq word (codes "make") then Some name.Make
     else None))))
+
+-- the request of a command line of this command
+abbrev pub request_named : Option Name → List Text → Option Request
+request_named None words = None
+request_named (Some name) words = option_map (request_by name) (matched (app_named name) words)
 
 -- The request of some words: none where there is no first word, it is no command, or clap refuses the others.
 abbrev pub command_of : List Text → Option Request
 command_of [] = None
-command_of (name ∷ rest) = request_named name (name ∷ rest)
+command_of (name ∷ rest) = request_named (name_of name) (name ∷ rest)
 
 -- the numbers of a request lie in their ranges
 abbrev pub InRange : Request → Type 0

@@ -1,57 +1,51 @@
 //! The arguments that clap reads.
 
-ghost use Rattle.std.specs.Prelude.{◌≡◌, false};
-ghost use Rattle.clap.specs.Words.{rule_of};
-ghost use Rattle.command_words.specs.Commands.{circuit_rule, cycles_rule, size_rule, stimulus_rule, workers_rule};
+ghost use Rattle.command_words.specs.Commands.{Follows, circuit_rule, cycles_rule, number_rule, size_rule, stimulus_rule, workers_rule};
 
+use clap::builder::ValueParser;
 use clap::{Arg, ArgAction, value_parser};
 use std::alloc::Global;
 
 /// `--workers P`.
 pub fn workers<'a>(alloc: Global) -> Arg<'a>
-    ensures rule { rule_of result ≡ workers_rule }
-    ensures local { result.global ≡ false }
+    ensures { Follows workers_rule result }
 {
-    Arg::new(alloc, "workers")
-        .long("workers")
-        .action(ArgAction::Set)
-        .value_parser(value_parser!(u32).range(1..=64))
+    number(alloc, "workers", value_parser!(u32).range(1..=64)).long("workers")
 }
 
 /// `--cycles C`.
 pub fn cycles<'a>(alloc: Global) -> Arg<'a>
-    ensures rule { rule_of result ≡ cycles_rule }
-    ensures local { result.global ≡ false }
+    ensures { Follows cycles_rule result }
 {
-    Arg::new(alloc, "cycles")
-        .long("cycles")
-        .action(ArgAction::Set)
-        .value_parser(value_parser!(u32).range(1..=4096))
+    number(alloc, "cycles", value_parser!(u32).range(1..=4096)).long("cycles")
 }
 
 /// `N`.
 pub fn size<'a>(alloc: Global) -> Arg<'a>
-    ensures rule { rule_of result ≡ size_rule }
-    ensures local { result.global ≡ false }
+    ensures { Follows size_rule result }
 {
-    Arg::new(alloc, "size")
-        .required(true)
+    number(alloc, "size", value_parser!(u32).range(1..=4096)).required(true)
+}
+
+/// A number, which is set at most once.
+fn number<'a>(alloc: Global, id: &'a str, parser: ValueParser<'a>) -> Arg<'a>
+    ensures { Follows (number_rule id.entry.now parser.entry) result }
+{
+    Arg::new(alloc, id)
         .action(ArgAction::Set)
-        .value_parser(value_parser!(u32).range(1..=4096))
+        .value_parser(parser)
 }
 
 /// `CIRCUIT`.
 pub fn circuit<'a>(alloc: Global) -> Arg<'a>
-    ensures rule { rule_of result ≡ circuit_rule }
-    ensures local { result.global ≡ false }
+    ensures { Follows circuit_rule result }
 {
     Arg::new(alloc, "circuit")
 }
 
 /// `STIMULUS`.
 pub fn stimulus<'a>(alloc: Global) -> Arg<'a>
-    ensures rule { rule_of result ≡ stimulus_rule }
-    ensures local { result.global ≡ false }
+    ensures { Follows stimulus_rule result }
 {
     Arg::new(alloc, "stimulus")
 }

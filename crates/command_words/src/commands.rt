@@ -2,56 +2,53 @@
 
 ghost use Rattle.std.specs.Prelude.{◌≡◌, [], IfOk};
 ghost use Rattle.clap.specs.Words.{app_of};
-ghost use Rattle.command_words.specs.Commands.{check_command, command_with, cut_command, make_command, run_command, widths_command};
+ghost use Rattle.command_words.specs.Commands.{app_named, command_with, name_of};
 
 use crate::arguments::{circuit, cycles, size, stimulus, workers};
 use clap::Command;
 use std::alloc::{AllocError, Global};
 
-/// `run [--workers P] [CIRCUIT] [STIMULUS]`.
-pub fn run<'a>(alloc: Global) -> Result<Command<'a>, AllocError>
-    ensures { IfOk result (λ command. app_of command ≡ run_command) }
-{
-    let command = bare(alloc, "run")
-        .arg(workers(alloc))?
-        .arg(circuit(alloc))?
-        .arg(stimulus(alloc))?;
-    Ok(command)
+/// A command's name.
+#[derive(Clone, Copy)]
+pub enum Name {
+    Run,
+    Check,
+    Widths,
+    Cut,
+    Make,
 }
 
-/// `check [CIRCUIT]`.
-pub fn check<'a>(alloc: Global) -> Result<Command<'a>, AllocError>
-    ensures { IfOk result (λ command. app_of command ≡ check_command) }
+/// The command that a word names.
+pub fn name_of(word: &str) -> Option<Name>
+    ensures { result ≡ name_of word.now }
 {
-    let command = bare(alloc, "check").arg(circuit(alloc))?;
-    Ok(command)
+    match word {
+        "run" => Some(Name::Run),
+        "check" => Some(Name::Check),
+        "widths" => Some(Name::Widths),
+        "cut" => Some(Name::Cut),
+        "make" => Some(Name::Make),
+        _ => None,
+    }
 }
 
-/// `widths [CIRCUIT]`.
-pub fn widths<'a>(alloc: Global) -> Result<Command<'a>, AllocError>
-    ensures { IfOk result (λ command. app_of command ≡ widths_command) }
+/// The command of a name, with its arguments.
+pub fn command<'a>(alloc: Global, name: Name) -> Result<Command<'a>, AllocError>
+    ensures { IfOk result (λ command. app_of command ≡ app_named name) }
 {
-    let command = bare(alloc, "widths").arg(circuit(alloc))?;
-    Ok(command)
-}
-
-/// `cut [--workers P] [CIRCUIT]`.
-pub fn cut<'a>(alloc: Global) -> Result<Command<'a>, AllocError>
-    ensures { IfOk result (λ command. app_of command ≡ cut_command) }
-{
-    let command = bare(alloc, "cut").arg(workers(alloc))?.arg(circuit(alloc))?;
-    Ok(command)
-}
-
-/// `make [--workers P] [--cycles C] N`.
-pub fn make<'a>(alloc: Global) -> Result<Command<'a>, AllocError>
-    ensures { IfOk result (λ command. app_of command ≡ make_command) }
-{
-    let command = bare(alloc, "make")
-        .arg(workers(alloc))?
-        .arg(cycles(alloc))?
-        .arg(size(alloc))?;
-    Ok(command)
+    match name {
+        Name::Run => bare(alloc, "run")
+            .arg(workers(alloc))?
+            .arg(circuit(alloc))?
+            .arg(stimulus(alloc)),
+        Name::Check => bare(alloc, "check").arg(circuit(alloc)),
+        Name::Widths => bare(alloc, "widths").arg(circuit(alloc)),
+        Name::Cut => bare(alloc, "cut").arg(workers(alloc))?.arg(circuit(alloc)),
+        Name::Make => bare(alloc, "make")
+            .arg(workers(alloc))?
+            .arg(cycles(alloc))?
+            .arg(size(alloc)),
+    }
 }
 
 /// A command without arguments, and without help and version flags.

@@ -2,13 +2,13 @@
 
 ghost use Rattle.std.specs.Prelude.{◌≡◌};
 ghost use Rattle.std.specs.List.{flat_map};
-ghost use Rattle.reference_flow.specs.Flows.{flow_number, components_of, expr_flows, stmt_flows, arm_flows, module_flows};
-ghost use Rattle.reference_flow.specs.Counting.{passed, suffix_flows};
+ghost use Rattle.reference_flow.specs.Flows.{flow_number, components_of, expr_flows, stmt_flows, module_flows};
+ghost use Rattle.reference_flow.specs.Counting.{passed};
 
 use crate::component::flow_along;
 use crate::declaration::component_named;
 use circuit_parts::Flow;
-use fir_tree::{Arm, Checked, Expr, Form, Module, Stmt, Suffix};
+use fir_tree::{Checked, Expr, Form, Module, Stmt, Suffix};
 use std::ops::ControlFlow;
 
 /// The flow of the reference with this number in text order over all modules (FIRRTL specification 3.0, "Flows"), a reference
@@ -73,7 +73,11 @@ fn pass_statement(
             pass_expr(modules, holder, source, left)
         }
         Stmt::When(arms, other) => {
-            let left = pass_arms(modules, holder, arms.as_slice(), left)?;
+            let mut left = left;
+            for arm in arms.as_slice() {
+                left = pass_expr(modules, holder, &arm.condition, left)?;
+                left = pass_statements(modules, holder, arm.body.as_slice(), left)?;
+            }
             pass_statements(modules, holder, other.as_slice(), left)
         }
         Stmt::Wire(_, _) | Stmt::Mem(_) | Stmt::Inst(_, _) | Stmt::Skip(_) => {
@@ -82,26 +86,6 @@ fn pass_statement(
     }
 }
 
-#[cycle(statements)]
-fn pass_arms(modules: &[Module], holder: &Module, arms: &[Arm], left: u32) -> ControlFlow<Flow, u32>
-    ensures { result ≡ passed (flat_map (λ a. arm_flows a (components_of modules.now holder.now)) arms.now) left }
-{
-    let mut left = left;
-    for arm in arms {
-        left = pass_arm(modules, holder, arm, left)?;
-    }
-    ControlFlow::Continue(left)
-}
-
-#[cycle(statements)]
-fn pass_arm(modules: &[Module], holder: &Module, arm: &Arm, left: u32) -> ControlFlow<Flow, u32>
-    ensures { result ≡ passed (arm_flows arm.now (components_of modules.now holder.now)) left }
-{
-    let left = pass_expr(modules, holder, &arm.condition, left)?;
-    pass_statements(modules, holder, arm.body.as_slice(), left)
-}
-
-#[cycle(expressions)]
 fn pass_expr(modules: &[Module], holder: &Module, expr: &Expr, left: u32) -> ControlFlow<Flow, u32>
     ensures { result ≡ passed (expr_flows expr.now (components_of modules.now holder.now)) left }
 {
@@ -112,58 +96,22 @@ fn pass_expr(modules: &[Module], holder: &Module, expr: &Expr, left: u32) -> Con
                 let start = component_named(modules, holder, name.id);
                 return ControlFlow::Break(flow_along(start, suffixes));
             }
-            pass_suffixes(modules, holder, suffixes, left - 1)
+            let mut left = left - 1;
+            for suffix in suffixes {
+                left = match suffix {
+                    Suffix::Field(_) | Suffix::At(_, _, _) => left,
+                    Suffix::Index(_, index) => pass_expr(modules, holder, index, left)?,
+                };
+            }
+            ControlFlow::Continue(left)
         }
         Form::Literal(_, _, _) => ControlFlow::Continue(left),
         Form::Prim(_, operands, _) | Form::Mux(operands) => {
-            pass_exprs(modules, holder, operands.as_slice(), left)
+            let mut left = left;
+            for operand in operands.as_slice() {
+                left = pass_expr(modules, holder, operand, left)?;
+            }
+            ControlFlow::Continue(left)
         }
-    }
-}
-
-#[cycle(expressions)]
-fn pass_exprs(
-    modules: &[Module],
-    holder: &Module,
-    exprs: &[Expr],
-    left: u32,
-) -> ControlFlow<Flow, u32>
-    ensures { result ≡ passed (flat_map (λ e. expr_flows e (components_of modules.now holder.now)) exprs.now) left }
-{
-    let mut left = left;
-    for expr in exprs {
-        left = pass_expr(modules, holder, expr, left)?;
-    }
-    ControlFlow::Continue(left)
-}
-
-#[cycle(expressions)]
-fn pass_suffixes(
-    modules: &[Module],
-    holder: &Module,
-    suffixes: &[Suffix],
-    left: u32,
-) -> ControlFlow<Flow, u32>
-    ensures { result ≡ passed (flat_map (λ s. suffix_flows s (components_of modules.now holder.now)) suffixes.now) left }
-{
-    let mut left = left;
-    for suffix in suffixes {
-        left = pass_suffix(modules, holder, suffix, left)?;
-    }
-    ControlFlow::Continue(left)
-}
-
-#[cycle(expressions)]
-fn pass_suffix(
-    modules: &[Module],
-    holder: &Module,
-    suffix: &Suffix,
-    left: u32,
-) -> ControlFlow<Flow, u32>
-    ensures { result ≡ passed (suffix_flows suffix.now (components_of modules.now holder.now)) left }
-{
-    match suffix {
-        Suffix::Field(_) | Suffix::At(_, _, _) => ControlFlow::Continue(left),
-        Suffix::Index(_, index) => pass_expr(modules, holder, index, left),
     }
 }

@@ -1,10 +1,10 @@
 //! The declarations of a circuit in text order.
 
 ghost use Rattle.std.specs.Prelude.{◌≡◌, ◌++◌, ◌∷◌, [], flat_map, IfOk, OnOk};
-ghost use Rattle.trace_print.specs.Components.{components_of, module_declared, stmt_declared, arm_declared};
+ghost use Rattle.trace_print.specs.Components.{components_of, module_declared, stmt_declared};
 
 use crate::component::Component;
-use fir_tree::{Arm, Checked, Module, Stmt};
+use fir_tree::{Checked, Module, Stmt};
 use fir_types::{Name, Port};
 use std::alloc::{AllocError, Global};
 
@@ -76,24 +76,11 @@ fn push_statement(
         Stmt::Mem(memory) => push(all, holder, memory.name, reached),
         Stmt::Inst(name, _) => push(all, holder, *name, false),
         Stmt::When(arms, other) => {
-            push_arms(all, holder, reached, arms.as_slice())?;
+            for arm in arms.as_slice() {
+                push_statements(all, holder, reached, arm.body.as_slice())?;
+            }
             push_statements(all, holder, reached, other.as_slice())
         }
         Stmt::Connect(_, _) | Stmt::Invalidate(_) | Stmt::Skip(_) => Ok(()),
     }
-}
-
-#[cycle(walk)]
-fn push_arms(
-    all: &mut Vec<Component>,
-    holder: Name,
-    reached: bool,
-    arms: &[Arm],
-) -> Result<(), AllocError>
-    ensures { OnOk result (all.new.items ≡ all.old.items ++ flat_map (λ arm. arm_declared arm holder reached) arms.now) }
-{
-    for arm in arms {
-        push_statements(all, holder, reached, arm.body.as_slice())?;
-    }
-    Ok(())
 }

@@ -1,39 +1,23 @@
 //! The lines of a type's leaves.
 
 ghost use Rattle.std.specs.Prelude.{◌≡◌, ◌++◌, flat_map, OnOk};
-ghost use Rattle.fir_types.specs.Leaves.{leaves, field_leaves, elements};
+ghost use Rattle.fir_types.specs.Leaves.{leaves};
 ghost use Rattle.trace_print.specs.Listing.{leaf_line, width_line};
 
 use fir_tree::Names;
-use fir_types::{Field, FirType, Shape, leaf_count};
+use fir_types::{FirType, Shape, leaf_count};
 use itoa::Buffer;
 use leaf_names::push_name;
 use std::alloc::AllocError;
 
-/// Adds the lines of the leaves of a type, which all begin with this front. Of vectors in one another the leaves are counted once.
-#[cycle(push)]
+/// Adds the lines of the leaves of a type, which all begin with this front. Of vectors in one another the leaves are counted once:
+/// those of an element are `counted` with its vector's.
 pub fn push_lines(
     text: &mut Vec<u8>,
     front: &mut Vec<u8>,
     names: &Names,
     typ: &FirType,
-) -> Result<(), AllocError>
-    ensures text { OnOk result (text.new.items ≡ text.old.items ++ flat_map (leaf_line names.now front.old.items) (leaves typ.now)) }
-    ensures front { OnOk result (front.new.items ≡ front.old.items) }
-{
-    if matches!(&typ.shape, Shape::Vector(_, _)) && leaf_count(typ) == 0 {
-        return Ok(());
-    }
-    push_counted(text, front, names, typ)
-}
-
-/// The same of a type that isn't a vector without leaves.
-#[cycle(push)]
-fn push_counted(
-    text: &mut Vec<u8>,
-    front: &mut Vec<u8>,
-    names: &Names,
-    typ: &FirType,
+    counted: bool,
 ) -> Result<(), AllocError>
     ensures text { OnOk result (text.new.items ≡ text.old.items ++ flat_map (leaf_line names.now front.old.items) (leaves typ.now)) }
     ensures front { OnOk result (front.new.items ≡ front.old.items) }
@@ -43,9 +27,30 @@ fn push_counted(
         Shape::Signed(width) => push_width(text, front.as_slice(), "SInt", *width),
         Shape::Reset => push_width(text, front.as_slice(), "UInt", Some(1)),
         Shape::Clock => Ok(()),
-        Shape::Bundle(fields) => push_field_lines(text, front, names, fields.as_slice()),
-        Shape::Vector(element, length) => {
-            push_element_lines(text, front, names, element.get(), *length)
+        Shape::Bundle(fields) => {
+            let before = front.len();
+            for field in fields.as_slice() {
+                front.push(b'.')?;
+                push_name(front, names, field.name.id)?;
+                push_lines(text, front, names, &field.typ, false)?;
+                front.truncate(before);
+            }
+            Ok(())
+        }
+        Shape::Vector(element, count) => {
+            if !counted && leaf_count(typ) == 0 {
+                return Ok(());
+            }
+            let before = front.len();
+            for index in 0..*count {
+                let mut digits = Buffer::new();
+                front.push(b'[')?;
+                front.extend_from_slice(digits.format(index).as_bytes())?;
+                front.push(b']')?;
+                push_lines(text, front, names, element.get(), true)?;
+                front.truncate(before);
+            }
+            Ok(())
         }
     }
 }
@@ -67,49 +72,6 @@ fn push_width(
         text.push(b' ')?;
         text.extend_from_slice(digits.format(width).as_bytes())?;
         text.push(b'\n')?;
-    }
-    Ok(())
-}
-
-#[cycle(push)]
-fn push_field_lines(
-    text: &mut Vec<u8>,
-    front: &mut Vec<u8>,
-    names: &Names,
-    fields: &[Field],
-) -> Result<(), AllocError>
-    ensures text { OnOk result (text.new.items ≡ text.old.items ++ flat_map (leaf_line names.now front.old.items) (flat_map field_leaves fields.now)) }
-    ensures front { OnOk result (front.new.items ≡ front.old.items) }
-{
-    let length = front.len();
-    for field in fields {
-        front.push(b'.')?;
-        push_name(front, names, field.name.id)?;
-        push_lines(text, front, names, &field.typ)?;
-        front.truncate(length);
-    }
-    Ok(())
-}
-
-#[cycle(push)]
-fn push_element_lines(
-    text: &mut Vec<u8>,
-    front: &mut Vec<u8>,
-    names: &Names,
-    element: &FirType,
-    count: u128,
-) -> Result<(), AllocError>
-    ensures text { OnOk result (text.new.items ≡ text.old.items ++ flat_map (leaf_line names.now front.old.items) (elements (leaves element.now) count)) }
-    ensures front { OnOk result (front.new.items ≡ front.old.items) }
-{
-    let before = front.len();
-    for index in 0..count {
-        let mut digits = Buffer::new();
-        front.push(b'[')?;
-        front.extend_from_slice(digits.format(index).as_bytes())?;
-        front.push(b']')?;
-        push_counted(text, front, names, element)?;
-        front.truncate(before);
     }
     Ok(())
 }
