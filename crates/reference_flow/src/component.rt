@@ -16,6 +16,22 @@ use circuit_parts::steps::through;
 use fir_tree::Suffix;
 use fir_types::{FirType, MemLine, Memory, Port, PortMode, Shape, field_of};
 
+// The numbers that the names of a port's fields have in every circuit. Those of `addr`, `en` and `clk` are the first.
+
+const CLK: u32 = 2;
+
+const DATA: u32 = 3;
+
+const MASK: u32 = 4;
+
+const RDATA: u32 = 5;
+
+const WMODE: u32 = 6;
+
+const WDATA: u32 = 7;
+
+const WMASK: u32 = 8;
+
 /// A part of a component, whose type is lent.
 #[derive(Clone, Copy)]
 pub struct PartRef<'a> {
@@ -153,12 +169,11 @@ fn field_of_memory<'a>(memory: &'a Memory, id: u32) -> Reached<'a>
     Reached::Memory(memory)
 }
 
-/// A field of a port of a memory. What has no such field stays. In every circuit the names of a port's fields have the numbers
-/// from 0 to 8: `addr`, `en`, `clk`, `data`, `mask`, `rdata`, `wmode`, `wdata`, `wmask`.
+/// A field of a port of a memory. What has no such field stays.
 fn field_of_port<'a>(memory: &'a Memory, mode: PortMode, id: u32) -> Reached<'a>
     ensures { (place : APlace) → Means result (field_part id (port_part memory.now mode place)) }
 {
-    if id <= 2 {
+    if id <= CLK {
         return Reached::Plain(Flow::Sink);
     }
     match mode {
@@ -168,37 +183,34 @@ fn field_of_port<'a>(memory: &'a Memory, mode: PortMode, id: u32) -> Reached<'a>
     }
 }
 
-/// The field `data` of a reader.
 fn field_of_reader<'a>(memory: &'a Memory, id: u32) -> Reached<'a>
     requires { 2 < id }
     ensures { (place : APlace) → Means result (field_part id (port_part memory.now A_reader place)) }
 {
     match id {
-        3 => stored(memory, Flow::Source),
+        DATA => stored(memory, Flow::Source),
         _ => Reached::MemoryPort(memory, PortMode::Reader),
     }
 }
 
-/// The fields `data` and `mask` of a writer.
 fn field_of_writer<'a>(memory: &'a Memory, id: u32) -> Reached<'a>
     requires { 2 < id }
     ensures { (place : APlace) → Means result (field_part id (port_part memory.now A_writer place)) }
 {
     match id {
-        3 | 4 => stored(memory, Flow::Sink),
+        DATA | MASK => stored(memory, Flow::Sink),
         _ => Reached::MemoryPort(memory, PortMode::Writer),
     }
 }
 
-/// The fields `rdata`, `wmode`, `wdata` and `wmask` of a port that reads or writes.
 fn field_of_read_writer<'a>(memory: &'a Memory, id: u32) -> Reached<'a>
     requires { 2 < id }
     ensures { (place : APlace) → Means result (field_part id (port_part memory.now A_read_writer place)) }
 {
     match id {
-        5 => stored(memory, Flow::Source),
-        6 => Reached::Plain(Flow::Sink),
-        7 | 8 => stored(memory, Flow::Sink),
+        RDATA => stored(memory, Flow::Source),
+        WMODE => Reached::Plain(Flow::Sink),
+        WDATA | WMASK => stored(memory, Flow::Sink),
         _ => Reached::MemoryPort(memory, PortMode::ReadWriter),
     }
 }
