@@ -80,6 +80,11 @@ def connects_of_parts(size):
     return FRONT + module([f"input i : {part}", f"output o : {part}"] + ["connect o.a, i.a"] * size, "N") + module(["skip"])
 
 
+def connects_of_choices(size):
+    inner = ["input c : UInt<1>"] + [f"input {name} : {fields(size)}" for name in "ij"] + [f"output o : {fields(size)}"]
+    return FRONT + module(inner + ["connect o, mux(c, i, j)"] * size, "N") + module(["skip"])
+
+
 def unreached_connects(size):
     inner = [f"input i : {fields(size)}", f"output o : {fields(size)}"] + ["connect o, i"] * size
     return FRONT + module(inner, "N") + module(["skip"])
@@ -188,6 +193,7 @@ def wide_instances(size):
 # Texts whose time grows with the square still.
 SQUARE = {
     "n connects of parts of n fields that main doesn't reach": (connects_of_parts, 1_500, ACCEPTED),
+    "n connects of choices of n fields that main doesn't reach": (connects_of_choices, 1_000, ACCEPTED),
     "2 n references to the last of a part's n fields that main doesn't reach": (unreached_last_of_part, 1_000, ACCEPTED),
 }
 
