@@ -20,6 +20,7 @@ use Rattle.fir_types.specs.declared.memory.Memory.{Memory}
 use Rattle.fir_types.specs.declared.port.Port.{Port}
 use Rattle.fir_types.specs.declared.name.Name.{Name}
 use Rattle.fir_types.specs.Leaves.{leaves}
+pub use Rattle.fir_types.specs.Leaves.{is_clock, is_clock_shape}
 use Rattle.fir_types.specs.Memories.{depth_of}
 use Rattle.fir_types.specs.Bundles.{nowhere, instance_of, port_field}
 use Rattle.fir_tree.specs.declared.circuit.Module.{Module}
@@ -236,24 +237,12 @@ width_of_shape Shape-F.Reset = 1
 width_of_shape (Shape-F.Bundle fields) = 0
 width_of_shape (Shape-F.Vector element length) = 0
 
--- whether a type is a Clock
-abbrev pub is_clock_shape : Shape-F Shape Field FirType → Bool
-is_clock_shape (Shape-F.Unsigned width) = false
-is_clock_shape (Shape-F.Signed width) = false
-is_clock_shape Shape-F.Clock = true
-is_clock_shape Shape-F.Reset = false
-is_clock_shape (Shape-F.Bundle fields) = false
-is_clock_shape (Shape-F.Vector element length) = false
-
--- The kind of a leaf, its width, and whether it is a Clock.
+-- The kind of a leaf, and its width.
 abbrev pub kind_of_leaf : TypeLeaf → Kind
 kind_of_leaf leaf = kind_of_shape (out-Shape leaf.typ.shape)
 
 abbrev pub width_of_leaf : TypeLeaf → ℕ
 width_of_leaf leaf = width_of_shape (out-Shape leaf.typ.shape)
-
-abbrev pub is_clock : TypeLeaf → Bool
-is_clock leaf = is_clock_shape (out-Shape leaf.typ.shape)
 
 -- A leaf of a module.
 pub record Leaf : Type 0 where

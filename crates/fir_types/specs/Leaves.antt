@@ -4,6 +4,7 @@ use Rattle.place_text.specs.declared.place.Place.{Place}
 use Rattle.fir_types.specs.declared.fir_type.FirType.{FirType, fold-FirType}
 use Rattle.fir_types.specs.declared.fir_type.Shape.{Shape, fold-Shape}
 use Rattle.fir_types.specs.declared.fir_type.Shape.TheOpen.{Shape-F, Field-F, FirType-F}
+use Rattle.fir_types.specs.declared.fir_type.Shape.TheViews.{out-Shape}
 use Rattle.fir_types.specs.declared.fir_type.Shape.TheVariants as shape
 use Rattle.fir_types.specs.declared.fir_type.Field.{Field, fold-Field}
 use Rattle.fir_types.specs.declared.leaf.TypeLeaf.{TypeLeaf}
@@ -69,13 +70,18 @@ field_count = fold-Field ℕ ℕ ℕ count_of_shape (λ f. f.typ) (λ t. t.shape
 abbrev pub shape_count : Shape → ℕ
 shape_count = fold-Shape ℕ ℕ ℕ count_of_shape (λ f. f.typ) (λ t. t.shape)
 
-abbrev pub is_clock_shape : Shape → Bool
-is_clock_shape shape.Clock = true
-is_clock_shape _ = false
+-- whether a type is a Clock
+abbrev pub is_clock_shape : Shape-F Shape Field FirType → Bool
+is_clock_shape (Shape-F.Unsigned width) = false
+is_clock_shape (Shape-F.Signed width) = false
+is_clock_shape Shape-F.Clock = true
+is_clock_shape Shape-F.Reset = false
+is_clock_shape (Shape-F.Bundle fields) = false
+is_clock_shape (Shape-F.Vector element length) = false
 
--- whether a leaf is a clock
+-- whether a leaf is a Clock
 abbrev pub is_clock : TypeLeaf → Bool
-is_clock leaf = is_clock_shape leaf.typ.shape
+is_clock leaf = is_clock_shape (out-Shape leaf.typ.shape)
 
 -- where a leaf stands, and whether it is turned round
 abbrev pub way_of : TypeLeaf → List PathStep × Bool
