@@ -7,11 +7,8 @@ use Rattle.fir_types.specs.declared.fir_type.FirType.{FirType}
 use Rattle.fir_types.specs.declared.leaf.TypeLeaf.{TypeLeaf}
 use Rattle.fir_types.specs.declared.leaf.PathStep.{PathStep}
 use Rattle.fir_types.specs.declared.leaf.PathStep.TheVariants as step
-use Rattle.fir_types.specs.declared.fir_type.Shape.TheVariants.{outs-Unsigned, outs-Signed, outs-Clock, outs-Reset, outs-Bundle, outs-Vector}
-use Rattle.fir_types.specs.declared.fir_type.Shape.TheViews.{out-Shape}
-use Rattle.fir_types.specs.Leaves.{leaves, is_clock, is_clock_shape}
+use Rattle.fir_types.specs.Leaves.{leaves, is_clock}
 use Rattle.fir_types.proofs.Layers.{leaves-bundle}
-use Rattle.circuit_parts.proofs.Shapes.{ShapeCase, shape_uint, shape_sint, shape_clock, shape_reset, shape_bundle, shape_vector, case_of}
 use Rattle.std.proofs.lemmas.Bool.{eqb-true}
 use Rattle.fir_tree.specs.declared.scope.Fitted.{Fitted}
 use Rattle.fir_names.specs.Scopes.{In, here, there}
@@ -19,8 +16,7 @@ use Rattle.circuit_laws.specs.WellFormed.{IsWellFormed}
 use Rattle.circuit_laws.specs.Designs.{component_of}
 use Rattle.fir_tree.specs.declared.circuit.Module.{Module}
 use Rattle.fir_tree.specs.declared.expr.Expr.{Expr}
-use Rattle.fir_meaning.specs.Components as components
-use Rattle.fir_meaning.specs.Components.{Design, TypedModule, Component, modules_of, component_named, type_in, type_or_empty, FlatLeaf, Leaf, Declaration, Sort, An_input, An_output, A_wire, A_register, A_reset_register, A_memory, An_instance, A_node, declarations_of, flow_of, flat}
+use Rattle.fir_meaning.specs.Components.{Design, TypedModule, Component, modules_of, module_at, component_named, type_in, type_or_empty, FlatLeaf, Leaf, Declaration, Sort, An_input, An_output, A_wire, A_register, A_reset_register, A_memory, An_instance, A_node, declarations_of, flow_of, flat}
 use Rattle.fir_meaning.specs.Drives.{same_leaf, same_way, same_step}
 use Rattle.fir_meaning.specs.Mentions.{Scope}
 use Rattle.fir_meaning.specs.States.{is_source}
@@ -215,24 +211,11 @@ link_at design x y (clock.by_connect path m c leaf source stands is flow driver)
 link_at design x y (clock.by_node path m c leaf e k source stands is sort at named) =
     record { path = path; m = m; sink = _; source = source; reached = stands.reached; gets = by_node c leaf e k source stands.declared stands.listed is sort at named; from = refl; to = refl }
 
-pub at_link : (design : Design) (path : List ℕ) (m : TypedModule) (x y : Leaf) → components.module_at design path ≡ Some m → Gets m x y → ClockFrom design (flat m path x) (flat m path y)
+pub at_link : (design : Design) (path : List ℕ) (m : TypedModule) (x y : Leaf) → module_at design path ≡ Some m → Gets m x y → ClockFrom design (flat m path x) (flat m path y)
 at_link design path m x y reached (by_connect c leaf source declared listed is flow driver) =
     clock.by_connect path m c leaf source (record { reached = reached; declared = declared; listed = listed }) is flow driver
 at_link design path m x y reached (by_node c leaf e k source declared listed is sort at named) =
     clock.by_node path m c leaf e k source (record { reached = reached; declared = declared; listed = listed }) is sort at named
-
--- Both tests for Clock leaves are one.
-
-clock_same : (leaf : TypeLeaf) → is_clock leaf ≡ components.is_clock leaf
-clock_same leaf = by (case_of leaf.typ.shape)
-  where
-    by : ShapeCase leaf.typ.shape → is_clock leaf ≡ components.is_clock leaf
-    by (shape_uint w is) = ap is_clock_shape is ∙ sym (ap (λ s. components.is_clock_shape (out-Shape s)) is ∙ ap components.is_clock_shape (outs-Unsigned w))
-    by (shape_sint w is) = ap is_clock_shape is ∙ sym (ap (λ s. components.is_clock_shape (out-Shape s)) is ∙ ap components.is_clock_shape (outs-Signed w))
-    by (shape_clock is) = ap is_clock_shape is ∙ sym (ap (λ s. components.is_clock_shape (out-Shape s)) is ∙ ap components.is_clock_shape outs-Clock)
-    by (shape_reset is) = ap is_clock_shape is ∙ sym (ap (λ s. components.is_clock_shape (out-Shape s)) is ∙ ap components.is_clock_shape outs-Reset)
-    by (shape_bundle fs is) = ap is_clock_shape is ∙ sym (ap (λ s. components.is_clock_shape (out-Shape s)) is ∙ ap components.is_clock_shape (outs-Bundle fs))
-    by (shape_vector t n is) = ap is_clock_shape is ∙ sym (ap (λ s. components.is_clock_shape (out-Shape s)) is ∙ ap components.is_clock_shape (outs-Vector t n))
 
 -- Edges of a module are the links of its chains.
 
@@ -278,12 +261,12 @@ has_gets : (m : TypedModule) (d : Declaration) (e : Edge) (c : Component) → co
     → Gets m e.0 e.1
 has_gets m d e c named same typ (driven leaf l clock source is at) =
     subst (λ x. Gets m x e.1) (sym (at ∙ ap (λ (y : Declaration). part_of y.name leaf) (sym same)))
-    (by_connect c leaf e.1 named (subst (λ t. Contains (leaves t) leaf) typ l) (sym (clock_same leaf) ∙ clock)
+    (by_connect c leaf e.1 named (subst (λ t. Contains (leaves t) leaf) typ l) clock
     (ap (λ (y : Declaration). is_source (flow_of y.sort leaf.flip)) same ∙ source)
     (ap (λ (y : Declaration). driver_in (type_in m) (part_of y.name leaf) y.block) same ∙ is))
 has_gets m d e c named same typ (node expr k leaf s g h clock at) =
     subst (λ x. Gets m x e.1) (sym (at ∙ ap (λ (y : Declaration). part_of y.name leaf) (sym same)))
-    (by_node c leaf expr k e.1 named (subst (λ t. Contains (leaves t) leaf) typ (get_contains (leaves (type_in m d.name)) k leaf g)) (sym (clock_same leaf) ∙ clock)
+    (by_node c leaf expr k e.1 named (subst (λ t. Contains (leaves t) leaf) typ (get_contains (leaves (type_in m d.name)) k leaf g)) clock
     (ap (λ (y : Declaration). y.sort) same ∙ s) (ap (λ t. slice_get (leaves t) k) (sym typ) ∙ g) h)
 
 leaf_in : (types : Scope) (d : Declaration) (e : Edge) → Has types d e → (leaf : TypeLeaf) × Contains (leaves (types d.name)) leaf
@@ -308,12 +291,12 @@ gets_edge m holder ts is x y (by_connect c leaf source named l clock flow driver
     let typ : type_in m c.declaration.name ≡ c.typ = ap type_or_empty named in
     let d : Declaration = c.declaration in
     declared_edge (type_in m) holder (part_of d.name leaf, source) d (declared_at m holder ts is c named)
-    (has_edge (type_in m) d (part_of d.name leaf, source) (driven leaf (subst (λ t. Contains (leaves t) leaf) (sym typ) l) (clock_same leaf ∙ clock) flow driver refl))
+    (has_edge (type_in m) d (part_of d.name leaf, source) (driven leaf (subst (λ t. Contains (leaves t) leaf) (sym typ) l) clock flow driver refl))
 gets_edge m holder ts is x y (by_node c leaf e k source named l clock sort at given) =
     let typ : type_in m c.declaration.name ≡ c.typ = ap type_or_empty named in
     let d : Declaration = c.declaration in
     declared_edge (type_in m) holder (part_of d.name leaf, source) d (declared_at m holder ts is c named)
-    (has_edge (type_in m) d (part_of d.name leaf, source) (node e k leaf sort (ap (λ t. slice_get (leaves t) k) typ ∙ at) given (clock_same leaf ∙ clock) refl))
+    (has_edge (type_in m) d (part_of d.name leaf, source) (node e k leaf sort (ap (λ t. slice_get (leaves t) k) typ ∙ at) given clock refl))
 
 in_at : {A : Type 0} (xs : List A) (k : ℕ) (x : A) → slice_get xs k ≡ Some x → In x xs
 in_at [] k x e = absurd (none_some e)

@@ -25,12 +25,10 @@ use Rattle.fir_types.specs.Passivity.{has_flip}
 use Rattle.fir_types.specs.Equivalence.{Equivalent, IsUnsigned, IsSigned, SameFields, unsigned, signed, clocks, vectors, bundles, no_fields, same_field, a_uint, a_reset, a_sint}
 use Rattle.fir_types.proofs.Layers.{leaves-bundle, leaves-vector, leaves-field, flip-bundle}
 use Rattle.fir_types.proofs.Masks.{masked}
-use Rattle.circuit_parts.proofs.Shapes.{ShapeCase, shape_uint, shape_sint, shape_clock, shape_reset, shape_bundle, shape_vector, case_of}
 use Rattle.type_check.specs.declared.fault.TypeFault.TheVariants.{MemoryField, OperandKind, NotPassive}
 use Rattle.type_check.specs.Parts.{when}
 use Rattle.type_check.specs.Texts.{has_clock, stored_faults, twice_in, is_passive}
 use Rattle.type_check.specs.Memories.{memory_faults, line_faults, again_behind, is_said, is_port}
-use Rattle.fir_meaning.specs.Components as meaning
 use Rattle.fir_meaning.specs.MemoryPorts.{MemoryPort, memory_ports, port_named, port_in}
 use Rattle.fir_names.specs.Scopes.{In}
 use Rattle.fir_names.proofs.Graphs.{In-either, In-one}
@@ -43,18 +41,6 @@ use Rattle.fitted_laws.proofs.Expressions.{unless_true}
 pub every_in : (P : TypeLeaf → Type 0) (ls : List TypeLeaf) → Every TypeLeaf P ls → (l : TypeLeaf) → In l ls → P l
 every_in P [] h l i = elim i [ ]
 every_in P (x ∷ ls) h l i = ⊎_elim (λ a. subst P (sym (In-one a)) h.0) (λ b. every_in P ls h.1 l b) (In-either (x ∷ []) ls i)
-
--- Clocks by the meaning of circuits
-
-same_clock : (l : TypeLeaf) → meaning.is_clock l ≡ is_clock l
-same_clock l = by (case_of l.typ.shape) where
-  by : ShapeCase l.typ.shape → meaning.is_clock l ≡ is_clock l
-  by (shape_uint w e) = grind (arith, common_steps, the_lemmas)
-  by (shape_sint w e) = grind (arith, common_steps, the_lemmas)
-  by (shape_clock e) = grind (arith, common_steps, the_lemmas)
-  by (shape_reset e) = grind (arith, common_steps, the_lemmas)
-  by (shape_bundle fs e) = grind (arith, common_steps, the_lemmas)
-  by (shape_vector o n e) = grind (arith, common_steps, the_lemmas)
 
 -- Equivalent types have their Clocks at the same leaves
 
@@ -117,8 +103,8 @@ no_clocks (l ∷ ls) (m ∷ ms) e h =
     let rest : map is_clock ls ≡ map is_clock ms = cc in
     (sym own ∙ h.0, no_clocks ls ms rest h.1)
 
-pub unclocked : {t r : FirType} → Equivalent t r → has_clock t ≡ false → (l : TypeLeaf) → In l (leaves r) → meaning.is_clock l ≡ false
-unclocked {t} {r} q e l i = same_clock l ∙ every_in NoClock (leaves r) (no_clocks (leaves t) (leaves r) (same_clocks q) (none_any (leaves t) e)) l i
+pub unclocked : {t r : FirType} → Equivalent t r → has_clock t ≡ false → (l : TypeLeaf) → In l (leaves r) → is_clock l ≡ false
+unclocked {t} {r} q e l i = every_in NoClock (leaves r) (no_clocks (leaves t) (leaves r) (same_clocks q) (none_any (leaves t) e)) l i
 
 -- What a memory shows is no Clock
 
@@ -270,13 +256,13 @@ quiet_ways (l ∷ ls) (m ∷ ms) e c h =
     (λ f. sym own ∙ h.0 (flips ∙ f), quiet_ways ls ms ways rest h.1)
 
 pub read_silent : (memory : Memory) (typ : FirType) → memory_faults memory ≡ [] → Equivalent (memory_of memory) typ → map way_of (leaves (memory_of memory)) ≡ map way_of (leaves typ)
-    → (l : TypeLeaf) → In l (leaves typ) → l.flip ≡ false → meaning.is_clock l ≡ false
+    → (l : TypeLeaf) → In l (leaves typ) → l.flip ≡ false → is_clock l ≡ false
 read_silent memory typ e q ways l i f =
     let silent : has_clock (element_of memory) ≡ false = element_silent _ memory.lines empty_silent (left_empty (flat_map line_faults memory.lines) _ e) in
     let fields : List Field = filter_map (port_field (element_of memory) (depth_of memory)) memory.lines in
     let quiet : Every TypeLeaf Quiet (leaves (memory_of memory)) = subst (Every TypeLeaf Quiet) (sym (leaves-bundle (memory_of memory) fields refl))
     (ports_quiet (element_of memory) (depth_of memory) memory.lines (none_any (leaves (element_of memory)) silent)) in
-    same_clock l ∙ every_in Quiet (leaves typ) (quiet_ways (leaves (memory_of memory)) (leaves typ) ways (same_clocks q) quiet) l i f
+    every_in Quiet (leaves typ) (quiet_ways (leaves (memory_of memory)) (leaves typ) ways (same_clocks q) quiet) l i f
 
 -- The names of a memory's ports
 

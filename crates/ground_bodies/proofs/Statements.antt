@@ -6,17 +6,14 @@ use Rattle.place_text.specs.declared.place.Place.{Place as TextPlace}
 use Rattle.bit_words.specs.Values.{integer_of}
 use Rattle.fir_types.specs.declared.name.Name.{Name}
 use Rattle.fir_types.specs.declared.fir_type.FirType.{FirType}
-use Rattle.fir_types.specs.declared.fir_type.Shape.TheVariants.{outs-Unsigned, outs-Signed, outs-Clock, outs-Reset, outs-Bundle, outs-Vector}
-use Rattle.fir_types.specs.declared.fir_type.Shape.TheViews.{out-Shape}
 use Rattle.fir_types.specs.declared.leaf.TypeLeaf.{TypeLeaf}
 use Rattle.fir_types.specs.declared.memory.Memory.{Memory}
-use Rattle.fir_types.specs.Leaves as typing
 use Rattle.fir_types.specs.Leaves.{leaves}
 use Rattle.fir_tree.specs.declared.circuit.Module.{Module}
 use Rattle.fir_tree.specs.declared.expr.Expr.{Expr}
 use Rattle.fir_tree.specs.declared.stmt.Stmt.{Stmt}
 use Rattle.fir_tree.specs.declared.stmt.Stmt.TheVariants as stmt
-use Rattle.fir_meaning.specs.Components.{TypedModule, Component, Leaf, A_wire, A_register, A_reset_register, A_memory, An_instance, A_node, flow_of, is_clock, is_clock_shape, type_in}
+use Rattle.fir_meaning.specs.Components.{TypedModule, Component, Leaf, A_wire, A_register, A_reset_register, A_memory, An_instance, A_node, flow_of, is_clock, type_in}
 use Rattle.fir_meaning.specs.Values as tree
 use Rattle.fir_meaning.specs.Values.{Scene}
 use Rattle.fir_meaning.specs.Mentions as tree_reads
@@ -26,7 +23,6 @@ use Rattle.fir_meaning.specs.Certain.{surely_names}
 use Rattle.fir_meaning.specs.Loops.{driven_from}
 use Rattle.fir_meaning.specs.States.{is_source, leaf_of}
 use Rattle.fir_meaning.specs.WellTyped.{HasTypes, typed, leaf_shape}
-use Rattle.circuit_parts.proofs.Shapes.{ShapeCase, shape_uint, shape_sint, shape_clock, shape_reset, shape_bundle, shape_vector, case_of}
 use Rattle.circuit_laws.specs.Open as open_text
 use Rattle.circuit_laws.specs.Open.{Opened, opened}
 use Rattle.circuit_laws.specs.OpenReads as open_reads
@@ -254,17 +250,6 @@ is_skip entries settable s place before e =
 
 -- Nodes
 
-same_clock : (leaf : TypeLeaf) → typing.is_clock leaf ≡ is_clock leaf
-same_clock leaf = by (case_of leaf.typ.shape)
-  where
-    by : ShapeCase leaf.typ.shape → typing.is_clock leaf ≡ is_clock leaf
-    by (shape_uint w is) = ap typing.is_clock_shape is ∙ sym (ap (λ s. is_clock_shape (out-Shape s)) is ∙ ap is_clock_shape (outs-Unsigned w))
-    by (shape_sint w is) = ap typing.is_clock_shape is ∙ sym (ap (λ s. is_clock_shape (out-Shape s)) is ∙ ap is_clock_shape (outs-Signed w))
-    by (shape_clock is) = ap typing.is_clock_shape is ∙ sym (ap (λ s. is_clock_shape (out-Shape s)) is ∙ ap is_clock_shape outs-Clock)
-    by (shape_reset is) = ap typing.is_clock_shape is ∙ sym (ap (λ s. is_clock_shape (out-Shape s)) is ∙ ap is_clock_shape outs-Reset)
-    by (shape_bundle fields is) = ap typing.is_clock_shape is ∙ sym (ap (λ s. is_clock_shape (out-Shape s)) is ∙ ap is_clock_shape (outs-Bundle fields))
-    by (shape_vector element n is) = ap typing.is_clock_shape is ∙ sym (ap (λ s. is_clock_shape (out-Shape s)) is ∙ ap is_clock_shape (outs-Vector element n))
-
 -- the values and the mentions of sources at their places
 value_at : (sources : List Source) (sight : Sight) (j : ℕ) (s : Source) → slice_get sources j ≡ Some s → slice_get (map integer_of (source_values sources sight)) j ≡ Some (integer_of (value s.expr sight))
 value_at [] sight j s e = absurd (none_some e)
@@ -380,7 +365,7 @@ module _ (entries : Entries) (settable : List Bool) (name : Name) (e : Expr) (so
           subst (λ w. IsMeant N x w made) (sym (node_set m f j k n 1 (is_certain x made) (among_inside n 1 k h i)))
           (subst (λ g. IsMeant N x (set_to m g j (is_certain x made)) made) same_e
           (set_means N x m e j made sources s.0 s.1 its.values its.reads
-          (subst (λ y. SetsTo made y s.0) first (is.sets j leaf s.0 (ap (λ typ. slice_get (leaves typ) j) v.2 ∙ listed) (same_clock leaf ∙ clk) s.1))))
+          (subst (λ y. SetsTo made y s.0) first (is.sets j leaf s.0 (ap (λ typ. slice_get (leaves typ) j) v.2 ∙ listed) clk s.1))))
         where
           node_expr : (e f : Expr) → A_node e ≡ A_node f → e ≡ f
           node_expr e f q = cc

@@ -6,10 +6,7 @@ use Rattle.std.proofs.lemmas.List.Folds.{flat_map-map}
 use Rattle.fir_types.specs.declared.name.Name.{Name}
 use Rattle.fir_types.specs.declared.port.Port.{Port}
 use Rattle.fir_types.specs.declared.leaf.TypeLeaf.{TypeLeaf}
-use Rattle.fir_types.specs.declared.fir_type.Shape.TheVariants.{outs-Unsigned, outs-Signed, outs-Clock, outs-Reset, outs-Bundle, outs-Vector}
-use Rattle.fir_types.specs.declared.fir_type.Shape.TheViews.{out-Shape}
-use Rattle.fir_types.specs.Leaves.{leaves, is_clock, is_clock_shape}
-use Rattle.circuit_parts.proofs.Shapes.{ShapeCase, shape_uint, shape_sint, shape_clock, shape_reset, shape_bundle, shape_vector, case_of}
+use Rattle.fir_types.specs.Leaves.{leaves, is_clock}
 use Rattle.fir_tree.specs.declared.circuit.Module.{Module}
 use Rattle.fir_tree.specs.declared.scope.Fitted.{Fitted}
 use Rattle.fir_tree.specs.declared.stmt.Stmt.{Stmt, ind-Stmt}
@@ -17,7 +14,6 @@ use Rattle.fir_tree.specs.declared.stmt.Arm.{Arm, fold-Arm}
 use Rattle.fir_tree.specs.declared.stmt.Stmt.TheOpen.{Stmt-F, Arm-F}
 use Rattle.fir_tree.specs.declared.stmt.Stmt.TheFolds.{map-Stmt, map-Arm, fold-roll-Stmt, fold-roll-Arm}
 use Rattle.fir_tree.specs.declared.stmt.Stmt.TheViews.{roll-Stmt, roll-Arm}
-use Rattle.fir_meaning.specs.Components as components
 use Rattle.fir_meaning.specs.Components.{Leaf, Component, TypedModule, Declaration, Told, ToldArm, told, of_told, of_told_arm, declared_from, declared_in_block, declarations_of, declared_by_port, modules_of, component_named, type_in, type_or_empty, flow_of, Sort, An_input, An_output, A_wire, A_register, A_reset_register, A_memory, An_instance, A_node}
 use Rattle.fir_meaning.specs.Mentions.{Scope}
 use Rattle.fir_meaning.specs.States.{is_port, is_source}
@@ -28,19 +24,6 @@ use Rattle.clock_check.specs.Edges.{part_of}
 use Rattle.one_clock.specs.Modules.{port_sort, input_leaf, port_inputs, module_inputs}
 use Rattle.one_clock.proofs.Lists.{same_flat_map}
 
--- Both tests for Clock leaves are one.
-
-clock_same : (leaf : TypeLeaf) → components.is_clock leaf ≡ is_clock leaf
-clock_same leaf = by (case_of leaf.typ.shape)
-  where
-    by : ShapeCase leaf.typ.shape → components.is_clock leaf ≡ is_clock leaf
-    by (shape_uint w is) = ap (λ s. components.is_clock_shape (out-Shape s)) is ∙ ap components.is_clock_shape (outs-Unsigned w) ∙ sym (ap is_clock_shape is)
-    by (shape_sint w is) = ap (λ s. components.is_clock_shape (out-Shape s)) is ∙ ap components.is_clock_shape (outs-Signed w) ∙ sym (ap is_clock_shape is)
-    by (shape_clock is) = ap (λ s. components.is_clock_shape (out-Shape s)) is ∙ ap components.is_clock_shape outs-Clock ∙ sym (ap is_clock_shape is)
-    by (shape_reset is) = ap (λ s. components.is_clock_shape (out-Shape s)) is ∙ ap components.is_clock_shape outs-Reset ∙ sym (ap is_clock_shape is)
-    by (shape_bundle fs is) = ap (λ s. components.is_clock_shape (out-Shape s)) is ∙ ap components.is_clock_shape (outs-Bundle fs) ∙ sym (ap is_clock_shape is)
-    by (shape_vector t n is) = ap (λ s. components.is_clock_shape (out-Shape s)) is ∙ ap components.is_clock_shape (outs-Vector t n) ∙ sym (ap is_clock_shape is)
-
 turned : (a b : Bool) → (a && b) ≡ (b && a)
 turned true true = refl
 turned true false = refl
@@ -49,7 +32,7 @@ turned false false = refl
 
 -- those of a declaration, where components have these types by name
 abbrev sort_inputs : Scope → ℕ → Sort → List Leaf
-sort_inputs types name sort = if is_port sort then map (part_of name) (filter (λ leaf. is_source (flow_of sort leaf.flip) && components.is_clock leaf) (leaves (types name))) else []
+sort_inputs types name sort = if is_port sort then map (part_of name) (filter (λ leaf. is_source (flow_of sort leaf.flip) && is_clock leaf) (leaves (types name))) else []
 
 abbrev inputs_by : Scope → Declaration → List Leaf
 inputs_by types d = sort_inputs types d.name d.sort
@@ -57,16 +40,16 @@ inputs_by types d = sort_inputs types d.name d.sort
 -- Ports
 
 listed : (output : Bool) (name : ℕ) (ls : List TypeLeaf)
-    → map (part_of name) (filter (λ leaf. is_source (flow_of (port_sort output) leaf.flip) && components.is_clock leaf) ls) ≡ flat_map (input_leaf output name) ls
+    → map (part_of name) (filter (λ leaf. is_source (flow_of (port_sort output) leaf.flip) && is_clock leaf) ls) ≡ flat_map (input_leaf output name) ls
 listed output name [] = refl
 listed output name (l ∷ ls) =
-    ap (λ q. map (part_of name) (cond q (l ∷ later) later)) (turned (is_source (flow_of (port_sort output) l.flip)) (components.is_clock l) ∙ ap (λ b. b && is_source (flow_of (port_sort output) l.flip)) (clock_same l))
+    ap (λ q. map (part_of name) (cond q (l ∷ later) later)) (turned (is_source (flow_of (port_sort output) l.flip)) (is_clock l))
     ∙ one (is_clock l && is_source (flow_of (port_sort output) l.flip))
     ∙ ap (λ r. input_leaf output name l ++ r) (listed output name ls)
     ∙ sym (flat_map-cons (input_leaf output name) l ls)
   where
     later : List TypeLeaf
-    later = filter (λ leaf. is_source (flow_of (port_sort output) leaf.flip) && components.is_clock leaf) ls
+    later = filter (λ leaf. is_source (flow_of (port_sort output) leaf.flip) && is_clock leaf) ls
 
     one : (q : Bool) → map (part_of name) (cond q (l ∷ later) later) ≡ (if q then part_of name l ∷ [] else []) ++ map (part_of name) later
     one true = refl
@@ -76,7 +59,7 @@ port_is : (types : Scope) (body : List Stmt) (port : Port) → inputs_by types (
 port_is types body port = sorted port.output ∙ listed port.output port.name.id (leaves (types port.name.id))
   where
     sorted : (output : Bool) → sort_inputs types port.name.id (if output then An_output else An_input)
-        ≡ map (part_of port.name.id) (filter (λ leaf. is_source (flow_of (port_sort output) leaf.flip) && components.is_clock leaf) (leaves (types port.name.id)))
+        ≡ map (part_of port.name.id) (filter (λ leaf. is_source (flow_of (port_sort output) leaf.flip) && is_clock leaf) (leaves (types port.name.id)))
     sorted true = refl
     sorted false = refl
 
@@ -163,7 +146,7 @@ module _ (types : Scope) where
 
 component_is : (m : TypedModule) (c : Component) → component_named m c.declaration.name ≡ Some c → clock_inputs_of_component c ≡ inputs_by (type_in m) c.declaration
 component_is m c named =
-    ap (λ typ. if is_port c.declaration.sort then map (part_of c.declaration.name) (filter (λ leaf. is_source (flow_of c.declaration.sort leaf.flip) && components.is_clock leaf) (leaves typ)) else [])
+    ap (λ typ. if is_port c.declaration.sort then map (part_of c.declaration.name) (filter (λ leaf. is_source (flow_of c.declaration.sort leaf.flip) && is_clock leaf) (leaves typ)) else [])
     (sym (ap type_or_empty named))
 
 pub inputs_are : (fitted : Fitted) → AreNamed fitted → (m : TypedModule) (its : IsKnownModule fitted m) → module_inputs (type_in m) its.holder ≡ clock_inputs_of (Some m)
