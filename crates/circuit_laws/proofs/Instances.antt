@@ -1,9 +1,10 @@
 -- The modules that the declarations of a module make are those that its names have.
 use Rattle.std.proofs.Common.{◌≡◌, ℕ, zero, suc, slice_get, Bool, true, false, List, [], ◌∷◌, ◌++◌, map, Option, Some, None, refl, sym, ap, ap₂, ◌∙◌, subst, ⊎_elim}
+use Rattle.std.specs.Prelude.{Contains}
 use Rattle.std.specs.List.{flat_map, filter_map, cons_option}
 use Rattle.std.proofs.lemmas.List.{map-append}
 use Rattle.std.proofs.lemmas.List.Concat.{flat_map-cons}
-use Rattle.std.proofs.lemmas.List.Elements.{filter_map-append}
+use Rattle.std.proofs.lemmas.List.Elements.{Contains-append_cases, filter_map-append}
 use Rattle.fir_types.specs.declared.name.Name.{Name}
 use Rattle.fir_types.specs.declared.port.Port.{Port}
 use Rattle.fir_tree.specs.declared.circuit.Module.{Module}
@@ -16,10 +17,10 @@ use Rattle.fir_meaning.specs.Components.{Declaration, Told, ToldArm, told, of_to
 use Rattle.fir_names.specs.Extents.{instances_in}
 use Rattle.fir_names.specs.Parts as parts
 use Rattle.fir_names.specs.Parts.{Part, stmt_part, arm_part}
-use Rattle.fir_names.specs.Scopes.{In, here, there, texts}
-use Rattle.fir_names.proofs.Graphs.{In-either, In-one, some_same}
+use Rattle.fir_names.specs.Scopes.{texts}
+use Rattle.fir_names.proofs.Graphs.{some_same}
 use Rattle.fir_names.proofs.Agreement.{has_its_instances}
-use Rattle.circuit_laws.proofs.Pieces.{In-map, In-from}
+use Rattle.fir_names.proofs.Members.{Contains-first, Contains-later, Contains-none, Contains-one, Contains-map, Contains-from_map}
 
 abbrev told_arm : Arm → ToldArm
 told_arm = fold-Arm Told ToldArm of_told of_told_arm
@@ -121,32 +122,32 @@ module_targets holder =
 
 -- Which of them makes a module
 
-made_by : (ds : List Declaration) (target : ℕ) → In target (targets ds) → (k : ℕ) × (d : Declaration) × (slice_get ds k ≡ Some d) × (target_in d.sort ≡ Some target)
-made_by [] target i = elim i [ ]
+made_by : (ds : List Declaration) (target : ℕ) → Contains (targets ds) target → (k : ℕ) × (d : Declaration) × (slice_get ds k ≡ Some d) × (target_in d.sort ≡ Some target)
+made_by [] target i = absurd (Contains-none i)
 made_by (d ∷ ds) target i = by (target_in d.sort) refl (made_by ds target) where
   by : (o : Option ℕ) → target_in d.sort ≡ o
-      → (In target (targets ds) → (k : ℕ) × (e : Declaration) × (slice_get ds k ≡ Some e) × (target_in e.sort ≡ Some target))
+      → (Contains (targets ds) target → (k : ℕ) × (e : Declaration) × (slice_get ds k ≡ Some e) × (target_in e.sort ≡ Some target))
       → (k : ℕ) × (e : Declaration) × (slice_get (d ∷ ds) k ≡ Some e) × (target_in e.sort ≡ Some target)
-  by None q rest = let r = rest (subst (λ o. In target (cons_option o (targets ds))) q i) in (suc r.0, r.1, r.2, r.3)
-  by (Some t) q rest = ⊎_elim (λ l. (0, d, refl, q ∙ ap Some (sym (In-one l)))) (λ j. let r = rest j in (suc r.0, r.1, r.2, r.3))
-      (In-either (t ∷ []) (targets ds) (subst (λ o. In target (cons_option o (targets ds))) q i))
+  by None q rest = let r = rest (subst (λ o. Contains (cons_option o (targets ds)) target) q i) in (suc r.0, r.1, r.2, r.3)
+  by (Some t) q rest = ⊎_elim (λ l. (0, d, refl, q ∙ ap Some (sym (Contains-one l)))) (λ j. let r = rest j in (suc r.0, r.1, r.2, r.3))
+      (Contains-append_cases (t ∷ []) (targets ds) _ (subst (λ o. Contains (cons_option o (targets ds)) target) q i))
 
-makes : (ds : List Declaration) (k target : ℕ) (d : Declaration) → slice_get ds k ≡ Some d → target_in d.sort ≡ Some target → In target (targets ds)
+makes : (ds : List Declaration) (k target : ℕ) (d : Declaration) → slice_get ds k ≡ Some d → target_in d.sort ≡ Some target → Contains (targets ds) target
 makes [] k target d e s = cc
-makes (x ∷ ds) zero target d e s = subst (λ o. In target (cons_option o (targets ds))) (sym (ap (λ (y : Declaration). target_in y.sort) (some_same e) ∙ s)) (here (targets ds))
+makes (x ∷ ds) zero target d e s = subst (λ o. Contains (cons_option o (targets ds)) target) (sym (ap (λ (y : Declaration). target_in y.sort) (some_same e) ∙ s)) (Contains-first (targets ds))
 makes (x ∷ ds) (suc k) target d e s = by (target_in x.sort) refl (makes ds k target d e s) where
-  by : (o : Option ℕ) → target_in x.sort ≡ o → In target (targets ds) → In target (cons_option (target_in x.sort) (targets ds))
-  by None q i = subst (λ o. In target (cons_option o (targets ds))) (sym q) i
-  by (Some t) q i = subst (λ o. In target (cons_option o (targets ds))) (sym q) (there t (targets ds) i)
+  by : (o : Option ℕ) → target_in x.sort ≡ o → Contains (targets ds) target → Contains (cons_option (target_in x.sort) (targets ds)) target
+  by None q i = subst (λ o. Contains (cons_option o (targets ds)) target) (sym q) i
+  by (Some t) q i = subst (λ o. Contains (cons_option o (targets ds)) target) (sym q) (Contains-later t (targets ds) i)
 
 -- the module of an instance is made by a declaration
-pub instance_declared : (holder : Module) (target : Name) → In target (instances_in holder)
+pub instance_declared : (holder : Module) (target : Name) → Contains (instances_in holder) target
     → (k : ℕ) × (d : Declaration) × (slice_get (declarations_of holder) k ≡ Some d) × (target_in d.sort ≡ Some target.id)
 instance_declared holder target i =
-    made_by (declarations_of holder) target.id (subst (In target.id) (sym (module_targets holder)) (In-map (λ (name : Name). name.id) (instances_in holder) target i))
+    made_by (declarations_of holder) target.id (subst (λ list. Contains list target.id) (sym (module_targets holder)) (Contains-map (λ (name : Name). name.id) (instances_in holder) target i))
 
 -- and what a declaration makes is the module of an instance
 pub declared_instance : (holder : Module) (k target : ℕ) (d : Declaration) → slice_get (declarations_of holder) k ≡ Some d → target_in d.sort ≡ Some target
-    → (name : Name) × In name (instances_in holder) × (name.id ≡ target)
+    → (name : Name) × Contains (instances_in holder) name × (name.id ≡ target)
 declared_instance holder k target d e s =
-    In-from (λ (name : Name). name.id) (instances_in holder) target (subst (In target) (module_targets holder) (makes (declarations_of holder) k target d e s))
+    Contains-from_map (λ (name : Name). name.id) (instances_in holder) target (subst (λ list. Contains list target) (module_targets holder) (makes (declarations_of holder) k target d e s))

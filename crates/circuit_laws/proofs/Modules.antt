@@ -1,5 +1,6 @@
 -- What a whole module's body leaves.
 use Rattle.std.proofs.Common.{◌≡◌, ℕ, zero, suc, ◌+◌, ◌<◌, List, [], ◌∷◌, map, length, Option, Some, ℤ, slice_get, sym, ap, ◌∙◌, subst, ⊎_elim}
+use Rattle.std.specs.Prelude.{Contains}
 use Rattle.std.proofs.lemmas.List.{length-map}
 use Rattle.std.proofs.lemmas.Option.{slice_get_within}
 use Rattle.fir_types.specs.declared.port.Port.{Port}
@@ -10,7 +11,7 @@ use Rattle.fir_tree.specs.declared.stmt.Stmt.{Stmt}
 use Rattle.fir_meaning.specs.Components.{Declaration, Leaf, told, declared_in_block, declarations_of, declared_by_port}
 use Rattle.fir_meaning.specs.Values.{Scene}
 use Rattle.fir_meaning.specs.Drives.{effect, in_turn}
-use Rattle.fir_names.specs.Scopes.{In, IsScope}
+use Rattle.fir_names.specs.Scopes.{IsScope}
 use Rattle.fault_order.specs.First.{HasNone}
 use Rattle.fir_names.specs.Faults.{IsFault}
 use Rattle.fir_names.proofs.Graphs.{some_same}
@@ -27,7 +28,7 @@ port_block body [] k d e = cc
 port_block body (port ∷ ports) zero d e = ap (λ (x : Declaration). x.block) (sym (some_same e))
 port_block body (port ∷ ports) (suc k) d e = port_block body ports k d e
 
-pub module_leaves : (circuit : Circuit) (scope : Scope) → IsScope circuit scope → HasNone (IsFault circuit) → (holder : Module) → In holder circuit.modules
+pub module_leaves : (circuit : Circuit) (scope : Scope) → IsScope circuit scope → HasNone (IsFault circuit) → (holder : Module) → Contains circuit.modules holder
     → (k : ℕ) (d : Declaration) → slice_get (declarations_of holder) k ≡ Some d → (leaf : Leaf) → leaf.component ≡ d.name → (scene : Scene) (last : Option ℤ)
     → left_by scene leaf k (length holder.ports) holder.body last ≡ in_turn (map (effect scene leaf) d.block) last
 module_leaves circuit scope is none holder i k d e leaf same scene last =
@@ -40,7 +41,7 @@ module_leaves circuit scope is none holder i k d e leaf same scene last =
     (r.1 ∙ ap (λ m. m + r.0) (length-map holder.ports (declared_by_port holder.body))) last)
     (get-either ports (declared_in_block (map told holder.body)) k d e)
 
-pub module_reads : (circuit : Circuit) (scope : Scope) → IsScope circuit scope → HasNone (IsFault circuit) → (holder : Module) → In holder circuit.modules
+pub module_reads : (circuit : Circuit) (scope : Scope) → IsScope circuit scope → HasNone (IsFault circuit) → (holder : Module) → Contains circuit.modules holder
     → (k : ℕ) (d : Declaration) → slice_get (declarations_of holder) k ≡ Some d → (leaf : Leaf) → leaf.component ≡ d.name → (types : Types)
     → live_by types leaf k (length holder.ports) holder.body ≡ live types leaf d.block
 module_reads circuit scope is none holder i k d e leaf same types =

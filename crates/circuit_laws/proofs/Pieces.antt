@@ -1,5 +1,6 @@
 -- The parts that the steps of a reference go to: their leaves are leaves of the whole, and they are as narrow.
 use Rattle.std.proofs.Common.{◌≡◌, ℕ, zero, suc, ◌==◌, ◌<◌, ◌≤◌, Bool, true, false, cond, ◌&&◌, List, [], ◌∷◌, map, Option, Some, None, refl, sym, ap, ◌∙◌, subst, arith, ◌⊎◌, inl, inr, ⊎_elim}
+use Rattle.std.proofs.lemmas.List.Elements.{Contains-append_left, Contains-append_right, Contains-append_cases}
 use Rattle.std.specs.Prelude.{find, option_map, Contains}
 use Rattle.std.specs.List.{flat_map, list_all}
 use Rattle.std.proofs.lemmas.Grind.{common_steps}
@@ -22,44 +23,19 @@ use Rattle.circuit_parts.proofs.Shapes.{ShapeCase, shape_uint, shape_sint, shape
 use Rattle.fir_meaning.specs.Components.{width_of_leaf}
 use Rattle.fir_meaning.specs.Values.{field_of_shape, element_of_shape, length_of_shape, vector_length}
 use Rattle.fir_meaning.specs.WellTyped.{is_narrow, narrow_layer}
-use Rattle.fir_names.specs.Scopes.{In, here, there}
-use Rattle.fir_names.proofs.Graphs.{In-left, In-right, In-either, In-one, some_same}
+use Rattle.fir_names.proofs.Graphs.{some_same}
+use Rattle.fir_names.proofs.Members.{Contains-first, Contains-later, Contains-none, Contains-one, Contains-map, Contains-from_map, Contains-flat_map}
 
 -- Items of lists
 
-pub In-map : {X Y : Type 0} (f : X → Y) (xs : List X) (x : X) → In x xs → In (f x) (map f xs)
-In-map f [] x i = elim i [ ]
-In-map f (y ∷ xs) x i = ⊎_elim (λ l. subst (λ z. In (f z) (map f (y ∷ xs))) (sym (In-one l)) (here (map f xs))) (λ r. there (f y) (map f xs) (In-map f xs x r)) (In-either (y ∷ []) xs i)
-
-pub In-from : {X Y : Type 0} (f : X → Y) (xs : List X) (y : Y) → In y (map f xs) → (x : X) × In x xs × (f x ≡ y)
-In-from f [] y i = elim i [ ]
-In-from f (x ∷ xs) y i = ⊎_elim (λ l. (x, here xs, sym (In-one l))) (λ r. let rest = In-from f xs y r in (rest.0, there x xs rest.1, rest.2)) (In-either (f x ∷ []) (map f xs) i)
-
-pub In-among : {X Y : Type 0} (f : X → List Y) (xs : List X) (x : X) (y : Y) → In x xs → In y (f x) → In y (flat_map f xs)
-In-among f [] x y i j = elim i [ ]
-In-among f (z ∷ xs) x y i j = ⊎_elim (λ l. In-left (subst (λ w. In y (f w)) (In-one l) j) (flat_map f xs)) (λ r. In-right (f z) (In-among f xs x y r j)) (In-either (z ∷ []) xs i)
-
-pub In-of : {X Y : Type 0} (f : X → List Y) (xs : List X) (y : Y) → In y (flat_map f xs) → (x : X) × In x xs × In y (f x)
-In-of f [] y i = elim i [ ]
-In-of f (x ∷ xs) y i = ⊎_elim (λ l. (x, here xs, l)) (λ r. let rest = In-of f xs y r in (rest.0, there x xs rest.1, rest.2)) (In-either (f x) (flat_map f xs) i)
-
-pub In-contained : {X : Type 0} (xs : List X) (x : X) → Contains xs x → In x xs
-In-contained [] x (k, below, is) = absurd (omega arith)
-In-contained (y ∷ xs) x (zero, below, is) = subst (λ z. In z (y ∷ xs)) is (here xs)
-In-contained (y ∷ xs) x (suc k, below, is) = there y xs (In-contained xs x (k, omega arith, is))
-
-pub contained_In : {X : Type 0} (xs : List X) (x : X) → In x xs → Contains xs x
-contained_In [] x i = elim i [ ]
-contained_In (y ∷ xs) x i = ⊎_elim (λ l. (0, omega arith, sym (In-one l))) (λ r. let rest = contained_In xs x r in (suc rest.0, omega (arith, rest.1), rest.2)) (In-either (y ∷ []) xs i)
-
-pub found_in : {X : Type 0} (test : X → Bool) (xs : List X) (x : X) → find test xs ≡ Some x → In x xs × (test x ≡ true)
+pub found_in : {X : Type 0} (test : X → Bool) (xs : List X) (x : X) → find test xs ≡ Some x → Contains xs x × (test x ≡ true)
 found_in test [] x e = cc
 found_in {X} test (y ∷ xs) x e = by (test y) refl (found_in test xs x) where
-  by : (b : Bool) → test y ≡ b → (find test xs ≡ Some x → In x xs × (test x ≡ true)) → In x (y ∷ xs) × (test x ≡ true)
+  by : (b : Bool) → test y ≡ b → (find test xs ≡ Some x → Contains xs x × (test x ≡ true)) → Contains (y ∷ xs) x × (test x ≡ true)
   by true q rest =
       let same : y ≡ x = some_same (subst (λ c. cond c (Some y) (find test xs) ≡ Some x) q e) in
-      (subst (λ z. In z (y ∷ xs)) same (here xs), subst (λ z. test z ≡ true) same q)
-  by false q rest = let more = rest (subst (λ c. cond c (Some y) (find test xs) ≡ Some x) q e) in (there y xs more.0, more.1)
+      (subst (λ z. Contains (y ∷ xs) z) same (Contains-first xs), subst (λ z. test z ≡ true) same q)
+  by false q rest = let more = rest (subst (λ c. cond c (Some y) (find test xs) ≡ Some x) q e) in (Contains-later y xs more.0, more.1)
 
 pub mapped_some : {X Y : Type 0} (f : X → Y) (o : Option X) (y : Y) → option_map f o ≡ Some y → (x : X) × (o ≡ Some x) × (f x ≡ y)
 mapped_some f None y e = cc
@@ -114,35 +90,35 @@ element_there typ part e = by (case_of typ.shape) where
 -- A leaf of a part is a leaf of the whole, by the way to the part.
 pub record IsLeafAt (typ : FirType) (way : List PathStep) : Type 0 where
   pub leaf : TypeLeaf
-  pub listed : In leaf (leaves typ)
+  pub listed : Contains (leaves typ) leaf
   pub at : leaf.path ≡ way
 
-pub field_leaf : (typ part : FirType) (name : ℕ) → IsField typ name part → (l : TypeLeaf) → In l (leaves part) → IsLeafAt typ (step.Field name ∷ l.path)
+pub field_leaf : (typ part : FirType) (name : ℕ) → IsField typ name part → (l : TypeLeaf) → Contains (leaves part) l → IsLeafAt typ (step.Field name ∷ l.path)
 field_leaf typ part name f l i =
     let one = found_in (λ (x : Field). x.name.id == name) f.fields f.field f.found in
-    let inside : In (under (step.Field f.field.name.id ∷ []) f.field.flip l) (field_leaves f.field) =
-    subst (λ ls. In (under (step.Field f.field.name.id ∷ []) f.field.flip l) ls) (sym (leaves-field f.field))
-    (In-map (under (step.Field f.field.name.id ∷ []) f.field.flip) (leaves f.field.typ) l (subst (λ t. In l (leaves t)) (sym f.part_is) i)) in
+    let inside : Contains (field_leaves f.field) (under (step.Field f.field.name.id ∷ []) f.field.flip l) =
+    subst (λ ls. Contains ls (under (step.Field f.field.name.id ∷ []) f.field.flip l)) (sym (leaves-field f.field))
+    (Contains-map (under (step.Field f.field.name.id ∷ []) f.field.flip) (leaves f.field.typ) l (subst (λ t. Contains (leaves t) l) (sym f.part_is) i)) in
     record {
       leaf = under (step.Field f.field.name.id ∷ []) f.field.flip l;
-      listed = subst (λ ls. In (under (step.Field f.field.name.id ∷ []) f.field.flip l) ls) (sym (leaves-bundle typ f.fields f.is))
-          (In-among field_leaves f.fields f.field (under (step.Field f.field.name.id ∷ []) f.field.flip l) one.0 inside);
+      listed = subst (λ ls. Contains ls (under (step.Field f.field.name.id ∷ []) f.field.flip l)) (sym (leaves-bundle typ f.fields f.is))
+          (Contains-flat_map field_leaves f.fields f.field (under (step.Field f.field.name.id ∷ []) f.field.flip l) one.0 inside);
       at = ap (λ n. step.Field n ∷ l.path) (eqb-true f.field.name.id name one.1);
     }
 
-element_in : (ls : List TypeLeaf) (l : TypeLeaf) (n k : ℕ) → In l ls → k < n → In (under (step.Element k ∷ []) false l) (elements ls n)
+element_in : (ls : List TypeLeaf) (l : TypeLeaf) (n k : ℕ) → Contains ls l → k < n → Contains (elements ls n) (under (step.Element k ∷ []) false l)
 element_in ls l zero k i h = absurd (omega arith)
 element_in ls l (suc n) k i h = by (cases_order k n) (element_in ls l n k i) where
-  by : (k ≡ n) ⊎ ((k < n) ⊎ (n < k)) → (k < n → In (under (step.Element k ∷ []) false l) (elements ls n)) → In (under (step.Element k ∷ []) false l) (elements ls (suc n))
-  by (inl e) front = subst (λ j. In (under (step.Element j ∷ []) false l) (elements ls (suc n))) (sym e)
-      (In-right (elements ls n) (In-map (under (step.Element n ∷ []) false) ls l i))
-  by (inr (inl below)) front = In-left (front below) (map (under (step.Element n ∷ []) false) ls)
+  by : (k ≡ n) ⊎ ((k < n) ⊎ (n < k)) → (k < n → Contains (elements ls n) (under (step.Element k ∷ []) false l)) → Contains (elements ls (suc n)) (under (step.Element k ∷ []) false l)
+  by (inl e) front = subst (λ j. Contains (elements ls (suc n)) (under (step.Element j ∷ []) false l)) (sym e)
+      (Contains-append_right (elements ls n) _ _ (Contains-map (under (step.Element n ∷ []) false) ls l i))
+  by (inr (inl below)) front = Contains-append_left _ (map (under (step.Element n ∷ []) false) ls) _ (front below)
   by (inr (inr above)) front = absurd (omega (arith, above, h))
 
-pub element_leaf : (typ part : FirType) (k : ℕ) → IsElement typ part → k < vector_length typ → (l : TypeLeaf) → In l (leaves part) → IsLeafAt typ (step.Element k ∷ l.path)
+pub element_leaf : (typ part : FirType) (k : ℕ) → IsElement typ part → k < vector_length typ → (l : TypeLeaf) → Contains (leaves part) l → IsLeafAt typ (step.Element k ∷ l.path)
 element_leaf typ part k e h l i = record {
   leaf = under (step.Element k ∷ []) false l;
-  listed = subst (λ ls. In (under (step.Element k ∷ []) false l) ls) (sym (leaves-vector typ part e.length e.is))
+  listed = subst (λ ls. Contains ls (under (step.Element k ∷ []) false l)) (sym (leaves-vector typ part e.length e.is))
       (element_in (leaves part) l e.length k i (subst (λ n. k < n) e.counted h));
   at = refl;
 }
@@ -173,10 +149,10 @@ right_true : (a b : Bool) → (a && b) ≡ true → b ≡ true
 right_true true b e = e
 right_true false b e = absurd cc
 
-pub all_true : {A : Type 0} (f : A → Bool) (xs : List A) (x : A) → list_all f xs ≡ true → In x xs → f x ≡ true
-all_true f [] x h i = elim i [ ]
-all_true f (y ∷ xs) x h i = ⊎_elim (λ l. subst (λ z. f z ≡ true) (sym (In-one l)) (left_true (f y) (list_all f xs) h))
-    (λ r. all_true f xs x (right_true (f y) (list_all f xs) h) r) (In-either (y ∷ []) xs i)
+pub all_true : {A : Type 0} (f : A → Bool) (xs : List A) (x : A) → list_all f xs ≡ true → Contains xs x → f x ≡ true
+all_true f [] x h i = absurd (Contains-none i)
+all_true f (y ∷ xs) x h i = ⊎_elim (λ l. subst (λ z. f z ≡ true) (sym (Contains-one l)) (left_true (f y) (list_all f xs) h))
+    (λ r. all_true f xs x (right_true (f y) (list_all f xs) h) r) (Contains-append_cases (y ∷ []) xs _ i)
 
 pub narrow_field : (typ part : FirType) (name : ℕ) → IsField typ name part → is_narrow typ ≡ true → is_narrow part ≡ true
 narrow_field typ part name f h =
@@ -191,33 +167,33 @@ abbrev IsNarrowLeaf : TypeLeaf → Type 0
 IsNarrowLeaf l = width_of_leaf l ≤ 128
 
 abbrev Narrow : FirType → Type 0
-Narrow t = is_narrow t ≡ true → (l : TypeLeaf) → In l (leaves t) → IsNarrowLeaf l
+Narrow t = is_narrow t ≡ true → (l : TypeLeaf) → Contains (leaves t) l → IsNarrowLeaf l
 
 abbrev NarrowField : Field → Type 0
-NarrowField f = field_narrow f ≡ true → (l : TypeLeaf) → In l (field_leaves f) → IsNarrowLeaf l
+NarrowField f = field_narrow f ≡ true → (l : TypeLeaf) → Contains (field_leaves f) l → IsNarrowLeaf l
 
 abbrev NarrowShape : Shape → Type 0
 NarrowShape s = (place : Place) → Narrow (record { place = place; shape = s })
 
-narrow_under : (path : List PathStep) (flip : Bool) (ls : List TypeLeaf) → ((l : TypeLeaf) → In l ls → IsNarrowLeaf l) → (l : TypeLeaf) → In l (map (under path flip) ls) → IsNarrowLeaf l
-narrow_under path flip ls h l i = let from = In-from (under path flip) ls l i in subst IsNarrowLeaf from.2 (h from.0 from.1)
+narrow_under : (path : List PathStep) (flip : Bool) (ls : List TypeLeaf) → ((l : TypeLeaf) → Contains ls l → IsNarrowLeaf l) → (l : TypeLeaf) → Contains (map (under path flip) ls) l → IsNarrowLeaf l
+narrow_under path flip ls h l i = let from = Contains-from_map (under path flip) ls l i in subst IsNarrowLeaf from.2 (h from.0 from.1)
 
-narrow_elements : (ls : List TypeLeaf) (n : ℕ) → ((l : TypeLeaf) → In l ls → IsNarrowLeaf l) → (l : TypeLeaf) → In l (elements ls n) → IsNarrowLeaf l
-narrow_elements ls zero h l i = elim i [ ]
+narrow_elements : (ls : List TypeLeaf) (n : ℕ) → ((l : TypeLeaf) → Contains ls l → IsNarrowLeaf l) → (l : TypeLeaf) → Contains (elements ls n) l → IsNarrowLeaf l
+narrow_elements ls zero h l i = absurd (Contains-none i)
 narrow_elements ls (suc n) h l i =
-    ⊎_elim (λ a. narrow_elements ls n h l a) (λ b. narrow_under (step.Element n ∷ []) false ls h l b) (In-either (elements ls n) (map (under (step.Element n ∷ []) false) ls) i)
+    ⊎_elim (λ a. narrow_elements ls n h l a) (λ b. narrow_under (step.Element n ∷ []) false ls h l b) (Contains-append_cases (elements ls n) (map (under (step.Element n ∷ []) false) ls) _ i)
 
 fields_narrow : (ps : List ((f : Field) × NarrowField f)) → list_all field_narrow (map (λ e. e.0) ps) ≡ true → (l : TypeLeaf)
-    → In l (flat_map field_leaves (map (λ e. e.0) ps)) → IsNarrowLeaf l
-fields_narrow [] h l i = elim i [ ]
+    → Contains (flat_map field_leaves (map (λ e. e.0) ps)) l → IsNarrowLeaf l
+fields_narrow [] h l i = absurd (Contains-none i)
 fields_narrow (p ∷ ps) h l i =
     ⊎_elim (λ a. p.1 (left_true (field_narrow p.0) (list_all field_narrow (map (λ e. e.0) ps)) h) l a)
     (λ b. fields_narrow ps (right_true (field_narrow p.0) (list_all field_narrow (map (λ e. e.0) ps)) h) l b)
-    (In-either (field_leaves p.0) (flat_map field_leaves (map (λ e. e.0) ps)) i)
+    (Contains-append_cases (field_leaves p.0) (flat_map field_leaves (map (λ e. e.0) ps)) _ i)
 
 ground_narrow : (t : FirType) → leaves t ≡ record { path = []; flip = false; typ = t } ∷ []
     → (is_narrow t ≡ true → width_of_leaf (record { path = []; flip = false; typ = t }) ≤ 128) → Narrow t
-ground_narrow t e w h l i = subst IsNarrowLeaf (sym (In-one (subst (In l) e i))) (w h)
+ground_narrow t e w h l i = subst IsNarrowLeaf (sym (Contains-one (subst (λ list. Contains list l) e i))) (w h)
 
 unsigned_narrow : (place : Place) (w : Option ℕ) → Narrow (record { place = place; shape = shape.Unsigned w })
 unsigned_narrow place w = ground_narrow (record { place = place; shape = shape.Unsigned w }) (grind (arith, common_steps, the_lemmas))
@@ -242,16 +218,16 @@ shape_narrow Shape-F.Reset = subst NarrowShape (sym rolls-Reset) reset_narrow
 shape_narrow (Shape-F.Bundle ps) = subst NarrowShape (sym (rolls-Bundle (map (λ e. e.0) ps))) (λ place h l i.
     let fs : List Field = map (λ e. e.0) ps in
     let t : FirType = record { place = place; shape = shape.Bundle (map (λ e. e.0) ps) } in
-    fields_narrow ps (sym (narrow-bundle t fs refl) ∙ h) l (subst (In l) (leaves-bundle t fs refl) i))
+    fields_narrow ps (sym (narrow-bundle t fs refl) ∙ h) l (subst (λ list. Contains list l) (leaves-bundle t fs refl) i))
 shape_narrow (Shape-F.Vector p n) = subst NarrowShape (sym (rolls-Vector p.0 n)) (λ place h l i.
     let t : FirType = record { place = place; shape = shape.Vector p.0 n } in
-    narrow_elements (leaves p.0) n (p.1 (sym (narrow-vector t p.0 n refl) ∙ h)) l (subst (In l) (leaves-vector t p.0 n refl) i))
+    narrow_elements (leaves p.0) n (p.1 (sym (narrow-vector t p.0 n refl) ∙ h)) l (subst (λ list. Contains list l) (leaves-vector t p.0 n refl) i))
 
 field_is_narrow : (f : Field) → Narrow f.typ → NarrowField f
 field_is_narrow f h k l i =
-    narrow_under (step.Field f.name.id ∷ []) f.flip (leaves f.typ) (h (sym (narrow-field f) ∙ k)) l (subst (In l) (leaves-field f) i)
+    narrow_under (step.Field f.name.id ∷ []) f.flip (leaves f.typ) (h (sym (narrow-field f) ∙ k)) l (subst (λ list. Contains list l) (leaves-field f) i)
 
-pub narrow_leaves : (t : FirType) → is_narrow t ≡ true → (l : TypeLeaf) → In l (leaves t) → width_of_leaf l ≤ 128
+pub narrow_leaves : (t : FirType) → is_narrow t ≡ true → (l : TypeLeaf) → Contains (leaves t) l → width_of_leaf l ≤ 128
 narrow_leaves = ind-FirType NarrowShape NarrowField Narrow
     (λ x y is. subst (λ z. NarrowShape (roll-Shape z)) is (shape_narrow y))
     (λ x y is. subst (λ z. NarrowField (roll-Field z)) is (field_is_narrow (record { flip = y.flip; name = y.name; typ = y.typ.0 }) y.typ.1))

@@ -1,6 +1,7 @@
 -- Where modules have no loop, they have ranks that fall along instances.
 use Rattle.std.proofs.Common.{◌≡◌, ℕ, zero, suc, ◌+◌, ◌==◌, ◌<◌, ◌≤◌, Bool, true, false, cond, List, [], ◌∷◌, ◌++◌, map, length, set, replicate, Option, Some, None, slice_get, refl, sym, ap, ◌∙◌, subst, arith, ◌⊎◌, inl, inr, ⊎_elim, length-append}
-use Rattle.std.specs.Prelude.{nat_le, option_map}
+use Rattle.std.proofs.lemmas.List.Elements.{Contains-append_cases}
+use Rattle.std.specs.Prelude.{Contains, nat_le, option_map}
 use Rattle.std.proofs.lemmas.Bool.{eqb-true, eqb-false, eq-eqb, leb-true, leb-false}
 use Rattle.std.proofs.lemmas.List.{length-replicate}
 use Rattle.std.proofs.lemmas.Option.{slice_get_within}
@@ -9,10 +10,11 @@ use Rattle.fir_tree.specs.declared.circuit.Module.{Module}
 use Rattle.fir_types.specs.declared.name.Name.{Name}
 use Rattle.fault_order.specs.First.{HasNone}
 use Rattle.fir_names.specs.Extents.{instances_in}
-use Rattle.fir_names.specs.Scopes.{In, here, there, texts, module_names, FirstOf, Instance, Reaches, itself, through}
+use Rattle.fir_names.specs.Scopes.{texts, module_names, FirstOf, Instance, Reaches, itself, through}
 use Rattle.fir_names.specs.Graphs.{Marked, Spreads}
 use Rattle.fir_names.specs.Faults.{IsFault, instance_loop}
-use Rattle.fir_names.proofs.Graphs.{In-either, In-one, some_same, unmarked, marks_one, count_true-within}
+use Rattle.fir_names.proofs.Graphs.{some_same, unmarked, marks_one, count_true-within}
+use Rattle.fir_names.proofs.Members.{Contains-first, Contains-later, Contains-none, Contains-one}
 
 -- The first place of a number
 
@@ -60,36 +62,36 @@ abbrev numbers : List ℕ → List Name → List ℕ
 numbers ts [] = []
 numbers ts (n ∷ ns) = put (first_place ts n.id) (numbers ts ns)
 
-In-put : (o : Option ℕ) (l : List ℕ) (j : ℕ) → In j l → In j (put o l)
-In-put None l j i = i
-In-put (Some k) l j i = there k l i
+Contains-put : (o : Option ℕ) (l : List ℕ) (j : ℕ) → Contains l j → Contains (put o l) j
+Contains-put None l j i = i
+Contains-put (Some k) l j i = Contains-later k l i
 
-put-here : (o : Option ℕ) (l : List ℕ) (j : ℕ) → o ≡ Some j → In j (put o l)
+put-here : (o : Option ℕ) (l : List ℕ) (j : ℕ) → o ≡ Some j → Contains (put o l) j
 put-here None l j e = cc
-put-here (Some k) l j e = subst (λ x. In x (k ∷ l)) (some_same e) (here l)
+put-here (Some k) l j e = subst (λ x. Contains (k ∷ l) x) (some_same e) (Contains-first l)
 
-numbers_all : (ts : List ℕ) (ns : List Name) (target : Name) (j : ℕ) → In target ns → FirstOf ts target.id j → In j (numbers ts ns)
-numbers_all ts [] target j i f = elim i [ ]
+numbers_all : (ts : List ℕ) (ns : List Name) (target : Name) (j : ℕ) → Contains ns target → FirstOf ts target.id j → Contains (numbers ts ns) j
+numbers_all ts [] target j i f = absurd (Contains-none i)
 numbers_all ts (n ∷ ns) target j i f = ⊎_elim
-    (λ a. put-here (first_place ts n.id) (numbers ts ns) j (ap (λ (x : Name). first_place ts x.id) (sym (In-one a)) ∙ is_place ts target.id j f))
-    (λ b. In-put (first_place ts n.id) (numbers ts ns) j (numbers_all ts ns target j b f))
-    (In-either (n ∷ []) ns i)
+    (λ a. put-here (first_place ts n.id) (numbers ts ns) j (ap (λ (x : Name). first_place ts x.id) (sym (Contains-one a)) ∙ is_place ts target.id j f))
+    (λ b. Contains-put (first_place ts n.id) (numbers ts ns) j (numbers_all ts ns target j b f))
+    (Contains-append_cases (n ∷ []) ns _ i)
 
 abbrev Numbered : List ℕ → List Name → ℕ → Type 0
-Numbered ts ns j = (target : Name) × In target ns × FirstOf ts target.id j
+Numbered ts ns j = (target : Name) × Contains ns target × FirstOf ts target.id j
 
-numbers_only : (ts : List ℕ) (ns : List Name) (j : ℕ) → In j (numbers ts ns) → Numbered ts ns j
-numbers_only ts [] j i = elim i [ ]
+numbers_only : (ts : List ℕ) (ns : List Name) (j : ℕ) → Contains (numbers ts ns) j → Numbered ts ns j
+numbers_only ts [] j i = absurd (Contains-none i)
 numbers_only ts (n ∷ ns) j i = by (first_place ts n.id) refl (numbers_only ts ns j) i where
   later : Numbered ts ns j → Numbered ts (n ∷ ns) j
-  later r = (r.0, there n ns r.1, r.2)
+  later r = (r.0, Contains-later n ns r.1, r.2)
 
-  by : (o : Option ℕ) → first_place ts n.id ≡ o → (In j (numbers ts ns) → Numbered ts ns j) → In j (put o (numbers ts ns)) → Numbered ts (n ∷ ns) j
+  by : (o : Option ℕ) → first_place ts n.id ≡ o → (Contains (numbers ts ns) j → Numbered ts ns j) → Contains (put o (numbers ts ns)) j → Numbered ts (n ∷ ns) j
   by None q r i = later (r i)
   by (Some k) q r i = ⊎_elim
-      (λ a. (n, here ns, place_is ts n.id j (q ∙ ap Some (sym (In-one a)))))
+      (λ a. (n, Contains-first ns, place_is ts n.id j (q ∙ ap Some (sym (Contains-one a)))))
       (λ b. later (r b))
-      (In-either (k ∷ []) (numbers ts ns) i)
+      (Contains-append_cases (k ∷ []) (numbers ts ns) _ i)
 
 -- The greatest of numbers
 
@@ -118,20 +120,20 @@ abbrev greatest : (ℕ → ℕ) → List ℕ → ℕ
 greatest x [] = 0
 greatest x (j ∷ js) = larger (x j) (greatest x js)
 
-above : (x : ℕ → ℕ) (js : List ℕ) (j : ℕ) → In j js → x j ≤ greatest x js
-above x [] j i = elim i [ ]
+above : (x : ℕ → ℕ) (js : List ℕ) (j : ℕ) → Contains js j → x j ≤ greatest x js
+above x [] j i = absurd (Contains-none i)
 above x (k ∷ js) j i = ⊎_elim
-    (λ a. subst (λ z. x z ≤ greatest x (k ∷ js)) (sym (In-one a)) (larger-left (x k) (greatest x js)))
+    (λ a. subst (λ z. x z ≤ greatest x (k ∷ js)) (sym (Contains-one a)) (larger-left (x k) (greatest x js)))
     (λ b. omega (arith, larger-right (x k) (greatest x js), above x js j b))
-    (In-either (k ∷ []) js i)
+    (Contains-append_cases (k ∷ []) js _ i)
 
-attained : (x : ℕ → ℕ) (js : List ℕ) (h : ℕ) → h < greatest x js → (j : ℕ) × In j js × (h < x j)
+attained : (x : ℕ → ℕ) (js : List ℕ) (h : ℕ) → h < greatest x js → (j : ℕ) × Contains js j × (h < x j)
 attained x [] h lt = absurd (omega (arith, lt))
-attained x (k ∷ js) h lt = ⊎_elim (λ a. (k, here js, a)) (λ b. let r = attained x js h b in (r.0, there k js r.1, r.2)) (larger-one h (x k) (greatest x js) lt)
+attained x (k ∷ js) h lt = ⊎_elim (λ a. (k, Contains-first js, a)) (λ b. let r = attained x js h b in (r.0, Contains-later k js r.1, r.2)) (larger-one h (x k) (greatest x js) lt)
 
-same_greatest : (x y : ℕ → ℕ) (js : List ℕ) → ((j : ℕ) → In j js → x j ≡ y j) → greatest x js ≡ greatest y js
+same_greatest : (x y : ℕ → ℕ) (js : List ℕ) → ((j : ℕ) → Contains js j → x j ≡ y j) → greatest x js ≡ greatest y js
 same_greatest x y [] h = refl
-same_greatest x y (j ∷ js) h = ap (λ z. larger z (greatest x js)) (h j (here js)) ∙ ap (larger (y j)) (same_greatest x y js (λ k i. h k (there j js i)))
+same_greatest x y (j ∷ js) h = ap (λ z. larger z (greatest x js)) (h j (Contains-first js)) ∙ ap (larger (y j)) (same_greatest x y js (λ k i. h k (Contains-later j js i)))
 
 -- The longest way along instances from a module
 
@@ -143,15 +145,15 @@ module _ (circuit : Circuit) (none : HasNone (IsFault circuit)) where
   abbrev next : ℕ → List ℕ
   next k = numbers (texts (module_names circuit)) (targets_of (slice_get circuit.modules k))
 
-  next_all : (from to : ℕ) (target : Name) → Instance circuit from target to → In to (next from)
+  next_all : (from to : ℕ) (target : Name) → Instance circuit from target to → Contains (next from) to
   next_all from to target is = numbers_all (texts (module_names circuit)) (targets_of (slice_get circuit.modules from)) target to
-      (subst (λ o. In target (targets_of o)) (sym is.here) is.stands) is.means
+      (subst (λ o. Contains (targets_of o) target) (sym is.here) is.stands) is.means
 
-  next_only : (from to : ℕ) → In to (next from) → (target : Name) × Instance circuit from target to
+  next_only : (from to : ℕ) → Contains (next from) to → (target : Name) × Instance circuit from target to
   next_only from to i = by (slice_get circuit.modules from) refl (numbers_only (texts (module_names circuit)) (targets_of (slice_get circuit.modules from)) to i) where
     by : (o : Option Module) → slice_get circuit.modules from ≡ o → Numbered (texts (module_names circuit)) (targets_of (slice_get circuit.modules from)) to → (target : Name) × Instance circuit from target to
-    by None q r = absurd (elim (subst (λ o. In r.0 (targets_of o)) q r.1) [ ])
-    by (Some holder) q r = (r.0, record { holder = holder; here = q; stands = subst (λ o. In r.0 (targets_of o)) q r.1; means = r.2 })
+    by None q r = absurd (Contains-none (subst (λ o. Contains (targets_of o) r.0) q r.1))
+    by (Some holder) q r = (r.0, record { holder = holder; here = q; stands = subst (λ o. Contains (targets_of o) r.0) q r.1; means = r.2 })
 
   abbrev height : ℕ → ℕ → ℕ
   height zero k = 0
@@ -172,7 +174,7 @@ module _ (circuit : Circuit) (none : HasNone (IsFault circuit)) where
   abbrev n : ℕ
   n = length circuit.modules
 
-  mark : (marks : List Bool) (order : List ℕ) (k : ℕ) → Marked marks order → length marks ≡ n → ((j : ℕ) → In j order → Before j k) → k < n → Spreads (k ∷ []) marks order (set marks k true) (order ++ k ∷ [])
+  mark : (marks : List Bool) (order : List ℕ) (k : ℕ) → Marked marks order → length marks ≡ n → ((j : ℕ) → Contains order j → Before j k) → k < n → Spreads (k ∷ []) marks order (set marks k true) (order ++ k ∷ [])
   mark marks order k m long before lt = marks_one marks order k m (free marks k (omega (arith, long, lt)) (λ e. no_loop k (before k ((m.same k).0 e)))) where
     free : (marks : List Bool) (k : ℕ) → k < length marks → (slice_get marks k ≡ Some true → ⊥) → slice_get marks k ≡ Some false
     free [] k lt h = absurd (omega (arith, lt))
@@ -180,7 +182,7 @@ module _ (circuit : Circuit) (none : HasNone (IsFault circuit)) where
     free (false ∷ bs) zero lt h = refl
     free (b ∷ bs) (suc k) lt h = free bs k (omega (arith, lt)) h
 
-  walk : (h f k : ℕ) → h ≤ height f k → k < n → (marks : List Bool) (order : List ℕ) → Marked marks order → length marks ≡ n → ((j : ℕ) → In j order → Before j k) → length order + h < n
+  walk : (h f k : ℕ) → h ≤ height f k → k < n → (marks : List Bool) (order : List ℕ) → Marked marks order → length marks ≡ n → ((j : ℕ) → Contains order j → Before j k) → length order + h < n
   walk zero f k le lt marks order m long before =
       let s = mark marks order k m long before lt in
       omega (arith, s.marked.count, count_true-within (set marks k true), s.counted, long, length-append order (k ∷ []))
@@ -192,8 +194,8 @@ module _ (circuit : Circuit) (none : HasNone (IsFault circuit)) where
       let within : a.0 < n = named_within (texts (module_names circuit)) a.0 _ e.1.means.has (names_counted circuit.modules) in
       let rest : length (order ++ k ∷ []) + h < n = walk h f a.0 (omega (arith, a.2)) within (set marks k true) (order ++ k ∷ []) s.marked (s.counted ∙ long) (λ j i. ⊎_elim
       (λ l. let b = before j l in (b.0, b.1, b.2, through k a.0 e.0 b.3 e.1))
-      (λ r. subst (λ x. Before x a.0) (sym (In-one r)) (a.0, e.0, e.1, itself))
-      (In-either order (k ∷ []) i)) in
+      (λ r. subst (λ x. Before x a.0) (sym (Contains-one r)) (a.0, e.0, e.1, itself))
+      (Contains-append_cases order (k ∷ []) _ i)) in
       omega (arith, rest, length-append order (k ∷ []))
     where
       names_counted : (ms : List Module) → length (texts (map (λ (m : Module). m.name) ms)) ≡ length ms
@@ -204,7 +206,7 @@ module _ (circuit : Circuit) (none : HasNone (IsFault circuit)) where
       named_within ts k x e c = omega (arith, slice_get_within ts k x e, c)
 
   bounded : (k : ℕ) → k < n → height n k < n
-  bounded k lt = let w : 0 + height n k < n = walk (height n k) n k (omega arith) lt (replicate n false) [] (unmarked n) (length-replicate n false) (λ j i. elim i [ ]) in omega (arith, w)
+  bounded k lt = let w : 0 + height n k < n = walk (height n k) n k (omega arith) lt (replicate n false) [] (unmarked n) (length-replicate n false) (λ j i. absurd (Contains-none i)) in omega (arith, w)
 
   falls : (from to : ℕ) (target : Name) → Instance circuit from target to → height n to < height n from
   falls from to target is =

@@ -17,7 +17,7 @@ use Rattle.circuit_laws.specs.Designs.{IsOf}
 use Rattle.circuit_laws.specs.WellFormed.{IsWellFormed, IsKnownModule}
 use Rattle.circuit_laws.proofs.Scoping.{distinct_behind, distinct_texts, ids_apart}
 use Rattle.circuit_laws.proofs.Typed.{named_itself, component_declared}
-use Rattle.circuit_laws.proofs.Pieces.{found_in, contained_In}
+use Rattle.circuit_laws.proofs.Pieces.{found_in}
 use Rattle.circuit_laws.proofs.Typing.{and_then_some}
 use Rattle.circuit_laws.proofs.Instances.{instance_declared, declared_instance}
 
@@ -231,7 +231,7 @@ module _ (fitted : Fitted) where
         let c = and_then_some (λ (c : Component). target_in c.declaration.sort) (component_named m i) target.0 target.1 in
         let among = found_in (λ (x : Component). x.declaration.name == i) m.components c.0 c.1 in
         let at = numbered circuit.modules fitted.declared j m e in
-        let declared = component_declared m at.holder at.of c.0 (contained_In m.components c.0 among.0) in
+        let declared = component_declared m at.holder at.of c.0 (among.0) in
         let name = declared_instance at.holder declared.0 target.0 c.0.declaration declared.1 c.2 in
         let means = meant_module target.0 next.0 target.2 in
         reached_within p means.0 next.0 n means.2

@@ -1,6 +1,7 @@
 -- Where a circuit's names have no fault, only the statements behind a declaration in its block name it.
 use Rattle.std.proofs.Common.{◌≡◌, ◌≢◌, ℕ, zero, suc, ◌+◌, List, [], ◌∷◌, ◌++◌, map, length, Some, slice_get, refl, sym, ap, ap₂, ◌∙◌, subst, arith, append_assoc, append-nil, length-append, ◌⊎◌, inl, inr, ⊎_elim}
-use Rattle.std.specs.Prelude.{⊤}
+use Rattle.std.proofs.lemmas.List.Elements.{Contains-append_cases}
+use Rattle.std.specs.Prelude.{Contains, ⊤}
 use Rattle.std.specs.List.{flat_map, AllZip}
 use Rattle.std.proofs.lemmas.List.Concat.{flat_map-cons}
 use Rattle.std.proofs.lemmas.List.{map-append}
@@ -19,10 +20,10 @@ use Rattle.fir_meaning.specs.Components.{Declaration, Told, ToldArm, told, of_to
 use Rattle.fir_names.specs.Extents.{Seen, Use, references, uses_in, declared_in}
 use Rattle.fir_names.specs.Parts as parts
 use Rattle.fir_names.specs.Parts.{Part, stmt_part, arm_part, module_part}
-use Rattle.fir_names.specs.Scopes.{In, here, there, texts, Names, IsScope}
+use Rattle.fir_names.specs.Scopes.{texts, Names, IsScope}
 use Rattle.fault_order.specs.First.{HasNone}
 use Rattle.fir_names.specs.Faults.{IsTwice, IsFault, name_twice}
-use Rattle.fir_names.proofs.Graphs.{In-either, In-one, In-get, some_same}
+use Rattle.fir_names.proofs.Graphs.{some_same}
 use Rattle.fir_names.proofs.Agreement.{sees_its_blocks, declares_its_names}
 use Rattle.circuit_laws.specs.Names as names
 use Rattle.circuit_laws.specs.Names.{all_of, named_in, Every, Avoids, Unnamed}
@@ -30,6 +31,7 @@ use Rattle.circuit_laws.specs.Standing as standing
 use Rattle.circuit_laws.specs.Standing.{total, count, arm_count, arm_names, UnnamedArms, IsAlone, itself, in_arm, in_else}
 use Rattle.fir_meaning.proofs.Tracking.{none_some}
 use Rattle.circuit_laws.proofs.Alone.{every-append, every-left, every-right}
+use Rattle.fir_names.proofs.Members.{Contains-first, Contains-later, Contains-none, Contains-one, Contains-get, Contains-map}
 
 -- Premises
 
@@ -66,16 +68,16 @@ distinct-right : (xs ys : List Name) → Distinct (xs ++ ys) → Distinct ys
 distinct-right [] ys d = d
 distinct-right (x ∷ xs) ys d = distinct-right xs ys d.1
 
-avoids_in : (c : ℕ) (ns : List Name) → Avoids c ns → In c (texts ns) → ⊥
-avoids_in c [] a i = elim i [ ]
-avoids_in c (n ∷ ns) a i = ⊎_elim (λ l. a.0 (sym (In-one l))) (λ r. avoids_in c ns a.1 r) (In-either (n.id ∷ []) (texts ns) i)
+avoids_in : (c : ℕ) (ns : List Name) → Avoids c ns → Contains (texts ns) c → ⊥
+avoids_in c [] a i = absurd (Contains-none i)
+avoids_in c (n ∷ ns) a i = ⊎_elim (λ l. a.0 (sym (Contains-one l))) (λ r. avoids_in c ns a.1 r) (Contains-append_cases (n.id ∷ []) (texts ns) _ i)
 
-apart-left : (c : ℕ) (xs ys : List Name) → Distinct (xs ++ ys) → In c (texts xs) → Avoids c ys
-apart-left c [] ys d i = elim i [ ]
+apart-left : (c : ℕ) (xs ys : List Name) → Distinct (xs ++ ys) → Contains (texts xs) c → Avoids c ys
+apart-left c [] ys d i = absurd (Contains-none i)
 apart-left c (x ∷ xs) ys d i =
-    ⊎_elim (λ l. subst (λ z. Avoids z ys) (sym (In-one l)) (avoids-right x.id xs ys d.0)) (λ r. apart-left c xs ys d.1 r) (In-either (x.id ∷ []) (texts xs) i)
+    ⊎_elim (λ l. subst (λ z. Avoids z ys) (sym (Contains-one l)) (avoids-right x.id xs ys d.0)) (λ r. apart-left c xs ys d.1 r) (Contains-append_cases (x.id ∷ []) (texts xs) _ i)
 
-apart-right : (c : ℕ) (xs ys : List Name) → Distinct (xs ++ ys) → In c (texts ys) → Avoids c xs
+apart-right : (c : ℕ) (xs ys : List Name) → Distinct (xs ++ ys) → Contains (texts ys) c → Avoids c xs
 apart-right c [] ys d i = tt
 apart-right c (x ∷ xs) ys d i = (λ e. avoids_in c ys (subst (λ z. Avoids z ys) e (avoids-right x.id xs ys d.0)) i, apart-right c xs ys d.1 i)
 
@@ -85,15 +87,15 @@ record Sound (part : Part) (ns : List Name) : Type 0 where
   avoids : (c : ℕ) (seen : List Seen) (n : ℕ) → NotSeen c seen → Avoids c part.declares → AllNamed (part.uses seen n) → Avoids c ns
   shows : (c n : ℕ) → Avoids c part.declares → NotSeen c (part.shows n)
 
-not_in : (c number : ℕ) (seen : List Seen) → NotSeen c seen → In (c, number) seen → ⊥
-not_in c number [] h i = elim i [ ]
+not_in : (c number : ℕ) (seen : List Seen) → NotSeen c seen → Contains seen (c, number) → ⊥
+not_in c number [] h i = absurd (Contains-none i)
 not_in c number (s ∷ seen) h i =
-    ⊎_elim (λ l. h.0 (ap (λ (x : Seen). x.0) (sym (In-one l)))) (λ r. not_in c number seen h.1 r) (In-either (s ∷ []) seen i)
+    ⊎_elim (λ l. h.0 (ap (λ (x : Seen). x.0) (sym (Contains-one l)))) (λ r. not_in c number seen h.1 r) (Contains-append_cases (s ∷ []) seen _ i)
 
 mentions_avoid : (c : ℕ) (seen : List Seen) → NotSeen c seen → (ns : List Name) → AllNamed (map (λ name. record { name = name; seen = seen }) ns) → Avoids c ns
 mentions_avoid c seen h [] a = tt
 mentions_avoid c seen h (n ∷ ns) a =
-    (λ e. not_in c a.0.0 seen h (subst (λ t. In (t, a.0.0) seen) e a.0.1), mentions_avoid c seen h ns a.1)
+    (λ e. not_in c a.0.0 seen h (subst (λ t. Contains seen (t, a.0.0)) e a.0.1), mentions_avoid c seen h ns a.1)
 
 sound_nothing : Sound parts.nothing []
 sound_nothing = record { avoids = λ c seen n h a u. tt; shows = λ c n a. tt }
@@ -312,12 +314,8 @@ get-either [] ys k d e = inr (k, omega arith, e)
 get-either (x ∷ xs) ys zero d e = inl e
 get-either (x ∷ xs) ys (suc k) d e = ⊎_elim (λ l. inl l) (λ r. inr (r.0, omega (arith, r.1), r.2)) (get-either xs ys k d e)
 
-In-mapped : {X : Type 0} (f : X → ℕ) (xs : List X) (x : X) → In x xs → In (f x) (map f xs)
-In-mapped f [] x i = elim i [ ]
-In-mapped f (y ∷ xs) x i = ⊎_elim (λ l. subst (λ z. In (f z) (map f (y ∷ xs))) (sym (In-one l)) (here (map f xs))) (λ r. there (f y) (map f xs) (In-mapped f xs x r)) (In-either (y ∷ []) xs i)
-
-named_among : (ds : List Declaration) (ns : List Name) → map (λ d. d.name) ds ≡ texts ns → (k : ℕ) (d : Declaration) → slice_get ds k ≡ Some d → In d.name (texts ns)
-named_among ds ns e k d at = subst (In d.name) e (In-mapped (λ x. x.name) ds d (In-get ds k d at))
+named_among : (ds : List Declaration) (ns : List Name) → map (λ d. d.name) ds ≡ texts ns → (k : ℕ) (d : Declaration) → slice_get ds k ≡ Some d → Contains (texts ns) d.name
+named_among ds ns e k d at = subst (λ list. Contains list d.name) e (Contains-map (λ x. x.name) ds d (Contains-get ds k d at))
 
 abbrev with_linked : (ss : List Stmt) → List ((s : Stmt) × Linked s)
 with_linked [] = []
@@ -384,14 +382,14 @@ block_alone (p ∷ ps) front seen n d k u h w a e =
     let wr = distinct-right (stmt_part p.0).declares (body_part rest).declares w in
     ⊎_elim
     (λ l.
-    let among : In d.name (texts (stmt_part p.0).declares) = named_among decls (stmt_part p.0).declares ((linked p.0).ids whole (map (λ t. t.itself) (map told rest))) k d l in
+    let among : Contains (texts (stmt_part p.0).declares) d.name = named_among decls (stmt_part p.0).declares ((linked p.0).ids whole (map (λ t. t.itself) (map told rest))) k d l in
     let apart : Avoids d.name (body_part rest).declares = apart-left d.name (stmt_part p.0).declares (body_part rest).declares w among in
     p.1 front rest seen n d k u
     (λ shut. block_unnamed d.name rest (seen ++ (stmt_part p.0).shows n) (n + length (stmt_part p.0).declares)
     (seen-append d.name seen ((stmt_part p.0).shows n) h (subst (NotSeen d.name) (sym (shut n)) tt)) apart there')
     h wl here' (subst (λ b. slice_get ((told p.0).declares whole b) k ≡ Some d) (itself_in rest) l))
     (λ r.
-    let among : In d.name (texts (body_part rest).declares) = named_among (declared_from whole (map told rest)) (body_part rest).declares (ids_in rest whole) r.0 d r.2 in
+    let among : Contains (texts (body_part rest).declares) d.name = named_among (declared_from whole (map told rest)) (body_part rest).declares (ids_in rest whole) r.0 d r.2 in
     let apart : Avoids d.name (stmt_part p.0).declares = apart-right d.name (stmt_part p.0).declares (body_part rest).declares w among in
     let own : Avoids d.name (named_in p.0) = (sound_stmt p.0).avoids d.name seen n h apart here' in
     let shifted : (front ++ p.0 ∷ []) ++ rest ≡ whole = append_assoc front (p.0 ∷ []) rest in
@@ -430,7 +428,7 @@ arms_alone (p ∷ ps) seen n d k h w a e =
     ⊎_elim
     (λ l.
     let f : ArmFound d k p.0 = p.1 seen n d k h (distinct-left (arm_part p.0).declares (arms_part rest).declares w) here' l in
-    let among : In d.name (texts (arm_part p.0).declares) = named_among (told_arm p.0).declared (arm_part p.0).declares (linked_arm p.0).ids k d l in
+    let among : Contains (texts (arm_part p.0).declares) d.name = named_among (told_arm p.0).declared (arm_part p.0).declares (linked_arm p.0).ids k d l in
     record {
       before = [];
       after = rest;
@@ -445,7 +443,7 @@ arms_alone (p ∷ ps) seen n d k h w a e =
       alone = f.alone;
     })
     (λ r.
-    let among : In d.name (texts (arms_part rest).declares) = named_among others (arms_part rest).declares (arm_ids_in rest) r.0 d r.2 in
+    let among : Contains (texts (arms_part rest).declares) d.name = named_among others (arms_part rest).declares (arm_ids_in rest) r.0 d r.2 in
     let f : ArmsFound d r.0 rest = arms_alone ps (seen ++ (arm_part p.0).shows n) (n + length (arm_part p.0).declares) d r.0 seen'
     (distinct-right (arm_part p.0).declares (arms_part rest).declares w) there' r.2 in
     record {
@@ -521,13 +519,13 @@ alone_layer (Stmt-F.When arms other) = λ front later seen n d k u v h w a e.
     ⊎_elim
     (λ l.
     let f : ArmsFound d k xs = arms_alone arms seen n d k h wl al l in
-    let among : In d.name (texts (arms_part xs).declares) = named_among (flat_map (λ arm. arm.declared) (map told_arm xs)) (arms_part xs).declares (arm_ids_in xs) k d l in
+    let among : Contains (texts (arms_part xs).declares) d.name = named_among (flat_map (λ arm. arm.declared) (map told_arm xs)) (arms_part xs).declares (arm_ids_in xs) k d l in
     let uo : Unnamed d.name ys = block_unnamed d.name ys (seen ++ (arms_part xs).shows n) (n + length (arms_part xs).declares) seen' (apart-left d.name (arms_part xs).declares (body_part ys).declares w' among) ar in
     subst (λ m. IsAlone d (total (map count front) + m) (front ++ s ∷ later)) (sym f.at)
     (subst (λ zs. IsAlone d (total (map count front) + (total (map arm_count f.before) + f.number)) (front ++ roll-Stmt (Stmt-F.When zs ys) ∷ later)) (sym f.is)
     (in_arm f.number front later f.before f.after f.condition f.inside ys u unnamed_later f.unnamed f.apart f.later uo f.alone)))
     (λ r.
-    let among : In d.name (texts (body_part ys).declares) = named_among (declared_in_block (map told ys)) (body_part ys).declares (ids_in ys (map (λ t. t.itself) (map told ys))) r.0 d r.2 in
+    let among : Contains (texts (body_part ys).declares) d.name = named_among (declared_in_block (map told ys)) (body_part ys).declares (ids_in ys (map (λ t. t.itself) (map told ys))) r.0 d r.2 in
     let ua : UnnamedArms d.name xs = arms_unnamed d.name xs seen n h (apart-right d.name (arms_part xs).declares (body_part ys).declares w' among) al in
     let inner : IsAlone d r.0 ys = subst (λ m. IsAlone d m ys) (zero_plus r.0) (block_alone other [] (seen ++ (arms_part xs).shows n) (n + length (arms_part xs).declares) d r.0 tt seen' wr ar
     (subst (λ b. slice_get (declared_from b (map told ys)) r.0 ≡ Some d) (itself_in ys) r.2)) in
@@ -585,20 +583,20 @@ every_named [] ns z = tt
 every_named (u ∷ us) [] z = absurd z
 every_named (u ∷ us) (n ∷ ns) z = ((n, z.0), every_named us ns z.1)
 
-pub named_within : (modules : List Module) (holder : Module) → In holder modules → AllNamed (flat_map uses_in modules) → AllNamed (uses_in holder)
-named_within [] holder i a = elim i [ ]
+pub named_within : (modules : List Module) (holder : Module) → Contains modules holder → AllNamed (flat_map uses_in modules) → AllNamed (uses_in holder)
+named_within [] holder i a = absurd (Contains-none i)
 named_within (m ∷ modules) holder i a =
     let split : AllNamed (uses_in m ++ flat_map uses_in modules) = subst AllNamed (flat_map-cons uses_in m modules) a in
-    ⊎_elim (λ l. subst (λ z. AllNamed (uses_in z)) (sym (In-one l)) (every-left Use IsNamed (uses_in m) (flat_map uses_in modules) split))
-    (λ r. named_within modules holder r (every-right Use IsNamed (uses_in m) (flat_map uses_in modules) split)) (In-either (m ∷ []) modules i)
+    ⊎_elim (λ l. subst (λ z. AllNamed (uses_in z)) (sym (Contains-one l)) (every-left Use IsNamed (uses_in m) (flat_map uses_in modules) split))
+    (λ r. named_within modules holder r (every-right Use IsNamed (uses_in m) (flat_map uses_in modules) split)) (Contains-append_cases (m ∷ []) modules _ i)
 
 avoids_unless : (c : ℕ) (ns : List Name) → ((front back : List Name) (name : Name) → ns ≡ front ++ name ∷ back → name.id ≡ c → ⊥) → Avoids c ns
 avoids_unless c [] h = tt
 avoids_unless c (n ∷ ns) h = (λ e. h [] ns n refl e, avoids_unless c ns (λ front back name s e. h (n ∷ front) back name (ap (λ l. n ∷ l) s) e))
 
-texts-here : (before front : List Name) (n name : Name) → name.id ≡ n.id → In name.id (texts (before ++ n ∷ front))
-texts-here [] front n name e = subst (λ t. In t (texts (n ∷ front))) (sym e) (here (texts front))
-texts-here (b ∷ before) front n name e = there b.id (texts (before ++ n ∷ front)) (texts-here before front n name e)
+texts-here : (before front : List Name) (n name : Name) → name.id ≡ n.id → Contains (texts (before ++ n ∷ front)) name.id
+texts-here [] front n name e = subst (λ t. Contains (texts (n ∷ front)) t) (sym e) (Contains-first (texts front))
+texts-here (b ∷ before) front n name e = Contains-later b.id (texts (before ++ n ∷ front)) (texts-here before front n name e)
 
 pub distinct_behind : (before ns : List Name) → ((name : Name) → ¬ (IsTwice (before ++ ns) name)) → Distinct ns
 distinct_behind before [] h = tt
@@ -617,7 +615,7 @@ ports_show : (c : ℕ) (ports : List Port) (n : ℕ) → Avoids c (parts.in_turn
 ports_show c [] n a = tt
 ports_show c (port ∷ ports) n a = (a.0, ports_show c ports (n + 1) a.1)
 
-pub module_alone : (circuit : Circuit) (scope : Scope) → IsScope circuit scope → HasNone (IsFault circuit) → (holder : Module) → In holder circuit.modules
+pub module_alone : (circuit : Circuit) (scope : Scope) → IsScope circuit scope → HasNone (IsFault circuit) → (holder : Module) → Contains circuit.modules holder
     → (k : ℕ) (d : Declaration) → slice_get (declared_in_block (map told holder.body)) k ≡ Some d → IsAlone d k holder.body
 module_alone circuit scope is none holder i k d e =
     let ports : Part = parts.in_turn (map (λ port. parts.declares port.name) holder.ports) in
@@ -626,7 +624,7 @@ module_alone circuit scope is none holder i k d e =
     subst AllNamed (sym (sees_its_blocks holder)) (named_within circuit.modules holder i (every_named (flat_map uses_in circuit.modules) scope.uses is.uses)) in
     let distinct : Distinct (ports.declares ++ body.declares) = subst Distinct (sym (declares_its_names holder))
     (distinct_behind [] (declared_in holder) (λ name t. none _ (name_twice holder name i t))) in
-    let among : In d.name (texts body.declares) = named_among (declared_in_block (map told holder.body)) body.declares (ids_in holder.body (map (λ t. t.itself) (map told holder.body))) k d e in
+    let among : Contains (texts body.declares) d.name = named_among (declared_in_block (map told holder.body)) body.declares (ids_in holder.body (map (λ t. t.itself) (map told holder.body))) k d e in
     body_alone holder.body (ports.shows 0) (0 + length ports.declares) d k (ports_show d.name holder.ports 0 (apart-right d.name ports.declares body.declares distinct among))
     (distinct-right ports.declares body.declares distinct) (every-right Use IsNamed (ports.uses [] 0) _ named) e
 
@@ -669,7 +667,7 @@ ids_apart (x ∷ xs) d (suc j) zero c e f = absurd (every-get (λ m. m ≢ x) xs
 ids_apart (x ∷ xs) d (suc j) (suc k) c e f = ap suc (ids_apart xs d.1 j k c e f)
 
 -- No two declarations of a module have one name.
-pub declared_once : (circuit : Circuit) → HasNone (IsFault circuit) → (holder : Module) → In holder circuit.modules
+pub declared_once : (circuit : Circuit) → HasNone (IsFault circuit) → (holder : Module) → Contains circuit.modules holder
     → (j k : ℕ) (d e : Declaration) → slice_get (declarations_of holder) j ≡ Some d → slice_get (declarations_of holder) k ≡ Some e → d.name ≡ e.name → j ≡ k
 declared_once circuit none holder i j k d e f g same =
     ids_apart (map (λ x. x.name) (declarations_of holder)) (subst DistinctIds (sym (ids_of holder)) (distinct_texts (declared_in holder)

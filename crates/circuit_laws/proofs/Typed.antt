@@ -6,12 +6,12 @@ use Rattle.fir_types.specs.declared.fir_type.FirType.{FirType}
 use Rattle.fir_tree.specs.declared.circuit.Module.{Module}
 use Rattle.fir_tree.specs.declared.scope.Fitted.{Fitted}
 use Rattle.fir_meaning.specs.Components.{Declaration, Component, TypedModule, declarations_of, with_types, modules_of, component_named}
-use Rattle.fir_names.specs.Scopes.{In, here, there}
 use Rattle.fault_order.specs.First.{HasNone}
 use Rattle.fir_names.specs.Faults.{IsFault}
 use Rattle.fir_names.proofs.Graphs.{some_same}
 use Rattle.circuit_laws.specs.Designs.{component_of, IsOf}
 use Rattle.circuit_laws.proofs.Scoping.{declared_once}
+use Rattle.fir_names.proofs.Members.{Contains-first, Contains-later}
 
 in_get : (cs : List Component) (c : Component) → Contains cs c → (k : ℕ) × (slice_get cs k ≡ Some c)
 in_get [] c (k, below, is) = absurd (omega arith)
@@ -24,12 +24,12 @@ zipped (d ∷ ds) [] k c e = cc
 zipped (d ∷ ds) (t ∷ types) zero c e = ap (λ (x : Component). Some x.declaration) (some_same e)
 zipped (d ∷ ds) (t ∷ types) (suc k) c e = zipped ds types k c e
 
-pub module_of : (modules : List Module) (types : List FirType) (m : TypedModule) → Contains (with_types modules types) m → (holder : Module) × In holder modules × IsOf m holder
+pub module_of : (modules : List Module) (types : List FirType) (m : TypedModule) → Contains (with_types modules types) m → (holder : Module) × Contains modules holder × IsOf m holder
 module_of [] types m (k, below, is) = absurd (omega arith)
-module_of (x ∷ modules) types m (zero, below, is) = (x, here modules, record { types = types; is = ap (λ (t : TypedModule). t.components) (sym is) })
+module_of (x ∷ modules) types m (zero, below, is) = (x, Contains-first modules, record { types = types; is = ap (λ (t : TypedModule). t.components) (sym is) })
 module_of (x ∷ modules) types m (suc k, below, is) =
     let rest = module_of modules (drop (length (declarations_of x)) types) m (k, omega arith, is) in
-    (rest.0, there x modules rest.1, rest.2)
+    (rest.0, Contains-later x modules rest.1, rest.2)
 
 pub component_declared : (m : TypedModule) (holder : Module) → IsOf m holder → (c : Component) → Contains m.components c → (k : ℕ) × (slice_get (declarations_of holder) k ≡ Some c.declaration)
 component_declared m holder of c among =
@@ -64,7 +64,7 @@ named_itself fitted none m at c among =
     find_at m.components c k.0 k.1 (λ j x f s. declared_once fitted.checked.circuit none of.0 of.1 j k.0 x.declaration c.declaration
     (zipped (declarations_of of.0) of.2.types j x (subst (λ l. slice_get l j ≡ Some x) of.2.is f)) there' s)
 
-pub declared_somewhere : (fitted : Fitted) (m : TypedModule) → Contains (modules_of fitted) m → (holder : Module) × In holder fitted.checked.circuit.modules
+pub declared_somewhere : (fitted : Fitted) (m : TypedModule) → Contains (modules_of fitted) m → (holder : Module) × Contains fitted.checked.circuit.modules holder
     × ((c : Component) → Contains m.components c → (k : ℕ) × (slice_get (declarations_of holder) k ≡ Some c.declaration))
 declared_somewhere fitted m at =
     let of = module_of fitted.checked.circuit.modules fitted.declared m at in

@@ -12,10 +12,9 @@ use Rattle.fir_meaning.specs.Values.{Integers, scene_with, value}
 use Rattle.fir_meaning.specs.Mentions.{joined, mentions}
 use Rattle.fir_meaning.specs.States.{leaf_of}
 use Rattle.fir_meaning.specs.WellTyped.{known_in, typed, is_narrow, HasTypes}
-use Rattle.fir_names.specs.Scopes.{In}
 use Rattle.circuit_laws.specs.Shapes.{shapes}
 use Rattle.circuit_laws.proofs.Shaping.{shaped}
-use Rattle.circuit_laws.proofs.Pieces.{found_in, mapped_some, contained_In, In-contained}
+use Rattle.circuit_laws.proofs.Pieces.{found_in, mapped_some}
 use Rattle.circuit_laws.proofs.Typing.{Fits, typed_shapes, typed_counted, typed_mentions}
 
 module _ (holder : Module) (m : TypedModule) (has : HasTypes holder m) where
@@ -27,7 +26,7 @@ module _ (holder : Module) (m : TypedModule) (has : HasTypes holder m) where
     narrow = λ name typ e.
         let c = mapped_some (λ (c : Component). c.typ) (component_named m name) typ e in
         let among = found_in (λ (x : Component). x.declaration.name == name) m.components c.0 c.1 in
-        subst (λ t. is_narrow t ≡ true) c.2 (has.parts c.0 (contained_In m.components c.0 among.0));
+        subst (λ t. is_narrow t ≡ true) c.2 (has.parts c.0 (among.0));
   }
 
   pub module_shapes : (e : Expr) (ss : List Shape) → typed e (known_in m) ≡ Some ss → shapes e (type_in m) ≡ ss
@@ -42,12 +41,12 @@ module _ (holder : Module) (m : TypedModule) (has : HasTypes holder m) where
   pub module_mentions : (e : Expr) (ss : List Shape) → typed e (known_in m) ≡ Some ss → (y : Leaf) → Contains (joined (mentions e (type_in m))) y
       → (c : Component) × (component_named m y.component ≡ Some c) × (leaf : TypeLeaf) × Contains (leaves c.typ) leaf × (leaf_of c leaf ≡ y)
   module_mentions e ss h y among =
-      let at = typed_mentions (known_in m) (type_in m) fits e ss h y (In-contained (joined (mentions e (type_in m))) y among) in
+      let at = typed_mentions (known_in m) (type_in m) fits e ss h y among in
       let c = mapped_some (λ (c : Component). c.typ) (component_named m y.component) at.typ at.is in
       let name = found_in (λ (x : Component). x.declaration.name == y.component) m.components c.0 c.1 in (
         c.0,
         c.1,
         at.at.leaf,
-        contained_In (leaves c.0.typ) at.at.leaf (subst (λ t. In at.at.leaf (leaves t)) (sym c.2) at.at.listed),
+        subst (λ t. Contains (leaves t) at.at.leaf) (sym c.2) at.at.listed,
         ap₂ (λ n w. record { component = n; way = w }) (eqb-true c.0.declaration.name y.component name.1) at.at.at,
       )

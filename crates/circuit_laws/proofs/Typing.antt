@@ -1,6 +1,7 @@
 -- What a well typed expression has: its values have its kinds and widths, and it mentions leaves of components.
 use Rattle.std.proofs.Common.{◌≡◌, ℕ, zero, suc, ◌+◌, ◌<◌, ◌≤◌, Bool, true, false, cond, ◌&&◌, List, [], ◌∷◌, ◌++◌, map, fold, zip, length, Option, Some, None, refl, sym, ap, ap₂, ◌∙◌, subst, arith, ⊎_elim, append_assoc}
-use Rattle.std.specs.Prelude.{min, max, nat_le, nat_lt, option_map, option_and_then}
+use Rattle.std.proofs.lemmas.List.Elements.{Contains-append_left, Contains-append_right, Contains-append_cases}
+use Rattle.std.specs.Prelude.{Contains, min, max, nat_le, nat_lt, option_map, option_and_then}
 use Rattle.std.specs.List.{flat_map, range_with_len}
 use Rattle.std.proofs.lemmas.Bool.{leb-true, ltb-true}
 use Rattle.std.proofs.lemmas.List.{length-map}
@@ -28,12 +29,12 @@ use Rattle.fir_meaning.specs.Mentions as mention
 use Rattle.fir_meaning.specs.Mentions.{Scope, Region, InScope, joined, mentions, suffix_onward, leaves_at, whole_region, follow_all, behind_each, elements_behind, of_choice}
 use Rattle.fir_meaning.specs.WellTyped as typing
 use Rattle.fir_meaning.specs.WellTyped.{Known, InKnown, Onward, typed, type_behind, is_one_unsigned, wider, wider_each, chosen_shapes, literal_shape, is_narrow}
-use Rattle.fir_names.specs.Scopes.{In, here, there}
-use Rattle.fir_names.proofs.Graphs.{In-left, In-right, In-either, In-one, some_same}
+use Rattle.fir_names.proofs.Graphs.{some_same}
 use Rattle.circuit_laws.specs.Names.{Every}
 use Rattle.circuit_laws.specs.Shapes as shaping
 use Rattle.circuit_laws.specs.Shapes.{InTypes, TypeStep, fitted_shape, type_along, either_shape, shapes, type_step}
-use Rattle.circuit_laws.proofs.Pieces.{In-from, In-of, mapped_some, IsLeafAt, field_there, element_there, field_leaf, element_leaf, narrow_field, narrow_element, narrow_leaves}
+use Rattle.circuit_laws.proofs.Pieces.{mapped_some, IsLeafAt, field_there, element_there, field_leaf, element_leaf, narrow_field, narrow_element, narrow_leaves}
+use Rattle.fir_names.proofs.Members.{Contains-first, Contains-later, Contains-none, Contains-one, Contains-from_map, Contains-from_flat_map}
 
 -- Options
 
@@ -67,13 +68,13 @@ IsNarrowShape s = s.width ≤ 128
 capped : (kind : Kind) (width : ℕ) → width ≤ 128 → fitted_shape kind width ≡ shaped kind width
 capped kind width h = let e : min width 128 ≡ width = omega (arith, h) in ap (shaped kind) e
 
-leaves_capped : (ls : List TypeLeaf) → ((l : TypeLeaf) → In l ls → width_of_leaf l ≤ 128) → map shaping.leaf_shape ls ≡ map typing.leaf_shape ls
+leaves_capped : (ls : List TypeLeaf) → ((l : TypeLeaf) → Contains ls l → width_of_leaf l ≤ 128) → map shaping.leaf_shape ls ≡ map typing.leaf_shape ls
 leaves_capped [] h = refl
-leaves_capped (l ∷ ls) h = ap₂ (λ x xs. x ∷ xs) (capped (kind_of_leaf l) (width_of_leaf l) (h l (here ls))) (leaves_capped ls (λ m i. h m (there l ls i)))
+leaves_capped (l ∷ ls) h = ap₂ (λ x xs. x ∷ xs) (capped (kind_of_leaf l) (width_of_leaf l) (h l (Contains-first ls))) (leaves_capped ls (λ m i. h m (Contains-later l ls i)))
 
-leaves_narrow : (ls : List TypeLeaf) → ((l : TypeLeaf) → In l ls → width_of_leaf l ≤ 128) → Every Shape IsNarrowShape (map typing.leaf_shape ls)
+leaves_narrow : (ls : List TypeLeaf) → ((l : TypeLeaf) → Contains ls l → width_of_leaf l ≤ 128) → Every Shape IsNarrowShape (map typing.leaf_shape ls)
 leaves_narrow [] h = tt
-leaves_narrow (l ∷ ls) h = (h l (here ls), leaves_narrow ls (λ m i. h m (there l ls i)))
+leaves_narrow (l ∷ ls) h = (h l (Contains-first ls), leaves_narrow ls (λ m i. h m (Contains-later l ls i)))
 
 record Widened (ss ts us : List Shape) : Type 0 where
   chosen : map either_shape (zip ss ts) ≡ us
@@ -127,13 +128,13 @@ module _ (known : Known) (types : Scope) (fits : Fits known types) where
     pub same : sh ≡ ss
     pub narrow : Every Shape IsNarrowShape ss
     pub counted : length me ≡ length ss
-    pub among : (y : Leaf) → In y (joined me) → IsLeafIn known y
+    pub among : (y : Leaf) → Contains (joined me) y → IsLeafIn known y
 
   -- what a reference may name, so far: parts of this component
   record IsGood (whole : FirType) (region : Region) : Type 0 where
     pub component : known region.component ≡ Some whole
-    pub ways : (way : List PathStep) → In way region.ways → (l : TypeLeaf) → In l (leaves region.typ) → IsLeafAt whole (way ++ l.path)
-    pub indices : (y : Leaf) → In y region.indices → IsLeafIn known y
+    pub ways : (way : List PathStep) → Contains region.ways way → (l : TypeLeaf) → Contains (leaves region.typ) l → IsLeafAt whole (way ++ l.path)
+    pub indices : (y : Leaf) → Contains region.indices y → IsLeafIn known y
 
   record StepTold (s : Suffix) (typ next : FirType) : Type 0 where
     pub type_is : type_step s typ ≡ next
@@ -190,19 +191,19 @@ module _ (known : Known) (types : Scope) (fits : Fits known types) where
 
   -- the ways behind a step of each way
   good_behind : (whole typ next : FirType) (to : PathStep) (ways : List (List PathStep))
-      → ((l : TypeLeaf) → In l (leaves next) → IsLeafAt typ (to ∷ l.path))
-      → ((way : List PathStep) → In way ways → (l : TypeLeaf) → In l (leaves typ) → IsLeafAt whole (way ++ l.path))
-      → (way : List PathStep) → In way (behind_each ways to) → (l : TypeLeaf) → In l (leaves next) → IsLeafAt whole (way ++ l.path)
+      → ((l : TypeLeaf) → Contains (leaves next) l → IsLeafAt typ (to ∷ l.path))
+      → ((way : List PathStep) → Contains ways way → (l : TypeLeaf) → Contains (leaves typ) l → IsLeafAt whole (way ++ l.path))
+      → (way : List PathStep) → Contains (behind_each ways to) way → (l : TypeLeaf) → Contains (leaves next) l → IsLeafAt whole (way ++ l.path)
   good_behind whole typ next to ways inside h way i l j =
-      let from = In-from (λ w. w ++ to ∷ []) ways way i in
+      let from = Contains-from_map (λ w. w ++ to ∷ []) ways way i in
       let part = inside l j in
       let there' = h from.0 from.1 part.leaf part.listed in
       let at : from.0 ++ part.leaf.path ≡ way ++ l.path = ap (λ p. from.0 ++ p) part.at ∙ sym (append_assoc from.0 (to ∷ []) l.path) ∙ ap (λ w. w ++ l.path) from.2 in
       record { leaf = there'.leaf; listed = there'.listed; at = there'.at ∙ at }
 
-  in_range : (from n k : ℕ) → In k (range_with_len from n) → k < from + n
-  in_range from zero k i = elim i [ ]
-  in_range from (suc n) k i = ⊎_elim (λ l. omega (arith, In-one l)) (λ r. omega (arith, in_range (from + 1) n k r)) (In-either (from ∷ []) (range_with_len (from + 1) n) i)
+  in_range : (from n k : ℕ) → Contains (range_with_len from n) k → k < from + n
+  in_range from zero k i = absurd (Contains-none i)
+  in_range from (suc n) k i = ⊎_elim (λ l. omega (arith, Contains-one l)) (λ r. omega (arith, in_range (from + 1) n k r)) (Contains-append_cases (from ∷ []) (range_with_len (from + 1) n) _ i)
 
   field_region : (name : ℕ) (typ next : FirType) (f : field_of_shape name (out-Shape typ.shape) ≡ Some next) (whole : FirType) (r : Region) → r.typ ≡ typ → IsGood whole r
       → IsGood whole (record r { typ = field_type name r.typ; ways = behind_each r.ways (step.Field name) }) × (field_type name r.typ ≡ next)
@@ -211,7 +212,7 @@ module _ (known : Known) (types : Scope) (fits : Fits known types) where
         record {
           component = good.component;
           ways = λ way i l j. good_behind whole typ next (step.Field name) r.ways (field_leaf typ next name (field_there typ name next f))
-              (λ w k m n. good.ways w k m (subst (λ t. In m (leaves t)) (sym is) n)) way i l (subst (λ t. In l (leaves t)) same j);
+              (λ w k m n. good.ways w k m (subst (λ t. Contains (leaves t) m) (sym is) n)) way i l (subst (λ t. Contains (leaves t) l) same j);
           indices = good.indices;
         },
         same,
@@ -224,13 +225,13 @@ module _ (known : Known) (types : Scope) (fits : Fits known types) where
         record {
           component = good.component;
           ways = λ way i l j. good_behind whole typ next (step.Element n) r.ways (element_leaf typ next n (element_there typ next e) below)
-              (λ w k m o. good.ways w k m (subst (λ t. In m (leaves t)) (sym is) o)) way i l (subst (λ t. In l (leaves t)) same j);
+              (λ w k m o. good.ways w k m (subst (λ t. Contains (leaves t) m) (sym is) o)) way i l (subst (λ t. Contains (leaves t) l) same j);
           indices = good.indices;
         },
         same,
       )
 
-  index_region : (mentioned : List (List Leaf)) (typ next : FirType) → element_of_shape (out-Shape typ.shape) ≡ Some next → ((y : Leaf) → In y (joined mentioned) → IsLeafIn known y)
+  index_region : (mentioned : List (List Leaf)) (typ next : FirType) → element_of_shape (out-Shape typ.shape) ≡ Some next → ((y : Leaf) → Contains (joined mentioned) y → IsLeafIn known y)
       → (whole : FirType) (r : Region) → r.typ ≡ typ → IsGood whole r
       → IsGood whole (record r { typ = element_type r.typ; ways = elements_behind r.ways (vector_length r.typ); dynamic = true; indices = r.indices ++ joined mentioned })
       × (element_type r.typ ≡ next)
@@ -239,11 +240,11 @@ module _ (known : Known) (types : Scope) (fits : Fits known types) where
         record {
           component = good.component;
           ways = λ way i l j.
-              let from = In-of (λ n. behind_each r.ways (step.Element n)) (range_with_len 0 (vector_length r.typ)) way i in
+              let from = Contains-from_flat_map (λ n. behind_each r.ways (step.Element n)) (range_with_len 0 (vector_length r.typ)) way i in
               let below : from.0 < vector_length typ = subst (λ t. from.0 < vector_length t) is (omega (arith, in_range 0 (vector_length r.typ) from.0 from.1)) in
               good_behind whole typ next (step.Element from.0) r.ways (element_leaf typ next from.0 (element_there typ next e) below)
-              (λ w k m o. good.ways w k m (subst (λ t. In m (leaves t)) (sym is) o)) way from.2 l (subst (λ t. In l (leaves t)) same j);
-          indices = λ y i. ⊎_elim (λ a. good.indices y a) (λ b. among y b) (In-either r.indices (joined mentioned) i);
+              (λ w k m o. good.ways w k m (subst (λ t. Contains (leaves t) m) (sym is) o)) way from.2 l (subst (λ t. Contains (leaves t) l) same j);
+          indices = λ y i. ⊎_elim (λ a. good.indices y a) (λ b. among y b) (Contains-append_cases r.indices (joined mentioned) _ i);
         },
         same,
       )
@@ -305,17 +306,17 @@ module _ (known : Known) (types : Scope) (fits : Fits known types) where
         let f = rest middle (ap (type_behind known (map suffix_typed (map (λ e. e.0) ps))) (sym q) ∙ e) (suffix_onward p.0 types r) there'.1 there'.0 (told.narrow n) in
         record { along_is = ap (type_along (map type_step (map (λ e. e.0) ps))) told.type_is ∙ f.along_is; region_is = f.region_is; good = f.good; narrow = f.narrow }
 
-  reference_among : (whole : FirType) (r : Region) → IsGood whole r → (ls : List TypeLeaf) → ((l : TypeLeaf) → In l ls → In l (leaves r.typ))
-      → (y : Leaf) → In y (joined (map (λ leaf. r.indices ++ leaves_at r leaf.path) ls)) → IsLeafIn known y
+  reference_among : (whole : FirType) (r : Region) → IsGood whole r → (ls : List TypeLeaf) → ((l : TypeLeaf) → Contains ls l → Contains (leaves r.typ) l)
+      → (y : Leaf) → Contains (joined (map (λ leaf. r.indices ++ leaves_at r leaf.path) ls)) y → IsLeafIn known y
   reference_among whole r good ls h y i =
-      let from = In-of (λ (l : List Leaf). l) (map (λ (leaf : TypeLeaf). r.indices ++ leaves_at r leaf.path) ls) y i in
-      let leaf = In-from (λ (leaf : TypeLeaf). r.indices ++ leaves_at r leaf.path) ls from.0 from.1 in
-      let among : In y (r.indices ++ leaves_at r leaf.0.path) = subst (In y) (sym leaf.2) from.2 in
+      let from = Contains-from_flat_map (λ (l : List Leaf). l) (map (λ (leaf : TypeLeaf). r.indices ++ leaves_at r leaf.path) ls) y i in
+      let leaf = Contains-from_map (λ (leaf : TypeLeaf). r.indices ++ leaves_at r leaf.path) ls from.0 from.1 in
+      let among : Contains (r.indices ++ leaves_at r leaf.0.path) y = subst (λ list. Contains list y) (sym leaf.2) from.2 in
       ⊎_elim (λ a. good.indices y a)
       (λ b.
-      let way = In-from (λ (w : List PathStep). record { component = r.component; way = w ++ leaf.0.path }) r.ways y b in
+      let way = Contains-from_map (λ (w : List PathStep). record { component = r.component; way = w ++ leaf.0.path }) r.ways y b in
       subst (IsLeafIn known) way.2 (record { typ = whole; is = good.component; at = good.ways way.0 way.1 leaf.0 (h leaf.0 leaf.1) }))
-      (In-either r.indices (leaves_at r leaf.0.path) among)
+      (Contains-append_cases r.indices (leaves_at r leaf.0.path) _ among)
 
   reference_told : (name : ℕ) (ps : List ((s : Suffix) × SuffixTold s)) (ss : List Shape)
       → option_map (λ typ. map typing.leaf_shape (leaves typ)) (type_behind known (map suffix_typed (map (λ e. e.0) ps)) (known name)) ≡ Some ss
@@ -334,8 +335,8 @@ module _ (known : Known) (types : Scope) (fits : Fits known types) where
         let same : types name ≡ typ = fits.same name typ q in
         let start : IsGood typ (whole_region types name) = record {
           component = q;
-          ways = λ way i l j. record { leaf = l; listed = subst (λ t. In l (leaves t)) same j; at = ap (λ w. w ++ l.path) (sym (In-one i)) };
-          indices = λ y i. elim i [ ];
+          ways = λ way i l j. record { leaf = l; listed = subst (λ t. Contains (leaves t) l) same j; at = ap (λ w. w ++ l.path) (sym (Contains-one i)) };
+          indices = λ y i. absurd (Contains-none i);
         } in
         let f : Followed typ (type_along (map type_step (map (λ e. e.0) ps)) typ) (follow_all types name (map suffix_onward (map (λ e. e.0) ps))) one.0
         = steps_told ps typ typ one.0 (whole_region types name) (ap (type_behind known (map suffix_typed (map (λ e. e.0) ps))) (sym q) ∙ one.1) same start (fits.narrow name typ q) in
@@ -355,7 +356,7 @@ module _ (known : Known) (types : Scope) (fits : Fits known types) where
 
   record OperandsTold (ps : List ((e : Expr) × ExprTold e)) (ss : List Shape) : Type 0 where
     same : map (λ operand. shaping.lone_shape (operand types)) (map shapes (map (λ e. e.0) ps)) ≡ ss
-    among : (y : Leaf) → In y (flat_map (λ operand. joined (operand types)) (map mentions (map (λ e. e.0) ps))) → IsLeafIn known y
+    among : (y : Leaf) → Contains (flat_map (λ operand. joined (operand types)) (map mentions (map (λ e. e.0) ps))) y → IsLeafIn known y
 
   lone_is : (o : Option (List Shape)) (s : Shape) → typing.lone_shape o ≡ Some s → o ≡ Some (s ∷ [])
   lone_is None s e = cc
@@ -364,7 +365,7 @@ module _ (known : Known) (types : Scope) (fits : Fits known types) where
   lone_is (Some (t ∷ u ∷ ss)) s e = cc
 
   operands_told : (ps : List ((e : Expr) × ExprTold e)) (ss : List Shape) → all_of (map (λ operand. typing.lone_shape (operand known)) (map typed (map (λ e. e.0) ps))) ≡ Some ss → OperandsTold ps ss
-  operands_told [] ss e = record { same = some_same e; among = λ y i. elim i [ ] }
+  operands_told [] ss e = record { same = some_same e; among = λ y i. absurd (Contains-none i) }
   operands_told (p ∷ ps) ss e =
       let rest = all_of (map (λ operand. typing.lone_shape (operand known)) (map typed (map (λ e. e.0) ps))) in
       let one = and_then_some (λ s. option_and_then (λ more. Some (s ∷ more)) rest) (typing.lone_shape (typed p.0 known)) ss e in
@@ -373,7 +374,7 @@ module _ (known : Known) (types : Scope) (fits : Fits known types) where
       let more : OperandsTold ps others.0 = operands_told ps others.0 others.1 in
       record {
         same = ap₂ (λ x xs. x ∷ xs) (ap shaping.lone_shape told.same) more.same ∙ some_same others.2;
-        among = λ y i. ⊎_elim (λ a. told.among y a) (λ b. more.among y b) (In-either (joined (mentions p.0 types)) (flat_map (λ operand. joined (operand types)) (map mentions (map (λ e. e.0) ps))) i);
+        among = λ y i. ⊎_elim (λ a. told.among y a) (λ b. more.among y b) (Contains-append_cases (joined (mentions p.0 types)) (flat_map (λ operand. joined (operand types)) (map mentions (map (λ e. e.0) ps))) _ i);
       }
 
   row_told : (prim : PrimOp) (params : List ℕ) (os : List Shape) (s : Shape) → shape_of_row prim params os ≡ Some s → (shaping.operation_shape prim os params ≡ s) × IsNarrowShape s
@@ -398,20 +399,20 @@ module _ (known : Known) (types : Scope) (fits : Fits known types) where
         same = ap (λ os. shaping.operation_shape prim os params ∷ []) told.same ∙ ap (λ s. s ∷ []) is.0;
         narrow = (is.1, tt);
         counted = refl;
-        among = λ y i. ⊎_elim (λ a. told.among y a) (λ b. elim b [ ]) (In-either all [] i);
+        among = λ y i. ⊎_elim (λ a. told.among y a) (λ b. absurd (Contains-none b)) (Contains-append_cases all [] _ i);
       })
 
   -- Choices
 
-  choice_among : (c : List (List Leaf)) (first second : List (List Leaf)) → ((y : Leaf) → In y (joined c) → IsLeafIn known y)
-      → ((y : Leaf) → In y (joined first) → IsLeafIn known y) → ((y : Leaf) → In y (joined second) → IsLeafIn known y)
-      → (y : Leaf) → In y (joined (map (λ both. joined c ++ (both.0 ++ both.1)) (zip first second))) → IsLeafIn known y
-  choice_among c [] second h a b y i = elim i [ ]
-  choice_among c (x ∷ xs) [] h a b y i = elim i [ ]
+  choice_among : (c : List (List Leaf)) (first second : List (List Leaf)) → ((y : Leaf) → Contains (joined c) y → IsLeafIn known y)
+      → ((y : Leaf) → Contains (joined first) y → IsLeafIn known y) → ((y : Leaf) → Contains (joined second) y → IsLeafIn known y)
+      → (y : Leaf) → Contains (joined (map (λ both. joined c ++ (both.0 ++ both.1)) (zip first second))) y → IsLeafIn known y
+  choice_among c [] second h a b y i = absurd (Contains-none i)
+  choice_among c (x ∷ xs) [] h a b y i = absurd (Contains-none i)
   choice_among c (x ∷ xs) (z ∷ zs) h a b y i =
-      ⊎_elim (λ l. ⊎_elim (λ m. h y m) (λ n. ⊎_elim (λ m. a y (In-left m (joined xs))) (λ m. b y (In-left m (joined zs))) (In-either x z n)) (In-either (joined c) (x ++ z) l))
-      (λ r. choice_among c xs zs h (λ w j. a w (In-right x j)) (λ w j. b w (In-right z j)) y r)
-      (In-either (joined c ++ (x ++ z)) (joined (map (λ both. joined c ++ (both.0 ++ both.1)) (zip xs zs))) i)
+      ⊎_elim (λ l. ⊎_elim (λ m. h y m) (λ n. ⊎_elim (λ m. a y (Contains-append_left _ (joined xs) _ m)) (λ m. b y (Contains-append_left _ (joined zs) _ m)) (Contains-append_cases x z _ n)) (Contains-append_cases (joined c) (x ++ z) _ l))
+      (λ r. choice_among c xs zs h (λ w j. a w (Contains-append_right x _ _ j)) (λ w j. b w (Contains-append_right z _ _ j)) y r)
+      (Contains-append_cases (joined c ++ (x ++ z)) (joined (map (λ both. joined c ++ (both.0 ++ both.1)) (zip xs zs))) _ i)
 
   choice_told : (ps : List ((e : Expr) × ExprTold e)) (ss : List Shape)
       → chosen_shapes (map (λ operand. operand known) (map typed (map (λ e. e.0) ps))) ≡ Some ss
@@ -459,7 +460,7 @@ module _ (known : Known) (types : Scope) (fits : Fits known types) where
       let both = if_some (nat_le s.width 128) (Some (s ∷ [])) ss e in
       let small : s.width ≤ 128 = leb-true s.width 128 both.0 in
       subst (Told (fitted_shape kind s.width ∷ []) ([] ∷ [])) (some_same both.1)
-      (record { same = ap (λ s. s ∷ []) (capped kind s.width small); narrow = (small, tt); counted = refl; among = λ y i. elim i [ ] }))
+      (record { same = ap (λ s. s ∷ []) (capped kind s.width small); narrow = (small, tt); counted = refl; among = λ y i. absurd (Contains-none i) }))
   form_case (Form-F.Prim prim ps params) = form_at (Form-F.Prim prim (map (λ e. e.0) ps) params) (λ ss e. operation_told prim params ps ss e)
   form_case (Form-F.Mux ps) = form_at (Form-F.Mux (map (λ e. e.0) ps)) (λ ss e. choice_told ps ss e)
 
@@ -485,5 +486,5 @@ module _ (known : Known) (types : Scope) (fits : Fits known types) where
   pub typed_counted : (e : Expr) (ss : List Shape) → typed e known ≡ Some ss → length (mentions e types) ≡ length ss
   typed_counted e ss h = (expr_told e ss h).counted
 
-  pub typed_mentions : (e : Expr) (ss : List Shape) → typed e known ≡ Some ss → (y : Leaf) → In y (joined (mentions e types)) → IsLeafIn known y
+  pub typed_mentions : (e : Expr) (ss : List Shape) → typed e known ≡ Some ss → (y : Leaf) → Contains (joined (mentions e types)) y → IsLeafIn known y
   typed_mentions e ss h = (expr_told e ss h).among

@@ -14,7 +14,7 @@ ghost use Rattle.fir_meaning.specs.Drives.{effect, in_turn};
 ghost use Rattle.fir_meaning.specs.Certain.{certain};
 ghost use Rattle.fir_meaning.specs.Loops.{driving, live};
 ghost use Rattle.fir_names.specs.Extents.{references};
-ghost use Rattle.fir_names.specs.Scopes.{In, Instance, IsScope, Means};
+ghost use Rattle.fir_names.specs.Scopes.{Instance, IsScope, Means};
 ghost use Rattle.fir_types.specs.declared.name.Name.{Name as AName};
 ghost use Rattle.fault_order.specs.First.{HasNone};
 ghost use Rattle.fir_names.specs.Faults.{IsFault};
@@ -53,23 +53,23 @@ pub fn bodies_leave_what_blocks_do()
 /// In a circuit whose names have no fault, every declaration of a module's body is named only by the statements behind it in its
 /// block.
 pub fn declarations_stand_alone()
-    ensures { (circuit : ACircuit) (scope : AScope) → IsScope circuit scope → HasNone (IsFault circuit) → (holder : AModule) → In holder circuit.modules → (number : ℕ) (d : TheDeclaration) → slice_get (declared_in_block (map told holder.body)) number ≡ Some d → IsAlone d number holder.body }
+    ensures { (circuit : ACircuit) (scope : AScope) → IsScope circuit scope → HasNone (IsFault circuit) → (holder : AModule) → Contains circuit.modules holder → (number : ℕ) (d : TheDeclaration) → slice_get (declared_in_block (map told holder.body)) number ≡ Some d → IsAlone d number holder.body }
 {}
 
 /// No two declarations of a module have one name.
 pub fn names_are_declared_once()
-    ensures { (circuit : ACircuit) → HasNone (IsFault circuit) → (holder : AModule) → In holder circuit.modules → (j k : ℕ) (d e : TheDeclaration) → slice_get (declarations_of holder) j ≡ Some d → slice_get (declarations_of holder) k ≡ Some e → d.name ≡ e.name → j ≡ k }
+    ensures { (circuit : ACircuit) → HasNone (IsFault circuit) → (holder : AModule) → Contains circuit.modules holder → (j k : ℕ) (d e : TheDeclaration) → slice_get (declarations_of holder) j ≡ Some d → slice_get (declarations_of holder) k ≡ Some e → d.name ≡ e.name → j ≡ k }
 {}
 
 /// In a circuit whose names have no fault, what a module's whole body leaves in the leaves of a declaration is what the statements of
 /// its block do, where the conditions around the declaration aren't asked. The declarations are numbered in text order, ports first.
 pub fn modules_leave_what_blocks_do()
-    ensures { (circuit : ACircuit) (scope : AScope) → IsScope circuit scope → HasNone (IsFault circuit) → (holder : AModule) → In holder circuit.modules → (number : ℕ) (d : TheDeclaration) → slice_get (declarations_of holder) number ≡ Some d → (leaf : Leaf) → leaf.component ≡ d.name → (scene : Scene) (last : Option ℤ) → left_by scene leaf number (length holder.ports) holder.body last ≡ in_turn (map (effect scene leaf) d.block) last }
+    ensures { (circuit : ACircuit) (scope : AScope) → IsScope circuit scope → HasNone (IsFault circuit) → (holder : AModule) → Contains circuit.modules holder → (number : ℕ) (d : TheDeclaration) → slice_get (declarations_of holder) number ≡ Some d → (leaf : Leaf) → leaf.component ≡ d.name → (scene : Scene) (last : Option ℤ) → left_by scene leaf number (length holder.ports) holder.body last ≡ in_turn (map (effect scene leaf) d.block) last }
 {}
 
 /// And its live connects in the whole body are those in its block.
 pub fn modules_have_the_live_connects_of_blocks()
-    ensures { (circuit : ACircuit) (scope : AScope) → IsScope circuit scope → HasNone (IsFault circuit) → (holder : AModule) → In holder circuit.modules → (number : ℕ) (d : TheDeclaration) → slice_get (declarations_of holder) number ≡ Some d → (leaf : Leaf) → leaf.component ≡ d.name → (types : Scope) → live_by types leaf number (length holder.ports) holder.body ≡ live types leaf d.block }
+    ensures { (circuit : ACircuit) (scope : AScope) → IsScope circuit scope → HasNone (IsFault circuit) → (holder : AModule) → Contains circuit.modules holder → (number : ℕ) (d : TheDeclaration) → slice_get (declarations_of holder) number ≡ Some d → (leaf : Leaf) → leaf.component ≡ d.name → (types : Scope) → live_by types leaf number (length holder.ports) holder.body ≡ live types leaf d.block }
 {}
 
 /// The kinds and widths of an expression's values don't depend on what the leaves have.
@@ -84,7 +84,7 @@ pub fn components_are_named()
 
 /// Each module of a design is one of the circuit's, whose declarations its components are.
 pub fn components_are_declared()
-    ensures { (fitted : FittedCircuit) (m : TypedModule) → Contains (modules_of fitted) m → (holder : AModule) × In holder fitted.checked.circuit.modules × ((c : Component) → Contains m.components c → (k : ℕ) × (slice_get (declarations_of holder) k ≡ Some c.declaration)) }
+    ensures { (fitted : FittedCircuit) (m : TypedModule) → Contains (modules_of fitted) m → (holder : AModule) × Contains fitted.checked.circuit.modules holder × ((c : Component) → Contains m.components c → (k : ℕ) × (slice_get (declarations_of holder) k ≡ Some c.declaration)) }
 {}
 
 /// Where leaves are numbered in text order, a leaf's number is below the number of leaves before a place just where its declaration

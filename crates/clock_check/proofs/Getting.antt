@@ -11,7 +11,6 @@ use Rattle.fir_types.specs.Leaves.{leaves, is_clock}
 use Rattle.fir_types.proofs.Layers.{leaves-bundle}
 use Rattle.std.proofs.lemmas.Bool.{eqb-true}
 use Rattle.fir_tree.specs.declared.scope.Fitted.{Fitted}
-use Rattle.fir_names.specs.Scopes.{In, here, there}
 use Rattle.circuit_laws.specs.WellFormed.{IsWellFormed}
 use Rattle.circuit_laws.specs.Designs.{component_of}
 use Rattle.fir_tree.specs.declared.circuit.Module.{Module}
@@ -298,15 +297,10 @@ gets_edge m holder ts is x y (by_node c leaf e k source named l clock sort at gi
     declared_edge (type_in m) holder (part_of d.name leaf, source) d (declared_at m holder ts is c named)
     (has_edge (type_in m) d (part_of d.name leaf, source) (node e k leaf sort (ap (λ t. slice_get (leaves t) k) typ ∙ at) given clock refl))
 
-in_at : {A : Type 0} (xs : List A) (k : ℕ) (x : A) → slice_get xs k ≡ Some x → In x xs
-in_at [] k x e = absurd (none_some e)
-in_at (y ∷ xs) zero x e = subst (λ z. In z (y ∷ xs)) (some_same e) (here xs)
-in_at (y ∷ xs) (suc k) x e = there y xs (in_at xs k x e)
-
 -- the same of a module of a circuit
 pub edges_are_links : (fitted : Fitted) → IsWellFormed fitted → AreOnce fitted → (k : ℕ) (holder : Module) (m : TypedModule) → slice_get fitted.checked.circuit.modules k ≡ Some holder
     → slice_get (modules_of fitted) k ≡ Some m → (x y : Leaf) → Contains (module_edges (type_in m) holder) (x, y) ↔ Gets m x y
 edges_are_links fitted well once k holder m here' number x y =
     let its = placed fitted.checked.circuit.modules fitted.declared fitted.checked.scope.reached k holder m here' number in
-    let in' : In holder fitted.checked.circuit.modules = in_at fitted.checked.circuit.modules k holder here' in
+    let in' : Contains fitted.checked.circuit.modules holder = get_contains fitted.checked.circuit.modules k holder here' in
     (λ c. edge_gets m holder its.declared its.is (once holder in') x y c, λ g. gets_edge m holder its.declared its.is x y g)

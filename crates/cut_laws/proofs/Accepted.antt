@@ -1,9 +1,8 @@
 -- In an accepted circuit each component of the run stands once in its flat order. So it has one cut.
-use Rattle.std.proofs.Common.{◌≡◌, ℕ, zero, suc, List, [], ◌∷◌, Some, option_and_then, refl, sym, ap, ◌∙◌, subst}
+use Rattle.std.proofs.Common.{◌≡◌, ℕ, List, [], Some, option_and_then, refl, sym, ap, ◌∙◌}
 use Rattle.std.specs.List.{slice_get}
 use Rattle.fir_tree.specs.declared.scope.Fitted.{Fitted}
 use Rattle.fir_meaning.specs.Components.{TypedModule, Component, module_at, module_within, module_named, declarations_of, design_of}
-use Rattle.fir_names.specs.Scopes.{In, here, there}
 use Rattle.leaf_names.specs.LeafNames.{Texts}
 use Rattle.circuit_laws.specs.WellFormed.{IsWellFormed}
 use Rattle.circuit_laws.proofs.Reached.{known_module}
@@ -12,24 +11,19 @@ use Rattle.net_of_circuit.specs.FlatOrder.{Placed, InFlatOrder}
 use Rattle.net_of_circuit.specs.NetOf.{IsNetOf}
 use Rattle.ground_net.specs.declared.net.Net.{Net}
 use Rattle.net_laws.specs.Serves.{Serves}
-use Rattle.net_laws.proofs.Numbers.{some_same, none_some}
 use Rattle.design_laws.proofs.Accepted.{lists_leaves, is_typed}
 use Rattle.design_laws.proofs.Lists.{map_at}
 use Rattle.design_laws.proofs.Once.{Apart, entries_once}
 use Rattle.cut_laws.specs.CircuitCuts.{IsCutText, StandOnce}
 use Rattle.cut_laws.proofs.Texts.{one_text}
-
-in_at : {A : Type 0} (xs : List A) (k : ℕ) (x : A) → slice_get xs k ≡ Some x → In x xs
-in_at [] k x e = none_some e
-in_at (a ∷ xs) zero x e = subst (λ z. In z (a ∷ xs)) (some_same e) (here xs)
-in_at (a ∷ xs) (suc k) x e = there a xs (in_at xs k x e)
+use Rattle.fir_names.proofs.Members.{Contains-get}
 
 modules_apart : (fitted : Fitted) (well : IsWellFormed fitted) (path : List ℕ) (m : TypedModule) → module_at (design_of fitted) path ≡ Some m → Apart m.components
 modules_apart fitted well path m e j k c d f g name =
     let it = known_module fitted well path m e in
     let at : (i : ℕ) (x : Component) → slice_get m.components i ≡ Some x → slice_get (declarations_of it.holder) i ≡ Some x.declaration = λ i x h.
     ap (λ l. slice_get l i) (sym it.typed.components) ∙ map_at (λ y. y.declaration) m.components i x h in
-    declared_once fitted.checked.circuit well.names it.holder (in_at fitted.checked.circuit.modules it.k it.holder it.here) j k c.declaration d.declaration (at j c f) (at k d g) name
+    declared_once fitted.checked.circuit well.names it.holder (Contains-get fitted.checked.circuit.modules it.k it.holder it.here) j k c.declaration d.declaration (at j c f) (at k d g) name
 
 pub stand_once : (fitted : Fitted) (well : IsWellFormed fitted) (main : TypedModule) → module_named (design_of fitted) (design_of fitted).main ≡ Some main → (placed : List Placed)
     → InFlatOrder (design_of fitted) [] main main.components placed → StandOnce placed

@@ -11,23 +11,17 @@ use Rattle.fir_meaning.specs.Components.{Design, TypedModule, Component, Declara
 use Rattle.fir_meaning.specs.Values.{seen_through}
 use Rattle.fir_meaning.specs.States.{is_port}
 use Rattle.fir_meaning.proofs.Ports.{component_found}
-use Rattle.fir_names.specs.Scopes.{In, here, there}
 use Rattle.circuit_laws.specs.WellFormed.{IsWellFormed, IsKnownModule}
 use Rattle.circuit_laws.proofs.Reached.{known_module}
 use Rattle.circuit_laws.proofs.Scoping.{declared_once}
 use Rattle.circuit_laws.proofs.TypedModules.{module_values}
 use Rattle.net_of_circuit.specs.FlatOrder.{Placed, InFlatOrder, ListsLeaves}
 use Rattle.net_laws.specs.Typed.{IsTyped, HasPortsFirst}
-use Rattle.net_laws.proofs.Numbers.{some_same, none_some}
 use Rattle.design_laws.proofs.Lists.{in_list, place_of, map_at}
 use Rattle.design_laws.proofs.Standing.{within, leaf_there, entry_stands, own_there, placed_at}
 use Rattle.design_laws.proofs.Once.{Apart, entries_once, leaves_once}
 use Rattle.design_laws.proofs.Declared.{body_makes}
-
-in_at : {A : Type 0} (xs : List A) (k : ℕ) (x : A) → slice_get xs k ≡ Some x → In x xs
-in_at [] k x e = none_some e
-in_at (a ∷ xs) zero x e = subst (λ z. In z (a ∷ xs)) (some_same e) (here xs)
-in_at (a ∷ xs) (suc k) x e = there a xs (in_at xs k x e)
+use Rattle.fir_names.proofs.Members.{Contains-get}
 
 take_drop : {A : Type 0} (n : ℕ) (xs : List A) → xs ≡ take n xs ++ drop n xs
 take_drop zero xs = refl
@@ -82,7 +76,7 @@ module _ (fitted : Fitted) (well : IsWellFormed fitted) where
       let it = known path m e in
       let at : (i : ℕ) (x : Component) → slice_get m.components i ≡ Some x → slice_get (declarations_of it.holder) i ≡ Some x.declaration = λ i x h.
       ap (λ l. slice_get l i) (sym it.typed.components) ∙ map_at (λ y. y.declaration) m.components i x h in
-      declared_once fitted.checked.circuit well.names it.holder (in_at fitted.checked.circuit.modules it.k it.holder it.here) j k c.declaration d.declaration (at j c f) (at k d g) name
+      declared_once fitted.checked.circuit well.names it.holder (Contains-get fitted.checked.circuit.modules it.k it.holder it.here) j k c.declaration d.declaration (at j c f) (at k d g) name
 
   -- The flat order lists each leaf of the run once.
   pub lists_leaves : (main : TypedModule) → module_named design design.main ≡ Some main → (placed : List Placed) → InFlatOrder design [] main main.components placed → ListsLeaves design placed

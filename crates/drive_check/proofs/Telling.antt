@@ -20,9 +20,8 @@ use Rattle.fir_meaning.specs.Components.{Sort, Declaration, Component, TypedModu
 use Rattle.fir_meaning.specs.Mentions.{Scope}
 use Rattle.fir_meaning.specs.Certain.{is_certain, must_be_driven}
 use Rattle.fir_meaning.proofs.Tracking.{none_some, Contains-flat_map}
-use Rattle.fir_names.specs.Scopes.{In}
 use Rattle.fir_names.specs.Finds.{numbered}
-use Rattle.fir_names.proofs.Graphs.{some_same, In-get}
+use Rattle.fir_names.proofs.Graphs.{some_same}
 use Rattle.circuit_laws.specs.Designs.{component_of}
 use Rattle.drive_check.specs.declared.fault.DriveFault.{DriveFault}
 use Rattle.drive_check.specs.declared.fault.DriveFault.TheVariants.{NotInitialized}
@@ -32,6 +31,7 @@ use Rattle.drive_check.specs.Typing.{typed, type_or_none}
 use Rattle.drive_check.specs.Walks.{Certain, leaf_faults}
 use Rattle.drive_check.specs.Modules.{faults_in, module_faults, where_reached, modules_faults, faults_of}
 use Rattle.drive_check.proofs.Linking.{sites, site_faults, names_are, module_sites}
+use Rattle.fir_names.proofs.Members.{Contains-get}
 
 -- The laws of names
 
@@ -39,7 +39,7 @@ abbrev pub AreNamed : Fitted → Type 0
 AreNamed fitted = (m : TypedModule) → Contains (modules_of fitted) m → (c : Component) → Contains m.components c → component_named m c.declaration.name ≡ Some c
 
 abbrev pub AreOnce : Fitted → Type 0
-AreOnce fitted = (holder : Module) → In holder fitted.checked.circuit.modules → (j k : ℕ) (d e : Declaration)
+AreOnce fitted = (holder : Module) → Contains fitted.checked.circuit.modules holder → (j k : ℕ) (d e : Declaration)
     → slice_get (declarations_of holder) j ≡ Some d → slice_get (declarations_of holder) k ≡ Some e → d.name ≡ e.name → j ≡ k
 
 -- Lists
@@ -334,7 +334,7 @@ all_had fitted once f c =
     let o : Owner g.m name.id = owner g.m name.id leaf.0 leaf.1 in
     let its : slice_get ds o.number ≡ Some o.c.declaration = zipped ds g.declared o.number o.c (subst (λ l. slice_get l o.number ≡ Some o.c) g.is o.at) in
     let number : at.0 ≡ o.number =
-    once g.holder (In-get fitted.checked.circuit.modules g.number g.holder g.holds) at.0 o.number d o.c.declaration here.1 its
+    once g.holder (Contains-get fitted.checked.circuit.modules g.number g.holder g.holds) at.0 o.number d o.c.declaration here.1 its
     (same_ids ds names (names_are g.holder) at.0 d name here.1 here.0 ∙ sym o.name) in
     let same : d ≡ o.c.declaration = some_same (sym here.1 ∙ ap (slice_get ds) number ∙ its) in
     let l : LeafTold (λ x. is_certain types x o.c.declaration.behind) name o.c.declaration.sort leaf.0 f =

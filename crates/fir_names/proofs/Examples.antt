@@ -5,9 +5,10 @@ use Rattle.fir_tree.specs.declared.circuit.Circuit.{Circuit}
 use Rattle.place_text.specs.declared.place.Place.{Place}
 use Rattle.fir_names.specs.declared.fault.NameFault.TheVariants as kind
 use Rattle.fir_names.specs.Extents.{Seen, Use, refer, declare, followed_by, all_marks, block_marks, uses_behind}
-use Rattle.fir_names.specs.Scopes.{here, Names, Instance, itself, through}
+use Rattle.fir_names.specs.Scopes.{Names, Instance, itself, through}
 use Rattle.fault_order.specs.Order.{Precedes, by_line, by_rank}
 use Rattle.fir_names.specs.Faults.{IsFault, instance_loop, place_of, rank_of}
+use Rattle.fir_names.proofs.Members.{Contains-first}
 
 abbrev seeing : Name → List Seen → Use
 seeing name seen = record { name = name; seen = seen }
@@ -34,7 +35,7 @@ numbers_go_on a b = refl
 
 -- A reference names what it sees by its name.
 named : (a : Name) (n : ℕ) → Names (seeing a ((a.id, n) ∷ [])) n
-named a n = here []
+named a n = Contains-first []
 
 -- Two modules that have instances of each other are on a loop.
 two_modules : (circuit : Circuit) (first second : Name) → Instance circuit 0 second 1 → Instance circuit 1 first 0 → IsFault circuit (kind.InstanceLoop second.place)

@@ -1,13 +1,13 @@
 -- What was tried of the parts of a graph tells them.
 use Rattle.std.proofs.Common.{◌≡◌, ℕ, zero, suc, ◌+◌, ◌<◌, ◌≤◌, Bool, true, false, List, length, refl, sym, ◌∙◌, ap, subst, arith, ⊎_elim, slice_get, Some}
-use Rattle.std.specs.Prelude.{slice_index, nat_eq, MatchBool}
+use Rattle.std.specs.Prelude.{Contains, slice_index, nat_eq, MatchBool}
 use Rattle.std.proofs.lemmas.Bool.{eqb-true, eqb-false}
 use Rattle.std.proofs.lemmas.Option.{slice_get_within}
 use Rattle.fir_names.specs.declared.graph.Edge.{Edge}
-use Rattle.fir_names.specs.Scopes.{In}
 use Rattle.fir_names.specs.Graphs.{Graph, Out, Leads, stays, goes, Way, Nears, Falls, AreParts}
-use Rattle.fir_names.proofs.Graphs.{In-get, some_same}
+use Rattle.fir_names.proofs.Graphs.{some_same}
 use Rattle.fir_names.proofs.Cycles.{at_or_before}
+use Rattle.fir_names.proofs.Members.{Contains-get}
 
 leads_both : {graph : Graph} {a b c : ℕ} → Leads graph a b → Leads graph b c → Leads graph a c
 leads_both way stays = way
@@ -22,7 +22,7 @@ way_none false graph a = stays
 way_none true graph a = stays
 
 pub edge_leads : {graph : Graph} (from at : ℕ) (out : List Edge) (edge : Edge) → slice_get graph from ≡ Some out → slice_get out at ≡ Some edge → Leads graph from edge.to
-edge_leads from at out edge h k = goes from edge stays (record { out = out; here = h; stands = In-get out at edge k })
+edge_leads from at out edge h k = goes from edge stays (record { out = out; here = h; stands = Contains-get out at edge k })
 
 -- where each module is a head, or another one is nearer to the head, ways lead to the heads
 module _ (turned : Bool) (graph : Graph) (heads far : List ℕ) (near : (k : ℕ) → k < length graph → Nears turned graph heads far k) where
@@ -66,11 +66,11 @@ back_where {heads} {graph} from edge parts f t out a b p q = by (nat_eq a b) ref
 -- the edges of the first modules
 pub fall_more : {ranks heads : List ℕ} {graph : Graph} (from : ℕ) (out : List Edge) → slice_get graph from ≡ Some out
     → ((k : ℕ) (edge : Edge) → k < from → Out graph k edge → Falls ranks heads k edge.to)
-    → ((edge : Edge) → In edge out → Falls ranks heads from edge.to) → (k : ℕ) (edge : Edge) → k < from + 1 → Out graph k edge → Falls ranks heads k edge.to
+    → ((edge : Edge) → Contains out edge → Falls ranks heads from edge.to) → (k : ℕ) (edge : Edge) → k < from + 1 → Out graph k edge → Falls ranks heads k edge.to
 fall_more {ranks} {heads} {graph} from out e h k' k edge lt o = ⊎_elim (λ before. h k edge before o) (λ is. last is) (at_or_before k from lt)
   where
     last : k ≡ from → Falls ranks heads k edge.to
-    last is = subst (λ n. Falls ranks heads n edge.to) (sym is) (k' edge (subst (In edge) (some_same (sym o.here ∙ ap (slice_get graph) is ∙ e)) o.stands))
+    last is = subst (λ n. Falls ranks heads n edge.to) (sym is) (k' edge (subst (λ list. Contains list edge) (some_same (sym o.here ∙ ap (slice_get graph) is ∙ e)) o.stands))
 
 pub fall_all : {ranks heads : List ℕ} {graph : Graph} (count : ℕ) → length graph ≤ count → ((k : ℕ) (edge : Edge) → k < count → Out graph k edge → Falls ranks heads k edge.to)
     → (from : ℕ) (edge : Edge) → Out graph from edge → Falls ranks heads from edge.to

@@ -1,3 +1,4 @@
+pub mod Members
 pub mod Graphs
 mod Cycles
 mod Examples

@@ -1,6 +1,6 @@
 -- The faults of a circuit's names, and which is the first (FIRRTL specification 3.0, "Circuits and Modules", "Instances", "Namespaces",
 -- "Scoping").
-use Rattle.std.specs.Prelude.{◌≡◌, ℕ, List, ◌∷◌, ◌++◌, Option, Some, None, codes}
+use Rattle.std.specs.Prelude.{Contains, ◌≡◌, ℕ, List, ◌∷◌, ◌++◌, Option, Some, None, codes}
 use Rattle.place_text.specs.declared.place.Place.{Place}
 use Rattle.fault_order.specs.First.{IsFirst as IsFirstOf}
 use Rattle.fir_types.specs.declared.name.Name.{Name}
@@ -9,24 +9,24 @@ use Rattle.fir_tree.specs.declared.circuit.Module.{Module}
 use Rattle.fir_names.specs.declared.fault.NameFault.{NameFault}
 use Rattle.fir_names.specs.declared.fault.NameFault.TheVariants.{NoMain, ModuleTwice, ModuleUnknown, InstanceLoop, NameTwice, NameUnknown, NoMemory}
 use Rattle.fir_names.specs.Extents.{Use, uses_in, declared_in, instances_in}
-use Rattle.fir_names.specs.Scopes.{In, texts, module_names, Instance, Reaches, Names}
+use Rattle.fir_names.specs.Scopes.{texts, module_names, Instance, Reaches, Names}
 
 -- a name that one before it in the list has as well
 pub record IsTwice (names : List Name) (name : Name) : Type 0 where
   pub before : List Name
   pub after : List Name
   pub split : names ≡ before ++ name ∷ after
-  pub again : In name.id (texts before)
+  pub again : Contains (texts before) name.id
 
 -- the faults of a circuit's names
 pub data IsFault (circuit : Circuit) : NameFault → Type 0 where
-  no_main : ¬ (In circuit.main.id (texts (module_names circuit))) → IsFault circuit (NoMain circuit.main.place)
+  no_main : ¬ (Contains (texts (module_names circuit)) circuit.main.id) → IsFault circuit (NoMain circuit.main.place)
   module_twice : (name : Name) → IsTwice (module_names circuit) name → IsFault circuit (ModuleTwice name.place)
-  module_unknown : (holder : Module) (target : Name) → In holder circuit.modules → In target (instances_in holder)
-      → ¬ (In target.id (texts (module_names circuit))) → IsFault circuit (ModuleUnknown target.place)
+  module_unknown : (holder : Module) (target : Name) → Contains circuit.modules holder → Contains (instances_in holder) target
+      → ¬ (Contains (texts (module_names circuit)) target.id) → IsFault circuit (ModuleUnknown target.place)
   instance_loop : (from to : ℕ) (target : Name) → Instance circuit from target to → Reaches circuit to from → IsFault circuit (InstanceLoop target.place)
-  name_twice : (holder : Module) (name : Name) → In holder circuit.modules → IsTwice (declared_in holder) name → IsFault circuit (NameTwice name.place)
-  name_unknown : (holder : Module) (use' : Use) → In holder circuit.modules → In use' (uses_in holder) → ((number : ℕ) → ¬ (Names use' number))
+  name_twice : (holder : Module) (name : Name) → Contains circuit.modules holder → IsTwice (declared_in holder) name → IsFault circuit (NameTwice name.place)
+  name_unknown : (holder : Module) (use' : Use) → Contains circuit.modules holder → Contains (uses_in holder) use' → ((number : ℕ) → ¬ (Names use' number))
       → IsFault circuit (NameUnknown use'.name.place)
 
 -- where a fault stands; want of memory stands nowhere

@@ -1,22 +1,21 @@
 -- Modules and the instances between them as a graph: for each module the edges that go out from it.
-use Rattle.std.specs.Prelude.{◌≡◌, ℕ, ◌+◌, ◌<◌, ◌≤◌, Bool, true, false, ◌⊎◌, ◌↔◌, List, [], ◌∷◌, ◌++◌, map, length, slice_get, slice_index, Some}
+use Rattle.std.specs.Prelude.{Contains, ◌≡◌, ℕ, ◌+◌, ◌<◌, ◌≤◌, Bool, true, false, ◌⊎◌, ◌↔◌, List, [], ◌∷◌, ◌++◌, map, length, slice_get, slice_index, Some}
 use Rattle.fir_names.specs.declared.graph.Edge.{Edge}
 use Rattle.fir_names.specs.declared.fault.NameFault.{NameFault}
 use Rattle.fir_names.specs.declared.fault.NameFault.TheVariants.{InstanceLoop}
-use Rattle.fir_names.specs.Scopes.{In}
 
 abbrev pub Graph : Type 0
 Graph = List (List Edge)
 
 -- all edges lead to modules
 pub record IsGraph (graph : Graph) : Type 0 where
-  pub within : (from : ℕ) (out : List Edge) (edge : Edge) → slice_get graph from ≡ Some out → In edge out → edge.to < length graph
+  pub within : (from : ℕ) (out : List Edge) (edge : Edge) → slice_get graph from ≡ Some out → Contains out edge → edge.to < length graph
 
 -- an edge from a module
 pub record Out (graph : Graph) (from : ℕ) (edge : Edge) : Type 0 where
   pub out : List Edge
   pub here : slice_get graph from ≡ Some out
-  pub stands : In edge out
+  pub stands : Contains out edge
 
 -- a way from a module along edges
 pub data Leads (graph : Graph) (from : ℕ) : ℕ → Type 0 where
@@ -26,7 +25,7 @@ pub data Leads (graph : Graph) (from : ℕ) : ℕ → Type 0 where
 -- one of these edges, which begin at a module and from whose end a way leads back to it, is the fault
 pub record LoopsOf (graph : Graph) (from : ℕ) (out : List Edge) (fault : NameFault) : Type 0 where
   pub edge : Edge
-  pub stands : In edge out
+  pub stands : Contains out edge
   pub back : Leads graph edge.to from
   pub is : fault ≡ InstanceLoop edge.place
 
@@ -40,9 +39,9 @@ pub record LoopsBefore (graph : Graph) (count : ℕ) (fault : NameFault) : Type 
 
 -- the faults that are added
 pub record Adds (P : NameFault → Type 0) (old new : List NameFault) : Type 0 where
-  pub kept : (fault : NameFault) → In fault old → In fault new
-  pub added : (fault : NameFault) → P fault → In fault new
-  pub only : (fault : NameFault) → In fault new → In fault old ⊎ P fault
+  pub kept : (fault : NameFault) → Contains old fault → Contains new fault
+  pub added : (fault : NameFault) → P fault → Contains new fault
+  pub only : (fault : NameFault) → Contains new fault → Contains old fault ⊎ P fault
 
 -- Heads tell the parts of a graph: ways lead from each module to the head of its part and back, and where an edge leads from one
 -- part to another no way leads back.
@@ -81,7 +80,7 @@ count_true (false ∷ bs) = count_true bs
 -- the marked modules are those of a list, each once
 pub record Marked (marks : List Bool) (order : List ℕ) : Type 0 where
   pub count : count_true marks ≡ length order
-  pub same : (k : ℕ) → (slice_get marks k ≡ Some true) ↔ In k order
+  pub same : (k : ℕ) → (slice_get marks k ≡ Some true) ↔ Contains order k
 
 -- modules were marked
 pub record Spreads (targets : List ℕ) (marks : List Bool) (order : List ℕ) (marks' : List Bool) (order' : List ℕ) : Type 0 where
@@ -89,8 +88,8 @@ pub record Spreads (targets : List ℕ) (marks : List Bool) (order : List ℕ) (
   pub counted : length marks' ≡ length marks
   pub more : List ℕ
   pub onward : order' ≡ order ++ more
-  pub adds : (t : ℕ) → In t targets → In t order'
-  pub only : (t : ℕ) → In t order' → In t order ⊎ In t targets
+  pub adds : (t : ℕ) → Contains targets t → Contains order' t
+  pub only : (t : ℕ) → Contains order' t → Contains order t ⊎ Contains targets t
 
 abbrev pub ends : List Edge → List ℕ
 ends out = map (λ edge. edge.to) out

@@ -1,16 +1,11 @@
 -- The scope of a circuit (FIRRTL specification 3.0, "Circuits and Modules", "Instances").
-use Rattle.std.specs.Prelude.{◌≡◌, ◌≢◌, ℕ, ◌<◌, true, ◌↔◌, List, ◌∷◌, map, length, slice_get, Some}
+use Rattle.std.specs.Prelude.{Contains, ◌≡◌, ◌≢◌, ℕ, ◌<◌, true, ◌↔◌, List, map, length, slice_get, Some}
 use Rattle.std.specs.List.{flat_map, AllZip}
 use Rattle.fir_types.specs.declared.name.Name.{Name}
 use Rattle.fir_tree.specs.declared.circuit.Circuit.{Circuit}
 use Rattle.fir_tree.specs.declared.circuit.Module.{Module}
 use Rattle.fir_tree.specs.declared.scope.Scope.{Scope}
 use Rattle.fir_names.specs.Extents.{Use, uses_in, instances_in}
-
--- x stands in the list
-pub data In {X : Type 0} (x : X) : List X → Type 0 where
-  here : (xs : List X) → In x (x ∷ xs)
-  there : (y : X) (xs : List X) → In x xs → In x (y ∷ xs)
 
 -- the texts of names
 abbrev pub texts : List Name → List ℕ
@@ -32,7 +27,7 @@ Means circuit text number = FirstOf (texts (module_names circuit)) text number
 pub record Instance (circuit : Circuit) (from : ℕ) (target : Name) (to : ℕ) : Type 0 where
   pub holder : Module
   pub here : slice_get circuit.modules from ≡ Some holder
-  pub stands : In target (instances_in holder)
+  pub stands : Contains (instances_in holder) target
   pub means : Means circuit target.id to
 
 -- a module reaches another one through instances
@@ -42,7 +37,7 @@ pub data Reaches (circuit : Circuit) (from : ℕ) : ℕ → Type 0 where
 
 -- the reference sees the declaration with this number, which has its name
 abbrev pub Names : Use → ℕ → Type 0
-Names use' number = In (use'.name.id, number) use'.seen
+Names use' number = Contains use'.seen (use'.name.id, number)
 
 pub record IsScope (circuit : Circuit) (scope : Scope) : Type 0 where
   pub main : ℕ

@@ -1,8 +1,7 @@
 //! The graph of modules and their instances: which modules one reaches, and which instances are on a loop.
 
-ghost use Rattle.std.specs.Prelude.{◌≡◌, ◌<◌, ◌↔◌, [], ◌∷◌, ℕ, List, length, slice_get, slice_index, Some, true, false, replicate, IfOk, OnOk};
+ghost use Rattle.std.specs.Prelude.{Contains, ◌≡◌, ◌<◌, ◌↔◌, [], ◌∷◌, ℕ, List, length, slice_get, slice_index, Some, true, false, replicate, IfOk, OnOk};
 ghost use Rattle.fir_names.specs.Graphs.{IsGraph, Leads, Marked, Spreads, ends};
-ghost use Rattle.fir_names.specs.Scopes.{In};
 
 use bit_words::List;
 use place_text::Place;
@@ -42,7 +41,7 @@ fn unmarked(alloc: Global, count: usize) -> Result<Vec<bool>, AllocError>
 
 /// Marks the modules that edges lead to, and adds those that weren't marked.
 fn mark_ends(marks: &mut Vec<bool>, order: &mut Vec<u32>, out: &[Edge]) -> Result<(), AllocError>
-    requires within { (t : ℕ) → In t (ends out.now) → t < length marks.old.items }
+    requires within { (t : ℕ) → Contains (ends out.now) t → t < length marks.old.items }
     requires marked { Marked marks.old.items order.old.items }
     ensures { OnOk result (Spreads (ends out.now) marks.old.items order.old.items marks.new.items order.new.items) }
 {

@@ -1,9 +1,8 @@
 //! The parts of the graph of modules: two modules are in one part where ways lead from each to the other. The parts are found
 //! by a search that no contract speaks of, and what it found is tried here, edge by edge.
 
-ghost use Rattle.std.specs.Prelude.{◌≡◌, ◌<◌, ◌≤◌, ℕ, length, slice_index, IsTrue, IfOk};
+ghost use Rattle.std.specs.Prelude.{Contains, ◌≡◌, ◌<◌, ◌≤◌, ℕ, length, slice_index, IsTrue, IfOk};
 ghost use Rattle.fir_names.specs.Graphs.{IsGraph, Leads, Out, Way, Nears, Falls, AreParts};
-ghost use Rattle.fir_names.specs.Scopes.{In};
 ghost use Rattle.fir_names.specs.declared.graph.Edge.{Edge as AnEdge};
 
 use crate::graph::{Edge, at};
@@ -120,7 +119,7 @@ fn all_fall(graph: &[List<Edge>], ranks: &[usize], heads: &[usize]) -> bool
 }
 
 fn fall_from(ranks: &[usize], heads: &[usize], from: usize, out: &[Edge]) -> bool
-    ensures { IsTrue result → (edge : AnEdge) → In edge out.now → Falls ranks.now heads.now from edge.to }
+    ensures { IsTrue result → (edge : AnEdge) → Contains out.now edge → Falls ranks.now heads.now from edge.to }
 {
     for edge in out {
         if !falls(ranks, heads, from, edge.to as usize) {

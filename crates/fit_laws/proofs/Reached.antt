@@ -1,5 +1,6 @@
 -- In a module that main reaches each place of each declared type has a number.
 use Rattle.std.proofs.Common.{◌≡◌, ℕ, zero, suc, ◌+◌, ◌==◌, ◌<◌, Bool, true, false, cond, List, [], ◌∷◌, ◌++◌, map, zip, length, drop, get_or, Some, refl, sym, ap, ap₂, ◌∙◌, subst, arith, slice_get, ⊎_elim, append_assoc, append-nil}
+use Rattle.std.proofs.lemmas.List.Elements.{Contains-append_cases}
 use Rattle.std.specs.Prelude.{find, option_map, Contains, ◌&&◌}
 use Rattle.std.specs.List.{AllZip, flat_map, list_all}
 use Rattle.std.proofs.lemmas.Bool.{eqb-true, eq-eqb, le-leb}
@@ -15,10 +16,9 @@ use Rattle.fir_tree.specs.declared.circuit.Module.{Module}
 use Rattle.fir_tree.specs.declared.scope.Fitted.{Fitted}
 use Rattle.fir_meaning.specs.Components.{Declaration, Component, TypedModule, target_in, declarations_of, with_types, modules_of}
 use Rattle.fir_names.specs.Extents.{instances_in}
-use Rattle.fir_names.specs.Scopes.{In, texts, FirstOf, Means, Reaches, through, IsScope}
-use Rattle.fir_names.proofs.Graphs.{In-either, In-one, In-get, some_same}
+use Rattle.fir_names.specs.Scopes.{texts, FirstOf, Means, Reaches, through, IsScope}
+use Rattle.fir_names.proofs.Graphs.{some_same}
 use Rattle.circuit_laws.proofs.Instances.{declared_instance}
-use Rattle.circuit_laws.proofs.Pieces.{In-among, In-contained}
 use Rattle.width_rules.specs.declared.slot.Slot.{Slot}
 use Rattle.width_rules.specs.Places.{spots, size, slots_from, open_spots}
 use Rattle.width_rules.specs.Solutions.{IsWidth}
@@ -37,6 +37,7 @@ use Rattle.fit_laws.proofs.Numbers.{IsNumber, AreNumbers, left_empty, right_empt
 use Rattle.fit_laws.proofs.Resets.{filled_free}
 use Rattle.fit_laws.proofs.Statements.{IsSound, IsNumbered, IsInstance}
 use Rattle.fit_laws.proofs.Modules.{surveyed, ModuleTells, module_tells}
+use Rattle.fir_names.proofs.Members.{Contains-none, Contains-one, Contains-get, Contains-flat_map}
 
 -- Lists
 
@@ -50,10 +51,10 @@ zip_length S [] (y ∷ ys) h = absurd h
 zip_length S (x ∷ xs) [] h = absurd h
 zip_length S (x ∷ xs) (y ∷ ys) h = ap suc (zip_length S xs ys h.1)
 
-zip_in : (S : Name → ℕ → Type 0) (ns : List Name) (ks : List ℕ) → AllZip S ns ks → (n : Name) → In n ns → (k : ℕ) × S n k
-zip_in S [] ks z n i = elim i [ ]
+zip_in : (S : Name → ℕ → Type 0) (ns : List Name) (ks : List ℕ) → AllZip S ns ks → (n : Name) → Contains ns n → (k : ℕ) × S n k
+zip_in S [] ks z n i = absurd (Contains-none i)
 zip_in S (m ∷ ns) [] z n i = absurd z
-zip_in S (m ∷ ns) (k ∷ ks) z n i = ⊎_elim (λ l. (k, subst (λ x. S x k) (sym (In-one l)) z.0)) (λ r. zip_in S ns ks z.1 n r) (In-either (m ∷ []) ns i)
+zip_in S (m ∷ ns) (k ∷ ks) z n i = ⊎_elim (λ l. (k, subst (λ x. S x k) (sym (Contains-one l)) z.0)) (λ r. zip_in S ns ks z.1 n r) (Contains-append_cases (m ∷ []) ns _ i)
 
 drop_front : (ts more : List FirType) (n : ℕ) → length ts ≡ n → drop n (ts ++ more) ≡ more
 drop_front [] more zero e = refl
@@ -70,13 +71,13 @@ record IsAt (S : Declaration → FirType → Type 0) (ds : List Declaration) (c 
   pub here_is : slice_get ds number_of ≡ Some c.declaration
   pub holds : S c.declaration c.typ
 
-component_at : (S : Declaration → FirType → Type 0) (ds : List Declaration) (ts more : List FirType) → AllZip S ds ts → (c : Component) → In c (map component_of (zip ds (ts ++ more))) → IsAt S ds c
-component_at S [] ts more z c i = elim i [ ]
+component_at : (S : Declaration → FirType → Type 0) (ds : List Declaration) (ts more : List FirType) → AllZip S ds ts → (c : Component) → Contains (map component_of (zip ds (ts ++ more))) c → IsAt S ds c
+component_at S [] ts more z c i = absurd (Contains-none i)
 component_at S (d ∷ ds) [] more z c i = absurd z
 component_at S (d ∷ ds) (t ∷ ts) more z c i =
-    ⊎_elim (λ l. subst (IsAt S (d ∷ ds)) (sym (In-one l)) (record { number_of = 0; here_is = refl; holds = z.0 }))
+    ⊎_elim (λ l. subst (IsAt S (d ∷ ds)) (sym (Contains-one l)) (record { number_of = 0; here_is = refl; holds = z.0 }))
     (λ r. let rest = component_at S ds ts more z.1 c r in record { number_of = suc rest.number_of; here_is = rest.here_is; holds = rest.holds })
-    (In-either (component_of (d, t) ∷ []) (map component_of (zip ds (ts ++ more))) i)
+    (Contains-append_cases (component_of (d, t) ∷ []) (map component_of (zip ds (ts ++ more))) _ i)
 
 -- Numbers
 
@@ -196,11 +197,11 @@ module _ (fitted : Fitted) (scope : IsScope fitted.checked.circuit fitted.checke
   within (y ∷ xs) (suc k) x e = let h = within xs k x e in omega (arith, h)
 
   -- where a module is reached, so are those of its instances
-  target_reached : (k : ℕ) (holder : Module) → slice_get circuit.modules k ≡ Some holder → slice_get fitted.checked.scope.reached k ≡ Some true → (name : Name) → In name (instances_in holder)
+  target_reached : (k : ℕ) (holder : Module) → slice_get circuit.modules k ≡ Some holder → slice_get fitted.checked.scope.reached k ≡ Some true → (name : Name) → Contains (instances_in holder) name
       → (j : ℕ) × Means circuit name.id j × (get_or fitted.checked.scope.reached j false ≡ true)
   target_reached k holder e flag name i =
       let means = zip_in (λ target number. Means circuit target.id number) (flat_map instances_in circuit.modules) fitted.checked.scope.targets scope.targets name
-      (In-among instances_in circuit.modules holder name (In-get circuit.modules k holder e) i) in
+      (Contains-flat_map instances_in circuit.modules holder name (Contains-get circuit.modules k holder e) i) in
       let j : ℕ = means.0 in
       let long : length (texts (map (λ (m : Module). m.name) circuit.modules)) ≡ length circuit.modules
       = length-map (map (λ (m : Module). m.name) circuit.modules) (λ (name : Name). name.id) ∙ length-map circuit.modules (λ (m : Module). m.name) in
@@ -223,7 +224,7 @@ module _ (fitted : Fitted) (scope : IsScope fitted.checked.circuit fitted.checke
       = reached_at all_of circuit.modules circuit.modules 0 (all_open circuit.modules) fitted.checked.scope.reached [] no_fault k holder m found.1
       (ap (λ l. slice_get (with_types circuit.modules l) k) (append-nil told ∙ sym fit.fitted_is.declared) ∙ at) (get_or_from_slice_get fitted.checked.scope.reached k true false flag) in
       let one : IsAt (IsSound all_of circuit.modules) (declarations_of holder) c
-      = component_at (IsSound all_of circuit.modules) (declarations_of holder) r.types r.more r.sound c (subst (In c) r.components_are (In-contained m.components c among)) in
+      = component_at (IsSound all_of circuit.modules) (declarations_of holder) r.types r.more r.sound c (subst (λ list. Contains list c) r.components_are among) in
       ⊎_elim (λ (i : IsInstance fit.widths (modules_from 0 circuit.modules) c.declaration c.typ).
       let made = declared_instance holder one.number_of i.target c.declaration one.here_is (ap target_in i.sort_is) in
       let reach = target_reached k holder found.1 flag made.0 made.1 in

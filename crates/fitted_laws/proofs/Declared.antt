@@ -1,5 +1,7 @@
 -- What a declaration with its filled type is.
 use Rattle.std.proofs.Common.{◌≡◌, ◌≢◌, ℕ, Bool, true, false, List, [], ◌∷◌, map, length, get_or, Some, sym, ap, ◌∙◌, subst, ⊎_elim}
+use Rattle.std.specs.Prelude.{Contains}
+use Rattle.std.proofs.lemmas.List.Elements.{Contains-append_cases}
 use Rattle.std.specs.List.{AllByRecursion}
 use Rattle.fir_types.specs.declared.fir_type.FirType.{FirType}
 use Rattle.fir_types.specs.declared.leaf.TypeLeaf.{TypeLeaf}
@@ -29,16 +31,15 @@ use Rattle.width_fit.specs.Judging.{slot_width}
 use Rattle.fir_meaning.specs.Components.{Declaration, A_node, A_memory, An_instance}
 use Rattle.fir_meaning.specs.States.{is_register}
 use Rattle.fir_meaning.specs.WellTyped.{Known, typed, is_narrow}
-use Rattle.fir_names.specs.Scopes.{In}
-use Rattle.fir_names.proofs.Graphs.{In-either, In-one}
 use Rattle.circuit_laws.specs.Names.{Every}
 use Rattle.fitted_laws.proofs.Filling.{leaf_shapes, filled_equivalent, filled_narrow}
 use Rattle.fitted_laws.proofs.Once.{Differ, leaves_differ}
+use Rattle.fir_names.proofs.Members.{Contains-none, Contains-one}
 
 module _ (ws : List Width) (with_ports : List WithPorts) where
   pub record IsDeclared (K : Known) (d : Declaration) (typ : FirType) : Type 0 where
     pub node : (e : Expr) → d.sort ≡ A_node e → typed e K ≡ Some (leaf_shapes typ)
-    pub passive : (e : Expr) → d.sort ≡ A_node e → (l : TypeLeaf) → In l (leaves typ) → l.flip ≡ false
+    pub passive : (e : Expr) → d.sort ≡ A_node e → (l : TypeLeaf) → Contains (leaves typ) l → l.flip ≡ false
     pub narrow : is_narrow typ ≡ true
     pub ways : Differ (leaves typ)
     pub instance : (target : ℕ) → d.sort ≡ An_instance target → typ ≡ filled (instance_in with_ports target).part.typ (map (slot_width ws) (instance_in with_ports target).slots)
@@ -77,17 +78,17 @@ module _ (ws : List Width) (with_ports : List WithPorts) where
   pub filled_differ : (t : FirType) (vs : List Width) → twice_in t ≡ [] → Differ (leaves (filled t vs))
   filled_differ t vs h = differ_ways (leaves t) (leaves (filled t vs)) (same_ways (filled_equivalent t vs)) (leaves_differ t h)
 
-  pub straight_ways : (ls ms : List TypeLeaf) → map way_of ls ≡ map way_of ms → AllByRecursion (λ (l : TypeLeaf). l.flip ≡ false) ls → (m : TypeLeaf) → In m ms → m.flip ≡ false
-  straight_ways [] [] e h m i = elim i [ ]
+  pub straight_ways : (ls ms : List TypeLeaf) → map way_of ls ≡ map way_of ms → AllByRecursion (λ (l : TypeLeaf). l.flip ≡ false) ls → (m : TypeLeaf) → Contains ms m → m.flip ≡ false
+  straight_ways [] [] e h m i = absurd (Contains-none i)
   straight_ways [] (x ∷ ms) e h m i = cc
   straight_ways (l ∷ ls) [] e h m i = cc
   straight_ways (l ∷ ls) (x ∷ ms) e h m i =
       let way : way_of l ≡ way_of x = cc in
       let same : l.flip ≡ x.flip = ap (λ (w : List PathStep × Bool). w.1) way in
       let rest : map way_of ls ≡ map way_of ms = cc in
-      ⊎_elim (λ a. subst (λ (z : TypeLeaf). z.flip ≡ false) (sym (In-one a)) (sym same ∙ h.0)) (λ b. straight_ways ls ms rest h.1 m b) (In-either (x ∷ []) ms i)
+      ⊎_elim (λ a. subst (λ (z : TypeLeaf). z.flip ≡ false) (sym (Contains-one a)) (sym same ∙ h.0)) (λ b. straight_ways ls ms rest h.1 m b) (Contains-append_cases (x ∷ []) ms _ i)
 
-  pub filled_straight : (t : FirType) (vs : List Width) → has_flip t ≡ false → (m : TypeLeaf) → In m (leaves (filled t vs)) → m.flip ≡ false
+  pub filled_straight : (t : FirType) (vs : List Width) → has_flip t ≡ false → (m : TypeLeaf) → Contains (leaves (filled t vs)) m → m.flip ≡ false
   filled_straight t vs h = straight_ways (leaves t) (leaves (filled t vs)) (same_ways (filled_equivalent t vs)) (straight t h)
 
   -- a declaration that is no node, no instance and no memory

@@ -1,6 +1,7 @@
 -- What registers and memories hold: no Clock and nothing flipped; and the names of a memory's ports.
 use Rattle.std.proofs.Common.{◌≡◌, ◌≢◌, ℕ, zero, suc, ◌==◌, Bool, true, false, not, cond, List, [], ◌∷◌, ◌++◌, map, Some, refl, sym, ap, ap₂, ◌∙◌, subst, arith, ⊎_elim}
-use Rattle.std.specs.Prelude.{nat_eq, find}
+use Rattle.std.proofs.lemmas.List.Elements.{Contains-append_cases}
+use Rattle.std.specs.Prelude.{Contains, nat_eq, find}
 use Rattle.std.specs.List.{flat_map, list_any, filter_map, AllByRecursion}
 use Rattle.std.proofs.lemmas.Grind.{common_steps}
 use Rattle.std.proofs.lemmas.Bool.{eq-eqb, eqb-false, ne_eqb, or_parts}
@@ -30,17 +31,16 @@ use Rattle.type_check.specs.Parts.{when}
 use Rattle.type_check.specs.Texts.{has_clock, stored_faults, twice_in, is_passive}
 use Rattle.type_check.specs.Memories.{memory_faults, line_faults, again_behind, is_said, is_port}
 use Rattle.fir_meaning.specs.MemoryPorts.{MemoryPort, memory_ports, port_named, port_in}
-use Rattle.fir_names.specs.Scopes.{In}
-use Rattle.fir_names.proofs.Graphs.{In-either, In-one}
 use Rattle.circuit_laws.specs.Names.{Every}
 use Rattle.circuit_laws.proofs.Alone.{every-append}
 use Rattle.fitted_laws.proofs.Steps.{left_empty, right_empty}
 use Rattle.fitted_laws.proofs.Once.{false_when}
 use Rattle.fitted_laws.proofs.Expressions.{unless_true}
+use Rattle.fir_names.proofs.Members.{Contains-none, Contains-one}
 
-pub every_in : (P : TypeLeaf → Type 0) (ls : List TypeLeaf) → Every TypeLeaf P ls → (l : TypeLeaf) → In l ls → P l
-every_in P [] h l i = elim i [ ]
-every_in P (x ∷ ls) h l i = ⊎_elim (λ a. subst P (sym (In-one a)) h.0) (λ b. every_in P ls h.1 l b) (In-either (x ∷ []) ls i)
+pub every_in : (P : TypeLeaf → Type 0) (ls : List TypeLeaf) → Every TypeLeaf P ls → (l : TypeLeaf) → Contains ls l → P l
+every_in P [] h l i = absurd (Contains-none i)
+every_in P (x ∷ ls) h l i = ⊎_elim (λ a. subst P (sym (Contains-one a)) h.0) (λ b. every_in P ls h.1 l b) (Contains-append_cases (x ∷ []) ls _ i)
 
 -- Equivalent types have their Clocks at the same leaves
 
@@ -103,7 +103,7 @@ no_clocks (l ∷ ls) (m ∷ ms) e h =
     let rest : map is_clock ls ≡ map is_clock ms = cc in
     (sym own ∙ h.0, no_clocks ls ms rest h.1)
 
-pub unclocked : {t r : FirType} → Equivalent t r → has_clock t ≡ false → (l : TypeLeaf) → In l (leaves r) → is_clock l ≡ false
+pub unclocked : {t r : FirType} → Equivalent t r → has_clock t ≡ false → (l : TypeLeaf) → Contains (leaves r) l → is_clock l ≡ false
 unclocked {t} {r} q e l i = every_in NoClock (leaves r) (no_clocks (leaves t) (leaves r) (same_clocks q) (none_any (leaves t) e)) l i
 
 -- What a memory shows is no Clock
@@ -256,7 +256,7 @@ quiet_ways (l ∷ ls) (m ∷ ms) e c h =
     (λ f. sym own ∙ h.0 (flips ∙ f), quiet_ways ls ms ways rest h.1)
 
 pub read_silent : (memory : Memory) (typ : FirType) → memory_faults memory ≡ [] → Equivalent (memory_of memory) typ → map way_of (leaves (memory_of memory)) ≡ map way_of (leaves typ)
-    → (l : TypeLeaf) → In l (leaves typ) → l.flip ≡ false → is_clock l ≡ false
+    → (l : TypeLeaf) → Contains (leaves typ) l → l.flip ≡ false → is_clock l ≡ false
 read_silent memory typ e q ways l i f =
     let silent : has_clock (element_of memory) ≡ false = element_silent _ memory.lines empty_silent (left_empty (flat_map line_faults memory.lines) _ e) in
     let fields : List Field = filter_map (port_field (element_of memory) (depth_of memory)) memory.lines in
@@ -267,17 +267,17 @@ read_silent memory typ e q ways l i f =
 -- The names of a memory's ports
 
 abbrev Unsaid : List MemLine → List MemLine → Type 0
-Unsaid before lines = (p : MemoryPort) → In p (filter_map port_in lines) → list_any (is_port p.name) before ≡ false
+Unsaid before lines = (p : MemoryPort) → Contains (filter_map port_in lines) p → list_any (is_port p.name) before ≡ false
 
 earlier : (before : List MemLine) (l : MemLine) (lines : List MemLine) → Unsaid (before ++ l ∷ []) lines → Unsaid before lines
 earlier before l lines h p i = (or_parts _ _ (sym (list_any-append (is_port p.name) before (l ∷ [])) ∙ h p i)).0
 
 unsaid : (before lines : List MemLine) → again_behind before lines ≡ [] → Unsaid before lines
-unsaid before [] e p i = elim i [ ]
+unsaid before [] e p i = absurd (Contains-none i)
 unsaid before (line.MemPort at m name ∷ lines) e p i = ⊎_elim
-    (λ a. ap (λ (q : MemoryPort). list_any (is_port q.name) before) (In-one a) ∙ false_when _ (MemoryField name.place) (left_empty _ _ e))
+    (λ a. ap (λ (q : MemoryPort). list_any (is_port q.name) before) (Contains-one a) ∙ false_when _ (MemoryField name.place) (left_empty _ _ e))
     (λ b. earlier before (line.MemPort at m name) lines (unsaid (before ++ line.MemPort at m name ∷ []) lines (right_empty (when (is_said before (line.MemPort at m name)) (MemoryField name.place)) _ e)) p b)
-    (In-either (record { name = name.id; place = name.place; mode = m } ∷ []) (filter_map port_in lines) i)
+    (Contains-append_cases (record { name = name.id; place = name.place; mode = m } ∷ []) (filter_map port_in lines) _ i)
 unsaid before (line.Element at typ ∷ lines) e p i = earlier before _ lines (unsaid (before ++ line.Element at typ ∷ []) lines (right_empty (when (is_said before (line.Element at typ)) (MemoryField at)) _ e)) p i
 unsaid before (line.Depth at n ∷ lines) e p i = earlier before _ lines (unsaid (before ++ line.Depth at n ∷ []) lines (right_empty (when (is_said before (line.Depth at n)) (MemoryField at)) _ e)) p i
 unsaid before (line.ReadLatency at n ∷ lines) e p i = earlier before _ lines (unsaid (before ++ line.ReadLatency at n ∷ []) lines (right_empty (when (is_said before (line.ReadLatency at n)) (MemoryField at)) _ e)) p i
@@ -293,23 +293,23 @@ finds_first q ps = ap (λ b. cond b (Some q) (find (λ (x : MemoryPort). x.name 
 finds_later : (q p : MemoryPort) (ps : List MemoryPort) → q.name ≢ p.name → finds ps p → finds (q ∷ ps) p
 finds_later q p ps n h = ap (λ b. cond b (Some q) (find (λ (x : MemoryPort). x.name == p.name) ps)) (ne_eqb q.name p.name n) ∙ h
 
-ports_found : (before lines : List MemLine) → again_behind before lines ≡ [] → (p : MemoryPort) → In p (filter_map port_in lines) → finds (filter_map port_in lines) p
-ports_found before [] e p i = elim i [ ]
+ports_found : (before lines : List MemLine) → again_behind before lines ≡ [] → (p : MemoryPort) → Contains (filter_map port_in lines) p → finds (filter_map port_in lines) p
+ports_found before [] e p i = absurd (Contains-none i)
 ports_found before (line.MemPort at m name ∷ lines) e p i =
     let own : MemoryPort = record { name = name.id; place = name.place; mode = m } in
     let rest : again_behind (before ++ line.MemPort at m name ∷ []) lines ≡ [] = right_empty (when (is_said before (line.MemPort at m name)) (MemoryField name.place)) _ e in
-    ⊎_elim (λ a. subst (finds (own ∷ filter_map port_in lines)) (sym (In-one a)) (finds_first own (filter_map port_in lines)))
+    ⊎_elim (λ a. subst (finds (own ∷ filter_map port_in lines)) (sym (Contains-one a)) (finds_first own (filter_map port_in lines)))
     (λ b.
     let not_said : list_any (is_port p.name) (line.MemPort at m name ∷ []) ≡ false =
     (or_parts (list_any (is_port p.name) before) _ (sym (list_any-append (is_port p.name) before (line.MemPort at m name ∷ [])) ∙ unsaid (before ++ line.MemPort at m name ∷ []) lines rest p b)).1 in
     let differs : nat_eq p.name name.id ≡ false = (or_parts (nat_eq p.name name.id) false not_said).0 in
     finds_later own p (filter_map port_in lines) (λ same. eqb-false p.name name.id differs (sym same)) (ports_found (before ++ line.MemPort at m name ∷ []) lines rest p b))
-    (In-either (own ∷ []) (filter_map port_in lines) i)
+    (Contains-append_cases (own ∷ []) (filter_map port_in lines) _ i)
 ports_found before (line.Element at typ ∷ lines) e p i = ports_found (before ++ line.Element at typ ∷ []) lines (right_empty (when (is_said before (line.Element at typ)) (MemoryField at)) _ e) p i
 ports_found before (line.Depth at n ∷ lines) e p i = ports_found (before ++ line.Depth at n ∷ []) lines (right_empty (when (is_said before (line.Depth at n)) (MemoryField at)) _ e) p i
 ports_found before (line.ReadLatency at n ∷ lines) e p i = ports_found (before ++ line.ReadLatency at n ∷ []) lines (right_empty (when (is_said before (line.ReadLatency at n)) (MemoryField at)) _ e) p i
 ports_found before (line.WriteLatency at n ∷ lines) e p i = ports_found (before ++ line.WriteLatency at n ∷ []) lines (right_empty (when (is_said before (line.WriteLatency at n)) (MemoryField at)) _ e) p i
 ports_found before (line.ReadUnder at u ∷ lines) e p i = ports_found (before ++ line.ReadUnder at u ∷ []) lines (right_empty (when (is_said before (line.ReadUnder at u)) (MemoryField at)) _ e) p i
 
-pub port_itself : (memory : Memory) → memory_faults memory ≡ [] → (p : MemoryPort) → In p (memory_ports memory) → port_named memory p.name ≡ Some p
+pub port_itself : (memory : Memory) → memory_faults memory ≡ [] → (p : MemoryPort) → Contains (memory_ports memory) p → port_named memory p.name ≡ Some p
 port_itself memory e = ports_found [] memory.lines (left_empty (again_behind [] memory.lines) _ (right_empty (flat_map line_faults memory.lines) _ e))

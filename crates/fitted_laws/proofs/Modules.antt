@@ -1,6 +1,7 @@
 -- What the modules of a circuit come to.
 use Rattle.std.proofs.Common.{◌≡◌, ◌≢◌, ℕ, zero, suc, ◌+◌, ◌≤◌, Bool, true, false, cond, List, [], ◌∷◌, ◌++◌, map, zip, length, drop, get_or, Option, Some, None, refl, sym, ap, ap₂, ◌∙◌, subst, arith, slice_get, ◌⊎◌, inl, inr, ⊎_elim, append_assoc, append-nil, length-append}
-use Rattle.std.specs.Prelude.{is_some}
+use Rattle.std.proofs.lemmas.List.Elements.{Contains-append_left, Contains-append_right}
+use Rattle.std.specs.Prelude.{Contains, is_some}
 use Rattle.std.specs.List.{AllZip}
 use Rattle.fir_types.specs.declared.fir_type.FirType.{FirType}
 use Rattle.fir_types.specs.declared.name.Name.{Name}
@@ -26,8 +27,7 @@ use Rattle.fir_meaning.specs.WellTyped.{Known}
 use Rattle.fir_names.specs.Extents.{Seen, Use, uses_in, instances_in}
 use Rattle.fir_names.specs.Parts as parts
 use Rattle.fir_names.specs.Parts.{Part, stmt_part}
-use Rattle.fir_names.specs.Scopes.{In}
-use Rattle.fir_names.proofs.Graphs.{In-left, In-right, some_same}
+use Rattle.fir_names.proofs.Graphs.{some_same}
 use Rattle.fir_names.proofs.Agreement.{sees_its_blocks, has_its_instances}
 use Rattle.circuit_laws.specs.Names.{Every}
 use Rattle.circuit_laws.specs.Designs.{component_of}
@@ -145,7 +145,7 @@ module _ (all : Solved) (modules : List Module) (with_ports : List WithPorts) (p
     pub counted : length (ms ++ marks) ≡ n + length (body_walk with_ports (with_own k m) n).places
     pub count : (module_survey all with_ports (with_own k m) n).count ≡ length (body_walk with_ports (with_own k m) n).places
     pub marked : Each (RuleMarked (ms ++ marks)) (body_walk with_ports (with_own k m) n).rules
-    pub ruled : (x : ℕ) (f : Formula) → slice_get (ms ++ marks) x ≡ Some (Some f) → (slice_get ms x ≡ Some (Some f)) ⊎ In (rule_of x f) (body_walk with_ports (with_own k m) n).rules
+    pub ruled : (x : ℕ) (f : Formula) → slice_get (ms ++ marks) x ≡ Some (Some f) → (slice_get ms x ≡ Some (Some f)) ⊎ Contains (body_walk with_ports (with_own k m) n).rules (rule_of x f)
     pub declared : length (declarations_of m) ≡ length (module_survey all with_ports (with_own k m) n).declared
     pub well : (K : Known) → NamedAs K (declarations_of m) (module_survey all with_ports (with_own k m) n).declared → Solves ws (ms ++ marks) → (module_survey all with_ports (with_own k m) n).faults ≡ []
         → (are_fit K m.body ≡ true) × AllZip (S K) (declarations_of m) (module_survey all with_ports (with_own k m) n).declared
@@ -208,7 +208,7 @@ module _ (all : Solved) (modules : List Module) (with_ports : List WithPorts) (p
       pub marks : Marks
       pub counted : length (ms ++ marks) ≡ n + length (bodies_from with_ports n (modules_from k rest)).places
       pub marked : Each (RuleMarked (ms ++ marks)) (bodies_from with_ports n (modules_from k rest)).rules
-      pub ruled : (x : ℕ) (f : Formula) → slice_get (ms ++ marks) x ≡ Some (Some f) → (slice_get ms x ≡ Some (Some f)) ⊎ In (rule_of x f) (bodies_from with_ports n (modules_from k rest)).rules
+      pub ruled : (x : ℕ) (f : Formula) → slice_get (ms ++ marks) x ≡ Some (Some f) → (slice_get ms x ≡ Some (Some f)) ⊎ Contains (bodies_from with_ports n (modules_from k rest)).rules (rule_of x f)
       pub declared : length (told_in k n rest reached).declared ≡ total rest
       pub each : Solves ws (ms ++ marks) → (told_in k n rest reached).faults ≡ [] → (j : ℕ) (holder : Module) (m : TypedModule) → slice_get rest j ≡ Some holder
           → (more : List FirType) → slice_get (with_types rest ((told_in k n rest reached).declared ++ more)) j ≡ Some m → get_or reached j false ≡ true → (K : Known) → IsModule holder m K (slice_get (modules_from k rest) j)
@@ -254,7 +254,7 @@ module _ (all : Solved) (modules : List Module) (with_ports : List WithPorts) (p
           counted = ap length (sym together) ∙ r.counted ∙ (let m : n' + length others.places ≡ n + length (body.places ++ others.places) = omega (arith, length-append body.places others.places) in m);
           marked = subst (λ z. Each (RuleMarked z) (body.rules ++ others.rules)) together
               (each_append (RuleMarked ((ms ++ one.marks) ++ r.marks)) body.rules others.rules (each_rule_more (ms ++ one.marks) r.marks body.rules one.marked) r.marked);
-          ruled = λ x g is. ⊎_elim (λ l. ⊎_elim (λ p. inl p) (λ q. inr (In-left q others.rules)) (one.ruled x g l)) (λ q. inr (In-right body.rules q)) (r.ruled x g (ap (λ z. slice_get z x) together ∙ is));
+          ruled = λ x g is. ⊎_elim (λ l. ⊎_elim (λ p. inl p) (λ q. inr (Contains-append_left _ others.rules _ q)) (one.ruled x g l)) (λ q. inr (Contains-append_right body.rules _ _ q)) (r.ruled x g (ap (λ z. slice_get z x) together ∙ is));
           declared = length-append own.declared t ∙ ap₂ (λ x y. x + y) (sym one.declared) (ap (λ (g : judging.Told). length g.declared) same ∙ r.declared);
           each = λ solves none.
               let s : Solves ws ((ms ++ one.marks) ++ r.marks) = subst (Solves ws) (sym together) solves in

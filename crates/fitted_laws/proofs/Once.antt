@@ -1,11 +1,11 @@
 -- Types in which no bundle has two fields of one name: their leaves have different ways, and so have instances and memories.
 use Rattle.std.proofs.Common.{◌≡◌, ◌≢◌, ℕ, zero, suc, ◌<◌, Bool, true, false, ◌||◌, List, [], ◌∷◌, ◌++◌, map, Some, refl, sym, ap, ap₂, ◌∙◌, subst, arith, slice_get, ⊎_elim, append-nil}
-use Rattle.std.specs.Prelude.{⊤, nat_eq}
+use Rattle.std.specs.Prelude.{Contains, ⊤, nat_eq}
 use Rattle.std.specs.List.{flat_map, list_any, filter_map}
 use Rattle.std.proofs.lemmas.Grind.{common_steps}
 use Rattle.std.proofs.lemmas.Bool.{eqb-false, ne_eqb, or_parts}
 use Rattle.std.proofs.lemmas.List.{map-append, append_cancel_left}
-use Rattle.std.proofs.lemmas.List.Elements.{filter_map-append}
+use Rattle.std.proofs.lemmas.List.Elements.{Contains-append_cases, filter_map-append}
 use Rattle.std.proofs.lemmas.List.Folds.{list_any-append}
 use Rattle.place_text.specs.declared.place.Place.{Place}
 use Rattle.fir_types.specs.declared.fir_type.FirType.{FirType, ind-FirType, the_lemmas}
@@ -35,13 +35,12 @@ use Rattle.type_check.specs.declared.fault.TypeFault.TheVariants.{FieldTwice, Me
 use Rattle.type_check.specs.Parts.{when}
 use Rattle.type_check.specs.Texts.{twice_in, seconds_behind, has_name, stored_faults}
 use Rattle.type_check.specs.Memories.{memory_faults, line_faults, again_behind, is_said, is_port}
-use Rattle.fir_names.specs.Scopes.{In, here, there}
-use Rattle.fir_names.proofs.Graphs.{In-either, In-one, some_same}
+use Rattle.fir_names.proofs.Graphs.{some_same}
 use Rattle.circuit_laws.specs.Names.{Every, Avoids}
 use Rattle.circuit_laws.proofs.Alone.{every-append}
-use Rattle.circuit_laws.proofs.Pieces.{In-map, In-from, In-of}
 use Rattle.circuit_laws.proofs.Scoping.{Distinct}
 use Rattle.fitted_laws.proofs.Steps.{left_empty, right_empty, twice_of_bundle, twice-vector}
+use Rattle.fir_names.proofs.Members.{Contains-first, Contains-later, Contains-none, Contains-one, Contains-map, Contains-from_map, Contains-from_flat_map}
 
 when_false : (b : Bool) (fault : TypeFault) → b ≡ false → when b fault ≡ []
 when_false true fault e = cc
@@ -236,13 +235,13 @@ differ_under : (path : List PathStep) (flip : Bool) (ls : List TypeLeaf) → Dif
 differ_under path flip [] h = tt
 differ_under path flip (l ∷ ls) h = (every_under path flip l ls h.0, differ_under path flip ls h.1)
 
-differ_both : (xs ys : List TypeLeaf) → Differ xs → Differ ys → ((l m : TypeLeaf) → In l xs → In m ys → l.path ≢ m.path) → Differ (xs ++ ys)
+differ_both : (xs ys : List TypeLeaf) → Differ xs → Differ ys → ((l m : TypeLeaf) → Contains xs l → Contains ys m → l.path ≢ m.path) → Differ (xs ++ ys)
 differ_both [] ys h k c = k
-differ_both (x ∷ xs) ys h k c = (every-append TypeLeaf (λ m. x.path ≢ m.path) xs ys h.0 (each ys (λ m i. c x m (here xs) i)), differ_both xs ys h.1 k (λ l m i j. c l m (there x xs i) j))
+differ_both (x ∷ xs) ys h k c = (every-append TypeLeaf (λ m. x.path ≢ m.path) xs ys h.0 (each ys (λ m i. c x m (Contains-first xs) i)), differ_both xs ys h.1 k (λ l m i j. c l m (Contains-later x xs i) j))
   where
-    each : (zs : List TypeLeaf) → ((m : TypeLeaf) → In m zs → x.path ≢ m.path) → Every TypeLeaf (λ m. x.path ≢ m.path) zs
+    each : (zs : List TypeLeaf) → ((m : TypeLeaf) → Contains zs m → x.path ≢ m.path) → Every TypeLeaf (λ m. x.path ≢ m.path) zs
     each [] h = tt
-    each (z ∷ zs) h = (h z (here zs), each zs (λ m i. h m (there z zs i)))
+    each (z ∷ zs) h = (h z (Contains-first zs), each zs (λ m i. h m (Contains-later z zs i)))
 
 same_head : {x y : PathStep} {xs ys : List PathStep} → x ∷ xs ≡ y ∷ ys → x ≡ y
 same_head e = cc
@@ -254,18 +253,18 @@ same_field_name : (j k : ℕ) → step.Field j ≡ step.Field k → j ≡ k
 same_field_name j k e = cc
 
 -- a leaf of the first elements begins with the number of one of them
-element_number : (ls : List TypeLeaf) (n : ℕ) (l : TypeLeaf) → In l (elements ls n) → (k : ℕ) × (way : List PathStep) × (k < n) × (l.path ≡ step.Element k ∷ way)
-element_number ls zero l i = elim i [ ]
+element_number : (ls : List TypeLeaf) (n : ℕ) (l : TypeLeaf) → Contains (elements ls n) l → (k : ℕ) × (way : List PathStep) × (k < n) × (l.path ≡ step.Element k ∷ way)
+element_number ls zero l i = absurd (Contains-none i)
 element_number ls (suc n) l i = ⊎_elim
     (λ a. let r = element_number ls n l a in (r.0, r.1, omega (arith, r.2), r.3))
-    (λ b. let f = In-from (under (step.Element n ∷ []) false) ls l b in (n, f.0.path, omega arith, ap (λ (m : TypeLeaf). m.path) (sym f.2)))
-    (In-either (elements ls n) (map (under (step.Element n ∷ []) false) ls) i)
+    (λ b. let f = Contains-from_map (under (step.Element n ∷ []) false) ls l b in (n, f.0.path, omega arith, ap (λ (m : TypeLeaf). m.path) (sym f.2)))
+    (Contains-append_cases (elements ls n) (map (under (step.Element n ∷ []) false) ls) _ i)
 
 differ_elements : (ls : List TypeLeaf) (n : ℕ) → Differ ls → Differ (elements ls n)
 differ_elements ls zero h = tt
 differ_elements ls (suc n) h = differ_both (elements ls n) (map (under (step.Element n ∷ []) false) ls) (differ_elements ls n h) (differ_under (step.Element n ∷ []) false ls h) (λ l m i j e.
     let a = element_number ls n l i in
-    let b = In-from (under (step.Element n ∷ []) false) ls m j in
+    let b = Contains-from_map (under (step.Element n ∷ []) false) ls m j in
     let same : step.Element a.0 ∷ a.1 ≡ step.Element n ∷ b.0.path = sym a.3 ∙ e ∙ ap (λ (x : TypeLeaf). x.path) (sym b.2) in
     let k : a.0 ≡ n = same_element a.0 n (same_head same) in
     omega (arith, a.2, k))
@@ -280,19 +279,19 @@ abbrev ShapeDiffers : Shape → Type 0
 ShapeDiffers s = (place : Place) → TypeDiffers (record { place = place; shape = s })
 
 -- a leaf of fields begins with the name of one of them
-field_name : (fs : List Field) (l : TypeLeaf) → In l (flat_map field_leaves fs) → (f : Field) × (way : List PathStep) × In f fs × (l.path ≡ step.Field f.name.id ∷ way)
+field_name : (fs : List Field) (l : TypeLeaf) → Contains (flat_map field_leaves fs) l → (f : Field) × (way : List PathStep) × Contains fs f × (l.path ≡ step.Field f.name.id ∷ way)
 field_name fs l i =
-    let f = In-of field_leaves fs l i in
-    let g = In-from (under (step.Field f.0.name.id ∷ []) f.0.flip) (leaves f.0.typ) l (subst (In l) (leaves-field f.0) f.2) in
+    let f = Contains-from_flat_map field_leaves fs l i in
+    let g = Contains-from_map (under (step.Field f.0.name.id ∷ []) f.0.flip) (leaves f.0.typ) l (subst (λ list. Contains list l) (leaves-field f.0) f.2) in
     (f.0, g.0.path, f.1, ap (λ (m : TypeLeaf). m.path) (sym g.2))
 
 -- no name behind these is among them
-later_named : (before names : List Name) → seconds_behind before names ≡ [] → (n : Name) → In n names → has_name before n ≡ false
-later_named before [] e n i = elim i [ ]
+later_named : (before names : List Name) → seconds_behind before names ≡ [] → (n : Name) → Contains names n → has_name before n ≡ false
+later_named before [] e n i = absurd (Contains-none i)
 later_named before (m ∷ names) e n i = ⊎_elim
-    (λ l. subst (λ z. has_name before z ≡ false) (sym (In-one l)) (false_when (has_name before m) (FieldTwice m.place) (left_empty _ _ e)))
+    (λ l. subst (λ z. has_name before z ≡ false) (sym (Contains-one l)) (false_when (has_name before m) (FieldTwice m.place) (left_empty _ _ e)))
     (λ r. (or_parts _ _ (sym (list_any-append (λ (other : Name). nat_eq n.id other.id) before (m ∷ [])) ∙ later_named (before ++ m ∷ []) names (right_empty (when (has_name before m) (FieldTwice m.place)) _ e) n r)).0)
-    (In-either (m ∷ []) names i)
+    (Contains-append_cases (m ∷ []) names _ i)
 
 name_differs : (before : List Name) (m n : Name) → has_name (before ++ m ∷ []) n ≡ false → n.id ≢ m.id
 name_differs before m n e same =
@@ -311,10 +310,10 @@ differ_fields (p ∷ ps) before e t =
     (subst Differ (sym (leaves-field f)) (differ_under (step.Field f.name.id ∷ []) f.flip (leaves f.typ) (p.1 (left_empty (twice_in f.typ) _ t))))
     (differ_fields ps (before ++ f.name ∷ []) rest (right_empty (twice_in f.typ) _ t))
     (λ l m i j same.
-    let a = In-from (under (step.Field f.name.id ∷ []) f.flip) (leaves f.typ) l (subst (In l) (leaves-field f) i) in
+    let a = Contains-from_map (under (step.Field f.name.id ∷ []) f.flip) (leaves f.typ) l (subst (λ list. Contains list l) (leaves-field f) i) in
     let b = field_name fs m j in
     let head : step.Field f.name.id ∷ a.0.path ≡ step.Field b.0.name.id ∷ b.1 = ap (λ (x : TypeLeaf). x.path) a.2 ∙ same ∙ b.3 in
-    name_differs before f.name b.0.name (later_named (before ++ f.name ∷ []) (map (λ (g : Field). g.name) fs) rest b.0.name (In-map (λ (g : Field). g.name) fs b.0 b.2))
+    name_differs before f.name b.0.name (later_named (before ++ f.name ∷ []) (map (λ (g : Field). g.name) fs) rest b.0.name (Contains-map (λ (g : Field). g.name) fs b.0 b.2))
     (sym (same_field_name f.name.id b.0.name.id (same_head head))))
 
 one_differs : (t : FirType) → leaves t ≡ record { path = []; flip = false; typ = t } ∷ [] → Differ (leaves t)

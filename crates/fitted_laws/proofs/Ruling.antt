@@ -1,6 +1,7 @@
 -- The rules of statements by the marks of their variables, and what the least widths make of them.
 use Rattle.std.proofs.Common.{◌≡◌, ◌≢◌, ℕ, zero, suc, ◌+◌, ◌-◌, ◌<◌, ◌≤◌, Bool, true, false, List, [], ◌∷◌, ◌++◌, map, length, set, get_or, replicate, Option, Some, None, refl, sym, ap, ap₂, ◌∙◌, subst, arith, slice_get, ◌⊎◌, inl, inr, ⊎_elim}
-use Rattle.std.specs.Prelude.{⊤}
+use Rattle.std.proofs.lemmas.List.Elements.{Contains-get_or, Contains-append_cases}
+use Rattle.std.specs.Prelude.{Contains, ⊤}
 use Rattle.std.proofs.lemmas.Bool.{cases_eq}
 use Rattle.std.proofs.lemmas.Option.{slice_get_within}
 use Rattle.std.proofs.lemmas.List.{length-set, get_or-set_same, get_or-set_other}
@@ -21,12 +22,12 @@ use Rattle.width_rules.proofs.Bounds.{Each, each_append}
 use Rattle.width_rules.proofs.FormulaLemmas.{width-Var}
 use Rattle.width_rules.proofs.Monotone.{width_is_width, width_grows}
 use Rattle.width_fit.specs.Judging.{slot_width}
-use Rattle.fir_names.specs.Scopes.{In, here, there}
-use Rattle.fir_names.proofs.Graphs.{In-either, In-one, some_same}
+use Rattle.fir_names.proofs.Graphs.{some_same}
 use Rattle.circuit_laws.proofs.Scoping.{get-either}
 use Rattle.fitted_laws.proofs.Steps.{Placed}
 use Rattle.fitted_laws.proofs.Known.{Marks, Marked, RuleMarked, get_behind}
 use Rattle.fitted_laws.proofs.Walking.{Solves, rule_of}
+use Rattle.fir_names.proofs.Members.{Contains-first, Contains-later, Contains-none, Contains-one}
 
 same_var : (x y : ℕ) → formula.Var x ≡ formula.Var y → x ≡ y
 same_var x y e = cc
@@ -77,7 +78,7 @@ free_marks ms n k e x a b =
     let at : x ≡ length ms + j = omega (arith, e, a) in
     ap (slice_get (ms ++ replicate k None)) at ∙ get_behind ms (replicate k None) j ∙ none-get k j (omega (arith, a, b))
 
-pub free_ruled : (ms : Marks) (k x : ℕ) (f : Formula) (rules : List Rule) → slice_get (ms ++ replicate k None) x ≡ Some (Some f) → (slice_get ms x ≡ Some (Some f)) ⊎ In (rule_of x f) rules
+pub free_ruled : (ms : Marks) (k x : ℕ) (f : Formula) (rules : List Rule) → slice_get (ms ++ replicate k None) x ≡ Some (Some f) → (slice_get ms x ≡ Some (Some f)) ⊎ Contains rules (rule_of x f)
 free_ruled ms k x f rules e = ⊎_elim (λ l. inl l) (λ r. absurd (let g : Some f ≡ None = get-none k r.0 (Some f) r.2 in cc)) (get-either ms (replicate k None) x (Some f) e)
 
 -- Nodes
@@ -96,14 +97,14 @@ node_marked ms n (s ∷ ss) (f ∷ fs) h =
     let here' : slice_get ms n ≡ Some (Some f) = ap (slice_get ms) (let e : n ≡ n + 0 = omega arith in e) ∙ h 0 f refl in
     (inr here', node_marked ms (n + 1) ss fs (λ k g e. ap (slice_get ms) (let m : (n + 1) + k ≡ n + suc k = omega arith in m) ∙ h (suc k) g e))
 
-pub node_ruled : (n : ℕ) (ss : List Spot) (fs : List Formula) → length ss ≡ length fs → (k : ℕ) (f : Formula) → slice_get fs k ≡ Some f → In (rule_of (n + k) f) (node_rules (node_slots n ss) fs)
+pub node_ruled : (n : ℕ) (ss : List Spot) (fs : List Formula) → length ss ≡ length fs → (k : ℕ) (f : Formula) → slice_get fs k ≡ Some f → Contains (node_rules (node_slots n ss) fs) (rule_of (n + k) f)
 node_ruled n [] [] e k f g = cc
 node_ruled n [] (x ∷ fs) e k f g = absurd (omega (arith, e))
 node_ruled n (s ∷ ss) [] e k f g = cc
 node_ruled n (s ∷ ss) (x ∷ fs) e zero f g =
-    subst (λ r. In r (rule_of n x ∷ node_rules (node_slots (n + 1) ss) fs)) (ap₂ rule_of (let m : n ≡ n + 0 = omega arith in m) (some_same g)) (here (node_rules (node_slots (n + 1) ss) fs))
+    subst (λ r. Contains (rule_of n x ∷ node_rules (node_slots (n + 1) ss) fs) r) (ap₂ rule_of (let m : n ≡ n + 0 = omega arith in m) (some_same g)) (Contains-first (node_rules (node_slots (n + 1) ss) fs))
 node_ruled n (s ∷ ss) (x ∷ fs) e (suc k) f g =
-    there (rule_of n x) (node_rules (node_slots (n + 1) ss) fs) (subst (λ m. In (rule_of m f) (node_rules (node_slots (n + 1) ss) fs)) (let m : (n + 1) + k ≡ n + suc k = omega arith in m) (node_ruled (n + 1) ss fs (omega (arith, e)) k f g))
+    Contains-later (rule_of n x) (node_rules (node_slots (n + 1) ss) fs) (subst (λ m. Contains (node_rules (node_slots (n + 1) ss) fs) (rule_of m f)) (let m : (n + 1) + k ≡ n + suc k = omega arith in m) (node_ruled (n + 1) ss fs (omega (arith, e)) k f g))
 
 pub node_widths : (ws : List Width) (ms : Marks) → Solves ws ms → (n : ℕ) (ss : List Spot) (fs : List Formula) → length ss ≡ length fs
     → ((k : ℕ) (f : Formula) → slice_get fs k ≡ Some f → slice_get ms (n + k) ≡ Some (Some f)) → map (slot_width ws) (node_slots n ss) ≡ map (λ f. width_under f ws) fs
@@ -182,22 +183,17 @@ same_level (Bits m) Over h i e = absurd (omega (arith, h, e))
 same_level Over (Bits n) h i e = absurd (omega (arith, i, e))
 same_level Over Over h i e = refl
 
-rule_holds : (P : Rule → Type 0) (rules : List Rule) (r : Rule) → Each P rules → In r rules → P r
-rule_holds P [] r h i = elim i [ ]
-rule_holds P (q ∷ rules) r h i = ⊎_elim (λ l. subst P (sym (In-one l)) h.0) (λ j. rule_holds P rules r h.1 j) (In-either (q ∷ []) rules i)
+rule_holds : (P : Rule → Type 0) (rules : List Rule) (r : Rule) → Each P rules → Contains rules r → P r
+rule_holds P [] r h i = absurd (Contains-none i)
+rule_holds P (q ∷ rules) r h i = ⊎_elim (λ l. subst P (sym (Contains-one l)) h.0) (λ j. rule_holds P rules r h.1 j) (Contains-append_cases (q ∷ []) rules _ i)
 
-all_rule : (P : Rule → Type 0) (rules : List Rule) (r : Rule) → ((k : ℕ) (d : Rule) → k < length rules → P (get_or rules k d)) → In r rules → P r
-all_rule P [] r h i = elim i [ ]
-all_rule P (q ∷ rules) r h i = ⊎_elim (λ l. subst P (sym (In-one l)) (h 0 q (omega arith))) (λ j. all_rule P rules r (λ k d b. h (suc k) d (omega (arith, b))) j) (In-either (q ∷ []) rules i)
-
-In-at : (rules : List Rule) (k : ℕ) (d : Rule) → k < length rules → In (get_or rules k d) rules
-In-at [] k d h = absurd (omega (arith, h))
-In-at (r ∷ rules) zero d h = here rules
-In-at (r ∷ rules) (suc k) d h = there r rules (In-at rules k d (omega (arith, h)))
+all_rule : (P : Rule → Type 0) (rules : List Rule) (r : Rule) → ((k : ℕ) (d : Rule) → k < length rules → P (get_or rules k d)) → Contains rules r → P r
+all_rule P [] r h i = absurd (Contains-none i)
+all_rule P (q ∷ rules) r h i = ⊎_elim (λ l. subst P (sym (Contains-one l)) (h 0 q (omega arith))) (λ j. all_rule P rules r (λ k d b. h (suc k) d (omega (arith, b))) j) (Contains-append_cases (q ∷ []) rules _ i)
 
 -- a node's variable has the width of its formula
 pub least_solves : (rules : List Rule) (count : ℕ) (ws : List Width) (ms : Marks) → IsLeast rules count ws → length ms ≡ count → Each (RuleMarked ms) rules
-    → ((x : ℕ) (f : Formula) → slice_get ms x ≡ Some (Some f) → In (rule_of x f) rules) → Solves ws ms
+    → ((x : ℕ) (f : Formula) → slice_get ms x ≡ Some (Some f) → Contains rules (rule_of x f)) → Solves ws ms
 least_solves rules count ws ms least counted marked ruled x f e =
     let w : Width = width_under f ws in
     let below : x < length ws = omega (arith, slice_get_within ms x (Some f) e, counted, least.assignment.counted) in
@@ -218,7 +214,7 @@ least_solves rules count ws ms least counted marked ruled x f e =
     (λ q. rw q (⊎_elim
     (λ l. absurd (let g : Some None ≡ Some (Some f) = sym l ∙ ap (slice_get ms) q ∙ e in cc))
     (λ m. let g : r.formula ≡ f = some_same (some_same (sym m ∙ ap (slice_get ms) q ∙ e)) in omega (arith, grows, ap (λ h. level (width_under h ws)) g, ap level same))
-    (rule_holds (RuleMarked ms) rules r marked (In-at rules k d b))))
+    (rule_holds (RuleMarked ms) rules r marked (Contains-get_or rules k d b))))
     (λ q. omega (arith, grows, least.meets k d b, ap level (get_or-set_other ws x r.target w (Bits 0) q)))
     (cases_eq r.target x) in
     let least_is : level_at ws x ≤ level_at other x = least.least other assigned meets x in

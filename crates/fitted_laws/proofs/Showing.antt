@@ -1,5 +1,7 @@
 -- The elements of a memory hold nothing flipped: each port shows their leaves, flipped as its field with the data is.
 use Rattle.std.proofs.Common.{◌≡◌, ◌≢◌, ℕ, ◌<◌, Bool, true, false, not, if◌then◌else◌, List, [], ◌∷◌, map, refl, sym, ap, ◌∙◌, subst, arith, ⊎_elim}
+use Rattle.std.specs.Prelude.{Contains}
+use Rattle.std.proofs.lemmas.List.Elements.{Contains-append_left, Contains-append_right, Contains-append_cases}
 use Rattle.std.specs.List.{flat_map, filter_map, AllByRecursion}
 use Rattle.place_text.specs.declared.place.Place.{Place}
 use Rattle.fir_types.specs.declared.fir_type.FirType.{FirType}
@@ -20,12 +22,11 @@ use Rattle.fir_types.proofs.Masks.{straight}
 use Rattle.type_check.specs.Memories.{memory_faults}
 use Rattle.fir_meaning.specs.Components.{ports_bundle}
 use Rattle.fir_meaning.specs.MemoryPorts.{MemoryPort, memory_ports, port_named, port_in}
-use Rattle.fir_names.specs.Scopes.{In, here, there}
-use Rattle.fir_names.proofs.Graphs.{In-left, In-right, In-either, In-one, some_same}
+use Rattle.fir_names.proofs.Graphs.{some_same}
 use Rattle.circuit_laws.specs.Names.{Every}
 use Rattle.circuit_laws.proofs.Alone.{every-append}
-use Rattle.circuit_laws.proofs.Pieces.{In-map, In-among}
 use Rattle.fitted_laws.proofs.Held.{every_in, port_itself, element_passive}
+use Rattle.fir_names.proofs.Members.{Contains-first, Contains-later, Contains-none, Contains-one, Contains-map, Contains-flat_map}
 
 abbrev Straight : TypeLeaf → Type 0
 Straight l = l.flip ≡ false
@@ -117,18 +118,18 @@ module _ (element : FirType) (depth : ℕ) (place : Place) (m : PortMode) where
       (fields_inner m en (clk ∷ others) (other_inner m en (apart m en_name (let b : 1 < 3 = omega arith in b)))
       (fields_inner m clk others (other_inner m clk (apart m clk_name (let b : 2 < 3 = omega arith in b))) (mode_inner place element m h))))
 
-  data_there : (n : PortMode) → In (data_field place element n) (fields_of_mode place element n)
-  data_there mode.Reader = here _
-  data_there mode.Writer = here _
-  data_there mode.ReadWriter = here _
+  data_there : (n : PortMode) → Contains (fields_of_mode place element n) (data_field place element n)
+  data_there mode.Reader = Contains-first []
+  data_there mode.Writer = Contains-first (plain_field place mask_name (mask_of element) ∷ [])
+  data_there mode.ReadWriter = Contains-first (plain_field place wmode_name (uint_at place 1) ∷ plain_field place wdata_name element ∷ plain_field place wmask_name (mask_of element) ∷ [])
 
-  port_shows : (l : TypeLeaf) → In l (leaves element) → In (under (step.Field (data_of m) ∷ []) (data_flip m) l) (leaves (port_type element depth m place))
+  port_shows : (l : TypeLeaf) → Contains (leaves element) l → Contains (leaves (port_type element depth m place)) (under (step.Field (data_of m) ∷ []) (data_flip m) l)
   port_shows l i =
       let x : TypeLeaf = under (step.Field (data_of m) ∷ []) (data_flip m) l in
       let f : Field = data_field place element m in
-      subst (In x) (sym (leaves-bundle (port_type element depth m place) (addr ∷ en ∷ clk ∷ others) refl))
-      (In-among field_leaves (addr ∷ en ∷ clk ∷ others) f x (there addr _ (there en _ (there clk _ (data_there m))))
-      (subst (In x) (sym (leaves-field f)) (In-map (under (step.Field (data_of m) ∷ []) (data_flip m)) (leaves element) l i)))
+      subst (λ list. Contains list x) (sym (leaves-bundle (port_type element depth m place) (addr ∷ en ∷ clk ∷ others) refl))
+      (Contains-flat_map field_leaves (addr ∷ en ∷ clk ∷ others) f x (Contains-later addr (en ∷ clk ∷ others) (Contains-later en (clk ∷ others) (Contains-later clk others (data_there m))))
+      (subst (λ list. Contains list x) (sym (leaves-field f)) (Contains-map (under (step.Field (data_of m) ∷ []) (data_flip m)) (leaves element) l i)))
 
 -- Of all ports
 
@@ -151,7 +152,7 @@ module _ (p : MemoryPort) (element : FirType) (depth : ℕ) where
     under_port name m same ls h.1,
   )
 
-  lines_outer : Every TypeLeaf Straight (leaves element) → (lines : List MemLine) → ((q : MemoryPort) → In q (filter_map port_in lines) → q.name ≡ p.name → q ≡ p)
+  lines_outer : Every TypeLeaf Straight (leaves element) → (lines : List MemLine) → ((q : MemoryPort) → Contains (filter_map port_in lines) q → q.name ≡ p.name → q ≡ p)
       → Every TypeLeaf Outer (flat_map field_leaves (filter_map (port_field element depth) lines))
   lines_outer h [] same = tt
   lines_outer h (line.MemPort at m name ∷ lines) same =
@@ -159,27 +160,26 @@ module _ (p : MemoryPort) (element : FirType) (depth : ℕ) where
       let own : MemoryPort = record { name = name.id; place = name.place; mode = m } in
       every-append TypeLeaf Outer (field_leaves f) (flat_map field_leaves (filter_map (port_field element depth) lines))
       (subst (Every TypeLeaf Outer) (sym (leaves-field f))
-      (under_port name.id m (λ e. ap (λ (q : MemoryPort). q.mode) (same own (here (filter_map port_in lines)) e)) (leaves (port_type element depth m name.place)) (port_inner element depth name.place m h)))
-      (lines_outer h lines (λ q i. same q (there own (filter_map port_in lines) i)))
+      (under_port name.id m (λ e. ap (λ (q : MemoryPort). q.mode) (same own (Contains-first (filter_map port_in lines)) e)) (leaves (port_type element depth m name.place)) (port_inner element depth name.place m h)))
+      (lines_outer h lines (λ q i. same q (Contains-later own (filter_map port_in lines) i)))
   lines_outer h (line.Element at typ ∷ lines) same = lines_outer h lines same
   lines_outer h (line.Depth at n ∷ lines) same = lines_outer h lines same
   lines_outer h (line.ReadLatency at n ∷ lines) same = lines_outer h lines same
   lines_outer h (line.WriteLatency at n ∷ lines) same = lines_outer h lines same
   lines_outer h (line.ReadUnder at u ∷ lines) same = lines_outer h lines same
 
-  lines_show : (l : TypeLeaf) → In l (leaves element) → (lines : List MemLine) → In p (filter_map port_in lines) → In (outside l) (flat_map field_leaves (filter_map (port_field element depth) lines))
-  lines_show l i [] among = elim among [ ]
+  lines_show : (l : TypeLeaf) → Contains (leaves element) l → (lines : List MemLine) → Contains (filter_map port_in lines) p → Contains (flat_map field_leaves (filter_map (port_field element depth) lines)) (outside l)
+  lines_show l i [] among = absurd (Contains-none among)
   lines_show l i (line.MemPort at m name ∷ lines) among =
       let f : Field = record { flip = true; name = name; typ = port_type element depth m name.place } in
       let own : MemoryPort = record { name = name.id; place = name.place; mode = m } in
       let typ : FirType = port_type element depth m name.place in
       let x : TypeLeaf = under (step.Field (data_of m) ∷ []) (data_flip m) l in
-      let shown : In (under (step.Field name.id ∷ []) true x) (field_leaves f)
-      = subst (In (under (step.Field name.id ∷ []) true x)) (sym (leaves-field f)) (In-map (under (step.Field name.id ∷ []) true) (leaves typ) x (port_shows element depth name.place m l i)) in
+      let shown : Contains (field_leaves f) (under (step.Field name.id ∷ []) true x)
+      = subst (λ list. Contains list (under (step.Field name.id ∷ []) true x)) (sym (leaves-field f)) (Contains-map (under (step.Field name.id ∷ []) true) (leaves typ) x (port_shows element depth name.place m l i)) in
       ⊎_elim
-      (λ a. In-left (subst (λ (q : MemoryPort). In (under (step.Field q.name ∷ []) true (under (step.Field (data_of q.mode) ∷ []) (data_flip q.mode) l)) (field_leaves f)) (sym (In-one a)) shown)
-      (flat_map field_leaves (filter_map (port_field element depth) lines)))
-      (λ b. In-right (field_leaves f) (lines_show l i lines b)) (In-either (own ∷ []) (filter_map port_in lines) among)
+      (λ a. Contains-append_left _ (flat_map field_leaves (filter_map (port_field element depth) lines)) _ (subst (λ (q : MemoryPort). Contains (field_leaves f) (under (step.Field q.name ∷ []) true (under (step.Field (data_of q.mode) ∷ []) (data_flip q.mode) l))) (sym (Contains-one a)) shown))
+      (λ b. Contains-append_right (field_leaves f) _ _ (lines_show l i lines b)) (Contains-append_cases (own ∷ []) (filter_map port_in lines) _ among)
   lines_show l i (line.Element at typ ∷ lines) among = lines_show l i lines among
   lines_show l i (line.Depth at n ∷ lines) among = lines_show l i lines among
   lines_show l i (line.ReadLatency at n ∷ lines) among = lines_show l i lines among
@@ -188,13 +188,13 @@ module _ (p : MemoryPort) (element : FirType) (depth : ℕ) where
 
 -- The elements
 
-all_in : (ls : List TypeLeaf) → AllByRecursion (λ (l : TypeLeaf). l.flip ≡ false) ls → (l : TypeLeaf) → In l ls → l.flip ≡ false
-all_in [] h l i = elim i [ ]
-all_in (x ∷ ls) h l i = ⊎_elim (λ a. ap (λ (z : TypeLeaf). z.flip) (In-one a) ∙ h.0) (λ b. all_in ls h.1 l b) (In-either (x ∷ []) ls i)
+all_in : (ls : List TypeLeaf) → AllByRecursion (λ (l : TypeLeaf). l.flip ≡ false) ls → (l : TypeLeaf) → Contains ls l → l.flip ≡ false
+all_in [] h l i = absurd (Contains-none i)
+all_in (x ∷ ls) h l i = ⊎_elim (λ a. ap (λ (z : TypeLeaf). z.flip) (Contains-one a) ∙ h.0) (λ b. all_in ls h.1 l b) (Contains-append_cases (x ∷ []) ls _ i)
 
-every_of : (ls : List TypeLeaf) → ((l : TypeLeaf) → In l ls → l.flip ≡ false) → Every TypeLeaf Straight ls
+every_of : (ls : List TypeLeaf) → ((l : TypeLeaf) → Contains ls l → l.flip ≡ false) → Every TypeLeaf Straight ls
 every_of [] h = tt
-every_of (x ∷ ls) h = (h x (here ls), every_of ls (λ l i. h l (there x ls i)))
+every_of (x ∷ ls) h = (h x (Contains-first ls), every_of ls (λ l i. h l (Contains-later x ls i)))
 
 unturned : (b x : Bool) → not (if b then not x else x) ≡ not b → x ≡ false
 unturned true true e = cc
@@ -203,20 +203,20 @@ unturned false true e = cc
 unturned false false e = refl
 
 -- a memory that shows what one with straight elements shows has straight elements
-pub elements_straight : (memory : Memory) → memory_faults memory ≡ [] → (filled element : FirType) → ((l : TypeLeaf) → In l (leaves filled) → l.flip ≡ false)
+pub elements_straight : (memory : Memory) → memory_faults memory ≡ [] → (filled element : FirType) → ((l : TypeLeaf) → Contains (leaves filled) l → l.flip ≡ false)
     → leaves (ports_bundle memory element) ≡ leaves (ports_bundle memory filled) → (memory_ports memory ≡ [] → leaves element ≡ leaves (element_of memory))
-    → (l : TypeLeaf) → In l (leaves element) → l.flip ≡ false
+    → (l : TypeLeaf) → Contains (leaves element) l → l.flip ≡ false
 elements_straight memory faultless filled element h alike unported l i = by (memory_ports memory) refl where
   by : (ps : List MemoryPort) → memory_ports memory ≡ ps → l.flip ≡ false
-  by [] e = all_in (leaves (element_of memory)) (straight (element_of memory) (element_passive memory faultless)) l (subst (In l) (unported e) i)
+  by [] e = all_in (leaves (element_of memory)) (straight (element_of memory) (element_passive memory faultless)) l (subst (λ list. Contains list l) (unported e) i)
   by (p ∷ ps) e =
       let depth : ℕ = depth_of memory in
-      let among : In p (memory_ports memory) = subst (In p) (sym e) (here ps) in
-      let shown : In (outside p element depth l) (leaves (ports_bundle memory element))
-      = subst (In (outside p element depth l)) (sym (leaves-bundle (ports_bundle memory element) (filter_map (port_field element depth) memory.lines) refl)) (lines_show p element depth l i memory.lines among) in
+      let among : Contains (memory_ports memory) p = subst (λ list. Contains list p) (sym e) (Contains-first ps) in
+      let shown : Contains (leaves (ports_bundle memory element)) (outside p element depth l)
+      = subst (λ list. Contains list (outside p element depth l)) (sym (leaves-bundle (ports_bundle memory element) (filter_map (port_field element depth) memory.lines) refl)) (lines_show p element depth l i memory.lines among) in
       let outer : Every TypeLeaf (Outer p filled depth) (leaves (ports_bundle memory filled))
       = subst (Every TypeLeaf (Outer p filled depth)) (sym (leaves-bundle (ports_bundle memory filled) (filter_map (port_field filled depth) memory.lines) refl))
       (lines_outer p filled depth (every_of (leaves filled) h) memory.lines (λ q j n. some_same (sym (port_itself memory faultless q j) ∙ ap (port_named memory) n ∙ port_itself memory faultless p among))) in
       let own : Outer p filled depth (outside p element depth l)
-      = every_in (Outer p filled depth) (leaves (ports_bundle memory filled)) outer (outside p element depth l) (subst (In (outside p element depth l)) alike shown) in
+      = every_in (Outer p filled depth) (leaves (ports_bundle memory filled)) outer (outside p element depth l) (subst (λ list. Contains list (outside p element depth l)) alike shown) in
       unturned (data_flip p.mode) l.flip (own l.path refl)

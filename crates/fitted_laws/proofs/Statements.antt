@@ -1,6 +1,6 @@
 -- What each statement comes to.
 use Rattle.std.proofs.Common.{◌≡◌, ◌≢◌, ℕ, zero, suc, ◌+◌, Bool, true, false, not, ◌&&◌, List, [], ◌∷◌, ◌++◌, map, length, get_or, replicate, Option, Some, None, refl, sym, ap, ap₂, ◌∙◌, subst, arith, slice_get, ◌⊎◌, inl, inr, ⊎_elim, append-nil, length-append}
-use Rattle.std.specs.Prelude.{⊤, is_some, nat_eq, option_map}
+use Rattle.std.specs.Prelude.{Contains, ⊤, is_some, nat_eq, option_map}
 use Rattle.std.specs.List.{AllZip, list_all, list_any, flat_map}
 use Rattle.std.specs.Map.{lookup}
 use Rattle.std.proofs.lemmas.List.{length-replicate, length-map, map-append}
@@ -53,7 +53,6 @@ use Rattle.fir_meaning.specs.WellTyped.{Known, typed, named_type, is_narrow}
 use Rattle.fir_names.specs.Extents.{Seen, Use, references}
 use Rattle.fir_names.specs.Parts as parts
 use Rattle.fir_names.specs.Parts.{Part, stmt_part, arm_part}
-use Rattle.fir_names.specs.Scopes.{In}
 use Rattle.fir_names.proofs.Graphs.{some_same}
 use Rattle.circuit_laws.proofs.Alone.{every-left, every-right}
 use Rattle.circuit_laws.proofs.Scoping.{IsNamed, AllNamed, get-either}
@@ -159,7 +158,7 @@ module _ (all : Solved) (modules : List Module) (with_ports : List WithPorts) (p
     pub declared : (w.widths wk n).declared ≡ filled sized.part.typ (map (slot_width ws) sized.slots) ∷ []
     pub shows : w.names.shows i ≡ (name, i) ∷ []
     pub marked : Each (RuleMarked (ms ++ marks)) (w.rules wk n).rules
-    pub ruled : (x : ℕ) (f : Formula) → slice_get (ms ++ marks) x ≡ Some (Some f) → (slice_get ms x ≡ Some (Some f)) ⊎ In (rule_of x f) (w.rules wk n).rules
+    pub ruled : (x : ℕ) (f : Formula) → slice_get (ms ++ marks) x ≡ Some (Some f) → (slice_get ms x ≡ Some (Some f)) ⊎ Contains (w.rules wk n).rules (rule_of x f)
     pub well : (K : Known) → Filled ws wk K → Solves ws (ms ++ marks) → (w.widths wk n).faults ≡ []
         → (w.typed K ≡ true) × S K d (filled sized.part.typ (map (slot_width ws) sized.slots))
 
@@ -562,8 +561,8 @@ module _ (all : Solved) (modules : List Module) (with_ports : List WithPorts) (p
         shows = ap (λ k. (name.id, k) ∷ []) (let q : i + 0 ≡ i = omega arith in q);
         marked = subst (Each (RuleMarked more)) (sym rules) (node_marked more n (spots typ) fs at);
         ruled = λ x g is. ⊎_elim (λ l. inl l)
-            (λ r. inr (subst (In (rule_of x g)) (sym rules)
-            (subst (λ y. In (rule_of y g) (node_rules (node_slots n (spots typ)) fs)) (ap (λ k. k + r.0) (sym st.counted) ∙ sym r.1)
+            (λ r. inr (subst (λ list. Contains list (rule_of x g)) (sym rules)
+            (subst (λ y. Contains (node_rules (node_slots n (spots typ)) fs) (rule_of y g)) (ap (λ k. k + r.0) (sym st.counted) ∙ sym r.1)
             (node_ruled n (spots typ) fs same r.0 g (some_marks fs r.0 g r.2)))))
             (get-either ms marks x (Some g) is);
         well = λ K fits solves none.

@@ -1,6 +1,7 @@
 -- The steps of references: what the type check finds, what the rules measure, and what the filled type has there.
 use Rattle.std.proofs.Common.{◌≡◌, ℕ, ◌+◌, ◌==◌, Bool, true, false, not, cond, if◌then◌else◌, List, [], ◌∷◌, ◌++◌, map, length, take, drop, Option, Some, None, refl, sym, ap, ap₂, ◌∙◌, subst, arith, ⊎_elim}
-use Rattle.std.specs.Prelude.{⊤, find, option_map}
+use Rattle.std.proofs.lemmas.List.Elements.{Contains-append_cases}
+use Rattle.std.specs.Prelude.{Contains, ⊤, find, option_map}
 use Rattle.std.specs.List.{flat_map}
 use Rattle.std.proofs.lemmas.Grind.{common_steps}
 use Rattle.std.proofs.lemmas.List.{take-map, drop-map, length-take, length-drop}
@@ -34,10 +35,10 @@ use Rattle.width_rules.proofs.Spots.{spots-bundle, spots-vector, spots-field}
 use Rattle.type_filling.specs.Filling.{filled}
 use Rattle.width_fit.specs.Judging.{slot_width}
 use Rattle.fir_meaning.specs.Values.{field_of_shape, element_of_shape, length_of_shape, vector_length}
-use Rattle.fir_names.specs.Scopes.{In}
-use Rattle.fir_names.proofs.Graphs.{In-either, In-one, some_same}
+use Rattle.fir_names.proofs.Graphs.{some_same}
 use Rattle.circuit_laws.proofs.Pieces.{found_in}
 use Rattle.fitted_laws.proofs.Filling.{filled_fields, filled-bundle, filled-vector, field_widths, field_of_filled, size-bundle, size-vector, size-fields, size-field}
+use Rattle.fir_names.proofs.Members.{Contains-none, Contains-one}
 
 -- Lists without items
 
@@ -49,10 +50,10 @@ pub right_empty : {X : Type 0} (xs ys : List X) → xs ++ ys ≡ [] → ys ≡ [
 right_empty [] ys e = e
 right_empty (x ∷ xs) ys e = cc
 
-pub all_empty : {X Y : Type 0} (f : X → List Y) (xs : List X) (x : X) → flat_map f xs ≡ [] → In x xs → f x ≡ []
-all_empty f [] x e i = elim i [ ]
-all_empty f (y ∷ xs) x e i = ⊎_elim (λ l. subst (λ z. f z ≡ []) (sym (In-one l)) (left_empty (f y) (flat_map f xs) e))
-    (λ r. all_empty f xs x (right_empty (f y) (flat_map f xs) e) r) (In-either (y ∷ []) xs i)
+pub all_empty : {X Y : Type 0} (f : X → List Y) (xs : List X) (x : X) → flat_map f xs ≡ [] → Contains xs x → f x ≡ []
+all_empty f [] x e i = absurd (Contains-none i)
+all_empty f (y ∷ xs) x e i = ⊎_elim (λ l. subst (λ z. f z ≡ []) (sym (Contains-one l)) (left_empty (f y) (flat_map f xs) e))
+    (λ r. all_empty f xs x (right_empty (f y) (flat_map f xs) e) r) (Contains-append_cases (y ∷ []) xs _ i)
 
 -- Places
 

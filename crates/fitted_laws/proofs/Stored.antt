@@ -1,6 +1,6 @@
 -- The slots of memories and of instances.
 use Rattle.std.proofs.Common.{◌≡◌, ℕ, ◌+◌, ◌==◌, ◌≤◌, Bool, true, false, cond, List, [], ◌∷◌, ◌++◌, map, length, Some, refl, sym, ap, ap₂, ◌∙◌, subst, arith, length-append}
-use Rattle.std.specs.Prelude.{find, option_map}
+use Rattle.std.specs.Prelude.{Contains, find, option_map}
 use Rattle.std.specs.List.{flat_map, filter_map}
 use Rattle.std.proofs.lemmas.List.{length-map}
 use Rattle.place_text.specs.declared.place.Place.{Place}
@@ -30,7 +30,6 @@ use Rattle.width_rules.specs.Layers.{field_spots}
 use Rattle.width_rules.specs.Sources.{formula_of, component_or_none}
 use Rattle.width_rules.specs.Circuits.{ports_from, open_ports, modules_from, all_open, instance_in, instance_component, memory_slots, line_slots, mask_slots}
 use Rattle.width_rules.proofs.Bounds.{Each}
-use Rattle.fir_names.specs.Scopes.{In, here, there}
 use Rattle.fir_names.proofs.Graphs.{some_same}
 use Rattle.circuit_laws.specs.Names.{Every}
 use Rattle.circuit_laws.proofs.Scoping.{Distinct}
@@ -40,6 +39,7 @@ use Rattle.fitted_laws.proofs.Once.{instance_once, memory_once}
 use Rattle.fitted_laws.proofs.Known.{Marks, Marked}
 use Rattle.fitted_laws.proofs.Walking.{Begins}
 use Rattle.fitted_laws.proofs.Ruling.{IsFree, free_placed, slots_free, length-slots}
+use Rattle.fir_names.proofs.Members.{Contains-first, Contains-later}
 
 abbrev pub AreFree : Marks → List Slot → Type 0
 AreFree ms slots = Each (IsFree ms) (map formula_of slots)
@@ -150,7 +150,7 @@ pub record HasGoodPorts (m : Module) : Type 0 where
 
 pub record IsInstance (ms : List Module) (name n count : ℕ) (part : Part) (sized : Component) : Type 0 where
   pub holder : Module
-  pub among : In holder ms
+  pub among : Contains ms holder
   pub part_is : parts.instance_part holder ≡ part
   pub from : ℕ
   pub sized_is : sized ≡ instance_component (record { holder = holder; ports = ports_from from holder.ports })
@@ -167,7 +167,7 @@ instance_there (m ∷ modules) name n part e = by (m.name.id == name) refl (inst
       let is : parts.instance_part m ≡ part = some_same (subst (λ b. option_map parts.instance_part (cond b (Some m) (find (λ x. x.name.id == name) modules)) ≡ Some part) q e) in
       record {
         holder = m;
-        among = here modules;
+        among = Contains-first modules;
         part_is = is;
         from = n;
         sized_is = ap (λ b. component_or_none (option_map instance_component (cond b (Some (record { holder = m; ports = ports_from n m.ports })) (find (λ x. x.holder.name.id == name) (modules_from (n + open_ports m.ports) modules))))) q;
@@ -177,7 +177,7 @@ instance_there (m ∷ modules) name n part e = by (m.name.id == name) refl (inst
       let r = rest (subst (λ b. option_map parts.instance_part (cond b (Some m) (find (λ x. x.name.id == name) modules)) ≡ Some part) q e) in
       record {
         holder = r.holder;
-        among = there m modules r.among;
+        among = Contains-later m modules r.among;
         part_is = r.part_is;
         from = r.from;
         sized_is = ap (λ b. component_or_none (option_map instance_component (cond b (Some (record { holder = m; ports = ports_from n m.ports })) (find (λ x. x.holder.name.id == name) (modules_from (n + open_ports m.ports) modules))))) q ∙ r.sized_is;

@@ -1,6 +1,7 @@
 -- What the walks of the checks through statements come to, part by part.
 use Rattle.std.proofs.Common.{◌≡◌, ℕ, ◌+◌, ◌<◌, Bool, true, ◌&&◌, List, [], ◌∷◌, ◌++◌, map, length, Some, None, refl, sym, ap, ap₂, ◌∙◌, subst, arith, slice_get, ◌⊎◌, inl, inr, ⊎_elim, append_assoc, append-nil, length-append}
-use Rattle.std.specs.Prelude.{nat_eq, is_some}
+use Rattle.std.proofs.lemmas.List.Elements.{Contains-append_left, Contains-append_right, Contains-append_cases}
+use Rattle.std.specs.Prelude.{Contains, nat_eq, is_some}
 use Rattle.std.specs.List.{AllZip}
 use Rattle.std.specs.Map.{lookup}
 use Rattle.fir_types.specs.declared.fir_type.FirType.{FirType}
@@ -25,22 +26,21 @@ use Rattle.fir_meaning.specs.WellTyped.{Known}
 use Rattle.fir_names.specs.Extents.{Seen, Use}
 use Rattle.fir_names.specs.Parts as parts
 use Rattle.fir_names.specs.Parts.{Part}
-use Rattle.fir_names.specs.Scopes.{In}
-use Rattle.fir_names.proofs.Graphs.{In-left, In-right, In-either, In-one}
 use Rattle.circuit_laws.specs.Names.{Every}
 use Rattle.circuit_laws.proofs.Alone.{every-append, every-left, every-right}
 use Rattle.circuit_laws.proofs.Scoping.{IsNamed, AllNamed}
 use Rattle.fitted_laws.proofs.Steps.{left_empty, right_empty}
 use Rattle.fitted_laws.proofs.Expressions.{TKnown, WKnown, Knows, Filled, IsIn}
 use Rattle.fitted_laws.proofs.Known.{Marks, Marked, RuleMarked, get_more, more_rule}
+use Rattle.fir_names.proofs.Members.{Contains-none, Contains-one}
 
 -- what is seen is known
 abbrev pub SeenIn : TKnown → List Seen → Type 0
 SeenIn tk = Every Seen (λ s. is_some (check.component tk s.0) ≡ true)
 
-seen_at : (tk : TKnown) (seen : List Seen) (s : Seen) → SeenIn tk seen → In s seen → is_some (check.component tk s.0) ≡ true
-seen_at tk [] s h i = elim i [ ]
-seen_at tk (t ∷ seen) s h i = ⊎_elim (λ l. subst (λ (z : Seen). is_some (check.component tk z.0) ≡ true) (sym (In-one l)) h.0) (λ r. seen_at tk seen s h.1 r) (In-either (t ∷ []) seen i)
+seen_at : (tk : TKnown) (seen : List Seen) (s : Seen) → SeenIn tk seen → Contains seen s → is_some (check.component tk s.0) ≡ true
+seen_at tk [] s h i = absurd (Contains-none i)
+seen_at tk (t ∷ seen) s h i = ⊎_elim (λ l. subst (λ (z : Seen). is_some (check.component tk z.0) ≡ true) (sym (Contains-one l)) h.0) (λ r. seen_at tk seen s h.1 r) (Contains-append_cases (t ∷ []) seen _ i)
 
 pub named_known : (tk : TKnown) (seen : List Seen) → SeenIn tk seen → (ns : List Name) → AllNamed (map (λ name. record { name = name; seen = seen }) ns) → Every Name (IsIn tk) ns
 named_known tk seen h [] a = tt
@@ -122,7 +122,7 @@ module _ (all : Solved) (modules : List Module) (ports : ℕ) (S : Known → Dec
     pub kept_sized : (name : ℕ) (sized : Component) → lookup (nat_eq name) wk ≡ Some sized → lookup (nat_eq name) (w.rules wk n).known ≡ Some sized
     pub shown : SeenIn (w.types tk).known (w.names.shows i)
     pub marked : Each (RuleMarked (ms ++ marks)) (w.rules wk n).rules
-    pub ruled : (x : ℕ) (f : Formula) → slice_get (ms ++ marks) x ≡ Some (Some f) → (slice_get ms x ≡ Some (Some f)) ⊎ In (rule_of x f) (w.rules wk n).rules
+    pub ruled : (x : ℕ) (f : Formula) → slice_get (ms ++ marks) x ≡ Some (Some f) → (slice_get ms x ≡ Some (Some f)) ⊎ Contains (w.rules wk n).rules (rule_of x f)
     pub counted : length w.declares ≡ length (w.widths wk n).declared
     pub fits : (K : Known) → NamedAs K w.declares (w.widths wk n).declared → Filled all.widths wk K → Filled all.widths (w.rules wk n).known K
     pub well : (K : Known) → Filled all.widths (w.rules wk n).known K → Solves all.widths (ms ++ marks) → (w.widths wk n).faults ≡ []
@@ -175,7 +175,7 @@ module _ (all : Solved) (modules : List Module) (ports : ℕ) (S : Known → Dec
         shown = every-append Seen (λ s. is_some (check.component tk2 s.0) ≡ true) (w.names.shows i) (v.names.shows (i + length w.names.declares)) (seen_more tk' tk2 (w.names.shows i) b.kept a.shown) b.shown;
         marked = each_append (RuleMarked (ms ++ (a.marks ++ b.marks))) first.rules second.rules
             (subst (λ z. Each (RuleMarked z) first.rules) together (each_rules (ms ++ a.marks) b.marks first.rules a.marked)) (subst (λ z. Each (RuleMarked z) second.rules) together b.marked);
-        ruled = λ x f is. ⊎_elim (λ l. ⊎_elim (λ p. inl p) (λ q. inr (In-left q second.rules)) (a.ruled x f l)) (λ r. inr (In-right first.rules r)) (b.ruled x f (ap (λ z. slice_get z x) together ∙ is));
+        ruled = λ x f is. ⊎_elim (λ l. ⊎_elim (λ p. inl p) (λ q. inr (Contains-append_left _ second.rules _ q)) (a.ruled x f l)) (λ r. inr (Contains-append_right first.rules _ _ r)) (b.ruled x f (ap (λ z. slice_get z x) together ∙ is));
         counted = length-append w.declares v.declares ∙ ap₂ (λ x y. x + y) a.counted (b.counted ∙ ap (λ (g : judging.Findings). length g.declared) (sym s))
             ∙ sym (length-append (w.widths wk n).declared (v.widths (w.widths wk n).known (n + (w.widths wk n).count)).declared);
         fits = λ K named fits.

@@ -18,10 +18,10 @@ use Rattle.width_fit.specs.Judging.{slot_width}
 use Rattle.fir_meaning.specs.Components.{TypedModule, Component, HasBundles, A_memory, An_instance, target_in, typed_ports, ports_bundle, design_of, modules_of, module_at, module_named, component_named}
 use Rattle.fir_meaning.specs.WellTyped.{known_in}
 use Rattle.fir_names.specs.Scopes.{texts, Means, Reaches, through}
-use Rattle.fir_names.proofs.Graphs.{In-get, some_same}
+use Rattle.fir_names.proofs.Graphs.{some_same}
 use Rattle.circuit_laws.specs.WellFormed.{IsWellFormed, IsKnownModule}
 use Rattle.circuit_laws.proofs.Typed.{named_itself, component_declared}
-use Rattle.circuit_laws.proofs.Pieces.{found_in, contained_In}
+use Rattle.circuit_laws.proofs.Pieces.{found_in}
 use Rattle.circuit_laws.proofs.Instances.{declared_instance}
 use Rattle.circuit_laws.proofs.Reached.{IsNumbered, numbered, has_number, module_meant, module_there}
 use Rattle.fitted_laws.specs.Accepted.{IsAccepted}
@@ -29,6 +29,7 @@ use Rattle.fitted_laws.proofs.Declared.{IsDeclared}
 use Rattle.fitted_laws.proofs.Circuits as circuits
 use Rattle.fitted_laws.proofs.Bundles.{ports_are, instance_leaves, first_with}
 use Rattle.fitted_laws.proofs.Memories.{memory_filled}
+use Rattle.fir_names.proofs.Members.{Contains-get}
 
 module _ (fitted : Fitted) (ok : IsAccepted fitted) where
   abbrev circuit : Circuit
@@ -41,10 +42,10 @@ module _ (fitted : Fitted) (ok : IsAccepted fitted) where
   known = module_there fitted ok.scope ok.names (circuits.module_typed fitted ok)
 
   contained : (m : TypedModule) (k : IsKnownModule fitted m) → Contains (modules_of fitted) m
-  contained m k = contained_In (modules_of fitted) m (In-get (modules_of fitted) k.k m k.number)
+  contained m k = Contains-get (modules_of fitted) k.k m k.number
 
   listed : (m : TypedModule) (c : Component) (name : ℕ) → component_named m name ≡ Some c → Contains m.components c
-  listed m c name e = contained_In m.components c (found_in (λ (x : Component). x.declaration.name == name) m.components c e).0
+  listed m c name e = (found_in (λ (x : Component). x.declaration.name == name) m.components c e).0
 
   first_has : (modules : List Module) (k x : ℕ) → slice_get (texts (map (λ m. m.name) modules)) k ≡ Some x → (holder : Module) × (slice_get modules k ≡ Some holder)
   first_has modules k x e = circuits.named_at modules k x e
@@ -59,7 +60,7 @@ module _ (fitted : Fitted) (ok : IsAccepted fitted) where
       let place = component_declared m of.holder of.of c among in
       let name = declared_instance of.holder place.0 target c.declaration place.1 (ap target_in sort) in
       let same : of.holder ≡ k.holder = some_same (sym of.here ∙ k.here) in
-      let means = circuits.target_means fitted ok of.holder (In-get circuit.modules k.k of.holder of.here) name.0 name.1 in
+      let means = circuits.target_means fitted ok of.holder (Contains-get circuit.modules k.k of.holder of.here) name.0 name.1 in
       let meant : Means circuit target means.0 = subst (λ t. Means circuit t means.0) name.2 means.1 in
       let holder = first_has circuit.modules means.0 target meant.has in
       let n = has_number circuit.modules fitted.declared means.0 holder.0 holder.1 in

@@ -1,5 +1,6 @@
 -- The whole body of a module.
 use Rattle.std.proofs.Common.{◌≡◌, ℕ, zero, suc, ◌+◌, ◌<◌, ◌≤◌, Bool, true, false, List, [], ◌∷◌, map, length, slice_get, get_or, Some, None, option_map, refl, sym, ap, ◌∙◌, subst, arith, append-nil, ◌⊎◌, inl, inr, if◌then◌else◌}
+use Rattle.std.specs.Prelude.{Contains}
 use Rattle.std.proofs.lemmas.List.{length-map}
 use Rattle.fault_order.specs.First.{HasNone}
 use Rattle.bit_words.specs.Values.{integer_of}
@@ -10,7 +11,7 @@ use Rattle.fir_tree.specs.declared.circuit.Module.{Module}
 use Rattle.fir_tree.specs.declared.expr.Expr.{Expr}
 use Rattle.fir_tree.specs.declared.scope.Scope.{Scope}
 use Rattle.fir_tree.specs.declared.stmt.Stmt.{Stmt}
-use Rattle.fir_names.specs.Scopes.{In, IsScope}
+use Rattle.fir_names.specs.Scopes.{IsScope}
 use Rattle.fir_names.specs.Faults.{IsFault}
 use Rattle.fir_meaning.specs.Components.{TypedModule, Component, Declaration, Leaf, An_input, An_output, A_node, is_clock, told, declared_in_block, declared_by_port, declarations_of, type_in}
 use Rattle.fir_meaning.specs.Loops as tree_loops
@@ -47,7 +48,7 @@ port_is_no_node body (port ∷ ports) zero d e at sort = by port.output (ap (λ 
     by false q = cc
 port_is_no_node body (port ∷ ports) (suc k) d e at sort = port_is_no_node body ports k d e at sort
 
-module _ (circuit : Circuit) (scope : Scope) (scoped : IsScope circuit scope) (fine : HasNone (IsFault circuit)) (holder : Module) (within : In holder circuit.modules) (m : TypedModule) (has : HasTypes holder m)
+module _ (circuit : Circuit) (scope : Scope) (scoped : IsScope circuit scope) (fine : HasNone (IsFault circuit)) (holder : Module) (within : Contains circuit.modules holder) (m : TypedModule) (has : HasTypes holder m)
     (entries : Entries) (settable : List Bool) (view : IsViewOf m entries settable) (listed : List GroundLeaf) (t : HasTable m (table_of listed)) (before behind : ℕ) (made : List GroundStmt)
     (at : before ≡ leaves_before m (length holder.ports)) (body : IsBody entries settable holder.body before behind made) where
   abbrev N : Numbering

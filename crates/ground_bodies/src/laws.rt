@@ -1,12 +1,12 @@
 //! Laws of the definitions. The functions do nothing.
 
-ghost use Rattle.std.specs.Prelude.{◌≡◌, ◌+◌, ℕ, Bool, true, List, Some, length};
+ghost use Rattle.std.specs.Prelude.{◌≡◌, ◌+◌, ℕ, Bool, true, List, Some, length, Contains};
 ghost use Rattle.fault_order.specs.First.{HasNone};
 ghost use Rattle.fir_types.specs.declared.leaf.TypeLeaf.{TypeLeaf as TheLeaf};
 ghost use Rattle.fir_tree.specs.declared.circuit.Circuit.{Circuit as ACircuit};
 ghost use Rattle.fir_tree.specs.declared.circuit.Module.{Module as AModule};
 ghost use Rattle.fir_tree.specs.declared.scope.Scope.{Scope as AScope};
-ghost use Rattle.fir_names.specs.Scopes.{In, IsScope};
+ghost use Rattle.fir_names.specs.Scopes.{IsScope};
 ghost use Rattle.fir_names.specs.Faults.{IsFault};
 ghost use Rattle.fir_meaning.specs.Components.{TypedModule, Component, type_in};
 ghost use Rattle.fir_meaning.specs.States.{leaf_of};
@@ -33,5 +33,5 @@ pub fn views_know_their_modules()
 /// The ground statements of a module's whole body leave in each leaf what the statements of its component's block do, or the value of its
 /// node, and read the same leaves. The ports are declared before the body.
 pub fn whole_bodies_are_those_of_modules()
-    ensures { (circuit : ACircuit) (scope : AScope) → IsScope circuit scope → HasNone (IsFault circuit) → (holder : AModule) → In holder circuit.modules → (m : TypedModule) → HasTypes holder m → (entries : Entries) (settable : List Bool) → IsViewOf m entries settable → (listed : List ALeaf) → HasTable m (table_of listed) → (before behind : ℕ) (made : List Statement) → before ≡ leaves_before m (length holder.ports) → IsBody entries settable holder.body before behind made → IsWholeBody m listed made }
+    ensures { (circuit : ACircuit) (scope : AScope) → IsScope circuit scope → HasNone (IsFault circuit) → (holder : AModule) → Contains circuit.modules holder → (m : TypedModule) → HasTypes holder m → (entries : Entries) (settable : List Bool) → IsViewOf m entries settable → (listed : List ALeaf) → HasTable m (table_of listed) → (before behind : ℕ) (made : List Statement) → before ≡ leaves_before m (length holder.ports) → IsBody entries settable holder.body before behind made → IsWholeBody m listed made }
 {}

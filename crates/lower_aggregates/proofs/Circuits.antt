@@ -13,7 +13,7 @@ use Rattle.fir_tree.specs.declared.circuit.Circuit.{Circuit}
 use Rattle.fir_tree.specs.declared.scope.Fitted.{Fitted}
 use Rattle.fir_names.specs.Scopes.{texts, module_names, FirstOf, Means}
 use Rattle.fir_names.specs.Finds.{numbered}
-use Rattle.fir_names.proofs.Graphs.{some_same, In-get}
+use Rattle.fir_names.proofs.Graphs.{some_same}
 use Rattle.fir_meaning.specs.Components.{TypedModule, declarations_of, with_types, modules_of, design_of, module_named, module_at}
 use Rattle.fir_meaning.proofs.Tracking.{none_some}
 use Rattle.circuit_laws.specs.WellFormed.{IsWellFormed}
@@ -22,6 +22,7 @@ use Rattle.ground_tables.specs.Headings.{headings_of}
 use Rattle.lower_aggregates.specs.Instances.{Numbers}
 use Rattle.lower_aggregates.specs.Modules.{IsLowerable}
 use Rattle.lower_aggregates.specs.Circuits.{IsPlaced, with_new, StandsFrom, IsMadeAt, AreMade}
+use Rattle.fir_names.proofs.Members.{Contains-get}
 
 -- Numbers of names
 
@@ -181,7 +182,7 @@ lowerable reach number fitted w numbers placed i x types lt is s reached m e =
     record {
       scoped = w.scope;
       names = w.names;
-      among = In-get fitted.checked.circuit.modules i x holds;
+      among = Contains-get fitted.checked.circuit.modules i x holds;
       components = ap (λ (n : TypedModule). n.components) (sym (some_same (sym (own_module fitted i x types lt is s) ∙ e)));
       typed = w.types i x m holds e reached;
       bundles = λ c memory listed sort. w.bundles.memories path.0 m c memory path.1 (w.bundles.names path.0 m c path.1 listed) sort;

@@ -8,7 +8,7 @@ use Rattle.fir_types.specs.Leaves.{leaves}
 use Rattle.fir_tree.specs.declared.circuit.Circuit.{Circuit}
 use Rattle.fir_tree.specs.declared.circuit.Module.{Module}
 use Rattle.fir_tree.specs.declared.scope.Scope.{Scope}
-use Rattle.fir_names.specs.Scopes.{In, IsScope, Means}
+use Rattle.fir_names.specs.Scopes.{IsScope, Means}
 use Rattle.fir_names.specs.Faults.{IsFault}
 use Rattle.fir_meaning.specs.Components.{TypedModule, Component, A_memory, An_instance, declarations_of, ports_bundle}
 use Rattle.fir_meaning.specs.WellTyped.{HasTypes}
@@ -19,7 +19,7 @@ use Rattle.lower_aggregates.specs.Instances.{Numbers}
 pub record IsLowerable (circuit : Circuit) (scope : Scope) (numbers : Numbers) (holder : Module) (types : List FirType) (m : TypedModule) : Type 0 where
   pub scoped : IsScope circuit scope
   pub names : HasNone (IsFault circuit)
-  pub among : In holder circuit.modules
+  pub among : Contains circuit.modules holder
   pub components : m.components ≡ map (λ both. record { declaration = both.0; typ = both.1 }) (zip (declarations_of holder) types)
   pub typed : HasTypes holder m
   pub bundles : (c : Component) (memory : Memory) → Contains m.components c → c.declaration.sort ≡ A_memory memory → (element : FirType) × (leaves c.typ ≡ leaves (ports_bundle memory element))

@@ -2,7 +2,8 @@
 use Rattle.std.proofs.Common.{◌≡◌, List, [], ◌∷◌, refl}
 use Rattle.fir_types.specs.declared.name.Name.{Name}
 use Rattle.fir_names.specs.Extents.{Seen, Use, refer, declare, all_marks, block_marks, uses_behind, declared_by}
-use Rattle.fir_names.specs.Scopes.{here, there, Names}
+use Rattle.fir_names.specs.Scopes.{Names}
+use Rattle.fir_names.proofs.Members.{Contains-first, Contains-later}
 
 abbrev seeing : Name → List Seen → Use
 seeing name seen = record { name = name; seen = seen }
@@ -12,10 +13,10 @@ two_wires : (a : Name) → uses_behind [] (all_marks (declare a ∷ declare a �
 two_wires a = refl
 
 the_first : (a : Name) → Names (seeing a ((a.id, 0) ∷ (a.id, 1) ∷ [])) 0
-the_first a = here ((a.id, 1) ∷ [])
+the_first a = Contains-first ((a.id, 1) ∷ [])
 
 the_second : (a : Name) → Names (seeing a ((a.id, 0) ∷ (a.id, 1) ∷ [])) 1
-the_second a = there (a.id, 0) ((a.id, 1) ∷ []) (here [])
+the_second a = Contains-later (a.id, 0) ((a.id, 1) ∷ []) (Contains-first [])
 
 -- Branches that don't see each other declare in one module still: a name in both is there twice.
 two_branches : (a : Name) → declared_by (all_marks (block_marks (declare a ∷ []) ∷ block_marks (declare a ∷ []) ∷ []) 0) ≡ a ∷ a ∷ []

@@ -1,6 +1,7 @@
 -- Where names have no fault, a use means one declaration.
 use Rattle.std.proofs.Common.{◌≡◌, ℕ, zero, suc, ◌+◌, Bool, true, false, if◌then◌else◌, List, [], ◌∷◌, ◌++◌, map, Some, slice_get, refl, sym, ap, ◌∙◌, subst, arith, append_assoc, length, ◌⊎◌, inl, inr, ⊎_elim}
-use Rattle.std.specs.Prelude.{nat_lt}
+use Rattle.std.proofs.lemmas.List.Elements.{Contains-append_cases}
+use Rattle.std.specs.Prelude.{Contains, nat_lt}
 use Rattle.std.proofs.lemmas.Bool.{cases_eq}
 use Rattle.std.proofs.lemmas.List.{map-append}
 use Rattle.fir_types.specs.declared.name.Name.{Name}
@@ -8,11 +9,12 @@ use Rattle.fir_tree.specs.declared.circuit.Circuit.{Circuit}
 use Rattle.fir_tree.specs.declared.circuit.Module.{Module}
 use Rattle.fault_order.specs.First.{HasNone}
 use Rattle.fir_names.specs.Extents.{Seen, Use, Mark, Refers, Instantiates, Declares, marks_in, seen_behind, uses_behind, declared_by, uses_in, declared_in}
-use Rattle.fir_names.specs.Scopes.{In, here, there, texts, module_names, Names}
+use Rattle.fir_names.specs.Scopes.{texts, module_names, Names}
 use Rattle.fir_names.specs.Faults.{IsFault, module_twice, name_twice, name_unknown}
-use Rattle.fir_names.proofs.Graphs.{In-either, In-one, some_same}
+use Rattle.fir_names.proofs.Graphs.{some_same}
 use Rattle.circuit_laws.proofs.Scoping.{distinct_behind, distinct_texts, ids_apart}
 use Rattle.name_laws.specs.Meant.{MeansOne}
+use Rattle.fir_names.proofs.Members.{Contains-first, Contains-later, Contains-none, Contains-one}
 
 -- Modules
 
@@ -35,13 +37,13 @@ declared-append (Refers name ∷ xs) ys = declared-append xs ys
 declared-append (Instantiates name ∷ xs) ys = declared-append xs ys
 declared-append (Declares name after ∷ xs) ys = ap (λ l. name ∷ l) (declared-append xs ys)
 
-in_where : (b : Bool) (x y : Seen) → In x (if b then y ∷ [] else []) → x ≡ y
-in_where true x y i = In-one i
-in_where false x y i = elim i [ ]
+in_where : (b : Bool) (x y : Seen) → Contains (if b then y ∷ [] else []) x → x ≡ y
+in_where true x y i = Contains-one i
+in_where false x y i = absurd (Contains-none i)
 
 -- What is seen of names is declared by them, at its number.
-seen_number : (between n : ℕ) (ms : List Mark) (id k : ℕ) → In (id, k) (seen_behind between n ms) → (j : ℕ) × (k ≡ n + j) × (slice_get (texts (declared_by ms)) j ≡ Some id)
-seen_number between n [] id k i = elim i [ ]
+seen_number : (between n : ℕ) (ms : List Mark) (id k : ℕ) → Contains (seen_behind between n ms) (id, k) → (j : ℕ) × (k ≡ n + j) × (slice_get (texts (declared_by ms)) j ≡ Some id)
+seen_number between n [] id k i = absurd (Contains-none i)
 seen_number between n (Refers name ∷ ms) id k i = seen_number between n ms id k i
 seen_number between n (Instantiates name ∷ ms) id k i = seen_number between n ms id k i
 seen_number between n (Declares name after ∷ ms) id k i =
@@ -49,15 +51,15 @@ seen_number between n (Declares name after ∷ ms) id k i =
     (λ l. let e : (id, k) ≡ (name.id, n) = in_where (nat_lt (length ms + between) after) (id, k) (name.id, n) l in
     (0, omega (arith, ap (λ (s : Seen). s.1) e), ap (λ (s : Seen). Some s.0) (sym e)))
     (λ r. let s = seen_number between (n + 1) ms id k r in (suc s.0, omega (arith, s.1), s.2))
-    (In-either (if nat_lt (length ms + between) after then (name.id, n) ∷ [] else []) (seen_behind between (n + 1) ms) i)
+    (Contains-append_cases (if nat_lt (length ms + between) after then (name.id, n) ∷ [] else []) (seen_behind between (n + 1) ms) _ i)
 
 -- A use sees what the names before it show.
-use_seen : (before ms : List Mark) (u : Use) → In u (uses_behind before ms) → (front : List Mark) × (back : List Mark) × (before ++ ms ≡ front ++ back) × (u.seen ≡ seen_behind 0 0 front)
-use_seen before [] u i = elim i [ ]
+use_seen : (before ms : List Mark) (u : Use) → Contains (uses_behind before ms) u → (front : List Mark) × (back : List Mark) × (before ++ ms ≡ front ++ back) × (u.seen ≡ seen_behind 0 0 front)
+use_seen before [] u i = absurd (Contains-none i)
 use_seen before (Refers name ∷ ms) u i =
-    ⊎_elim (λ l. (before, Refers name ∷ ms, refl, ap (λ (x : Use). x.seen) (In-one l)))
+    ⊎_elim (λ l. (before, Refers name ∷ ms, refl, ap (λ (x : Use). x.seen) (Contains-one l)))
     (λ r. let s = use_seen (before ++ Refers name ∷ []) ms u r in (s.0, s.1, sym (append_assoc before (Refers name ∷ []) ms) ∙ s.2, s.3))
-    (In-either (record { name = name; seen = seen_behind 0 0 before } ∷ []) (uses_behind (before ++ Refers name ∷ []) ms) i)
+    (Contains-append_cases (record { name = name; seen = seen_behind 0 0 before } ∷ []) (uses_behind (before ++ Refers name ∷ []) ms) _ i)
 use_seen before (Instantiates name ∷ ms) u i =
     let s = use_seen (before ++ Instantiates name ∷ []) ms u i in (s.0, s.1, sym (append_assoc before (Instantiates name ∷ []) ms) ∙ s.2, s.3)
 use_seen before (Declares name after ∷ ms) u i =
@@ -68,10 +70,10 @@ get_front [] ys k c e = cc
 get_front (x ∷ xs) ys zero c e = e
 get_front (x ∷ xs) ys (suc k) c e = get_front xs ys k c e
 
-use_number : (holder : Module) (u : Use) → In u (uses_in holder) → (number : ℕ) → Names u number → slice_get (texts (declared_in holder)) number ≡ Some u.name.id
+use_number : (holder : Module) (u : Use) → Contains (uses_in holder) u → (number : ℕ) → Names u number → slice_get (texts (declared_in holder)) number ≡ Some u.name.id
 use_number holder u i number names =
     let s = use_seen [] (marks_in holder) u i in
-    let t = seen_number 0 0 s.0 u.name.id number (subst (In (u.name.id, number)) s.3 names) in
+    let t = seen_number 0 0 s.0 u.name.id number (subst (λ list. Contains list (u.name.id, number)) s.3 names) in
     let all : texts (declared_in holder) ≡ texts (declared_by s.0) ++ texts (declared_by s.1) =
     ap (λ ms. texts (declared_by ms)) s.2 ∙ ap texts (declared-append s.0 s.1) ∙ map-append (λ (name : Name). name.id) (declared_by s.0) (declared_by s.1) in
     let at : number ≡ t.0 = omega (arith, t.1) in
@@ -79,21 +81,21 @@ use_number holder u i number names =
     (subst (λ k. slice_get (texts (declared_by s.0) ++ texts (declared_by s.1)) k ≡ Some u.name.id) (sym at) (get_front (texts (declared_by s.0)) (texts (declared_by s.1)) t.0 u.name.id t.2))
 
 -- a declaration of the name is seen, or none is
-look_up : (id : ℕ) (seen : List Seen) → ((number : ℕ) × In (id, number) seen) ⊎ ((number : ℕ) → ¬ (In (id, number) seen))
-look_up id [] = inr (λ number i. elim i [ ])
+look_up : (id : ℕ) (seen : List Seen) → ((number : ℕ) × Contains seen (id, number)) ⊎ ((number : ℕ) → ¬ (Contains seen (id, number)))
+look_up id [] = inr (λ number i. absurd (Contains-none i))
 look_up id (s ∷ seen) =
-    ⊎_elim (λ e. inl (s.1, subst (λ t. In (t, s.1) (s ∷ seen)) e (here seen)))
-    (λ ne. ⊎_elim (λ f. inl (f.0, there s seen f.1))
-    (λ g. inr (λ number i. ⊎_elim (λ l. ne (ap (λ (x : Seen). x.0) (sym (In-one l)))) (λ r. g number r) (In-either (s ∷ []) seen i))) (look_up id seen))
+    ⊎_elim (λ e. inl (s.1, subst (λ t. Contains (s ∷ seen) (t, s.1)) e (Contains-first seen)))
+    (λ ne. ⊎_elim (λ f. inl (f.0, Contains-later s seen f.1))
+    (λ g. inr (λ number i. ⊎_elim (λ l. ne (ap (λ (x : Seen). x.0) (sym (Contains-one l)))) (λ r. g number r) (Contains-append_cases (s ∷ []) seen _ i))) (look_up id seen))
     (cases_eq s.0 id)
 
-pub means_once : (circuit : Circuit) → HasNone (IsFault circuit) → (holder : Module) → In holder circuit.modules → (u : Use) → In u (uses_in holder)
+pub means_once : (circuit : Circuit) → HasNone (IsFault circuit) → (holder : Module) → Contains circuit.modules holder → (u : Use) → Contains (uses_in holder) u
     → (j k : ℕ) → Names u j → Names u k → j ≡ k
 means_once circuit none holder i u used j k a b =
     ids_apart (texts (declared_in holder)) (distinct_texts (declared_in holder) (distinct_behind [] (declared_in holder) (λ name t. none _ (name_twice holder name i t)))) j k u.name.id
     (use_number holder u used j a) (use_number holder u used k b)
 
-pub means_one : (circuit : Circuit) → HasNone (IsFault circuit) → (holder : Module) → In holder circuit.modules → (u : Use) → In u (uses_in holder) → MeansOne holder u
+pub means_one : (circuit : Circuit) → HasNone (IsFault circuit) → (holder : Module) → Contains circuit.modules holder → (u : Use) → Contains (uses_in holder) u → MeansOne holder u
 means_one circuit none holder i u used =
     ⊎_elim (λ f. record {
       number = f.0;

@@ -1,12 +1,12 @@
 //! Laws of names. The functions do nothing.
 
-ghost use Rattle.std.specs.Prelude.{◌≡◌, ℕ, map, slice_get, Some};
+ghost use Rattle.std.specs.Prelude.{◌≡◌, ℕ, map, slice_get, Some, Contains};
 ghost use Rattle.fault_order.specs.First.{HasNone};
 ghost use Rattle.fir_tree.specs.declared.circuit.Circuit.{Circuit as ACircuit};
 ghost use Rattle.fir_tree.specs.declared.circuit.Module.{Module as AModule};
 ghost use Rattle.fir_tree.specs.declared.scope.Scope.{Scope as AScope};
 ghost use Rattle.fir_names.specs.Extents.{Use, uses_in};
-ghost use Rattle.fir_names.specs.Scopes.{In, IsScope};
+ghost use Rattle.fir_names.specs.Scopes.{IsScope};
 ghost use Rattle.fir_names.specs.Faults.{IsFault};
 ghost use Rattle.circuit_laws.specs.Names.{all_of, named_in};
 ghost use Rattle.name_laws.specs.Meant.{MeansOne};
@@ -20,7 +20,7 @@ pub fn module_names_differ()
 /// each means exactly one of the declarations that it sees, which stand before it in its block or in a block around it.
 pub fn uses_name_one_declaration()
     ensures references { (holder : AModule) → map (λ use'. use'.name) (uses_in holder) ≡ all_of (map named_in holder.body) }
-    ensures one { (circuit : ACircuit) → HasNone (IsFault circuit) → (holder : AModule) → In holder circuit.modules → (use' : Use) → In use' (uses_in holder) → MeansOne holder use' }
+    ensures one { (circuit : ACircuit) → HasNone (IsFault circuit) → (holder : AModule) → Contains circuit.modules holder → (use' : Use) → Contains (uses_in holder) use' → MeansOne holder use' }
 {}
 
 /// Two scopes of a circuit have the same modules for its instances. Where its names have no fault, they are the same scope.

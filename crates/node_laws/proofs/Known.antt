@@ -1,17 +1,17 @@
 -- Components that are known stay known, and what is declared is known then.
 use Rattle.std.proofs.Common.{◌≡◌, ℕ, Bool, true, false, cond, ◌||◌, List, [], ◌∷◌, ◌++◌, map, Option, Some, None, refl, sym, ap, ◌∙◌, subst, ⊎_elim}
-use Rattle.std.specs.Prelude.{nat_eq, is_some, if◌then◌else◌}
+use Rattle.std.proofs.lemmas.List.Elements.{Contains-append_cases}
+use Rattle.std.specs.Prelude.{Contains, nat_eq, is_some, if◌then◌else◌}
 use Rattle.std.specs.Map.{lookup}
 use Rattle.std.proofs.lemmas.Bool.{eq-eqb}
 use Rattle.fir_types.specs.declared.name.Name.{Name}
 use Rattle.circuit_parts.specs.declared.part.Part.{Part}
 use Rattle.type_check.specs.Parts.{Known, component, known_with}
 use Rattle.fir_names.specs.Extents.{Seen}
-use Rattle.fir_names.specs.Scopes.{In}
-use Rattle.fir_names.proofs.Graphs.{In-either, In-one}
 use Rattle.circuit_laws.specs.Names.{Every}
 use Rattle.circuit_laws.proofs.Scoping.{AllNamed}
 use Rattle.node_laws.proofs.Standing.{IsIn}
+use Rattle.fir_names.proofs.Members.{Contains-none, Contains-one}
 
 abbrev pub has : Known → ℕ → Bool
 has known name = is_some (component known name)
@@ -55,9 +55,9 @@ pub seen_more : (known more : Known) (seen : List Seen) → Kept known more → 
 seen_more known more [] h s = tt
 seen_more known more (x ∷ seen) h s = (h x.0 s.0, seen_more known more seen h s.1)
 
-seen_at : (known : Known) (seen : List Seen) (s : Seen) → SeenIn known seen → In s seen → has known s.0 ≡ true
-seen_at known [] s h i = elim i [ ]
-seen_at known (t ∷ seen) s h i = ⊎_elim (λ l. subst (λ (z : Seen). has known z.0 ≡ true) (sym (In-one l)) h.0) (λ r. seen_at known seen s h.1 r) (In-either (t ∷ []) seen i)
+seen_at : (known : Known) (seen : List Seen) (s : Seen) → SeenIn known seen → Contains seen s → has known s.0 ≡ true
+seen_at known [] s h i = absurd (Contains-none i)
+seen_at known (t ∷ seen) s h i = ⊎_elim (λ l. subst (λ (z : Seen). has known z.0 ≡ true) (sym (Contains-one l)) h.0) (λ r. seen_at known seen s h.1 r) (Contains-append_cases (t ∷ []) seen _ i)
 
 pub named_known : (known : Known) (seen : List Seen) → SeenIn known seen → (ns : List Name) → AllNamed (map (λ name. record { name = name; seen = seen }) ns) → Every Name (IsIn known) ns
 named_known known seen h [] a = tt

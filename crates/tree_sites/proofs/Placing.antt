@@ -13,7 +13,6 @@ use Rattle.fir_meaning.specs.Components.{Design, Declaration, Component, TypedMo
 use Rattle.fir_meaning.proofs.Ports.{inside, at_snoc, and_then, component_found, target_sort, from_flat_map, from_map}
 use Rattle.fir_meaning.proofs.Tracking.{Contains-flat_map, Contains-map, none_some}
 use Rattle.fir_names.specs.Scopes.{texts, Means}
-use Rattle.fir_names.proofs.Graphs.{In-get}
 use Rattle.circuit_laws.specs.WellFormed.{IsWellFormed}
 use Rattle.circuit_laws.proofs.Reached.{has_number, known_module}
 use Rattle.drive_check.proofs.Telling.{AreOnce, get_contains, none_in}
@@ -22,6 +21,7 @@ use Rattle.tree_sites.specs.Apart.{AreApart}
 use Rattle.tree_sites.specs.Places.{Stand, stand_of, stands_of, stand_behind, component_stands, stands_in, next_stands, IsPlace, ArePlaces}
 use Rattle.tree_sites.proofs.Apart.{apart_append, apart_taken, apart_by_places}
 use Rattle.tree_sites.proofs.Lists.{one_in, contains_taken, take_grown, take_past, not_snoc, snoc_same}
+use Rattle.fir_names.proofs.Members.{Contains-get}
 
 abbrev pub AreMeant : Fitted → Type 0
 AreMeant fitted = (name k : ℕ) (m : TypedModule) → Means fitted.checked.circuit name k → slice_get (modules_of fitted) k ≡ Some m → module_named (design_of fitted) name ≡ Some m
@@ -82,7 +82,7 @@ module _ (fitted : Fitted) (well : IsWellFormed fitted) (once : AreOnce fitted) 
       let its = known_module fitted well path m at in
       let own : map (λ (c : Component). c.declaration) m.components ≡ declarations_of its.holder = its.typed.components in
       subst AreApart (sym (names own))
-      (apart_by_places (λ (d : Declaration). d.name) (declarations_of its.holder) (λ j k d e p q same. once its.holder (In-get fitted.checked.circuit.modules its.k its.holder its.here) j k d e p q same))
+      (apart_by_places (λ (d : Declaration). d.name) (declarations_of its.holder) (λ j k d e p q same. once its.holder (Contains-get fitted.checked.circuit.modules its.k its.holder its.here) j k d e p q same))
     where
       map_map : (cs : List Component) → map (λ (c : Component). c.declaration.name) cs ≡ map (λ (d : Declaration). d.name) (map (λ (c : Component). c.declaration) cs)
       map_map [] = refl

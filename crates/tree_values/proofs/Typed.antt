@@ -16,7 +16,7 @@ use Rattle.fir_meaning.specs.WellTyped.{Known, typed, is_typed, is_one_unsigned,
 use Rattle.fir_meaning.specs.Values as tree
 use Rattle.fir_meaning.specs.Values.{Scene, value, chosen, is_one, one_of_two}
 use Rattle.circuit_laws.proofs.Shaping.{shaped}
-use Rattle.circuit_laws.proofs.Pieces.{found_in, contained_In}
+use Rattle.circuit_laws.proofs.Pieces.{found_in}
 use Rattle.circuit_laws.proofs.Typing.{Fits, typed_shapes, and_then_some, if_some}
 use Rattle.tree_values.specs.declared.site.Site.{Site}
 use Rattle.tree_values.specs.declared.site.View.{View}
@@ -128,7 +128,7 @@ module _ (view : View) (thin : AreNarrow view.sites.now) where
     narrow = λ name typ e.
         let s = some_site (site_at view.sites.now view.path.now name) typ e in
         let among = found_in (is_at view.path.now name) view.sites.now s.0 s.1 in
-        subst (λ t. kinds.is_narrow t ≡ true) s.2 (thin s.0 (contained_In view.sites.now s.0 among.0));
+        subst (λ t. kinds.is_narrow t ≡ true) s.2 (thin s.0 among.0);
   }
 
   pub typed_values : (e : Expr) (ss : List Shape) → typed e (known_of_view view) ≡ Some ss → map shape_of_value (value e (scene_of_view view)) ≡ ss
