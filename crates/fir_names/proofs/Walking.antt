@@ -1,14 +1,15 @@
 -- One part walked behind another.
-use Rattle.std.proofs.Common.{◌≡◌, ℕ, ◌+◌, List, [], ◌∷◌, ◌++◌, map, length, take, refl, sym, ap, ap₂, ◌∙◌, arith, append_assoc, append-nil, length-append, get_or, ◌<◌, Bool, true, false, if◌then◌else◌, subst}
+use Rattle.std.proofs.Common.{◌≡◌, ℕ, ◌+◌, List, [], ◌∷◌, ◌++◌, map, length, take, refl, sym, ap, ap₂, ◌∙◌, arith, append_assoc, append-nil, length-append, get_or, ◌<◌, Bool, true, false, if◌then◌else◌}
 use Rattle.std.specs.Prelude.{is_some, cond, nat_eq, Option, Some, None}
 use Rattle.std.proofs.lemmas.Grind.{common_steps}
-use Rattle.std.proofs.lemmas.List.{map-append, take_more, nil_from_length}
+use Rattle.std.proofs.lemmas.List.{map-append, nil_from_length}
 use Rattle.std.proofs.lemmas.List.Concat.{flat_map-append}
 use Rattle.std.specs.List.{flat_map}
 use Rattle.fir_types.specs.declared.name.Name.{Name}
 use Rattle.fir_names.specs.declared.walk.Walk.{Walk}
 use Rattle.fir_names.specs.Extents.{Seen}
 use Rattle.fir_names.specs.Parts.{Part, nothing, mentions, declares, joined, in_turn, module_part}
+use Rattle.circuit_parts.proofs.Turns.{Turns, walks_push as one_more}
 use Rattle.fir_names.proofs.Agreement.{sees_its_blocks, declares_its_names, has_its_instances}
 use Rattle.fir_tree.specs.declared.circuit.Module.{Module}
 use Rattle.fir_names.specs.declared.fault.NameFault.TheVariants.{NameUnknown}
@@ -57,26 +58,30 @@ plainly p q = record { shows = λ n. refl; declares = refl; instances = refl; us
 pub mentions-append : (xs ys : List Name) → IsThen (mentions (xs ++ ys)) (mentions xs) (mentions ys)
 mentions-append xs ys = record { shows = λ n. refl; declares = refl; instances = refl; uses = λ seen n. grind (arith, common_steps) }
 
-pub in_turn-push : (ps : List Part) (p : Part) → IsThen (in_turn (ps ++ p ∷ [])) (in_turn ps) p
-in_turn-push [] p = record {
-  shows = λ n. append-nil (p.shows n) ∙ ap p.shows (omega arith);
-  declares = append-nil p.declares;
-  instances = append-nil p.instances;
-  uses = λ seen n. append-nil (p.uses seen n) ∙ ap₂ p.uses (sym (append-nil seen)) (omega arith);
-}
-in_turn-push (q ∷ qs) p =
-    let h = in_turn-push qs p in
-    let m : (n : ℕ) → (n + length q.declares) + length (in_turn qs).declares ≡ n + length (q.declares ++ (in_turn qs).declares)
-    = λ n. omega (arith, length-append q.declares (in_turn qs).declares) in
-    record {
-      shows = λ n. ap (λ l. q.shows n ++ l) (h.shows (n + length q.declares) ∙ ap (λ k. (in_turn qs).shows (n + length q.declares) ++ p.shows k) (m n))
-          ∙ sym (append_assoc (q.shows n) _ _);
-      declares = ap (λ l. q.declares ++ l) h.declares ∙ sym (append_assoc q.declares _ _);
-      instances = ap (λ l. q.instances ++ l) h.instances ∙ sym (append_assoc q.instances _ _);
-      uses = λ seen n. ap (λ l. q.uses seen n ++ l) (h.uses (seen ++ q.shows n) (n + length q.declares)
-          ∙ ap₂ (λ s k. (in_turn qs).uses (seen ++ q.shows n) (n + length q.declares) ++ p.uses s k) (append_assoc seen (q.shows n) _) (m n))
-          ∙ sym (append_assoc (q.uses seen n) _ _);
-    }
+same_part : {p q : Part} → ((n : ℕ) → p.shows n ≡ q.shows n) → p.declares ≡ q.declares → p.instances ≡ q.instances
+    → ((seen : List Seen) (n : ℕ) → p.uses seen n ≡ q.uses seen n) → p ≡ q
+same_part shows declares instances uses = λ i. record { shows = λ n. shows n i; declares = declares i; instances = instances i; uses = λ seen n. uses seen n i }
+
+alone : (p : Part) → joined nothing p ≡ joined p nothing
+alone p = same_part
+    (λ n. ap p.shows (omega arith) ∙ sym (append-nil (p.shows n)))
+    (sym (append-nil p.declares))
+    (sym (append-nil p.instances))
+    (λ seen n. ap₂ p.uses (append-nil seen) (omega arith) ∙ sym (append-nil (p.uses seen n)))
+
+either : (p q r : Part) → joined (joined p q) r ≡ joined p (joined q r)
+either p q r =
+    let m : (n : ℕ) → n + length (p.declares ++ q.declares) ≡ (n + length p.declares) + length q.declares
+    = λ n. omega (arith, length-append p.declares q.declares) in
+    same_part
+    (λ n. ap (λ k. (p.shows n ++ q.shows (n + length p.declares)) ++ r.shows k) (m n) ∙ append_assoc (p.shows n) _ _)
+    (append_assoc p.declares _ _)
+    (append_assoc p.instances _ _)
+    (λ seen n. ap₂ (λ s k. (p.uses seen n ++ q.uses (seen ++ p.shows n) (n + length p.declares)) ++ r.uses s k) (sym (append_assoc seen (p.shows n) _)) (m n)
+    ∙ append_assoc (p.uses seen n) _ _)
+
+turns : Turns joined nothing
+turns = record { alone = alone; either = either }
 
 after : {p : Part} {a b : Walk} → Walks p a b → length b.declared.items ≡ length a.declared.items + length p.declares
 after {p} {a} h = ap length h.declared ∙ length-append a.declared.items p.declares
@@ -110,10 +115,7 @@ walks_nothing a = record {
 -- one more of parts in turn
 pub walks_push : {X : Type 0} (part : X → Part) (xs : List X) (i : ℕ) (x : X) {a b c : Walk} → i < length xs → x ≡ get_or xs i x
     → Walks (in_turn (map part (take i xs))) a b → Walks (part x) b c → Walks (in_turn (map part (take (i + 1) xs))) a c
-walks_push part xs i x {a} {b} {c} lt is h k =
-    let step : map part (take (i + 1) xs) ≡ map part (take i xs) ++ part x ∷ []
-    = ap (map part) (take_more xs i x lt) ∙ map-append part (take i xs) (get_or xs i x ∷ []) ∙ ap (λ y. map part (take i xs) ++ part y ∷ []) (sym is) in
-    subst (λ ps. Walks (in_turn ps) a c) (sym step) (walks_then (in_turn-push (map part (take i xs)) (part x)) h k)
+walks_push part xs i x lt is h k = one_more Walks turns (λ p q a b c g l. walks_then (plainly p q) g l) part xs i x lt is h k
 
 -- a block ends
 pub walks_shut : (p : Part) {a b c : Walk} → Walks p a b → c.declared.items ≡ b.declared.items → c.instances.items ≡ b.instances.items → c.uses.items ≡ b.uses.items

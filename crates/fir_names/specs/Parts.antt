@@ -5,6 +5,7 @@ use Rattle.fir_tree.specs.declared.circuit.Module.{Module}
 use Rattle.fir_tree.specs.declared.stmt.Stmt.{Stmt, fold-Stmt}
 use Rattle.fir_tree.specs.declared.stmt.Arm.{Arm, fold-Arm}
 use Rattle.fir_tree.specs.declared.stmt.Stmt.TheOpen.{Stmt-F, Arm-F}
+use Rattle.circuit_parts.specs.Turns.{in_order}
 use Rattle.fir_names.specs.Extents.{Seen, Use, references}
 
 -- What a part of a module has: the declarations that it shows to what stands behind it in its block, all names that it
@@ -39,8 +40,7 @@ joined first second = record {
 }
 
 abbrev pub in_turn : List Part → Part
-in_turn [] = nothing
-in_turn (part ∷ parts) = joined part (in_turn parts)
+in_turn = in_order joined nothing
 
 -- a block shows nothing to what stands behind it
 abbrev pub block : List Part → Part
