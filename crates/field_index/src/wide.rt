@@ -20,20 +20,21 @@ pub fn index_of(alloc: Global, typ: &FirType) -> Result<Option<Shared<FieldIndex
     let Shape::Bundle(fields) = &typ.shape else {
         return Ok(None);
     };
-    index_among(alloc, fields.as_slice())
+    index_among(alloc, fields.as_slice(), &[])
 }
 
-/// The index of these fields without weights, where they are many. Takes time and memory in proportion to their number.
+/// The index of these fields with these weights, where they are many. Takes time and memory in proportion to their number.
 pub fn index_among(
     alloc: Global,
     fields: &[Field],
+    weights: &[usize],
 ) -> Result<Option<Shared<FieldIndex>>, AllocError>
-    ensures { IfOk result (λ index. IfSome index (λ index. IsIndexOf index fields.now [])) }
+    ensures { IfOk result (λ index. IfSome index (λ index. IsIndexOf index fields.now weights.now)) }
 {
     if fields.len() < MANY {
         return Ok(None);
     }
-    let index = FieldIndex::new(alloc, fields, &[])?;
+    let index = FieldIndex::new(alloc, fields, weights)?;
     Ok(Some(Shared::new(alloc, index)?))
 }
 

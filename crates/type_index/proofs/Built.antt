@@ -1,6 +1,6 @@
 -- Trees that are made are right.
-use Rattle.std.proofs.Common.{◌≡◌, ℕ, ◌<◌, Bool, true, false, not, ◌||◌, ◌&&◌, List, [], ◌∷◌, ◌++◌, ◌+◌, map, sum, length, take, get_or, refl, sym, ap, ap₂, ◌∙◌, subst, arith, ◌⊎◌, inl, inr}
-use Rattle.std.specs.Prelude.{Option}
+use Rattle.std.proofs.Common.{◌≡◌, ℕ, ◌<◌, ◌≤◌, ◌-◌, ◌^◌, min, Bool, true, false, not, ◌||◌, ◌&&◌, List, [], ◌∷◌, ◌++◌, ◌+◌, map, sum, length, take, get_or, refl, sym, ap, ap₂, ◌∙◌, subst, arith, ◌⊎◌, inl, inr}
+use Rattle.std.specs.Prelude.{Option, IfSome}
 use Rattle.std.specs.List.{list_any}
 use Rattle.std.proofs.lemmas.Grind.{common_steps}
 use Rattle.std.proofs.lemmas.List.{take_more}
@@ -25,13 +25,16 @@ use Rattle.name_sizes.specs.Texts.{way_bytes, field_bytes}
 use Rattle.name_sizes.proofs.Capping.{cap_plus}
 use Rattle.name_sizes.proofs.Wording.{ways-bundle}
 use Rattle.field_index.specs.declared.index.FieldIndex.{FieldIndex}
+use Rattle.field_index.specs.Indexes.{IsIndexOf}
+use Rattle.width_spots.specs.Spots.{size, field_size}
+use Rattle.width_spots.proofs.Layers.{size-field, size-bundle, spots-vector}
 use Rattle.type_index.specs.declared.tree.TypeIndex.{TypeIndex, the_lemmas}
 use Rattle.type_index.specs.declared.tree.Inside.TheVariants as inside
 use Rattle.type_index.specs.declared.tree.Inside.TheViews.{out-Inside}
 use Rattle.type_index.specs.declared.gathered.Gathered.{Gathered}
-use Rattle.type_index.specs.Knowing.{Matches, FieldsMatch, ground, vector, bundle, no_fields, one_field, is_ground, IsKnown, IsAmong, IsRight}
+use Rattle.type_index.specs.Knowing.{Matches, FieldsMatch, ground, vector, bundle, no_fields, one_field, is_ground, IsKnown, IsAmong, IsRight, places_of}
 use Rattle.type_index.specs.Gathering.{Gathers}
-use Rattle.type_index.proofs.Parts.{same_fields}
+use Rattle.type_index.proofs.Parts.{same_fields, weighed}
 
 -- one field more
 
@@ -62,6 +65,10 @@ none_of false true false = refl
 none_of false false true = refl
 none_of false false false = refl
 
+places_push : (fs : List Field) (f : Field) (before own after : ℕ) → before ≡ min (sum (map field_size fs)) (2 ^ 64 - 1) → own ≡ min (size f.typ) (2 ^ 64 - 1)
+    → after ≡ min (before + own) (2 ^ 64 - 1) → after ≡ min (sum (map field_size (fs ++ f ∷ []))) (2 ^ 64 - 1)
+places_push fs f before own after b o e = omega (arith, b, o, e, sum_push field_size fs f, size-field f)
+
 passive_push : (fs : List Field) (f : Field) (before own after : Bool) → before ≡ not (list_any field_has_flip fs) → own ≡ not (has_flip f.typ)
     → after ≡ (before && own && not f.flip) → after ≡ not (list_any field_has_flip (fs ++ f ∷ []))
 passive_push fs f before own after b o e =
@@ -77,9 +84,9 @@ pub gathers_more : (texts : Texts) (fs : List Field) (f : Field) (part : TypeInd
     → named_leaves ≡ part.leaves
     → ((field : Field) → field.name.id ≡ f.name.id → part.leaves ≡ cap (count field.typ) → part.bytes ≡ cap (way_bytes texts field.typ) → named_bytes ≡ cap (field_bytes texts field))
     → after.parts ≡ before.parts ++ part ∷ [] → after.ways.leaves ≡ cap (before.ways.leaves + named_leaves) → after.ways.bytes ≡ cap (before.ways.bytes + named_bytes)
-    → after.passive ≡ (before.passive && part.passive && not f.flip)
+    → after.passive ≡ (before.passive && part.passive && not f.flip) → after.places ≡ min (before.places + part.places) (2 ^ 64 - 1)
     → Gathers texts fs before → Matches (IsRight texts) f.typ part → Gathers texts (fs ++ f ∷ []) after
-gathers_more texts fs f part before after named_leaves named_bytes nl nb p l b v g m =
+gathers_more texts fs f part before after named_leaves named_bytes nl nb p l b v z g m =
     let k : IsKnown f.typ part = (right m).0 in
     let w : part.bytes ≡ cap (way_bytes texts f.typ) = (right m).1 in
     record {
@@ -87,6 +94,7 @@ gathers_more texts fs f part before after named_leaves named_bytes nl nb p l b v
       leaves = cap_push field_count fs f before.ways.leaves named_leaves after.ways.leaves g.leaves (nl ∙ k.leaves ∙ ap cap (sym (count-field f))) l;
       bytes = cap_push (field_bytes texts) fs f before.ways.bytes named_bytes after.ways.bytes g.bytes (nb f refl k.leaves w) b;
       passive = passive_push fs f before.passive part.passive after.passive g.passive k.passive v;
+      places = places_push fs f before.places part.places after.places g.places k.places z;
     }
 
 pub gathers_taken : (texts : Texts) (fs : List Field) (i : ℕ) (f : Field) (gathered : Gathered) → i < length fs → f ≡ get_or fs i f
@@ -102,15 +110,17 @@ same_among a b xs ys h =
     grind (arith, common_steps, the_lemmas)
 
 pub bundle_matches : (texts : Texts) (typ : FirType) (fs : List Field) (gathered : Gathered) (among : Option FieldIndex) (index : TypeIndex) → typ.shape ≡ shape.Bundle fs
-    → Gathers texts fs gathered → IsAmong among fs → index.leaves ≡ gathered.ways.leaves → index.bytes ≡ gathered.ways.bytes → index.passive ≡ gathered.passive
-    → index.inside ≡ inside.Bundle among gathered.parts → Matches (IsRight texts) typ index
-bundle_matches texts typ fs gathered among index is g a l b v q =
+    → Gathers texts fs gathered → IfSome among (λ x. IsIndexOf x fs (map places_of gathered.parts)) → index.leaves ≡ gathered.ways.leaves → index.bytes ≡ gathered.ways.bytes
+    → index.passive ≡ gathered.passive → index.places ≡ gathered.places → index.inside ≡ inside.Bundle among gathered.parts → Matches (IsRight texts) typ index
+bundle_matches texts typ fs gathered among index is g a l b v z q =
+    let own : IsAmong among fs = subst (λ ws. IfSome among (λ x. IsIndexOf x fs ws)) (weighed (λ t x p. p.0.places) fs gathered.parts g.parts) a in
     bundle fs among gathered.parts is q (
       record {
         leaves = l ∙ g.leaves ∙ ap cap (sym (count-bundle typ fs is));
         passive = v ∙ g.passive ∙ ap not (sym (flip-bundle typ fs is));
+        places = z ∙ g.places ∙ ap (λ n. min n (2 ^ 64 - 1)) (sym (size-bundle typ fs is));
         among = λ fields other inners h k. subst (λ x. IsAmong x fields) (same_among among other gathered.parts inners (sym q ∙ k))
-            (subst (IsAmong among) (same_fields fs fields (sym is ∙ h)) a);
+            (subst (IsAmong among) (same_fields fs fields (sym is ∙ h)) own);
       },
       b ∙ g.bytes ∙ ap cap (sym (ways-bundle texts typ fs is)),
     ) g.parts
@@ -120,14 +130,15 @@ bundle_matches texts typ fs gathered among index is g a l b v q =
 pub vector_matches : (texts : Texts) (typ element : FirType) (n : ℕ) (inner index : TypeIndex) → typ.shape ≡ shape.Vector element n → Matches (IsRight texts) element inner
     → (inner.leaves ≡ cap (count element) → index.leaves ≡ cap (count typ))
     → (inner.leaves ≡ cap (count element) → inner.bytes ≡ cap (way_bytes texts element) → index.bytes ≡ cap (way_bytes texts typ))
-    → index.passive ≡ inner.passive → index.inside ≡ inside.Vector inner → Matches (IsRight texts) typ index
-vector_matches texts typ element n inner index is m l b v q =
+    → index.passive ≡ inner.passive → index.places ≡ inner.places → index.inside ≡ inside.Vector inner → Matches (IsRight texts) typ index
+vector_matches texts typ element n inner index is m l b v z q =
     let k : IsKnown element inner = (right m).0 in
     let w : inner.bytes ≡ cap (way_bytes texts element) = (right m).1 in
     vector element n inner is q (
       record {
         leaves = l k.leaves;
         passive = v ∙ k.passive ∙ ap not (sym (flip-vector typ element n is));
+        places = z ∙ k.places ∙ ap (λ ss. min (length ss) (2 ^ 64 - 1)) (sym (spots-vector typ element n is));
         among = λ fields among inners h e. absurd cc;
       },
       b k.leaves w,
@@ -159,49 +170,47 @@ around_end lengths left innermost index is h texts typ m =
 
 -- types without parts
 
-ground_matches : (texts : Texts) (typ : FirType) (index : TypeIndex) → is_ground (out-Shape typ.shape) ≡ true → ((fields : List Field) → typ.shape ≡ shape.Bundle fields → ⊥)
-    → count typ ≡ 1 → way_bytes texts typ ≡ 0 → has_flip typ ≡ false → index.leaves ≡ 1 → index.bytes ≡ 0 → index.passive ≡ true → Matches (IsRight texts) typ index
-ground_matches texts typ index g none c w f l b v =
+abbrev of_ground : ℕ → TypeIndex
+of_ground places = record { leaves = 1; bytes = 0; passive = true; places = places; inside = inside.Ground }
+
+ground_matches : (texts : Texts) (typ : FirType) (places : ℕ) → is_ground (out-Shape typ.shape) ≡ true → ((fields : List Field) → typ.shape ≡ shape.Bundle fields → ⊥)
+    → count typ ≡ 1 → way_bytes texts typ ≡ 0 → has_flip typ ≡ false → size typ ≡ places → places ≤ 1 → Matches (IsRight texts) typ (of_ground places)
+ground_matches texts typ places g none c w f z l =
     ground g (
       record {
-        leaves = l ∙ ap cap (sym c);
-        passive = v ∙ ap not (sym f);
+        leaves = ap cap (sym c);
+        passive = ap not (sym f);
+        places = omega (arith, z, l);
         among = λ fields among inners h e. absurd (none fields h);
       },
-      b ∙ ap cap (sym w),
+      ap cap (sym w),
     )
 
-pub unsigned_matches : (texts : Texts) (typ : FirType) (w : Option ℕ) (index : TypeIndex) → typ.shape ≡ shape.Unsigned w
-    → index.leaves ≡ 1 → index.bytes ≡ 0 → index.passive ≡ true → Matches (IsRight texts) typ index
-unsigned_matches texts typ w index is l b v =
-    ground_matches texts typ index (ap is_ground (ap out-Shape is ∙ outs-Unsigned w)) (λ fields h. absurd cc) (grind (arith, common_steps, type_lemmas))
-    (grind (arith, common_steps, type_lemmas)) (grind (arith, common_steps, type_lemmas)) l b v
+pub unsigned_matches : (texts : Texts) (typ : FirType) (w : Option ℕ) → typ.shape ≡ shape.Unsigned w → Matches (IsRight texts) typ (of_ground 1)
+unsigned_matches texts typ w is =
+    ground_matches texts typ 1 (ap is_ground (ap out-Shape is ∙ outs-Unsigned w)) (λ fields h. absurd cc) (grind (arith, common_steps, type_lemmas))
+    (grind (arith, common_steps, type_lemmas)) (grind (arith, common_steps, type_lemmas)) (grind (arith, common_steps, type_lemmas)) (omega arith)
 
-pub signed_matches : (texts : Texts) (typ : FirType) (w : Option ℕ) (index : TypeIndex) → typ.shape ≡ shape.Signed w
-    → index.leaves ≡ 1 → index.bytes ≡ 0 → index.passive ≡ true → Matches (IsRight texts) typ index
-signed_matches texts typ w index is l b v =
-    ground_matches texts typ index (ap is_ground (ap out-Shape is ∙ outs-Signed w)) (λ fields h. absurd cc) (grind (arith, common_steps, type_lemmas))
-    (grind (arith, common_steps, type_lemmas)) (grind (arith, common_steps, type_lemmas)) l b v
+pub signed_matches : (texts : Texts) (typ : FirType) (w : Option ℕ) → typ.shape ≡ shape.Signed w → Matches (IsRight texts) typ (of_ground 1)
+signed_matches texts typ w is =
+    ground_matches texts typ 1 (ap is_ground (ap out-Shape is ∙ outs-Signed w)) (λ fields h. absurd cc) (grind (arith, common_steps, type_lemmas))
+    (grind (arith, common_steps, type_lemmas)) (grind (arith, common_steps, type_lemmas)) (grind (arith, common_steps, type_lemmas)) (omega arith)
 
-pub clock_matches : (texts : Texts) (typ : FirType) (index : TypeIndex) → typ.shape ≡ shape.Clock
-    → index.leaves ≡ 1 → index.bytes ≡ 0 → index.passive ≡ true → Matches (IsRight texts) typ index
-clock_matches texts typ index is l b v =
-    ground_matches texts typ index (ap is_ground (ap out-Shape is ∙ outs-Clock)) (λ fields h. absurd cc) (grind (arith, common_steps, type_lemmas))
-    (grind (arith, common_steps, type_lemmas)) (grind (arith, common_steps, type_lemmas)) l b v
+pub clock_matches : (texts : Texts) (typ : FirType) → typ.shape ≡ shape.Clock → Matches (IsRight texts) typ (of_ground 0)
+clock_matches texts typ is =
+    ground_matches texts typ 0 (ap is_ground (ap out-Shape is ∙ outs-Clock)) (λ fields h. absurd cc) (grind (arith, common_steps, type_lemmas))
+    (grind (arith, common_steps, type_lemmas)) (grind (arith, common_steps, type_lemmas)) (grind (arith, common_steps, type_lemmas)) (omega arith)
 
-pub reset_matches : (texts : Texts) (typ : FirType) (index : TypeIndex) → typ.shape ≡ shape.Reset
-    → index.leaves ≡ 1 → index.bytes ≡ 0 → index.passive ≡ true → Matches (IsRight texts) typ index
-reset_matches texts typ index is l b v =
-    ground_matches texts typ index (ap is_ground (ap out-Shape is ∙ outs-Reset)) (λ fields h. absurd cc) (grind (arith, common_steps, type_lemmas))
-    (grind (arith, common_steps, type_lemmas)) (grind (arith, common_steps, type_lemmas)) l b v
+pub reset_matches : (texts : Texts) (typ : FirType) → typ.shape ≡ shape.Reset → Matches (IsRight texts) typ (of_ground 1)
+reset_matches texts typ is =
+    ground_matches texts typ 1 (ap is_ground (ap out-Shape is ∙ outs-Reset)) (λ fields h. absurd cc) (grind (arith, common_steps, type_lemmas))
+    (grind (arith, common_steps, type_lemmas)) (grind (arith, common_steps, type_lemmas)) (grind (arith, common_steps, type_lemmas)) (omega arith)
 
-pub all_ground : (texts : Texts) (s : Shape) (typ : FirType) (index : TypeIndex)
-    → ((w : Option ℕ) × (s ≡ shape.Unsigned w)) ⊎ ((w : Option ℕ) × (s ≡ shape.Signed w)) ⊎ (s ≡ shape.Clock) ⊎ (s ≡ shape.Reset) → typ.shape ≡ s
-    → index.leaves ≡ 1 → index.bytes ≡ 0 → index.passive ≡ true → Matches (IsRight texts) typ index
-all_ground texts s typ index (inl (w, e)) is = unsigned_matches texts typ w index (is ∙ e)
-all_ground texts s typ index (inr (inl (w, e))) is = signed_matches texts typ w index (is ∙ e)
-all_ground texts s typ index (inr (inr (inl e))) is = clock_matches texts typ index (is ∙ e)
-all_ground texts s typ index (inr (inr (inr e))) is = reset_matches texts typ index (is ∙ e)
+pub all_sized : (texts : Texts) (s : Shape) (typ : FirType) → ((w : Option ℕ) × (s ≡ shape.Unsigned w)) ⊎ ((w : Option ℕ) × (s ≡ shape.Signed w)) ⊎ (s ≡ shape.Reset) → typ.shape ≡ s
+    → Matches (IsRight texts) typ (of_ground 1)
+all_sized texts s typ (inl (w, e)) is = unsigned_matches texts typ w (is ∙ e)
+all_sized texts s typ (inr (inl (w, e))) is = signed_matches texts typ w (is ∙ e)
+all_sized texts s typ (inr (inr e)) is = reset_matches texts typ (is ∙ e)
 
 -- what is right is known, and has its ways
 
@@ -216,5 +225,5 @@ mutual
   weaker_fields k (one_field m r) = one_field (weaker k m) (weaker_fields k r)
 
 pub nothing_gathered : (texts : Texts) (gathered : Gathered) → gathered.parts ≡ [] → gathered.ways.leaves ≡ 0 → gathered.ways.bytes ≡ 0 → gathered.passive ≡ true
-    → Gathers texts [] gathered
-nothing_gathered texts gathered p l b v = record { parts = subst (FieldsMatch (IsRight texts) []) (sym p) no_fields; leaves = l; bytes = b; passive = v }
+    → gathered.places ≡ 0 → Gathers texts [] gathered
+nothing_gathered texts gathered p l b v z = record { parts = subst (FieldsMatch (IsRight texts) []) (sym p) no_fields; leaves = l; bytes = b; passive = v; places = z }

@@ -1,7 +1,7 @@
 -- The parts of a tree that is known.
-use Rattle.std.proofs.Common.{◌≡◌, ◌==◌, ℕ, zero, suc, ◌<◌, Bool, true, false, not, List, [], ◌∷◌, ◌+◌, if◌then◌else◌, find, length, take, get_or, refl, sym, ap, ◌∙◌, subst, arith, add-one}
-use Rattle.std.specs.Prelude.{Option, Some, None, option_map, slice_get}
-use Rattle.std.specs.Coded.{Coded-set, coded_option, coded_ℕ}
+use Rattle.std.proofs.Common.{◌≡◌, ◌==◌, ℕ, zero, suc, ◌<◌, ◌-◌, ◌^◌, min, map, sum, ap₂, Bool, true, false, not, List, [], ◌∷◌, ◌+◌, if◌then◌else◌, find, length, take, get_or, refl, sym, ap, ◌∙◌, subst, arith, add-one}
+use Rattle.std.specs.Prelude.{Option, Some, None, option_map, slice_get, IfSome}
+use Rattle.std.specs.Coded.{Coded-set, coded_list, coded_option, coded_ℕ}
 use Rattle.std.proofs.lemmas.Grind.{common_steps}
 use Rattle.std.proofs.lemmas.Bool.{eq-eqb, eqb-true, false_from_ne_true}
 use Rattle.std.proofs.Math.Nat.{ℕ_set}
@@ -21,12 +21,14 @@ use Rattle.name_sizes.specs.Caps.{cap}
 use Rattle.name_sizes.specs.Texts.{way_bytes}
 use Rattle.field_index.specs.declared.index.FieldIndex.{FieldIndex}
 use Rattle.field_index.specs.declared.index.FieldPlace.{FieldPlace}
+use Rattle.field_index.specs.contracts.index.FieldPlace.{the_row as place_row}
+use Rattle.width_spots.specs.Spots.{size}
 use Rattle.field_index.specs.Indexes.{first_at, place_in, IsIndexOf}
-use Rattle.field_index.proofs.Places.{at_place, field_found}
+use Rattle.field_index.proofs.Places.{at_place, field_found, sum_more}
 use Rattle.type_index.specs.declared.tree.TypeIndex.{TypeIndex, the_lemmas}
 use Rattle.type_index.specs.declared.tree.Inside.TheVariants as inside
 use Rattle.type_index.specs.declared.tree.Inside.TheViews.{out-Inside}
-use Rattle.type_index.specs.Knowing.{Matches, FieldsMatch, ground, vector, bundle, no_fields, one_field, is_ground, fields_in, Knows, HasWays, IsAmong}
+use Rattle.type_index.specs.Knowing.{Matches, FieldsMatch, ground, vector, bundle, no_fields, one_field, is_ground, fields_in, Knows, HasWays, IsAmong, IsPlaceIn, weight, places_of, position_of}
 
 pub vector_out : (t e : FirType) (n : ℕ) → t.shape ≡ shape.Vector e n → out-Shape t.shape ≡ Shape-F.Vector e n
 vector_out t e n h = ap out-Shape h ∙ outs-Vector e n
@@ -191,21 +193,61 @@ pub no_part : (typ : FirType) (fs : List Field) (index : TypeIndex) (among : Opt
     → typ.shape ≡ shape.Bundle fs → index.inside ≡ inside.Bundle among inners → slice_get fs i ≡ Some f → slice_get inners i ≡ None → ⊥
 no_part typ fs index among inners i f k h q a b = ∥∥₁_elim k (λ x y. absurd x) (λ m. part_missing fs inners i f (parts_of typ fs index among inners m h q) a b)
 
--- the position of a field, by an index
+-- the place of a field, by an index
 
-abbrev pub position : FieldPlace → ℕ
-position p = p.position
+place_is : (among : Option FieldIndex) (index : FieldIndex) (fs : List Field) (id : ℕ) (place : Option FieldPlace) → ∥ IsAmong among fs ∥₁ → among ≡ Some index
+    → ((fields : List Field) (weights : List ℕ) → IsIndexOf index fields weights → place ≡ option_map (place_in weights) (first_at fields id))
+    → place ≡ option_map (place_in (map weight fs)) (first_at fs id)
+place_is among index fs id place k is e =
+    ∥∥₁_elim k (Coded-set (coded_option place_row.coded) place (option_map (place_in (map weight fs)) (first_at fs id)))
+    (λ a. e fs (map weight fs) (subst (λ o. IsAmong o fs) is a))
 
 pub place_found : (among : Option FieldIndex) (index : FieldIndex) (fs : List Field) (id : ℕ) (place : Option FieldPlace) → ∥ IsAmong among fs ∥₁ → among ≡ Some index
     → ((fields : List Field) (weights : List ℕ) → IsIndexOf index fields weights → place ≡ option_map (place_in weights) (first_at fields id))
-    → option_map position place ≡ first_at fs id
-place_found among index fs id place k is e =
-    ∥∥₁_elim k (Coded-set (coded_option coded_ℕ) (option_map position place) (first_at fs id))
-    (λ a. ap (option_map position) (e fs [] (subst (λ o. IsAmong o fs) is a)) ∙ back (first_at fs id))
+    → option_map position_of place ≡ first_at fs id
+place_found among index fs id place k is e = ap (option_map position_of) (place_is among index fs id place k is e) ∙ back (first_at fs id)
   where
-    back : (o : Option ℕ) → option_map position (option_map (place_in []) o) ≡ o
+    back : (o : Option ℕ) → option_map position_of (option_map (place_in (map weight fs)) o) ≡ o
     back (Some i) = refl
     back None = refl
+
+pub place_placed : (among : Option FieldIndex) (index : FieldIndex) (fs : List Field) (id : ℕ) (place : Option FieldPlace) → ∥ IsAmong among fs ∥₁ → among ≡ Some index
+    → ((fields : List Field) (weights : List ℕ) → IsIndexOf index fields weights → place ≡ option_map (place_in weights) (first_at fields id))
+    → IfSome place (IsPlaceIn fs id)
+place_placed among index fs id place k is e = by (first_at fs id) refl (place_is among index fs id place k is e)
+  where
+    by : (o : Option ℕ) → first_at fs id ≡ o → place ≡ option_map (place_in (map weight fs)) o → IfSome place (IsPlaceIn fs id)
+    by (Some i) f h = subst (λ r. IfSome r (IsPlaceIn fs id)) (sym h) (record { position = f; before = refl })
+    by None f h = subst (λ r. IfSome r (IsPlaceIn fs id)) (sym h) tt
+
+-- the places of the fields before one
+
+pub weighed : {P : FirType → TypeIndex → Type 0} → ((t : FirType) (x : TypeIndex) → P t x → x.places ≡ min (size t) (2 ^ 64 - 1)) → (fs : List Field) (xs : List TypeIndex)
+    → FieldsMatch P fs xs → map places_of xs ≡ map weight fs
+weighed k [] [] no_fields = refl
+weighed k [] (x ∷ xs) r = elim r [ ]
+weighed k (f ∷ fs) [] r = elim r [ ]
+weighed k (f ∷ fs) (x ∷ xs) (one_field m r) = ap₂ (λ y ys. y ∷ ys) (k f.typ x (self m)) (weighed k fs xs r)
+
+pub before_more : (fs : List Field) (xs : List TypeIndex) (i before own after : ℕ) → map places_of xs ≡ map weight fs → before ≡ min (sum (take i (map weight fs))) (2 ^ 64 - 1)
+    → own ≡ get_or (map places_of xs) i 0 → after ≡ min (before + own) (2 ^ 64 - 1) → after ≡ min (sum (take (i + 1) (map weight fs))) (2 ^ 64 - 1)
+before_more fs xs i before own after same b o a =
+    let next : sum (take (i + 1) (map weight fs)) ≡ sum (take i (map weight fs)) + own
+    = sum_more (map weight fs) i ∙ ap (λ n. sum (take i (map weight fs)) + n) (sym (o ∙ ap (λ ws. get_or ws i 0) same)) in
+    omega (arith, b, a, next)
+
+pub placed_first : (fs : List Field) (id i before : ℕ) → Some i ≡ first_at fs id → before ≡ min (sum (take i (map weight fs))) (2 ^ 64 - 1)
+    → IsPlaceIn fs id (record { position = i; before = before })
+placed_first fs id i before f b = record { position = sym f; before = ap (λ n. min n (2 ^ 64 - 1)) b ∙ twice (sum (take i (map weight fs))) }
+  where
+    twice : (n : ℕ) → min (min n (2 ^ 64 - 1)) (2 ^ 64 - 1) ≡ min n (2 ^ 64 - 1)
+    twice n = omega arith
+
+pub knows_weights : (typ : FirType) (fs : List Field) (index : TypeIndex) (among : Option FieldIndex) (inners : List TypeIndex) → Knows typ index → typ.shape ≡ shape.Bundle fs
+    → index.inside ≡ inside.Bundle among inners → map places_of inners ≡ map weight fs
+knows_weights typ fs index among inners k h q =
+    ∥∥₁_elim k (Coded-set (coded_list coded_ℕ) (map places_of inners) (map weight fs))
+    (λ m. weighed (λ t x p. p.places) fs inners (parts_of typ fs index among inners m h q))
 
 pub nothing_found : (typ : FirType) (fs : List Field) (id : ℕ) (at : Option ℕ) → typ.shape ≡ shape.Bundle fs → at ≡ None → at ≡ first_at fs id
     → None ≡ find (λ field. field.name.id == id) (fields_in (out-Shape typ.shape))
@@ -223,6 +265,9 @@ counted_known typ index k = ∥∥₁_elim k (ℕ_set index.leaves (cap (count t
 
 pub flipless_known : (typ : FirType) (index : TypeIndex) → Knows typ index → index.passive ≡ not (has_flip typ)
 flipless_known typ index k = ∥∥₁_elim k (Bool-set index.passive (not (has_flip typ))) (λ m. (self m).passive)
+
+pub placed_known : (typ : FirType) (index : TypeIndex) → Knows typ index → index.places ≡ min (size typ) (2 ^ 64 - 1)
+placed_known typ index k = ∥∥₁_elim k (ℕ_set index.places (min (size typ) (2 ^ 64 - 1))) (λ m. (self m).places)
 
 pub bytes_had : (texts : Texts) (typ : FirType) (index : TypeIndex) → HasWays texts typ index → index.bytes ≡ cap (way_bytes texts typ)
 bytes_had texts typ index m = self m

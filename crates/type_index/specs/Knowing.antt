@@ -1,5 +1,5 @@
 -- What is known of a type and of all its parts.
-use Rattle.std.specs.Prelude.{◌≡◌, ℕ, Bool, true, false, not, List, [], ◌∷◌, Option, Some, None, IfSome}
+use Rattle.std.specs.Prelude.{◌≡◌, ℕ, ◌-◌, ◌^◌, min, sum, take, Bool, true, false, not, List, [], ◌∷◌, map, Option, Some, None, IfSome}
 use Rattle.fir_types.specs.declared.fir_type.FirType.{FirType}
 use Rattle.fir_types.specs.declared.fir_type.Shape.{Shape}
 use Rattle.fir_types.specs.declared.fir_type.Shape.TheOpen.{Shape-F}
@@ -9,7 +9,9 @@ use Rattle.fir_types.specs.declared.fir_type.Field.{Field}
 use Rattle.fir_types.specs.Leaves.{count}
 use Rattle.fir_types.specs.Passivity.{has_flip}
 use Rattle.field_index.specs.declared.index.FieldIndex.{FieldIndex}
-use Rattle.field_index.specs.Indexes.{IsIndexOf}
+use Rattle.field_index.specs.declared.index.FieldPlace.{FieldPlace}
+use Rattle.field_index.specs.Indexes.{IsIndexOf, first_at}
+use Rattle.width_spots.specs.Spots.{size}
 use Rattle.leaf_names.specs.LeafNames.{Texts}
 use Rattle.name_sizes.specs.Caps.{cap}
 use Rattle.name_sizes.specs.Texts.{way_bytes}
@@ -36,18 +38,34 @@ mutual
     one_field : {field : Field} {inner : TypeIndex} {fields : List Field} {inners : List TypeIndex} → Matches P field.typ inner
         → FieldsMatch P fields inners → FieldsMatch P (field ∷ fields) (inner ∷ inners)
 
--- an index of these fields, where there is one
+abbrev pub places_of : TypeIndex → ℕ
+places_of index = index.places
+
+-- how many places that have widths a field has, as far as they are counted
+abbrev pub weight : Field → ℕ
+weight field = min (size field.typ) (2 ^ 64 - 1)
+
+-- an index of these fields by their places, where there is one
 abbrev pub IsAmong : Option FieldIndex → List Field → Type 0
-IsAmong among fields = IfSome among (λ index. IsIndexOf index fields [])
+IsAmong among fields = IfSome among (λ index. IsIndexOf index fields (map weight fields))
+
+abbrev pub position_of : FieldPlace → ℕ
+position_of place = place.position
+
+-- where the first field of a name stands: its position, and how many places the fields before it have, as far as they are counted
+pub record IsPlaceIn (fields : List Field) (name : ℕ) (place : FieldPlace) : Type 0 where
+  pub position : first_at fields name ≡ Some place.position
+  pub before : min place.before (2 ^ 64 - 1) ≡ min (sum (take place.position (map weight fields))) (2 ^ 64 - 1)
 
 -- what is known of one part
 pub record IsKnown (typ : FirType) (index : TypeIndex) : Type 0 where
   pub leaves : index.leaves ≡ cap (count typ)
   pub passive : index.passive ≡ not (has_flip typ)
+  pub places : index.places ≡ min (size typ) (2 ^ 64 - 1)
   pub among : (fields : List Field) (among : Option FieldIndex) (inners : List TypeIndex) → typ.shape ≡ shape.Bundle fields → index.inside ≡ inside.Bundle among inners
       → IsAmong among fields
 
--- The leaves of each part, whether a flip stands in it, and the fields of bundles by name.
+-- The leaves and the places of each part, whether a flip stands in it, and the fields of bundles by name.
 abbrev pub Knows : FirType → TypeIndex → Type 0
 Knows typ index = ∥ Matches IsKnown typ index ∥₁
 

@@ -1,11 +1,11 @@
 //! The trees of a bundle's fields, gathered one by one.
 
-ghost use Rattle.std.specs.Prelude.{◌≡◌, ◌++◌, ◌∷◌, [], ◌&&◌, not, List, IfOk, OnOk};
+ghost use Rattle.std.specs.Prelude.{◌≡◌, ◌++◌, ◌∷◌, [], ◌&&◌, not, List, map, IfOk, OnOk};
 ghost use Rattle.fir_types.specs.declared.fir_type.FirType.{FirType as AType};
 ghost use Rattle.fir_types.specs.declared.fir_type.Field.{Field as AField};
 ghost use Rattle.fir_types.specs.declared.fir_type.Shape.TheVariants as shape;
 ghost use Rattle.leaf_names.specs.LeafNames.{Texts};
-ghost use Rattle.type_index.specs.Knowing.{Matches, IsRight, IsAmong};
+ghost use Rattle.type_index.specs.Knowing.{Matches, IsRight, IsAmong, places_of};
 
 use crate::tree::{Inside, TypeIndex};
 use bit_words::{List, Shared, SharedList};
@@ -21,6 +21,7 @@ pub struct Gathered {
     parts: List<TypeIndex>,
     ways: Ways,
     passive: bool,
+    places: usize,
 }
 
 impl Gathered {
@@ -37,6 +38,7 @@ impl Gathered {
                 bytes: 0,
             },
             passive: true,
+            places: 0,
         }
     }
 
@@ -50,6 +52,7 @@ impl Gathered {
         };
         self.ways = self.ways.and(ways.named(names, field.name.id));
         self.passive = still_passive(self.passive, part.passive, field.flip);
+        self.places = self.places.saturating_add(part.places);
         self.parts.push(part)?;
         Ok(())
     }
@@ -62,15 +65,29 @@ impl Gathered {
             parts,
             ways,
             passive,
+            places,
         } = self;
-        let among = index_among(alloc, fields)?;
+        let weights = weights_of(alloc, parts.as_slice())?;
+        let among = index_among(alloc, fields, weights.as_slice())?;
         Ok(TypeIndex {
             leaves: ways.leaves,
             bytes: ways.bytes,
             passive,
+            places,
             inside: Inside::Bundle(among, Shared::new(alloc, parts)?),
         })
     }
+}
+
+/// How many places each field has.
+fn weights_of(alloc: Global, parts: &[TypeIndex]) -> Result<Vec<usize>, AllocError>
+    ensures { IfOk result (λ weights. weights.items ≡ map places_of parts.now) }
+{
+    let mut weights = Vec::new(alloc);
+    for part in parts {
+        weights.push(part.places)?;
+    }
+    Ok(weights)
 }
 
 /// Whether fields are passive with one more, whose type is passive or not, and which is flipped or not.

@@ -1,6 +1,6 @@
 //! The steps from a type that is known to its parts.
 
-ghost use Rattle.std.specs.Prelude.{◌≡◌, ◌==◌, not, find, option_map, IfSome};
+ghost use Rattle.std.specs.Prelude.{◌≡◌, ◌==◌, ◌-◌, ◌^◌, min, not, map, find, get_or, option_map, IfSome};
 ghost use Rattle.std.specs.Option.{option_copied};
 ghost use Rattle.field_index.specs.Indexes.{first_at};
 ghost use Rattle.fir_types.specs.declared.fir_type.Shape.TheViews.{out-Shape};
@@ -8,11 +8,12 @@ ghost use Rattle.fir_types.specs.Leaves.{count};
 ghost use Rattle.fir_types.specs.Passivity.{has_flip};
 ghost use Rattle.name_sizes.specs.Caps.{cap};
 ghost use Rattle.leaf_names.specs.LeafNames.{Texts};
-ghost use Rattle.type_index.specs.Knowing.{Knows, HasWays, IsAmong, fields_in, element_in};
+ghost use Rattle.width_spots.specs.Spots.{size};
+ghost use Rattle.type_index.specs.Knowing.{Knows, HasWays, IsAmong, IsPlaceIn, weight, places_of, position_of, fields_in, element_in};
 
 use crate::tree::{Inside, TypeIndex};
 use bit_words::Shared;
-use field_index::FieldIndex;
+use field_index::{FieldIndex, FieldPlace};
 use fir_types::{Field, FirType, Shape};
 
 /// A type of which all this is known.
@@ -23,13 +24,15 @@ pub struct Known<'a> {
     ghost knows: { Knows typ.now index.now },
     ghost counted: { index.now.leaves ≡ cap (count typ.now) },
     ghost flipless: { index.now.passive ≡ not (has_flip typ.now) },
+    ghost placed: { index.now.places ≡ min (size typ.now) (2 ^ 64 - 1) },
 }
 
-/// A field of whose type all this is known.
+/// A field of whose type all this is known, and where it stands: its position, and how many places the fields before it have.
 #[derive(Clone, Copy)]
 pub struct KnownField<'a> {
     pub field: &'a Field,
     pub index: &'a TypeIndex,
+    pub place: FieldPlace,
     ghost knows: { Knows field.now.typ index.now },
 }
 
@@ -56,6 +59,7 @@ impl<'a> Known<'a> {
     /// The first field that has the name with this number, where this is a bundle with such a field. Takes constant time.
     pub fn field(self, id: u32) -> Option<KnownField<'a>>
         ensures field { option_map (λ (part : KnownField). part.field.now) result ≡ find (λ field. field.name.id == id) (fields_in (out-Shape self.entry.typ.now.shape)) }
+        ensures place { IfSome result (λ part. IsPlaceIn (fields_in (out-Shape self.entry.typ.now.shape)) id part.place) }
         ensures ways { IfSome result (λ part. (texts : Texts) → HasWays texts self.entry.typ.now self.entry.index.now → HasWays texts part.field.now.typ part.index.now) }
     {
         let Shape::Bundle(fields) = &self.typ.shape else {
@@ -64,12 +68,16 @@ impl<'a> Known<'a> {
         let Inside::Bundle(among, parts) = &self.index.inside else {
             unreachable!();
         };
-        let position = position_in(among.as_ref(), fields.as_slice(), id)?;
-        let field = fields.get().get(position)?;
-        let Some(index) = parts.get().get(position) else {
+        let place = place_in(among.as_ref(), fields.as_slice(), parts.as_slice(), id)?;
+        let field = fields.get().get(place.position)?;
+        let Some(index) = parts.get().get(place.position) else {
             unreachable!();
         };
-        Some(KnownField { field, index })
+        Some(KnownField {
+            field,
+            index,
+            place,
+        })
     }
 
     /// The element, where this is a vector. Takes constant time.
@@ -87,27 +95,44 @@ impl<'a> Known<'a> {
     }
 }
 
-/// The position of the first of these fields that has the name with this number, by their index where there is one.
-fn position_in(among: Option<&Shared<FieldIndex>>, fields: &[Field], id: u32) -> Option<usize>
-    requires { ∥ IsAmong (option_copied among) fields.now ∥₁ }
-    ensures { result ≡ first_at fields.now id }
+/// Where the first of these fields stands that has the name with this number, by their index where there is one.
+fn place_in(
+    among: Option<&Shared<FieldIndex>>,
+    fields: &[Field],
+    parts: &[TypeIndex],
+    id: u32,
+) -> Option<FieldPlace>
+    requires among { ∥ IsAmong (option_copied among) fields.now ∥₁ }
+    requires parts { map places_of parts.now ≡ map weight fields.now }
+    ensures position { option_map position_of result ≡ first_at fields.now id }
+    ensures before { IfSome result (IsPlaceIn fields.now id) }
 {
     match among {
-        Some(index) => match index.get().place(id) {
-            Some(place) => Some(place.position),
-            None => None,
-        },
-        None => first_position(fields, id),
+        Some(index) => index.get().place(id),
+        None => first_place(fields, parts, id),
     }
 }
 
-fn first_position(fields: &[Field], id: u32) -> Option<usize>
-    ensures { result ≡ first_at fields.now id }
+fn first_place(fields: &[Field], parts: &[TypeIndex], id: u32) -> Option<FieldPlace>
+    requires { map places_of parts.now ≡ map weight fields.now }
+    ensures position { option_map position_of result ≡ first_at fields.now id }
+    ensures before { IfSome result (IsPlaceIn fields.now id) }
 {
+    let mut before: usize = 0;
     for position in 0..fields.len() {
         if fields[position].name.id == id {
-            return Some(position);
+            return Some(FieldPlace { position, before });
         }
+        before = before.saturating_add(places_at(parts, position));
     }
     None
+}
+
+fn places_at(parts: &[TypeIndex], position: usize) -> usize
+    ensures { result ≡ get_or (map places_of parts.now) position 0 }
+{
+    match parts.get(position) {
+        Some(part) => part.places,
+        None => 0,
+    }
 }

@@ -1,11 +1,12 @@
 //! Trees made from types, in time in proportion to the type.
 
-ghost use Rattle.std.specs.Prelude.{◌≡◌, [], IfOk};
+ghost use Rattle.std.specs.Prelude.{◌≡◌, true, [], IfOk};
 ghost use Rattle.fir_types.specs.declared.fir_type.FirType.{FirType as AType};
 ghost use Rattle.fir_types.specs.declared.fir_type.Shape.TheVariants as shape;
 ghost use Rattle.fir_types.specs.Runs.{within};
 ghost use Rattle.leaf_names.specs.LeafNames.{Texts};
 ghost use Rattle.type_index.specs.Knowing.{Matches, IsRight, Knows, HasWays};
+ghost use Rattle.type_index.specs.declared.tree.Inside.TheVariants as inside;
 ghost use Rattle.type_index.specs.Gathering.{Gathers};
 
 use crate::gathered::Gathered;
@@ -30,12 +31,7 @@ impl TypeIndex {
     pub fn of_reset() -> TypeIndex
         ensures { (texts : Texts) (typ : AType) → typ.shape ≡ shape.Reset → Matches (IsRight texts) typ result }
     {
-        TypeIndex {
-            leaves: 1,
-            bytes: 0,
-            passive: true,
-            inside: Inside::Ground,
-        }
+        of_ground(1)
     }
 
     /// What is known of the bundle without fields, whatever the texts of names.
@@ -66,12 +62,8 @@ fn make_shape(alloc: Global, names: &Names, shape: &Shape) -> Result<TypeIndex, 
     ensures { IfOk result (λ index. (typ : AType) → typ.shape ≡ shape.now → Matches (IsRight names.now) typ index) }
 {
     match shape {
-        Shape::Unsigned(_) | Shape::Signed(_) | Shape::Clock | Shape::Reset => Ok(TypeIndex {
-            leaves: 1,
-            bytes: 0,
-            passive: true,
-            inside: Inside::Ground,
-        }),
+        Shape::Unsigned(_) | Shape::Signed(_) | Shape::Reset => Ok(of_ground(1)),
+        Shape::Clock => Ok(of_ground(0)),
         Shape::Bundle(fields) => {
             let gathered = make_fields(alloc, names, fields.as_slice())?;
             gathered.finish(alloc, fields.as_slice())
@@ -95,6 +87,19 @@ fn make_fields(alloc: Global, names: &Names, fields: &[Field]) -> Result<Gathere
     Ok(gathered)
 }
 
+/// What is known of a type without parts that has so many places.
+fn of_ground(places: usize) -> TypeIndex
+    ensures { result ≡ record { leaves = 1; bytes = 0; passive = true; places = places; inside = inside.Ground } }
+{
+    TypeIndex {
+        leaves: 1,
+        bytes: 0,
+        passive: true,
+        places,
+        inside: Inside::Ground,
+    }
+}
+
 /// What is known of a vector of this length, where this is known of its element.
 fn put_one(alloc: Global, inner: TypeIndex, length: u128) -> Result<TypeIndex, AllocError>
     ensures { IfOk result (λ index. (texts : Texts) (typ element : AType) → typ.shape ≡ shape.Vector element length → Matches (IsRight texts) element inner → Matches (IsRight texts) typ index) }
@@ -108,6 +113,7 @@ fn put_one(alloc: Global, inner: TypeIndex, length: u128) -> Result<TypeIndex, A
         leaves: ways.leaves,
         bytes: ways.bytes,
         passive: inner.passive,
+        places: inner.places,
         inside: Inside::Vector(Shared::new(alloc, inner)?),
     })
 }

@@ -1,8 +1,8 @@
-use Rattle.std.proofs.Common.{refl, subst, take}
+use Rattle.std.proofs.Common.{◌∙◌, refl, subst, take}
 use Rattle.std.proofs.lemmas.Result.{IfOk-weaker}
 use Rattle.fir_types.proofs.Runs.{further_in, element_falls}
 use Rattle.type_index.specs.Knowing.{Matches, IsRight}
-use Rattle.type_index.proofs.Built.{gathers_taken, all_ground}
+use Rattle.type_index.proofs.Built.{gathers_taken, all_sized, clock_matches}
 use Rattle.type_index.proofs.making.+make.Goals as goal
 
 pub make-loop-inside-preserved : goal.make-loop-inside-preserved
@@ -28,4 +28,7 @@ pub make_fields-loop-field-init : goal.make_fields-loop-field-init
 make_fields-loop-field-init t c = c.new-gathered.ensures c.args.names.now
 
 pub make_shape-returns-in-Unsigned : goal.make_shape-returns-in-Unsigned
-make_shape-returns-in-Unsigned t c = λ typ is. all_ground c.args.names.now c.args.shape.now typ _ c.in-Unsigned.is is refl refl refl
+make_shape-returns-in-Unsigned t c = rw c.of_ground-in-Unsigned.ensures (λ typ is. all_sized c.args.names.now c.args.shape.now typ c.in-Unsigned.is is)
+
+pub make_shape-returns-in-Clock : goal.make_shape-returns-in-Clock
+make_shape-returns-in-Clock t c = rw c.of_ground.ensures (λ typ is. clock_matches c.args.names.now typ (is ∙ c.in-Clock.is))

@@ -1,7 +1,0 @@
-use Rattle.std.proofs.Common.{◌≡◌, take}
-use Rattle.std.specs.Prelude.{None}
-use Rattle.field_index.specs.Indexes.{first_at}
-use Rattle.type_index.proofs.known.first_position.Given as goal
-
-abbrev pub invariant-loop-position : goal.invariant-loop-position
-invariant-loop-position l = first_at (take l.position l.fields) l.id ≡ None
