@@ -16,7 +16,7 @@ use size_check::flat_measure;
 use std::alloc::Global;
 use type_check::check;
 use width_fit::{WidthFault, judge};
-use width_rules::rules_of;
+use width_gathering::rules_of;
 use width_solver::solve;
 
 /// The circuit of a text with the types that its least widths give, or the text's first fault up to the widths.

@@ -5,7 +5,7 @@ use crate::telling::{expect, placed, told};
 use fir_tree::Fitted;
 use std::alloc::Global;
 use width_fit::{WidthFault, judge};
-use width_rules::rules_of;
+use width_gathering::rules_of;
 use width_solver::solve;
 
 /// The fitted circuit M with these modules, or its fault.

@@ -3,7 +3,7 @@
 use crate::stages::checked_with;
 use crate::telling::{expect, expect_count, placed};
 use std::alloc::Global;
-use width_rules::rules_of;
+use width_gathering::rules_of;
 use width_solver::solve;
 
 /// The rules of a circuit M with these modules: the places of the variables, and for each rule its variable and formula.

@@ -11,7 +11,7 @@ use fir_types::Shape;
 use std::alloc::Global;
 use std::process::ExitCode;
 use width_fit::{WidthFault, judge};
-use width_rules::rules_of;
+use width_gathering::rules_of;
 use width_solver::solve;
 
 /// The names of the chains.

@@ -8,14 +8,11 @@ pub mod Monotone
 pub mod Bounds
 pub mod Expressions
 pub mod Fitting
-pub mod Flips
 pub mod Literals
 pub mod Ports
-mod PortPlaces
 pub mod Rows
 pub mod Ruled
 pub mod Spots
 pub mod Targets
 pub mod Walking
-pub mod Whole
 pub mod Cuts

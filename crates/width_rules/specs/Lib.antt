@@ -10,4 +10,3 @@ pub mod Pieces
 pub mod Parts
 pub mod Targets
 pub mod Walks
-pub mod Indexes

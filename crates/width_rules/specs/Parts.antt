@@ -5,7 +5,7 @@ use Rattle.place_text.specs.declared.place.Place.{Place}
 use Rattle.prim_ops.specs.declared.operation.PrimOp.{PrimOp}
 use Rattle.prim_ops.specs.Operations.{arity_of}
 use Rattle.prim_ops.specs.Kinds.{row_kind}
-use Rattle.circuit_parts.specs.Parts.{source_of}
+use Rattle.circuit_parts.specs.Parts.{part_of, source_of}
 use Rattle.circuit_parts.specs.Kinds.{ground, sign_or_unsigned}
 use Rattle.width_rules.specs.declared.component.Component.{Component}
 use Rattle.width_rules.specs.declared.rule.Formula.{Formula}
@@ -17,14 +17,17 @@ use Rattle.width_rules.specs.Pieces.{slots_in}
 
 -- the part that is looked at
 abbrev pub viewed : View → Component
-viewed view = record { part = record { typ = view.typ.now; flow = view.flow }; slots = slots_in view.slots }
+viewed view = record { part = record { typ = view.known.typ.now; flow = view.flow }; slots = slots_in view.slots }
 
 abbrev pub measured_by : Measure → Measured
-measured_by measure = record { part = measure.part; formulas = measure.formulas }
+measured_by measure = record { part = part_of measure.known.typ measure.flow; formulas = measure.formulas.list }
 
 -- an operation over the kinds and the formulas of its operands
+abbrev pub formula_over : PrimOp → List Kind → List Formula → List ℕ → Formula
+formula_over op kinds formulas params = if is_some (row_kind op kinds) && nat_eq (length params) (arity_of op).1 then formula.Op op kinds formulas params else formula.Fixed 0
+
 abbrev pub operation_over : PrimOp → Place → List Kind → List Formula → List ℕ → Measured
 operation_over op place kinds formulas params = record {
   part = source_of (ground place (sign_or_unsigned (row_kind op kinds)) None);
-  formulas = (if is_some (row_kind op kinds) && nat_eq (length params) (arity_of op).1 then formula.Op op kinds formulas params else formula.Fixed 0) ∷ [];
+  formulas = formula_over op kinds formulas params ∷ [];
 }

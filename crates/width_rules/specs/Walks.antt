@@ -1,4 +1,4 @@
--- What the walk through the bodies keeps.
+-- The walk through the bodies, where the components of instances are listed.
 use Rattle.std.specs.Prelude.{◌≡◌, ℕ, nat_eq, ◌+◌, ◌==◌, List, [], ◌∷◌, ◌++◌, map, length, find, option_map}
 use Rattle.std.specs.Map.{lookup}
 use Rattle.fir_types.specs.declared.name.Name.{Name}
@@ -10,17 +10,10 @@ use Rattle.fir_tree.specs.declared.stmt.Stmt.{Stmt, fold-Stmt}
 use Rattle.fir_tree.specs.declared.stmt.Arm.{Arm, fold-Arm}
 use Rattle.fir_tree.specs.declared.stmt.Stmt.TheOpen.{Stmt-F}
 use Rattle.width_rules.specs.declared.component.Component.{Component}
-use Rattle.width_rules.specs.declared.walk.Found.{Found}
 use Rattle.width_rules.specs.declared.gathering.Ported.{Ported}
 use Rattle.width_rules.specs.Places.{spots, slots_from}
 use Rattle.width_rules.specs.Sources.{Known, component, known_with}
 use Rattle.width_rules.specs.Circuits.{Walk, Gathered, WithPorts, Bodies, in_turn, of_stmt, of_arm, memory_slots, instance_component, known_ports}
-
--- a part of a body was walked
-pub record Walks (part : Walk) (old new : Found) : Type 0 where
-  pub known : new.known.entries ≡ (part old.known.entries (length old.places.items)).known
-  pub places : new.places.items ≡ old.places.items ++ (part old.known.entries (length old.places.items)).places
-  pub rules : new.rules.items ≡ old.rules.items ++ (part old.known.entries (length old.places.items)).rules
 
 -- A component without variables of its own.
 abbrev pub declares_component : Name → Component → Walk
@@ -57,8 +50,3 @@ bodies_among instances n (m ∷ rest) =
     let body = body_among instances m n in
     let others = bodies_among instances (n + length body.places) rest in
     record { places = body.places ++ others.places; rules = body.rules ++ others.rules }
-
--- bodies were walked
-pub record WalksBodies (bodies : Bodies) (old new : Found) : Type 0 where
-  pub places : new.places.items ≡ old.places.items ++ bodies.places
-  pub rules : new.rules.items ≡ old.rules.items ++ bodies.rules

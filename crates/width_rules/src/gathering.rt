@@ -1,19 +1,17 @@
-//! The rules of a circuit.
+//! The widths of ports, and the components of instances.
 
-ghost use Rattle.std.specs.Prelude.{◌≡◌, ◌++◌, [], map, flat_map, length, IfOk, OnOk};
-ghost use Rattle.width_rules.specs.Circuits.{rules_in, ports_from, port_places, modules_from, instance_component, known_ports};
-ghost use Rattle.width_rules.specs.Walks.{AreInstances, ported, body_among, bodies_among, WalksBodies};
-ghost use Rattle.width_rules.specs.Solutions.{AreRules};
+ghost use Rattle.std.specs.Prelude.{◌≡◌, ◌++◌, map, flat_map, length, IfOk, OnOk};
+ghost use Rattle.width_rules.specs.Circuits.{ports_from, port_places, modules_from, instance_component, known_ports};
+ghost use Rattle.width_rules.specs.Walks.{AreInstances, ported};
 
 use crate::indexed::Indexed;
 use crate::pieces::push_all;
-use crate::rule::Rules;
 use crate::slot::Slot;
-use crate::walk::{Found, note, slots_of_type, walk_statements};
+use crate::walk::{note, slots_of_type};
 use bit_words::List;
 use circuit_parts::Part;
 use circuit_parts::steps::{port_flow, source};
-use fir_tree::{Checked, Module};
+use fir_tree::{Module, Names};
 use fir_types::{Port, copy, instance_type};
 use indexmap::IndexMap;
 use place_text::Place;
@@ -24,28 +22,6 @@ use std::alloc::{AllocError, Global};
 pub struct Ported<'a> {
     pub holder: &'a Module,
     pub ports: List<List<Slot>>,
-}
-
-/// The rules of a circuit's widths (FIRRTL specification 3.0, "Width Inference"): one for each place with a variable that a
-/// connect, a value after a reset, a node's expression or an `invalidate` drives, through instances as well.
-///
-/// Takes time and memory in proportion to the circuit and its types. More variables than fit a `u32` are a want of memory.
-pub fn rules_of(alloc: Global, checked: &Checked) -> Result<Rules, AllocError>
-    ensures exact { IfOk result (λ rules. rules ≡ rules_in checked.now.circuit) }
-    ensures rules { IfOk result (λ rules. AreRules (length rules.places) rules.rules) }
-{
-    let mut found = Found {
-        known: IndexMap::new(alloc),
-        places: Vec::new(alloc),
-        rules: Vec::new(alloc),
-    };
-    let modules = with_ports(alloc, &mut found.places, checked.circuit.modules.as_slice())?;
-    let instances = instances_of(alloc, modules.as_slice())?;
-    walk_bodies(alloc, &instances, &mut found, modules)?;
-    Ok(Rules {
-        places: List::from_vec(found.places),
-        rules: List::from_vec(found.rules),
-    })
 }
 
 /// The modules with the widths of their ports, which have the first variables.
@@ -84,24 +60,25 @@ fn ports_of(
 /// The components of instances, by the names of their modules: of each name the first.
 pub fn instances_of(
     alloc: Global,
+    names: &Names,
     modules: &[Ported<'_>],
 ) -> Result<IndexMap<u32, Indexed>, AllocError>
     ensures { IfOk result (λ instances. AreInstances (map ported modules.now) instances.entries) }
 {
     let mut instances = IndexMap::new(alloc);
     for held in modules {
-        let component = instance_of(alloc, held)?;
+        let component = instance_of(alloc, names, held)?;
         note(&mut instances, held.holder.name.id, component)?;
     }
     Ok(instances)
 }
 
-fn instance_of(alloc: Global, held: &Ported<'_>) -> Result<Indexed, AllocError>
+fn instance_of(alloc: Global, names: &Names, held: &Ported<'_>) -> Result<Indexed, AllocError>
     ensures { IfOk result (λ component. component ≡ instance_component (ported held.now)) }
 {
     let part = source(instance_type(alloc, held.holder.ports.as_slice())?);
     let slots = joined(alloc, held.ports.as_slice())?;
-    Indexed::new(alloc, part, slots)
+    Indexed::new(alloc, names, part, slots)
 }
 
 /// The widths of all ports, one port behind another.
@@ -115,43 +92,10 @@ fn joined(alloc: Global, ports: &[List<Slot>]) -> Result<List<Slot>, AllocError>
     Ok(slots)
 }
 
-/// The bodies of modules in order.
-fn walk_bodies(
-    alloc: Global,
-    instances: &IndexMap<u32, Indexed>,
-    found: &mut Found,
-    modules: Vec<Ported<'_>>,
-) -> Result<(), AllocError>
-    ensures { OnOk result (WalksBodies (bodies_among instances.now.entries (length found.old.places.items) (map ported modules.entry.items)) found.old found.new) }
-{
-    for held in modules {
-        walk_body(alloc, instances, found, held)?;
-    }
-    Ok(())
-}
-
-fn walk_body(
-    alloc: Global,
-    instances: &IndexMap<u32, Indexed>,
-    found: &mut Found,
-    held: Ported<'_>,
-) -> Result<(), AllocError>
-    ensures places { OnOk result (found.new.places.items ≡ found.old.places.items ++ (body_among instances.now.entries (ported held.entry) (length found.old.places.items)).places) }
-    ensures rules { OnOk result (found.new.rules.items ≡ found.old.rules.items ++ (body_among instances.now.entries (ported held.entry) (length found.old.places.items)).rules) }
-{
-    found.known = IndexMap::new(alloc);
-    note_ports(
-        alloc,
-        &mut found.known,
-        held.holder.ports.as_slice(),
-        held.ports,
-    )?;
-    walk_statements(alloc, instances, found, held.holder.body.as_slice())
-}
-
 /// Notes the ports of a module as components.
 pub fn note_ports(
     alloc: Global,
+    names: &Names,
     known: &mut IndexMap<u32, Indexed>,
     ports: &[Port],
     widths: List<List<Slot>>,
@@ -167,7 +111,8 @@ pub fn note_ports(
             typ: copy(&port.typ)?,
             flow: port_flow(port),
         };
-        note(known, port.name.id, Indexed::new(alloc, part, slots)?)?;
+        let component = Indexed::new(alloc, names, part, slots)?;
+        note(known, port.name.id, component)?;
     }
     Ok(())
 }

@@ -1,36 +1,34 @@
-//! Components with an index of their fields.
+//! Components with what is known of their types.
 
-ghost use Rattle.std.specs.Prelude.{◌≡◌, map, IfOk, IfSome};
-ghost use Rattle.width_rules.specs.Indexes.{Indexes, IsPlaceIn, Weighs, weight};
-ghost use Rattle.width_rules.specs.Pieces.{joined, slots_in, held_slots};
+ghost use Rattle.std.specs.Prelude.{◌≡◌, IfOk};
+ghost use Rattle.circuit_parts.specs.Parts.{part_of, source_of};
+ghost use Rattle.width_rules.specs.Pieces.{joined, slots_in};
 ghost use Rattle.width_rules.specs.Targets.{has_variable};
 
 use crate::held::Held;
 use crate::pieces::{Slots, count_of};
 use crate::slot::Slot;
 use bit_words::{List, Shared, SharedList};
-use circuit_parts::Part;
-use field_index::{FieldIndex, FieldPlace};
-use fir_types::{Field, FirType, Shape, copy};
+use circuit_parts::{Flow, Part};
+use fir_tree::Names;
+use module_table::KnownType;
 use std::alloc::{AllocError, Global};
 use std::marker::Model;
-use width_spots::size;
+use type_index::Known;
 
-/// The number of fields from which on an index is made.
-const MANY: usize = 8;
-
-/// A component, with an index of its fields where they are many, and whether a place has a variable. Its widths may stand in
-/// lists that are shared. Contracts see the component.
+/// A component, with what is known of its type, and whether a place has a variable. Its widths may stand in lists that are shared.
+/// Contracts see the component.
 #[derive(Drop)]
 pub struct Indexed {
-    part: Part,
+    known: KnownType,
+    flow: Flow,
     held: Held,
-    index: Option<Shared<FieldIndex>>,
     varies: bool,
 }
 
 impl Model for Indexed {
-    ghost use Rattle.std.specs.Prelude.{◌≡◌, IfSome};
+    ghost use Rattle.std.specs.Prelude.{◌≡◌};
+    ghost use Rattle.circuit_parts.specs.Parts.{part_of};
     ghost use Rattle.width_rules.specs.declared.component.Component.{Component as Value_of};
     ghost use Rattle.width_rules.specs.contracts.component.Component.{the_row};
 
@@ -38,58 +36,80 @@ impl Model for Indexed {
 
     ghost coded = { the_row.coded };
 
-    ghost use Rattle.width_rules.specs.Indexes.{Indexes};
     ghost use Rattle.width_rules.specs.Pieces.{held_slots, IsCounted};
     ghost use Rattle.width_rules.specs.Targets.{has_variable};
 
-    ghost view = { λ a. record { part = a.part; slots = held_slots a.held } };
+    ghost view = { λ a. record { part = part_of a.known.typ a.flow; slots = held_slots a.held } };
 
-    ghost invariant = { λ a. IfSome a.index (Indexes a.part.typ) × (a.varies ≡ has_variable (held_slots a.held)) × IsCounted a.held };
+    ghost invariant = { λ a. (a.varies ≡ has_variable (held_slots a.held)) × IsCounted a.held };
 }
 
 impl Indexed {
     /// A component with these widths. Takes time and memory in proportion to its type.
-    pub fn new(alloc: Global, part: Part, slots: List<Slot>) -> Result<Indexed, AllocError>
+    pub fn new(
+        alloc: Global,
+        names: &Names,
+        part: Part,
+        slots: List<Slot>,
+    ) -> Result<Indexed, AllocError>
         ensures { IfOk result (λ indexed. indexed ≡ record { part = part; slots = slots }) }
+    {
+        let known = KnownType::new(alloc, names, part.typ)?;
+        Indexed::of(alloc, known, part.flow, slots)
+    }
+
+    /// A component with these widths, of a type that is known. Takes time in proportion to the widths.
+    pub fn of(
+        alloc: Global,
+        known: KnownType,
+        flow: Flow,
+        slots: List<Slot>,
+    ) -> Result<Indexed, AllocError>
+        ensures { IfOk result (λ indexed. indexed ≡ record { part = part_of known.typ flow; slots = slots }) }
     {
         let varies = has_variable(slots.as_slice());
         let held = Held::One(Shared::new(alloc, slots)?);
         Ok(Indexed {
-            index: index_of(alloc, &part.typ)?,
-            part,
+            known,
+            flow,
             held,
             varies,
         })
     }
 
-    /// A component with the widths of several lists, one behind another, of which it is told whether one is a variable, and how
-    /// many places each field of its type has. Takes time and memory in proportion to the number of fields and of lists.
+    /// What can only be read, of a type that is known, with the widths of several lists, one behind another, of which it is told
+    /// whether one is a variable. Takes time in proportion to the number of lists.
     pub fn of_lists(
         alloc: Global,
-        part: Part,
+        known: KnownType,
         lists: List<SharedList<Slot>>,
         varies: bool,
-        weights: &[usize],
     ) -> Result<Indexed, AllocError>
-        requires told { varies ≡ has_variable (joined lists) }
-        requires weighed { Weighs part.typ weights.now }
-        ensures { IfOk result (λ indexed. indexed ≡ record { part = part; slots = joined lists }) }
+        requires { varies ≡ has_variable (joined lists) }
+        ensures { IfOk result (λ indexed. indexed ≡ record { part = source_of known.typ; slots = joined lists }) }
     {
         let count = count_of(lists.as_slice())?;
         let held = Held::Many(Shared::new(alloc, lists)?, count);
         Ok(Indexed {
-            index: index_with(alloc, &part.typ, weights)?,
-            part,
+            known,
+            flow: Flow::Source,
             held,
             varies,
         })
     }
 
-    /// The type with its flow.
-    pub fn part(&self) -> &Part
-        ensures { result.now ≡ self.now.part }
+    /// The type, with the steps to its parts.
+    pub fn known(&self) -> Known<'_>
+        ensures { result.typ.now ≡ self.now.part.typ }
     {
-        &self.part
+        self.known.known()
+    }
+
+    /// The flow.
+    pub fn flow(&self) -> Flow
+        ensures { result ≡ self.now.part.flow }
+    {
+        self.flow
     }
 
     /// The widths. Takes constant time.
@@ -113,30 +133,12 @@ impl Indexed {
     pub fn share(&self) -> Result<Indexed, AllocError>
         ensures { IfOk result (λ copied. copied ≡ self.now) }
     {
-        let part = Part {
-            typ: copy(&self.part.typ)?,
-            flow: self.part.flow,
-        };
-        let index = match &self.index {
-            Some(index) => Some(index.share()?),
-            None => None,
-        };
         Ok(Indexed {
-            part,
+            known: self.known.share()?,
+            flow: self.flow,
             held: share_held(&self.held)?,
-            index,
             varies: self.varies,
         })
-    }
-
-    /// The place of the first field of a name, if there is an index that has one. Takes constant time.
-    pub fn place(&self, name: u32) -> Option<FieldPlace>
-        ensures { IfSome result (IsPlaceIn self.now.part.typ name) }
-    {
-        match &self.index {
-            Some(index) => index.get().place(name),
-            None => None,
-        }
     }
 }
 
@@ -154,44 +156,4 @@ pub fn has_variable(slots: &[Slot]) -> bool
     ensures { result ≡ has_variable slots.now }
 {
     slots.iter().any(|slot| matches!(slot, Slot::Var(_)))
-}
-
-fn index_of(alloc: Global, typ: &FirType) -> Result<Option<Shared<FieldIndex>>, AllocError>
-    ensures { IfOk result (λ index. IfSome index (Indexes typ.now)) }
-{
-    let Shape::Bundle(fields) = &typ.shape else {
-        return Ok(None);
-    };
-    let weights = weights_of(alloc, fields.as_slice())?;
-    index_with(alloc, typ, weights.as_slice())
-}
-
-/// The index of a bundle's fields, where they are many, with how many places each has.
-fn index_with(
-    alloc: Global,
-    typ: &FirType,
-    weights: &[usize],
-) -> Result<Option<Shared<FieldIndex>>, AllocError>
-    requires { Weighs typ.now weights.now }
-    ensures { IfOk result (λ index. IfSome index (Indexes typ.now)) }
-{
-    let Shape::Bundle(fields) = &typ.shape else {
-        return Ok(None);
-    };
-    if fields.len() < MANY {
-        return Ok(None);
-    }
-    let index = FieldIndex::new(alloc, fields.as_slice(), weights)?;
-    Ok(Some(Shared::new(alloc, index)?))
-}
-
-/// How many places each field has.
-fn weights_of(alloc: Global, fields: &[Field]) -> Result<Vec<usize>, AllocError>
-    ensures { IfOk result (λ weights. weights.items ≡ map weight fields.now) }
-{
-    let mut weights = Vec::new(alloc);
-    for field in fields {
-        weights.push(size(&field.typ))?;
-    }
-    Ok(weights)
 }

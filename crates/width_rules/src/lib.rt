@@ -1,11 +1,9 @@
-//! The rules of a circuit's widths: a variable for each place whose width is to be inferred, and for each source of such
-//! a place the rule that the variable is at least the source's width. Keeps the contract that these are exactly the rules
-//! that the circuit's definition gives. What is known of components and their parts is open to the crate of the solver, which
-//! walks through the same text.
+//! What the rules of a circuit's widths speak of: a variable for each place whose width is to be inferred, what is known of
+//! components and their parts, and the widths of expressions as formulas over the variables. The crates above gather the rules, and
+//! walk through the same text with the widths that are found.
 #![tactic(auto)]
 
 pub mod component;
-mod driving;
 pub mod gathering;
 pub mod held;
 pub mod indexed;
@@ -19,6 +17,5 @@ pub mod steps;
 pub mod walk;
 pub mod widths;
 
-pub use gathering::rules_of;
 pub use rule::{Formula, Rule, Rules};
 pub use widths::Widths;

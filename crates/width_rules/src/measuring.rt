@@ -3,58 +3,83 @@
 ghost use Rattle.std.specs.Prelude.{◌≡◌, ◌++◌, ◌∷◌, [], map, zip, false, None, OnOk, IfOk};
 ghost use Rattle.bit_words.specs.Numbers.{integer_of_number};
 ghost use Rattle.prim_ops.specs.Kinds.{row_kind};
-ghost use Rattle.circuit_parts.specs.Parts.{source_of};
+ghost use Rattle.circuit_parts.specs.Parts.{source_of, no_part};
 ghost use Rattle.circuit_parts.specs.Kinds.{sign_of, ground, sign_or_unsigned};
 ghost use Rattle.width_rules.specs.Places.{capped};
 ghost use Rattle.width_rules.specs.Sources.{component, component_or_none, named, measured, measured_reference, suffix_step, formula_of, literal_width, lone, kind_of, greater_of, choice};
-ghost use Rattle.width_rules.specs.Parts.{measured_by, operation_over};
+ghost use Rattle.width_rules.specs.Parts.{measured_by, formula_over};
 ghost use Rattle.width_rules.specs.Pieces.{slots_in};
 ghost use Rattle.width_rules.specs.Targets.{has_variable, has_target};
 
 use crate::indexed::Indexed;
 use crate::pieces::{Slots, listed};
 use crate::rule::Formula;
+use crate::sizes::{CHOICE_UNITS, MOST_UNITS};
 use crate::slot::{Slot, capped};
 use crate::steps::walk_steps;
 use bit_words::literal::least_width;
 use bit_words::{Kind, List, Number, Shared};
 use circuit_parts::kinds::ground;
-use circuit_parts::steps::{no_part, source};
-use circuit_parts::{Flow, Part};
-use fir_tree::{Expr, Form, Suffix};
-use fir_types::{FirType, Shape, copy};
+use circuit_parts::steps::no_part;
+use circuit_parts::Flow;
+use fir_tree::{Expr, Form, Names, Suffix};
+use fir_types::{FirType, Shape};
 use indexmap::IndexMap;
+use module_table::KnownType;
 use place_text::Place;
 use prim_ops::{Prim, arity};
 use std::alloc::{AllocError, Global};
+use type_index::TypeIndex;
+
+/// What an expression stands among: the texts of names, and the components that are declared before it.
+#[derive(Clone, Copy)]
+pub struct Scope<'a> {
+    pub names: &'a Names,
+    pub known: &'a IndexMap<u32, Indexed>,
+}
+
+/// Formulas of places, and what each of them takes besides itself, in units of 40 bytes: each the same, as it is made of the same
+/// choices. What stands but once in the text doesn't count.
+#[derive(Drop)]
+pub struct Formulas {
+    pub list: List<Formula>,
+    pub units: usize,
+}
 
 /// An expression: its type with its flow, and a formula for the width of each of its type's places.
 #[derive(Drop)]
 pub struct Measure {
-    pub part: Part,
-    pub formulas: List<Formula>,
+    pub known: KnownType,
+    pub flow: Flow,
+    pub formulas: Formulas,
 }
 
-/// The widths of an expression, among the components that are declared before it.
+/// The widths of an expression.
 #[cycle(measure)]
-pub fn measure_expr(
-    alloc: Global,
-    known: &IndexMap<u32, Indexed>,
-    expr: &Expr,
-) -> Result<Measure, AllocError>
-    ensures { IfOk result (λ m. measured_by m ≡ measured expr.now known.now.entries) }
+pub fn measure_expr(alloc: Global, scope: Scope<'_>, expr: &Expr) -> Result<Measure, AllocError>
+    ensures { IfOk result (λ m. measured_by m ≡ measured expr.now scope.entry.known.now.entries) }
 {
     match &expr.form {
-        Form::Ref(name, suffixes) => reference(alloc, known, name.id, suffixes.as_slice()),
-        Form::Literal(kind, width, number) => literal(alloc, expr.place, *kind, *width, *number),
+        Form::Ref(name, suffixes) => reference(alloc, scope.known, name.id, suffixes.as_slice()),
+        Form::Literal(kind, width, number) => {
+            let formula = Formula::Fixed(capped(width_of(*kind, *width, *number)));
+            single(
+                alloc,
+                scope.names,
+                ground(expr.place, *kind, *width),
+                formula,
+            )
+        }
         Form::Prim(prim, operands, params) => {
             let mut kinds = List::new(alloc);
             let mut formulas = List::new(alloc);
-            measure_operands(alloc, known, operands.as_slice(), &mut kinds, &mut formulas)?;
+            measure_operands(alloc, scope, operands.as_slice(), &mut kinds, &mut formulas)?;
             let params = List::from_slice(alloc, params.as_slice())?;
-            operation(alloc, *prim, expr.place, kinds, formulas, params)
+            let typ = operation_type(*prim, expr.place, kinds.as_slice());
+            let formula = operation_formula(alloc, *prim, kinds, formulas, params)?;
+            single(alloc, scope.names, typ, formula)
         }
-        Form::Mux(operands) => measure_choice(alloc, known, operands.as_slice()),
+        Form::Mux(operands) => measure_choice(alloc, scope, operands.as_slice()),
     }
 }
 
@@ -62,50 +87,64 @@ pub fn measure_expr(
 #[cycle(measure)]
 fn measure_operands(
     alloc: Global,
-    known: &IndexMap<u32, Indexed>,
+    scope: Scope<'_>,
     operands: &[Expr],
     kinds: &mut List<Kind>,
     formulas: &mut List<Formula>,
 ) -> Result<(), AllocError>
-    ensures kinds { OnOk result (kinds.new ≡ kinds.old ++ map (λ e. kind_of (measured e known.now.entries)) operands.now) }
-    ensures formulas { OnOk result (formulas.new ≡ formulas.old ++ map (λ e. lone (measured e known.now.entries).formulas) operands.now) }
+    ensures kinds { OnOk result (kinds.new ≡ kinds.old ++ map (λ e. kind_of (measured e scope.entry.known.now.entries)) operands.now) }
+    ensures formulas { OnOk result (formulas.new ≡ formulas.old ++ map (λ e. lone (measured e scope.entry.known.now.entries).formulas) operands.now) }
 {
     for operand in operands {
-        let measured = measure_expr(alloc, known, operand)?;
-        kinds.push(kind(&measured.part.typ))?;
-        formulas.push(first_of(measured.formulas))?;
+        let measured = measure_expr(alloc, scope, operand)?;
+        kinds.push(kind(&measured.known.typ))?;
+        formulas.push(first_of(measured.formulas.list))?;
     }
     Ok(())
 }
 
 /// A choice between the second and the third operand.
 #[cycle(measure)]
-fn measure_choice(
-    alloc: Global,
-    known: &IndexMap<u32, Indexed>,
-    operands: &[Expr],
-) -> Result<Measure, AllocError>
-    ensures { IfOk result (λ m. measured_by m ≡ choice (map (λ e. measured e known.now.entries) operands.now)) }
+fn measure_choice(alloc: Global, scope: Scope<'_>, operands: &[Expr]) -> Result<Measure, AllocError>
+    ensures { IfOk result (λ m. measured_by m ≡ choice (map (λ e. measured e scope.entry.known.now.entries) operands.now)) }
 {
     let [_, first, second] = operands else {
         return Ok(Measure {
-            part: no_part(alloc)?,
-            formulas: List::new(alloc),
+            known: no_type(alloc)?,
+            flow: Flow::Source,
+            formulas: in_text(List::new(alloc)),
         });
     };
-    let first = measure_expr(alloc, known, first)?;
-    let second = measure_expr(alloc, known, second)?;
+    let first = measure_expr(alloc, scope, first)?;
+    let second = measure_expr(alloc, scope, second)?;
     Ok(Measure {
-        part: Part {
-            typ: first.part.typ,
-            flow: Flow::Source,
-        },
+        known: first.known,
+        flow: Flow::Source,
         formulas: greater_of(alloc, first.formulas, second.formulas)?,
     })
 }
 
-/// Place by place the greater of two widths.
-fn greater_of(
+/// Formulas that take nothing besides themselves but what stands in the text.
+pub fn in_text(list: List<Formula>) -> Formulas
+    ensures { result.list ≡ list }
+{
+    Formulas { list, units: 0 }
+}
+
+/// Place by place the greater of two widths. Too many are a want of memory.
+fn greater_of(alloc: Global, first: Formulas, second: Formulas) -> Result<Formulas, AllocError>
+    ensures { IfOk result (λ greater. greater.list ≡ map greater_of (zip first.list second.list)) }
+{
+    let parts = first.units.saturating_add(second.units);
+    let units = parts.saturating_add(CHOICE_UNITS);
+    if units.saturating_mul(first.list.len()) > MOST_UNITS {
+        return Err(AllocError);
+    }
+    let list = greater_formulas(alloc, first.list, second.list)?;
+    Ok(Formulas { list, units })
+}
+
+fn greater_formulas(
     alloc: Global,
     first: List<Formula>,
     second: List<Formula>,
@@ -126,10 +165,10 @@ fn greater_of(
 fn pair(alloc: Global, first: Formula, second: Formula) -> Result<Formula, AllocError>
     ensures { IfOk result (λ greater. greater ≡ greater_of (first, second)) }
 {
-    let mut both = List::new(alloc);
+    let mut both = Vec::with_capacity(alloc, 2)?;
     both.push(first)?;
     both.push(second)?;
-    Ok(Formula::Greatest(Shared::new(alloc, both)?))
+    Ok(Formula::Greatest(Shared::new(alloc, List::from_vec(both))?))
 }
 
 fn reference(
@@ -144,11 +183,9 @@ fn reference(
     let component = look_up(known, name, &nothing);
     let view = walk_steps(component, suffixes);
     Ok(Measure {
-        part: Part {
-            typ: copy(view.typ)?,
-            flow: view.flow,
-        },
-        formulas: formulas_in(alloc, view.slots)?,
+        known: KnownType::of(view.known)?,
+        flow: view.flow,
+        formulas: in_text(formulas_in(alloc, view.slots)?),
     })
 }
 
@@ -192,7 +229,20 @@ pub fn look_up<'a>(
 pub fn no_component(alloc: Global) -> Result<Indexed, AllocError>
     ensures { IfOk result (λ nothing. nothing ≡ component_or_none None) }
 {
-    Indexed::new(alloc, no_part(alloc)?, List::new(alloc))
+    let known = no_type(alloc)?;
+    Indexed::of(alloc, known, Flow::Source, List::new(alloc))
+}
+
+/// What is known of the type of what isn't known.
+fn no_type(alloc: Global) -> Result<KnownType, AllocError>
+    ensures { IfOk result (λ known. source_of known.typ ≡ no_part) }
+{
+    let nothing = no_part(alloc)?;
+    let index = TypeIndex::of_nothing(alloc)?;
+    Ok(KnownType {
+        typ: nothing.typ,
+        index,
+    })
 }
 
 /// Widths of a component as formulas.
@@ -228,20 +278,22 @@ pub fn formula_of(slot: Slot) -> Formula
     }
 }
 
-fn literal(
+/// A number of this type and this width.
+fn single(
     alloc: Global,
-    place: Place,
-    kind: Kind,
-    width: Option<u128>,
-    number: Number,
+    names: &Names,
+    typ: FirType,
+    formula: Formula,
 ) -> Result<Measure, AllocError>
-    ensures { IfOk result (λ m. measured_by m ≡ record { part = source_of (ground place kind width); formulas = Formula.Fixed (capped (literal_width kind (integer_of_number number) width)) ∷ [] }) }
+    ensures { IfOk result (λ m. measured_by m ≡ record { part = source_of typ; formulas = formula ∷ [] }) }
 {
-    let mut formulas = List::new(alloc);
-    formulas.push(Formula::Fixed(capped(width_of(kind, width, number))))?;
+    let known = KnownType::new(alloc, names, typ)?;
+    let mut list = List::new(alloc);
+    list.push(formula)?;
     Ok(Measure {
-        part: source(ground(place, kind, width)),
-        formulas,
+        known,
+        flow: Flow::Source,
+        formulas: in_text(list),
     })
 }
 
@@ -256,31 +308,31 @@ pub fn width_of(kind: Kind, width: Option<u128>, number: Number) -> u128
     }
 }
 
-fn operation(
+/// The type of an operation's result over operands of these kinds.
+fn operation_type(prim: Prim, place: Place, kinds: &[Kind]) -> FirType
+    ensures { result ≡ ground place (sign_or_unsigned (row_kind prim kinds.now)) None }
+{
+    let row = row_of(prim, kinds).unwrap_or(Kind::Unsigned);
+    ground(place, row, None)
+}
+
+fn operation_formula(
     alloc: Global,
     prim: Prim,
-    place: Place,
     kinds: List<Kind>,
     formulas: List<Formula>,
     params: List<u128>,
-) -> Result<Measure, AllocError>
-    ensures { IfOk result (λ m. measured_by m ≡ operation_over prim place kinds formulas params) }
+) -> Result<Formula, AllocError>
+    ensures { IfOk result (λ formula. formula ≡ formula_over prim kinds formulas params) }
 {
-    let row = row_of(prim, kinds.as_slice());
-    let mut whole = List::new(alloc);
     let takes = params.len() == arity(prim).1 as usize;
-    if row.is_some() && takes {
-        let kinds = Shared::new(alloc, kinds)?;
-        let formulas = Shared::new(alloc, formulas)?;
-        let params = Shared::new(alloc, params)?;
-        whole.push(Formula::Op(prim, kinds, formulas, params))?;
-    } else {
-        whole.push(Formula::Fixed(0))?;
+    if row_of(prim, kinds.as_slice()).is_none() || !takes {
+        return Ok(Formula::Fixed(0));
     }
-    Ok(Measure {
-        part: source(ground(place, row.unwrap_or(Kind::Unsigned), None)),
-        formulas: whole,
-    })
+    let kinds = Shared::new(alloc, kinds)?;
+    let formulas = Shared::new(alloc, formulas)?;
+    let params = Shared::new(alloc, params)?;
+    Ok(Formula::Op(prim, kinds, formulas, params))
 }
 
 /// The kind of an operation's result, where it takes operands of these kinds.

@@ -1,12 +1,12 @@
 //! The widths of memories.
 
-ghost use Rattle.std.specs.Prelude.{◌≡◌, ◌-◌, ◌^◌, min, ◌++◌, ◌∷◌, [], ◌&&◌, filter_map, flat_map, option_to_list, OnOk, IfOk};
+ghost use Rattle.std.specs.Prelude.{◌≡◌, ◌++◌, ◌∷◌, [], ◌&&◌, flat_map, OnOk, IfOk};
 ghost use Rattle.std.specs.List.{list_any};
 ghost use Rattle.fir_types.specs.Memories.{depth_in, element_of, first_or};
 ghost use Rattle.width_rules.specs.Circuits.{memory_slots};
 ghost use Rattle.circuit_parts.specs.Parts.{source_of};
 ghost use Rattle.fir_types.specs.Bundles.{address_bits, memory_of};
-ghost use Rattle.width_rules.specs.Layers.{line_places, line_widths, mask_widths, mode_places};
+ghost use Rattle.width_rules.specs.Layers.{line_widths, mask_widths};
 ghost use Rattle.width_rules.specs.Pieces.{mode_lists, line_lists, joined};
 ghost use Rattle.width_rules.specs.Targets.{has_variable, is_port};
 
@@ -14,12 +14,11 @@ use crate::indexed::{Indexed, has_variable};
 use crate::sizes::push_mask;
 use crate::slot::Slot;
 use bit_words::{List, Shared, SharedList};
-use circuit_parts::steps::{no_part, source};
-use fir_types::{
-    FirType, MemLine, Memory, PortMode, address_width, depth_of, element_of, memory_type,
-};
+use circuit_parts::steps::no_part;
+use fir_tree::Names;
+use fir_types::{FirType, MemLine, Memory, PortMode, address_width, depth_of, element_of};
+use module_table::KnownType;
 use std::alloc::{AllocError, Global};
-use width_spots::size;
 
 /// The widths that the ports of a memory share: an address and an enable, an element, one bit, and a mask.
 #[derive(Drop)]
@@ -33,6 +32,7 @@ pub struct PortWidths {
 /// A memory whose elements have these widths. Takes time and memory in proportion to its ports and its elements' places.
 pub fn memory_of_slots(
     alloc: Global,
+    names: &Names,
     memory: &Memory,
     slots: List<Slot>,
 ) -> Result<Indexed, AllocError>
@@ -42,12 +42,10 @@ pub fn memory_of_slots(
     let lines = memory.lines.as_slice();
     let element = element_of(lines, &empty);
     let varies = may_vary(lines, slots.as_slice());
-    let places = size(element);
     let widths = port_widths(alloc, depth_of(lines), element, slots)?;
-    let weights = port_weights(alloc, lines, places, widths.mask.len())?;
     let lists = port_lists(lines, List::new(alloc), &widths)?;
-    let part = source(memory_type(alloc, memory)?);
-    Indexed::of_lists(alloc, part, lists, varies, weights.as_slice())
+    let known = KnownType::of_memory(alloc, names, memory)?;
+    Indexed::of_lists(alloc, known, lists, varies)
 }
 
 /// Whether a port has a width that is a variable.
@@ -96,50 +94,6 @@ fn address_bits(depth: u128) -> u8
     ensures { result ≡ address_bits depth }
 {
     address_width(depth) as u8
-}
-
-/// How many places each port has, where an element and a mask have so many.
-fn port_weights(
-    alloc: Global,
-    lines: &[MemLine],
-    element: usize,
-    mask: usize,
-) -> Result<Vec<usize>, AllocError>
-    ensures { IfOk result (λ weights. weights.items ≡ filter_map (line_places element mask) lines.now) }
-{
-    let mut weights = Vec::new(alloc);
-    for line in lines {
-        push_weight(&mut weights, line, element, mask)?;
-    }
-    Ok(weights)
-}
-
-fn push_weight(
-    weights: &mut Vec<usize>,
-    line: &MemLine,
-    element: usize,
-    mask: usize,
-) -> Result<(), AllocError>
-    ensures { OnOk result (weights.new.items ≡ weights.old.items ++ option_to_list (line_places element mask line.now)) }
-{
-    if let MemLine::MemPort(_, mode, _) = line {
-        weights.push(places_of_port(*mode, element, mask))?;
-    }
-    Ok(())
-}
-
-/// How many places a port has: its address and its enable, data, what is written and whether it is.
-fn places_of_port(mode: PortMode, element: usize, mask: usize) -> usize
-    ensures { result ≡ min (mode_places element mask mode) (2 ^ 64 - 1) }
-{
-    match mode {
-        PortMode::Reader => element.saturating_add(2),
-        PortMode::Writer => element.saturating_add(mask).saturating_add(2),
-        PortMode::ReadWriter => {
-            let both = element.saturating_add(element);
-            both.saturating_add(mask).saturating_add(3)
-        }
-    }
 }
 
 /// The lists of all ports behind others.

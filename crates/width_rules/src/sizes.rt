@@ -16,8 +16,11 @@ use width_spots::{inside_lengths, size};
 /// and 8 for its width in its component, and so many take 0.8 GB.
 const MOST_PLACES: usize = 50_000_000;
 
-/// The most rules that a circuit may have; more are a want of memory. Each takes 40 bytes, and so many take 0.64 GB.
-pub const MOST_RULES: usize = 16_000_000;
+/// The most that rules may take, in units of 40 bytes; more is a want of memory. A rule is one unit, and so many take 0.64 GB.
+pub const MOST_UNITS: usize = 16_000_000;
+
+/// What a choice takes besides the formulas that it is between.
+pub const CHOICE_UNITS: usize = 4;
 
 /// Adds the widths of a type's places. Each variable has the next number and this place.
 #[cycle(slots)]

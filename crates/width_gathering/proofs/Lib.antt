@@ -1,0 +1,4 @@
+mod Flips
+mod Targets
+mod Walking
+mod Whole

@@ -1,0 +1,2 @@
+pub mod ByFlips
+pub mod Walked
