@@ -10,7 +10,7 @@ use Rattle.leaf_names.specs.LeafNames.{Texts}
 use Rattle.type_index.specs.Knowing.{HasWays}
 use Rattle.fir_tree.specs.declared.circuit.Module.{Module}
 use Rattle.fir_types.specs.declared.fir_type.FirType.{FirType}
-use Rattle.module_table.specs.declared.known_type.KnownType.{KnownType}
+use Rattle.type_index.specs.declared.known_type.KnownType.{KnownType}
 use Rattle.module_table.specs.Tables.{with_new, named, IsIndex, IsIndexOf, bundle_of, typ_of, AreMeasured}
 
 abbrev or_else : {X : Type 0} → Option X → Option X → Option X

@@ -6,7 +6,7 @@ use Rattle.fir_types.specs.declared.fir_type.FirType.{FirType}
 use Rattle.fir_types.specs.Bundles.{instance_of}
 use Rattle.leaf_names.specs.LeafNames.{Texts}
 use Rattle.type_index.specs.Knowing.{HasWays}
-use Rattle.module_table.specs.declared.known_type.KnownType.{KnownType}
+use Rattle.type_index.specs.declared.known_type.KnownType.{KnownType}
 
 -- the first module of a name
 abbrev pub named : List Module → ℕ → Option Module

@@ -7,13 +7,13 @@ ghost use Rattle.fir_types.specs.Equivalence.{Equivalent};
 ghost use Rattle.module_table.specs.Components.{part_in};
 ghost use Rattle.module_table.specs.Tables.{with_new};
 
-use crate::known_type::KnownType;
 use crate::modules::insert_new;
 use circuit_parts::{Flow, Part};
 use fir_types::equivalent;
 use indexmap::IndexMap;
 use std::alloc::{AllocError, Global};
 use std::marker::Model;
+use type_index::KnownType;
 
 /// A component: its type, with what is often asked of it, and its flow.
 #[derive(Drop)]

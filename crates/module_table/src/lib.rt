@@ -2,11 +2,9 @@
 #![tactic(auto)]
 
 pub mod components;
-pub mod known_type;
 pub mod modules;
 pub mod whole;
 
 pub use components::{Component, Components};
-pub use known_type::KnownType;
 pub use modules::{Modules, insert_new};
 pub use whole::whole_name;

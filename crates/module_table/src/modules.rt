@@ -7,11 +7,11 @@ ghost use Rattle.fir_types.specs.contracts.fir_type.FirType.{the_row as type_row
 ghost use Rattle.module_table.specs.Tables.{IsIndex, named, bundle_of, with_new, typ_of, AreMeasured};
 ghost use Rattle.type_index.specs.Knowing.{HasWays};
 
-use crate::known_type::KnownType;
 use fir_tree::{Module, Names};
 use fir_types::instance_type;
 use indexmap::IndexMap;
 use std::alloc::{AllocError, Global};
+use type_index::KnownType;
 
 /// The modules of a circuit, with the number of the first of each name, and with what the instances of each share.
 #[derive(Drop)]

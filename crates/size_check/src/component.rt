@@ -1,6 +1,6 @@
 //! A module's component.
 
-use module_table::KnownType;
+use type_index::KnownType;
 
 /// A component: its type, with what is known of it and of its parts.
 #[derive(Drop)]

@@ -16,11 +16,11 @@ use bit_words::{List, Shared};
 use fir_tree::{Arm, Expr, Module, Names, Stmt};
 use fir_types::{FirType, Memory, Name, Port, Shape, copy, instance_type};
 use indexmap::IndexMap;
-use module_table::{KnownType, Modules, insert_new};
+use module_table::{Modules, insert_new};
 use name_sizes::Ways;
 use place_text::Place;
 use std::alloc::{AllocError, Global};
-use type_index::{Known as Part, TypeIndex};
+use type_index::{Known as Part, KnownType, TypeIndex};
 
 /// The place of what stands nowhere in a text.
 const NOWHERE: Place = Place { line: 1, column: 1 };

@@ -5,7 +5,7 @@ use Rattle.fir_types.specs.declared.fir_type.FirType.{FirType}
 use Rattle.fir_tree.specs.declared.circuit.Module.{Module}
 use Rattle.circuit_parts.specs.declared.part.Part.{Part}
 use Rattle.circuit_parts.specs.Parts.{instance_part, source_of}
-use Rattle.module_table.specs.declared.known_type.KnownType.{KnownType}
+use Rattle.type_index.specs.declared.known_type.KnownType.{KnownType}
 use Rattle.module_table.specs.Tables.{bundle_of, typ_of}
 use Rattle.type_check.specs.declared.walk.Walk.{Walk}
 use Rattle.type_check.specs.Parts.{known_with}

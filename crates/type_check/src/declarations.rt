@@ -21,8 +21,9 @@ use circuit_parts::Flow;
 use circuit_parts::steps::port_flow;
 use fir_tree::Expr;
 use fir_types::{FirType, Memory, Name, Port, copy};
-use module_table::{Component, KnownType, Modules};
+use module_table::{Component, Modules};
 use std::alloc::{AllocError, Global};
+use type_index::KnownType;
 
 /// A port, which is read or driven inside its module.
 pub fn declare_port(alloc: Global, walk: &mut Walk<'_>, port: &Port) -> Result<(), AllocError>

@@ -12,9 +12,9 @@ use crate::texts::{are_equivalent, is_passive};
 use circuit_parts::Part;
 use fir_tree::{Expr, Form, Names, Suffix};
 use fir_types::Shape;
-use module_table::{Components, KnownType, whole_name};
+use module_table::{Components, whole_name};
 use std::alloc::{AllocError, Global};
-use type_index::Known;
+use type_index::{Known, KnownType};
 
 /// The type of an expression that is this part, with what is known of it. It is shared where it is that of a component or of a part
 /// of one.

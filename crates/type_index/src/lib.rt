@@ -5,11 +5,13 @@
 
 pub mod gathered;
 pub mod known;
+pub mod known_type;
 pub mod making;
 pub mod memories;
 pub mod tree;
 
 pub use gathered::Gathered;
 pub use known::{Known, KnownField};
+pub use known_type::KnownType;
 pub use memories::of_memory;
 pub use tree::{Inside, TypeIndex};

@@ -11,10 +11,9 @@ use crate::slot::Slot;
 use bit_words::{List, Shared, SharedList};
 use circuit_parts::{Flow, Part};
 use fir_tree::Names;
-use module_table::KnownType;
 use std::alloc::{AllocError, Global};
 use std::marker::Model;
-use type_index::Known;
+use type_index::{Known, KnownType};
 
 /// A component, with what is known of its type, and whether a place has a variable. Its widths may stand in lists that are shared.
 /// Contracts see the component.

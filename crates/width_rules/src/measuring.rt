@@ -19,17 +19,16 @@ use crate::slot::{Slot, capped};
 use crate::steps::walk_steps;
 use bit_words::literal::least_width;
 use bit_words::{Kind, List, Number, Shared};
+use circuit_parts::Flow;
 use circuit_parts::kinds::ground;
 use circuit_parts::steps::no_part;
-use circuit_parts::Flow;
 use fir_tree::{Expr, Form, Names, Suffix};
 use fir_types::{FirType, Shape};
 use indexmap::IndexMap;
-use module_table::KnownType;
 use place_text::Place;
 use prim_ops::{Prim, arity};
 use std::alloc::{AllocError, Global};
-use type_index::TypeIndex;
+use type_index::{KnownType, TypeIndex};
 
 /// What an expression stands among: the texts of names, and the components that are declared before it.
 #[derive(Clone, Copy)]

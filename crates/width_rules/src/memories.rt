@@ -17,8 +17,8 @@ use bit_words::{List, Shared, SharedList};
 use circuit_parts::steps::no_part;
 use fir_tree::Names;
 use fir_types::{FirType, MemLine, Memory, PortMode, address_width, depth_of, element_of};
-use module_table::KnownType;
 use std::alloc::{AllocError, Global};
+use type_index::KnownType;
 
 /// The widths that the ports of a memory share: an address and an enable, an element, one bit, and a mask.
 #[derive(Drop)]

@@ -5,10 +5,12 @@ ghost use Rattle.fir_types.specs.Bundles.{memory_of};
 ghost use Rattle.leaf_names.specs.LeafNames.{Texts};
 ghost use Rattle.type_index.specs.Knowing.{Knows, HasWays};
 
+use crate::known::Known;
+use crate::memories::of_memory;
+use crate::tree::TypeIndex;
 use fir_tree::Names;
 use fir_types::{FirType, Memory, copy};
 use std::alloc::{AllocError, Global};
-use type_index::{Known, TypeIndex, of_memory};
 
 /// A type with what is known of it and of its parts.
 #[derive(Drop)]
