@@ -380,10 +380,10 @@ module _ (Q : Flow → Formula → Type 0) (allows : Allows Q) (ws : List Width)
   -- Literals
 
   literal_widths : (kind : Kind) (width : Option ℕ) (number : Number) (place : Place) → Each IsNumber (widths_of ws (judging.measured_literal kind width number place))
-      → (widths_of ws (judging.measured_literal kind width number place) ≡ Bits (sources.literal_width kind (integer_of_number number) width) ∷ [])
-      × (nat_le (sources.literal_width kind (integer_of_number number) width) 128 ≡ true)
+      → (widths_of ws (judging.measured_literal kind width number place) ≡ Bits (sources.literal_bits kind (integer_of_number number) width) ∷ [])
+      × (nat_le (sources.literal_bits kind (integer_of_number number) width) 128 ≡ true)
   literal_widths kind width number place h =
-      let n : ℕ = sources.literal_width kind (integer_of_number number) width in
+      let n : ℕ = sources.literal_bits kind (integer_of_number number) width in
       let b = bounded_number n (subst IsNumber (width-capped n ws) h.0) in
       (ap (λ w. w ∷ []) (width-capped n ws ∙ b.0), b.1)
 
@@ -411,7 +411,7 @@ module _ (Q : Flow → Formula → Type 0) (allows : Allows Q) (ws : List Width)
       (surveyed ws place (judging.measured_literal kind width number place) [] [])
       (λ K. literal_shape (shaped kind (meaning.literal_width kind (integer_of_number number) width))) part
   literal_found kind width number place e =
-      let n : ℕ = sources.literal_width kind (integer_of_number number) width in
+      let n : ℕ = sources.literal_bits kind (integer_of_number number) width in
       let typ : FirType = ground place kind width in
       let m : Measured = judging.measured_literal kind width number place in
       let nums : (surveyed ws place m [] []).faults ≡ [] → Each IsNumber (widths_of ws m) = λ none. none_over (widths_of ws m) (where_false _ _ (left_empty _ [] none)) in (

@@ -69,7 +69,7 @@ least_of Unsigned (negsuc m) f le = cc
 least_of Signed (pos m) f le = same_signed (pos m) (suc m) (signed_holds m) 0 127 (omega (arith, le))
 least_of Signed (negsuc m) f le = same_signed (negsuc m) (suc m) (λ w. within_negative (2 ^ w) m) 0 127 (omega (arith, le))
 
-pub same_least : (kind : Kind) (width : Option ℕ) (n : ℤ) → fits_literal kind width n ≡ true → sources.literal_width kind n width ≤ 128
-    → meaning.literal_width kind n width ≡ sources.literal_width kind n width
+pub same_least : (kind : Kind) (width : Option ℕ) (n : ℤ) → fits_literal kind width n ≡ true → sources.literal_bits kind n width ≤ 128
+    → meaning.literal_width kind n width ≡ sources.literal_bits kind n width
 same_least kind (Some w) n f le = refl
 same_least kind None n f le = least_of kind n f le

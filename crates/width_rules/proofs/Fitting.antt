@@ -10,7 +10,7 @@ use Rattle.fir_tree.specs.declared.expr.Form.TheOpen.{Form-F, Suffix-F, Expr-F}
 use Rattle.fir_tree.specs.declared.expr.Form.TheFolds.{ind-Expr, fold-roll-Form, fold-roll-Suffix, fold-roll-Expr}
 use Rattle.width_rules.specs.declared.component.Component.{Component}
 use Rattle.width_rules.specs.Places.{capped}
-use Rattle.width_rules.specs.Sources.{Known, Among, component, component_or_none, known_with, named, measured, suffix_step, literal_width, of_form, of_suffix, of_expr}
+use Rattle.width_rules.specs.Sources.{Known, Among, component, component_or_none, known_with, named, measured, suffix_step, literal_bits, of_form, of_suffix, of_expr}
 use Rattle.width_rules.proofs.Bounds.{Each, each_append, fixed_is, SlotsFit, FormulasFit, slot_formulas, step_fits, MeasureFits, operation_fits, choice_fits}
 
 -- Components
@@ -79,7 +79,7 @@ form_step : (count : ℕ) (y : Form-F (AForm count) (ASuffix count) (AnExpr coun
     → FormFits count (roll-Form (map-Form (AForm count) (ASuffix count) (AnExpr count) Form Suffix Expr (λ e. e.0) (λ e. e.0) (λ e. e.0) y))
 form_step count (Form-F.Ref name suffixes) = form_rolled count _ (λ place known h.
     slot_formulas count (named (map suffix_step (map (λ (e : ASuffix count). e.0) suffixes)) (component known name.id)).slots (named_fits count suffixes (component known name.id) (component_fits count known name.id h)))
-form_step count (Form-F.Literal kind width number) = form_rolled count _ (λ place known h. (fixed_is count (capped (literal_width kind (integer_of_number number) width)), tt))
+form_step count (Form-F.Literal kind width number) = form_rolled count _ (λ place known h. (fixed_is count (capped (literal_bits kind (integer_of_number number) width)), tt))
 form_step count (Form-F.Prim op operands params) = form_rolled count _ (λ place known h.
     (operation_fits count op (map (λ (among : Among). among known) (map measured (map (λ (e : AnExpr count). e.0) operands))) params (all_fit count operands known h), tt))
 form_step count (Form-F.Mux operands) = form_rolled count _ (λ place known h.

@@ -63,10 +63,10 @@ abbrev pub least_holding : Kind → ℤ → ℕ → ℕ → ℕ
 least_holding kind n from zero = from
 least_holding kind n from (suc more) = if holds kind from n then from else least_holding kind n (suc from) more
 
--- A literal has the width that it gives, or the least from 1 on that holds it. It is at most 129.
-abbrev pub literal_width : Kind → ℤ → Option ℕ → ℕ
-literal_width kind n (Some width) = width
-literal_width kind n None = least_holding kind n 1 128
+-- The bits of a literal's width: those that it gives, or the least from 1 on that hold it. They are at most 129, which is over the limit.
+abbrev pub literal_bits : Kind → ℤ → Option ℕ → ℕ
+literal_bits kind n (Some width) = width
+literal_bits kind n None = least_holding kind n 1 128
 
 -- the one formula of what is no bundle and no vector
 abbrev pub lone : List Formula → Formula
@@ -102,7 +102,7 @@ measured_reference sized = record { part = sized.part; formulas = map formula_of
 abbrev pub of_form : Form-F (Place → Among) (Component → Component) Among → Place → Among
 of_form (Form-F.Ref name suffixes) place known = measured_reference (named suffixes (component known name.id))
 of_form (Form-F.Literal kind width number) place known =
-    record { part = source_of (ground place kind width); formulas = formula.Fixed (capped (literal_width kind (integer_of_number number) width)) ∷ [] }
+    record { part = source_of (ground place kind width); formulas = formula.Fixed (capped (literal_bits kind (integer_of_number number) width)) ∷ [] }
 of_form (Form-F.Prim op operands params) place known = operation op place (map (λ e. e known) operands) params
 of_form (Form-F.Mux operands) place known = choice (map (λ e. e known) operands)
 

@@ -6,7 +6,7 @@ ghost use Rattle.prim_ops.specs.Kinds.{row_kind};
 ghost use Rattle.circuit_parts.specs.Parts.{source_of, no_part};
 ghost use Rattle.circuit_parts.specs.Kinds.{sign_of, ground, sign_or_unsigned};
 ghost use Rattle.width_rules.specs.Places.{capped};
-ghost use Rattle.width_rules.specs.Sources.{component, component_or_none, named, measured, measured_reference, suffix_step, formula_of, literal_width, lone, kind_of, greater_of, choice};
+ghost use Rattle.width_rules.specs.Sources.{component, component_or_none, named, measured, measured_reference, suffix_step, formula_of, literal_bits, lone, kind_of, greater_of, choice};
 ghost use Rattle.width_rules.specs.Parts.{measured_by, formula_over};
 ghost use Rattle.width_rules.specs.Pieces.{slots_in};
 ghost use Rattle.width_rules.specs.Targets.{has_variable, has_target};
@@ -299,7 +299,7 @@ fn single(
 /// The width that a literal gives, or the least that holds it, at most 129. It is 129 for a negative `UInt`, which no
 /// circuit without a fault has.
 pub fn width_of(kind: Kind, width: Option<u128>, number: Number) -> u128
-    ensures { result ≡ literal_width kind (integer_of_number number) width }
+    ensures { result ≡ literal_bits kind (integer_of_number number) width }
 {
     match width {
         Some(width) => width,
