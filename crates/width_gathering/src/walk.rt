@@ -204,7 +204,13 @@ fn connect(
         formulas,
     } = measure_expr(alloc, scope(found), left)?;
     let right = measure_expr(alloc, scope(found), right)?;
-    push_connected(alloc, &mut found.rules, &known.typ, formulas, right.formulas)
+    push_connected(
+        alloc,
+        &mut found.rules,
+        &known.typ,
+        formulas,
+        right.formulas,
+    )
 }
 
 fn invalidate(alloc: Global, found: &mut Found<'_>, target: &Expr) -> Result<(), AllocError>

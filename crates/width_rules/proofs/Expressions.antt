@@ -1,26 +1,23 @@
 -- Expressions over their parts, and references step by step.
-use Rattle.std.proofs.Common.{◌≡◌, ℕ, ◌+◌, ◌≤◌, ◌<◌, List, [], ◌∷◌, ◌++◌, map, length, take, get_or, zip, find, ◌==◌, Some, None, sym, ap, ap₂, ◌∙◌, arith}
+use Rattle.std.proofs.Common.{◌≡◌, ℕ, ◌+◌, ◌≤◌, ◌<◌, List, [], ◌∷◌, ◌++◌, map, length, take, get_or, zip, None, sym, ap, ap₂, ◌∙◌, arith}
 use Rattle.std.proofs.lemmas.Grind.{common_steps}
 use Rattle.std.proofs.lemmas.List.{map-append, take_more}
 use Rattle.std.proofs.lemmas.List.Sums.{fold-append}
 use Rattle.std.proofs.lemmas.Simd.{map-map}
 use Rattle.bit_words.specs.declared.value.Kind.{Kind}
 use Rattle.prim_ops.specs.declared.operation.PrimOp.{PrimOp}
-use Rattle.fir_types.specs.declared.fir_type.FirType.{the_lemmas as the_type_lemmas}
-use Rattle.fir_types.specs.declared.fir_type.Shape.TheVariants as shape
-use Rattle.fir_types.specs.declared.fir_type.Field.{Field}
+use Rattle.prim_ops.specs.Kinds.{row_kind}
+use Rattle.fir_types.specs.declared.fir_type.FirType.{FirType}
 use Rattle.fir_types.specs.declared.name.Name.{Name}
 use Rattle.fir_tree.specs.declared.expr.Expr.{Expr, the_lemmas}
 use Rattle.fir_tree.specs.declared.expr.Suffix.{Suffix}
 use Rattle.fir_tree.specs.declared.expr.Form.TheVariants as form
-use Rattle.circuit_parts.specs.declared.part.Flow.{Flow}
-use Rattle.circuit_parts.specs.Parts.{source_of, flow_through}
-use Rattle.width_rules.specs.declared.slot.Slot.{Slot}
+use Rattle.circuit_parts.specs.Parts.{source_of}
+use Rattle.circuit_parts.specs.Kinds.{ground, sign_or_unsigned}
 use Rattle.width_rules.specs.declared.rule.Formula.{Formula}
-use Rattle.width_rules.specs.Places.{field_slots}
 use Rattle.width_rules.specs.declared.component.Component.{Component}
-use Rattle.width_rules.specs.Sources.{Known, Measured, measured, measured_reference, component, suffix_step, field_step, named, kind_of, lone, operation, choice, greater_of}
-use Rattle.width_rules.specs.Parts.{operation_over}
+use Rattle.width_rules.specs.Sources.{Known, Measured, measured, measured_reference, component, suffix_step, named, kind_of, lone, operation, choice, greater_of}
+use Rattle.width_rules.specs.Parts.{formula_over, operation_over}
 
 pub measured-ref : (e : Expr) (name : Name) (suffixes : List Suffix) (known : Known) → e.form ≡ form.Ref name suffixes → measured e known ≡ measured_reference (named (map suffix_step suffixes) (component known name.id))
 measured-ref e name suffixes known h = grind (arith, common_steps, the_lemmas)
@@ -55,24 +52,12 @@ named_more suffixes i s base before after lt is h a =
     = ap (map suffix_step) (take_more suffixes i s lt) ∙ map-append suffix_step (take i suffixes) (get_or suffixes i s ∷ []) ∙ ap (λ y. map suffix_step (take i suffixes) ++ suffix_step y ∷ []) (sym is) in
     a ∙ ap (suffix_step s) h ∙ sym (ap (λ steps. named steps base) next ∙ fold-append (λ part step. step part) base (map suffix_step (take i suffixes)) (suffix_step s ∷ []))
 
--- a step to a field, where there is one and where there is none
-
-pub field_found : (name : ℕ) (base : Component) (fs : List Field) (f : Field) (flow : Flow) (slots : List Slot) → base.part.typ.shape ≡ shape.Bundle fs
-    → find (λ x. x.name.id == name) fs ≡ Some f → flow ≡ flow_through f.flip base.part.flow → slots ≡ field_slots name fs base.slots
-    → record { part = record { typ = f.typ; flow = flow }; slots = slots } ≡ field_step name base
-field_found name base fs f flow slots is found turns own =
-    grind (arith, common_steps, the_type_lemmas)
-
-pub field_missing : (name : ℕ) (base : Component) (fs : List Field) (slots : List Slot) → base.part.typ.shape ≡ shape.Bundle fs
-    → find (λ x. x.name.id == name) fs ≡ None → slots ≡ field_slots name fs base.slots → record { part = base.part; slots = slots } ≡ field_step name base
-field_missing name base fs slots is none own =
-    grind (arith, common_steps, the_type_lemmas)
-
 -- an operation over what was found of its operands
-pub prim_told : (e : Expr) (op : PrimOp) (operands : List Expr) (params ps : List ℕ) (known : Known) (kinds : List Kind) (formulas : List Formula) → e.form ≡ form.Prim op operands params
-    → kinds ≡ map (λ x. kind_of (measured x known)) operands → formulas ≡ map (λ x. lone (measured x known).formulas) operands → ps ≡ params
-    → operation_over op e.place kinds formulas ps ≡ measured e known
-prim_told e op operands params ps known kinds formulas h k f p =
-    ap₂ (λ ks fs. operation_over op e.place ks fs ps) k f
+pub prim_told : (e : Expr) (op : PrimOp) (operands : List Expr) (params ps : List ℕ) (known : Known) (kinds : List Kind) (formulas : List Formula) (typ : FirType) (own : Formula)
+    → e.form ≡ form.Prim op operands params → kinds ≡ map (λ x. kind_of (measured x known)) operands → formulas ≡ map (λ x. lone (measured x known).formulas) operands → ps ≡ params
+    → typ ≡ ground e.place (sign_or_unsigned (row_kind op kinds)) None → own ≡ formula_over op kinds formulas ps → record { part = source_of typ; formulas = own ∷ [] } ≡ measured e known
+prim_told e op operands params ps known kinds formulas typ own h k f p t o =
+    ap₂ (λ typ own. record { part = source_of typ; formulas = own ∷ [] }) t o
+    ∙ ap₂ (λ ks fs. operation_over op e.place ks fs ps) k f
     ∙ ap (operation_over op e.place (map (λ x. kind_of (measured x known)) operands) (map (λ x. lone (measured x known).formulas) operands)) p
     ∙ sym (measured-prim e op operands params known h)

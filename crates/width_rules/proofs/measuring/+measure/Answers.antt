@@ -1,22 +1,15 @@
-use Rattle.std.proofs.Common.{rules, arith, ◌≡◌, ap₂, ◌∙◌, [], ◌∷◌, None}
+use Rattle.std.proofs.Common.{rules, arith, ◌≡◌, subst, IfOk}
 use Rattle.std.proofs.lemmas.Grind.{common_steps}
-use Rattle.std.proofs.lemmas.Result.{IfOk-weaker}
-use Rattle.prim_ops.specs.Kinds.{row_kind}
-use Rattle.circuit_parts.specs.Parts.{source_of}
-use Rattle.circuit_parts.specs.Kinds.{ground, sign_or_unsigned}
 use Rattle.width_rules.specs.Sources.{measured}
-use Rattle.width_rules.specs.Parts.{formula_over}
+use Rattle.width_rules.specs.Parts.{measured_by}
 use Rattle.width_rules.proofs.Expressions.{prim_told, measured-mux, choice_of_three}
 use Rattle.width_rules.proofs.measuring.+measure.Goals as goal
 
 pub measure_expr-returns-in_ok-formula-in-Prim : goal.measure_expr-returns-in_ok-formula-in-Prim
 measure_expr-returns-in_ok-formula-in-Prim t c =
     let e = prim_told c.args.expr.now c.in-Prim.prim c.in-Prim.operands c.in-Prim.params c.in_ok-params-in-Prim.params c.args.scope.known.now.entries c.measure_operands.new.kinds c.measure_operands.new.formulas
-    c.in-Prim.is (search rules) (search rules) (search rules) in
-    let kinds = c.measure_operands.new.kinds in
-    let typed : c.operation_type-typ.result ≡ ground c.args.expr.now.place (sign_or_unsigned (row_kind c.in-Prim.prim kinds)) None = search rules in
-    let formed : c.in_ok-formula-in-Prim.formula ≡ formula_over c.in-Prim.prim kinds c.measure_operands.new.formulas c.in_ok-params-in-Prim.params = search rules in
-    IfOk-weaker c.single-in-Prim.result _ _ (λ m is. is ∙ ap₂ (λ typ formula. record { part = source_of typ; formulas = formula ∷ [] }) typed formed ∙ e) c.single-in-Prim.ensures
+    c.operation_type-typ.result c.in_ok-formula-in-Prim.formula c.in-Prim.is (search rules) (search rules) (search rules) (search rules) (search rules) in
+    subst (λ x. IfOk c.single-in-Prim.result (λ m. measured_by m ≡ x)) e c.single-in-Prim.ensures
 
 pub measure_expr-returns-in-Mux : goal.measure_expr-returns-in-Mux
 measure_expr-returns-in-Mux t c =
