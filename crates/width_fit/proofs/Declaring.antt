@@ -26,7 +26,7 @@ use Rattle.width_fit.specs.declared.walk.Walk.{Walk}
 use Rattle.type_filling.specs.Filling.{filled}
 use Rattle.width_fit.specs.Judging.{Solved, survey, slot_width, is_over, is_unknown, where_, component_faults, condition_faults, asks, of_storage, of_memory, of_node}
 use Rattle.width_fit.specs.Surveys.{kept, condition_over, Adds}
-use Rattle.width_fit.specs.Fits.{Fits}
+use Rattle.part_fits.specs.Fits.{Fits}
 use Rattle.width_fit.specs.Walks.{Walks, of_instance_among}
 use Rattle.width_fit.proofs.Formulas.{lone-kept}
 use Rattle.width_fit.proofs.Measured.{same_measured}

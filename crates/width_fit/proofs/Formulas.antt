@@ -1,5 +1,5 @@
 -- The widths of formulas, and of what is kept of operands.
-use Rattle.std.proofs.Common.{◌≡◌, ℕ, zero, suc, nat_eq, ◌&&◌, Bool, true, false, is_some, if◌then◌else◌, List, [], ◌∷◌, map, zip, length, get_or, drop, min, ◌≤◌, ◌++◌, append-nil, refl, sym, ap, ap₂, ◌∙◌, arith}
+use Rattle.std.proofs.Common.{◌≡◌, ℕ, zero, suc, nat_eq, ◌&&◌, Bool, true, false, is_some, if◌then◌else◌, List, [], ◌∷◌, map, zip, length, refl, sym, ap, ap₂, ◌∙◌, arith}
 use Rattle.std.proofs.lemmas.Grind.{common_steps}
 use Rattle.std.proofs.lemmas.Simd.{map-map}
 use Rattle.bit_words.specs.declared.value.Kind.{Kind}
@@ -8,7 +8,7 @@ use Rattle.prim_ops.specs.declared.widths.Width.{Width}
 use Rattle.prim_ops.specs.declared.widths.Width.TheVariants.{Bits, Over}
 use Rattle.prim_ops.specs.Operations.{arity_of}
 use Rattle.prim_ops.specs.Kinds.{row_kind}
-use Rattle.prim_ops.specs.Widths.{bounded, row_width}
+use Rattle.prim_ops.specs.Widths.{row_width}
 use Rattle.place_text.specs.declared.place.Place.{Place}
 use Rattle.width_rules.specs.declared.slot.Slot.{Slot}
 use Rattle.width_rules.specs.declared.slot.Slot.TheVariants as slot
@@ -17,14 +17,10 @@ use Rattle.width_rules.specs.declared.rule.Formula.TheVariants as formula
 use Rattle.width_rules.specs.Formulas.{wider, greatest, width_under}
 use Rattle.width_rules.specs.Sources.{Measured, formula_of, lone, kind_of, operation, greater_of, choice, measured_reference}
 use Rattle.width_rules.specs.declared.component.Component.{Component}
-use Rattle.width_fit.specs.Judging.{Survey, slot_width, widths_of, lone_width}
-use Rattle.width_fit.specs.Surveys.{kept, lone_of, kept_kind, kept_width, operated, wider_of, chosen}
-
-pub width-fixed : (n : ℕ) (ws : List Width) → width_under (formula.Fixed n) ws ≡ bounded n
-width-fixed n ws = grind (arith, common_steps, the_lemmas)
-
-pub width-var : (x : ℕ) (ws : List Width) → width_under (formula.Var x) ws ≡ get_or ws x (Bits 0)
-width-var x ws = grind (arith, common_steps, the_lemmas)
+use Rattle.part_fits.proofs.Slots.{width-fixed}
+use Rattle.part_fits.specs.Widths.{slot_width, wider_of}
+use Rattle.width_fit.specs.Judging.{Survey, widths_of, lone_width}
+use Rattle.width_fit.specs.Surveys.{kept, lone_of, kept_kind, kept_width, operated, chosen}
 
 width-op : (prim : PrimOp) (kinds : List Kind) (parts : List Formula) (params : List ℕ) (ws : List Width)
     → width_under (formula.Op prim kinds parts params) ws ≡ row_width prim kinds (map (λ f. width_under f ws) parts) params
@@ -32,12 +28,6 @@ width-op prim kinds parts params ws = grind (arith, common_steps, the_lemmas, ma
 
 width-greatest : (parts : List Formula) (ws : List Width) → width_under (formula.Greatest parts) ws ≡ greatest (map (λ f. width_under f ws) parts)
 width-greatest parts ws = grind (arith, common_steps, the_lemmas, map-map)
-
-pub slot-fixed : (ws : List Width) (s : Slot) (n : ℕ) → s ≡ slot.Fixed n → slot_width ws s ≡ bounded n
-slot-fixed ws s n is = ap (slot_width ws) is ∙ width-fixed n ws
-
-pub slot-var : (ws : List Width) (s : Slot) (x : ℕ) → s ≡ slot.Var x → slot_width ws s ≡ get_or ws x (Bits 0)
-slot-var ws s x is = ap (slot_width ws) is ∙ width-var x ws
 
 -- the widths of a reference
 pub reference-widths : (ws : List Width) (sized : Component) → widths_of ws (measured_reference sized) ≡ map (slot_width ws) sized.slots
@@ -99,23 +89,3 @@ chosen_is ws place (a ∷ b ∷ []) = refl
 chosen_is ws place (a ∷ b ∷ c ∷ []) =
     ap (λ l. record { place = place; part = (choice (a.measured ∷ b.measured ∷ c.measured ∷ [])).part; widths = l }) (greater-widths ws b.measured.formulas c.measured.formulas)
 chosen_is ws place (a ∷ b ∷ c ∷ d ∷ all) = refl
-
--- the widths of the shorter list are all compared
-abbrev the_none : List Width
-the_none = []
-
-none_with : (vs : List Width) → zip vs (the_none) ≡ []
-none_with [] = refl
-none_with (w ∷ vs) = refl
-
-none_left : (first second : List Width) (n : ℕ) → min (length first) (length second) ≤ n → zip (drop n first) (drop n second) ≡ []
-none_left [] second zero le = refl
-none_left [] second (suc n) le = refl
-none_left (v ∷ first) [] zero le = refl
-none_left (v ∷ first) [] (suc n) le = none_with (drop n first)
-none_left (v ∷ first) (w ∷ second) zero le = absurd (omega (arith, le))
-none_left (v ∷ first) (w ∷ second) (suc n) le = none_left first second n (omega (arith, le))
-
-pub all_compared : (first second : List Width) (n : ℕ) (greater : List Width) → min (length first) (length second) ≤ n
-    → map wider_of (zip first second) ≡ greater ++ map wider_of (zip (drop n first) (drop n second)) → greater ≡ map wider_of (zip first second)
-all_compared first second n greater le is = sym (is ∙ ap (λ l. greater ++ map wider_of l) (none_left first second n le) ∙ append-nil greater)

@@ -1,4 +1,3 @@
-mod Cuts
 mod Declaring
 pub mod Filled
 mod Formulas
@@ -7,7 +6,7 @@ pub mod Measured
 mod FaultsTold
 mod Surveys
 mod Walking
-mod Parts
 mod Looking
+mod Choosing
 mod MemoryTypes
 mod Whole

@@ -37,10 +37,10 @@ use Rattle.type_filling.specs.Filling.{taking, filled}
 use Rattle.type_filling.specs.Layers.{shape_taking, field_taking, fields_taking}
 use Rattle.width_fit.specs.Judging.{slot_width, is_over}
 use Rattle.width_fit.specs.Memories.{line_with, memory_with}
-use Rattle.width_fit.specs.declared.fits.Fit.{Fit}
-use Rattle.width_fit.specs.Fits.{Fits}
+use Rattle.part_fits.specs.declared.fits.Fit.{Fit}
+use Rattle.part_fits.specs.Fits.{Fits}
 use Rattle.width_fit.proofs.Declaring.{any-map}
-use Rattle.width_fit.proofs.Filled.{fills, shape_spots}
+use Rattle.part_fits.proofs.Filled.{fills, shape_spots}
 
 -- A mask forgets the widths of what it is the mask of.
 

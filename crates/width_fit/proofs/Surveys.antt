@@ -25,7 +25,7 @@ use Rattle.fir_tree.specs.declared.expr.Suffix.{Suffix}
 use Rattle.circuit_parts.specs.Parts.{source_of}
 use Rattle.circuit_parts.specs.Kinds.{no_type, ground}
 use Rattle.width_rules.specs.Sources as sources
-use Rattle.width_rules.specs.Sources.{Known, Measured, named, component, measured_reference, literal_width, operation, choice}
+use Rattle.width_rules.specs.Sources.{Known, Measured, named, component, measured_reference, literal_bits, operation, choice}
 use Rattle.width_fit.specs.declared.fault.WidthFault.{WidthFault}
 use Rattle.width_fit.specs.declared.found.Findings.{Findings}
 use Rattle.width_fit.specs.declared.found.Surveyed.{Surveyed}
@@ -53,7 +53,7 @@ survey-prim : (ws : List Width) (e : Expr) (prim : PrimOp) (es : List Expr) (par
     → survey ws e known ≡ operation_survey ws prim e.place params (all_surveys ws known es)
 survey-prim ws e prim es params known is = grind (arith, common_steps, the_lemmas, map-map)
 
-survey-mux : (ws : List Width) (e : Expr) (es : List Expr) (known : Known) → e.form ≡ form.Mux es
+pub survey-mux : (ws : List Width) (e : Expr) (es : List Expr) (known : Known) → e.form ≡ form.Mux es
     → survey ws e known ≡ choice_survey ws e.place (all_surveys ws known es)
 survey-mux ws e es known is = grind (arith, common_steps, the_lemmas, map-map)
 
@@ -147,7 +147,7 @@ parameters_is ws prim place params [] = refl
 parameters_is ws prim place params (s ∷ []) = ap (λ w. parameters_over prim place params (w ∷ [])) (lone-kept ws s)
 parameters_is ws prim place params (s ∷ t ∷ all) = refl
 
-conditions_is : (ws : List Width) (all : List Survey) → first_condition (map (kept ws) all) ≡ choice_faults ws all
+pub conditions_is : (ws : List Width) (all : List Survey) → first_condition (map (kept ws) all) ≡ choice_faults ws all
 conditions_is ws [] = refl
 conditions_is ws (s ∷ all) = ap (λ w. first_condition (record { place = s.place; part = s.measured.part; widths = w ∷ [] } ∷ [])) (lone-kept ws s)
 
@@ -190,14 +190,14 @@ mux_adds ws e es known held a b c is holds h nodes faults =
 
 -- Literals
 
-pub literal_is : (ws : List Width) (kind : Sign) (width : Option ℕ) (number : Number) (place : Place) (bits : ℕ) (w : Width) → bits ≡ literal_width kind (integer_of_number number) width → w ≡ bounded bits
+pub literal_is : (ws : List Width) (kind : Sign) (width : Option ℕ) (number : Number) (place : Place) (bits : ℕ) (w : Width) → bits ≡ literal_bits kind (integer_of_number number) width → w ≡ bounded bits
     → record { place = place; part = source_of (ground place kind width); widths = w ∷ [] } ≡ kept ws (literal_survey ws kind width number place)
 literal_is ws kind width number place bits w is bound =
     ap (λ v. record { place = place; part = source_of (ground place kind width); widths = v ∷ [] })
-    (bound ∙ ap bounded is ∙ sym (width-capped (literal_width kind (integer_of_number number) width) ws))
+    (bound ∙ ap bounded is ∙ sym (width-capped (literal_bits kind (integer_of_number number) width) ws))
 
 pub literal_adds : (ws : List Width) (kind : Sign) (width : Option ℕ) (number : Number) (place : Place) (bits : ℕ) (w : Width) (old new : List WidthFault)
-    → bits ≡ literal_width kind (integer_of_number number) width → w ≡ bounded bits → new ≡ old ++ over_faults place (w ∷ [])
+    → bits ≡ literal_bits kind (integer_of_number number) width → w ≡ bounded bits → new ≡ old ++ over_faults place (w ∷ [])
     → new ≡ old ++ (literal_survey ws kind width number place).faults
 literal_adds ws kind width number place bits w old new is bound h =
     h ∙ ap (λ k. old ++ over_faults place k.widths) (literal_is ws kind width number place bits w is bound)

@@ -25,7 +25,7 @@ use Rattle.width_rules.specs.declared.slot.Slot.TheVariants as slot
 use Rattle.width_rules.specs.declared.rule.Rule.{Rule}
 use Rattle.width_rules.specs.Formulas.{level, width_under}
 use Rattle.width_rules.specs.Places.{capped, spots, size, slots_from, open_spots, node_slots}
-use Rattle.width_rules.specs.Sources.{Known, Measured, measured_reference, component, named, field_step, element_step, operation, choice, literal_width, formula_of, lone}
+use Rattle.width_rules.specs.Sources.{Known, Measured, measured_reference, component, named, field_step, element_step, operation, choice, literal_bits, formula_of, lone}
 use Rattle.circuit_parts.specs.Parts.{source_of}
 use Rattle.circuit_parts.specs.Kinds.{ground}
 use Rattle.bit_words.specs.declared.value.Kind.{Kind as Sign}
@@ -38,19 +38,12 @@ use Rattle.width_rules.specs.Circuits.{declares as storage}
 use Rattle.width_fit.specs.declared.fault.WidthFault.TheVariants.{WidthUnknown, WidthOver, ParameterRange, ConditionWidth}
 use Rattle.width_fit.specs.declared.fault.WidthFault.{WidthFault}
 use Rattle.type_filling.specs.Filling.{filled}
+pub use Rattle.part_fits.specs.Widths.{slot_width, is_over}
 
 -- What is known of all widths: those of the variables, and the rules.
 pub record Solved : Type 0 where
   pub widths : List Width
   pub rules : List Rule
-
--- the width of a component's place, and of a formula
-abbrev pub slot_width : List Width → Slot → Width
-slot_width widths s = width_under (formula_of s) widths
-
-abbrev pub is_over : Width → Bool
-is_over (Bits n) = false
-is_over Over = true
 
 abbrev pub where_ : Bool → WidthFault → List WidthFault
 where_ true fault = fault ∷ []
@@ -123,7 +116,7 @@ pub record Step : Type 0 where
 
 abbrev pub measured_literal : Sign → Option ℕ → Number → Place → Measured
 measured_literal kind width number place =
-    record { part = source_of (ground place kind width); formulas = formula.Fixed (capped (literal_width kind (integer_of_number number) width)) ∷ [] }
+    record { part = source_of (ground place kind width); formulas = formula.Fixed (capped (literal_bits kind (integer_of_number number) width)) ∷ [] }
 
 abbrev pub of_form : List Width → Form-F (Place → Among) Step Among → Place → Among
 of_form widths (Form-F.Ref name suffixes) place known =

@@ -8,6 +8,6 @@ pub mod Surveys
 pub mod Marks
 pub mod Memories
 pub mod Walks
-pub mod Fits
 pub mod Held
+pub mod Looks
 pub mod Ranks

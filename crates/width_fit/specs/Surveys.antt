@@ -15,14 +15,15 @@ use Rattle.prim_ops.specs.Widths.{row_width}
 use Rattle.circuit_parts.specs.Parts.{source_of, no_part}
 use Rattle.circuit_parts.specs.Kinds.{sign_of, ground, sign_or_unsigned}
 use Rattle.width_rules.specs.declared.component.Component.{Component}
-use Rattle.width_rules.specs.Formulas.{level, wider}
+use Rattle.width_rules.specs.Formulas.{level}
 use Rattle.width_rules.specs.Sources.{Known, operation, choice, measured_reference, named, component}
 use Rattle.width_fit.specs.declared.fault.WidthFault.{WidthFault}
 use Rattle.width_fit.specs.declared.fault.WidthFault.TheVariants.{WidthOver, ParameterRange, ConditionWidth}
 use Rattle.width_fit.specs.declared.found.Findings.{Findings}
 use Rattle.width_fit.specs.declared.found.Surveyed.{Surveyed}
 use Rattle.type_filling.specs.Filling.{filled}
-use Rattle.width_fit.specs.Judging.{Survey, survey, surveyed, suffix_step, measured_literal, slot_width, widths_of, where_, is_over, fit_width, parameter_faults, choice_faults}
+use Rattle.part_fits.specs.Widths.{slot_width, is_over, wider_of}
+use Rattle.width_fit.specs.Judging.{Survey, survey, surveyed, suffix_step, measured_literal, widths_of, where_, fit_width, parameter_faults, choice_faults}
 
 -- what is kept of a survey
 abbrev pub kept : List Width → Survey → Surveyed
@@ -69,9 +70,6 @@ width_in_row prim kinds widths params = if is_some (row_kind prim kinds) && nat_
 abbrev pub operated : PrimOp → Place → List Sign → List Width → List ℕ → Surveyed
 operated prim place kinds widths params =
     record { place = place; part = source_of (ground place (sign_or_unsigned (row_kind prim kinds)) None); widths = width_in_row prim kinds widths params ∷ [] }
-
-abbrev pub wider_of : Width × Width → Width
-wider_of both = wider both.0 both.1
 
 abbrev pub chosen : Place → List Surveyed → Surveyed
 chosen place (condition ∷ first ∷ second ∷ []) = record { place = place; part = source_of first.part.typ; widths = map wider_of (zip first.widths second.widths) }

@@ -7,6 +7,7 @@ ghost use Rattle.width_fit.specs.Judging.{where_, is_over, fit_on, fit_width};
 ghost use Rattle.width_fit.specs.Surveys.{lone_of, condition_over, parameters_over};
 
 use crate::fault::WidthFault;
+use part_fits::widths::any_over;
 use place_text::Place;
 use prim_ops::{Prim, Width};
 use std::alloc::AllocError;
@@ -35,27 +36,6 @@ pub fn push_over(
     ensures { OnOk result (faults.new.items ≡ faults.old.items ++ where_ (list_any is_over widths.now) (WidthOver place)) }
 {
     push_where(faults, any_over(widths), WidthFault::WidthOver(place))
-}
-
-/// Whether one of the widths is over the limit.
-pub fn any_over(widths: &[Width]) -> bool
-    ensures { result ≡ list_any is_over widths.now }
-{
-    for width in widths {
-        if is_over(*width) {
-            return true;
-        }
-    }
-    false
-}
-
-fn is_over(width: Width) -> bool
-    ensures { result ≡ is_over width }
-{
-    match width {
-        Width::Bits(_) => false,
-        Width::Over => true,
-    }
 }
 
 /// Adds a fault where a condition at this place has more than one bit.

@@ -3,11 +3,12 @@
 ghost use Rattle.std.specs.Prelude.{◌≡◌, ℕ, nat_eq, ◌||◌, false, get_or, IfOk, OnOk};
 ghost use Rattle.width_fit.specs.Judging.{is_unknown};
 ghost use Rattle.width_rules.specs.Sources.{component};
-ghost use Rattle.width_fit.specs.Fits.{Fits, AreFits, AreFits-prop};
+ghost use Rattle.part_fits.specs.Fits.{Fits, AreFits, AreFits-prop};
 ghost use Rattle.width_fit.specs.Marks.{Marks};
 
-use crate::fits::Fit;
+use part_fits::fits::Fit;
 use crate::instances::fit_of_component;
+use fir_tree::Names;
 use indexmap::IndexMap;
 use prim_ops::Width;
 use std::alloc::{AllocError, Global};
@@ -23,9 +24,10 @@ pub struct Instances {
     pub fits: IndexMap<u32, Fit>,
 }
 
-/// The widths of the variables, the rules, and the instances of modules.
+/// The names, the widths of the variables, the rules, and the instances of modules.
 #[derive(Drop)]
 pub struct Given<'a> {
+    pub names: &'a Names,
     pub widths: &'a [Width],
     pub rules: &'a [Rule],
     pub instances: Instances,
@@ -39,6 +41,7 @@ impl<'a> Given<'a> {
     /// Takes time and memory in proportion to the rules and the variables.
     pub fn new(
         alloc: Global,
+        names: &'a Names,
         widths: &'a [Width],
         rules: &'a [Rule],
         instances: Instances,
@@ -50,6 +53,7 @@ impl<'a> Given<'a> {
     {
         let marks = marks_of(alloc, rules)?;
         Ok(Given {
+            names,
             widths,
             rules,
             instances,

@@ -2,10 +2,10 @@
 
 ghost use Rattle.std.specs.Prelude.{IfOk};
 ghost use Rattle.width_rules.specs.Sources.{component};
-ghost use Rattle.width_fit.specs.Fits.{Fits, AreFits};
+ghost use Rattle.part_fits.specs.Fits.{Fits, AreFits};
 
-use crate::fits::{Fit, fit_of};
-use crate::widths::widths_in;
+use part_fits::fits::{Fit, fit_of};
+use part_fits::widths::widths_in;
 use indexmap::IndexMap;
 use prim_ops::Width;
 use std::alloc::{AllocError, Global};
@@ -42,6 +42,6 @@ pub fn fit_of_component(
     ensures { IfOk result (λ fit. Fits widths.now component.now fit.typ fit.is_over) }
 {
     let found = widths_in(alloc, widths, component.slots())?;
-    let fitted = filled(alloc, &component.part().typ, found.as_slice())?;
+    let fitted = filled(alloc, component.known().typ, found.as_slice())?;
     fit_of(&fitted, &found)
 }

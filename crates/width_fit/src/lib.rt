@@ -4,7 +4,6 @@
 
 pub mod fault;
 mod faults;
-mod fits;
 mod found;
 mod given;
 mod instances;
@@ -14,6 +13,7 @@ mod memories;
 mod survey;
 mod telling;
 mod walk;
+mod wide;
 mod widths;
 
 pub use fault::WidthFault;

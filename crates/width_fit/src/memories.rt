@@ -7,8 +7,8 @@ ghost use Rattle.width_rules.specs.Targets.{is_port};
 ghost use Rattle.width_fit.specs.Judging.{is_over};
 ghost use Rattle.width_fit.specs.Memories.{line_with, memory_with};
 
-use crate::faults::any_over;
-use crate::fits::Fit;
+use part_fits::widths::any_over;
+use part_fits::fits::Fit;
 use bit_words::List;
 use fir_types::{FirType, MemLine, Memory, copy, memory_type};
 use prim_ops::Width;

@@ -11,7 +11,8 @@ ghost use Rattle.width_fit.specs.Surveys.{kept, all_surveys, index_surveys, refe
 use crate::fault::WidthFault;
 use crate::faults::{push_condition, push_over, push_parameters};
 use crate::found::{Findings, Surveyed};
-use crate::widths::{kinds_of, lone_widths, wider_each, width_in_row, widths_in};
+use crate::widths::{kinds_of, lone_widths, width_in_row};
+use part_fits::widths::{wider_each, widths_in};
 use bit_words::{Kind, List, Number};
 use circuit_parts::Part;
 use circuit_parts::kinds::{ground, no_type};
@@ -51,7 +52,7 @@ pub fn survey_expr(
 
 /// The same without the fitted type of the node itself.
 #[cycle(survey)]
-fn survey_form(
+pub fn survey_form(
     alloc: Global,
     widths: &[Width],
     known: &IndexMap<u32, Indexed>,
@@ -175,7 +176,7 @@ fn reference(
     Ok(Surveyed {
         place,
         part: Part {
-            typ: copy(view.typ)?,
+            typ: copy(view.known.typ)?,
             flow: view.flow,
         },
         widths: widths_in(alloc, widths, view.slots)?,

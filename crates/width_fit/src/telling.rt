@@ -10,12 +10,13 @@ ghost use Rattle.width_fit.specs.Judging.{told_of, slot_width, component_faults,
 ghost use Rattle.width_fit.specs.Walks.{solved, module_among, told_among, WalksModule, WalksAll};
 ghost use Rattle.width_fit.specs.Held.{HoldsFits};
 
-use crate::fits::{declare, fit_of};
+use part_fits::choices::Choices;
+use part_fits::fits::{declare, fit_of};
 use crate::found::Findings;
 use crate::given::{Given, Instances};
 use crate::instances::fits_of_instances;
 use crate::walk::{Walk, push_component, walk_statements};
-use crate::widths::slot_widths;
+use part_fits::widths::slot_widths;
 use bit_words::List;
 use circuit_parts::Part;
 use circuit_parts::steps::port_flow;
@@ -52,12 +53,15 @@ pub fn tell(
             made: Made::new(alloc),
         },
         fits: IndexMap::new(alloc),
+        choices: Choices::new(alloc),
     };
     let modules = with_ports(alloc, &mut walk.places, checked.circuit.modules.as_slice())?;
-    let components = instances_of(alloc, modules.as_slice())?;
+    let names = &checked.circuit.names;
+    let components = instances_of(alloc, names, modules.as_slice())?;
     let fits = fits_of_instances(alloc, widths.as_slice(), &components, modules.as_slice())?;
     let instances = Instances { components, fits };
-    let given = Given::new(alloc, widths.as_slice(), rules.rules.as_slice(), instances)?;
+    let (widths, rules) = (widths.as_slice(), rules.rules.as_slice());
+    let given = Given::new(alloc, names, widths, rules, instances)?;
     let reached = checked.scope.reached.as_slice();
     walk_modules(alloc, &given, &mut walk, modules, reached)?;
     Ok((walk.declared, walk.found))
@@ -121,6 +125,7 @@ fn walk_module(
 {
     walk.known = IndexMap::new(alloc);
     walk.fits = IndexMap::new(alloc);
+    walk.choices = Choices::new(alloc);
     let ports = held.holder.ports.as_slice();
     declare_ports(alloc, given, walk, ports, held.ports)?;
     walk_statements(alloc, given, walk, held.holder.body.as_slice())
@@ -182,7 +187,7 @@ fn declare_port(
         typ: copy(&port.typ)?,
         flow: port_flow(port),
     };
-    let component = Indexed::new(alloc, part, slots)?;
+    let component = Indexed::new(alloc, given.names, part, slots)?;
     declare(
         &mut walk.known,
         &mut walk.fits,

@@ -8,17 +8,19 @@ ghost use Rattle.width_fit.specs.Held.{HoldsFits};
 
 use crate::fault::WidthFault;
 use crate::faults::{push_condition, push_over, push_where};
-use crate::fits::{Fit, declare, fit_of, part_of};
+use part_fits::fits::{Fit, declare, fit_of, part_of};
 use crate::found::Findings;
 use crate::given::Given;
+use crate::wide::{is_wide, look_among};
 use crate::memories::fit_of_memory;
 use crate::survey::{survey_expr, survey_indexes};
-use crate::widths::slot_widths;
+use part_fits::widths::slot_widths;
 use bit_words::List;
 use circuit_parts::steps::{no_part, source};
 use fir_tree::{Arm, Expr, Form, Stmt};
 use fir_types::{FirType, Memory, Name, copy, element_of};
 use indexmap::IndexMap;
+use part_fits::choices::{Among, Choices};
 use place_text::Place;
 use prim_ops::Width;
 use std::alloc::{AllocError, Global};
@@ -36,6 +38,8 @@ pub struct Walk {
     pub known: IndexMap<u32, Indexed>,
     /// The fitted types of these components, where they have one.
     pub fits: IndexMap<u32, Fit>,
+    /// What references and choices of the module came to.
+    pub choices: Choices,
     /// For each variable so far the place of its component.
     pub places: Vec<Place>,
     /// The fitted types of declarations in text order.
@@ -127,8 +131,8 @@ fn walk_arm(alloc: Global, given: &Given<'_>, walk: &mut Walk, arm: &Arm) -> Res
     walk_statements(alloc, given, walk, arm.body.as_slice())
 }
 
-/// An expression whose widths nobody asks for. The fitted type of a reference is a share of its component's, in time that its
-/// fields don't count for.
+/// An expression whose widths nobody asks for. The fitted type of a reference is a share of its component's, and that of a choice
+/// one that was seen before, in time that their fields don't count for.
 fn look_at(alloc: Global, given: &Given<'_>, walk: &mut Walk, expr: &Expr) -> Result<(), AllocError>
     requires { HoldsFits given.now walk.old }
     ensures walks { OnOk result (Walks (looks_at given.now.widths.now expr.now) walk.old walk.new) }
@@ -142,6 +146,15 @@ fn look_at(alloc: Global, given: &Given<'_>, walk: &mut Walk, expr: &Expr) -> Re
             let over = WidthFault::WidthOver(expr.place);
             return push_where(&mut walk.found.faults, is_over, over);
         }
+    }
+    if is_wide(&walk.known, expr) {
+        let among = Among {
+            alloc,
+            widths: given.widths,
+            known: &walk.known,
+        };
+        look_among(&among, &mut walk.choices, &mut walk.found, expr)?;
+        return Ok(());
     }
     survey_expr(alloc, given.widths, &walk.known, &mut walk.found, expr)?;
     Ok(())
@@ -186,7 +199,7 @@ fn declare_storage(
         widths.as_slice(),
     )?;
     let part = duplex(alloc, typ)?;
-    let component = Indexed::new(alloc, part, slots)?;
+    let component = Indexed::new(alloc, given.names, part, slots)?;
     declare(&mut walk.known, &mut walk.fits, name.id, component, fit)
 }
 
@@ -216,7 +229,7 @@ fn declare_memory(
     let fitted = walk.found.made.fit(alloc, element, widths.as_slice())?;
     let fit = fit_of_memory(alloc, memory, &fitted, widths.as_slice())?;
     walk.declared.push(copy(&fit.typ)?)?;
-    let component = memory_of_slots(alloc, memory, slots)?;
+    let component = memory_of_slots(alloc, given.names, memory, slots)?;
     let name = memory.name.id;
     declare(&mut walk.known, &mut walk.fits, name, component, fit)
 }
@@ -266,7 +279,7 @@ fn declare_node(
         widths.as_slice(),
     )?;
     let part = source(part.typ);
-    let component = Indexed::new(alloc, part, slots)?;
+    let component = Indexed::new(alloc, given.names, part, slots)?;
     declare(&mut walk.known, &mut walk.fits, name.id, component, fit)
 }
 

@@ -1,4 +1,4 @@
-use Rattle.width_fit.specs.Fits.{AreFits}
+use Rattle.part_fits.specs.Fits.{AreFits}
 use Rattle.width_fit.proofs.instances.fits_of_instances.Given as goal
 
 abbrev pub invariant-loop-held : goal.invariant-loop-held

@@ -3,12 +3,12 @@ use Rattle.std.proofs.lemmas.Result.{on_ok_weaker}
 use Rattle.width_rules.specs.Walks.{ported}
 use Rattle.width_fit.specs.Judging.{in_turn, ports_declared, ports_faults}
 use Rattle.width_fit.specs.Walks.{Walks, solved, stmt_among}
-use Rattle.width_fit.proofs.Looking.{no_fits}
+use Rattle.part_fits.proofs.Declared.{no_fits}
 use Rattle.width_fit.proofs.Whole.{module_walks}
 use Rattle.width_fit.proofs.telling.walk_module.Goals as goal
 
 pub declare_ports-requires : goal.declare_ports-requires
-declare_ports-requires c = no_fits _ _ _ (search rules)
+declare_ports-requires c = record { fits = no_fits _ _ _ (search rules); choices = c.new-3.ensures _ _ }
 
 pub returns : goal.returns
 returns c =

@@ -1,7 +1,7 @@
 use Rattle.std.proofs.Common.{◌≡◌, rules, refl, sym, subst}
 use Rattle.std.proofs.lemmas.Result.{on_ok_weaker}
 use Rattle.width_rules.specs.Sources.{component}
-use Rattle.width_fit.specs.Fits.{Fits}
+use Rattle.part_fits.specs.Fits.{Fits}
 use Rattle.width_fit.specs.Walks.{solved}
 use Rattle.width_fit.proofs.Declaring.{instance_walks}
 use Rattle.width_fit.proofs.walk.declare_instance.Goals as goal
@@ -23,4 +23,4 @@ returns-clause-fits c =
     let ws = c.args.given.now.widths.now in
     let instances = c.args.given.now.instances.components.entries in
     let is : c.in_ok-instance.instance ≡ component instances c.args.target.id = search rules in
-    c.declare.ensures.fits ws (subst (λ k. Fits ws k c.in_ok-fit.fit.typ c.in_ok-fit.fit.is_over) (sym is) c.in_ok-fit.ensures) c.requires
+    c.declare.ensures.fits ws c.args.walk.now.choices (subst (λ k. Fits ws k c.in_ok-fit.fit.typ c.in_ok-fit.fit.is_over) (sym is) c.in_ok-fit.ensures) c.requires

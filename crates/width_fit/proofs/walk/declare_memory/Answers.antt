@@ -48,4 +48,4 @@ returns-clause-fits c =
     let fitted : c.in_ok-fit.fit.typ ≡ filled (memory_of memory) (map (slot_width ws) (memory_slots memory slots))
     = memory_fitted ws memory n slots c.element_of-element.result.now c.in_ok-fitted.fitted c.in_ok-fit.fit.typ c.in_ok-widths.widths element c.in_ok-slots.ensures.slots
     widths (search rules) c.in_ok-fit.ensures.typ in
-    c.declare.ensures.fits ws (memory_fits ws memory slots c.in_ok-widths.widths sized c.in_ok-fit.fit c.in_ok-component.ensures widths fitted (search rules)) c.requires
+    c.declare.ensures.fits ws c.args.walk.now.choices (memory_fits ws memory slots c.in_ok-widths.widths sized c.in_ok-fit.fit c.in_ok-component.ensures widths fitted (search rules)) c.requires

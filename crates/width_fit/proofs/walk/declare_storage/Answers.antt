@@ -5,7 +5,7 @@ use Rattle.type_filling.specs.Filling.{filled}
 use Rattle.width_fit.specs.Judging.{slot_width, component_faults}
 use Rattle.width_fit.specs.Walks.{solved}
 use Rattle.circuit_parts.specs.declared.part.Part.{Part}
-use Rattle.width_fit.proofs.Looking.{fits_of}
+use Rattle.part_fits.proofs.Declared.{fits_of}
 use Rattle.width_fit.proofs.Declaring.{storage_walks}
 use Rattle.width_fit.proofs.walk.declare_storage.Goals as goal
 
@@ -24,7 +24,7 @@ returns-clause-walks c =
 pub returns-clause-fits : goal.returns-clause-fits
 returns-clause-fits c =
     let ws = c.args.given.now.widths.now in
-    c.declare.ensures.fits ws
+    c.declare.ensures.fits ws c.args.walk.now.choices
     (fits_of ws c.in_ok-component.component c.in_ok-part.part c.in_ok-slots.slots c.args.typ.now c.in_ok-fitted.fitted c.in_ok-widths.widths c.in_ok-fit.fit c.in_ok-component.ensures
     (ap (λ (p : Part). p.typ) c.in_ok-part.ensures) (c.in_ok-widths.ensures ∙ ap (map (slot_width ws)) c.as_slice.ensures) (c.in_ok-fitted.ensures ∙ ap (filled c.args.typ.now) c.as_slice-2.ensures)
     c.in_ok-fit.ensures.typ c.in_ok-fit.ensures.over)

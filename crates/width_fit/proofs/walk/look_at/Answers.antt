@@ -11,7 +11,7 @@ returns-in-Some-clause-walks c =
     on_ok_weaker c.push_where.result
     (part_walks ws c.args.expr.now c.in-Ref.name c.in-Ref.suffixes c.as_slice-suffixes.result.now c.in-Some.typ.now c.in-Some.is_over
     (record { nodes = c.push.new.self; faults = found.faults; made = found.made }) c.survey_indexes.new.found c.args.walk.now _
-    c.in-Ref.is (search rules) (c.in-Some.ensures ws c.requires) (search rules) refl c.in_ok-survey_indexes.ensures refl refl refl refl)
+    c.in-Ref.is (search rules) (c.in-Some.ensures ws c.requires.fits) (search rules) refl c.in_ok-survey_indexes.ensures refl refl refl refl)
     c.push_where.ensures
 
 pub returns-clause-walks : goal.returns-clause-walks

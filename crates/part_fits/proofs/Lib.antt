@@ -1,0 +1,6 @@
+mod Cuts
+pub mod Filled
+pub mod Slots
+mod Parts
+pub mod Declared
+pub mod Seeing

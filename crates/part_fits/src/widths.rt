@@ -1,0 +1,130 @@
+//! The widths of places.
+
+ghost use Rattle.std.specs.Prelude.{◌≡◌, ◌++◌, map, zip, take, drop, IfOk, OnOk};
+ghost use Rattle.std.specs.List.{list_any};
+ghost use Rattle.width_rules.specs.Pieces.{joined, slots_in};
+ghost use Rattle.part_fits.specs.Widths.{slot_width, is_over, wider_of};
+
+use bit_words::{List, SharedList};
+use prim_ops::Width;
+use std::alloc::{AllocError, Global};
+use width_rules::pieces::Slots;
+use width_rules::slot::Slot;
+use width_rules::widths::{bounded, wider};
+
+/// The widths of a component's places.
+pub fn slot_widths(
+    alloc: Global,
+    widths: &[Width],
+    slots: &[Slot],
+) -> Result<List<Width>, AllocError>
+    ensures { IfOk result (λ found. found ≡ map (slot_width widths.now) slots.now) }
+{
+    let mut found = List::new(alloc);
+    for slot in slots {
+        found.push(slot_width(widths, *slot))?;
+    }
+    Ok(found)
+}
+
+/// The same of widths that may stand in several lists.
+pub fn widths_in(
+    alloc: Global,
+    widths: &[Width],
+    slots: Slots<'_>,
+) -> Result<List<Width>, AllocError>
+    ensures { IfOk result (λ found. found ≡ map (slot_width widths.now) (slots_in slots.entry)) }
+{
+    match slots {
+        Slots::Listed(list) => slot_widths(alloc, widths, list),
+        Slots::Between(lists, start, end) => widths_between(alloc, widths, lists, start, end),
+    }
+}
+
+/// Of several lists, one behind another, the widths from one number on and before another.
+fn widths_between(
+    alloc: Global,
+    widths: &[Width],
+    lists: &[SharedList<Slot>],
+    start: usize,
+    end: usize,
+) -> Result<List<Width>, AllocError>
+    ensures { IfOk result (λ found. found ≡ map (slot_width widths.now) (drop start (take end (joined lists.now)))) }
+{
+    let mut found = List::new(alloc);
+    let mut from = start;
+    let mut to = end;
+    for own in lists {
+        push_widths(&mut found, widths, part(own.as_slice(), from, to))?;
+        from = from.saturating_sub(own.len());
+        to = to.saturating_sub(own.len());
+    }
+    Ok(found)
+}
+
+/// The widths from one number on and before another.
+fn part(list: &[Slot], from: usize, to: usize) -> &[Slot]
+    ensures { result.now ≡ drop from (take to list.now) }
+{
+    let (first, _) = list.split_at(to.min(list.len()));
+    let (_, own) = first.split_at(from.min(first.len()));
+    own
+}
+
+fn push_widths(found: &mut List<Width>, widths: &[Width], slots: &[Slot]) -> Result<(), AllocError>
+    ensures { OnOk result (found.new ≡ found.old ++ map (slot_width widths.now) slots.now) }
+{
+    for slot in slots {
+        found.push(slot_width(widths, *slot))?;
+    }
+    Ok(())
+}
+
+/// The width of a place. A variable that has no width counts as 0 bits.
+fn slot_width(widths: &[Width], slot: Slot) -> Width
+    ensures { result ≡ slot_width widths.now slot }
+{
+    match slot {
+        Slot::Fixed(bits) => bounded(u128::from(bits)),
+        Slot::Var(variable) => match widths.get(variable as usize) {
+            Some(width) => *width,
+            None => Width::Bits(0),
+        },
+    }
+}
+
+/// Place by place the greater of two widths.
+pub fn wider_each(
+    alloc: Global,
+    first: &[Width],
+    second: &[Width],
+) -> Result<List<Width>, AllocError>
+    ensures { IfOk result (λ greater. greater ≡ map wider_of (zip first.now second.now)) }
+{
+    let mut greater = List::new(alloc);
+    for at in 0..first.len().min(second.len()) {
+        greater.push(wider(first[at], second[at]))?;
+    }
+    Ok(greater)
+}
+
+/// Whether one of the widths is over the limit.
+pub fn any_over(widths: &[Width]) -> bool
+    ensures { result ≡ list_any is_over widths.now }
+{
+    for width in widths {
+        if is_over(*width) {
+            return true;
+        }
+    }
+    false
+}
+
+fn is_over(width: Width) -> bool
+    ensures { result ≡ is_over width }
+{
+    match width {
+        Width::Bits(_) => false,
+        Width::Over => true,
+    }
+}

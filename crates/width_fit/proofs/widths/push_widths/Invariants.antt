@@ -1,6 +1,0 @@
-use Rattle.std.proofs.Common.{◌≡◌, ◌++◌, map, take}
-use Rattle.width_fit.specs.Judging.{slot_width}
-use Rattle.width_fit.proofs.widths.push_widths.Given as goal
-
-abbrev pub invariant-loop-slot : goal.invariant-loop-slot
-invariant-loop-slot l = l.found ≡ l.fn.found ++ map (slot_width l.widths) (take l.slot-index l.slots)
