@@ -7,16 +7,16 @@ ghost use Rattle.circuit_parts.specs.Parts.{source_of, no_part};
 ghost use Rattle.circuit_parts.specs.Kinds.{sign_of, ground, sign_or_unsigned};
 ghost use Rattle.width_rules.specs.Places.{capped};
 ghost use Rattle.width_rules.specs.Sources.{component, component_or_none, named, measured, measured_reference, suffix_step, formula_of, literal_bits, lone, kind_of, greater_of, choice};
-ghost use Rattle.width_rules.specs.Parts.{measured_by, formula_over};
+ghost use Rattle.width_rules.specs.Parts.{measured_by, formula_over, viewed};
 ghost use Rattle.width_rules.specs.Pieces.{slots_in};
-ghost use Rattle.width_rules.specs.Targets.{has_variable, has_target};
+ghost use Rattle.width_rules.specs.Targets.{has_target};
 
-use crate::indexed::Indexed;
+use crate::indexed::{Indexed, has_variable};
 use crate::pieces::{Slots, listed};
 use crate::rule::Formula;
 use crate::sizes::{CHOICE_UNITS, MOST_UNITS};
 use crate::slot::{Slot, capped};
-use crate::steps::walk_steps;
+use crate::steps::{View, walk_steps};
 use bit_words::literal::least_width;
 use bit_words::{Kind, List, Number, Shared};
 use circuit_parts::Flow;
@@ -188,24 +188,45 @@ fn reference(
     })
 }
 
-/// Whether a width of the expression may be a variable, as only a reference's can. Takes constant time.
+/// Whether a width of the expression may be a variable, as only a reference's can. Takes constant time where its component has no
+/// variable, and else no more than the places of the part that it names, and no memory.
 pub fn may_have_target(known: &IndexMap<u32, Indexed>, expr: &Expr) -> bool
     ensures { result ≡ false → has_target (measured expr.now known.now.entries).formulas ≡ false }
 {
     match &expr.form {
-        Form::Ref(name, _) => varies(known, name.id),
+        Form::Ref(name, suffixes) => varies(known, name.id, suffixes.as_slice()),
         Form::Literal(_, _, _) => false,
         Form::Prim(_, _, _) => false,
         Form::Mux(_) => false,
     }
 }
 
-fn varies(known: &IndexMap<u32, Indexed>, name: u32) -> bool
-    ensures { result ≡ has_variable (component known.now.entries name).slots }
+fn varies(known: &IndexMap<u32, Indexed>, name: u32, suffixes: &[Suffix]) -> bool
+    ensures { result ≡ false → has_target (measured_reference (named (map suffix_step suffixes.now) (component known.now.entries name))).formulas ≡ false }
 {
     match known.get(&name) {
-        Some(component) => component.is_open(),
+        Some(component) => component_varies(component, suffixes),
         None => false,
+    }
+}
+
+fn component_varies(component: &Indexed, suffixes: &[Suffix]) -> bool
+    ensures { result ≡ false → has_target (measured_reference (named (map suffix_step suffixes.now) component.now)).formulas ≡ false }
+{
+    if component.is_open() {
+        part_varies(walk_steps(component, suffixes))
+    } else {
+        false
+    }
+}
+
+/// Whether a place may have a variable. Of several lists it isn't asked.
+fn part_varies(view: View<'_>) -> bool
+    ensures { result ≡ false → has_target (measured_reference (viewed view.entry)).formulas ≡ false }
+{
+    match view.slots {
+        Slots::Listed(slots) => has_variable(slots),
+        Slots::Between(_, _, _) => true,
     }
 }
 
