@@ -1,5 +1,5 @@
 -- what a reader must believe
 pub mod Widths
-pub mod Fits
 -- what the bodies keep
+pub mod Fits
 pub mod Seen

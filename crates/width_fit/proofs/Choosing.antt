@@ -1,5 +1,5 @@
 -- What references and choices come to by their numbers.
-use Rattle.std.proofs.Common.{◌≡◌, ℕ, Bool, List, [], ◌∷◌, ◌++◌, map, zip, refl, sym, ap, ap₂, ◌∙◌, subst}
+use Rattle.std.proofs.Common.{◌≡◌, ℕ, Bool, List, [], ◌∷◌, ◌++◌, ◌<◌, ◌≤◌, map, zip, length, get_or, refl, sym, ap, ap₂, ◌∙◌, subst, arith}
 use Rattle.std.specs.List.{list_any}
 use Rattle.std.specs.Prelude.{flat_map}
 use Rattle.prim_ops.specs.declared.widths.Width.{Width}
@@ -41,6 +41,14 @@ reference_adds ws e name ss given known over a b c is same high h nodes faults =
     subst (λ x. AddsBelow ws x a c) (sym the)
     (reference_below ws known e.place name.id given a b c (kept ws s) h nodes refl
     (faults ∙ ap (λ o. b.faults.items ++ where_ o (WidthOver e.place)) (high ∙ ap (λ (x : Survey). list_any is_over (widths_of ws x.measured)) the)))
+
+-- a list of three
+pub three_items : (es : List Expr) (x y z : Expr) → 3 ≤ length es → length es < 4 → x ≡ get_or es 0 x → y ≡ get_or es 1 y → z ≡ get_or es 2 z → es ≡ x ∷ y ∷ z ∷ []
+three_items [] x y z some few e f g = absurd (omega (arith, some))
+three_items (a ∷ []) x y z some few e f g = absurd (omega (arith, some))
+three_items (a ∷ b ∷ []) x y z some few e f g = absurd (omega (arith, some))
+three_items (a ∷ b ∷ d ∷ []) x y z some few e f g = ap₂ (λ p l. p ∷ l) (sym e) (ap₂ (λ q r. q ∷ r ∷ []) (sym f) (sym g))
+three_items (a ∷ b ∷ d ∷ k ∷ es) x y z some few e f g = absurd (omega (arith, few))
 
 choice-survey : (ws : List Width) (e condition first second : Expr) (es given : List Expr) (known : Known) → e.form ≡ form.Mux es → given ≡ es → given ≡ condition ∷ first ∷ second ∷ []
     → survey ws e known ≡ choice_survey ws e.place (survey ws condition known ∷ survey ws first known ∷ survey ws second known ∷ [])

@@ -6,10 +6,10 @@ ghost use Rattle.width_rules.specs.Sources.{component};
 ghost use Rattle.part_fits.specs.Fits.{Fits, AreFits, AreFits-prop};
 ghost use Rattle.width_fit.specs.Marks.{Marks};
 
-use part_fits::fits::Fit;
 use crate::instances::fit_of_component;
 use fir_tree::Names;
 use indexmap::IndexMap;
+use part_fits::fits::Fit;
 use prim_ops::Width;
 use std::alloc::{AllocError, Global};
 use width_rules::Rule;

@@ -4,9 +4,9 @@ ghost use Rattle.std.specs.Prelude.{IfOk};
 ghost use Rattle.width_rules.specs.Sources.{component};
 ghost use Rattle.part_fits.specs.Fits.{Fits, AreFits};
 
+use indexmap::IndexMap;
 use part_fits::fits::{Fit, fit_of};
 use part_fits::widths::widths_in;
-use indexmap::IndexMap;
 use prim_ops::Width;
 use std::alloc::{AllocError, Global};
 use type_filling::filled;

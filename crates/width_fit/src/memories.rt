@@ -7,10 +7,10 @@ ghost use Rattle.width_rules.specs.Targets.{is_port};
 ghost use Rattle.width_fit.specs.Judging.{is_over};
 ghost use Rattle.width_fit.specs.Memories.{line_with, memory_with};
 
-use part_fits::widths::any_over;
-use part_fits::fits::Fit;
 use bit_words::List;
 use fir_types::{FirType, MemLine, Memory, copy, memory_type};
+use part_fits::fits::Fit;
+use part_fits::widths::any_over;
 use prim_ops::Width;
 use std::alloc::{AllocError, Global};
 use width_rules::memories::has_port;

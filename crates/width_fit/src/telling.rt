@@ -10,19 +10,19 @@ ghost use Rattle.width_fit.specs.Judging.{told_of, slot_width, component_faults,
 ghost use Rattle.width_fit.specs.Walks.{solved, module_among, told_among, WalksModule, WalksAll};
 ghost use Rattle.width_fit.specs.Held.{HoldsFits};
 
-use part_fits::choices::Choices;
-use part_fits::fits::{declare, fit_of};
 use crate::found::Findings;
 use crate::given::{Given, Instances};
 use crate::instances::fits_of_instances;
 use crate::walk::{Walk, push_component, walk_statements};
-use part_fits::widths::slot_widths;
 use bit_words::List;
 use circuit_parts::Part;
 use circuit_parts::steps::port_flow;
 use fir_tree::Checked;
 use fir_types::{FirType, Port, copy};
 use indexmap::IndexMap;
+use part_fits::choices::Choices;
+use part_fits::fits::{declare, fit_of};
+use part_fits::widths::slot_widths;
 use std::alloc::{AllocError, Global};
 use type_filling::filled;
 use type_filling::made::Made;

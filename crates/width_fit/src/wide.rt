@@ -28,7 +28,10 @@ pub fn is_wide(known: &IndexMap<u32, Indexed>, expr: &Expr) -> bool {
     match known.get(&name.id) {
         Some(component) => {
             let part = walk_steps(component, suffixes.as_slice());
-            matches!(&part.known.typ.shape, Shape::Bundle(_) | Shape::Vector(_, _))
+            matches!(
+                &part.known.typ.shape,
+                Shape::Bundle(_) | Shape::Vector(_, _)
+            )
         }
         None => false,
     }
