@@ -1,47 +1,39 @@
 -- One part of a body walked behind another.
 use Rattle.std.proofs.Common.{◌≡◌, ℕ, ◌+◌, ◌<◌, List, [], ◌∷◌, ◌++◌, map, length, take, get_or, refl, sym, ap, ap₂, ◌∙◌, arith, append_assoc, append-nil, subst}
-use Rattle.std.proofs.lemmas.List.{map-append, take_more}
 use Rattle.fir_tree.specs.declared.stmt.Stmt.{fold-Stmt}
 use Rattle.fir_tree.specs.declared.stmt.Stmt.TheOpen.{Stmt-F}
+use Rattle.circuit_parts.proofs.Turns.{Turns, walks_push as one_more}
 use Rattle.width_rules.specs.Sources.{Known, component_or_none, known_with}
 use Rattle.width_rules.specs.Circuits.{WithPorts}
 use Rattle.width_rules.specs.Walks.{AreInstances}
 use Rattle.width_fit.specs.declared.walk.Walk.{Walk}
 use Rattle.type_filling.specs.Filling.{filled}
-use Rattle.width_fit.specs.Judging.{Solved, Surveys, Findings, slot_width, declares, and_then, in_turn, of_stmt, of_arm, stmt_survey}
+use Rattle.width_fit.specs.Judging.{Solved, Surveys, Findings, slot_width, declares, and_then, in_turn, nothing, of_stmt, of_arm, stmt_survey}
 use Rattle.width_fit.specs.Walks.{Walks, of_stmt_among, stmt_among}
 
 findings : {a b : Findings} → a.known ≡ b.known → a.count ≡ b.count → a.declared ≡ b.declared → a.nodes ≡ b.nodes → a.faults ≡ b.faults → a ≡ b
 findings p q r s t = λ i. record { known = p i; count = q i; declared = r i; nodes = s i; faults = t i }
 
-in_turn-push : (ps : List Surveys) (p : Surveys) (known : Known) (n : ℕ) → in_turn (ps ++ p ∷ []) known n ≡ and_then (in_turn ps) p known n
-in_turn-push [] p known n =
-    let e : p known n ≡ p known (n + 0) = ap (p known) (omega arith) in
-    findings (ap (λ g. g.known) e) (let c : (p known n).count + 0 ≡ 0 + (p known n).count = omega arith in c ∙ ap (λ g. 0 + g.count) e)
-    (append-nil _ ∙ ap (λ g. g.declared) e) (append-nil _ ∙ ap (λ g. g.nodes) e) (append-nil _ ∙ ap (λ g. g.faults) e)
-in_turn-push (q ∷ qs) p known n =
-    let a = q known n in
-    let d = in_turn qs a.known (n + a.count) in
-    let h : in_turn (qs ++ p ∷ []) a.known (n + a.count) ≡ and_then (in_turn qs) p a.known (n + a.count) = in_turn-push qs p a.known (n + a.count) in
-    let k : p d.known ((n + a.count) + d.count) ≡ p d.known (n + (a.count + d.count)) = ap (p d.known) (omega arith) in
-    let whole = h ∙ ap (λ g. record { known = g.known; count = d.count + g.count; declared = d.declared ++ g.declared; nodes = d.nodes ++ g.nodes; faults = d.faults ++ g.faults }) k in
-    let last = p d.known (n + (a.count + d.count)) in
-    let c : a.count + (d.count + last.count) ≡ (a.count + d.count) + last.count = omega arith in
-    findings (ap (λ g. g.known) whole) (ap (λ g. a.count + g.count) whole ∙ c)
-    (ap (λ g. a.declared ++ g.declared) whole ∙ sym (append_assoc a.declared d.declared _))
-    (ap (λ g. a.nodes ++ g.nodes) whole ∙ sym (append_assoc a.nodes d.nodes _))
-    (ap (λ g. a.faults ++ g.faults) whole ∙ sym (append_assoc a.faults d.faults _))
+alone_at : (p : Surveys) (known : Known) (n : ℕ) → and_then nothing p known n ≡ and_then p nothing known n
+alone_at p known n =
+    let e : p known (n + 0) ≡ p known n = ap (p known) (omega arith) in
+    findings (ap (λ g. g.known) e) (let c : 0 + (p known (n + 0)).count ≡ (p known (n + 0)).count + 0 = omega arith in c ∙ ap (λ g. g.count + 0) e)
+    (ap (λ g. g.declared) e ∙ sym (append-nil _)) (ap (λ g. g.nodes) e ∙ sym (append-nil _)) (ap (λ g. g.faults) e ∙ sym (append-nil _))
 
-walks_same : {p q : Surveys} {a b : Walk} → ((known : Known) (n : ℕ) → p known n ≡ q known n) → Walks p a b → Walks q a b
-walks_same {p} {q} {a} {b} same h =
-    let e = same a.known.entries (length a.places.items) in
-    record {
-      known = h.known ∙ ap (λ g. g.known) e;
-      count = h.count ∙ ap (λ g. length a.places.items + g.count) e;
-      declared = h.declared ∙ ap (λ g. a.declared.items ++ g.declared) e;
-      nodes = h.nodes ∙ ap (λ g. a.found.nodes.items ++ g.nodes) e;
-      faults = h.faults ∙ ap (λ g. a.found.faults.items ++ g.faults) e;
-    }
+either_at : (p q r : Surveys) (known : Known) (n : ℕ) → and_then (and_then p q) r known n ≡ and_then p (and_then q r) known n
+either_at p q r known n =
+    let a = p known n in
+    let b = q a.known (n + a.count) in
+    let e : r b.known (n + (a.count + b.count)) ≡ r b.known ((n + a.count) + b.count) = ap (r b.known) (omega arith) in
+    let last = r b.known ((n + a.count) + b.count) in
+    let c : (a.count + b.count) + last.count ≡ a.count + (b.count + last.count) = omega arith in
+    findings (ap (λ g. g.known) e) (ap (λ g. (a.count + b.count) + g.count) e ∙ c)
+    (ap (λ g. (a.declared ++ b.declared) ++ g.declared) e ∙ append_assoc a.declared b.declared _)
+    (ap (λ g. (a.nodes ++ b.nodes) ++ g.nodes) e ∙ append_assoc a.nodes b.nodes _)
+    (ap (λ g. (a.faults ++ b.faults) ++ g.faults) e ∙ append_assoc a.faults b.faults _)
+
+turns : Turns and_then nothing
+turns = record { alone = λ p i known n. alone_at p known n i; either = λ p q r i known n. either_at p q r known n i }
 
 pub walks_then : {p q : Surveys} {a b c : Walk} → Walks p a b → Walks q b c → Walks (and_then p q) a c
 walks_then {p} {q} {a} {b} {c} h k =
@@ -60,10 +52,7 @@ walks_then {p} {q} {a} {b} {c} h k =
 -- one more of parts in turn
 pub walks_push : {X : Type 0} (part : X → Surveys) (xs : List X) (i : ℕ) (x : X) {a b c : Walk} → i < length xs → x ≡ get_or xs i x
     → Walks (in_turn (map part (take i xs))) a b → Walks (part x) b c → Walks (in_turn (map part (take (i + 1) xs))) a c
-walks_push part xs i x {a} {b} {c} lt is h k =
-    let step : map part (take (i + 1) xs) ≡ map part (take i xs) ++ part x ∷ []
-    = ap (map part) (take_more xs i x lt) ∙ map-append part (take i xs) (get_or xs i x ∷ []) ∙ ap (λ y. map part (take i xs) ++ part y ∷ []) (sym is) in
-    subst (λ ps. Walks (in_turn ps) a c) (sym step) (walks_same (λ known n. sym (in_turn-push (map part (take i xs)) (part x) known n)) (walks_then h k))
+walks_push part xs i x lt is h k = one_more Walks turns (λ p q a b c g l. walks_then g l) part xs i x lt is h k
 
 -- Instances by their list
 

@@ -26,6 +26,7 @@ use Rattle.width_rules.specs.declared.rule.Rule.{Rule}
 use Rattle.width_rules.specs.Formulas.{level, width_under}
 use Rattle.width_rules.specs.Places.{capped, spots, size, slots_from, open_spots, node_slots}
 use Rattle.width_rules.specs.Sources.{Known, Measured, measured_reference, component, named, field_step, element_step, operation, choice, literal_bits, formula_of, lone}
+use Rattle.circuit_parts.specs.Turns.{in_order}
 use Rattle.circuit_parts.specs.Parts.{source_of}
 use Rattle.circuit_parts.specs.Kinds.{ground}
 use Rattle.bit_words.specs.declared.value.Kind.{Kind as Sign}
@@ -168,8 +169,7 @@ and_then first second known n =
     record { known = b.known; count = a.count + b.count; declared = a.declared ++ b.declared; nodes = a.nodes ++ b.nodes; faults = a.faults ++ b.faults }
 
 abbrev pub in_turn : List Surveys → Surveys
-in_turn [] = nothing
-in_turn (one ∷ rest) = and_then one (in_turn rest)
+in_turn = in_order and_then nothing
 
 -- an expression, and where it is a condition
 abbrev pub looks_at : List Width → Expr → Surveys
