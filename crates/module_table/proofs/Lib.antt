@@ -1,2 +1,3 @@
 mod Indexing
 mod Noting
+mod Leading

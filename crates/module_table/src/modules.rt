@@ -11,6 +11,7 @@ use fir_tree::{Module, Names};
 use fir_types::instance_type;
 use indexmap::IndexMap;
 use std::alloc::{AllocError, Global};
+use type_classes::Classes;
 use type_index::KnownType;
 
 /// The modules of a circuit, with the number of the first of each name, and with what the instances of each share.
@@ -19,6 +20,8 @@ pub struct Modules<'a> {
     pub all: &'a [Module],
     /// The texts of their names.
     pub names: &'a Names,
+    /// The numbers of the classes of all types that they declare.
+    pub classes: Classes,
     numbers: IndexMap<u32, usize>,
     instances: Vec<KnownType>,
     ghost indexed: { IsIndex all.now numbers.entries },
@@ -27,7 +30,7 @@ pub struct Modules<'a> {
 }
 
 impl<'a> Modules<'a> {
-    /// These modules. Takes time and memory in proportion to their number and to the types of their ports.
+    /// These modules. Takes time and memory in proportion to the text.
     pub fn new(
         alloc: Global,
         names: &'a Names,
@@ -36,11 +39,13 @@ impl<'a> Modules<'a> {
         ensures all { IfOk result (λ modules. modules.all.now ≡ all.now) }
         ensures names { IfOk result (λ modules. modules.names.now ≡ names.now) }
     {
+        let classes = Classes::of_circuit(alloc, all)?;
         let numbers = numbers_of(alloc, all)?;
         let instances = instances_of(alloc, names, all)?;
         Ok(Modules {
             all,
             names,
+            classes,
             numbers,
             instances,
         })

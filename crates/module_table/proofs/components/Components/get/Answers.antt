@@ -1,9 +1,15 @@
-use Rattle.std.proofs.Common.{sym, ap, ◌∙◌, nat_eq}
+use Rattle.std.proofs.Common.{rules, ◌≡◌, ap, ◌∙◌, nat_eq}
+use Rattle.std.specs.Prelude.{Some, None}
 use Rattle.std.specs.Map.{lookup}
-use Rattle.std.specs.Option.{option_copied}
-use Rattle.module_table.proofs.Noting.{part_noted}
+use Rattle.module_table.proofs.Noting.{found_part}
 use Rattle.module_table.proofs.components.Components.get.Goals as goal
 
 pub returns : goal.returns
 returns c =
-    part_noted c.self.inside.noted.entries c.args.name (option_copied c.get.result) (sym c.get.ensures.value) ∙ ap (λ parts. lookup (nat_eq c.args.name) parts) c.self.view_is
+    let found : lookup (nat_eq c.args.name) c.self.inside.noted.entries ≡ Some c.in_ok-noted.noted.now = search rules in
+    found_part c.self.inside.noted.entries c.args.name (Some c.in_ok-noted.noted.now) found ∙ ap (λ parts. lookup (nat_eq c.args.name) parts) c.self.view_is
+
+pub returns-in_err-noted : goal.returns-in_err-noted
+returns-in_err-noted c =
+    let none : lookup (nat_eq c.args.name) c.self.inside.noted.entries ≡ None = search rules in
+    rw c.from_residual.ensures (found_part c.self.inside.noted.entries c.args.name None none ∙ ap (λ parts. lookup (nat_eq c.args.name) parts) c.self.view_is)

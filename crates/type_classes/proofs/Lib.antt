@@ -1,0 +1,4 @@
+pub mod Same
+pub mod Sound
+pub mod Made
+pub mod Ports
