@@ -111,7 +111,7 @@ fn push_sink(faults: &mut Vec<TypeFault>, at: Place, left: &Option<Part>) -> Res
 /// Adds a fault where what is read can only be driven. A sink without a `flip` can be read.
 fn push_source(
     faults: &mut Vec<TypeFault>,
-    known: &Components,
+    known: &Components<'_>,
     right: &Expr,
     source: &Option<Part>,
 ) -> Result<(), AllocError>

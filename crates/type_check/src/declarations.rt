@@ -16,7 +16,7 @@ use crate::judge::judge;
 use crate::memory::push_memory;
 use crate::texts::{push_stored, push_twice, push_unless};
 use crate::walk::Walk;
-use crate::whole::known_type;
+use crate::whole::{known_type, reference_at};
 use circuit_parts::Flow;
 use circuit_parts::steps::port_flow;
 use fir_tree::Expr;
@@ -85,8 +85,17 @@ pub fn declare_memory(alloc: Global, walk: &mut Walk<'_>, memory: &Memory) -> Re
     ensures { OnOk result (Walks (and_then (notes (memory_faults memory.now)) (declares memory.now.name.id (Some (source_of (memory_of memory.now))))) walk.old walk.new) }
 {
     push_memory(alloc, &mut walk.found.faults, memory)?;
+    declare_ports(alloc, walk, memory)
+}
+
+/// Declares the bundle of a memory's ports, which can only be read.
+fn declare_ports(alloc: Global, walk: &mut Walk<'_>, memory: &Memory) -> Result<(), AllocError>
+    ensures { OnOk result (Walks (declares memory.now.name.id (Some (source_of (memory_of memory.now)))) walk.old walk.new) }
+{
     let known = KnownType::of_memory(alloc, walk.names, memory)?;
-    declare_source(walk, memory.name, known)
+    let flow = Flow::Source;
+    walk.known
+        .note_memory(alloc, memory.name.id, Component { known, flow }, memory)
 }
 
 /// An instance of a module. It has no type where there is no module of the name.
@@ -123,7 +132,14 @@ pub fn declare_node(
         known.known().index.passive,
         TypeFault::NotPassive(expr.place),
     )?;
-    declare_source(walk, name, known)
+    match reference_at(expr) {
+        Some(reference) => {
+            let flow = Flow::Source;
+            walk.known
+                .note_part(name.id, Component { known, flow }, reference)
+        }
+        None => declare_source(walk, name, known),
+    }
 }
 
 /// Declares a component of this type and flow.
@@ -137,7 +153,8 @@ fn declare(
     ensures { OnOk result (Walks (declares name.id (Some (part_of typ.now flow))) walk.old walk.new) }
 {
     let known = KnownType::new(alloc, walk.names, copy(typ)?)?;
-    declare_part(walk, name, Component { known, flow })
+    walk.known
+        .note_declared(alloc, name.id, Component { known, flow })
 }
 
 /// Declares a component of this type that can only be read.

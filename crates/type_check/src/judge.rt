@@ -23,7 +23,7 @@ use std::alloc::{AllocError, Global};
 #[cycle(judge)]
 pub fn judge(
     alloc: Global,
-    known: &Components,
+    known: &Components<'_>,
     found: &mut Findings,
     expr: &Expr,
 ) -> Result<Option<Part>, AllocError>
@@ -57,7 +57,7 @@ fn fill(
 #[cycle(judge)]
 fn judge_form(
     alloc: Global,
-    known: &Components,
+    known: &Components<'_>,
     found: &mut Findings,
     expr: &Expr,
 ) -> Result<Option<Part>, AllocError>
@@ -95,7 +95,7 @@ fn judge_form(
 #[cycle(judge)]
 fn judge_all(
     alloc: Global,
-    known: &Components,
+    known: &Components<'_>,
     found: &mut Findings,
     exprs: &[Expr],
 ) -> Result<Option<Vec<Operand>>, AllocError>
@@ -120,7 +120,7 @@ fn judge_all(
 #[cycle(judge)]
 fn walk_steps<'a>(
     alloc: Global,
-    known: &'a Components,
+    known: &'a Components<'_>,
     found: &mut Findings,
     base: Option<Reached<'a>>,
     suffixes: &[Suffix],
@@ -139,7 +139,7 @@ fn walk_steps<'a>(
 #[cycle(judge)]
 fn take_step<'a>(
     alloc: Global,
-    known: &'a Components,
+    known: &'a Components<'_>,
     found: &mut Findings,
     base: Option<Reached<'a>>,
     suffix: &Suffix,
@@ -169,7 +169,7 @@ fn take_step<'a>(
 }
 
 /// The component of a name, where it is known.
-fn component(known: &Components, name: u32) -> Option<Reached<'_>>
+fn component<'a>(known: &'a Components<'_>, name: u32) -> Option<Reached<'a>>
     ensures { part_reached result ≡ component known.now name }
 {
     match known.get(name) {

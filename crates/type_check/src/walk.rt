@@ -21,7 +21,7 @@ pub struct Walk<'a> {
     /// The texts of the circuit's names.
     pub names: &'a Names,
     /// The components that are declared so far and have types.
-    pub known: Components,
+    pub known: Components<'a>,
     pub found: Findings,
 }
 
@@ -37,7 +37,7 @@ pub fn walk_module(
 {
     let mut walk = Walk {
         names: modules.names,
-        known: Components::new(alloc),
+        known: Components::new(alloc, &modules.classes),
         found: Findings {
             types: Vec::new(alloc),
             faults: Vec::new(alloc),

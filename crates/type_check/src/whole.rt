@@ -3,6 +3,7 @@
 ghost use Rattle.std.specs.Prelude.{◌≡◌, map, Option, Some, IfOk, IfSome, OnOk};
 ghost use Rattle.fir_types.specs.declared.fir_type.FirType.{FirType as AType};
 ghost use Rattle.type_check.specs.Expressions.{found_of, suffix_step, along};
+ghost use Rattle.module_table.specs.Leading.{Leads};
 ghost use Rattle.type_check.specs.Judging.{Agrees};
 ghost use Rattle.type_check.specs.Parts.{Known as TheKnown};
 ghost use Rattle.circuit_parts.specs.declared.part.Part.{Part as APart};
@@ -12,7 +13,7 @@ use crate::texts::{are_equivalent, is_passive};
 use circuit_parts::Part;
 use fir_tree::{Expr, Form, Names, Suffix};
 use fir_types::Shape;
-use module_table::{Components, whole_name};
+use module_table::{Components, Reference, reference_of, whole_name};
 use std::alloc::{AllocError, Global};
 use type_index::{Known, KnownType};
 
@@ -21,7 +22,7 @@ use type_index::{Known, KnownType};
 pub fn known_type(
     alloc: Global,
     names: &Names,
-    known: &Components,
+    known: &Components<'_>,
     expr: &Expr,
     part: Part,
 ) -> Result<KnownType, AllocError>
@@ -35,7 +36,7 @@ pub fn known_type(
 }
 
 /// Whether no `flip` stands in the type of an expression that is this part.
-pub fn is_passive_at(known: &Components, expr: &Expr, part: &Part) -> bool
+pub fn is_passive_at(known: &Components<'_>, expr: &Expr, part: &Part) -> bool
     requires { (found_of known.now expr.now).part ≡ Some part.now }
     ensures { result ≡ is_passive part.now.typ }
 {
@@ -46,7 +47,7 @@ pub fn is_passive_at(known: &Components, expr: &Expr, part: &Part) -> bool
 }
 
 /// What the reference that an expression is comes to by its steps alone, or the one that a choice chooses first.
-fn part_at<'a>(known: &'a Components, expr: &Expr) -> Option<Known<'a>>
+fn part_at<'a>(known: &'a Components<'_>, expr: &Expr) -> Option<Known<'a>>
     ensures { IfSome result (λ there. Agrees there.typ.now (found_of known.now expr.now).part) }
 {
     let first = first_chosen(expr);
@@ -81,9 +82,26 @@ fn part_behind<'a>(base: Known<'a>, suffix: &Suffix) -> Option<Known<'a>>
     }
 }
 
+/// The reference that an expression is, or the one that a choice chooses first.
+pub fn reference_at(expr: &Expr) -> Option<Reference<'_>>
+    ensures { IfSome result (λ reference. (known : TheKnown) (typ : AType) → Leads known reference.name reference.suffixes.now typ → Agrees typ (found_of known expr.now).part) }
+{
+    reference_of(first_chosen(expr))
+}
+
+/// Whether two expressions have equivalent types, where both are components or parts of them whose types have numbers. Takes time in
+/// proportion to the steps.
+fn are_known_equivalent(known: &Components<'_>, one: &Expr, other: &Expr) -> Option<bool>
+    ensures { IfSome result (λ answer. (left right : APart) → (found_of known.now one.now).part ≡ Some left → (found_of known.now other.now).part ≡ Some right → answer ≡ are_equivalent left.typ right.typ) }
+{
+    let first = reference_at(one)?;
+    let second = reference_at(other)?;
+    known.same_class(first, second)
+}
+
 /// Whether two expressions that are these parts have equivalent types. The answer for two components that aren't ground is kept.
 pub fn are_equivalent_at(
-    known: &mut Components,
+    known: &mut Components<'_>,
     one: &Expr,
     other: &Expr,
     left: &Part,
@@ -95,6 +113,9 @@ pub fn are_equivalent_at(
     ensures same { OnOk result (known.new ≡ known.old) }
 {
     if matches!(&left.typ.shape, Shape::Bundle(_) | Shape::Vector(_, _)) {
+        if let Some(answer) = are_known_equivalent(known, one, other) {
+            return Ok(answer);
+        }
         if let (Some(first), Some(second)) = (whole_name(one), whole_name(other)) {
             let answer = known.are_equivalent((first, second), left, right)?;
             return Ok(answer);

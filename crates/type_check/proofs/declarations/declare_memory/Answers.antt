@@ -5,4 +5,4 @@ use Rattle.type_check.proofs.Walking.{walks_noted}
 use Rattle.type_check.proofs.declarations.declare_memory.Goals as goal
 
 pub returns : goal.returns
-returns c = on_ok_weaker c.declare_source.result (λ h. walks_noted (memory_faults c.args.memory.now) refl refl c.in_ok-push_memory.ensures h) (rw c.in_ok-known.ensures.typ at c.declare_source.ensures)
+returns c = on_ok_weaker c.declare_ports.result (λ h. walks_noted (memory_faults c.args.memory.now) refl refl c.in_ok-push_memory.ensures h) c.declare_ports.ensures
