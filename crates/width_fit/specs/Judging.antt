@@ -25,7 +25,7 @@ use Rattle.width_rules.specs.declared.slot.Slot.TheVariants as slot
 use Rattle.width_rules.specs.declared.rule.Rule.{Rule}
 use Rattle.width_rules.specs.Formulas.{level, width_under}
 use Rattle.width_rules.specs.Places.{capped, spots, size, slots_from, open_spots, node_slots}
-use Rattle.width_rules.specs.Sources.{Known, Measured, measured_reference, component, named, field_step, element_step, operation, choice, literal_bits, formula_of, lone}
+use Rattle.width_rules.specs.Sources.{Known, Measured, measured_reference, component, named, field_step, element_step, operation, choice, literal_bits, lone}
 use Rattle.circuit_parts.specs.Turns.{in_order}
 use Rattle.circuit_parts.specs.Parts.{source_of}
 use Rattle.circuit_parts.specs.Kinds.{ground}

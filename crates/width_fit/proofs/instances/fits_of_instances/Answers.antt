@@ -1,5 +1,5 @@
 use Rattle.std.proofs.Common.{rules}
-use Rattle.width_fit.proofs.Looking.{fits_put}
+use Rattle.part_fits.proofs.Declared.{fits_put}
 use Rattle.width_fit.proofs.instances.fits_of_instances.Goals as goal
 
 pub loop-held-preserved : goal.loop-held-preserved

@@ -16,7 +16,7 @@ returns-clause-declared c =
     (c.in_ok-modules.ensures.modules ∙ ap₂ (λ p ms. modules_from (length p) ms) c.new-2.ensures.items c.as_slice.ensures)
     (subst (AreInstances (map ported c.in_ok-modules.modules.items)) (sym (ap (λ (i : Instances). i.components.entries) c.in_ok-given.ensures.instances)) (rw c.as_slice-2.ensures.value at c.in_ok-components.ensures))
     (c.in_ok-modules.ensures.places ∙ ap₂ (λ p ms. p ++ flat_map module_places ms) c.new-2.ensures.items c.as_slice.ensures)
-    (ap₂ (λ w r. record { widths = w; rules = r }) (c.in_ok-given.ensures.widths ∙ c.as_slice-5.ensures) (c.in_ok-given.ensures.rules ∙ c.as_slice-6.ensures ∙ ap (λ (r : Rules). r.rules) c.requires))
+    (ap₂ (λ w r. record { widths = w; rules = r }) (c.in_ok-given.ensures.widths ∙ c.as_slice-widths.ensures) (c.in_ok-given.ensures.rules ∙ c.as_slice-rules.ensures ∙ ap (λ (r : Rules). r.rules) c.requires))
     c.as_slice-reached.ensures in
     from_nothing c.new-3.result.items c.walk_modules.new.walk.declared.items _ c.new-3.ensures.items c.in_ok-walk_modules.ensures.declared ∙ ap (λ (told : Told). told.declared) same
 
@@ -26,7 +26,7 @@ returns-clause-nodes c =
     (c.in_ok-modules.ensures.modules ∙ ap₂ (λ p ms. modules_from (length p) ms) c.new-2.ensures.items c.as_slice.ensures)
     (subst (AreInstances (map ported c.in_ok-modules.modules.items)) (sym (ap (λ (i : Instances). i.components.entries) c.in_ok-given.ensures.instances)) (rw c.as_slice-2.ensures.value at c.in_ok-components.ensures))
     (c.in_ok-modules.ensures.places ∙ ap₂ (λ p ms. p ++ flat_map module_places ms) c.new-2.ensures.items c.as_slice.ensures)
-    (ap₂ (λ w r. record { widths = w; rules = r }) (c.in_ok-given.ensures.widths ∙ c.as_slice-5.ensures) (c.in_ok-given.ensures.rules ∙ c.as_slice-6.ensures ∙ ap (λ (r : Rules). r.rules) c.requires))
+    (ap₂ (λ w r. record { widths = w; rules = r }) (c.in_ok-given.ensures.widths ∙ c.as_slice-widths.ensures) (c.in_ok-given.ensures.rules ∙ c.as_slice-rules.ensures ∙ ap (λ (r : Rules). r.rules) c.requires))
     c.as_slice-reached.ensures in
     from_nothing c.new-4.result.items c.walk_modules.new.walk.found.nodes.items _ c.new-4.ensures.items c.in_ok-walk_modules.ensures.nodes ∙ ap (λ (told : Told). told.nodes) same
 
@@ -36,6 +36,6 @@ returns-clause-faults c =
     (c.in_ok-modules.ensures.modules ∙ ap₂ (λ p ms. modules_from (length p) ms) c.new-2.ensures.items c.as_slice.ensures)
     (subst (AreInstances (map ported c.in_ok-modules.modules.items)) (sym (ap (λ (i : Instances). i.components.entries) c.in_ok-given.ensures.instances)) (rw c.as_slice-2.ensures.value at c.in_ok-components.ensures))
     (c.in_ok-modules.ensures.places ∙ ap₂ (λ p ms. p ++ flat_map module_places ms) c.new-2.ensures.items c.as_slice.ensures)
-    (ap₂ (λ w r. record { widths = w; rules = r }) (c.in_ok-given.ensures.widths ∙ c.as_slice-5.ensures) (c.in_ok-given.ensures.rules ∙ c.as_slice-6.ensures ∙ ap (λ (r : Rules). r.rules) c.requires))
+    (ap₂ (λ w r. record { widths = w; rules = r }) (c.in_ok-given.ensures.widths ∙ c.as_slice-widths.ensures) (c.in_ok-given.ensures.rules ∙ c.as_slice-rules.ensures ∙ ap (λ (r : Rules). r.rules) c.requires))
     c.as_slice-reached.ensures in
     from_nothing c.new-5.result.items c.walk_modules.new.walk.found.faults.items _ c.new-5.ensures.items c.in_ok-walk_modules.ensures.faults ∙ ap (λ (told : Told). told.faults) same

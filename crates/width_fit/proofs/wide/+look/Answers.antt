@@ -1,4 +1,4 @@
-use Rattle.std.proofs.Common.{rules, refl, ap, ◌∙◌, ◌≡◌}
+use Rattle.std.proofs.Common.{rules, refl, ◌∙◌}
 use Rattle.width_fit.specs.Judging.{survey, widths_of}
 use Rattle.width_fit.specs.Surveys.{kept}
 use Rattle.part_fits.proofs.Seeing.{within}
