@@ -61,8 +61,8 @@ fn judge_form(
     found: &mut Findings,
     expr: &Expr,
 ) -> Result<Option<Part>, AllocError>
-    ensures part { IfOk result (λ part. part ≡ (found_of known.now expr.now).part) }
     ensures found { OnOk result (AddsBelow expr.now.place (found_of known.now expr.now) found.old found.new) }
+    ensures part { IfOk result (λ part. part ≡ (found_of known.now expr.now).part) }
 {
     match &expr.form {
         Form::Ref(name, suffixes) => {

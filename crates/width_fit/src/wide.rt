@@ -11,7 +11,7 @@ use crate::faults::{push_condition, push_where};
 use crate::found::Findings;
 use crate::survey::{survey_expr, survey_form, survey_indexes};
 use circuit_parts::kinds::no_type;
-use fir_tree::{Expr, Form};
+use fir_tree::{Expr, Form, Suffix};
 use fir_types::{Shape, copy};
 use indexmap::IndexMap;
 use part_fits::choices::{Among, Choices, Seen};
@@ -22,33 +22,30 @@ use width_rules::steps::walk_steps;
 /// Whether the expression is a bundle or a vector of a component that is known, or a choice whose first operand is one. Only time
 /// depends on it.
 pub fn is_wide(known: &IndexMap<u32, Indexed>, expr: &Expr) -> bool {
-    let Form::Ref(name, suffixes) = &first_chosen(expr).form else {
-        return false;
-    };
-    match known.get(&name.id) {
-        Some(component) => {
-            let part = walk_steps(component, suffixes.as_slice());
-            matches!(
-                &part.known.typ.shape,
-                Shape::Bundle(_) | Shape::Vector(_, _)
-            )
+    let mut inside = expr;
+    loop {
+        match &inside.form {
+            Form::Mux(operands) => {
+                let [_, first, _] = operands.as_slice() else {
+                    return false;
+                };
+                inside = first;
+            }
+            Form::Ref(name, suffixes) => return is_wide_part(known, name.id, suffixes.as_slice()),
+            Form::Literal(_, _, _) | Form::Prim(_, _, _) => return false,
         }
-        None => false,
     }
 }
 
-/// What is chosen first, if every condition holds.
-fn first_chosen(expr: &Expr) -> &Expr {
-    let mut inside = expr;
-    loop {
-        let Form::Mux(operands) = &inside.form else {
-            return inside;
-        };
-        let [_, first, _] = operands.as_slice() else {
-            return inside;
-        };
-        inside = first;
-    }
+fn is_wide_part(known: &IndexMap<u32, Indexed>, name: u32, suffixes: &[Suffix]) -> bool {
+    let Some(component) = known.get(&name) else {
+        return false;
+    };
+    let part = walk_steps(component, suffixes);
+    matches!(
+        &part.known.typ.shape,
+        Shape::Bundle(_) | Shape::Vector(_, _)
+    )
 }
 
 /// The number of what an expression comes to. Adds the fitted types of its nodes in text order, and its faults. What was seen
