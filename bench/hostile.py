@@ -94,9 +94,25 @@ def connects_of_choices_within_choices(size):
     return connects_of(size, "mux(c, mux(c, i, j), mux(c, j, i))")
 
 
+def connects_of_deep_choices(size):
+    """Choices a hundred deep in one another, each connect with others."""
+    return connects_of_each(size, [deep_choice(k) for k in range(size // 30)])
+
+
+def deep_choice(number):
+    chosen = "i"
+    for depth in range(100):
+        chosen = f"mux(c, {chosen}, {'ij'[number * 2_654_435_761 >> depth % 31 & 1]})"
+    return chosen
+
+
 def connects_of(size, source):
+    return connects_of_each(size, [source] * size)
+
+
+def connects_of_each(size, sources):
     inner = ["input c : UInt<1>"] + [f"input {name} : {fields(size)}" for name in "ij"] + [f"output o : {fields(size)}"]
-    return FRONT + module(inner + [f"connect o, {source}"] * size, "N") + module(["skip"])
+    return FRONT + module(inner + [f"connect o, {source}" for source in sources], "N") + module(["skip"])
 
 
 def connects_of_chosen_parts(size):
@@ -231,6 +247,7 @@ ROWS = {
     "n connects of parts that differ in the last field": (connects_of_unlike_parts, 8_000, "circuit NotEquivalent 6:18"),
     "n connects of choices of n fields": (connects_of_choices, 6_000, ACCEPTED),
     "n connects of choices within choices": (connects_of_choices_within_choices, 5_000, ACCEPTED),
+    "n / 30 connects of choices a hundred deep": (connects_of_deep_choices, 3_000, ACCEPTED),
     "n connects of chosen parts of n fields": (connects_of_chosen_parts, 5_000, ACCEPTED),
     "n instances of a module with n ports": (instances_of_ports, 500, TOO_LARGE),
     "2 n references to the last of n fields": (last_field, 6_000, TOO_LARGE),
