@@ -8,3 +8,4 @@ pub mod Ways
 pub mod Equivalences
 pub mod Masks
 pub mod Runs
+pub mod Singles

@@ -25,7 +25,7 @@ under-under path s flip f l =
     let t = turned_twice flip f l.flip in
     cc
 
-leaves_within : (path : List PathStep) (s : PathStep) (flip f : Bool) (ls : List TypeLeaf)
+pub leaves_within : (path : List PathStep) (s : PathStep) (flip f : Bool) (ls : List TypeLeaf)
     → map (under path flip) (map (under (s ∷ []) f) ls) ≡ map (under (path ++ s ∷ []) (if flip then not f else f)) ls
 leaves_within path s flip f [] = refl
 leaves_within path s flip f (l ∷ ls) =
@@ -33,7 +33,7 @@ leaves_within path s flip f (l ∷ ls) =
     let b = leaves_within path s flip f ls in
     cc
 
-flip_stays : (flip : Bool) → (if flip then not false else false) ≡ flip
+pub flip_stays : (flip : Bool) → (if flip then not false else false) ≡ flip
 flip_stays true = refl
 flip_stays false = refl
 
@@ -89,16 +89,6 @@ no_leaves t h = let c = counted t in grind (arith, common_steps)
 -- an element has no more leaves than a vector that has one
 pub element_within : (n c m : ℕ) → 0 < n → n * c ≤ m → c ≤ m
 element_within n c m h k = grind (arith, common_steps)
-
--- where a vector has a leaf, its element has one, and it has an element
-
-pub element_has_one : (n c : ℕ) → 1 ≤ n * c → 1 ≤ c
-element_has_one n zero h = grind (arith, common_steps)
-element_has_one n (suc c) h = omega arith
-
-pub length_is_some : (n c : ℕ) → 1 ≤ n * c → 1 ≤ n
-length_is_some zero c h = grind (arith, common_steps)
-length_is_some (suc n) c h = omega arith
 
 -- no way at all leads to the whole
 pub from_the_whole : (ls : List TypeLeaf) → map (under [] false) ls ≡ ls

@@ -21,9 +21,38 @@ pub fn leaves(alloc: Global, typ: &FirType) -> Result<Vec<TypeLeaf>, AllocError>
     Ok(listed)
 }
 
-/// Adds the leaves of a part of a type, to which this path leads. On the way `flip`s an odd number of times, or not.
+/// Adds the leaves of a part of a type, to which this path leads. On the way `flip`s an odd number of times, or not. Lengths
+/// of 1, of which any number may stand in one another, are taken in a loop.
 #[cycle(push)]
 fn push_leaves(
+    alloc: Global,
+    listed: &mut Vec<TypeLeaf>,
+    path: &mut Vec<PathStep>,
+    flip: bool,
+    typ: &FirType,
+) -> Result<(), AllocError>
+    requires { count typ.now ≤ 65536 }
+    ensures listed { OnOk result (listed.new.items ≡ listed.old.items ++ map (under path.old.items flip) (leaves typ.now)) }
+    ensures path { OnOk result (path.new.items ≡ path.old.items) }
+{
+    let before = path.len();
+    let mut inside = typ;
+    while let Shape::Vector(element, length) = &inside.shape {
+        if *length != 1 {
+            break;
+        }
+        path.push(PathStep::Element(0))?;
+        inside = element.get();
+    }
+    push_inside(alloc, listed, path, flip, inside)?;
+    path.truncate(before);
+    Ok(())
+}
+
+/// As above, for what stands inside lengths of 1. Each other length doubles the leaves at least, or leaves none, so at most 16 of
+/// those that have leaves stand in one another.
+#[cycle(push)]
+fn push_inside(
     alloc: Global,
     listed: &mut Vec<TypeLeaf>,
     path: &mut Vec<PathStep>,
@@ -50,28 +79,6 @@ fn push_leaves(
             }
             Ok(())
         }
-    }
-}
-
-/// As above, for a part that is known to have a leaf: the lengths of a run of vectors are counted once.
-#[cycle(push)]
-fn push_element_leaves(
-    alloc: Global,
-    listed: &mut Vec<TypeLeaf>,
-    path: &mut Vec<PathStep>,
-    flip: bool,
-    typ: &FirType,
-) -> Result<(), AllocError>
-    requires few { count typ.now ≤ 65536 }
-    requires some { 1 ≤ count typ.now }
-    ensures listed { OnOk result (listed.new.items ≡ listed.old.items ++ map (under path.old.items flip) (leaves typ.now)) }
-    ensures path { OnOk result (path.new.items ≡ path.old.items) }
-{
-    match &typ.shape {
-        Shape::Vector(element, length) => {
-            push_elements(alloc, listed, path, flip, element.get(), *length as u32)
-        }
-        _ => push_leaves(alloc, listed, path, flip, typ),
     }
 }
 
@@ -104,14 +111,13 @@ fn push_elements(
     element: &FirType,
     length: u32,
 ) -> Result<(), AllocError>
-    requires few { count element.now ≤ 65536 }
-    requires some { 1 ≤ count element.now }
+    requires { count element.now ≤ 65536 }
     ensures listed { OnOk result (listed.new.items ≡ listed.old.items ++ map (under path.old.items flip) (elements (leaves element.now) length)) }
     ensures path { OnOk result (path.new.items ≡ path.old.items) }
 {
     for index in 0..length {
         path.push(PathStep::Element(index))?;
-        push_element_leaves(alloc, listed, path, flip, element)?;
+        push_leaves(alloc, listed, path, flip, element)?;
         path.pop();
     }
     Ok(())

@@ -1,7 +1,12 @@
-use Rattle.std.proofs.Common.{◌≡◌, ◌++◌, map, take}
+use Rattle.std.proofs.Common.{◌≡◌, ◌≤◌, ◌++◌, map, take}
 use Rattle.std.specs.List.{flat_map}
+use Rattle.fir_types.specs.declared.fir_type.FirType.{size-FirType}
 use Rattle.fir_types.specs.Leaves.{leaves, field_leaves, elements, under}
+use Rattle.fir_types.proofs.Singles.{LeadsTo}
 use Rattle.fir_types.proofs.listing.+push.Given as goal
+
+abbrev pub invariant-push_leaves-loop-inside : goal.invariant-push_leaves-loop-inside
+invariant-push_leaves-loop-inside l = LeadsTo l.typ l.fn.path.items l.inside l.path.items × (size-FirType l.inside ≤ size-FirType l.typ)
 
 abbrev pub invariant-push_field_leaves-loop-field : goal.invariant-push_field_leaves-loop-field
 invariant-push_field_leaves-loop-field l = record {
