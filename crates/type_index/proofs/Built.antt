@@ -13,7 +13,7 @@ use Rattle.fir_types.specs.declared.fir_type.Shape.TheVariants as shape
 use Rattle.fir_types.specs.declared.fir_type.Shape.TheVariants.{outs-Unsigned, outs-Signed, outs-Clock, outs-Reset}
 use Rattle.fir_types.specs.declared.fir_type.Shape.TheViews.{out-Shape}
 use Rattle.fir_types.specs.declared.fir_type.Field.{Field}
-use Rattle.fir_types.specs.Leaves.{count, field_count, leaves, field_leaves, is_clock}
+use Rattle.fir_types.specs.Leaves.{count, field_count, leaves, field_leaves, is_clock, has_clock}
 use Rattle.fir_types.specs.Passivity.{has_flip, field_has_flip}
 use Rattle.fir_types.specs.Runs.{within}
 use Rattle.fir_types.proofs.Layers.{count-bundle, count-field, flip-bundle, leaves-bundle, leaves-vector, clock-fields, clock-field, clock-elements}
@@ -32,7 +32,7 @@ use Rattle.type_index.specs.declared.tree.TypeIndex.{TypeIndex, the_lemmas}
 use Rattle.type_index.specs.declared.tree.Inside.TheVariants as inside
 use Rattle.type_index.specs.declared.tree.Inside.TheViews.{out-Inside}
 use Rattle.type_index.specs.declared.gathered.Gathered.{Gathered}
-use Rattle.type_index.specs.Knowing.{Matches, FieldsMatch, ground, vector, bundle, no_fields, one_field, is_ground, has_clock, IsKnown, IsAmong, IsRight, places_of}
+use Rattle.type_index.specs.Knowing.{Matches, FieldsMatch, ground, vector, bundle, no_fields, one_field, is_ground, IsKnown, IsAmong, IsRight, places_of}
 use Rattle.type_index.specs.Gathering.{Gathers}
 use Rattle.type_index.proofs.Parts.{same_fields, weighed}
 

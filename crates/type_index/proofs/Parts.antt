@@ -14,7 +14,7 @@ use Rattle.fir_types.specs.declared.fir_type.Shape.TheVariants.{outs-Bundle, out
 use Rattle.fir_types.specs.declared.fir_type.Shape.TheViews.{out-Shape}
 use Rattle.fir_types.specs.declared.fir_type.FirType.{the_lemmas as type_lemmas}
 use Rattle.fir_types.specs.declared.fir_type.Field.{Field}
-use Rattle.fir_types.specs.Leaves.{count}
+use Rattle.fir_types.specs.Leaves.{count, has_clock}
 use Rattle.fir_types.specs.Passivity.{has_flip}
 use Rattle.leaf_names.specs.LeafNames.{Texts}
 use Rattle.name_sizes.specs.Caps.{cap}
@@ -28,7 +28,7 @@ use Rattle.field_index.proofs.Places.{at_place, field_found, sum_more}
 use Rattle.type_index.specs.declared.tree.TypeIndex.{TypeIndex, the_lemmas}
 use Rattle.type_index.specs.declared.tree.Inside.TheVariants as inside
 use Rattle.type_index.specs.declared.tree.Inside.TheViews.{out-Inside}
-use Rattle.type_index.specs.Knowing.{Matches, FieldsMatch, ground, vector, bundle, no_fields, one_field, is_ground, has_clock, fields_in, Knows, HasWays, IsAmong, IsPlaceIn, weight, places_of, position_of}
+use Rattle.type_index.specs.Knowing.{Matches, FieldsMatch, ground, vector, bundle, no_fields, one_field, is_ground, fields_in, Knows, HasWays, IsAmong, IsPlaceIn, weight, places_of, position_of}
 
 pub vector_out : (t e : FirType) (n : ℕ) → t.shape ≡ shape.Vector e n → out-Shape t.shape ≡ Shape-F.Vector e n
 vector_out t e n h = ap out-Shape h ∙ outs-Vector e n

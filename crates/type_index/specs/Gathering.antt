@@ -2,14 +2,14 @@
 use Rattle.std.specs.Prelude.{◌≡◌, ◌-◌, ◌^◌, min, not, List, map, sum}
 use Rattle.std.specs.List.{list_any}
 use Rattle.fir_types.specs.declared.fir_type.Field.{Field}
-use Rattle.fir_types.specs.Leaves.{field_count}
+use Rattle.fir_types.specs.Leaves.{field_count, has_clock}
 use Rattle.fir_types.specs.Passivity.{field_has_flip}
 use Rattle.leaf_names.specs.LeafNames.{Texts}
 use Rattle.width_spots.specs.Spots.{field_size}
 use Rattle.name_sizes.specs.Caps.{cap}
 use Rattle.name_sizes.specs.Texts.{field_bytes}
 use Rattle.type_index.specs.declared.gathered.Gathered.{Gathered}
-use Rattle.type_index.specs.Knowing.{FieldsMatch, IsRight, has_clock}
+use Rattle.type_index.specs.Knowing.{FieldsMatch, IsRight}
 
 pub record Gathers (texts : Texts) (fields : List Field) (gathered : Gathered) : Type 0 where
   pub parts : FieldsMatch (IsRight texts) fields gathered.parts

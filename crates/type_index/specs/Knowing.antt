@@ -1,13 +1,12 @@
 -- What is known of a type and of all its parts.
 use Rattle.std.specs.Prelude.{◌≡◌, ℕ, ◌-◌, ◌^◌, min, sum, take, Bool, true, false, not, List, [], ◌∷◌, map, Option, Some, None, IfSome}
-use Rattle.std.specs.List.{list_any}
 use Rattle.fir_types.specs.declared.fir_type.FirType.{FirType}
 use Rattle.fir_types.specs.declared.fir_type.Shape.{Shape}
 use Rattle.fir_types.specs.declared.fir_type.Shape.TheOpen.{Shape-F}
 use Rattle.fir_types.specs.declared.fir_type.Shape.TheViews.{out-Shape}
 use Rattle.fir_types.specs.declared.fir_type.Shape.TheVariants as shape
 use Rattle.fir_types.specs.declared.fir_type.Field.{Field}
-use Rattle.fir_types.specs.Leaves.{count, leaves, is_clock}
+use Rattle.fir_types.specs.Leaves.{count, has_clock}
 use Rattle.fir_types.specs.Passivity.{has_flip}
 use Rattle.field_index.specs.declared.index.FieldIndex.{FieldIndex}
 use Rattle.field_index.specs.declared.index.FieldPlace.{FieldPlace}
@@ -38,10 +37,6 @@ mutual
     no_fields : FieldsMatch P [] []
     one_field : {field : Field} {inner : TypeIndex} {fields : List Field} {inners : List TypeIndex} → Matches P field.typ inner
         → FieldsMatch P fields inners → FieldsMatch P (field ∷ fields) (inner ∷ inners)
-
--- whether a leaf of a type is a Clock
-abbrev pub has_clock : FirType → Bool
-has_clock typ = list_any is_clock (leaves typ)
 
 abbrev pub places_of : TypeIndex → ℕ
 places_of index = index.places

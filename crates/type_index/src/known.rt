@@ -4,12 +4,12 @@ ghost use Rattle.std.specs.Prelude.{◌≡◌, ◌==◌, ◌-◌, ◌^◌, min, 
 ghost use Rattle.std.specs.Option.{option_copied};
 ghost use Rattle.field_index.specs.Indexes.{first_at};
 ghost use Rattle.fir_types.specs.declared.fir_type.Shape.TheViews.{out-Shape};
-ghost use Rattle.fir_types.specs.Leaves.{count};
+ghost use Rattle.fir_types.specs.Leaves.{count, has_clock};
 ghost use Rattle.fir_types.specs.Passivity.{has_flip};
 ghost use Rattle.name_sizes.specs.Caps.{cap};
 ghost use Rattle.leaf_names.specs.LeafNames.{Texts};
 ghost use Rattle.width_spots.specs.Spots.{size};
-ghost use Rattle.type_index.specs.Knowing.{Knows, HasWays, IsAmong, IsPlaceIn, has_clock, weight, places_of, position_of, fields_in, element_in};
+ghost use Rattle.type_index.specs.Knowing.{Knows, HasWays, IsAmong, IsPlaceIn, weight, places_of, position_of, fields_in, element_in};
 
 use crate::tree::{Inside, TypeIndex};
 use bit_words::Shared;
