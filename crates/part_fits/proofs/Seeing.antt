@@ -129,6 +129,13 @@ chosen_seen x y one typ other firsts seconds h first second =
     subst (λ t. IsSeen t (map wider_of (zip firsts seconds)) one) first.typ_is
     (subst (λ ws. IsSeen x.typ (map wider_of (zip ws seconds)) one) first.widths_are (subst (λ vs. IsSeen x.typ (map wider_of (zip x.widths vs)) one) second.widths_are h))
 
+-- where the first of two that were read is as wide, it stands for the choice
+pub wide_seen : (all : List Seen) (number : ℕ) (x y : Seen) (typ other : FirType) (firsts seconds : List Width) → map wider_of (zip x.widths y.widths) ≡ x.widths → IsSeen typ firsts x → IsSeen other seconds y
+    → IsSeenAt all number typ firsts → IsSeenAt all number typ (map wider_of (zip firsts seconds))
+wide_seen all number x y typ other firsts seconds wide first second h =
+    subst (IsSeenAt all number typ)
+    (sym first.widths_are ∙ sym wide ∙ ap₂ (λ ws vs. map wider_of (zip ws vs)) first.widths_are second.widths_are) h
+
 -- a part that was found
 pub part_seen : (ws : List Width) (sized : Component) (typ : FirType) (widths : List Width) (one : Seen) → typ ≡ sized.part.typ → widths ≡ map (slot_width ws) sized.slots → IsSeen typ widths one
     → IsSeen sized.part.typ (map (slot_width ws) sized.slots) one

@@ -1,5 +1,5 @@
 -- The widths of places, and of what is chosen place by place.
-use Rattle.std.proofs.Common.{◌≡◌, ℕ, zero, suc, List, [], ◌∷◌, map, zip, length, get_or, drop, min, ◌≤◌, ◌++◌, append-nil, refl, sym, ap, ◌∙◌, arith}
+use Rattle.std.proofs.Common.{◌≡◌, ℕ, zero, suc, List, [], ◌∷◌, map, zip, length, get_or, drop, min, ◌<◌, ◌≤◌, ◌++◌, append-nil, refl, sym, ap, ◌∙◌, arith}
 use Rattle.std.proofs.lemmas.Grind.{common_steps}
 use Rattle.prim_ops.specs.declared.widths.Width.{Width}
 use Rattle.prim_ops.specs.declared.widths.Width.TheVariants.{Bits}
@@ -42,3 +42,14 @@ none_left (v ∷ first) (w ∷ second) (suc n) le = none_left first second n (om
 pub all_compared : (first second : List Width) (n : ℕ) (greater : List Width) → min (length first) (length second) ≤ n
     → map wider_of (zip first second) ≡ greater ++ map wider_of (zip (drop n first) (drop n second)) → greater ≡ map wider_of (zip first second)
 all_compared first second n greater le is = sym (is ∙ ap (λ l. greater ++ map wider_of l) (none_left first second n le) ∙ append-nil greater)
+
+-- The first is as wide: the choice between two is the first, place by place.
+
+abbrev pub IsAsWide : List Width → List Width → Type 0
+IsAsWide first second = map wider_of (zip first second) ≡ first
+
+-- then it has no more places
+pub too_many : (first second : List Width) → length second < length first → IsAsWide first second → ⊥
+too_many [] second lt h = absurd (omega (arith, lt))
+too_many (v ∷ first) [] lt h = absurd cc
+too_many (v ∷ first) (w ∷ second) lt h = too_many first second (omega (arith, lt)) cc

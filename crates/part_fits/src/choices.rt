@@ -12,7 +12,7 @@ ghost use Rattle.part_fits.specs.Seen.{IsSeen, IsSeenAt, IsPart, AreChoices, Kee
 
 use crate::fits::Fit;
 use crate::reference::{Reference, key_of};
-use crate::widths::{any_over, wider_each, widths_in};
+use crate::widths::{any_over, is_as_wide, wider_each, widths_in};
 use bit_words::List;
 use fir_tree::Suffix;
 use fir_types::{FirType, copy};
@@ -42,7 +42,7 @@ pub struct Seen {
 }
 
 impl Seen {
-    /// Takes time in proportion to the places.
+    /// Takes time in proportion to the places, which count as parts that are made. Too many in all are a want of memory.
     pub fn new(
         alloc: Global,
         made: &mut Made,
@@ -51,6 +51,7 @@ impl Seen {
     ) -> Result<Seen, AllocError>
         ensures { IfOk result (IsSeen typ widths) }
     {
+        made.count(widths.len())?;
         let fit = Fit {
             typ: made.fit(alloc, &typ, widths.as_slice())?,
             is_over: any_over(widths.as_slice()),
@@ -147,10 +148,33 @@ impl Choices {
         if let Some(number) = self.pairs.get(&pair) {
             return Ok(*number);
         }
-        let seen = chosen(alloc, made, &self.seen[first], &self.seen[second])?;
-        let number = self.push(seen)?;
+        let number = self.choose(alloc, made, first, second)?;
         self.pairs.insert(pair, number)?;
         Ok(number)
+    }
+
+    /// The same of two between which no choice is kept. It is the first where no width of the second is greater.
+    fn choose(
+        &mut self,
+        alloc: Global,
+        made: &mut Made,
+        first: usize,
+        second: usize,
+    ) -> Result<usize, AllocError>
+        requires first { first < length self.old.seen.items }
+        requires second { second < length self.old.seen.items }
+        ensures held { (ws : Listed AWidth) (known : Known) → AreChoices ws known self.old → OnOk result (AreChoices ws known self.new) }
+        ensures keeps { OnOk result (Keeps self.old.seen.items self.new.seen.items) }
+        ensures seen { (typ other : TheType) (firsts seconds : Listed AWidth) → IsSeenAt self.old.seen.items first typ firsts → IsSeenAt self.old.seen.items second other seconds → IfOk result (λ number. IsSeenAt self.new.seen.items number typ (map wider_of (zip firsts seconds))) }
+        ensures references { OnOk result (self.new.references ≡ self.old.references) }
+        ensures pairs { OnOk result (self.new.pairs ≡ self.old.pairs) }
+    {
+        let (one, other) = (&self.seen[first], &self.seen[second]);
+        if is_as_wide(one.widths.as_slice(), other.widths.as_slice()) {
+            return Ok(first);
+        }
+        let seen = chosen(alloc, made, one, other)?;
+        self.push(seen)
     }
 }
 

@@ -1,6 +1,6 @@
 //! The widths of places.
 
-ghost use Rattle.std.specs.Prelude.{◌≡◌, ◌++◌, map, zip, take, drop, IfOk, OnOk};
+ghost use Rattle.std.specs.Prelude.{◌≡◌, ◌↔◌, ◌++◌, map, zip, take, drop, IsTrue, IfOk, OnOk};
 ghost use Rattle.std.specs.List.{list_any};
 ghost use Rattle.width_rules.specs.Pieces.{joined, slots_in};
 ghost use Rattle.part_fits.specs.Widths.{slot_width, is_over, wider_of};
@@ -106,6 +106,29 @@ pub fn wider_each(
         greater.push(wider(first[at], second[at]))?;
     }
     Ok(greater)
+}
+
+/// Whether the greater of two widths is, place by place, the first, of which there are no more than of the second. Stops at the
+/// first place where it isn't, and takes no memory.
+pub fn is_as_wide(first: &[Width], second: &[Width]) -> bool
+    ensures { IsTrue result ↔ (map wider_of (zip first.now second.now) ≡ first.now) }
+{
+    if first.len() > second.len() {
+        return false;
+    }
+    for at in 0..first.len() {
+        if !is_wider(first[at], second[at]) {
+            return false;
+        }
+    }
+    true
+}
+
+/// Whether the wider of two widths is the first.
+fn is_wider(first: Width, second: Width) -> bool
+    ensures { IsTrue result ↔ (wider_of (first, second) ≡ first) }
+{
+    wider(first, second) == first
 }
 
 /// Whether one of the widths is over the limit.

@@ -2,6 +2,7 @@
 //! the type with these widths, in the order of its places.
 #![tactic(auto)]
 
+mod counting;
 mod filling;
 pub mod made;
 mod sharing;

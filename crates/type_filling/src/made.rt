@@ -3,12 +3,16 @@
 ghost use Rattle.std.specs.Prelude.{◌≡◌, IfOk, IfSome};
 ghost use Rattle.type_filling.specs.Filling.{filled, taking};
 
+use crate::counting::parts_of;
 use crate::filling::fill;
 use crate::sharing::behind_type;
 use fir_types::{FirType, Shape, copy};
 use indexmap::IndexMap;
 use prim_ops::Width;
 use std::alloc::{AllocError, Global};
+
+/// The most parts of types that may be made, and widths that may be kept beside them, in all; more are a want of memory.
+const MOST_PARTS: usize = 8_000_000;
 
 /// The text that a bundle or a vector is from: inside the lengths of vectors the place of the first field's name, or of the
 /// type where it has none, and how many lengths there are.
@@ -31,12 +35,15 @@ pub struct Versions {
 #[derive(Drop)]
 pub struct Made {
     types: IndexMap<TypeText, Versions>,
+    /// How much was counted so far.
+    parts: usize,
 }
 
 impl Made {
     pub fn new(alloc: Global) -> Made {
         Made {
             types: IndexMap::new(alloc),
+            parts: 0,
         }
     }
 
@@ -69,9 +76,19 @@ impl Made {
         if let Some(taken) = self.again(text, typ, widths)? {
             return Ok(taken);
         }
+        self.count(parts_of(typ))?;
         let (fitted, rest) = fill(alloc, typ, widths)?;
         self.keep(text, &fitted)?;
         Ok((fitted, rest))
+    }
+
+    /// Counts parts of types, or widths that are kept beside them. Too many are a want of memory.
+    pub fn count(&mut self, parts: usize) -> Result<(), AllocError> {
+        self.parts = self.parts.saturating_add(parts);
+        if self.parts > MOST_PARTS {
+            return Err(AllocError);
+        }
+        Ok(())
     }
 
     /// The same type once more, where it was made for this text, and the widths behind it.

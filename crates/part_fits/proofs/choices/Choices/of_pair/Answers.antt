@@ -1,11 +1,10 @@
-use Rattle.std.proofs.Common.{◌≡◌, ℕ, rules, refl, ◌∙◌, map}
-use Rattle.std.specs.Prelude.{Some, None, zip}
+use Rattle.std.proofs.Common.{◌≡◌, ℕ, rules, refl, ◌∙◌}
+use Rattle.std.specs.Prelude.{Some, None}
 use Rattle.std.specs.Map.{lookup}
 use Rattle.indexmap.specs.IndexMap.{get}
 use Rattle.indexmap.proofs.CallerLemmas.{insert_entry-new}
-use Rattle.part_fits.specs.Widths.{wider_of}
 use Rattle.part_fits.specs.Seen.{same_pair}
-use Rattle.part_fits.proofs.Seeing.{held_pair, choice_kept, chosen_seen, read_at}
+use Rattle.part_fits.proofs.Seeing.{held_pair, choice_kept}
 use Rattle.part_fits.proofs.choices.Choices.of_pair.Goals as goal
 
 pub returns-in-Some-clause-seen : goal.returns-in-Some-clause-seen
@@ -14,19 +13,13 @@ returns-in-Some-clause-seen c = λ ws known typ other firsts seconds h first sec
     choice_kept c.args.self.now.seen.items (c.args.first, c.args.second) c.in-Some.number.now typ other firsts seconds (h.pairs (c.args.first, c.args.second) c.in-Some.number.now found) first second
 
 pub returns-clause-seen : goal.returns-clause-seen
-returns-clause-seen c = λ ws known typ other firsts seconds h first second.
-    let all = c.args.self.now.seen.items in
-    c.in_ok-number.ensures.seen typ (map wider_of (zip firsts seconds))
-    (chosen_seen c.index.result.now c.index-2.result.now c.in_ok-seen.seen typ other firsts seconds c.in_ok-seen.ensures
-    (read_at all c.args.first c.index.result.now typ firsts c.requires.first c.index.ensures first)
-    (read_at all c.args.second c.index-2.result.now other seconds c.requires.second c.index-2.ensures second))
+returns-clause-seen c = λ ws known typ other firsts seconds h first second. c.in_ok-number.ensures.seen typ other firsts seconds first second
 
 pub returns-clause-held : goal.returns-clause-held
 returns-clause-held c = λ ws known typ other firsts seconds h first second.
-    let all = c.args.self.now.seen.items in
     let pair : ℕ × ℕ = (c.args.first, c.args.second) in
-    let none : get same_pair c.push.new.self.pairs pair ≡ None = search rules in
-    held_pair ws known c.push.new.self _ pair c.in_ok-number.number (c.in_ok-insert.ensures.entries ∙ insert_entry-new same_pair c.push.new.self.pairs pair c.in_ok-number.number none) refl refl
+    let none : get same_pair c.choose.new.self.pairs pair ≡ None = search rules in
+    held_pair ws known c.choose.new.self _ pair c.in_ok-number.number (c.in_ok-insert.ensures.entries ∙ insert_entry-new same_pair c.choose.new.self.pairs pair c.in_ok-number.number none) refl refl
     (record {
       typ = typ;
       other = other;
@@ -34,9 +27,6 @@ returns-clause-held c = λ ws known typ other firsts seconds h first second.
       seconds = seconds;
       first = c.in_ok-number.ensures.keeps c.args.first typ firsts first;
       second = c.in_ok-number.ensures.keeps c.args.second other seconds second;
-      chosen = c.in_ok-number.ensures.seen typ (map wider_of (zip firsts seconds))
-          (chosen_seen c.index.result.now c.index-2.result.now c.in_ok-seen.seen typ other firsts seconds c.in_ok-seen.ensures
-          (read_at all c.args.first c.index.result.now typ firsts c.requires.first c.index.ensures first)
-          (read_at all c.args.second c.index-2.result.now other seconds c.requires.second c.index-2.ensures second));
+      chosen = c.in_ok-number.ensures.seen typ other firsts seconds first second;
     })
     (c.in_ok-number.ensures.held ws known h)
