@@ -1,5 +1,6 @@
 -- The leaves of a type (FIRRTL specification 3.0, "Types"): its parts that are no bundles and no vectors, in order.
 use Rattle.std.specs.Prelude.{ℕ, zero, suc, ◌*◌, Bool, true, false, not, if◌then◌else◌, List, [], ◌∷◌, ◌++◌, map, sum, flat_map}
+use Rattle.std.specs.List.{list_any}
 use Rattle.place_text.specs.declared.place.Place.{Place}
 use Rattle.fir_types.specs.declared.fir_type.FirType.{FirType, fold-FirType}
 use Rattle.fir_types.specs.declared.fir_type.Shape.{Shape, fold-Shape}
@@ -82,6 +83,10 @@ is_clock_shape (Shape-F.Vector element length) = false
 -- whether a leaf is a Clock
 abbrev pub is_clock : TypeLeaf → Bool
 is_clock leaf = is_clock_shape (out-Shape leaf.typ.shape)
+
+-- whether a leaf of a type is one
+abbrev pub has_clock : FirType → Bool
+has_clock typ = list_any is_clock (leaves typ)
 
 -- where a leaf stands, and whether it is turned round
 abbrev pub way_of : TypeLeaf → List PathStep × Bool

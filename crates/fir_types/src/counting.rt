@@ -3,7 +3,7 @@
 
 ghost use Rattle.std.specs.Prelude.{◌≡◌, ◌-◌, ◌^◌, min, map, sum};
 ghost use Rattle.std.specs.List.{list_any};
-ghost use Rattle.fir_types.specs.Leaves.{count, field_count, leaves, field_leaves, is_clock};
+ghost use Rattle.fir_types.specs.Leaves.{count, field_count, leaves, field_leaves, is_clock, has_clock};
 
 use crate::{Field, FirType, Shape};
 
@@ -42,7 +42,7 @@ fn count_fields(fields: &[Field]) -> u128
 /// Whether a leaf of the type is a `Clock`. A vector of length 0 has no leaf.
 #[cycle(clock)]
 pub fn has_clock(typ: &FirType) -> bool
-    ensures { result ≡ list_any is_clock (leaves typ.now) }
+    ensures { result ≡ has_clock typ.now }
 {
     let mut inside = typ;
     loop {

@@ -1,17 +1,15 @@
 -- The numbers of modules by name, one module after another.
-use Rattle.std.proofs.Common.{◌≡◌, ℕ, zero, suc, ◌+◌, ◌<◌, Bool, true, false, List, [], ◌∷◌, ◌++◌, map, length, take, get_or, refl, sym, ap, ap₂, ◌∙◌, subst, if◌then◌else◌, true≢false}
-use Rattle.std.specs.Prelude.{is_some, cond, nat_eq, Option, Some, None, option_map, slice_get, ◌==◌, ◌≤◌, IfSome, MatchOption}
+use Rattle.std.proofs.Common.{◌≡◌, ℕ, ◌+◌, ◌<◌, Bool, true, false, List, [], ◌∷◌, ◌++◌, map, length, take, get_or, refl, sym, ap, ap₂, ◌∙◌, subst, if◌then◌else◌, true≢false}
+use Rattle.std.specs.Prelude.{is_some, cond, nat_eq, Option, Some, None, option_map, slice_get, ◌==◌, ◌≤◌, All, IfSome, MatchOption}
 use Rattle.std.specs.Map.{lookup}
 use Rattle.std.proofs.lemmas.List.{take_more, map-append}
-use Rattle.std.proofs.lemmas.Option.{slice_get-get_or, slice_get-map, slice_get_read, slice_get_past}
+use Rattle.std.proofs.lemmas.List.Elements.{All-get_or}
+use Rattle.std.proofs.lemmas.Option.{slice_get-get_or, slice_get-map, slice_get_read, slice_get_past, slice_get_within, get_or_from_slice_get}
 use Rattle.std.proofs.lemmas.Bool.{eqb-true, eqb-false}
 use Rattle.std.proofs.Math.Logic.{∥∥₁_map}
-use Rattle.leaf_names.specs.LeafNames.{Texts}
-use Rattle.type_index.specs.Knowing.{HasWays}
 use Rattle.fir_tree.specs.declared.circuit.Module.{Module}
-use Rattle.fir_types.specs.declared.fir_type.FirType.{FirType}
-use Rattle.type_index.specs.declared.known_type.KnownType.{KnownType}
-use Rattle.module_table.specs.Tables.{with_new, named, IsIndex, IsIndexOf, bundle_of, typ_of, AreMeasured}
+use Rattle.module_table.specs.declared.modules.Instance.{Instance}
+use Rattle.module_table.specs.Tables.{with_new, named, IsIndex, IsIndexOf, bundle_of, instance_typ}
 
 abbrev or_else : {X : Type 0} → Option X → Option X → Option X
 or_else (Some x) o = Some x
@@ -112,49 +110,24 @@ pub got_at : {B X : Type 0} (now : B → X) (P : B → Type 0) (xs : List X) (i 
 got_at now P xs i (Some x) is h = sym (slice_get_read xs (length xs) i (now x) refl h.0 is)
 got_at now P xs i None is h = sym (slice_get_past xs i h)
 
-pub instance_at : (all : List Module) (numbers : List (ℕ × ℕ)) (instances : List KnownType) (name number : ℕ) → IsIndex all numbers
-    → map typ_of instances ≡ map bundle_of all → lookup (nat_eq name) numbers ≡ Some number
-    → option_map typ_of (slice_get instances number) ≡ option_map bundle_of (named all name)
+pub instance_at : (all : List Module) (numbers : List (ℕ × ℕ)) (instances : List Instance) (name number : ℕ) → IsIndex all numbers
+    → map instance_typ instances ≡ map bundle_of all → lookup (nat_eq name) numbers ≡ Some number
+    → option_map instance_typ (slice_get instances number) ≡ option_map bundle_of (named all name)
 instance_at all numbers instances name number h made is =
-    sym (slice_get-map typ_of instances number) ∙ ap (λ l. slice_get l number) made ∙ slice_get-map bundle_of all number
+    sym (slice_get-map instance_typ instances number) ∙ ap (λ l. slice_get l number) made ∙ slice_get-map bundle_of all number
     ∙ ap (option_map bundle_of) (found_at (slice_get all number) (named all name) (ap (option_map (slice_get all)) (sym is) ∙ h name))
 
-pub instance_none : (all : List Module) (numbers : List (ℕ × ℕ)) (name : ℕ) → IsIndex all numbers → lookup (nat_eq name) numbers ≡ None
-    → ◌≡◌ {A = Option FirType} None (option_map bundle_of (named all name))
-instance_none all numbers name h is = by (named all name) (ap (option_map (slice_get all)) (sym is) ∙ h name)
-  where
-    by : (m : Option Module) → ◌≡◌ {A = Option (Option Module)} None (option_map Some m) → ◌≡◌ {A = Option FirType} None (option_map bundle_of m)
-    by (Some x) h = absurd (true≢false (sym (ap is_some h)))
-    by None h = refl
-
 -- one more instance
-pub instances_more : (modules : List Module) (i : ℕ) (m : Module) (instances after : List KnownType) (known : KnownType) → i < length modules → m ≡ get_or modules i m
-    → map typ_of instances ≡ map bundle_of (take i modules) → known.typ ≡ bundle_of m → after ≡ instances ++ known ∷ []
-    → map typ_of after ≡ map bundle_of (take (i + 1) modules)
-instances_more modules i m instances after known lt is h own e =
-    ap (map typ_of) e ∙ map-append typ_of instances (known ∷ []) ∙ ap₂ (λ l t. l ++ t ∷ []) h (own ∙ ap bundle_of is)
+pub instances_more : (modules : List Module) (i : ℕ) (m : Module) (instances after : List Instance) (one : Instance) → i < length modules → m ≡ get_or modules i m
+    → map instance_typ instances ≡ map bundle_of (take i modules) → instance_typ one ≡ bundle_of m → after ≡ instances ++ one ∷ []
+    → map instance_typ after ≡ map bundle_of (take (i + 1) modules)
+instances_more modules i m instances after one lt is h own e =
+    ap (map instance_typ) e ∙ map-append instance_typ instances (one ∷ []) ∙ ap₂ (λ l t. l ++ t ∷ []) h (own ∙ ap bundle_of is)
     ∙ sym (ap (map bundle_of) (take_more modules i m lt) ∙ map-append bundle_of (take i modules) (get_or modules i m ∷ []))
 
--- the ways of one more instance, and of one of them
-
-measured_push : (texts : Texts) (xs : List KnownType) (x : KnownType) → AreMeasured texts xs → HasWays texts x.typ x.index → AreMeasured texts (xs ++ x ∷ [])
-measured_push texts [] x m w = (w, tt)
-measured_push texts (y ∷ xs) x m w = (m.0, measured_push texts xs x m.1 w)
-
-pub measured_more : (texts : Texts) (xs after : List KnownType) (x : KnownType) → AreMeasured texts xs → HasWays texts x.typ x.index → after ≡ xs ++ x ∷ []
-    → AreMeasured texts after
-measured_more texts xs after x m w e = subst (AreMeasured texts) (sym e) (measured_push texts xs x m w)
-
-pub measured_at : (texts : Texts) (xs : List KnownType) (i : ℕ) (x : KnownType) → AreMeasured texts xs → Some x ≡ slice_get xs i → HasWays texts x.typ x.index
-measured_at texts [] i x m e = absurd cc
-measured_at texts (y ∷ xs) zero x m e = subst (λ z. HasWays texts z.typ z.index) (same y x (sym e)) m.0
-  where
-    same : (a b : KnownType) → Some a ≡ Some b → a ≡ b
-    same a b h = cc
-measured_at texts (y ∷ xs) (suc i) x m e = measured_at texts xs i x m.1 e
-
-pub known_at : (texts : Texts) (xs : List KnownType) (i : ℕ) (x : KnownType) → ∥ AreMeasured texts xs ∥₁ → Some x ≡ slice_get xs i → ∥ HasWays texts x.typ x.index ∥₁
-known_at texts xs i x k e = ∥∥₁_map k (λ m. measured_at texts xs i x m e)
+-- what holds of each holds of what is got
+pub kept_at : {X : Type 0} (P : X → Type 0) (xs : List X) (i : ℕ) (x : X) → ∥ All P xs ∥₁ → Some x ≡ slice_get xs i → ∥ P x ∥₁
+kept_at P xs i x all e = ∥∥₁_map all (λ h. subst P (get_or_from_slice_get xs i x x (sym e)) (All-get_or P xs i x (slice_get_within xs i x (sym e)) h))
 
 pub each_got : {B X : Type 0} (now : B → X) (P : X → Type 0) (xs : List X) (i : ℕ) (r : Option B) → ((x : X) → Some x ≡ slice_get xs i → P x)
     → option_map now r ≡ slice_get xs i → IfSome r (λ b. P (now b))

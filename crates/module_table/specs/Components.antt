@@ -1,16 +1,39 @@
--- The components of a module as the bodies keep them, and which pairs of them have been compared.
-use Rattle.std.specs.Prelude.{◌≡◌, ◌↔◌, ◌&&◌, ℕ, Bool, IsTrue, List, map, Option, Some, IfSome, nat_eq}
+-- The components of a module as the bodies keep them.
+use Rattle.std.specs.Prelude.{◌≡◌, ℕ, List, map, Option, Some, None, IfSome, nat_eq, refl}
 use Rattle.std.specs.Map.{lookup}
-use Rattle.fir_types.specs.Equivalence.{Equivalent}
+use Rattle.std.specs.Coded.{Coded, code_by, coded×, coded_list, coded_ℕ}
+use Rattle.fir_tree.specs.declared.circuit.Module.{Module}
+use Rattle.fir_tree.specs.contracts.circuit.Module.{the_row as module_row}
 use Rattle.circuit_parts.specs.declared.part.Part.{Part}
+use Rattle.circuit_parts.specs.contracts.part.Part.{the_row as part_row}
 use Rattle.circuit_parts.specs.Parts.{part_of}
 use Rattle.type_classes.specs.Numbers.{Table, HasNumber}
 use Rattle.module_table.specs.declared.components.Component.{Component}
 use Rattle.module_table.specs.declared.components.Noted.{Noted}
+use Rattle.module_table.specs.Tables.{with_new}
 
 -- parts by the numbers of their names
 abbrev pub Parts : Type 0
 Parts = List (ℕ × Part)
+
+-- what names mean in a module: all modules of the circuit, and the components that are noted
+pub record Environment : Type 0 where
+  pub modules : List Module
+  pub parts : Parts
+
+-- it is stored as the pair of its fields
+abbrev pub environment_code : Coded Environment
+environment_code =
+    code_by (List Module × Parts) (coded× (coded_list module_row.coded) (coded_list (coded× coded_ℕ part_row.coded))) (λ e. (e.modules, e.parts))
+    (λ p. record { modules = p.0; parts = p.1 }) (λ _. refl)
+
+-- one more part, where there is one, unless there is one of its name
+abbrev pub parts_with : Parts → ℕ → Option Part → Parts
+parts_with parts name (Some part) = with_new parts name part
+parts_with parts name None = parts
+
+abbrev pub with_part : Environment → ℕ → Option Part → Environment
+with_part among name part = record { modules = among.modules; parts = parts_with among.parts name part }
 
 abbrev pub part_in : Component → Part
 part_in c = part_of c.known.typ c.flow
@@ -21,24 +44,10 @@ part_noted noted = part_in noted.component
 abbrev pub parts_of : List (ℕ × Noted) → Parts
 parts_of entries = map (λ e. (e.0, part_noted e.1)) entries
 
--- the two parts are there, and this is whether they have equivalent types
-abbrev pub Answers : Bool → Option Part → Option Part → Type 0
-Answers answer left right = (one : Part) × (other : Part) × (left ≡ Some one) × (right ≡ Some other) × (IsTrue answer ↔ Equivalent one.typ other.typ)
-
--- the same names in the same order
-abbrev pub same_names : ℕ × ℕ → ℕ × ℕ → Bool
-same_names names other = nat_eq names.0 other.0 && nat_eq names.1 other.1
-
--- each answer that is kept for two names is whether the types of these two components are equivalent
-abbrev pub AreCompared : Parts → List ((ℕ × ℕ) × Bool) → Type 0
-AreCompared parts compared = (names : ℕ × ℕ) (answer : Bool) → lookup (same_names names) compared ≡ Some answer
-    → Answers answer (lookup (nat_eq names.0) parts) (lookup (nat_eq names.1) parts)
+-- the number, where there is one, is that of this type
+abbrev pub HasClass : Table → Noted → Type 0
+HasClass table noted = IfSome noted.class (λ class. ∥ HasNumber table noted.component.known.typ class ∥₁)
 
 -- each number that is kept for a component is that of its type
 abbrev pub AreClassed : Table → List (ℕ × Noted) → Type 0
-AreClassed table noted = (name : ℕ) (one : Noted) → lookup (nat_eq name) noted ≡ Some one → IfSome one.class (λ class. ∥ HasNumber table one.component.known.typ class ∥₁)
-
--- what is kept is right
-pub record AreKept (table : Table) (noted : List (ℕ × Noted)) (compared : List ((ℕ × ℕ) × Bool)) : Type 0 where
-  pub classed : AreClassed table noted
-  pub compared' : AreCompared (parts_of noted) compared
+AreClassed table noted = (name : ℕ) (one : Noted) → lookup (nat_eq name) noted ≡ Some one → HasClass table one

@@ -1,4 +1,3 @@
 pub mod Tables
-pub mod Whole
 pub mod Components
 pub mod Leading

@@ -1,12 +1,14 @@
 -- The modules of a circuit by the numbers of their names, and the types of their instances.
-use Rattle.std.specs.Prelude.{◌≡◌, ℕ, List, [], ◌∷◌, ◌++◌, nat_eq, ◌==◌, find, slice_get, is_some, Option, Some, option_map, if◌then◌else◌}
+use Rattle.std.specs.Prelude.{◌≡◌, ℕ, List, [], ◌∷◌, ◌++◌, nat_eq, ◌==◌, find, slice_get, is_some, Option, Some, option_map, if◌then◌else◌, IfSome}
 use Rattle.std.specs.Map.{lookup}
 use Rattle.fir_tree.specs.declared.circuit.Module.{Module}
 use Rattle.fir_types.specs.declared.fir_type.FirType.{FirType}
 use Rattle.fir_types.specs.Bundles.{instance_of}
 use Rattle.leaf_names.specs.LeafNames.{Texts}
+use Rattle.type_classes.specs.Numbers.{Table, HasNumber}
 use Rattle.type_index.specs.Knowing.{HasWays}
 use Rattle.type_index.specs.declared.known_type.KnownType.{KnownType}
+use Rattle.module_table.specs.declared.modules.Instance.{Instance}
 
 -- the first module of a name
 abbrev pub named : List Module → ℕ → Option Module
@@ -19,10 +21,14 @@ bundle_of m = instance_of m.ports
 abbrev pub typ_of : KnownType → FirType
 typ_of known = known.typ
 
--- each type has the bytes of the ways to its leaves, where the names have these texts
-abbrev pub AreMeasured : Texts → List KnownType → Type 0
-AreMeasured texts [] = Unit {0}
-AreMeasured texts (known ∷ rest) = HasWays texts known.typ known.index × AreMeasured texts rest
+abbrev pub instance_typ : Instance → FirType
+instance_typ instance = instance.known.typ
+
+-- The type has the bytes of the ways to its leaves, where the names have these texts, and the number, where there is one, is that of
+-- its class.
+pub record IsInstance (texts : Texts) (table : Table) (instance : Instance) : Type 0 where
+  pub ways : HasWays texts instance.known.typ instance.known.index
+  pub class : IfSome instance.class (HasNumber table instance.known.typ)
 
 -- the entries with one more, unless there is one of its name
 abbrev pub with_new : {X : Type 0} → List (ℕ × X) → ℕ → X → List (ℕ × X)

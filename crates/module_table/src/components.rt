@@ -1,24 +1,22 @@
 //! The components of a module that are known.
 
-ghost use Rattle.std.specs.Prelude.{◌≡◌, ◌↔◌, [], IsTrue, Some, nat_eq, IfOk, IfSome, OnOk};
+ghost use Rattle.std.specs.Prelude.{◌≡◌, [], Some, option_map, nat_eq, IfSome, OnOk};
 ghost use Rattle.std.specs.Map.{lookup};
-ghost use Rattle.std.specs.Option.{option_map, option_copied};
+ghost use Rattle.std.specs.Option.{option_copied};
 ghost use Rattle.fir_types.specs.declared.fir_type.FirType.{FirType as AType};
 ghost use Rattle.fir_types.specs.Bundles.{memory_of};
-ghost use Rattle.fir_types.specs.Equivalence.{Equivalent};
-ghost use Rattle.module_table.specs.Components.{part_in};
+ghost use Rattle.circuit_parts.specs.Parts.{instance_in};
+ghost use Rattle.module_table.specs.Components.{part_in, with_part};
 ghost use Rattle.module_table.specs.Leading.{Leads, AreCompared as AreAnswered};
-ghost use Rattle.module_table.specs.Tables.{with_new};
 
-use crate::modules::insert_new;
-use crate::reference::{Reference, class_at};
-use circuit_parts::{Flow, Part};
-use fir_types::{Memory, equivalent};
+use crate::modules::{Modules, insert_new};
+use crate::reference::{Reference, class_at, part_along};
+use circuit_parts::Flow;
+use fir_types::Memory;
 use indexmap::IndexMap;
 use std::alloc::{AllocError, Global};
 use std::marker::Model;
-use type_classes::Classes;
-use type_index::KnownType;
+use type_index::{Known, KnownType};
 
 /// A component: its type, with what is often asked of it, and its flow.
 #[derive(Drop)]
@@ -35,54 +33,57 @@ pub struct Noted {
 }
 
 /// Components by the numbers of their names: of each name the first. Contracts see them as parts, in the order in which they were
-/// noted.
+/// noted, beside the modules of the circuit.
 #[derive(Drop)]
 pub struct Components<'a> {
-    /// The numbers of the classes of types.
-    classes: &'a Classes,
+    /// The modules, with the numbers of the classes of all types that they declare.
+    modules: &'a Modules<'a>,
     noted: IndexMap<u32, Noted>,
-    /// Whether the types of the two components of these names are equivalent, where that was asked before.
-    compared: IndexMap<(u32, u32), bool>,
 }
 
 impl<'a> Model for Components<'a> {
-    ghost use Rattle.std.specs.Coded.{coded_list, coded×, coded_ℕ};
-    ghost use Rattle.circuit_parts.specs.contracts.part.Part.{the_row};
-    ghost use Rattle.module_table.specs.Components.{Parts, parts_of, AreKept};
+    ghost use Rattle.module_table.specs.Components.{Environment, environment_code, parts_of, AreClassed};
     ghost use Rattle.type_classes.specs.Sights.{table_of};
 
-    ghost Value = { Parts };
+    ghost Value = { Environment };
 
-    ghost coded = { coded_list (coded× coded_ℕ the_row.coded) };
+    ghost coded = { environment_code };
 
-    ghost view = { λ c. parts_of c.noted.entries };
+    ghost view = { λ c. record { modules = c.modules.now.all.now; parts = parts_of c.noted.entries } };
 
-    ghost invariant = { λ c. AreKept (table_of c.classes.now) c.noted.entries c.compared.entries };
+    ghost invariant = { λ c. AreClassed (table_of c.modules.now.classes) c.noted.entries };
 }
 
 impl<'a> Components<'a> {
-    /// No component.
-    pub fn new(alloc: Global, classes: &'a Classes) -> Components<'a>
-        ensures { result ≡ [] }
+    /// No component, among these modules.
+    pub fn new(alloc: Global, modules: &'a Modules<'a>) -> Components<'a>
+        ensures { result ≡ record { modules = modules.now.all.now; parts = [] } }
     {
         Components {
-            classes,
+            modules,
             noted: IndexMap::new(alloc),
-            compared: IndexMap::new(alloc),
         }
     }
 
     /// The component of a name, given by the number of its text.
     pub fn get(&self, name: u32) -> Option<&Component>
-        ensures { option_map part_in (option_copied result) ≡ lookup (nat_eq name) self.now }
+        ensures { option_map part_in (option_copied result) ≡ lookup (nat_eq name) self.now.parts }
     {
         let noted = self.noted.get(&name)?;
         Some(&noted.component)
     }
 
+    /// What a reference leads to, with what is known of it. Takes time in proportion to the steps.
+    pub fn part(&self, reference: Reference<'_>) -> Option<Known<'_>>
+        ensures { IfSome result (λ there. Leads self.now.parts reference.entry.name reference.entry.suffixes.now there.typ.now) }
+    {
+        let component = self.get(reference.name)?;
+        part_along(component.known.known(), reference.suffixes)
+    }
+
     /// Notes a component, unless there is one of its name. The class of its type isn't known.
     pub fn note(&mut self, name: u32, component: Component) -> Result<(), AllocError>
-        ensures { OnOk result (self.new ≡ with_new self.old name (part_in component)) }
+        ensures { OnOk result (self.new ≡ with_part self.old name (Some (part_in component))) }
     {
         let class = None;
         insert_new(&mut self.noted, name, Noted { component, class })?;
@@ -96,9 +97,10 @@ impl<'a> Components<'a> {
         name: u32,
         component: Component,
     ) -> Result<(), AllocError>
-        ensures { OnOk result (self.new ≡ with_new self.old name (part_in component)) }
+        ensures { OnOk result (self.new ≡ with_part self.old name (Some (part_in component))) }
     {
-        let class = self.classes.number(alloc, false, &component.known.typ)?;
+        let classes = &self.modules.classes;
+        let class = classes.number(alloc, false, &component.known.typ)?;
         insert_new(&mut self.noted, name, Noted { component, class })?;
         Ok(())
     }
@@ -113,9 +115,9 @@ impl<'a> Components<'a> {
         memory: &Memory,
     ) -> Result<(), AllocError>
         requires { component.known.typ ≡ memory_of memory.now }
-        ensures { OnOk result (self.new ≡ with_new self.old name (part_in component)) }
+        ensures { OnOk result (self.new ≡ with_part self.old name (Some (part_in component))) }
     {
-        let class = self.classes.number_memory(alloc, memory)?;
+        let class = self.modules.classes.number_memory(alloc, memory)?;
         insert_new(&mut self.noted, name, Noted { component, class })?;
         Ok(())
     }
@@ -127,40 +129,38 @@ impl<'a> Components<'a> {
         component: Component,
         reference: Reference<'_>,
     ) -> Result<(), AllocError>
-        requires { (typ : AType) → Leads self.old reference.name reference.suffixes.now typ → component.known.typ ≡ typ }
-        ensures { OnOk result (self.new ≡ with_new self.old name (part_in component)) }
+        requires { (typ : AType) → Leads self.old.parts reference.name reference.suffixes.now typ → component.known.typ ≡ typ }
+        ensures { OnOk result (self.new ≡ with_part self.old name (Some (part_in component))) }
     {
-        let class = class_at(self.classes, &self.noted, reference);
+        let class = class_at(&self.modules.classes, &self.noted, reference);
+        insert_new(&mut self.noted, name, Noted { component, class })?;
+        Ok(())
+    }
+
+    /// The same of an instance of the first module of the name `target`, where there is such a module. It shares what is known of the
+    /// instances' type, so it takes constant time and no memory for the type.
+    pub fn note_instance(&mut self, name: u32, target: u32) -> Result<(), AllocError>
+        ensures { OnOk result (self.new ≡ with_part self.old name (instance_in self.old.modules target)) }
+    {
+        let Some(instance) = self.modules.first_instance(target) else {
+            return Ok(());
+        };
+        let component = Component {
+            known: instance.known.share()?,
+            flow: Flow::Source,
+        };
+        let class = instance.class;
         insert_new(&mut self.noted, name, Noted { component, class })?;
         Ok(())
     }
 
     /// Whether two references lead to equivalent types, where the classes of both are known. Takes time in proportion to the steps.
     pub fn same_class(&self, one: Reference<'_>, other: Reference<'_>) -> Option<bool>
-        ensures { IfSome result (λ answer. AreAnswered self.now (one.entry.name, one.entry.suffixes.now) (other.entry.name, other.entry.suffixes.now) answer) }
+        ensures { IfSome result (λ answer. AreAnswered self.now.parts (one.entry.name, one.entry.suffixes.now) (other.entry.name, other.entry.suffixes.now) answer) }
     {
-        let first = class_at(self.classes, &self.noted, one)?;
-        let second = class_at(self.classes, &self.noted, other)?;
-        Some(self.classes.same(first, second))
-    }
-
-    /// Whether the types of the components of two names are equivalent. Takes constant time where it was asked before.
-    pub fn are_equivalent(
-        &mut self,
-        names: (u32, u32),
-        left: &Part,
-        right: &Part,
-    ) -> Result<bool, AllocError>
-        requires left { lookup (nat_eq names.0) self.old ≡ Some left.now }
-        requires right { lookup (nat_eq names.1) self.old ≡ Some right.now }
-        ensures answer { IfOk result (λ answer. IsTrue answer ↔ Equivalent left.now.typ right.now.typ) }
-        ensures same { OnOk result (self.new ≡ self.old) }
-    {
-        if let Some(answer) = self.compared.get(&names) {
-            return Ok(*answer);
-        }
-        let answer = equivalent(&left.typ, &right.typ);
-        self.compared.insert(names, answer)?;
-        Ok(answer)
+        let classes = &self.modules.classes;
+        let first = class_at(classes, &self.noted, one)?;
+        let second = class_at(classes, &self.noted, other)?;
+        Some(classes.same(first, second))
     }
 }

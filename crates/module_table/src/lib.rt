@@ -4,9 +4,7 @@
 pub mod components;
 pub mod modules;
 pub mod reference;
-pub mod whole;
 
 pub use components::{Component, Components};
 pub use modules::{Modules, insert_new};
 pub use reference::{Reference, reference_of};
-pub use whole::whole_name;

@@ -1,10 +1,11 @@
 //! The modules of a circuit, by name.
 
-ghost use Rattle.std.specs.Prelude.{◌≡◌, Some, map, option_map, slice_get, IfOk, IfSome, OnOk, OnErr};
+ghost use Rattle.std.specs.Prelude.{◌≡◌, Some, All, map, option_map, slice_get, IfOk, IfSome, OnOk, OnErr};
 ghost use Rattle.std.specs.Option.{option_copied};
 ghost use Rattle.std.specs.Coded.{Coded-set, coded_list};
 ghost use Rattle.fir_types.specs.contracts.fir_type.FirType.{the_row as type_row};
-ghost use Rattle.module_table.specs.Tables.{IsIndex, named, bundle_of, with_new, typ_of, AreMeasured};
+ghost use Rattle.module_table.specs.Tables.{IsIndex, named, bundle_of, with_new, typ_of, instance_typ, IsInstance};
+ghost use Rattle.type_classes.specs.Sights.{table_of};
 ghost use Rattle.type_index.specs.Knowing.{HasWays};
 
 use fir_tree::{Module, Names};
@@ -13,6 +14,13 @@ use indexmap::IndexMap;
 use std::alloc::{AllocError, Global};
 use type_classes::Classes;
 use type_index::KnownType;
+
+/// The type of the instances of a module, with the number of its class, where it has one.
+#[derive(Drop)]
+pub struct Instance {
+    pub known: KnownType,
+    pub class: Option<u32>,
+}
 
 /// The modules of a circuit, with the number of the first of each name, and with what the instances of each share.
 #[derive(Drop)]
@@ -23,10 +31,10 @@ pub struct Modules<'a> {
     /// The numbers of the classes of all types that they declare.
     pub classes: Classes,
     numbers: IndexMap<u32, usize>,
-    instances: Vec<KnownType>,
+    instances: Vec<Instance>,
     ghost indexed: { IsIndex all.now numbers.entries },
-    ghost bundled: { map typ_of instances.items ≡ map bundle_of all.now } by { Coded-set (coded_list type_row.coded) (map typ_of instances.items) (map bundle_of all.now) },
-    ghost measured: { ∥ AreMeasured names.now instances.items ∥₁ },
+    ghost bundled: { map instance_typ instances.items ≡ map bundle_of all.now } by { Coded-set (coded_list type_row.coded) (map instance_typ instances.items) (map bundle_of all.now) },
+    ghost known: { ∥ All (IsInstance names.now (table_of classes)) instances.items ∥₁ },
 }
 
 impl<'a> Modules<'a> {
@@ -41,7 +49,7 @@ impl<'a> Modules<'a> {
     {
         let classes = Classes::of_circuit(alloc, all)?;
         let numbers = numbers_of(alloc, all)?;
-        let instances = instances_of(alloc, names, all)?;
+        let instances = instances_of(alloc, names, &classes, all)?;
         Ok(Modules {
             all,
             names,
@@ -71,25 +79,36 @@ impl<'a> Modules<'a> {
         ensures typ { option_map typ_of (option_copied result) ≡ option_map bundle_of (named self.now.all.now name) }
         ensures ways { IfSome result (λ known. ∥ HasWays self.now.names.now known.now.typ known.now.index ∥₁) }
     {
+        let instance = self.first_instance(name)?;
+        Some(&instance.known)
+    }
+
+    /// The same type with the number of its class.
+    pub fn first_instance(&self, name: u32) -> Option<&Instance>
+        ensures typ { option_map instance_typ (option_copied result) ≡ option_map bundle_of (named self.now.all.now name) }
+        ensures known { IfSome result (λ instance. ∥ IsInstance self.now.names.now (table_of self.now.classes) instance.now ∥₁) }
+    {
         let number = self.numbers.get(&name)?;
         self.instances.get(*number)
     }
 }
 
-/// The types of the modules' instances.
+/// The types of the modules' instances, with their numbers.
 fn instances_of(
     alloc: Global,
     names: &Names,
+    classes: &Classes,
     modules: &[Module],
-) -> Result<Vec<KnownType>, AllocError>
-    ensures typs { IfOk result (λ instances. map typ_of instances.items ≡ map bundle_of modules.now) }
-    ensures ways { IfOk result (λ instances. AreMeasured names.now instances.items) }
+) -> Result<Vec<Instance>, AllocError>
+    ensures typs { IfOk result (λ instances. map instance_typ instances.items ≡ map bundle_of modules.now) }
+    ensures known { IfOk result (λ instances. All (IsInstance names.now (table_of classes.now)) instances.items) }
 {
     let mut instances = Vec::new(alloc);
     for module in modules {
         let bundle = instance_type(alloc, module.ports.as_slice())?;
         let known = KnownType::new(alloc, names, bundle)?;
-        instances.push(known)?;
+        let class = classes.number(alloc, false, &known.typ)?;
+        instances.push(Instance { known, class })?;
     }
     Ok(instances)
 }

@@ -1,15 +1,16 @@
-//! References among the components, and the classes of the types to which they lead.
+//! References among the components, what they lead to, and the classes of the types there.
 
 ghost use Rattle.std.specs.Prelude.{IfSome};
 ghost use Rattle.fir_types.specs.declared.fir_type.FirType.{FirType as AType};
 ghost use Rattle.type_classes.specs.Numbers.{HasNumber};
 ghost use Rattle.type_classes.specs.Sights.{table_of};
-ghost use Rattle.module_table.specs.Leading.{IsReference, ClassBehind, ClassAlong, LeadsClass};
+ghost use Rattle.module_table.specs.Leading.{IsReference, IsBehind, AreBehind, ClassBehind, ClassAlong, LeadsClass};
 
 use crate::components::Noted;
 use fir_tree::{Expr, Form, Suffix};
 use indexmap::IndexMap;
 use type_classes::Classes;
+use type_index::Known;
 
 /// A component, given by the number of its name, and the steps to one of its parts.
 #[derive(Clone, Copy)]
@@ -29,6 +30,30 @@ pub fn reference_of(expr: &Expr) -> Option<Reference<'_>>
         name: name.id,
         suffixes: suffixes.as_slice(),
     })
+}
+
+/// What is behind some steps.
+pub fn part_along<'a>(base: Known<'a>, suffixes: &[Suffix]) -> Option<Known<'a>>
+    ensures { IfSome result (λ there. AreBehind suffixes.now base.entry.typ.now there.typ.now) }
+{
+    let mut reached = base;
+    for suffix in suffixes {
+        reached = part_behind(reached, suffix)?;
+    }
+    Some(reached)
+}
+
+/// What is behind a step.
+fn part_behind<'a>(base: Known<'a>, suffix: &Suffix) -> Option<Known<'a>>
+    ensures { IfSome result (λ there. IsBehind suffix.now base.entry.typ.now there.typ.now) }
+{
+    match suffix {
+        Suffix::Field(name) => {
+            let found = base.field(name.id)?;
+            Some(found.known())
+        }
+        Suffix::At(_, _, _) | Suffix::Index(_, _) => base.element(),
+    }
 }
 
 /// The number of the class of the type to which a reference leads among these components, where it is known.

@@ -14,7 +14,7 @@ use Rattle.fir_types.specs.declared.fir_type.Shape.TheVariants.{outs-Bundle, out
 use Rattle.fir_types.specs.declared.fir_type.Shape.TheViews.{out-Shape}
 use Rattle.fir_types.specs.declared.fir_type.FirType.{the_lemmas as type_lemmas}
 use Rattle.fir_types.specs.declared.fir_type.Field.{Field}
-use Rattle.fir_types.specs.Leaves.{count}
+use Rattle.fir_types.specs.Leaves.{count, has_clock}
 use Rattle.fir_types.specs.Passivity.{has_flip}
 use Rattle.leaf_names.specs.LeafNames.{Texts}
 use Rattle.name_sizes.specs.Caps.{cap}
@@ -265,6 +265,9 @@ counted_known typ index k = ∥∥₁_elim k (ℕ_set index.leaves (cap (count t
 
 pub flipless_known : (typ : FirType) (index : TypeIndex) → Knows typ index → index.passive ≡ not (has_flip typ)
 flipless_known typ index k = ∥∥₁_elim k (Bool-set index.passive (not (has_flip typ))) (λ m. (self m).passive)
+
+pub clocked_known : (typ : FirType) (index : TypeIndex) → Knows typ index → index.clocked ≡ has_clock typ
+clocked_known typ index k = ∥∥₁_elim k (Bool-set index.clocked (has_clock typ)) (λ m. (self m).clocked)
 
 pub placed_known : (typ : FirType) (index : TypeIndex) → Knows typ index → index.places ≡ min (size typ) (2 ^ 64 - 1)
 placed_known typ index k = ∥∥₁_elim k (ℕ_set index.places (min (size typ) (2 ^ 64 - 1))) (λ m. (self m).places)

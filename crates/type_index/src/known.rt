@@ -4,7 +4,7 @@ ghost use Rattle.std.specs.Prelude.{◌≡◌, ◌==◌, ◌-◌, ◌^◌, min, 
 ghost use Rattle.std.specs.Option.{option_copied};
 ghost use Rattle.field_index.specs.Indexes.{first_at};
 ghost use Rattle.fir_types.specs.declared.fir_type.Shape.TheViews.{out-Shape};
-ghost use Rattle.fir_types.specs.Leaves.{count};
+ghost use Rattle.fir_types.specs.Leaves.{count, has_clock};
 ghost use Rattle.fir_types.specs.Passivity.{has_flip};
 ghost use Rattle.name_sizes.specs.Caps.{cap};
 ghost use Rattle.leaf_names.specs.LeafNames.{Texts};
@@ -24,6 +24,7 @@ pub struct Known<'a> {
     ghost knows: { Knows typ.now index.now },
     ghost counted: { index.now.leaves ≡ cap (count typ.now) },
     ghost flipless: { index.now.passive ≡ not (has_flip typ.now) },
+    ghost clocked: { index.now.clocked ≡ has_clock typ.now },
     ghost placed: { index.now.places ≡ min (size typ.now) (2 ^ 64 - 1) },
 }
 

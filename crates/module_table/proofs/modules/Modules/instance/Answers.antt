@@ -1,30 +1,5 @@
-use Rattle.std.proofs.Common.{rules, nat_eq, ◌≡◌, ◌∙◌, ap, option_map}
-use Rattle.std.specs.Prelude.{Some, slice_get}
-use Rattle.std.specs.List.{HoldsAt}
-use Rattle.std.specs.Option.{option_copied}
-use Rattle.std.specs.Map.{lookup}
-use Rattle.type_index.specs.Knowing.{HasWays}
-use Rattle.module_table.specs.Tables.{typ_of}
-use Rattle.module_table.proofs.Indexing.{got_at, instance_at, known_at, each_got}
+use Rattle.std.proofs.Math.Logic.{∥∥₁_map}
 use Rattle.module_table.proofs.modules.Modules.instance.Goals as goal
 
-pub returns-clause-typ : goal.returns-clause-typ
-returns-clause-typ c =
-    let all = c.args.self.now in
-    let number = c.in_ok-number.number.now in
-    let found : lookup (nat_eq c.args.name) all.numbers.entries ≡ Some number = search rules in
-    let at : option_copied c.get-2.result ≡ slice_get all.instances.items number =
-    got_at (λ x. x.now) (λ x. HoldsAt (λ y. x.now ≡ y) c.deref.result.now number) c.deref.result.now number c.get-2.result c.get-2.ensures.lookup.1 c.get-2.ensures.lookup.3
-    ∙ ap (λ l. slice_get l number) c.deref.ensures.value in
-    ap (option_map typ_of) at
-    ∙ instance_at all.all.now all.numbers.entries all.instances.items c.args.name number all.indexed all.bundled found
-
 pub returns-clause-ways : goal.returns-clause-ways
-returns-clause-ways c =
-    let all = c.args.self.now in
-    let number = c.in_ok-number.number.now in
-    let at : option_copied c.get-2.result ≡ slice_get all.instances.items number =
-    got_at (λ x. x.now) (λ x. HoldsAt (λ y. x.now ≡ y) c.deref.result.now number) c.deref.result.now number c.get-2.result c.get-2.ensures.lookup.1 c.get-2.ensures.lookup.3
-    ∙ ap (λ l. slice_get l number) c.deref.ensures.value in
-    each_got (λ x. x.now) (λ known. ∥ HasWays all.names.now known.typ known.index ∥₁) all.instances.items number c.get-2.result
-    (λ known e. known_at all.names.now all.instances.items number known all.measured e) at
+returns-clause-ways c = ∥∥₁_map c.in_ok-instance.ensures.known (λ right. right.ways)
