@@ -30,22 +30,31 @@ struct Listing {
 }
 
 impl Listing {
-    /// Adds the leaves of the part, which has this type. On the way to it stand `flip`s an odd number of times, or not. Of vectors
-    /// in one another the leaves are counted once.
+    /// Adds the leaves of the part, which has this type. On the way to it stand `flip`s an odd number of times, or not. Lengths of 1,
+    /// of which any number may stand in one another, are taken in a loop.
     #[cycle(push)]
     fn push_leaves(&mut self, flip: bool, typ: &FirType) -> Result<(), AllocError>
         ensures listed { OnOk result (self.new.listed.items ≡ self.old.listed.items ++ map (under self.old.path.items flip) (leaves typ.now)) }
         ensures path { OnOk result (self.new.path.items ≡ self.old.path.items) }
     {
-        if matches!(&typ.shape, Shape::Vector(_, _)) && leaf_count(typ) == 0 {
-            return Ok(());
+        let before = self.path.len();
+        let mut inside = typ;
+        while let Shape::Vector(element, length) = &inside.shape {
+            if *length != 1 {
+                break;
+            }
+            self.path.push(PathStep::Element(0))?;
+            inside = element.get();
         }
-        self.push_counted(flip, typ)
+        self.push_inside(flip, inside)?;
+        self.path.truncate(before);
+        Ok(())
     }
 
-    /// The same of a part that isn't a vector without leaves.
+    /// The same of what stands inside lengths of 1. Each other length doubles the leaves at least, or leaves none, so few of those
+    /// that have leaves stand in one another.
     #[cycle(push)]
-    fn push_counted(&mut self, flip: bool, typ: &FirType) -> Result<(), AllocError>
+    fn push_inside(&mut self, flip: bool, typ: &FirType) -> Result<(), AllocError>
         ensures listed { OnOk result (self.new.listed.items ≡ self.old.listed.items ++ map (under self.old.path.items flip) (leaves typ.now)) }
         ensures path { OnOk result (self.new.path.items ≡ self.old.path.items) }
     {
@@ -65,12 +74,15 @@ impl Listing {
                 }
             }
             Shape::Vector(element, length) => {
+                if leaf_count(typ) == 0 {
+                    return Ok(());
+                }
                 let Ok(length) = u32::try_from(*length) else {
                     return Err(AllocError);
                 };
                 for index in 0..length {
                     self.path.push(PathStep::Element(index))?;
-                    self.push_counted(flip, element.get())?;
+                    self.push_leaves(flip, element.get())?;
                     self.path.pop();
                 }
             }

@@ -1,14 +1,18 @@
 -- The lines of leaves behind a front that grows by the steps to them.
-use Rattle.std.proofs.Common.{◌≡◌, ℕ, ◌+◌, ◌<◌, Bool, false, List, [], ◌∷◌, ◌++◌, map, length, take, get_or, refl, sym, ap, ap₂, ◌∙◌, subst, arith, append_assoc, add-one, decimal}
+use Rattle.std.proofs.Common.{◌≡◌, ℕ, ◌+◌, ◌<◌, Bool, false, List, [], ◌∷◌, ◌++◌, map, length, take, get_or, refl, sym, ap, ap₂, ◌∙◌, subst, arith, append_assoc, add-one, codes, decimal}
+use Rattle.std.specs.Fmt.{digits}
 use Rattle.std.specs.List.{flat_map}
 use Rattle.std.proofs.lemmas.Grind.{common_steps, flat_map-append}
 use Rattle.std.proofs.Math.Seq.{take-append_seam}
+use Rattle.fir_types.specs.declared.fir_type.FirType.{FirType}
+use Rattle.fir_types.specs.declared.fir_type.Shape.TheVariants as shape
 use Rattle.fir_types.specs.declared.fir_type.Field.{Field}
 use Rattle.fir_types.specs.declared.leaf.TypeLeaf.{TypeLeaf}
 use Rattle.fir_types.specs.declared.leaf.PathStep.{PathStep}
 use Rattle.fir_types.specs.declared.leaf.PathStep.TheVariants as step
 use Rattle.fir_types.specs.Leaves.{leaves, field_leaves, elements, under}
 use Rattle.fir_types.proofs.Layers.{leaves-field}
+use Rattle.fir_types.proofs.Singles.{leaves-single}
 use Rattle.leaf_names.specs.LeafNames.{Texts, step_text}
 use Rattle.trace_print.specs.Listing.{shape_line, leaf_line}
 
@@ -48,6 +52,22 @@ fields_more texts fs i f front way start text after l q h w a =
     let split : flat_map field_leaves (take (i + 1) fs) ≡ flat_map field_leaves (take i fs) ++ field_leaves f = grind (arith, common_steps) in
     let whole = added texts front way (step.Field f.name.id) f.flip (leaves f.typ) (flat_map field_leaves (take i fs)) start text after h w a in
     whole ∙ ap (λ x. start ++ flat_map (leaf_line texts front) x) (ap (λ x. flat_map field_leaves (take i fs) ++ x) (sym (leaves-field f)) ∙ sym split)
+
+-- The type behind this front leads by lengths of 1 to what is inside, whose front goes on from there.
+pub record LeadsTo (texts : Texts) (typ : FirType) (front : List ℕ) (inside : FirType) (way : List ℕ) : Type 0 where
+  pub same_lines : flat_map (leaf_line texts front) (leaves typ) ≡ flat_map (leaf_line texts way) (leaves inside)
+  pub goes_on : (more : List ℕ) × (way ≡ front ++ more)
+
+-- one length further in
+pub leads_on : (texts : Texts) (typ inside element : FirType) (front way further : List ℕ) (n : ℕ) → inside.shape ≡ shape.Vector element n → n ≡ 1
+    → LeadsTo texts typ front inside way → further ≡ way ++ codes "[0]" → LeadsTo texts typ front element further
+unfolding digits
+leads_on texts typ inside element front way further n is one led w = record {
+  same_lines =
+      led.same_lines ∙ ap (flat_map (leaf_line texts way)) (leaves-single inside element n is one) ∙ step_lines texts way (step.Element 0) false (leaves element)
+      ∙ ap (λ f. flat_map (leaf_line texts f) (leaves element)) (sym w);
+  goes_on = (led.goes_on.0 ++ codes "[0]", w ∙ ap (λ f. f ++ codes "[0]") led.goes_on.1 ∙ append_assoc front led.goes_on.0 (codes "[0]"));
+}
 
 -- the front with an element's number
 pub at_element : (front walked opened digits numbered way : List ℕ) (i : ℕ) → walked ≡ front → opened ≡ walked ++ 91 ∷ [] → numbered ≡ opened ++ digits → digits ≡ decimal i → way ≡ numbered ++ 93 ∷ []

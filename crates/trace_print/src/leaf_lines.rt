@@ -10,14 +10,40 @@ use itoa::Buffer;
 use leaf_names::push_name;
 use std::alloc::AllocError;
 
-/// Adds the lines of the leaves of a type, which all begin with this front. Of vectors in one another the leaves are counted once:
-/// those of an element are `counted` with its vector's.
+/// Adds the lines of the leaves of a type, which all begin with this front. Lengths of 1, of which any number may stand in one
+/// another, are taken in a loop.
+#[cycle(lines)]
 pub fn push_lines(
     text: &mut Vec<u8>,
     front: &mut Vec<u8>,
     names: &Names,
     typ: &FirType,
-    counted: bool,
+) -> Result<(), AllocError>
+    ensures text { OnOk result (text.new.items ≡ text.old.items ++ flat_map (leaf_line names.now front.old.items) (leaves typ.now)) }
+    ensures front { OnOk result (front.new.items ≡ front.old.items) }
+{
+    let before = front.len();
+    let mut inside = typ;
+    while let Shape::Vector(element, length) = &inside.shape {
+        if *length != 1 {
+            break;
+        }
+        front.extend_from_slice(b"[0]")?;
+        inside = element.get();
+    }
+    push_inside(text, front, names, inside)?;
+    front.truncate(before);
+    Ok(())
+}
+
+/// As above, for what stands inside lengths of 1. Each other length doubles the leaves at least, or leaves none, so few of those
+/// that have leaves stand in one another.
+#[cycle(lines)]
+fn push_inside(
+    text: &mut Vec<u8>,
+    front: &mut Vec<u8>,
+    names: &Names,
+    typ: &FirType,
 ) -> Result<(), AllocError>
     ensures text { OnOk result (text.new.items ≡ text.old.items ++ flat_map (leaf_line names.now front.old.items) (leaves typ.now)) }
     ensures front { OnOk result (front.new.items ≡ front.old.items) }
@@ -32,22 +58,22 @@ pub fn push_lines(
             for field in fields.as_slice() {
                 front.push(b'.')?;
                 push_name(front, names, field.name.id)?;
-                push_lines(text, front, names, &field.typ, false)?;
+                push_lines(text, front, names, &field.typ)?;
                 front.truncate(before);
             }
             Ok(())
         }
-        Shape::Vector(element, count) => {
-            if !counted && leaf_count(typ) == 0 {
+        Shape::Vector(element, length) => {
+            if leaf_count(typ) == 0 {
                 return Ok(());
             }
             let before = front.len();
-            for index in 0..*count {
+            for index in 0..*length {
                 let mut digits = Buffer::new();
                 front.push(b'[')?;
                 front.extend_from_slice(digits.format(index).as_bytes())?;
                 front.push(b']')?;
-                push_lines(text, front, names, element.get(), true)?;
+                push_lines(text, front, names, element.get())?;
                 front.truncate(before);
             }
             Ok(())

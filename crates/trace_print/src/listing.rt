@@ -41,7 +41,7 @@ fn push_component(
         push_name(&mut front, names, component.holder)?;
         front.push(b' ')?;
         push_name(&mut front, names, component.name)?;
-        push_lines(text, &mut front, names, typ, false)?;
+        push_lines(text, &mut front, names, typ)?;
     }
     Ok(())
 }
