@@ -74,9 +74,10 @@ instance_known (Some m) i h = by (Some (instance_typ i)) (Some (bundle_of m)) h
     by a b h = ap (option_map source_of) h
 instance_known None i h = absurd cc
 
-pub truly : (P : ℕ → Type 0) (o : Option ℕ) → IfSome o P → IfSome o (λ n. ∥ P n ∥₁)
-truly P (Some n) h = ∣ h ∣₁
-truly P None h = tt
+-- the number of a type that is this one
+pub has_class : (table : Table) (typ other : FirType) (class : Option ℕ) → typ ≡ other → IfSome class (HasNumber table other) → IfSome class (λ n. ∥ HasNumber table typ n ∥₁)
+has_class table typ other (Some n) same h = ∣ subst (λ t. HasNumber table t n) (sym same) h ∣₁
+has_class table typ other None same h = tt
 
 same_number : (n m : ℕ) → Some m ≡ Some n → n ≡ m
 same_number n m e = cc

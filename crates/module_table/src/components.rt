@@ -5,14 +5,14 @@ ghost use Rattle.std.specs.Map.{lookup};
 ghost use Rattle.std.specs.Option.{option_copied};
 ghost use Rattle.fir_types.specs.declared.fir_type.FirType.{FirType as AType};
 ghost use Rattle.fir_types.specs.Bundles.{memory_of};
-ghost use Rattle.circuit_parts.specs.Parts.{instance_in};
+ghost use Rattle.circuit_parts.specs.Parts.{part_of, source_of, instance_in};
 ghost use Rattle.module_table.specs.Components.{part_in, with_part};
 ghost use Rattle.module_table.specs.Leading.{Leads, AreCompared as AreAnswered};
 
 use crate::modules::{Modules, insert_new};
 use crate::reference::{Reference, class_at, part_along};
 use circuit_parts::Flow;
-use fir_types::Memory;
+use fir_types::{FirType, Memory, copy};
 use indexmap::IndexMap;
 use std::alloc::{AllocError, Global};
 use std::marker::Model;
@@ -81,58 +81,55 @@ impl<'a> Components<'a> {
         part_along(component.known.known(), reference.suffixes)
     }
 
-    /// Notes a component, unless there is one of its name. The class of its type isn't known.
-    pub fn note(&mut self, name: u32, component: Component) -> Result<(), AllocError>
-        ensures { OnOk result (self.new ≡ with_part self.old name (Some (part_in component))) }
-    {
-        let class = None;
-        insert_new(&mut self.noted, name, Noted { component, class })?;
-        Ok(())
-    }
-
-    /// The same of a component whose type the text gives, which takes time in proportion to the type.
+    /// Notes a component whose type the text gives, unless there is one of its name. Takes time and memory in proportion to the type.
     pub fn note_declared(
         &mut self,
         alloc: Global,
         name: u32,
-        component: Component,
+        typ: &FirType,
+        flow: Flow,
     ) -> Result<(), AllocError>
-        ensures { OnOk result (self.new ≡ with_part self.old name (Some (part_in component))) }
+        ensures { OnOk result (self.new ≡ with_part self.old name (Some (part_of typ.now flow))) }
     {
-        let classes = &self.modules.classes;
-        let class = classes.number(alloc, false, &component.known.typ)?;
+        let class = self.modules.classes.number(alloc, false, typ)?;
+        let known = KnownType::new(alloc, self.modules.names, copy(typ)?)?;
+        let component = Component { known, flow };
         insert_new(&mut self.noted, name, Noted { component, class })?;
         Ok(())
     }
 
-    /// The same of a component that has the type of a memory, which takes time in proportion to the type of an element and to the number
-    /// of ports.
-    pub fn note_memory(
+    /// The same of a memory, which can only be read. Takes time and memory in proportion to the type of an element and to the number of
+    /// ports.
+    pub fn note_memory(&mut self, alloc: Global, memory: &Memory) -> Result<(), AllocError>
+        ensures { OnOk result (self.new ≡ with_part self.old memory.now.name.id (Some (source_of (memory_of memory.now)))) }
+    {
+        let class = self.modules.classes.number_memory(alloc, memory)?;
+        let known = KnownType::of_memory(alloc, self.modules.names, memory)?;
+        let flow = Flow::Source;
+        let component = Component { known, flow };
+        insert_new(&mut self.noted, memory.name.id, Noted { component, class })?;
+        Ok(())
+    }
+
+    /// The same of what can only be read and has this type, to which a reference leads. It shares what is known of the type there, so it
+    /// takes time in proportion to the steps, and no memory for the type.
+    pub fn note_part(
         &mut self,
         alloc: Global,
         name: u32,
-        component: Component,
-        memory: &Memory,
-    ) -> Result<(), AllocError>
-        requires { component.known.typ ≡ memory_of memory.now }
-        ensures { OnOk result (self.new ≡ with_part self.old name (Some (part_in component))) }
-    {
-        let class = self.modules.classes.number_memory(alloc, memory)?;
-        insert_new(&mut self.noted, name, Noted { component, class })?;
-        Ok(())
-    }
-
-    /// The same of a component that has the type to which a reference leads, which takes time in proportion to the steps.
-    pub fn note_part(
-        &mut self,
-        name: u32,
-        component: Component,
+        typ: &FirType,
         reference: Reference<'_>,
     ) -> Result<(), AllocError>
-        requires { (typ : AType) → Leads self.old.parts reference.name reference.suffixes.now typ → component.known.typ ≡ typ }
-        ensures { OnOk result (self.new ≡ with_part self.old name (Some (part_in component))) }
+        requires { (part : AType) → Leads self.old.parts reference.name reference.suffixes.now part → typ.now ≡ part }
+        ensures { OnOk result (self.new ≡ with_part self.old name (Some (source_of typ.now))) }
     {
+        let Some(part) = self.part(reference) else {
+            return self.note_declared(alloc, name, typ, Flow::Source);
+        };
+        let known = KnownType::of(part)?;
         let class = class_at(&self.modules.classes, &self.noted, reference);
+        let flow = Flow::Source;
+        let component = Component { known, flow };
         insert_new(&mut self.noted, name, Noted { component, class })?;
         Ok(())
     }
@@ -145,11 +142,10 @@ impl<'a> Components<'a> {
         let Some(instance) = self.modules.first_instance(target) else {
             return Ok(());
         };
-        let component = Component {
-            known: instance.known.share()?,
-            flow: Flow::Source,
-        };
+        let known = instance.known.share()?;
         let class = instance.class;
+        let flow = Flow::Source;
+        let component = Component { known, flow };
         insert_new(&mut self.noted, name, Noted { component, class })?;
         Ok(())
     }

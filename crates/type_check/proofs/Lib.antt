@@ -9,5 +9,4 @@ mod Ways
 mod Walking
 mod Kept
 mod Telling
-mod Wholes
 mod Reaching

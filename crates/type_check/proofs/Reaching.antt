@@ -89,15 +89,6 @@ pub behind_field : (s : Suffix) (name : Name) (t : FirType) (field : Field) → 
     → (known : Known) (base : Option Part) → Agrees t base → Agrees field.typ (suffix_step s known base).part
 behind_field s name t field is found known base h = subst (λ j. Agrees field.typ j.part) (sym (field_is s name known base is)) (field_from name t field base found h)
 
--- one more step
-pub reached_more : (suffixes : List Suffix) (i : ℕ) (s : Suffix) (known : Known) (base : Option Part) (t : FirType) → i < length suffixes → s ≡ get_or suffixes i s
-    → Agrees t (suffix_step s known (along (map suffix_step (take i suffixes)) known base).part).part
-    → Agrees t (along (map suffix_step (take (i + 1) suffixes)) known base).part
-reached_more suffixes i s known base t lt is h =
-    let steps = map suffix_step (take i suffixes) in
-    subst (λ l. Agrees t (along l known base).part) (sym (map_more suffix_step suffixes i s lt is))
-    (subst (λ j. Agrees t j.part) (sym (along-push steps (suffix_step s) known base)) h)
-
 -- a reference by its steps
 ref_is : (known : Known) (e : Expr) (name : Name) (suffixes : List Suffix) → e.form ≡ form.Ref name suffixes
     → found_of known e ≡ as_node e.place (along (map suffix_step suffixes) known (component known name.id))
@@ -110,16 +101,6 @@ reference_agrees known e name suffixes t is h = subst (λ j. Agrees t j.part) (s
 -- a component by its name
 pub component_agrees : (one : Part) (part : Option Part) (typ : FirType) → Some one ≡ part → one.typ ≡ typ → Agrees typ part
 component_agrees one part typ is same = subst (Agrees typ) is same
-
--- what is reached from the component is what the expression comes to
-pub reached_at : {K : Type 0} (typ_of : K → FirType) (reached : Option K) (known : Known) (e f : Expr) (name : Name) (suffixes : List Suffix) (base : FirType)
-    → f.form ≡ form.Ref name suffixes → ((known : Known) (typ : FirType) → Agrees typ (found_of known f).part → Agrees typ (found_of known e).part)
-    → Agrees base (component known name.id)
-    → IfSome reached (λ k. (known : Known) (part : Option Part) → Agrees base part → Agrees (typ_of k) (along (map suffix_step suffixes) known part).part)
-    → IfSome reached (λ k. Agrees (typ_of k) (found_of known e).part)
-reached_at typ_of (Some k) known e f name suffixes base is chosen there' h =
-    chosen known (typ_of k) (reference_agrees known f name suffixes (typ_of k) is (h known (component known name.id) there'))
-reached_at typ_of None known e f name suffixes base is chosen there' h = tt {0}
 
 -- what references lead to
 
@@ -217,6 +198,13 @@ agreed typ None part h e = absurd cc
 
 pub part_agreed : (typ : FirType) (known : Known) (e : Expr) (part : Part) → Agrees typ (found_of known e).part → (found_of known e).part ≡ Some part → part.typ ≡ typ
 part_agreed typ known e part h is = agreed typ (found_of known e).part part h is
+
+-- what is known of the part that a reference leads to
+pub part_agrees : {K : Type 0} (typ_of : K → FirType) (known : Known) (e : Expr) (r : Reference) (found : Option K)
+    → ((known : Known) (typ : FirType) → Leads known r.name r.suffixes.now typ → Agrees typ (found_of known e).part)
+    → IfSome found (λ part. Leads known r.name r.suffixes.now (typ_of part)) → IfSome found (λ part. Agrees (typ_of part) (found_of known e).part)
+part_agrees typ_of known e r (Some part) agrees h = agrees known (typ_of part) h
+part_agrees typ_of known e r None agrees h = tt {0}
 
 -- the answer by numbers
 pub answered : (known : Known) (e f : Expr) (one other : Reference) (answer : Option Bool)

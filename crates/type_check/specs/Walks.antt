@@ -12,6 +12,7 @@ pub record Adds (judgement : Judgement) (old new : Findings) : Type 0 where
 
 -- statements were walked
 pub record Walks (steps : Steps) (old new : Walk) : Type 0 where
-  pub known : new.known ≡ (steps old.known).known
-  pub types : new.found.types.items ≡ old.found.types.items ++ (steps old.known).nodes
-  pub faults : new.found.faults.items ≡ old.found.faults.items ++ (steps old.known).faults
+  pub modules : new.known.modules ≡ old.known.modules
+  pub known : new.known.parts ≡ (steps old.known.parts).known
+  pub types : new.found.types.items ≡ old.found.types.items ++ (steps old.known.parts).nodes
+  pub faults : new.found.faults.items ≡ old.found.faults.items ++ (steps old.known.parts).faults

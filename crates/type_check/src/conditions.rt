@@ -115,7 +115,7 @@ fn push_source(
     right: &Expr,
     source: &Option<Part>,
 ) -> Result<(), AllocError>
-    requires { source.now ≡ (found_of known.now right.now).part }
+    requires { source.now ≡ (found_of known.now.parts right.now).part }
     ensures { OnOk result (faults.new.items ≡ faults.old.items ++ where_typed (source_faults right.now.place) source.now) }
 {
     if let Some(part) = source {
@@ -133,14 +133,14 @@ fn push_unequal(
     sink: &Option<Part>,
     source: &Option<Part>,
 ) -> Result<(), AllocError>
-    requires sink { sink.now ≡ (found_of walk.old.known left.now).part }
-    requires source { source.now ≡ (found_of walk.old.known right.now).part }
+    requires sink { sink.now ≡ (found_of walk.old.known.parts left.now).part }
+    requires source { source.now ≡ (found_of walk.old.known.parts right.now).part }
     ensures known { OnOk result (walk.new.known ≡ walk.old.known) }
     ensures types { OnOk result (walk.new.found.types.items ≡ walk.old.found.types.items) }
     ensures faults { OnOk result (walk.new.found.faults.items ≡ walk.old.found.faults.items ++ where_typed (λ a. where_typed (equal_faults right.now.place a) source.now) sink.now) }
 {
     if let (Some(sink), Some(source)) = (sink, source) {
-        let fits = are_equivalent_at(&mut walk.known, left, right, sink, source)?;
+        let fits = are_equivalent_at(&walk.known, left, right, sink, source);
         push_unless(
             &mut walk.found.faults,
             fits,

@@ -21,7 +21,7 @@ use circuit_parts::Flow;
 use circuit_parts::steps::port_flow;
 use fir_tree::Expr;
 use fir_types::{FirType, Memory, Name, Port, copy};
-use module_table::{Component, Modules};
+use module_table::Component;
 use std::alloc::{AllocError, Global};
 use type_index::KnownType;
 
@@ -99,19 +99,10 @@ fn declare_ports(alloc: Global, walk: &mut Walk<'_>, memory: &Memory) -> Result<
 }
 
 /// An instance of a module. It has no type where there is no module of the name.
-pub fn declare_instance(
-    modules: &Modules<'_>,
-    walk: &mut Walk<'_>,
-    name: Name,
-    target: Name,
-) -> Result<(), AllocError>
-    ensures { OnOk result (Walks (declares name.id (instance_in modules.now.all.now target.id)) walk.old walk.new) }
+pub fn declare_instance(walk: &mut Walk<'_>, name: Name, target: Name) -> Result<(), AllocError>
+    ensures { OnOk result (Walks (declares name.id (instance_in walk.old.known.modules target.id)) walk.old walk.new) }
 {
-    let Some(instance) = modules.instance(target.id) else {
-        return Ok(());
-    };
-    let known = instance.share()?;
-    declare_source(walk, name, known)
+    walk.known.note_instance(name.id, target.id)
 }
 
 /// A node, which has the type of its expression where that has one.

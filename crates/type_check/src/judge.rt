@@ -27,8 +27,8 @@ pub fn judge(
     found: &mut Findings,
     expr: &Expr,
 ) -> Result<Option<Part>, AllocError>
-    ensures part { IfOk result (λ part. part ≡ (found_of known.now expr.now).part) }
-    ensures found { OnOk result (Adds (found_of known.now expr.now) found.old found.new) }
+    ensures part { IfOk result (λ part. part ≡ (found_of known.now.parts expr.now).part) }
+    ensures found { OnOk result (Adds (found_of known.now.parts expr.now) found.old found.new) }
 {
     let at = found.types.len();
     found.types.push(no_type(alloc, expr.place)?)?;
@@ -61,8 +61,8 @@ fn judge_form(
     found: &mut Findings,
     expr: &Expr,
 ) -> Result<Option<Part>, AllocError>
-    ensures found { OnOk result (AddsBelow expr.now.place (found_of known.now expr.now) found.old found.new) }
-    ensures part { IfOk result (λ part. part ≡ (found_of known.now expr.now).part) }
+    ensures found { OnOk result (AddsBelow expr.now.place (found_of known.now.parts expr.now) found.old found.new) }
+    ensures part { IfOk result (λ part. part ≡ (found_of known.now.parts expr.now).part) }
 {
     match &expr.form {
         Form::Ref(name, suffixes) => {
@@ -99,8 +99,8 @@ fn judge_all(
     found: &mut Findings,
     exprs: &[Expr],
 ) -> Result<Option<Vec<Operand>>, AllocError>
-    ensures operands { IfOk result (λ operands. option_map (λ typed. map operand_of typed.items) operands ≡ typed_operands known.now (map judged exprs.now)) }
-    ensures found { OnOk result (Adds (together (all_among known.now (map judged exprs.now))) found.old found.new) }
+    ensures operands { IfOk result (λ operands. option_map (λ typed. map operand_of typed.items) operands ≡ typed_operands known.now.parts (map judged exprs.now)) }
+    ensures found { OnOk result (Adds (together (all_among known.now.parts (map judged exprs.now))) found.old found.new) }
 {
     let mut typed = Vec::new(alloc);
     let mut complete = true;
@@ -125,8 +125,8 @@ fn walk_steps<'a>(
     base: Option<Reached<'a>>,
     suffixes: &[Suffix],
 ) -> Result<Option<Reached<'a>>, AllocError>
-    ensures part { IfOk result (λ reached. part_reached reached ≡ (along (map suffix_step suffixes.now) known.now (part_reached base.entry)).part) }
-    ensures found { OnOk result (Adds (along (map suffix_step suffixes.now) known.now (part_reached base.entry)) found.old found.new) }
+    ensures part { IfOk result (λ reached. part_reached reached ≡ (along (map suffix_step suffixes.now) known.now.parts (part_reached base.entry)).part) }
+    ensures found { OnOk result (Adds (along (map suffix_step suffixes.now) known.now.parts (part_reached base.entry)) found.old found.new) }
 {
     let mut reached = base;
     for suffix in suffixes {
@@ -144,8 +144,8 @@ fn take_step<'a>(
     base: Option<Reached<'a>>,
     suffix: &Suffix,
 ) -> Result<Option<Reached<'a>>, AllocError>
-    ensures part { IfOk result (λ reached. part_reached reached ≡ (suffix_step suffix.now known.now (part_reached base.entry)).part) }
-    ensures found { OnOk result (Adds (suffix_step suffix.now known.now (part_reached base.entry)) found.old found.new) }
+    ensures part { IfOk result (λ reached. part_reached reached ≡ (suffix_step suffix.now known.now.parts (part_reached base.entry)).part) }
+    ensures found { OnOk result (Adds (suffix_step suffix.now known.now.parts (part_reached base.entry)) found.old found.new) }
 {
     match suffix {
         Suffix::Field(name) => match base {
@@ -170,7 +170,7 @@ fn take_step<'a>(
 
 /// The component of a name, where it is known.
 fn component<'a>(known: &'a Components<'_>, name: u32) -> Option<Reached<'a>>
-    ensures { part_reached result ≡ component known.now name }
+    ensures { part_reached result ≡ component known.now.parts name }
 {
     match known.get(name) {
         Some(known) => Some(reached_at(known)),

@@ -37,14 +37,14 @@ pub fn walk_module(
 {
     let mut walk = Walk {
         names: modules.names,
-        known: Components::new(alloc, &modules.classes),
+        known: Components::new(alloc, modules),
         found: Findings {
             types: Vec::new(alloc),
             faults: Vec::new(alloc),
         },
     };
     walk_ports(alloc, &mut walk, holder.ports.as_slice())?;
-    walk_statements(alloc, modules, &mut walk, holder.body.as_slice())?;
+    walk_statements(alloc, &mut walk, holder.body.as_slice())?;
     found.types.append(&mut walk.found.types)?;
     found.faults.append(&mut walk.found.faults)
 }
@@ -61,26 +61,20 @@ fn walk_ports(alloc: Global, walk: &mut Walk<'_>, ports: &[Port]) -> Result<(), 
 #[cycle(walk)]
 fn walk_statements(
     alloc: Global,
-    modules: &Modules<'_>,
     walk: &mut Walk<'_>,
     statements: &[Stmt],
 ) -> Result<(), AllocError>
-    ensures { OnOk result (Walks (in_turn (map (stmt_walk modules.now.all.now) statements.now)) walk.old walk.new) }
+    ensures { OnOk result (Walks (in_turn (map (stmt_walk walk.old.known.modules) statements.now)) walk.old walk.new) }
 {
     for statement in statements {
-        walk_statement(alloc, modules, walk, statement)?;
+        walk_statement(alloc, walk, statement)?;
     }
     Ok(())
 }
 
 #[cycle(walk)]
-fn walk_statement(
-    alloc: Global,
-    modules: &Modules<'_>,
-    walk: &mut Walk<'_>,
-    statement: &Stmt,
-) -> Result<(), AllocError>
-    ensures { OnOk result (Walks (stmt_walk modules.now.all.now statement.now) walk.old walk.new) }
+fn walk_statement(alloc: Global, walk: &mut Walk<'_>, statement: &Stmt) -> Result<(), AllocError>
+    ensures { OnOk result (Walks (stmt_walk walk.old.known.modules statement.now) walk.old walk.new) }
 {
     match statement {
         Stmt::Wire(name, typ) => declare_wire(alloc, walk, *name, typ),
@@ -89,42 +83,32 @@ fn walk_statement(
             declare_reset_register(alloc, walk, *name, typ, clock, reset, init)
         }
         Stmt::Mem(memory) => declare_memory(alloc, walk, memory),
-        Stmt::Inst(name, target) => declare_instance(modules, walk, *name, *target),
+        Stmt::Inst(name, target) => declare_instance(walk, *name, *target),
         Stmt::Node(name, expr) => declare_node(alloc, walk, *name, expr),
         Stmt::Connect(left, right) => connect(alloc, walk, left, right),
         Stmt::Invalidate(target) => invalidate(alloc, walk, target),
         Stmt::When(arms, other) => {
-            walk_arms(alloc, modules, walk, arms.as_slice())?;
-            walk_statements(alloc, modules, walk, other.as_slice())
+            walk_arms(alloc, walk, arms.as_slice())?;
+            walk_statements(alloc, walk, other.as_slice())
         }
         Stmt::Skip(_) => Ok(()),
     }
 }
 
 #[cycle(walk)]
-fn walk_arms(
-    alloc: Global,
-    modules: &Modules<'_>,
-    walk: &mut Walk<'_>,
-    arms: &[Arm],
-) -> Result<(), AllocError>
-    ensures { OnOk result (Walks (in_turn (map (arm_walk modules.now.all.now) arms.now)) walk.old walk.new) }
+fn walk_arms(alloc: Global, walk: &mut Walk<'_>, arms: &[Arm]) -> Result<(), AllocError>
+    ensures { OnOk result (Walks (in_turn (map (arm_walk walk.old.known.modules) arms.now)) walk.old walk.new) }
 {
     for arm in arms {
-        walk_arm(alloc, modules, walk, arm)?;
+        walk_arm(alloc, walk, arm)?;
     }
     Ok(())
 }
 
 #[cycle(walk)]
-fn walk_arm(
-    alloc: Global,
-    modules: &Modules<'_>,
-    walk: &mut Walk<'_>,
-    arm: &Arm,
-) -> Result<(), AllocError>
-    ensures { OnOk result (Walks (arm_walk modules.now.all.now arm.now) walk.old walk.new) }
+fn walk_arm(alloc: Global, walk: &mut Walk<'_>, arm: &Arm) -> Result<(), AllocError>
+    ensures { OnOk result (Walks (arm_walk walk.old.known.modules arm.now) walk.old walk.new) }
 {
     expect_condition(alloc, walk, &arm.condition)?;
-    walk_statements(alloc, modules, walk, arm.body.as_slice())
+    walk_statements(alloc, walk, arm.body.as_slice())
 }

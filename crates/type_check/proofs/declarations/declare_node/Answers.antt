@@ -6,6 +6,6 @@ use Rattle.type_check.proofs.declarations.declare_node.Goals as goal
 
 pub note_part-requires : goal.note_part-requires
 note_part-requires c = λ typ leads.
-    let known = c.args.walk.now.known in
+    let known = c.args.walk.now.known.parts in
     let at : (found_of known c.args.expr.now).part ≡ Some c.in-Some.part = search rules in
     c.in_ok-known.ensures ∙ part_agreed typ known c.args.expr.now c.in-Some.part (c.in-Some-reference_at.ensures known typ leads) at
