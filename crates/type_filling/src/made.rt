@@ -11,7 +11,8 @@ use indexmap::IndexMap;
 use prim_ops::Width;
 use std::alloc::{AllocError, Global};
 
-/// The most parts of types that may be made, and widths that may be kept beside them, in all; more are a want of memory.
+/// The most types in types that may be made, and widths that may be kept beside them, over a whole circuit; more are a want of
+/// memory. A type in a bundle takes some 80 bytes and up to twice that, as the list of fields grows.
 const MOST_PARTS: usize = 8_000_000;
 
 /// The text that a bundle or a vector is from: inside the lengths of vectors the place of the first field's name, or of the
@@ -40,6 +41,7 @@ pub struct Made {
 }
 
 impl Made {
+    /// Nothing was made.
     pub fn new(alloc: Global) -> Made {
         Made {
             types: IndexMap::new(alloc),

@@ -1,8 +1,8 @@
 -- Widths in several lists, and what is cut of them; the lists of a memory's ports.
-use Rattle.std.proofs.Common.{◌≡◌, ℕ, zero, suc, ◌+◌, ◌-◌, ◌≤◌, ◌<◌, ◌^◌, min, Bool, true, false, ◌&&◌, ◌||◌, List, [], ◌∷◌, ◌++◌, map, take, drop, length, get_or, refl, sym, ap, ap₂, ◌∙◌, arith, append_assoc, append-nil, filter_map}
+use Rattle.std.proofs.Common.{◌≡◌, ℕ, zero, suc, ◌+◌, ◌-◌, ◌≤◌, ◌^◌, min, Bool, true, false, ◌&&◌, ◌||◌, List, [], ◌∷◌, ◌++◌, map, take, drop, length, refl, sym, ap, ap₂, ◌∙◌, arith, append-nil, filter_map}
 use Rattle.std.specs.List.{flat_map, list_any}
 use Rattle.std.proofs.lemmas.Grind.{common_steps, flat_map-append}
-use Rattle.std.proofs.lemmas.List.{drop-drop, drop_more}
+use Rattle.std.proofs.lemmas.List.{drop-drop}
 use Rattle.std.proofs.lemmas.List.Folds.{list_any-append}
 use Rattle.fir_types.specs.declared.memory.Memory.{Memory}
 use Rattle.fir_types.specs.declared.memory.MemLine.{MemLine}
@@ -69,7 +69,7 @@ pub cut_short : (s e : ℕ) (xs : List Slot) → e ≤ 2 ^ 64 - 1 → length (dr
 cut_short s e xs h = grind (arith, common_steps, taken_length e xs)
 
 -- two lists, one behind the other
-cut_two : (s e : ℕ) (p r : List Slot) → drop s (take e (p ++ r)) ≡ drop s (take e p) ++ drop (s - length p) (take (e - length p) r)
+pub cut_two : (s e : ℕ) (p r : List Slot) → drop s (take e (p ++ r)) ≡ drop s (take e p) ++ drop (s - length p) (take (e - length p) r)
 cut_two s e [] r =
     ap₂ (λ a b. drop a (take b r)) (let z : s ≡ s - 0 = omega arith in z) (let z : e ≡ e - 0 = omega arith in z)
     ∙ ap (λ l. l ++ drop (s - 0) (take (e - 0) r)) (sym (ap (drop s) (none_taken e) ∙ none_dropped s))
@@ -82,16 +82,6 @@ cut_two zero (suc e) (x ∷ p) r =
 cut_two (suc s) (suc e) (x ∷ p) r =
     cut_two s e p r
     ∙ ap₂ (λ a b. drop s (take e p) ++ drop a (take b r)) (let z : s - length p ≡ suc s - suc (length p) = omega arith in z) (let z : e - length p ≡ suc e - suc (length p) = omega arith in z)
-
-next_list : (lists : List (List Slot)) (i : ℕ) (own : List Slot) → i < length lists → own ≡ get_or lists i own → joined (drop i lists) ≡ own ++ joined (drop (i + 1) lists)
-next_list lists i own lt is = ap joined (drop_more lists i own lt ∙ ap (λ x. x ∷ drop (i + 1) lists) (sym is))
-
-pub between_step : (lists : List (List Slot)) (i : ℕ) (own whole found after : List Slot) (s e from to : ℕ) → i < length lists → own ≡ get_or lists i own
-    → whole ≡ found ++ drop s (take e (joined (drop i lists))) → after ≡ found ++ drop s (take e own) → from ≡ s - length own → to ≡ e - length own
-    → whole ≡ after ++ drop from (take to (joined (drop (i + 1) lists)))
-between_step lists i own whole found after s e from to lt is h a f t =
-    h ∙ ap (λ l. found ++ drop s (take e l)) (next_list lists i own lt is) ∙ ap (λ l. found ++ l) (cut_two s e own (joined (drop (i + 1) lists)))
-    ∙ sym (append_assoc found _ _) ∙ ap₂ (λ l k. l ++ k) (sym a) (ap₂ (λ a b. drop a (take b (joined (drop (i + 1) lists)))) (sym f) (sym t))
 
 -- The lists of a memory's ports
 

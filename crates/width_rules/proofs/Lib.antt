@@ -16,3 +16,4 @@ pub mod Spots
 pub mod Targets
 pub mod Walking
 pub mod Cuts
+pub mod Ends

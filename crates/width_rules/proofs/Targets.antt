@@ -1,6 +1,7 @@
 -- Where no width is a variable, no formula of an expression is one.
-use Rattle.std.proofs.Common.{◌≡◌, false, List, [], ◌∷◌, map, zip, refl, ap, ◌∙◌, subst, arith}
+use Rattle.std.proofs.Common.{◌≡◌, false, ◌||◌, List, [], ◌∷◌, ◌++◌, map, zip, refl, ap, ◌∙◌, subst, arith}
 use Rattle.std.proofs.lemmas.Bool.{or_from, true≢false}
+use Rattle.std.proofs.lemmas.List.Folds.{list_any-append}
 use Rattle.fir_types.specs.declared.name.Name.{Name}
 use Rattle.fir_types.specs.Bundles.{nowhere}
 use Rattle.fir_tree.specs.declared.expr.Expr.{Expr}
@@ -13,7 +14,7 @@ use Rattle.width_rules.specs.declared.rule.Formula.{Formula}
 use Rattle.width_rules.specs.declared.rule.Formula.TheVariants as formula
 use Rattle.width_rules.specs.Formulas.{IsFormula}
 use Rattle.width_rules.specs.Sources.{Known, Measured, measured, component, measured_reference, formula_of, named, suffix_step, greater_of, choice}
-use Rattle.width_rules.specs.Targets.{has_variable, is_target, has_target}
+use Rattle.width_rules.specs.Targets.{is_variable, has_variable, is_target, has_target}
 use Rattle.width_rules.proofs.Bounds.{SlotsFit, FormulasFit, var_below}
 use Rattle.width_rules.proofs.Fitting.{measured_fits}
 use Rattle.width_rules.proofs.Expressions.{measured-ref, measured-mux}
@@ -46,6 +47,9 @@ pub same_targets : (slots : List Slot) → has_target (map formula_of slots) ≡
 same_targets [] = refl
 same_targets (slot.Fixed n ∷ ss) = same_targets ss
 same_targets (slot.Var x ∷ ss) = refl
+
+pub has_variable-append : (slots more : List Slot) → has_variable (slots ++ more) ≡ (has_variable slots || has_variable more)
+has_variable-append = list_any-append is_variable
 
 pub reference_has_none : (e : Expr) (name : Name) (suffixes : List Suffix) (known : Known) → e.form ≡ form.Ref name suffixes
     → has_target (measured_reference (named (map suffix_step suffixes) (component known name.id))).formulas ≡ false → has_target (measured e known).formulas ≡ false

@@ -6,6 +6,7 @@ pub mod Circuits
 pub mod Solutions
 -- what the bodies keep, and what proofs need
 pub mod Layers
+pub mod Lists
 pub mod Pieces
 pub mod Parts
 pub mod Targets

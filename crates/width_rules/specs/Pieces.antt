@@ -1,5 +1,5 @@
 -- Widths in several lists, one behind another, as the code holds them.
-use Rattle.std.specs.Prelude.{◌≡◌, List, [], ◌∷◌, take, drop, length, flat_map}
+use Rattle.std.specs.Prelude.{List, [], ◌∷◌, take, drop}
 use Rattle.fir_types.specs.declared.memory.MemLine.{MemLine}
 use Rattle.fir_types.specs.declared.memory.MemLine.TheVariants as line
 use Rattle.fir_types.specs.declared.memory.PortMode.{PortMode}
@@ -10,10 +10,7 @@ use Rattle.width_rules.specs.declared.pieces.Slots.{Slots}
 use Rattle.width_rules.specs.declared.pieces.Slots.TheVariants.{Listed, Between}
 use Rattle.width_rules.specs.declared.memories.PortWidths.{PortWidths}
 use Rattle.width_rules.specs.declared.slot.Slot.{Slot}
-
--- the widths of several lists
-abbrev pub joined : List (List Slot) → List Slot
-joined lists = flat_map (λ own. own) lists
+pub use Rattle.width_rules.specs.Lists.{joined}
 
 abbrev pub slots_in : Slots → List Slot
 slots_in (Listed slots) = slots.now
@@ -21,12 +18,7 @@ slots_in (Between lists start end) = drop start (take end (joined lists.now))
 
 abbrev pub held_slots : Held → List Slot
 held_slots (One slots) = slots
-held_slots (Many lists count) = joined lists
-
--- how many there are in all is told
-abbrev pub IsCounted : Held → Type 0
-IsCounted (One slots) = Unit {0}
-IsCounted (Many lists count) = count ≡ length (joined lists)
+held_slots (Many lists) = joined lists
 
 -- the lists of a memory's port
 abbrev pub mode_lists : PortWidths → PortMode → List (List Slot)

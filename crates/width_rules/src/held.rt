@@ -1,12 +1,12 @@
 //! Where the widths of a component are held.
 
+use crate::lists::Lists;
 use crate::slot::Slot;
-use bit_words::SharedList;
+use bit_words::{Shared, SharedList};
 
-/// The widths of a component's places: a list, or several lists, one behind another, which may be shared, and how many widths
-/// they have in all.
+/// The widths of a component's places: a list, or several lists, one behind another.
 #[derive(Drop)]
 pub enum Held {
     One(SharedList<Slot>),
-    Many(SharedList<SharedList<Slot>>, usize),
+    Many(Shared<Lists>),
 }

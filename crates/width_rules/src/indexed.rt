@@ -6,7 +6,8 @@ ghost use Rattle.width_rules.specs.Pieces.{joined, slots_in};
 ghost use Rattle.width_rules.specs.Targets.{has_variable};
 
 use crate::held::Held;
-use crate::pieces::{Slots, count_of};
+use crate::lists::Lists;
+use crate::pieces::Slots;
 use crate::slot::Slot;
 use bit_words::{List, Shared, SharedList};
 use circuit_parts::{Flow, Part};
@@ -35,12 +36,12 @@ impl Model for Indexed {
 
     ghost coded = { the_row.coded };
 
-    ghost use Rattle.width_rules.specs.Pieces.{held_slots, IsCounted};
+    ghost use Rattle.width_rules.specs.Pieces.{held_slots};
     ghost use Rattle.width_rules.specs.Targets.{has_variable};
 
     ghost view = { λ a. record { part = part_of a.known.typ a.flow; slots = held_slots a.held } };
 
-    ghost invariant = { λ a. (a.varies ≡ has_variable (held_slots a.held)) × IsCounted a.held };
+    ghost invariant = { λ a. a.varies ≡ has_variable (held_slots a.held) };
 }
 
 impl Indexed {
@@ -87,8 +88,7 @@ impl Indexed {
         requires { varies ≡ has_variable (joined lists) }
         ensures { IfOk result (λ indexed. indexed ≡ record { part = source_of known.typ; slots = joined lists }) }
     {
-        let count = count_of(lists.as_slice())?;
-        let held = Held::Many(Shared::new(alloc, lists)?, count);
+        let held = Held::Many(Shared::new(alloc, Lists::new(alloc, lists)?)?);
         Ok(Indexed {
             known,
             flow: Flow::Source,
@@ -117,7 +117,7 @@ impl Indexed {
     {
         match &self.held {
             Held::One(slots) => Slots::Listed(slots.as_slice()),
-            Held::Many(lists, count) => Slots::Between(lists.as_slice(), 0, *count),
+            Held::Many(lists) => Slots::Between(lists.get(), 0, lists.get().count()),
         }
     }
 
@@ -146,7 +146,7 @@ fn share_held(held: &Held) -> Result<Held, AllocError>
 {
     match held {
         Held::One(slots) => Ok(Held::One(slots.share()?)),
-        Held::Many(lists, count) => Ok(Held::Many(lists.share()?, *count)),
+        Held::Many(lists) => Ok(Held::Many(lists.share()?)),
     }
 }
 

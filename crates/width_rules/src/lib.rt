@@ -7,6 +7,7 @@ pub mod component;
 pub mod gathering;
 pub mod held;
 pub mod indexed;
+pub mod lists;
 pub mod measuring;
 pub mod memories;
 pub mod pieces;

@@ -12,7 +12,7 @@ ghost use Rattle.width_rules.specs.Pieces.{slots_in};
 ghost use Rattle.width_rules.specs.Targets.{has_target};
 
 use crate::indexed::{Indexed, has_variable};
-use crate::pieces::{Slots, listed};
+use crate::pieces::{Slots, first_piece, listed};
 use crate::rule::Formula;
 use crate::sizes::{CHOICE_UNITS, MOST_UNITS};
 use crate::slot::{Slot, capped};
@@ -220,14 +220,18 @@ fn component_varies(component: &Indexed, suffixes: &[Suffix]) -> bool
     }
 }
 
-/// Whether a place may have a variable. Of several lists it isn't asked.
+/// Whether a place has a variable.
 fn part_varies(view: View<'_>) -> bool
-    ensures { result ≡ false → has_target (measured_reference (viewed view.entry)).formulas ≡ false }
+    ensures { result ≡ has_target (measured_reference (viewed view.entry)).formulas }
 {
-    match view.slots {
-        Slots::Listed(slots) => has_variable(slots),
-        Slots::Between(_, _, _) => true,
+    let mut rest = view.slots;
+    while let Some((piece, behind)) = first_piece(rest) {
+        if has_variable(piece) {
+            return true;
+        }
+        rest = behind;
     }
+    false
 }
 
 /// The component of a name, or the other one.

@@ -1,17 +1,18 @@
 //! Widths in several lists, one behind another.
 
-ghost use Rattle.std.specs.Prelude.{◌≡◌, ◌++◌, ◌^◌, ◌-◌, ◌≤◌, take, drop, length, flat_map, IfOk, OnOk};
+ghost use Rattle.std.specs.Prelude.{◌≡◌, ◌++◌, ◌^◌, ◌-◌, ◌<◌, ◌≤◌, [], take, drop, length, IfOk, OnOk, IfSome, IsNone};
 ghost use Rattle.width_rules.specs.Pieces.{slots_in};
 
+use crate::lists::Lists;
 use crate::slot::Slot;
-use bit_words::{List, SharedList};
+use bit_words::List;
 use std::alloc::{AllocError, Global};
 
 /// Widths in order: a list, or of several lists, one behind another, those from one number on and before another.
 #[derive(Clone, Copy)]
 pub enum Slots<'a> {
     Listed(&'a [Slot]),
-    Between(&'a [SharedList<Slot>], usize, usize),
+    Between(&'a Lists, usize, usize),
 }
 
 /// So many widths behind so many others. Takes constant time.
@@ -60,44 +61,35 @@ pub fn without_first(slots: Slots<'_>, count: usize) -> Slots<'_>
 pub fn listed(alloc: Global, slots: Slots<'_>) -> Result<List<Slot>, AllocError>
     ensures { IfOk result (λ list. list ≡ slots_in slots.entry) }
 {
-    match slots {
-        Slots::Listed(list) => List::from_slice(alloc, list),
-        Slots::Between(lists, start, end) => between(alloc, lists, start, end),
-    }
-}
-
-/// Of several lists, one behind another, the widths from one number on and before another.
-fn between(
-    alloc: Global,
-    lists: &[SharedList<Slot>],
-    start: usize,
-    end: usize,
-) -> Result<List<Slot>, AllocError>
-    ensures { IfOk result (λ list. list ≡ drop start (take end (flat_map (λ own. own) lists.now))) }
-{
     let mut found = List::new(alloc);
-    let mut from = start;
-    let mut to = end;
-    for own in lists {
-        push_between(&mut found, own.as_slice(), from, to)?;
-        from = from.saturating_sub(own.len());
-        to = to.saturating_sub(own.len());
+    let mut rest = slots;
+    while let Some((piece, behind)) = first_piece(rest) {
+        push_all(&mut found, piece)?;
+        rest = behind;
     }
     Ok(found)
 }
 
-/// Adds the widths from one number on and before another.
-fn push_between(
-    found: &mut List<Slot>,
-    list: &[Slot],
-    from: usize,
-    to: usize,
-) -> Result<(), AllocError>
-    ensures { OnOk result (found.new ≡ found.old ++ drop from (take to list.now)) }
+/// Of widths some first ones that stand in one list, and the widths behind them. Takes time in proportion to the logarithm of the
+/// number of lists.
+pub fn first_piece(slots: Slots<'_>) -> Option<(&[Slot], Slots<'_>)>
+    ensures some { IfSome result (λ found. slots_in slots.entry ≡ found.0.now ++ slots_in found.1) }
+    ensures holds { IfSome result (λ found. 0 < length found.0.now) }
+    ensures none { IsNone result → slots_in slots.entry ≡ [] }
 {
-    let (first, _) = list.split_at(to.min(list.len()));
-    let (_, own) = first.split_at(from.min(first.len()));
-    push_all(found, own)
+    match slots {
+        Slots::Listed(list) => {
+            if list.is_empty() {
+                return None;
+            }
+            let (whole, behind) = list.split_at(list.len());
+            Some((whole, Slots::Listed(behind)))
+        }
+        Slots::Between(lists, start, end) => {
+            let (piece, behind) = lists.piece(start, end)?;
+            Some((piece, Slots::Between(lists, behind, end)))
+        }
+    }
 }
 
 /// Adds widths.
@@ -108,18 +100,4 @@ pub fn push_all(slots: &mut List<Slot>, more: &[Slot]) -> Result<(), AllocError>
         slots.push(*slot)?;
     }
     Ok(())
-}
-
-/// How many widths several lists have in all. More than a `usize` holds are a want of memory.
-pub fn count_of(lists: &[SharedList<Slot>]) -> Result<usize, AllocError>
-    ensures { IfOk result (λ count. count ≡ length (flat_map (λ own. own) lists.now)) }
-{
-    let mut count: usize = 0;
-    for own in lists {
-        let Some(more) = count.checked_add(own.len()) else {
-            return Err(AllocError);
-        };
-        count = more;
-    }
-    Ok(count)
 }
