@@ -1,4 +1,3 @@
-mod Cuts
 pub mod Filled
 pub mod Slots
 mod Parts

@@ -1,14 +1,14 @@
 //! The widths of places.
 
-ghost use Rattle.std.specs.Prelude.{◌≡◌, ◌↔◌, ◌++◌, map, zip, take, drop, IsTrue, IfOk, OnOk};
+ghost use Rattle.std.specs.Prelude.{◌≡◌, ◌↔◌, ◌++◌, map, zip, IsTrue, IfOk, OnOk};
 ghost use Rattle.std.specs.List.{list_any};
-ghost use Rattle.width_rules.specs.Pieces.{joined, slots_in};
+ghost use Rattle.width_rules.specs.Pieces.{slots_in};
 ghost use Rattle.part_fits.specs.Widths.{slot_width, is_over, wider_of};
 
-use bit_words::{List, SharedList};
+use bit_words::List;
 use prim_ops::Width;
 use std::alloc::{AllocError, Global};
-use width_rules::pieces::Slots;
+use width_rules::pieces::{Slots, first_piece};
 use width_rules::slot::Slot;
 use width_rules::widths::{bounded, wider};
 
@@ -21,9 +21,7 @@ pub fn slot_widths(
     ensures { IfOk result (λ found. found ≡ map (slot_width widths.now) slots.now) }
 {
     let mut found = List::new(alloc);
-    for slot in slots {
-        found.push(slot_width(widths, *slot))?;
-    }
+    push_widths(&mut found, widths, slots)?;
     Ok(found)
 }
 
@@ -35,40 +33,13 @@ pub fn widths_in(
 ) -> Result<List<Width>, AllocError>
     ensures { IfOk result (λ found. found ≡ map (slot_width widths.now) (slots_in slots.entry)) }
 {
-    match slots {
-        Slots::Listed(list) => slot_widths(alloc, widths, list),
-        Slots::Between(lists, start, end) => widths_between(alloc, widths, lists, start, end),
-    }
-}
-
-/// Of several lists, one behind another, the widths from one number on and before another.
-fn widths_between(
-    alloc: Global,
-    widths: &[Width],
-    lists: &[SharedList<Slot>],
-    start: usize,
-    end: usize,
-) -> Result<List<Width>, AllocError>
-    ensures { IfOk result (λ found. found ≡ map (slot_width widths.now) (drop start (take end (joined lists.now)))) }
-{
     let mut found = List::new(alloc);
-    let mut from = start;
-    let mut to = end;
-    for own in lists {
-        push_widths(&mut found, widths, part(own.as_slice(), from, to))?;
-        from = from.saturating_sub(own.len());
-        to = to.saturating_sub(own.len());
+    let mut rest = slots;
+    while let Some((piece, behind)) = first_piece(rest) {
+        push_widths(&mut found, widths, piece)?;
+        rest = behind;
     }
     Ok(found)
-}
-
-/// The widths from one number on and before another.
-fn part(list: &[Slot], from: usize, to: usize) -> &[Slot]
-    ensures { result.now ≡ drop from (take to list.now) }
-{
-    let (first, _) = list.split_at(to.min(list.len()));
-    let (_, own) = first.split_at(from.min(first.len()));
-    own
 }
 
 fn push_widths(found: &mut List<Width>, widths: &[Width], slots: &[Slot]) -> Result<(), AllocError>
