@@ -7,12 +7,12 @@ ghost use Rattle.module_table.specs.Leading.{Leads};
 ghost use Rattle.type_check.specs.Judging.{Agrees};
 ghost use Rattle.type_check.specs.Parts.{Known as TheKnown};
 ghost use Rattle.circuit_parts.specs.declared.part.Part.{Part as APart};
-ghost use Rattle.type_check.specs.Texts.{is_passive, are_equivalent};
+ghost use Rattle.type_check.specs.Texts.{has_clock, is_passive, are_equivalent};
 
 use crate::texts::{are_equivalent, is_passive};
 use circuit_parts::Part;
 use fir_tree::{Expr, Form, Names, Suffix};
-use fir_types::Shape;
+use fir_types::{Shape, has_clock};
 use module_table::{Components, Reference, reference_of, whole_name};
 use std::alloc::{AllocError, Global};
 use type_index::{Known, KnownType};
@@ -32,6 +32,17 @@ pub fn known_type(
     match part_at(known, expr) {
         Some(there) => KnownType::of(there),
         None => KnownType::new(alloc, names, part.typ),
+    }
+}
+
+/// Whether a leaf of the type of an expression that is this part is a `Clock`.
+pub fn has_clock_at(known: &Components<'_>, expr: &Expr, part: &Part) -> bool
+    requires { (found_of known.now expr.now).part ≡ Some part.now }
+    ensures { result ≡ has_clock part.now.typ }
+{
+    match part_at(known, expr) {
+        Some(there) => there.index.clocked,
+        None => has_clock(&part.typ),
     }
 }
 
@@ -91,7 +102,7 @@ pub fn reference_at(expr: &Expr) -> Option<Reference<'_>>
 
 /// Whether two expressions have equivalent types, where both are components or parts of them whose types have numbers. Takes time in
 /// proportion to the steps.
-fn are_known_equivalent(known: &Components<'_>, one: &Expr, other: &Expr) -> Option<bool>
+pub fn are_known_equivalent(known: &Components<'_>, one: &Expr, other: &Expr) -> Option<bool>
     ensures { IfSome result (λ answer. (left right : APart) → (found_of known.now one.now).part ≡ Some left → (found_of known.now other.now).part ≡ Some right → answer ≡ are_equivalent left.typ right.typ) }
 {
     let first = reference_at(one)?;
