@@ -1,5 +1,5 @@
 -- Trees that are made are right.
-use Rattle.std.proofs.Common.{◌≡◌, ℕ, ◌<◌, ◌≤◌, ◌-◌, ◌^◌, min, Bool, true, false, not, ◌||◌, ◌&&◌, List, [], ◌∷◌, ◌++◌, ◌+◌, map, sum, length, take, get_or, refl, sym, ap, ap₂, ◌∙◌, subst, arith, ◌⊎◌, inl, inr}
+use Rattle.std.proofs.Common.{◌≡◌, ◌==◌, ℕ, zero, suc, ◌<◌, ◌≤◌, ◌-◌, ◌^◌, min, Bool, true, false, not, ◌||◌, ◌&&◌, List, [], ◌∷◌, ◌++◌, ◌+◌, map, sum, length, take, get_or, refl, sym, ap, ap₂, ◌∙◌, subst, arith, ◌⊎◌, inl, inr}
 use Rattle.std.specs.Prelude.{Option, IfSome}
 use Rattle.std.specs.List.{list_any}
 use Rattle.std.proofs.lemmas.Grind.{common_steps}
@@ -13,10 +13,10 @@ use Rattle.fir_types.specs.declared.fir_type.Shape.TheVariants as shape
 use Rattle.fir_types.specs.declared.fir_type.Shape.TheVariants.{outs-Unsigned, outs-Signed, outs-Clock, outs-Reset}
 use Rattle.fir_types.specs.declared.fir_type.Shape.TheViews.{out-Shape}
 use Rattle.fir_types.specs.declared.fir_type.Field.{Field}
-use Rattle.fir_types.specs.Leaves.{count, field_count}
+use Rattle.fir_types.specs.Leaves.{count, field_count, leaves, field_leaves, is_clock}
 use Rattle.fir_types.specs.Passivity.{has_flip, field_has_flip}
 use Rattle.fir_types.specs.Runs.{within}
-use Rattle.fir_types.proofs.Layers.{count-bundle, count-field, flip-bundle}
+use Rattle.fir_types.proofs.Layers.{count-bundle, count-field, flip-bundle, leaves-bundle, leaves-vector, clock-fields, clock-field, clock-elements}
 use Rattle.fir_types.proofs.Masks.{flip-vector}
 use Rattle.fir_types.proofs.Runs.{within_last}
 use Rattle.leaf_names.specs.LeafNames.{Texts}
@@ -32,7 +32,7 @@ use Rattle.type_index.specs.declared.tree.TypeIndex.{TypeIndex, the_lemmas}
 use Rattle.type_index.specs.declared.tree.Inside.TheVariants as inside
 use Rattle.type_index.specs.declared.tree.Inside.TheViews.{out-Inside}
 use Rattle.type_index.specs.declared.gathered.Gathered.{Gathered}
-use Rattle.type_index.specs.Knowing.{Matches, FieldsMatch, ground, vector, bundle, no_fields, one_field, is_ground, IsKnown, IsAmong, IsRight, places_of}
+use Rattle.type_index.specs.Knowing.{Matches, FieldsMatch, ground, vector, bundle, no_fields, one_field, is_ground, has_clock, IsKnown, IsAmong, IsRight, places_of}
 use Rattle.type_index.specs.Gathering.{Gathers}
 use Rattle.type_index.proofs.Parts.{same_fields, weighed}
 
@@ -75,6 +75,30 @@ passive_push fs f before own after b o e =
     e ∙ ap₂ (λ x y. x && y && not f.flip) b o ∙ none_of (list_any field_has_flip fs) (has_flip f.typ) f.flip
     ∙ ap (λ x. not (list_any field_has_flip fs || (x || false))) (sym (flip-field f)) ∙ ap not (sym (list_any-append field_has_flip fs (f ∷ [])))
 
+clocked_push : (fs : List Field) (f : Field) (before own after : Bool) → before ≡ list_any (λ field. has_clock field.typ) fs → own ≡ has_clock f.typ
+    → after ≡ (before || own) → after ≡ list_any (λ field. has_clock field.typ) (fs ++ f ∷ [])
+clocked_push fs f before own after b o e =
+    e ∙ ap₂ (λ x y. x || y) b (o ∙ one (has_clock f.typ)) ∙ sym (list_any-append (λ field. has_clock field.typ) fs (f ∷ []))
+  where
+    one : (x : Bool) → x ≡ (x || false)
+    one true = refl
+    one false = refl
+
+clock-bundle : (typ : FirType) (fs : List Field) → typ.shape ≡ shape.Bundle fs → has_clock typ ≡ list_any (λ field. has_clock field.typ) fs
+clock-bundle typ fs is = ap (list_any is_clock) (leaves-bundle typ fs is) ∙ clock-fields fs ∙ each fs
+  where
+    each : (fs : List Field) → list_any (λ field. list_any is_clock (field_leaves field)) fs ≡ list_any (λ field. has_clock field.typ) fs
+    each [] = refl
+    each (f ∷ fs) = ap₂ (λ x y. x || y) (clock-field f) (each fs)
+
+-- a vector has a clock where its element has one and its length isn't 0
+clock-vector : (typ element : FirType) (n : ℕ) → typ.shape ≡ shape.Vector element n → has_clock typ ≡ (not (n == 0) && has_clock element)
+clock-vector typ element zero is = ap (list_any is_clock) (leaves-vector typ element 0 is)
+clock-vector typ element (suc n) is = ap (list_any is_clock) (leaves-vector typ element (suc n) is) ∙ clock-elements (leaves element) (suc n) (omega arith) ∙ some n (has_clock element)
+  where
+    some : (n : ℕ) (x : Bool) → x ≡ (not (suc n == 0) && x)
+    some n x = grind (arith, common_steps)
+
 right : {P : FirType → TypeIndex → Type 0} {typ : FirType} {index : TypeIndex} → Matches P typ index → P typ index
 right (ground g p) = p
 right (vector e n i s q p m) = p
@@ -84,9 +108,9 @@ pub gathers_more : (texts : Texts) (fs : List Field) (f : Field) (part : TypeInd
     → named_leaves ≡ part.leaves
     → ((field : Field) → field.name.id ≡ f.name.id → part.leaves ≡ cap (count field.typ) → part.bytes ≡ cap (way_bytes texts field.typ) → named_bytes ≡ cap (field_bytes texts field))
     → after.parts ≡ before.parts ++ part ∷ [] → after.ways.leaves ≡ cap (before.ways.leaves + named_leaves) → after.ways.bytes ≡ cap (before.ways.bytes + named_bytes)
-    → after.passive ≡ (before.passive && part.passive && not f.flip) → after.places ≡ min (before.places + part.places) (2 ^ 64 - 1)
+    → after.passive ≡ (before.passive && part.passive && not f.flip) → after.clocked ≡ (before.clocked || part.clocked) → after.places ≡ min (before.places + part.places) (2 ^ 64 - 1)
     → Gathers texts fs before → Matches (IsRight texts) f.typ part → Gathers texts (fs ++ f ∷ []) after
-gathers_more texts fs f part before after named_leaves named_bytes nl nb p l b v z g m =
+gathers_more texts fs f part before after named_leaves named_bytes nl nb p l b v c z g m =
     let k : IsKnown f.typ part = (right m).0 in
     let w : part.bytes ≡ cap (way_bytes texts f.typ) = (right m).1 in
     record {
@@ -94,6 +118,7 @@ gathers_more texts fs f part before after named_leaves named_bytes nl nb p l b v
       leaves = cap_push field_count fs f before.ways.leaves named_leaves after.ways.leaves g.leaves (nl ∙ k.leaves ∙ ap cap (sym (count-field f))) l;
       bytes = cap_push (field_bytes texts) fs f before.ways.bytes named_bytes after.ways.bytes g.bytes (nb f refl k.leaves w) b;
       passive = passive_push fs f before.passive part.passive after.passive g.passive k.passive v;
+      clocked = clocked_push fs f before.clocked part.clocked after.clocked g.clocked k.clocked c;
       places = places_push fs f before.places part.places after.places g.places k.places z;
     }
 
@@ -111,13 +136,14 @@ same_among a b xs ys h =
 
 pub bundle_matches : (texts : Texts) (typ : FirType) (fs : List Field) (gathered : Gathered) (among : Option FieldIndex) (index : TypeIndex) → typ.shape ≡ shape.Bundle fs
     → Gathers texts fs gathered → IfSome among (λ x. IsIndexOf x fs (map places_of gathered.parts)) → index.leaves ≡ gathered.ways.leaves → index.bytes ≡ gathered.ways.bytes
-    → index.passive ≡ gathered.passive → index.places ≡ gathered.places → index.inside ≡ inside.Bundle among gathered.parts → Matches (IsRight texts) typ index
-bundle_matches texts typ fs gathered among index is g a l b v z q =
+    → index.passive ≡ gathered.passive → index.clocked ≡ gathered.clocked → index.places ≡ gathered.places → index.inside ≡ inside.Bundle among gathered.parts → Matches (IsRight texts) typ index
+bundle_matches texts typ fs gathered among index is g a l b v c z q =
     let own : IsAmong among fs = subst (λ ws. IfSome among (λ x. IsIndexOf x fs ws)) (weighed (λ t x p. p.0.places) fs gathered.parts g.parts) a in
     bundle fs among gathered.parts is q (
       record {
         leaves = l ∙ g.leaves ∙ ap cap (sym (count-bundle typ fs is));
         passive = v ∙ g.passive ∙ ap not (sym (flip-bundle typ fs is));
+        clocked = c ∙ g.clocked ∙ sym (clock-bundle typ fs is);
         places = z ∙ g.places ∙ ap (λ n. min n (2 ^ 64 - 1)) (sym (size-bundle typ fs is));
         among = λ fields other inners h k. subst (λ x. IsAmong x fields) (same_among among other gathered.parts inners (sym q ∙ k))
             (subst (IsAmong among) (same_fields fs fields (sym is ∙ h)) own);
@@ -130,14 +156,15 @@ bundle_matches texts typ fs gathered among index is g a l b v z q =
 pub vector_matches : (texts : Texts) (typ element : FirType) (n : ℕ) (inner index : TypeIndex) → typ.shape ≡ shape.Vector element n → Matches (IsRight texts) element inner
     → (inner.leaves ≡ cap (count element) → index.leaves ≡ cap (count typ))
     → (inner.leaves ≡ cap (count element) → inner.bytes ≡ cap (way_bytes texts element) → index.bytes ≡ cap (way_bytes texts typ))
-    → index.passive ≡ inner.passive → index.places ≡ inner.places → index.inside ≡ inside.Vector inner → Matches (IsRight texts) typ index
-vector_matches texts typ element n inner index is m l b v z q =
+    → index.passive ≡ inner.passive → index.clocked ≡ (not (n == 0) && inner.clocked) → index.places ≡ inner.places → index.inside ≡ inside.Vector inner → Matches (IsRight texts) typ index
+vector_matches texts typ element n inner index is m l b v c z q =
     let k : IsKnown element inner = (right m).0 in
     let w : inner.bytes ≡ cap (way_bytes texts element) = (right m).1 in
     vector element n inner is q (
       record {
         leaves = l k.leaves;
         passive = v ∙ k.passive ∙ ap not (sym (flip-vector typ element n is));
+        clocked = c ∙ ap (λ x. not (n == 0) && x) k.clocked ∙ sym (clock-vector typ element n is);
         places = z ∙ k.places ∙ ap (λ ss. min (length ss) (2 ^ 64 - 1)) (sym (spots-vector typ element n is));
         among = λ fields among inners h e. absurd cc;
       },
@@ -170,44 +197,46 @@ around_end lengths left innermost index is h texts typ m =
 
 -- types without parts
 
-abbrev of_ground : ℕ → TypeIndex
-of_ground places = record { leaves = 1; bytes = 0; passive = true; places = places; inside = inside.Ground }
+abbrev of_ground : ℕ → Bool → TypeIndex
+of_ground places clocked = record { leaves = 1; bytes = 0; passive = true; clocked = clocked; places = places; inside = inside.Ground }
 
-ground_matches : (texts : Texts) (typ : FirType) (places : ℕ) → is_ground (out-Shape typ.shape) ≡ true → ((fields : List Field) → typ.shape ≡ shape.Bundle fields → ⊥)
-    → count typ ≡ 1 → way_bytes texts typ ≡ 0 → has_flip typ ≡ false → size typ ≡ places → places ≤ 1 → Matches (IsRight texts) typ (of_ground places)
-ground_matches texts typ places g none c w f z l =
+ground_matches : (texts : Texts) (typ : FirType) (places : ℕ) (clocked : Bool) → is_ground (out-Shape typ.shape) ≡ true → ((fields : List Field) → typ.shape ≡ shape.Bundle fields → ⊥)
+    → count typ ≡ 1 → way_bytes texts typ ≡ 0 → has_flip typ ≡ false → has_clock typ ≡ clocked → size typ ≡ places → places ≤ 1
+    → Matches (IsRight texts) typ (of_ground places clocked)
+ground_matches texts typ places clocked g none c w f k z l =
     ground g (
       record {
         leaves = ap cap (sym c);
         passive = ap not (sym f);
+        clocked = sym k;
         places = omega (arith, z, l);
         among = λ fields among inners h e. absurd (none fields h);
       },
       ap cap (sym w),
     )
 
-pub unsigned_matches : (texts : Texts) (typ : FirType) (w : Option ℕ) → typ.shape ≡ shape.Unsigned w → Matches (IsRight texts) typ (of_ground 1)
+pub unsigned_matches : (texts : Texts) (typ : FirType) (w : Option ℕ) → typ.shape ≡ shape.Unsigned w → Matches (IsRight texts) typ (of_ground 1 false)
 unsigned_matches texts typ w is =
-    ground_matches texts typ 1 (ap is_ground (ap out-Shape is ∙ outs-Unsigned w)) (λ fields h. absurd cc) (grind (arith, common_steps, type_lemmas))
-    (grind (arith, common_steps, type_lemmas)) (grind (arith, common_steps, type_lemmas)) (grind (arith, common_steps, type_lemmas)) (omega arith)
+    ground_matches texts typ 1 false (ap is_ground (ap out-Shape is ∙ outs-Unsigned w)) (λ fields h. absurd cc) (grind (arith, common_steps, type_lemmas))
+    (grind (arith, common_steps, type_lemmas)) (grind (arith, common_steps, type_lemmas)) (grind (arith, common_steps, type_lemmas)) (grind (arith, common_steps, type_lemmas)) (omega arith)
 
-pub signed_matches : (texts : Texts) (typ : FirType) (w : Option ℕ) → typ.shape ≡ shape.Signed w → Matches (IsRight texts) typ (of_ground 1)
+pub signed_matches : (texts : Texts) (typ : FirType) (w : Option ℕ) → typ.shape ≡ shape.Signed w → Matches (IsRight texts) typ (of_ground 1 false)
 signed_matches texts typ w is =
-    ground_matches texts typ 1 (ap is_ground (ap out-Shape is ∙ outs-Signed w)) (λ fields h. absurd cc) (grind (arith, common_steps, type_lemmas))
-    (grind (arith, common_steps, type_lemmas)) (grind (arith, common_steps, type_lemmas)) (grind (arith, common_steps, type_lemmas)) (omega arith)
+    ground_matches texts typ 1 false (ap is_ground (ap out-Shape is ∙ outs-Signed w)) (λ fields h. absurd cc) (grind (arith, common_steps, type_lemmas))
+    (grind (arith, common_steps, type_lemmas)) (grind (arith, common_steps, type_lemmas)) (grind (arith, common_steps, type_lemmas)) (grind (arith, common_steps, type_lemmas)) (omega arith)
 
-pub clock_matches : (texts : Texts) (typ : FirType) → typ.shape ≡ shape.Clock → Matches (IsRight texts) typ (of_ground 0)
+pub clock_matches : (texts : Texts) (typ : FirType) → typ.shape ≡ shape.Clock → Matches (IsRight texts) typ (of_ground 0 true)
 clock_matches texts typ is =
-    ground_matches texts typ 0 (ap is_ground (ap out-Shape is ∙ outs-Clock)) (λ fields h. absurd cc) (grind (arith, common_steps, type_lemmas))
-    (grind (arith, common_steps, type_lemmas)) (grind (arith, common_steps, type_lemmas)) (grind (arith, common_steps, type_lemmas)) (omega arith)
+    ground_matches texts typ 0 true (ap is_ground (ap out-Shape is ∙ outs-Clock)) (λ fields h. absurd cc) (grind (arith, common_steps, type_lemmas))
+    (grind (arith, common_steps, type_lemmas)) (grind (arith, common_steps, type_lemmas)) (grind (arith, common_steps, type_lemmas)) (grind (arith, common_steps, type_lemmas)) (omega arith)
 
-pub reset_matches : (texts : Texts) (typ : FirType) → typ.shape ≡ shape.Reset → Matches (IsRight texts) typ (of_ground 1)
+pub reset_matches : (texts : Texts) (typ : FirType) → typ.shape ≡ shape.Reset → Matches (IsRight texts) typ (of_ground 1 false)
 reset_matches texts typ is =
-    ground_matches texts typ 1 (ap is_ground (ap out-Shape is ∙ outs-Reset)) (λ fields h. absurd cc) (grind (arith, common_steps, type_lemmas))
-    (grind (arith, common_steps, type_lemmas)) (grind (arith, common_steps, type_lemmas)) (grind (arith, common_steps, type_lemmas)) (omega arith)
+    ground_matches texts typ 1 false (ap is_ground (ap out-Shape is ∙ outs-Reset)) (λ fields h. absurd cc) (grind (arith, common_steps, type_lemmas))
+    (grind (arith, common_steps, type_lemmas)) (grind (arith, common_steps, type_lemmas)) (grind (arith, common_steps, type_lemmas)) (grind (arith, common_steps, type_lemmas)) (omega arith)
 
 pub all_sized : (texts : Texts) (s : Shape) (typ : FirType) → ((w : Option ℕ) × (s ≡ shape.Unsigned w)) ⊎ ((w : Option ℕ) × (s ≡ shape.Signed w)) ⊎ (s ≡ shape.Reset) → typ.shape ≡ s
-    → Matches (IsRight texts) typ (of_ground 1)
+    → Matches (IsRight texts) typ (of_ground 1 false)
 all_sized texts s typ (inl (w, e)) is = unsigned_matches texts typ w (is ∙ e)
 all_sized texts s typ (inr (inl (w, e))) is = signed_matches texts typ w (is ∙ e)
 all_sized texts s typ (inr (inr e)) is = reset_matches texts typ (is ∙ e)
@@ -225,5 +254,5 @@ mutual
   weaker_fields k (one_field m r) = one_field (weaker k m) (weaker_fields k r)
 
 pub nothing_gathered : (texts : Texts) (gathered : Gathered) → gathered.parts ≡ [] → gathered.ways.leaves ≡ 0 → gathered.ways.bytes ≡ 0 → gathered.passive ≡ true
-    → gathered.places ≡ 0 → Gathers texts [] gathered
-nothing_gathered texts gathered p l b v z = record { parts = subst (FieldsMatch (IsRight texts) []) (sym p) no_fields; leaves = l; bytes = b; passive = v; places = z }
+    → gathered.clocked ≡ false → gathered.places ≡ 0 → Gathers texts [] gathered
+nothing_gathered texts gathered p l b v c z = record { parts = subst (FieldsMatch (IsRight texts) []) (sym p) no_fields; leaves = l; bytes = b; passive = v; clocked = c; places = z }

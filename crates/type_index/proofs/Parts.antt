@@ -28,7 +28,7 @@ use Rattle.field_index.proofs.Places.{at_place, field_found, sum_more}
 use Rattle.type_index.specs.declared.tree.TypeIndex.{TypeIndex, the_lemmas}
 use Rattle.type_index.specs.declared.tree.Inside.TheVariants as inside
 use Rattle.type_index.specs.declared.tree.Inside.TheViews.{out-Inside}
-use Rattle.type_index.specs.Knowing.{Matches, FieldsMatch, ground, vector, bundle, no_fields, one_field, is_ground, fields_in, Knows, HasWays, IsAmong, IsPlaceIn, weight, places_of, position_of}
+use Rattle.type_index.specs.Knowing.{Matches, FieldsMatch, ground, vector, bundle, no_fields, one_field, is_ground, has_clock, fields_in, Knows, HasWays, IsAmong, IsPlaceIn, weight, places_of, position_of}
 
 pub vector_out : (t e : FirType) (n : ℕ) → t.shape ≡ shape.Vector e n → out-Shape t.shape ≡ Shape-F.Vector e n
 vector_out t e n h = ap out-Shape h ∙ outs-Vector e n
@@ -265,6 +265,9 @@ counted_known typ index k = ∥∥₁_elim k (ℕ_set index.leaves (cap (count t
 
 pub flipless_known : (typ : FirType) (index : TypeIndex) → Knows typ index → index.passive ≡ not (has_flip typ)
 flipless_known typ index k = ∥∥₁_elim k (Bool-set index.passive (not (has_flip typ))) (λ m. (self m).passive)
+
+pub clocked_known : (typ : FirType) (index : TypeIndex) → Knows typ index → index.clocked ≡ has_clock typ
+clocked_known typ index k = ∥∥₁_elim k (Bool-set index.clocked (has_clock typ)) (λ m. (self m).clocked)
 
 pub placed_known : (typ : FirType) (index : TypeIndex) → Knows typ index → index.places ≡ min (size typ) (2 ^ 64 - 1)
 placed_known typ index k = ∥∥₁_elim k (ℕ_set index.places (min (size typ) (2 ^ 64 - 1))) (λ m. (self m).places)

@@ -9,11 +9,12 @@ use Rattle.width_spots.specs.Spots.{field_size}
 use Rattle.name_sizes.specs.Caps.{cap}
 use Rattle.name_sizes.specs.Texts.{field_bytes}
 use Rattle.type_index.specs.declared.gathered.Gathered.{Gathered}
-use Rattle.type_index.specs.Knowing.{FieldsMatch, IsRight}
+use Rattle.type_index.specs.Knowing.{FieldsMatch, IsRight, has_clock}
 
 pub record Gathers (texts : Texts) (fields : List Field) (gathered : Gathered) : Type 0 where
   pub parts : FieldsMatch (IsRight texts) fields gathered.parts
   pub leaves : gathered.ways.leaves ≡ cap (sum (map field_count fields))
   pub bytes : gathered.ways.bytes ≡ cap (sum (map (field_bytes texts) fields))
   pub passive : gathered.passive ≡ not (list_any field_has_flip fields)
+  pub clocked : gathered.clocked ≡ list_any (λ field. has_clock field.typ) fields
   pub places : gathered.places ≡ min (sum (map field_size fields)) (2 ^ 64 - 1)

@@ -1,12 +1,13 @@
 -- What is known of a type and of all its parts.
 use Rattle.std.specs.Prelude.{◌≡◌, ℕ, ◌-◌, ◌^◌, min, sum, take, Bool, true, false, not, List, [], ◌∷◌, map, Option, Some, None, IfSome}
+use Rattle.std.specs.List.{list_any}
 use Rattle.fir_types.specs.declared.fir_type.FirType.{FirType}
 use Rattle.fir_types.specs.declared.fir_type.Shape.{Shape}
 use Rattle.fir_types.specs.declared.fir_type.Shape.TheOpen.{Shape-F}
 use Rattle.fir_types.specs.declared.fir_type.Shape.TheViews.{out-Shape}
 use Rattle.fir_types.specs.declared.fir_type.Shape.TheVariants as shape
 use Rattle.fir_types.specs.declared.fir_type.Field.{Field}
-use Rattle.fir_types.specs.Leaves.{count}
+use Rattle.fir_types.specs.Leaves.{count, leaves, is_clock}
 use Rattle.fir_types.specs.Passivity.{has_flip}
 use Rattle.field_index.specs.declared.index.FieldIndex.{FieldIndex}
 use Rattle.field_index.specs.declared.index.FieldPlace.{FieldPlace}
@@ -38,6 +39,10 @@ mutual
     one_field : {field : Field} {inner : TypeIndex} {fields : List Field} {inners : List TypeIndex} → Matches P field.typ inner
         → FieldsMatch P fields inners → FieldsMatch P (field ∷ fields) (inner ∷ inners)
 
+-- whether a leaf of a type is a Clock
+abbrev pub has_clock : FirType → Bool
+has_clock typ = list_any is_clock (leaves typ)
+
 abbrev pub places_of : TypeIndex → ℕ
 places_of index = index.places
 
@@ -61,11 +66,12 @@ pub record IsPlaceIn (fields : List Field) (name : ℕ) (place : FieldPlace) : T
 pub record IsKnown (typ : FirType) (index : TypeIndex) : Type 0 where
   pub leaves : index.leaves ≡ cap (count typ)
   pub passive : index.passive ≡ not (has_flip typ)
+  pub clocked : index.clocked ≡ has_clock typ
   pub places : index.places ≡ min (size typ) (2 ^ 64 - 1)
   pub among : (fields : List Field) (among : Option FieldIndex) (inners : List TypeIndex) → typ.shape ≡ shape.Bundle fields → index.inside ≡ inside.Bundle among inners
       → IsAmong among fields
 
--- The leaves and the places of each part, whether a flip stands in it, and the fields of bundles by name.
+-- The leaves and the places of each part, whether a flip stands in it, whether a leaf of it is a Clock, and the fields of bundles by name.
 abbrev pub Knows : FirType → TypeIndex → Type 0
 Knows typ index = ∥ Matches IsKnown typ index ∥₁
 

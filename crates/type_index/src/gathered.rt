@@ -21,6 +21,7 @@ pub struct Gathered {
     parts: List<TypeIndex>,
     ways: Ways,
     passive: bool,
+    clocked: bool,
     places: usize,
 }
 
@@ -38,6 +39,7 @@ impl Gathered {
                 bytes: 0,
             },
             passive: true,
+            clocked: false,
             places: 0,
         }
     }
@@ -52,6 +54,7 @@ impl Gathered {
         };
         self.ways = self.ways.and(ways.named(names, field.name.id));
         self.passive = still_passive(self.passive, part.passive, field.flip);
+        self.clocked |= part.clocked;
         self.places = self.places.saturating_add(part.places);
         self.parts.push(part)?;
         Ok(())
@@ -65,6 +68,7 @@ impl Gathered {
             parts,
             ways,
             passive,
+            clocked,
             places,
         } = self;
         let weights = weights_of(alloc, parts.as_slice())?;
@@ -73,6 +77,7 @@ impl Gathered {
             leaves: ways.leaves,
             bytes: ways.bytes,
             passive,
+            clocked,
             places,
             inside: Inside::Bundle(among, Shared::new(alloc, parts)?),
         })

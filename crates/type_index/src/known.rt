@@ -9,7 +9,7 @@ ghost use Rattle.fir_types.specs.Passivity.{has_flip};
 ghost use Rattle.name_sizes.specs.Caps.{cap};
 ghost use Rattle.leaf_names.specs.LeafNames.{Texts};
 ghost use Rattle.width_spots.specs.Spots.{size};
-ghost use Rattle.type_index.specs.Knowing.{Knows, HasWays, IsAmong, IsPlaceIn, weight, places_of, position_of, fields_in, element_in};
+ghost use Rattle.type_index.specs.Knowing.{Knows, HasWays, IsAmong, IsPlaceIn, has_clock, weight, places_of, position_of, fields_in, element_in};
 
 use crate::tree::{Inside, TypeIndex};
 use bit_words::Shared;
@@ -24,6 +24,7 @@ pub struct Known<'a> {
     ghost knows: { Knows typ.now index.now },
     ghost counted: { index.now.leaves ≡ cap (count typ.now) },
     ghost flipless: { index.now.passive ≡ not (has_flip typ.now) },
+    ghost clocked: { index.now.clocked ≡ has_clock typ.now },
     ghost placed: { index.now.places ≡ min (size typ.now) (2 ^ 64 - 1) },
 }
 

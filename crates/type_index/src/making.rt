@@ -31,7 +31,7 @@ impl TypeIndex {
     pub fn of_reset() -> TypeIndex
         ensures { (texts : Texts) (typ : AType) → typ.shape ≡ shape.Reset → Matches (IsRight texts) typ result }
     {
-        of_ground(1)
+        of_ground(1, false)
     }
 
     /// What is known of the bundle without fields, whatever the texts of names.
@@ -62,8 +62,8 @@ fn make_shape(alloc: Global, names: &Names, shape: &Shape) -> Result<TypeIndex, 
     ensures { IfOk result (λ index. (typ : AType) → typ.shape ≡ shape.now → Matches (IsRight names.now) typ index) }
 {
     match shape {
-        Shape::Unsigned(_) | Shape::Signed(_) | Shape::Reset => Ok(of_ground(1)),
-        Shape::Clock => Ok(of_ground(0)),
+        Shape::Unsigned(_) | Shape::Signed(_) | Shape::Reset => Ok(of_ground(1, false)),
+        Shape::Clock => Ok(of_ground(0, true)),
         Shape::Bundle(fields) => {
             let gathered = make_fields(alloc, names, fields.as_slice())?;
             gathered.finish(alloc, fields.as_slice())
@@ -87,14 +87,15 @@ fn make_fields(alloc: Global, names: &Names, fields: &[Field]) -> Result<Gathere
     Ok(gathered)
 }
 
-/// What is known of a type without parts that has so many places.
-fn of_ground(places: usize) -> TypeIndex
-    ensures { result ≡ record { leaves = 1; bytes = 0; passive = true; places = places; inside = inside.Ground } }
+/// What is known of a type without parts that has so many places, and that is a `Clock` or not.
+fn of_ground(places: usize, clocked: bool) -> TypeIndex
+    ensures { result ≡ record { leaves = 1; bytes = 0; passive = true; clocked = clocked; places = places; inside = inside.Ground } }
 {
     TypeIndex {
         leaves: 1,
         bytes: 0,
         passive: true,
+        clocked,
         places,
         inside: Inside::Ground,
     }
@@ -113,6 +114,7 @@ fn put_one(alloc: Global, inner: TypeIndex, length: u128) -> Result<TypeIndex, A
         leaves: ways.leaves,
         bytes: ways.bytes,
         passive: inner.passive,
+        clocked: length != 0 && inner.clocked,
         places: inner.places,
         inside: Inside::Vector(Shared::new(alloc, inner)?),
     })

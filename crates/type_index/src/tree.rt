@@ -16,6 +16,8 @@ pub struct TypeIndex {
     pub bytes: u128,
     /// Whether no `flip` stands in it.
     pub passive: bool,
+    /// Whether one of its leaves is a `Clock`.
+    pub clocked: bool,
     /// The number of its places that have widths, or 2^64 - 1 where there are more.
     pub places: usize,
     pub inside: Inside,
@@ -42,6 +44,7 @@ impl TypeIndex {
             leaves: self.leaves,
             bytes: self.bytes,
             passive: self.passive,
+            clocked: self.clocked,
             places: self.places,
             inside: self.inside.share()?,
         })

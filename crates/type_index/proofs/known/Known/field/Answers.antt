@@ -1,6 +1,5 @@
-use Rattle.std.proofs.Common.{◌≡◌, ◌∙◌, sym, ap, subst}
+use Rattle.std.proofs.Common.{◌∙◌, sym, ap, subst}
 use Rattle.std.specs.Prelude.{Some, None, option_map, IfSome}
-use Rattle.field_index.specs.Indexes.{first_at}
 use Rattle.type_index.specs.Knowing.{IsPlaceIn, fields_in, position_of}
 use Rattle.type_index.proofs.Parts.{knows_among, knows_weights, knows_field, no_part, part_is, parts_of, nothing_found, field_found_at, bundle_out}
 use Rattle.type_index.proofs.known.Known.field.Goals as goal
