@@ -97,14 +97,14 @@ place_is : (e : Expr) → (judged e).place ≡ e.place
 place_is e = grind (arith, common_steps, the_lemmas)
 
 -- one more operand is held
-pub typed_some : (known : Known) (es : List Judged) (e : Expr) (part : Part) (complete : Bool) (held more : List Held)
+pub typed_some : (known : Known) (es : List Judged) (e : Expr) (part : Part) (complete : Bool) (held more : List Held) (one : Held)
     → typed_operands known es ≡ (if complete then Some (map operand_of held) else None) → Some part ≡ (found_of known e).part
-    → more ≡ held ++ record { place = e.place; typ = part.typ } ∷ [] → typed_operands known (es ++ judged e ∷ []) ≡ (if complete then Some (map operand_of more) else None)
-typed_some known es e part complete held more is here' held_is =
-    let one : Held = record { place = e.place; typ = part.typ } in
+    → more ≡ held ++ one ∷ [] → one.expr.now ≡ e → one.part ≡ part → typed_operands known (es ++ judged e ∷ []) ≡ (if complete then Some (map operand_of more) else None)
+typed_some known es e part complete held more one is here' held_is of_e of_part =
+    let same : operand_of one ≡ record { place = e.place; typ = part.typ } = ap₂ (λ (x : Expr) (p : Part). record { place = x.place; typ = p.typ }) of_e of_part in
     typed-push known es (judged e) ∙ ap₂ (λ o p. then_operand o (judged e).place p) is (sym here')
     ∙ ap (λ at. then_operand (if complete then Some (map operand_of held) else None) at (Some part)) (place_is e) ∙ held_more complete (map operand_of held) e.place part
-    ∙ ap (λ os. if complete then Some os else None) (sym (ap (map operand_of) held_is ∙ map-append operand_of held (one ∷ [])))
+    ∙ ap (λ os. if complete then Some os else None) (sym (ap (map operand_of) held_is ∙ map-append operand_of held (one ∷ []) ∙ ap (λ o. map operand_of held ++ o ∷ []) same))
 
 -- or it has no type
 pub typed_none : (known : Known) (es : List Judged) (e : Expr) (complete : Bool) (held : List Held)

@@ -1,5 +1,5 @@
 -- The types of parts that are reached by steps alone.
-use Rattle.std.proofs.Common.{◌≡◌, ℕ, ◌+◌, ◌<◌, Bool, true, false, List, [], ◌∷◌, map, length, take, get_or, refl, sym, ap, ◌∙◌, subst, arith}
+use Rattle.std.proofs.Common.{◌≡◌, ℕ, Bool, true, false, List, [], ◌∷◌, map, length, get_or, refl, sym, ap, ◌∙◌, subst, arith}
 use Rattle.std.specs.Prelude.{Option, Some, None, option_map, find, ◌==◌, IfSome, nat_lt}
 use Rattle.std.proofs.Math.Bool.{Bool-set}
 use Rattle.std.proofs.Math.Logic.{∥∥₁_elim}
@@ -36,7 +36,6 @@ use Rattle.type_check.specs.Parts.{Known, component, typed_without}
 use Rattle.type_check.specs.Expressions.{Judgement, Operand, found_of, judged, over, choice, choice_faults, with_operand, typed_operands, all_among, as_node, along, behind, suffix_step, from_base, from_index, field_step, element_step, element_found, index_step, indexed}
 use Rattle.type_check.specs.Judging.{Agrees}
 use Rattle.type_check.proofs.Forms.{mux_is}
-use Rattle.type_check.proofs.Judgements.{map_more, along-push}
 use Rattle.type_check.proofs.Ways.{first_field}
 
 without_faults : (faults : List TypeFault) (typ : FirType) → Agrees typ (option_map source_of (typed_without faults typ))

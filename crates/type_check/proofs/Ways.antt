@@ -48,4 +48,4 @@ pub no_row : (op : PrimOp) (held : List Held) → 3 ≤ length held → None ≡
 no_row op [] h = grind (arith, common_steps)
 no_row op (a ∷ []) h = grind (arith, common_steps)
 no_row op (a ∷ b ∷ []) h = grind (arith, common_steps)
-no_row op (a ∷ b ∷ c ∷ more) h = sym (more_signs op (sign_of a.typ) (sign_of b.typ) (sign_of c.typ) (signs_of (map operand_of more)))
+no_row op (a ∷ b ∷ c ∷ more) h = sym (more_signs op (sign_of a.part.typ) (sign_of b.part.typ) (sign_of c.part.typ) (signs_of (map operand_of more)))

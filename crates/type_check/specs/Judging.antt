@@ -7,7 +7,8 @@ use Rattle.circuit_parts.specs.declared.part.Part.{Part}
 use Rattle.type_check.specs.declared.rules.Operand.{Operand as Held}
 use Rattle.type_check.specs.declared.reached.Reached.{Reached}
 use Rattle.circuit_parts.specs.Parts.{part_of}
-use Rattle.type_check.specs.Expressions.{Judgement, Operand, type_or_none}
+use Rattle.type_check.specs.Parts.{Known}
+use Rattle.type_check.specs.Expressions.{Judgement, Operand, type_or_none, found_of}
 
 -- what a reference has come to, as a part
 abbrev pub part_at : Reached → Part
@@ -18,7 +19,11 @@ part_reached reached = option_map part_at reached
 
 -- an operand that is held
 abbrev pub operand_of : Held → Operand
-operand_of held = record { place = held.place; typ = held.typ }
+operand_of held = record { place = held.expr.now.place; typ = held.part.typ }
+
+-- its part is what is found of its expression
+abbrev pub IsFound : Known → Held → Type 0
+IsFound known held = (found_of known held.expr.now).part ≡ Some held.part
 
 -- what is found of several expressions
 abbrev pub together : List Judgement → Judgement

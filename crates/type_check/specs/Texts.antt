@@ -8,7 +8,6 @@ use Rattle.fir_types.specs.declared.fir_type.Shape.TheOpen.{Shape-F, Field-F}
 use Rattle.fir_types.specs.declared.fir_type.Shape.TheViews.{out-Shape}
 use Rattle.fir_types.specs.declared.fir_type.Field.{Field}
 use Rattle.fir_types.specs.declared.name.Name.{Name}
-use Rattle.fir_types.specs.Leaves.{leaves, is_clock}
 use Rattle.fir_types.specs.Passivity.{has_flip}
 use Rattle.type_check.specs.declared.fault.TypeFault.TheVariants.{FieldTwice, OperandKind, NotPassive}
 use Rattle.type_check.specs.declared.fault.TypeFault.{TypeFault}
@@ -16,8 +15,7 @@ use Rattle.circuit_parts.specs.Kinds.{is_clock_layer}
 use Rattle.type_check.specs.Parts.{unless, when}
 
 -- whether a leaf of a type is a `Clock`
-abbrev pub has_clock : FirType → Bool
-has_clock typ = list_any is_clock (leaves typ)
+pub use Rattle.fir_types.specs.Leaves.{has_clock}
 
 -- whether no `flip` stands in a type
 abbrev pub is_passive : FirType → Bool

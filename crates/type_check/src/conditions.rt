@@ -24,12 +24,8 @@ pub fn expect_clock(alloc: Global, walk: &mut Walk<'_>, clock: &Expr) -> Result<
     ensures { OnOk result (Walks (expects (clock_faults clock.now.place) clock.now) walk.old walk.new) }
 {
     if let Some(part) = judge(alloc, &walk.known, &mut walk.found, clock)? {
-        let fits = is_clock(&part.typ);
-        push_unless(
-            &mut walk.found.faults,
-            fits,
-            TypeFault::OperandKind(clock.place),
-        )?;
+        let fault = TypeFault::OperandKind(clock.place);
+        push_unless(&mut walk.found.faults, is_clock(&part.typ), fault)?;
     }
     Ok(())
 }
@@ -43,12 +39,8 @@ pub fn expect_condition(
     ensures { OnOk result (Walks (expects (condition_faults condition.now.place) condition.now) walk.old walk.new) }
 {
     if let Some(part) = judge(alloc, &walk.known, &mut walk.found, condition)? {
-        let fits = is_unsigned(&part.typ);
-        push_unless(
-            &mut walk.found.faults,
-            fits,
-            TypeFault::ConditionKind(condition.place),
-        )?;
+        let fault = TypeFault::ConditionKind(condition.place);
+        push_unless(&mut walk.found.faults, is_unsigned(&part.typ), fault)?;
     }
     Ok(())
 }
@@ -64,11 +56,8 @@ pub fn expect_init(
 {
     if let Some(part) = judge(alloc, &walk.known, &mut walk.found, init)? {
         let fits = are_equivalent(typ, &part.typ);
-        push_unless(
-            &mut walk.found.faults,
-            fits,
-            TypeFault::NotEquivalent(init.place),
-        )?;
+        let fault = TypeFault::NotEquivalent(init.place);
+        push_unless(&mut walk.found.faults, fits, fault)?;
     }
     Ok(())
 }
@@ -141,11 +130,8 @@ fn push_unequal(
 {
     if let (Some(sink), Some(source)) = (sink, source) {
         let fits = are_equivalent_at(&walk.known, left, right, sink, source);
-        push_unless(
-            &mut walk.found.faults,
-            fits,
-            TypeFault::NotEquivalent(right.place),
-        )?;
+        let fault = TypeFault::NotEquivalent(right.place);
+        push_unless(&mut walk.found.faults, fits, fault)?;
     }
     Ok(())
 }

@@ -7,7 +7,6 @@ ghost use Rattle.circuit_parts.specs.Parts.{part_of, source_of, instance_in, por
 ghost use Rattle.type_check.specs.Texts.{twice_in, stored_faults};
 ghost use Rattle.type_check.specs.Memories.{memory_faults};
 ghost use Rattle.type_check.specs.Statements.{and_then, notes, declares, expects, names_node, port_walk, clock_faults, condition_faults, init_faults};
-ghost use Rattle.module_table.specs.Components.{part_in};
 ghost use Rattle.type_check.specs.Walks.{Walks};
 
 use crate::conditions::{expect_clock, expect_condition, expect_init};
@@ -16,14 +15,12 @@ use crate::judge::judge;
 use crate::memory::push_memory;
 use crate::texts::{push_stored, push_twice, push_unless};
 use crate::walk::Walk;
-use crate::whole::{known_type, reference_at};
+use crate::whole::{is_passive_at, reference_at};
 use circuit_parts::Flow;
 use circuit_parts::steps::port_flow;
 use fir_tree::Expr;
-use fir_types::{FirType, Memory, Name, Port, copy};
-use module_table::Component;
+use fir_types::{FirType, Memory, Name, Port};
 use std::alloc::{AllocError, Global};
-use type_index::KnownType;
 
 /// A port, which is read or driven inside its module.
 pub fn declare_port(alloc: Global, walk: &mut Walk<'_>, port: &Port) -> Result<(), AllocError>
@@ -85,17 +82,7 @@ pub fn declare_memory(alloc: Global, walk: &mut Walk<'_>, memory: &Memory) -> Re
     ensures { OnOk result (Walks (and_then (notes (memory_faults memory.now)) (declares memory.now.name.id (Some (source_of (memory_of memory.now))))) walk.old walk.new) }
 {
     push_memory(alloc, &mut walk.found.faults, memory)?;
-    declare_ports(alloc, walk, memory)
-}
-
-/// Declares the bundle of a memory's ports, which can only be read.
-fn declare_ports(alloc: Global, walk: &mut Walk<'_>, memory: &Memory) -> Result<(), AllocError>
-    ensures { OnOk result (Walks (declares memory.now.name.id (Some (source_of (memory_of memory.now)))) walk.old walk.new) }
-{
-    let known = KnownType::of_memory(alloc, walk.names, memory)?;
-    let flow = Flow::Source;
-    walk.known
-        .note_memory(alloc, memory.name.id, Component { known, flow }, memory)
+    walk.known.note_memory(alloc, memory)
 }
 
 /// An instance of a module. It has no type where there is no module of the name.
@@ -117,19 +104,12 @@ pub fn declare_node(
     let Some(part) = judge(alloc, &walk.known, &mut walk.found, expr)? else {
         return Ok(());
     };
-    let known = known_type(alloc, walk.names, &walk.known, expr, part)?;
-    push_unless(
-        &mut walk.found.faults,
-        known.known().index.passive,
-        TypeFault::NotPassive(expr.place),
-    )?;
+    let passive = is_passive_at(&walk.known, expr, &part);
+    let fault = TypeFault::NotPassive(expr.place);
+    push_unless(&mut walk.found.faults, passive, fault)?;
     match reference_at(expr) {
-        Some(reference) => {
-            let flow = Flow::Source;
-            walk.known
-                .note_part(name.id, Component { known, flow }, reference)
-        }
-        None => declare_source(walk, name, known),
+        Some(reference) => walk.known.note_part(alloc, name.id, &part.typ, reference),
+        None => declare(alloc, walk, name, &part.typ, Flow::Source),
     }
 }
 
@@ -143,22 +123,5 @@ fn declare(
 ) -> Result<(), AllocError>
     ensures { OnOk result (Walks (declares name.id (Some (part_of typ.now flow))) walk.old walk.new) }
 {
-    let known = KnownType::new(alloc, walk.names, copy(typ)?)?;
-    walk.known
-        .note_declared(alloc, name.id, Component { known, flow })
-}
-
-/// Declares a component of this type that can only be read.
-fn declare_source(walk: &mut Walk<'_>, name: Name, known: KnownType) -> Result<(), AllocError>
-    ensures { OnOk result (Walks (declares name.id (Some (source_of known.typ))) walk.old walk.new) }
-{
-    let flow = Flow::Source;
-    declare_part(walk, name, Component { known, flow })
-}
-
-/// Declares a component, unless there is one of its name.
-fn declare_part(walk: &mut Walk<'_>, name: Name, new: Component) -> Result<(), AllocError>
-    ensures { OnOk result (Walks (declares name.id (Some (part_in new))) walk.old walk.new) }
-{
-    walk.known.note(name.id, new)
+    walk.known.note_declared(alloc, name.id, typ, flow)
 }

@@ -1,11 +1,10 @@
 //! The walk through an expression.
 
-ghost use Rattle.std.specs.Prelude.{◌≡◌, ◌<◌, length, map, option_map, IfOk, OnOk};
+ghost use Rattle.std.specs.Prelude.{◌≡◌, ◌<◌, All, length, map, option_map, IfOk, IfSome, OnOk};
 ghost use Rattle.type_check.specs.Expressions.{found_of, judged, suffix_step, typed_operands, all_among, along};
 ghost use Rattle.circuit_parts.specs.Kinds.{no_type};
 ghost use Rattle.type_check.specs.Parts.{component};
-ghost use Rattle.type_check.specs.Judging.{part_at, part_reached, operand_of, together, filled, AddsBelow};
-ghost use Rattle.module_table.specs.Components.{part_in};
+ghost use Rattle.type_check.specs.Judging.{part_reached, operand_of, IsFound, together, filled, AddsBelow};
 ghost use Rattle.type_check.specs.Walks.{Adds};
 
 use crate::found::Findings;
@@ -16,7 +15,7 @@ use circuit_parts::Part;
 use circuit_parts::kinds::no_type;
 use fir_tree::{Expr, Form, Suffix};
 use fir_types::{FirType, copy};
-use module_table::{Component, Components};
+use module_table::Components;
 use std::alloc::{AllocError, Global};
 
 /// The type and the flow of an expression, where it has a type. Adds the types of its nodes in text order, and its faults.
@@ -33,17 +32,12 @@ pub fn judge(
     let at = found.types.len();
     found.types.push(no_type(alloc, expr.place)?)?;
     let part = judge_form(alloc, known, found, expr)?;
-    fill(alloc, &mut found.types, at, &part)?;
+    fill(&mut found.types, at, &part)?;
     Ok(part)
 }
 
 /// Puts a copy of the part's type, where there is one, in the place of the type with this number.
-fn fill(
-    alloc: Global,
-    types: &mut Vec<FirType>,
-    at: usize,
-    part: &Option<Part>,
-) -> Result<(), AllocError>
+fn fill(types: &mut Vec<FirType>, at: usize, part: &Option<Part>) -> Result<(), AllocError>
     requires { at < length types.old.items }
     ensures { OnOk result (types.new.items ≡ filled types.old.items at part.now) }
 {
@@ -85,7 +79,7 @@ fn judge_form(
             }
         }
         Form::Mux(operands) => match judge_all(alloc, known, found, operands.as_slice())? {
-            Some(typed) => judge_choice(alloc, &mut found.faults, expr.place, typed.as_slice()),
+            Some(typed) => judge_choice(known, &mut found.faults, expr.place, typed.as_slice()),
             None => Ok(None),
         },
     }
@@ -93,23 +87,21 @@ fn judge_form(
 
 /// The operands with their types, where each has one.
 #[cycle(judge)]
-fn judge_all(
+fn judge_all<'a>(
     alloc: Global,
     known: &Components<'_>,
     found: &mut Findings,
-    exprs: &[Expr],
-) -> Result<Option<Vec<Operand>>, AllocError>
+    exprs: &'a [Expr],
+) -> Result<Option<Vec<Operand<'a>>>, AllocError>
     ensures operands { IfOk result (λ operands. option_map (λ typed. map operand_of typed.items) operands ≡ typed_operands known.now.parts (map judged exprs.now)) }
+    ensures typed { IfOk result (λ operands. IfSome operands (λ typed. All (IsFound known.now.parts) typed.items)) }
     ensures found { OnOk result (Adds (together (all_among known.now.parts (map judged exprs.now))) found.old found.new) }
 {
     let mut typed = Vec::new(alloc);
     let mut complete = true;
     for expr in exprs {
         match judge(alloc, known, found, expr)? {
-            Some(part) => typed.push(Operand {
-                place: expr.place,
-                typ: part.typ,
-            })?,
+            Some(part) => typed.push(Operand { expr, part })?,
             None => complete = false,
         }
     }
@@ -172,20 +164,11 @@ fn take_step<'a>(
 fn component<'a>(known: &'a Components<'_>, name: u32) -> Option<Reached<'a>>
     ensures { part_reached result ≡ component known.now.parts name }
 {
-    match known.get(name) {
-        Some(known) => Some(reached_at(known)),
-        None => None,
-    }
-}
-
-/// A component, with what is known of its type.
-fn reached_at(known: &Component) -> Reached<'_>
-    ensures { part_at result ≡ part_in known.now }
-{
-    Reached {
-        known: known.known.known(),
-        flow: known.flow,
-    }
+    let found = known.get(name)?;
+    Some(Reached {
+        known: found.known.known(),
+        flow: found.flow,
+    })
 }
 
 /// What a reference has come to, with a type of its own.

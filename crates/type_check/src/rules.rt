@@ -1,31 +1,34 @@
 //! The conditions on literals, operations and choices (FIRRTL specification 3.0, "Primitive Operations" and "Multiplexers").
 
-ghost use Rattle.std.specs.Prelude.{◌≡◌, ◌++◌, [], None, map, IfOk, OnOk};
+ghost use Rattle.std.specs.Prelude.{◌≡◌, ◌++◌, [], All, None, map, IfOk, OnOk};
 ghost use Rattle.bit_words.specs.Numbers.{integer_of_number};
 ghost use Rattle.prim_ops.specs.Kinds.{row_kind};
 ghost use Rattle.type_check.specs.declared.fault.TypeFault.TheVariants.{LiteralFit};
 ghost use Rattle.type_check.specs.Parts.{unless};
 ghost use Rattle.circuit_parts.specs.Parts.{source_of};
-ghost use Rattle.type_check.specs.Expressions.{fits_literal, node, row_of, signs_of, operation, choice, choice_faults};
+ghost use Rattle.type_check.specs.Expressions.{fits_literal, node, row_of, signs_of, operation, choice};
 ghost use Rattle.circuit_parts.specs.Kinds.{ground};
-ghost use Rattle.type_check.specs.Judging.{operand_of};
+ghost use Rattle.type_check.specs.Judging.{operand_of, IsFound};
 
 use crate::fault::TypeFault;
-use crate::texts::{are_equivalent, fits_literal, is_passive, push_unless};
+use crate::texts::{fits_literal, push_unless};
+use crate::whole::{are_equivalent_at, has_clock_at, is_passive_at};
 use bit_words::{Kind as Sign, Number};
 use circuit_parts::Part;
 use circuit_parts::kinds::{ground, is_unsigned, sign_of};
 use circuit_parts::steps::source;
-use fir_types::{FirType, copy, has_clock};
+use fir_tree::Expr;
+use fir_types::copy;
+use module_table::Components;
 use place_text::Place;
 use prim_ops::{Prim, arity, kind_of};
-use std::alloc::{AllocError, Global};
+use std::alloc::AllocError;
 
-/// An operand: its place and its type.
+/// An operand that has a type.
 #[derive(Drop)]
-pub struct Operand {
-    pub place: Place,
-    pub typ: FirType,
+pub struct Operand<'a> {
+    pub expr: &'a Expr,
+    pub part: Part,
 }
 
 /// A literal, which its width has to hold.
@@ -51,27 +54,27 @@ pub fn judge_operation(
     faults: &mut Vec<TypeFault>,
     op: Prim,
     place: Place,
-    operands: &[Operand],
+    operands: &[Operand<'_>],
 ) -> Result<Option<Part>, AllocError>
     ensures part { IfOk result (λ part. part ≡ (operation op place [] (map operand_of operands.now)).part) }
     ensures faults { OnOk result (faults.new.items ≡ faults.old.items ++ (operation op place [] (map operand_of operands.now)).faults) }
 {
-    match row(op, operands) {
-        Some(sign) => Ok(Some(source(ground(place, sign, None)))),
-        None => {
-            faults.push(TypeFault::OperandKind(place))?;
-            Ok(None)
-        }
-    }
+    let Some(sign) = row(op, operands) else {
+        faults.push(TypeFault::OperandKind(place))?;
+        return Ok(None);
+    };
+    Ok(Some(source(ground(place, sign, None))))
 }
 
 /// The kind of the result, where the operation takes operands of these kinds.
-fn row(op: Prim, operands: &[Operand]) -> Option<Sign>
+fn row(op: Prim, operands: &[Operand<'_>]) -> Option<Sign>
     ensures { result ≡ row_of op (signs_of (map operand_of operands.now)) }
 {
     match operands {
-        [operand] => row_of_kinds(op, &[sign_of(&operand.typ)?]),
-        [first, second] => row_of_kinds(op, &[sign_of(&first.typ)?, sign_of(&second.typ)?]),
+        [operand] => row_of_kinds(op, &[sign_of(&operand.part.typ)?]),
+        [first, second] => {
+            row_of_kinds(op, &[sign_of(&first.part.typ)?, sign_of(&second.part.typ)?])
+        }
         _ => None,
     }
 }
@@ -86,13 +89,15 @@ fn row_of_kinds(op: Prim, kinds: &[Sign]) -> Option<Sign>
     kind_of(op, kinds)
 }
 
-/// A choice between the second operand and the third.
+/// A choice between the second operand and the third. Its faults: over what is no condition, over clocks, over types with a `flip`,
+/// and over two types that aren't equivalent.
 pub fn judge_choice(
-    alloc: Global,
+    known: &Components<'_>,
     faults: &mut Vec<TypeFault>,
     place: Place,
-    operands: &[Operand],
+    operands: &[Operand<'_>],
 ) -> Result<Option<Part>, AllocError>
+    requires { All (IsFound known.now.parts) operands.now }
     ensures part { IfOk result (λ part. part ≡ (choice place [] (map operand_of operands.now)).part) }
     ensures faults { OnOk result (faults.new.items ≡ faults.old.items ++ (choice place [] (map operand_of operands.now)).faults) }
 {
@@ -100,32 +105,20 @@ pub fn judge_choice(
         return Ok(None);
     };
     let before = faults.len();
-    push_choice(faults, place, condition, first, second)?;
+    let fault = TypeFault::ConditionKind(condition.expr.place);
+    push_unless(faults, is_unsigned(&condition.part.typ), fault)?;
+    let clocks = has_clock_at(known, first.expr, &first.part)
+        || has_clock_at(known, second.expr, &second.part);
+    push_unless(faults, !clocks, TypeFault::OperandKind(place))?;
+    let passive = is_passive_at(known, first.expr, &first.part);
+    push_unless(faults, passive, TypeFault::NotPassive(first.expr.place))?;
+    let passive = is_passive_at(known, second.expr, &second.part);
+    push_unless(faults, passive, TypeFault::NotPassive(second.expr.place))?;
+    let equivalent = are_equivalent_at(known, first.expr, second.expr, &first.part, &second.part);
+    let fault = TypeFault::NotEquivalent(second.expr.place);
+    push_unless(faults, equivalent, fault)?;
     if faults.len() > before {
         return Ok(None);
     }
-    Ok(Some(source(copy(&first.typ)?)))
-}
-
-/// Adds the faults of a choice: over what is no condition, over clocks, over types with a `flip`, and over two types that
-/// aren't equivalent.
-fn push_choice(
-    faults: &mut Vec<TypeFault>,
-    place: Place,
-    condition: &Operand,
-    first: &Operand,
-    second: &Operand,
-) -> Result<(), AllocError>
-    ensures { OnOk result (faults.new.items ≡ faults.old.items ++ choice_faults place (operand_of condition.now) (operand_of first.now) (operand_of second.now)) }
-{
-    let unsigned = is_unsigned(&condition.typ);
-    push_unless(faults, unsigned, TypeFault::ConditionKind(condition.place))?;
-    let clocks = has_clock(&first.typ) || has_clock(&second.typ);
-    push_unless(faults, !clocks, TypeFault::OperandKind(place))?;
-    let passive = is_passive(&first.typ);
-    push_unless(faults, passive, TypeFault::NotPassive(first.place))?;
-    let passive = is_passive(&second.typ);
-    push_unless(faults, passive, TypeFault::NotPassive(second.place))?;
-    let equivalent = are_equivalent(&first.typ, &second.typ);
-    push_unless(faults, equivalent, TypeFault::NotEquivalent(second.place))
+    Ok(Some(source(copy(&first.part.typ)?)))
 }

@@ -10,7 +10,7 @@ use crate::declarations::{
     declare_reset_register, declare_wire,
 };
 use crate::found::Findings;
-use fir_tree::{Arm, Module, Names, Stmt};
+use fir_tree::{Arm, Module, Stmt};
 use fir_types::Port;
 use module_table::{Components, Modules};
 use std::alloc::{AllocError, Global};
@@ -18,8 +18,6 @@ use std::alloc::{AllocError, Global};
 /// What a walk through a module has come to.
 #[derive(Drop)]
 pub struct Walk<'a> {
-    /// The texts of the circuit's names.
-    pub names: &'a Names,
     /// The components that are declared so far and have types.
     pub known: Components<'a>,
     pub found: Findings,
@@ -36,7 +34,6 @@ pub fn walk_module(
     ensures faults { OnOk result (found.new.faults.items ≡ found.old.faults.items ++ (module_walk modules.now.all.now holder.now []).faults) }
 {
     let mut walk = Walk {
-        names: modules.names,
         known: Components::new(alloc, modules),
         found: Findings {
             types: Vec::new(alloc),

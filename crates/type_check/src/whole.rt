@@ -1,36 +1,29 @@
 //! What is known of expressions that are components or parts of them, so that a type isn't walked once more.
 
-ghost use Rattle.std.specs.Prelude.{◌≡◌, Some, IfOk, IfSome};
+ghost use Rattle.std.specs.Prelude.{◌≡◌, Some, IfSome};
 ghost use Rattle.fir_types.specs.declared.fir_type.FirType.{FirType as AType};
 ghost use Rattle.type_check.specs.Expressions.{found_of};
 ghost use Rattle.module_table.specs.Leading.{Leads};
 ghost use Rattle.type_check.specs.Judging.{Agrees};
 ghost use Rattle.type_check.specs.Parts.{Known as TheKnown};
 ghost use Rattle.circuit_parts.specs.declared.part.Part.{Part as APart};
-ghost use Rattle.type_check.specs.Texts.{is_passive, are_equivalent};
+ghost use Rattle.type_check.specs.Texts.{has_clock, is_passive, are_equivalent};
 
 use crate::texts::{are_equivalent, is_passive};
 use circuit_parts::Part;
-use fir_tree::{Expr, Form, Names};
+use fir_tree::{Expr, Form};
+use fir_types::has_clock;
 use module_table::{Components, Reference, reference_of};
-use std::alloc::{AllocError, Global};
-use type_index::{Known, KnownType};
+use type_index::Known;
 
-/// The type of an expression that is this part, with what is known of it. It is shared where it is that of a component or of a part
-/// of one.
-pub fn known_type(
-    alloc: Global,
-    names: &Names,
-    known: &Components<'_>,
-    expr: &Expr,
-    part: Part,
-) -> Result<KnownType, AllocError>
-    requires { (found_of known.now.parts expr.now).part ≡ Some part }
-    ensures { IfOk result (λ same. same.typ ≡ part.typ) }
+/// Whether a leaf of the type of an expression that is this part is a `Clock`.
+pub fn has_clock_at(known: &Components<'_>, expr: &Expr, part: &Part) -> bool
+    requires { (found_of known.now.parts expr.now).part ≡ Some part.now }
+    ensures { result ≡ has_clock part.now.typ }
 {
     match part_at(known, expr) {
-        Some(there) => KnownType::of(there),
-        None => KnownType::new(alloc, names, part.typ),
+        Some(there) => there.index.clocked,
+        None => has_clock(&part.typ),
     }
 }
 

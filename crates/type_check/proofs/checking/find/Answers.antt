@@ -1,4 +1,4 @@
-use Rattle.std.proofs.Common.{◌≡◌, ◌∙◌, ◌++◌, [], ap}
+use Rattle.std.proofs.Common.{◌≡◌, ◌∙◌, [], ap}
 use Rattle.std.specs.List.{flat_map}
 use Rattle.type_check.specs.Statements.{module_walk}
 use Rattle.type_check.proofs.checking.find.Goals as goal

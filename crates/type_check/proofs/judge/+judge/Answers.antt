@@ -1,8 +1,9 @@
-use Rattle.std.proofs.Common.{rules, refl, sym, ap, ◌∙◌, map, take, subst, if◌then◌else◌}
+use Rattle.std.proofs.Common.{rules, All, refl, sym, ap, ◌∙◌, map, take, subst, if◌then◌else◌}
 use Rattle.std.specs.Prelude.{Some, None}
 use Rattle.std.proofs.lemmas.Result.{on_ok_weaker}
+use Rattle.std.proofs.lemmas.List.Elements.{All-push}
 use Rattle.type_check.specs.Expressions.{found_of, suffix_step, judged, typed_operands, all_among}
-use Rattle.type_check.specs.Judging.{part_reached, operand_of, together}
+use Rattle.type_check.specs.Judging.{part_reached, operand_of, IsFound, together}
 use Rattle.type_check.specs.Walks.{Adds}
 use Rattle.type_check.proofs.Judgements.{map_more, typed_some, typed_none, together-push, TakesOn, takes_more}
 use Rattle.type_check.proofs.Forms.{adds_literal, adds_operation, adds_choice, adds_filled}
@@ -48,12 +49,18 @@ judge_all-loop-expr-preserved t c =
     record {
       operands = ap (typed_operands known) more ∙ elim c.match-branch-2.branch [
         | judge_all-in-Some+in_ok-push-in-Some w ↦
-            typed_some known before e w.in-Some.part c.loop-expr.complete c.loop-expr.typed.items held c.loop-expr.invariant.operands
-            (sym w.in-Some.is ∙ c.in_ok-part.ensures.part) (ap (λ v. v.items) w.typed-is ∙ w.in_ok-push-in-Some.ensures.items)
+            typed_some known before e w.in-Some.part c.loop-expr.complete c.loop-expr.typed.items held _ c.loop-expr.invariant.operands
+            (sym w.in-Some.is ∙ c.in_ok-part.ensures.part) (ap (λ v. v.items) w.typed-is ∙ w.in_ok-push-in-Some.ensures.items) refl refl
             ∙ ap (λ b. if b then Some (map operand_of held) else None) (sym w.complete-is)
         | judge_all-in-None w ↦
             typed_none known before e c.loop-expr.complete c.loop-expr.typed.items c.loop-expr.invariant.operands
             (sym w.in-None.is ∙ c.in_ok-part.ensures.part) ∙ ap (λ b. if b then Some (map operand_of held) else None) (sym w.complete-is)
+      ];
+      typed = elim c.match-branch-2.branch [
+        | judge_all-in-Some+in_ok-push-in-Some w ↦
+            subst (All (IsFound known)) (sym (ap (λ v. v.items) w.typed-is ∙ w.in_ok-push-in-Some.ensures.items))
+            (All-push (IsFound known) c.loop-expr.typed.items _ c.loop-expr.invariant.typed (sym c.in_ok-part.ensures.part ∙ w.in-Some.is))
+        | judge_all-in-None w ↦ subst (All (IsFound known)) (sym (ap (λ v. v.items) w.typed-is)) c.loop-expr.invariant.typed
       ];
       found = subst (λ es. Adds (together (all_among known es)) c.args.found.now c.judge.new.found) (sym more)
           (together-push known before (judged e) c.loop-expr.invariant.found c.in_ok-part.ensures.found);

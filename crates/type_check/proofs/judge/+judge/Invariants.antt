@@ -1,13 +1,14 @@
-use Rattle.std.proofs.Common.{◌≡◌, map, take, if◌then◌else◌}
+use Rattle.std.proofs.Common.{◌≡◌, All, map, take, if◌then◌else◌}
 use Rattle.std.specs.Prelude.{Some, None}
 use Rattle.type_check.specs.Expressions.{judged, suffix_step, typed_operands, all_among, along}
-use Rattle.type_check.specs.Judging.{part_reached, operand_of, together}
+use Rattle.type_check.specs.Judging.{part_reached, operand_of, IsFound, together}
 use Rattle.type_check.specs.Walks.{Adds}
 use Rattle.type_check.proofs.judge.+judge.Given as goal
 
 abbrev pub invariant-judge_all-loop-expr : goal.invariant-judge_all-loop-expr
 invariant-judge_all-loop-expr l = record {
   operands : typed_operands l.known.parts (map judged (take l.expr-index l.exprs)) ≡ (if l.complete then Some (map operand_of l.typed.items) else None);
+  typed : All (IsFound l.known.parts) l.typed.items;
   found : Adds (together (all_among l.known.parts (map judged (take l.expr-index l.exprs)))) l.fn.found l.found;
 }
 

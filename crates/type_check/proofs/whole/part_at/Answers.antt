@@ -1,4 +1,3 @@
-use Rattle.std.proofs.Common.{rules}
 use Rattle.type_check.proofs.Reaching.{part_agrees}
 use Rattle.type_check.proofs.whole.part_at.Goals as goal
 
