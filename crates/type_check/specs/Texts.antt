@@ -13,7 +13,6 @@ use Rattle.type_check.specs.declared.fault.TypeFault.TheVariants.{FieldTwice, Op
 use Rattle.type_check.specs.declared.fault.TypeFault.{TypeFault}
 use Rattle.circuit_parts.specs.Kinds.{is_clock_layer}
 use Rattle.type_check.specs.Parts.{unless, when}
-
 -- whether a leaf of a type is a `Clock`
 pub use Rattle.fir_types.specs.Leaves.{has_clock}
 
