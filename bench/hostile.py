@@ -13,6 +13,7 @@ import subprocess
 import sys
 import tempfile
 import time
+import zlib
 
 FRONT = "FIRRTL version 3.0.0\ncircuit M :\n"
 MEGABYTE = 1_048_576
@@ -125,6 +126,49 @@ def port_fields(size):
     return writers_of(fields(size), 1, [f"connect m.w0.data.f{size - 1}, UInt<1>(0)"] * size)
 
 
+def connects_of_ports(size):
+    """Ports of instances, which are wide bundles."""
+    ports = [f"input p : {fields(size)}", f"output q : {fields(size)}"]
+    inner = module(ports + ["connect q, p"], "N")
+    return FRONT + inner + module(["inst a of N", "inst b of N"] + ["connect a.p, b.q"] * size, "K") + module(["skip"])
+
+
+def nodes_of_ports(size):
+    """Nodes of the data of one port of a memory that has as many."""
+    return memory_of("UInt<8>", [f"reader => r{k}" for k in range(size)], [f"node x{k} = m.r{size - 1}.data" for k in range(size)])
+
+
+def connects_of_unlike_choices(size):
+    """Choices twelve deep between twelve bundles, each of which is the widest in some of its fields: all choices differ."""
+    names = [f"i{k}" for k in range(12)]
+    widths = [[1 + (field * 7 + number * 5) % 12 for field in range(size // 12)] for number in range(12)]
+    inputs = [f"input {name} : {{ " + ", ".join(f"f{k} : UInt<{width}>" for k, width in enumerate(own)) + " }" for name, own in zip(names, widths)]
+    output = "output o : { " + ", ".join(f"f{k} : UInt<12>" for k in range(size // 12)) + " }"
+    sources = []
+    for number in range(size // 4):
+        order = sorted(names, key=lambda name: hash_of(f"{number} {name}"))
+        chosen = order[0]
+        for name in order[1:]:
+            chosen = f"mux(c, {chosen}, {name})"
+        sources.append(chosen)
+    return FRONT + module(["input c : UInt<1>"] + inputs + [output] + [f"connect o, {source}" for source in sources], "N") + module(["skip"])
+
+
+def hash_of(text):
+    return zlib.crc32(text.encode())
+
+
+def parts_without_leaves(size):
+    """The last of the fields of a part, none of which has a leaf."""
+    return FRONT + module([f"input w : {{ a : {fields(size, '{ }')} }}"] + [f"invalidate w.a.f{size - 1}"] * (size // 2))
+
+
+def long_ways(size):
+    """Connects of a leaf that stands behind 121 steps for each of so many."""
+    typ = "{ x : " * size + "UInt<1>" + (" }" + "[1]" * 120) * size
+    return FRONT + module([f"input i : {typ}", f"output o : {typ}"] + ["connect o, i"] * (20 * size))
+
+
 def unreached_connects(size):
     inner = [f"input i : {fields(size)}", f"output o : {fields(size)}"] + ["connect o, i"] * size
     return FRONT + module(inner, "N") + module(["skip"])
@@ -166,8 +210,12 @@ def open_writers(size):
 
 
 def writers_of(typ, size, behind):
-    lines = [f"data-type => {typ}", "depth => 2", "read-latency => 0", "write-latency => 1"]
-    lines += [f"writer => w{k}" for k in range(size)] + ["read-under-write => undefined"]
+    return memory_of(typ, [f"writer => w{k}" for k in range(size)], behind)
+
+
+def memory_of(typ, ports, behind):
+    """A memory in a module that main doesn't reach."""
+    lines = [f"data-type => {typ}", "depth => 2", "read-latency => 0", "write-latency => 1"] + ports + ["read-under-write => undefined"]
     return FRONT + module(["mem m :"] + ["  " + line for line in lines] + behind, "N") + module(["skip"])
 
 
@@ -249,6 +297,11 @@ ROWS = {
     "n connects of choices within choices": (connects_of_choices_within_choices, 5_000, ACCEPTED),
     "n / 30 connects of choices a hundred deep": (connects_of_deep_choices, 3_000, ACCEPTED),
     "n connects of chosen parts of n fields": (connects_of_chosen_parts, 5_000, ACCEPTED),
+    "n / 4 connects of choices that all differ": (connects_of_unlike_choices, 4_000, ACCEPTED),
+    "n connects of ports of n fields": (connects_of_ports, 8_000, ACCEPTED),
+    "n nodes of a port of a memory with n ports": (nodes_of_ports, 8_000, ACCEPTED),
+    "n / 2 references to the last of n fields without leaves": (parts_without_leaves, 4_000, ACCEPTED),
+    "20 n connects of a leaf behind 121 n steps": (long_ways, 30, ACCEPTED),
     "n instances of a module with n ports": (instances_of_ports, 500, TOO_LARGE),
     "2 n references to the last of n fields": (last_field, 6_000, TOO_LARGE),
     "2 n references to the last of a part's n fields": (last_of_part, 6_000, TOO_LARGE),
