@@ -169,6 +169,16 @@ def long_ways(size):
     return FRONT + module([f"input i : {typ}", f"output o : {typ}"] + ["connect o, i"] * (20 * size))
 
 
+def refused_at_widths(make, ports):
+    """The same texts with a wire behind so many ports whose width nothing tells, so that no stage behind the widths looks at them."""
+
+    def refused(size):
+        lines = make(size).split("\n")
+        return "\n".join(lines[:3 + ports] + ["    wire z : UInt"] + lines[3 + ports:])
+
+    return refused, f"circuit WidthUnknown {4 + ports}:10"
+
+
 def unreached_connects(size):
     inner = [f"input i : {fields(size)}", f"output o : {fields(size)}"] + ["connect o, i"] * size
     return FRONT + module(inner, "N") + module(["skip"])
@@ -286,6 +296,9 @@ DEEP = {
 # A text as deep, whose stack is only measured.
 MASKED = {"a memory of 128 lengths around a bundle, 128 deep": deep_memory(128)}
 
+REFUSED_PARTS, REFUSED_PARTS_AT = refused_at_widths(parts_without_leaves, 1)
+REFUSED_WAYS, REFUSED_WAYS_AT = refused_at_widths(long_ways, 2)
+
 ROWS = {
     "n nodes of a bundle of n fields": (nodes_of_bundle, 14_000, TOO_LARGE),
     "n nodes of a part of n fields": (nodes_of_part, 6_500, TOO_LARGE),
@@ -302,6 +315,8 @@ ROWS = {
     "n nodes of a port of a memory with n ports": (nodes_of_ports, 8_000, ACCEPTED),
     "n / 2 references to the last of n fields without leaves": (parts_without_leaves, 4_000, ACCEPTED),
     "20 n connects of a leaf behind 121 n steps": (long_ways, 30, ACCEPTED),
+    "n / 2 of these references, refused at the widths": (REFUSED_PARTS, 16_000, REFUSED_PARTS_AT),
+    "20 n of these connects, refused at the widths": (REFUSED_WAYS, 60, REFUSED_WAYS_AT),
     "n instances of a module with n ports": (instances_of_ports, 500, TOO_LARGE),
     "2 n references to the last of n fields": (last_field, 6_000, TOO_LARGE),
     "2 n references to the last of a part's n fields": (last_of_part, 6_000, TOO_LARGE),
