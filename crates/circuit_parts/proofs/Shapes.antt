@@ -1,4 +1,4 @@
--- The shape of a type is one of six.
+-- The shape of a type is one of seven.
 use Rattle.std.proofs.Common.{◌≡◌, ℕ, List, map, Option, subst}
 use Rattle.fir_types.specs.declared.fir_type.FirType.{FirType}
 use Rattle.fir_types.specs.declared.fir_type.Shape.{Shape, ind-Shape}
@@ -6,7 +6,7 @@ use Rattle.fir_types.specs.declared.fir_type.Shape.TheOpen.{Shape-F}
 use Rattle.fir_types.specs.declared.fir_type.Shape.TheFolds.{map-Shape}
 use Rattle.fir_types.specs.declared.fir_type.Shape.TheViews.{roll-Shape}
 use Rattle.fir_types.specs.declared.fir_type.Shape.TheVariants as shape
-use Rattle.fir_types.specs.declared.fir_type.Shape.TheVariants.{rolls-Unsigned, rolls-Signed, rolls-Clock, rolls-Reset, rolls-Bundle, rolls-Vector}
+use Rattle.fir_types.specs.declared.fir_type.Shape.TheVariants.{rolls-Unsigned, rolls-Signed, rolls-Clock, rolls-Reset, rolls-AsyncReset, rolls-Bundle, rolls-Vector}
 use Rattle.fir_types.specs.declared.fir_type.Field.{Field}
 
 -- what a shape is
@@ -15,6 +15,7 @@ pub data ShapeCase (s : Shape) : Type 0 where
   shape_sint : (width : Option ℕ) → s ≡ shape.Signed width → ShapeCase s
   shape_clock : s ≡ shape.Clock → ShapeCase s
   shape_reset : s ≡ shape.Reset → ShapeCase s
+  shape_async : s ≡ shape.AsyncReset → ShapeCase s
   shape_bundle : (fields : List Field) → s ≡ shape.Bundle fields → ShapeCase s
   shape_vector : (element : FirType) (length : ℕ) → s ≡ shape.Vector element length → ShapeCase s
 
@@ -24,6 +25,7 @@ case_of_layer (Shape-F.Unsigned w) = shape_uint w (rolls-Unsigned w)
 case_of_layer (Shape-F.Signed w) = shape_sint w (rolls-Signed w)
 case_of_layer Shape-F.Clock = shape_clock rolls-Clock
 case_of_layer Shape-F.Reset = shape_reset rolls-Reset
+case_of_layer Shape-F.AsyncReset = shape_async rolls-AsyncReset
 case_of_layer (Shape-F.Bundle fields) = shape_bundle (map (λ e. e.0) fields) (rolls-Bundle (map (λ e. e.0) fields))
 case_of_layer (Shape-F.Vector element n) = shape_vector element.0 n (rolls-Vector element.0 n)
 

@@ -15,7 +15,7 @@ pub fn sign_of(typ: &FirType) -> Option<Kind>
     match &typ.shape {
         Shape::Unsigned(_) | Shape::Reset => Some(Kind::Unsigned),
         Shape::Signed(_) => Some(Kind::Signed),
-        Shape::Clock | Shape::Bundle(_) | Shape::Vector(_, _) => None,
+        Shape::Clock | Shape::AsyncReset | Shape::Bundle(_) | Shape::Vector(_, _) => None,
     }
 }
 

@@ -220,6 +220,7 @@ kind_of_shape (Shape-F.Unsigned width) = Unsigned
 kind_of_shape (Shape-F.Signed width) = Signed
 kind_of_shape Shape-F.Clock = Unsigned
 kind_of_shape Shape-F.Reset = Unsigned
+kind_of_shape Shape-F.AsyncReset = Unsigned
 kind_of_shape (Shape-F.Bundle fields) = Unsigned
 kind_of_shape (Shape-F.Vector element length) = Unsigned
 
@@ -234,6 +235,7 @@ width_of_shape (Shape-F.Unsigned width) = width_or_none width
 width_of_shape (Shape-F.Signed width) = width_or_none width
 width_of_shape Shape-F.Clock = 0
 width_of_shape Shape-F.Reset = 1
+width_of_shape Shape-F.AsyncReset = 1
 width_of_shape (Shape-F.Bundle fields) = 0
 width_of_shape (Shape-F.Vector element length) = 0
 

@@ -160,6 +160,7 @@ narrow_layer (Shape-F.Unsigned width) = nat_le (width_or_none width) 128
 narrow_layer (Shape-F.Signed width) = nat_le (width_or_none width) 128
 narrow_layer Shape-F.Clock = true
 narrow_layer Shape-F.Reset = true
+narrow_layer Shape-F.AsyncReset = true
 narrow_layer (Shape-F.Bundle fields) = list_all (λ f. f) fields
 narrow_layer (Shape-F.Vector element n) = element
 

@@ -1,6 +1,6 @@
 //! Circuits and modules (FIRRTL specification 3.0, "Circuits and Modules").
 
-use crate::{Names, Stmt};
+use crate::{Names, PrintItem, Stmt};
 use bit_words::List;
 use fir_types::{Name, Port};
 
@@ -13,6 +13,8 @@ pub struct Circuit {
     /// The circuit's name, which is that of its main module.
     pub main: Name,
     pub modules: List<Module>,
+    /// The items of all modules: `printf` and `stop`.
+    pub prints: List<PrintItem>,
 }
 
 /// A module.

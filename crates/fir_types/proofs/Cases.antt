@@ -6,7 +6,7 @@ use Rattle.fir_types.specs.declared.fir_type.FirType.{FirType, the_lemmas}
 use Rattle.fir_types.specs.declared.fir_type.Shape.TheVariants as shape
 use Rattle.fir_types.specs.declared.fir_type.Shape.TheViews.{out-Shape}
 use Rattle.fir_types.specs.declared.fir_type.Field.{Field}
-use Rattle.fir_types.specs.Equivalence.{Equivalent, IsUnsigned, IsSigned, SameFields, AreSame, no_fields, same_field, unsigned, signed, clocks, vectors, bundles, a_uint, a_reset, a_sint}
+use Rattle.fir_types.specs.Equivalence.{Equivalent, IsUnsigned, IsSigned, SameFields, AreSame, no_fields, same_field, unsigned, signed, clocks, asyncs, vectors, bundles, a_uint, a_reset, a_sint}
 
 vector_element : (e o : FirType) (n m : ℕ) → shape.Vector e n ≡ shape.Vector o m → e ≡ o
 vector_element e o n m h =
@@ -26,7 +26,9 @@ of_unsigned u (unsigned _ v) = v
 of_unsigned (a_uint w e) (signed (a_sint v f) _) = absurd cc
 of_unsigned (a_reset e) (signed (a_sint v f) _) = absurd cc
 of_unsigned (a_uint w e) (clocks f _) = absurd cc
+of_unsigned (a_uint w e) (asyncs f _) = absurd cc
 of_unsigned (a_reset e) (clocks f _) = absurd cc
+of_unsigned (a_reset e) (asyncs f _) = absurd cc
 of_unsigned (a_uint w e) (vectors _ _ _ f _ _) = absurd cc
 of_unsigned (a_reset e) (vectors _ _ _ f _ _) = absurd cc
 of_unsigned (a_uint w e) (bundles _ _ f _ _) = absurd cc
@@ -37,6 +39,7 @@ of_signed s (signed _ v) = v
 of_signed (a_sint w e) (unsigned (a_uint v f) _) = absurd cc
 of_signed (a_sint w e) (unsigned (a_reset f) _) = absurd cc
 of_signed (a_sint w e) (clocks f _) = absurd cc
+of_signed (a_sint w e) (asyncs f _) = absurd cc
 of_signed (a_sint w e) (vectors _ _ _ f _ _) = absurd cc
 of_signed (a_sint w e) (bundles _ _ f _ _) = absurd cc
 
@@ -47,6 +50,16 @@ of_clock e (unsigned (a_reset f) _) = absurd cc
 of_clock e (signed (a_sint v f) _) = absurd cc
 of_clock e (vectors _ _ _ f _ _) = absurd cc
 of_clock e (bundles _ _ f _ _) = absurd cc
+of_clock e (asyncs f _) = absurd cc
+
+pub of_async : {l r : FirType} → l.shape ≡ shape.AsyncReset → Equivalent l r → r.shape ≡ shape.AsyncReset
+of_async e (asyncs _ f) = f
+of_async e (clocks f _) = absurd cc
+of_async e (unsigned (a_uint v f) _) = absurd cc
+of_async e (unsigned (a_reset f) _) = absurd cc
+of_async e (signed (a_sint v f) _) = absurd cc
+of_async e (vectors _ _ _ f _ _) = absurd cc
+of_async e (bundles _ _ f _ _) = absurd cc
 
 -- what is equivalent to a vector
 pub data IsVectorLike (e : FirType) (n : ℕ) (r : FirType) : Type 0 where
@@ -60,6 +73,7 @@ of_vector e n h (unsigned (a_uint v f) _) = absurd cc
 of_vector e n h (unsigned (a_reset f) _) = absurd cc
 of_vector e n h (signed (a_sint v f) _) = absurd cc
 of_vector e n h (clocks f _) = absurd cc
+of_vector e n h (asyncs f _) = absurd cc
 of_vector e n h (bundles _ _ f _ _) = absurd cc
 
 -- what is equivalent to a bundle
@@ -72,6 +86,7 @@ of_bundle fs h (unsigned (a_uint v f) _) = absurd cc
 of_bundle fs h (unsigned (a_reset f) _) = absurd cc
 of_bundle fs h (signed (a_sint v f) _) = absurd cc
 of_bundle fs h (clocks f _) = absurd cc
+of_bundle fs h (asyncs f _) = absurd cc
 of_bundle fs h (vectors _ _ _ f _ _) = absurd cc
 
 -- fields place by place

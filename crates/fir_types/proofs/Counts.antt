@@ -46,6 +46,7 @@ shape_step (Shape-F.Unsigned w) place = grind (arith, common_steps, the_lemmas)
 shape_step (Shape-F.Signed w) place = grind (arith, common_steps, the_lemmas)
 shape_step Shape-F.Clock place = grind (arith, common_steps, the_lemmas)
 shape_step Shape-F.Reset place = grind (arith, common_steps, the_lemmas)
+shape_step Shape-F.AsyncReset place = grind (arith, common_steps, the_lemmas)
 shape_step (Shape-F.Bundle fields) place = grind (arith, common_steps, the_lemmas, flat_map-map, sum_counted fields)
 shape_step (Shape-F.Vector element n) place = grind (arith, common_steps, the_lemmas, element.1, length-elements (leaves element.0) n)
 

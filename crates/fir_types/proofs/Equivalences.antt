@@ -7,16 +7,17 @@ use Rattle.fir_types.specs.declared.fir_type.Shape.TheOpen.{Shape-F}
 use Rattle.fir_types.specs.declared.fir_type.Shape.TheFolds.{map-Shape}
 use Rattle.fir_types.specs.declared.fir_type.Shape.TheViews.{roll-Shape, roll-Field, roll-FirType}
 use Rattle.fir_types.specs.declared.fir_type.Shape.TheVariants as shape
-use Rattle.fir_types.specs.declared.fir_type.Shape.TheVariants.{rolls-Unsigned, rolls-Signed, rolls-Clock, rolls-Reset, rolls-Bundle, rolls-Vector}
+use Rattle.fir_types.specs.declared.fir_type.Shape.TheVariants.{rolls-Unsigned, rolls-Signed, rolls-Clock, rolls-Reset, rolls-AsyncReset, rolls-Bundle, rolls-Vector}
 use Rattle.fir_types.specs.declared.fir_type.Field.{Field}
-use Rattle.fir_types.specs.Equivalence.{Equivalent, SameFields, unsigned, signed, clocks, vectors, bundles, no_fields, same_field, a_uint, a_reset, a_sint}
-use Rattle.fir_types.proofs.Cases.{of_unsigned, of_signed, of_clock, of_vector, of_bundle, IsVectorLike, vector_like, IsBundleLike, bundle_like}
+use Rattle.fir_types.specs.Equivalence.{Equivalent, SameFields, unsigned, signed, clocks, asyncs, vectors, bundles, no_fields, same_field, a_uint, a_reset, a_sint}
+use Rattle.fir_types.proofs.Cases.{of_unsigned, of_signed, of_clock, of_async, of_vector, of_bundle, IsVectorLike, vector_like, IsBundleLike, bundle_like}
 
 mutual
   pub turned_round : {l r : FirType} → Equivalent l r → Equivalent r l
   turned_round (unsigned u v) = unsigned v u
   turned_round (signed u v) = signed v u
   turned_round (clocks u v) = clocks v u
+  turned_round (asyncs u v) = asyncs v u
   turned_round (vectors e o n u v q) = vectors o e n v u (turned_round q)
   turned_round (bundles fs gs u v q) = bundles gs fs v u (fields_turned q)
 
@@ -35,6 +36,7 @@ mutual
   on_and_on (unsigned u v) q = unsigned u (of_unsigned v q)
   on_and_on (signed u v) q = signed u (of_signed v q)
   on_and_on (clocks u v) q = clocks u (of_clock v q)
+  on_and_on (asyncs u v) q = asyncs u (of_async v q)
   on_and_on (vectors e o n u v p) q = from_vector e o n u (of_vector o n v q) (λ w s. on_and_on p s)
   on_and_on (bundles fs gs u v p) q = from_bundle fs gs u (of_bundle gs v q) (λ hs s. on_fields p s)
 
@@ -63,6 +65,7 @@ shape_alike (Shape-F.Unsigned w) = subst ShapeAlike (sym (rolls-Unsigned w)) (λ
 shape_alike (Shape-F.Signed w) = subst ShapeAlike (sym (rolls-Signed w)) (λ place. signed (a_sint w refl) (a_sint w refl))
 shape_alike Shape-F.Clock = subst ShapeAlike (sym rolls-Clock) (λ place. clocks refl refl)
 shape_alike Shape-F.Reset = subst ShapeAlike (sym rolls-Reset) (λ place. unsigned (a_reset refl) (a_reset refl))
+shape_alike Shape-F.AsyncReset = subst ShapeAlike (sym rolls-AsyncReset) (λ place. asyncs refl refl)
 shape_alike (Shape-F.Bundle fields) =
     let fs : List Field = map (λ e. e.0) fields in
     subst ShapeAlike (sym (rolls-Bundle fs)) (λ place. bundles fs fs refl refl (fields_alike fields))

@@ -9,7 +9,7 @@ use Rattle.fir_types.specs.declared.fir_type.Shape.TheOpen.{Shape-F}
 use Rattle.fir_types.specs.declared.fir_type.Shape.TheFolds.{map-Shape}
 use Rattle.fir_types.specs.declared.fir_type.Shape.TheViews.{roll-Shape, roll-Field, roll-FirType}
 use Rattle.fir_types.specs.declared.fir_type.Shape.TheVariants as shape
-use Rattle.fir_types.specs.declared.fir_type.Shape.TheVariants.{rolls-Unsigned, rolls-Signed, rolls-Clock, rolls-Reset, rolls-Bundle, rolls-Vector}
+use Rattle.fir_types.specs.declared.fir_type.Shape.TheVariants.{rolls-Unsigned, rolls-Signed, rolls-Clock, rolls-Reset, rolls-AsyncReset, rolls-Bundle, rolls-Vector}
 use Rattle.fir_types.specs.declared.fir_type.Field.{Field}
 use Rattle.fir_types.specs.declared.leaf.TypeLeaf.{TypeLeaf}
 use Rattle.fir_types.specs.declared.leaf.PathStep.{PathStep}
@@ -107,12 +107,16 @@ clock_masked place = ground_masked (record { place = place; shape = shape.Clock 
 reset_masked : (place : Place) → Masked (record { place = place; shape = shape.Reset })
 reset_masked place = ground_masked (record { place = place; shape = shape.Reset }) (grind (arith, common_steps, the_lemmas)) (grind (arith, common_steps, the_lemmas))
 
+async_masked : (place : Place) → Masked (record { place = place; shape = shape.AsyncReset })
+async_masked place = ground_masked (record { place = place; shape = shape.AsyncReset }) (grind (arith, common_steps, the_lemmas)) (grind (arith, common_steps, the_lemmas))
+
 shape_masked : (y : Shape-F ((s : Shape) × MaskedShape s) ((f : Field) × MaskedField f) ((t : FirType) × Masked t))
     → MaskedShape (roll-Shape (map-Shape _ _ _ Shape Field FirType (λ e. e.0) (λ e. e.0) (λ e. e.0) y))
 shape_masked (Shape-F.Unsigned w) = subst MaskedShape (sym (rolls-Unsigned w)) (λ place. unsigned_masked place w)
 shape_masked (Shape-F.Signed w) = subst MaskedShape (sym (rolls-Signed w)) (λ place. signed_masked place w)
 shape_masked Shape-F.Clock = subst MaskedShape (sym rolls-Clock) clock_masked
 shape_masked Shape-F.Reset = subst MaskedShape (sym rolls-Reset) reset_masked
+shape_masked Shape-F.AsyncReset = subst MaskedShape (sym rolls-AsyncReset) async_masked
 shape_masked (Shape-F.Bundle fields) = subst MaskedShape (sym (rolls-Bundle (map (λ e. e.0) fields))) (λ place. bundle_masked place fields)
 shape_masked (Shape-F.Vector element n) = subst MaskedShape (sym (rolls-Vector element.0 n)) (λ place. vector_masked place element.0 n element.1)
 
@@ -193,12 +197,16 @@ clock_straight place = ground_straight (record { place = place; shape = shape.Cl
 reset_straight : (place : Place) → Straight (record { place = place; shape = shape.Reset })
 reset_straight place = ground_straight (record { place = place; shape = shape.Reset }) (grind (arith, common_steps, the_lemmas))
 
+async_straight : (place : Place) → Straight (record { place = place; shape = shape.AsyncReset })
+async_straight place = ground_straight (record { place = place; shape = shape.AsyncReset }) (grind (arith, common_steps, the_lemmas))
+
 shape_straight : (y : Shape-F ((s : Shape) × StraightShape s) ((f : Field) × StraightField f) ((t : FirType) × Straight t))
     → StraightShape (roll-Shape (map-Shape _ _ _ Shape Field FirType (λ e. e.0) (λ e. e.0) (λ e. e.0) y))
 shape_straight (Shape-F.Unsigned w) = subst StraightShape (sym (rolls-Unsigned w)) (λ place. unsigned_straight place w)
 shape_straight (Shape-F.Signed w) = subst StraightShape (sym (rolls-Signed w)) (λ place. signed_straight place w)
 shape_straight Shape-F.Clock = subst StraightShape (sym rolls-Clock) clock_straight
 shape_straight Shape-F.Reset = subst StraightShape (sym rolls-Reset) reset_straight
+shape_straight Shape-F.AsyncReset = subst StraightShape (sym rolls-AsyncReset) async_straight
 shape_straight (Shape-F.Bundle fields) = subst StraightShape (sym (rolls-Bundle (map (λ e. e.0) fields))) (λ place. bundle_straight place fields)
 shape_straight (Shape-F.Vector element n) = subst StraightShape (sym (rolls-Vector element.0 n)) (λ place. vector_straight place element.0 n element.1)
 

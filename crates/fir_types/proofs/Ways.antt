@@ -10,7 +10,7 @@ use Rattle.fir_types.specs.declared.leaf.TypeLeaf.{TypeLeaf}
 use Rattle.fir_types.specs.declared.leaf.PathStep.{PathStep}
 use Rattle.fir_types.specs.declared.leaf.PathStep.TheVariants as step
 use Rattle.fir_types.specs.Leaves.{leaves, field_leaves, elements, under, way_of}
-use Rattle.fir_types.specs.Equivalence.{Equivalent, IsUnsigned, IsSigned, SameFields, unsigned, signed, clocks, vectors, bundles, no_fields, same_field, a_uint, a_reset, a_sint}
+use Rattle.fir_types.specs.Equivalence.{Equivalent, IsUnsigned, IsSigned, SameFields, unsigned, signed, clocks, asyncs, vectors, bundles, no_fields, same_field, a_uint, a_reset, a_sint}
 use Rattle.fir_types.proofs.Layers.{leaves-bundle, leaves-vector, leaves-field}
 
 abbrev Way : Type 0
@@ -48,6 +48,9 @@ signed_way {t} (a_sint w e) = grind (arith, common_steps, the_lemmas)
 clock_way : (t : FirType) → t.shape ≡ shape.Clock → map way_of (leaves t) ≡ ([], false) ∷ []
 clock_way t e = grind (arith, common_steps, the_lemmas)
 
+async_way : (t : FirType) → t.shape ≡ shape.AsyncReset → map way_of (leaves t) ≡ ([], false) ∷ []
+async_way t e = grind (arith, common_steps, the_lemmas)
+
 pub same_field_ways : (f g : Field) → f.name.id ≡ g.name.id → f.flip ≡ g.flip → SameWays (leaves f.typ) (leaves g.typ) → SameWays (field_leaves f) (field_leaves g)
 same_field_ways f g a b e =
     ap (map way_of) (leaves-field f) ∙ same_under (step.Field f.name.id ∷ []) f.flip (leaves f.typ) (leaves g.typ) e
@@ -59,6 +62,7 @@ mutual
   same_ways (unsigned u v) = unsigned_way u ∙ sym (unsigned_way v)
   same_ways (signed u v) = signed_way u ∙ sym (signed_way v)
   same_ways {l} {r} (clocks u v) = clock_way l u ∙ sym (clock_way r v)
+  same_ways {l} {r} (asyncs u v) = async_way l u ∙ sym (async_way r v)
   same_ways {l} {r} (vectors e o n u v q) =
       ap (map way_of) (leaves-vector l e n u) ∙ same_elements (leaves e) (leaves o) n (same_ways q) ∙ sym (ap (map way_of) (leaves-vector r o n v))
   same_ways {l} {r} (bundles fs gs u v q) =

@@ -19,6 +19,7 @@ mutual
     unsigned : {left right : FirType} → IsUnsigned left → IsUnsigned right → Equivalent left right
     signed : {left right : FirType} → IsSigned left → IsSigned right → Equivalent left right
     clocks : {left right : FirType} → left.shape ≡ shape.Clock → right.shape ≡ shape.Clock → Equivalent left right
+    asyncs : {left right : FirType} → left.shape ≡ shape.AsyncReset → right.shape ≡ shape.AsyncReset → Equivalent left right
     vectors : {left right : FirType} (element other : FirType) (length : ℕ) → left.shape ≡ shape.Vector element length
         → right.shape ≡ shape.Vector other length → Equivalent element other → Equivalent left right
     bundles : {left right : FirType} (fields others : List Field) → left.shape ≡ shape.Bundle fields → right.shape ≡ shape.Bundle others

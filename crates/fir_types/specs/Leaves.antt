@@ -32,6 +32,7 @@ of_shape (Shape-F.Unsigned width) place = one_leaf place (shape.Unsigned width)
 of_shape (Shape-F.Signed width) place = one_leaf place (shape.Signed width)
 of_shape Shape-F.Clock place = one_leaf place shape.Clock
 of_shape Shape-F.Reset place = one_leaf place shape.Reset
+of_shape Shape-F.AsyncReset place = one_leaf place shape.AsyncReset
 of_shape (Shape-F.Bundle fields) place = flat_map (λ leaves. leaves) fields
 of_shape (Shape-F.Vector element n) place = elements element n
 
@@ -59,6 +60,7 @@ count_of_shape (Shape-F.Unsigned width) = 1
 count_of_shape (Shape-F.Signed width) = 1
 count_of_shape Shape-F.Clock = 1
 count_of_shape Shape-F.Reset = 1
+count_of_shape Shape-F.AsyncReset = 1
 count_of_shape (Shape-F.Bundle fields) = sum fields
 count_of_shape (Shape-F.Vector element n) = n * element
 
@@ -77,6 +79,7 @@ is_clock_shape (Shape-F.Unsigned width) = false
 is_clock_shape (Shape-F.Signed width) = false
 is_clock_shape Shape-F.Clock = true
 is_clock_shape Shape-F.Reset = false
+is_clock_shape Shape-F.AsyncReset = false
 is_clock_shape (Shape-F.Bundle fields) = false
 is_clock_shape (Shape-F.Vector element length) = false
 

@@ -11,6 +11,7 @@ flip_in_shape (Shape-F.Unsigned width) = false
 flip_in_shape (Shape-F.Signed width) = false
 flip_in_shape Shape-F.Clock = false
 flip_in_shape Shape-F.Reset = false
+flip_in_shape Shape-F.AsyncReset = false
 flip_in_shape (Shape-F.Bundle fields) = list_any (λ there. there) fields
 flip_in_shape (Shape-F.Vector element n) = element
 

@@ -14,6 +14,7 @@ pub fn copy(typ: &FirType) -> Result<FirType, AllocError>
         Shape::Signed(width) => Shape::Signed(*width),
         Shape::Clock => Shape::Clock,
         Shape::Reset => Shape::Reset,
+        Shape::AsyncReset => Shape::AsyncReset,
         Shape::Bundle(fields) => Shape::Bundle(fields.share()?),
         Shape::Vector(element, length) => Shape::Vector(element.share()?, *length),
     };

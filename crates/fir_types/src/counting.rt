@@ -16,7 +16,11 @@ pub fn leaf_count(typ: &FirType) -> u128
     let mut inside = typ;
     loop {
         match &inside.shape {
-            Shape::Unsigned(_) | Shape::Signed(_) | Shape::Clock | Shape::Reset => return factor,
+            Shape::Unsigned(_)
+            | Shape::Signed(_)
+            | Shape::Clock
+            | Shape::Reset
+            | Shape::AsyncReset => return factor,
             Shape::Bundle(fields) => {
                 return factor.saturating_mul(count_fields(fields.as_slice()));
             }
@@ -47,7 +51,9 @@ pub fn has_clock(typ: &FirType) -> bool
     let mut inside = typ;
     loop {
         match &inside.shape {
-            Shape::Unsigned(_) | Shape::Signed(_) | Shape::Reset => return false,
+            Shape::Unsigned(_) | Shape::Signed(_) | Shape::Reset | Shape::AsyncReset => {
+                return false;
+            }
             Shape::Clock => return true,
             Shape::Bundle(fields) => return clock_in_fields(fields.as_slice()),
             Shape::Vector(element, length) => {

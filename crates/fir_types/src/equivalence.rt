@@ -19,6 +19,7 @@ pub fn equivalent(left: &FirType, right: &FirType) -> bool
             Shape::Unsigned(_) | Shape::Reset => return is_unsigned(other),
             Shape::Signed(_) => return matches!(&other.shape, Shape::Signed(_)),
             Shape::Clock => return matches!(&other.shape, Shape::Clock),
+            Shape::AsyncReset => return matches!(&other.shape, Shape::AsyncReset),
             Shape::Bundle(fields) => {
                 return match &other.shape {
                     Shape::Bundle(others) => same_fields(fields.as_slice(), others.as_slice()),

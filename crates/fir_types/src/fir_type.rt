@@ -24,6 +24,8 @@ pub enum Shape {
     Clock,
     /// `Reset`, which is equivalent to `UInt<1>`.
     Reset,
+    /// `AsyncReset`, which is equivalent to nothing else.
+    AsyncReset,
     /// `{ field : type .. }`, the fields in text order.
     Bundle(SharedList<Field>),
     /// `type[n]`: n elements of one type. The length may be 0.

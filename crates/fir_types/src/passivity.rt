@@ -21,7 +21,11 @@ fn flip_in(typ: &FirType) -> bool
     let mut inside = typ;
     loop {
         match &inside.shape {
-            Shape::Unsigned(_) | Shape::Signed(_) | Shape::Clock | Shape::Reset => return false,
+            Shape::Unsigned(_)
+            | Shape::Signed(_)
+            | Shape::Clock
+            | Shape::Reset
+            | Shape::AsyncReset => return false,
             Shape::Bundle(fields) => return flip_in_fields(fields.as_slice()),
             Shape::Vector(element, _) => inside = element.get(),
         }

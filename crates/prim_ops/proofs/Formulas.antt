@@ -4,8 +4,10 @@ use Rattle.std.proofs.lemmas.Bool.{cases_lt}
 use Rattle.std.proofs.lemmas.Bool.Decides.{nat_tests}
 use Rattle.prim_ops.specs.declared.widths.Width.TheVariants.{Bits, Over}
 use Rattle.bit_words.specs.declared.value.Kind.{Kind}
+use Rattle.bit_words.specs.declared.value.Kind.TheVariants.{Unsigned, Signed}
 use Rattle.prim_ops.specs.declared.operation.PrimOp.{PrimOp}
-use Rattle.prim_ops.specs.Widths.{bounded, width_number, numbers_of, of_numbers, row_width}
+use Rattle.prim_ops.specs.declared.operation.PrimOp.TheVariants.{ShrFour}
+use Rattle.prim_ops.specs.Widths.{width_on_one, bounded, width_number, numbers_of, of_numbers, row_width}
 
 above : (n : ℕ) → 128 < n → bounded n ≡ Over
 above n more = grind (arith, nat_tests)
@@ -29,3 +31,8 @@ numbers_back (w ∷ widths) = ap (option_map (λ ws. w ∷ ws)) (numbers_back wi
 -- over operands whose widths are in bits
 pub in_bits : (prim : PrimOp) (kinds : List Kind) (widths params : List ℕ) → row_width prim kinds (map (λ w. Bits w) widths) params ≡ bounded (width_number prim kinds widths params)
 in_bits prim kinds widths params = ap (of_numbers (λ ws. width_number prim kinds ws params)) (numbers_back widths)
+
+-- what `shr` in version 4 leaves of a width
+pub shift_four_narrow : (kind : Kind) (w by : ℕ) → w ≤ 128 → width_on_one ShrFour kind w by 0 ≤ 128
+shift_four_narrow Unsigned w by h = omega (arith, h)
+shift_four_narrow Signed w by h = omega (arith, h)

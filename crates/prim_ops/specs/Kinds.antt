@@ -3,15 +3,17 @@ use Rattle.std.specs.Prelude.{List, [], ◌∷◌, Option, Some, None}
 use Rattle.bit_words.specs.declared.value.Kind.{Kind}
 use Rattle.bit_words.specs.declared.value.Kind.TheVariants.{Unsigned, Signed}
 use Rattle.prim_ops.specs.declared.operation.PrimOp.{PrimOp}
-use Rattle.prim_ops.specs.declared.operation.PrimOp.TheVariants.{Add, Sub, Mul, Div, Rem, Lt, Leq, Gt, Geq, Eq, Neq, Pad, AsUInt, AsSInt, Shl, Shr, Dshl, Dshr, Cvt, Neg, Not, And, Or, Xor, Andr, Orr, Xorr, Cat, Bits, Head, Tail}
+use Rattle.prim_ops.specs.declared.operation.PrimOp.TheVariants.{Add, Sub, Mul, Div, Rem, Lt, Leq, Gt, Geq, Eq, Neq, Pad, AsUInt, AsSInt, AsAsyncReset, Shl, Shr, ShrFour, Dshl, Dshr, Cvt, Neg, Not, And, Or, Xor, Andr, Orr, Xorr, Cat, Bits, Head, Tail}
 
 -- the kind of the result of an operation on one operand of this kind
 abbrev pub kind_on_one : PrimOp → Kind → Option Kind
 kind_on_one Pad kind = Some kind
 kind_on_one AsUInt kind = Some Unsigned
 kind_on_one AsSInt kind = Some Signed
+kind_on_one AsAsyncReset kind = Some Unsigned
 kind_on_one Shl kind = Some kind
 kind_on_one Shr kind = Some kind
+kind_on_one ShrFour kind = Some kind
 kind_on_one Cvt kind = Some Signed
 kind_on_one Neg kind = Some Signed
 kind_on_one Not kind = Some Unsigned

@@ -1,7 +1,7 @@
 -- The primitive operations: their names, and how many operands and parameters they take.
-use Rattle.std.specs.Prelude.{ℕ, List, codes}
+use Rattle.std.specs.Prelude.{ℕ, ◌==◌, List, codes, if◌then◌else◌}
 use Rattle.prim_ops.specs.declared.operation.PrimOp.{PrimOp}
-use Rattle.prim_ops.specs.declared.operation.PrimOp.TheVariants.{Add, Sub, Mul, Div, Rem, Lt, Leq, Gt, Geq, Eq, Neq, Pad, AsUInt, AsSInt, Shl, Shr, Dshl, Dshr, Cvt, Neg, Not, And, Or, Xor, Andr, Orr, Xorr, Cat, Bits, Head, Tail}
+use Rattle.prim_ops.specs.declared.operation.PrimOp.TheVariants.{Add, Sub, Mul, Div, Rem, Lt, Leq, Gt, Geq, Eq, Neq, Pad, AsUInt, AsSInt, AsAsyncReset, Shl, Shr, ShrFour, Dshl, Dshr, Cvt, Neg, Not, And, Or, Xor, Andr, Orr, Xorr, Cat, Bits, Head, Tail}
 
 -- the name, as bytes
 abbrev pub name_of : PrimOp → List ℕ
@@ -19,8 +19,10 @@ name_of Neq = codes "neq"
 name_of Pad = codes "pad"
 name_of AsUInt = codes "asUInt"
 name_of AsSInt = codes "asSInt"
+name_of AsAsyncReset = codes "asAsyncReset"
 name_of Shl = codes "shl"
 name_of Shr = codes "shr"
+name_of ShrFour = codes "shr"
 name_of Dshl = codes "dshl"
 name_of Dshr = codes "dshr"
 name_of Cvt = codes "cvt"
@@ -53,8 +55,10 @@ arity_of Neq = (2, 0)
 arity_of Pad = (1, 1)
 arity_of AsUInt = (1, 0)
 arity_of AsSInt = (1, 0)
+arity_of AsAsyncReset = (1, 0)
 arity_of Shl = (1, 1)
 arity_of Shr = (1, 1)
+arity_of ShrFour = (1, 1)
 arity_of Dshl = (2, 0)
 arity_of Dshr = (2, 0)
 arity_of Cvt = (1, 0)
@@ -70,3 +74,15 @@ arity_of Cat = (2, 0)
 arity_of Bits = (1, 2)
 arity_of Head = (1, 1)
 arity_of Tail = (1, 1)
+
+-- A text writes the operation by its name. `shr` is written once, and its version says which of the two is meant; until texts have
+-- asynchronous resets, none writes `asAsyncReset`.
+abbrev pub IsWritten : PrimOp → Type 0
+IsWritten AsAsyncReset = ⊥
+IsWritten ShrFour = ⊥
+IsWritten _ = Unit {0}
+
+-- the operation that a name means in a text of this version
+abbrev pub of_version : ℕ → PrimOp → PrimOp
+of_version major Shr = if major == 4 then ShrFour else Shr
+of_version major prim = prim

@@ -5,7 +5,7 @@ use Rattle.bit_words.specs.declared.value.Kind.{Kind}
 use Rattle.bit_words.specs.declared.value.Value.{Value}
 use Rattle.bit_words.specs.Values.{integer_of, bits_of, fit_of}
 use Rattle.prim_ops.specs.declared.operation.PrimOp.{PrimOp}
-use Rattle.prim_ops.specs.declared.operation.PrimOp.TheVariants.{Add, Sub, Mul, Div, Rem, Lt, Leq, Gt, Geq, Eq, Neq, Pad, AsUInt, AsSInt, Shl, Shr, Dshl, Dshr, Cvt, Neg, Not, And, Or, Xor, Andr, Orr, Xorr, Cat, Bits, Head, Tail}
+use Rattle.prim_ops.specs.declared.operation.PrimOp.TheVariants.{Add, Sub, Mul, Div, Rem, Lt, Leq, Gt, Geq, Eq, Neq, Pad, AsUInt, AsSInt, AsAsyncReset, Shl, Shr, ShrFour, Dshl, Dshr, Cvt, Neg, Not, And, Or, Xor, Andr, Orr, Xorr, Cat, Bits, Head, Tail}
 use Rattle.prim_ops.specs.Kinds.{row_kind, kind_on_one, kind_on_two}
 use Rattle.prim_ops.specs.Widths.{width_number, width_on_one, width_on_two}
 
@@ -31,8 +31,10 @@ abbrev pub integer_on_one : PrimOp → Value → ℕ → ℕ → ℤ
 integer_on_one Pad x n low = integer_of x
 integer_on_one AsUInt x n low = pos x.bits
 integer_on_one AsSInt x n low = pos x.bits
+integer_on_one AsAsyncReset x n low = pos x.bits
 integer_on_one Shl x n low = integer_of x *ℤ pos (2 ^ n)
 integer_on_one Shr x n low = floor_div (integer_of x) (2 ^ n)
+integer_on_one ShrFour x n low = floor_div (integer_of x) (2 ^ n)
 integer_on_one Cvt x n low = integer_of x
 integer_on_one Neg x n low = neg_ℤ (integer_of x)
 integer_on_one Not x n low = pos (2 ^ x.width - 1 - x.bits)

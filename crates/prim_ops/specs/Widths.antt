@@ -3,7 +3,7 @@ use Rattle.std.specs.Prelude.{ℕ, ◌+◌, ◌-◌, ◌^◌, ◌<◌, ◌≤◌
 use Rattle.bit_words.specs.declared.value.Kind.{Kind}
 use Rattle.bit_words.specs.declared.value.Kind.TheVariants.{Unsigned, Signed}
 use Rattle.prim_ops.specs.declared.operation.PrimOp.{PrimOp}
-use Rattle.prim_ops.specs.declared.operation.PrimOp.TheVariants.{Add, Sub, Mul, Div, Rem, Lt, Leq, Gt, Geq, Eq, Neq, Pad, AsUInt, AsSInt, Shl, Shr, Dshl, Dshr, Cvt, Neg, Not, And, Or, Xor, Andr, Orr, Xorr, Cat, Head, Tail}
+use Rattle.prim_ops.specs.declared.operation.PrimOp.TheVariants.{Add, Sub, Mul, Div, Rem, Lt, Leq, Gt, Geq, Eq, Neq, Pad, AsUInt, AsSInt, AsAsyncReset, Shl, Shr, ShrFour, Dshl, Dshr, Cvt, Neg, Not, And, Or, Xor, Andr, Orr, Xorr, Cat, Head, Tail}
 use Rattle.prim_ops.specs.declared.operation.PrimOp.TheVariants.{Bits as BitsOp}
 use Rattle.prim_ops.specs.declared.widths.Width.{Width}
 use Rattle.prim_ops.specs.declared.widths.Width.TheVariants.{Bits, Over}
@@ -13,8 +13,11 @@ abbrev pub width_on_one : PrimOp → Kind → ℕ → ℕ → ℕ → ℕ
 width_on_one Pad kind w n low = max w n
 width_on_one AsUInt kind w n low = w
 width_on_one AsSInt kind w n low = w
+width_on_one AsAsyncReset kind w n low = 1
 width_on_one Shl kind w n low = w + n
 width_on_one Shr kind w n low = max (w - n) 1
+width_on_one ShrFour Unsigned w n low = w - n
+width_on_one ShrFour Signed w n low = max (w - n) 1
 width_on_one Cvt Unsigned w n low = w + 1
 width_on_one Cvt Signed w n low = w
 width_on_one Neg kind w n low = w + 1

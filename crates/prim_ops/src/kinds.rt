@@ -27,9 +27,10 @@ fn on_one(prim: PrimOp, operand: Kind) -> Option<Kind>
     ensures { result ≡ kind_on_one prim operand }
 {
     match prim {
-        PrimOp::Pad | PrimOp::Shl | PrimOp::Shr => Some(operand),
+        PrimOp::Pad | PrimOp::Shl | PrimOp::Shr | PrimOp::ShrFour => Some(operand),
         PrimOp::AsSInt | PrimOp::Cvt | PrimOp::Neg => Some(Kind::Signed),
         PrimOp::AsUInt
+        | PrimOp::AsAsyncReset
         | PrimOp::Not
         | PrimOp::Andr
         | PrimOp::Orr
@@ -79,8 +80,10 @@ fn on_two(prim: PrimOp, first: Kind, second: Kind) -> Option<Kind>
         PrimOp::Pad
         | PrimOp::AsUInt
         | PrimOp::AsSInt
+        | PrimOp::AsAsyncReset
         | PrimOp::Shl
         | PrimOp::Shr
+        | PrimOp::ShrFour
         | PrimOp::Cvt
         | PrimOp::Neg
         | PrimOp::Not

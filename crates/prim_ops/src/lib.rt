@@ -15,6 +15,6 @@ pub mod widths;
 mod words;
 
 pub use kinds::kind_of;
-pub use operation::{PrimOp as Prim, arity, named};
+pub use operation::{PrimOp as Prim, arity, in_version, named};
 pub use values::value_of;
 pub use widths::{Width, params_fit, width_of};

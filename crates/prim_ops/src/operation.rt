@@ -1,7 +1,7 @@
 //! The primitive operations (FIRRTL specification 3.0, "Primitive Operations").
 
 ghost use Rattle.std.specs.Prelude.{◌≡◌, Some, IfSome};
-ghost use Rattle.prim_ops.specs.Operations.{arity_of, name_of};
+ghost use Rattle.prim_ops.specs.Operations.{arity_of, name_of, IsWritten, of_version};
 
 /// A primitive operation.
 #[derive(Clone, Copy, Debug, PartialEq, Eq)]
@@ -34,10 +34,14 @@ pub enum PrimOp {
     AsUInt,
     /// The same bits, read with a sign.
     AsSInt,
+    /// The lowest bit, as an asynchronous reset.
+    AsAsyncReset,
     /// Shifted left by the parameter.
     Shl,
     /// Shifted right by the parameter.
     Shr,
+    /// The same in a text of version 4: of a `UInt` nothing may be left.
+    ShrFour,
     /// Shifted left by the second operand.
     Dshl,
     /// Shifted right by the second operand.
@@ -90,8 +94,10 @@ impl PrimOp {
             PrimOp::Pad => "pad",
             PrimOp::AsUInt => "asUInt",
             PrimOp::AsSInt => "asSInt",
+            PrimOp::AsAsyncReset => "asAsyncReset",
             PrimOp::Shl => "shl",
             PrimOp::Shr => "shr",
+            PrimOp::ShrFour => "shr",
             PrimOp::Dshl => "dshl",
             PrimOp::Dshr => "dshr",
             PrimOp::Cvt => "cvt",
@@ -133,10 +139,16 @@ pub fn arity(prim: PrimOp) -> (u32, u32)
         | PrimOp::Or
         | PrimOp::Xor
         | PrimOp::Cat => (2, 0),
-        PrimOp::Pad | PrimOp::Shl | PrimOp::Shr | PrimOp::Head | PrimOp::Tail => (1, 1),
+        PrimOp::Pad
+        | PrimOp::Shl
+        | PrimOp::Shr
+        | PrimOp::ShrFour
+        | PrimOp::Head
+        | PrimOp::Tail => (1, 1),
         PrimOp::Bits => (1, 2),
         PrimOp::AsUInt
         | PrimOp::AsSInt
+        | PrimOp::AsAsyncReset
         | PrimOp::Cvt
         | PrimOp::Neg
         | PrimOp::Not
@@ -146,10 +158,10 @@ pub fn arity(prim: PrimOp) -> (u32, u32)
     }
 }
 
-/// The operation of this name, if there is one.
+/// The operation of this name, if there is one that a text writes: `shr` is that of version 3.
 pub fn named(text: &[u8]) -> Option<PrimOp>
-    ensures found { IfSome result (λ prim. text.now ≡ name_of prim) }
-    ensures only { (prim : PrimOp) → text.now ≡ name_of prim → result ≡ Some prim }
+    ensures found { IfSome result (λ prim. IsWritten prim × (text.now ≡ name_of prim)) }
+    ensures only { (prim : PrimOp) → IsWritten prim → text.now ≡ name_of prim → result ≡ Some prim }
 {
     match text {
         b"add" => Some(PrimOp::Add),
@@ -184,5 +196,15 @@ pub fn named(text: &[u8]) -> Option<PrimOp>
         b"head" => Some(PrimOp::Head),
         b"tail" => Some(PrimOp::Tail),
         _ => None,
+    }
+}
+
+/// The operation that a text of this version means by a name: `shr` is `ShrFour` in version 4.
+pub fn in_version(major: u8, prim: PrimOp) -> PrimOp
+    ensures { result ≡ of_version major prim }
+{
+    match prim {
+        PrimOp::Shr if major == 4 => PrimOp::ShrFour,
+        _ => prim,
     }
 }

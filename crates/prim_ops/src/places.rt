@@ -7,6 +7,7 @@ ghost use Rattle.prim_ops.specs.Widths.{width_on_one, width_on_two, FitOn};
 ghost use Rattle.prim_ops.specs.Results.{floor_div, IsOnOne, IsOnTwo};
 
 use crate::operation::PrimOp;
+use crate::widths::shifted;
 use crate::words::{Integer, cut, integer_from, lowered, raised, word_from, word_of};
 use bit_words::{Kind, Value, fit};
 
@@ -65,6 +66,25 @@ pub(crate) fn shift_right(operand: Value, by: u128) -> Value
         width,
         word_from(floor(integer_from(operand), by)),
     )
+}
+
+/// The same in a text of version 4.
+pub(crate) fn shift_right_four(operand: Value, by: u128) -> Value
+    ensures { IsOnOne PrimOp.ShrFour operand by 0 result }
+{
+    let width = shifted(operand.kind, u128::from(operand.width), by) as u8;
+    cut(
+        operand.kind,
+        width,
+        word_from(floor(integer_from(operand), by)),
+    )
+}
+
+/// The lowest bit, as an asynchronous reset.
+pub(crate) fn as_async_reset(operand: Value) -> Value
+    ensures { IsOnOne PrimOp.AsAsyncReset operand 0 0 result }
+{
+    cut(Kind::Unsigned, 1, operand.bits)
 }
 
 /// The integer divided by 2 to a power, rounded down.

@@ -10,8 +10,8 @@ use crate::bitwise::{and, and_over, not, or, or_over, xor, xor_over};
 use crate::operation::PrimOp;
 use crate::orders::{at_least, at_most, differ, equal, greater, less};
 use crate::places::{
-    as_signed, as_unsigned, concatenate, convert, extract, head, pad, shift_left, shift_left_by,
-    shift_right, shift_right_by, tail,
+    as_async_reset, as_signed, as_unsigned, concatenate, convert, extract, head, pad, shift_left, shift_left_by,
+    shift_right, shift_right_by, shift_right_four, tail,
 };
 use crate::quotients::{divide, remain};
 use crate::sums::{add, multiply, negate, subtract};
@@ -55,8 +55,10 @@ fn on_one(prim: PrimOp, operand: Value, first: u128, second: u128) -> Value
         PrimOp::Pad => pad(operand, first),
         PrimOp::AsUInt => as_unsigned(operand),
         PrimOp::AsSInt => as_signed(operand),
+        PrimOp::AsAsyncReset => as_async_reset(operand),
         PrimOp::Shl => shift_left(operand, first),
         PrimOp::Shr => shift_right(operand, first),
+        PrimOp::ShrFour => shift_right_four(operand, first),
         PrimOp::Cvt => convert(operand),
         PrimOp::Neg => negate(operand),
         PrimOp::Not => not(operand),

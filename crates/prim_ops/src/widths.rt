@@ -71,9 +71,10 @@ fn on_one(prim: PrimOp, kind: Kind, width: u8, first: u128, second: u128) -> u12
         PrimOp::AsUInt | PrimOp::AsSInt | PrimOp::Not => width,
         PrimOp::Shl => width.saturating_add(first),
         PrimOp::Shr => width.saturating_sub(first).max(1),
+        PrimOp::ShrFour => shifted(kind, width, first),
         PrimOp::Cvt => converted(kind, width),
         PrimOp::Neg => width + 1,
-        PrimOp::Andr | PrimOp::Orr | PrimOp::Xorr => 1,
+        PrimOp::Andr | PrimOp::Orr | PrimOp::Xorr | PrimOp::AsAsyncReset => 1,
         PrimOp::Bits => extracted(first, second),
         PrimOp::Head => first,
         PrimOp::Tail => width.saturating_sub(first),
@@ -119,6 +120,17 @@ fn converted(kind: Kind, width: u128) -> u128
     }
 }
 
+/// The width of the result of `shr` in version 4: a `SInt` keeps its sign.
+pub(crate) fn shifted(kind: Kind, width: u128, by: u128) -> u128
+    requires { width < 2 ^ 8 }
+    ensures { result ≡ width_on_one PrimOp.ShrFour kind width by 0 }
+{
+    match kind {
+        Kind::Unsigned => width.saturating_sub(by),
+        Kind::Signed => width.saturating_sub(by).max(1),
+    }
+}
+
 /// The width of the result on two operands, the first of this kind, or another number above 128 in place of one.
 fn on_two(prim: PrimOp, kind: Kind, first: u8, second: u8) -> u128
     ensures { bounded result ≡ bounded (width_on_two prim kind first second) }
@@ -137,8 +149,10 @@ fn on_two(prim: PrimOp, kind: Kind, first: u8, second: u8) -> u128
         PrimOp::Pad
         | PrimOp::AsUInt
         | PrimOp::AsSInt
+        | PrimOp::AsAsyncReset
         | PrimOp::Shl
         | PrimOp::Shr
+        | PrimOp::ShrFour
         | PrimOp::Cvt
         | PrimOp::Neg
         | PrimOp::Not

@@ -20,6 +20,7 @@ abbrev pub of_shape : Shape-F (List Spot) (List Spot) (List Spot) → List Spot
 of_shape (Shape-F.Unsigned width) = one_spot width
 of_shape (Shape-F.Signed width) = one_spot width
 of_shape Shape-F.Reset = one_spot (Some 1)
+of_shape Shape-F.AsyncReset = one_spot (Some 1)
 of_shape Shape-F.Clock = []
 of_shape (Shape-F.Bundle fields) = flat_map (λ spots. spots) fields
 of_shape (Shape-F.Vector element length) = element

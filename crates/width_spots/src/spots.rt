@@ -30,7 +30,7 @@ pub fn size(typ: &FirType) -> usize
 {
     let inside = inside_lengths(typ);
     match &inside.shape {
-        Shape::Unsigned(_) | Shape::Signed(_) | Shape::Reset => 1,
+        Shape::Unsigned(_) | Shape::Signed(_) | Shape::Reset | Shape::AsyncReset => 1,
         Shape::Clock => 0,
         Shape::Bundle(fields) => sizes(fields.as_slice()),
         Shape::Vector(_, _) => unreachable!(),
@@ -63,7 +63,7 @@ fn push_flips(flips: &mut Vec<bool>, flip: bool, typ: &FirType) -> Result<(), Al
 {
     let inside = inside_lengths(typ);
     match &inside.shape {
-        Shape::Unsigned(_) | Shape::Signed(_) | Shape::Reset => {
+        Shape::Unsigned(_) | Shape::Signed(_) | Shape::Reset | Shape::AsyncReset => {
             flips.push(flip)?;
             Ok(())
         }

@@ -1,7 +1,7 @@
 use Rattle.std.proofs.Common.{refl, inl, inr, length, arith}
 use Rattle.std.proofs.lemmas.Grind.{common_steps}
 use Rattle.std.proofs.lemmas.Slice.Zip.{zip_turn, zip_end}
-use Rattle.fir_types.specs.Equivalence.{AreSame, IsUnsigned, unsigned, signed, clocks, a_uint, a_reset, a_sint}
+use Rattle.fir_types.specs.Equivalence.{AreSame, IsUnsigned, unsigned, signed, clocks, asyncs, a_uint, a_reset, a_sint}
 use Rattle.fir_types.proofs.Cases.{of_unsigned, of_bundles, bundles_from, same_length, same_at, same_from_places, are_same_at, places_more, not_both}
 use Rattle.fir_types.proofs.Runs.{answered, other_length, same_on, element_falls}
 use Rattle.fir_types.proofs.equivalence.+equivalent.Goals as goal
@@ -20,6 +20,10 @@ equivalent-returns-in-Signed-matches t c =
 pub equivalent-returns-in-Clock-matches : goal.equivalent-returns-in-Clock-matches
 equivalent-returns-in-Clock-matches t c =
     answered c.args.left.now c.args.right.now c.loop-one.one.now c.loop-one.other.now c.loop-one.invariant.0 (λ _. clocks c.in-Clock.is c.in-Clock-matches.is, λ _. refl)
+
+pub equivalent-returns-in-AsyncReset-matches : goal.equivalent-returns-in-AsyncReset-matches
+equivalent-returns-in-AsyncReset-matches t c =
+    answered c.args.left.now c.args.right.now c.loop-one.one.now c.loop-one.other.now c.loop-one.invariant.0 (λ _. asyncs c.in-AsyncReset.is c.in-AsyncReset-matches.is, λ _. refl)
 
 pub equivalent-returns-in-Bundle-shape : goal.equivalent-returns-in-Bundle-shape
 equivalent-returns-in-Bundle-shape t c = answered c.args.left.now c.args.right.now c.loop-one.one.now c.loop-one.other.now c.loop-one.invariant.0 (
