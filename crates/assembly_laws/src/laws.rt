@@ -23,7 +23,7 @@ use memory_ports::laws::loads_are_what_ports_read;
 /// its name, kind, width, place and part in a cycle; at every sight the drivers have what the circuit's statements, nodes and ports
 /// leave in the leaves, and read what they read; and the registers and memories are the circuit's.
 pub fn passes_make_the_net()
-    ensures { (fitted : FittedCircuit) → IsWellFormed fitted → IsInitialized (design_of fitted) → (lowered : TheGroundCircuit) → IsGroundOf fitted lowered → (driven : TheDrivenCircuit) → IsExpanded lowered driven → (flat : TheFlatCircuit) → IsFlat driven flat → (net : TheNet) → IsPlaced flat net → IsNet net → IsNetOf fitted.checked.circuit.names (design_of fitted) net }
+    ensures { (fitted : FittedCircuit) → IsWellFormed fitted → IsInitialized (design_of fitted) → (lowered : TheGroundCircuit) → IsGroundOf fitted lowered → (driven : TheDrivenCircuit) → IsExpanded lowered driven → (flat : TheFlatCircuit) → IsFlat driven flat → (net : TheNet) → IsPlaced flat net → IsNet net → IsNetOf fitted.checked.resolved.names (design_of fitted) net }
 {
     initialized_leaves_are_driven();
     loads_are_what_ports_read();
@@ -31,5 +31,5 @@ pub fn passes_make_the_net()
 
 /// The net of a well formed circuit serves it: its flat order lists each leaf of the run once, and its types are sound.
 pub fn nets_of_circuits_serve_them()
-    ensures { (fitted : FittedCircuit) → IsWellFormed fitted → (net : TheNet) → IsNetOf fitted.checked.circuit.names (design_of fitted) net → Serves fitted.checked.circuit.names (design_of fitted) net }
+    ensures { (fitted : FittedCircuit) → IsWellFormed fitted → (net : TheNet) → IsNetOf fitted.checked.resolved.names (design_of fitted) net → Serves fitted.checked.resolved.names (design_of fitted) net }
 {}

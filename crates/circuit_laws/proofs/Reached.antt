@@ -93,7 +93,7 @@ found_first (x ∷ ms) name m e = by (x.name == name) refl (found_first ms name 
 
 module _ (fitted : Fitted) where
   abbrev circuit : Circuit
-  circuit = fitted.checked.circuit
+  circuit = fitted.checked.resolved
 
   abbrev design : Design
   design = design_of fitted

@@ -55,17 +55,17 @@ find_at (x ∷ cs) c (suc k) e h = by (x.declaration.name == c.declaration.name)
   by true q rest = absurd (zero_suc (h 0 x refl (eqb-true x.declaration.name c.declaration.name q)))
   by false q rest = rest
 
-pub named_itself : (fitted : Fitted) → HasNone (IsFault fitted.checked.circuit) → (m : TypedModule) → Contains (modules_of fitted) m → (c : Component) → Contains m.components c
+pub named_itself : (fitted : Fitted) → HasNone (IsFault fitted.checked.resolved) → (m : TypedModule) → Contains (modules_of fitted) m → (c : Component) → Contains m.components c
     → component_named m c.declaration.name ≡ Some c
 named_itself fitted none m at c among =
-    let of = module_of fitted.checked.circuit.modules fitted.declared m at in
+    let of = module_of fitted.checked.resolved.modules fitted.declared m at in
     let k = in_get m.components c among in
     let there' : slice_get (declarations_of of.0) k.0 ≡ Some c.declaration = zipped (declarations_of of.0) of.2.types k.0 c (subst (λ l. slice_get l k.0 ≡ Some c) of.2.is k.1) in
-    find_at m.components c k.0 k.1 (λ j x f s. declared_once fitted.checked.circuit none of.0 of.1 j k.0 x.declaration c.declaration
+    find_at m.components c k.0 k.1 (λ j x f s. declared_once fitted.checked.resolved none of.0 of.1 j k.0 x.declaration c.declaration
     (zipped (declarations_of of.0) of.2.types j x (subst (λ l. slice_get l j ≡ Some x) of.2.is f)) there' s)
 
-pub declared_somewhere : (fitted : Fitted) (m : TypedModule) → Contains (modules_of fitted) m → (holder : Module) × Contains fitted.checked.circuit.modules holder
+pub declared_somewhere : (fitted : Fitted) (m : TypedModule) → Contains (modules_of fitted) m → (holder : Module) × Contains fitted.checked.resolved.modules holder
     × ((c : Component) → Contains m.components c → (k : ℕ) × (slice_get (declarations_of holder) k ≡ Some c.declaration))
 declared_somewhere fitted m at =
-    let of = module_of fitted.checked.circuit.modules fitted.declared m at in
+    let of = module_of fitted.checked.resolved.modules fitted.declared m at in
     (of.0, of.1, λ c among. component_declared m of.0 of.2 c among)

@@ -11,10 +11,10 @@ use Rattle.fir_names.specs.Faults.{IsFault}
 -- Names mean what the scope says and have no fault; each declaration of the text has a type; the modules that main reaches are well
 -- typed; instances have the leaves of their modules' ports, and memories those of their ports.
 pub record IsWellFormed (fitted : Fitted) : Type 0 where
-  pub scope : IsScope fitted.checked.circuit fitted.checked.scope
-  pub names : HasNone (IsFault fitted.checked.circuit)
-  pub declared : length fitted.declared ≡ sum_by (λ holder. length (declarations_of holder)) fitted.checked.circuit.modules
-  pub types : (k : ℕ) (holder : Module) (m : TypedModule) → slice_get fitted.checked.circuit.modules k ≡ Some holder → slice_get (modules_of fitted) k ≡ Some m
+  pub scope : IsScope fitted.checked.resolved fitted.checked.scope
+  pub names : HasNone (IsFault fitted.checked.resolved)
+  pub declared : length fitted.declared ≡ sum_by (λ holder. length (declarations_of holder)) fitted.checked.resolved.modules
+  pub types : (k : ℕ) (holder : Module) (m : TypedModule) → slice_get fitted.checked.resolved.modules k ≡ Some holder → slice_get (modules_of fitted) k ≡ Some m
       → slice_get fitted.checked.scope.reached k ≡ Some true → HasTypes holder m
   pub bundles : HasBundles (design_of fitted)
 
@@ -22,7 +22,7 @@ pub record IsWellFormed (fitted : Fitted) : Type 0 where
 pub record IsKnownModule (fitted : Fitted) (m : TypedModule) : Type 0 where
   pub k : ℕ
   pub holder : Module
-  pub here : slice_get fitted.checked.circuit.modules k ≡ Some holder
+  pub here : slice_get fitted.checked.resolved.modules k ≡ Some holder
   pub number : slice_get (modules_of fitted) k ≡ Some m
   pub reached : slice_get fitted.checked.scope.reached k ≡ Some true
   pub typed : HasTypes holder m

@@ -79,12 +79,12 @@ pub fn values_have_shapes()
 
 /// In a circuit whose names have no fault, each component of a module of its design is the one of its name.
 pub fn components_are_named()
-    ensures { (fitted : FittedCircuit) → HasNone (IsFault fitted.checked.circuit) → (m : TypedModule) → Contains (modules_of fitted) m → (c : Component) → Contains m.components c → component_named m c.declaration.name ≡ Some c }
+    ensures { (fitted : FittedCircuit) → HasNone (IsFault fitted.checked.resolved) → (m : TypedModule) → Contains (modules_of fitted) m → (c : Component) → Contains m.components c → component_named m c.declaration.name ≡ Some c }
 {}
 
 /// Each module of a design is one of the circuit's, whose declarations its components are.
 pub fn components_are_declared()
-    ensures { (fitted : FittedCircuit) (m : TypedModule) → Contains (modules_of fitted) m → (holder : AModule) × Contains fitted.checked.circuit.modules holder × ((c : Component) → Contains m.components c → (k : ℕ) × (slice_get (declarations_of holder) k ≡ Some c.declaration)) }
+    ensures { (fitted : FittedCircuit) (m : TypedModule) → Contains (modules_of fitted) m → (holder : AModule) × Contains fitted.checked.resolved.modules holder × ((c : Component) → Contains m.components c → (k : ℕ) × (slice_get (declarations_of holder) k ≡ Some c.declaration)) }
 {}
 
 /// Where leaves are numbered in text order, a leaf's number is below the number of leaves before a place just where its declaration
@@ -104,10 +104,10 @@ pub fn typed_expressions_have_their_shapes()
 
 /// The module of a name is the first one that has it. Where the names have no fault, each module of a design is the one of its name.
 pub fn modules_are_named()
-    ensures meant { (fitted : FittedCircuit) (name k : ℕ) (m : TypedModule) → Means fitted.checked.circuit name k → slice_get (modules_of fitted) k ≡ Some m → module_named (design_of fitted) name ≡ Some m }
-    ensures numbered { (fitted : FittedCircuit) (name : ℕ) (m : TypedModule) → module_named (design_of fitted) name ≡ Some m → (k : ℕ) × Means fitted.checked.circuit name k × (slice_get (modules_of fitted) k ≡ Some m) }
-    ensures itself { (fitted : FittedCircuit) → HasNone (IsFault fitted.checked.circuit) → (k : ℕ) (m : TypedModule) → slice_get (modules_of fitted) k ≡ Some m → module_named (design_of fitted) m.name ≡ Some m }
-    ensures once { (fitted : FittedCircuit) → HasNone (IsFault fitted.checked.circuit) → (j k : ℕ) (m n : TypedModule) → slice_get (modules_of fitted) j ≡ Some m → slice_get (modules_of fitted) k ≡ Some n → m.name ≡ n.name → j ≡ k }
+    ensures meant { (fitted : FittedCircuit) (name k : ℕ) (m : TypedModule) → Means fitted.checked.resolved name k → slice_get (modules_of fitted) k ≡ Some m → module_named (design_of fitted) name ≡ Some m }
+    ensures numbered { (fitted : FittedCircuit) (name : ℕ) (m : TypedModule) → module_named (design_of fitted) name ≡ Some m → (k : ℕ) × Means fitted.checked.resolved name k × (slice_get (modules_of fitted) k ≡ Some m) }
+    ensures itself { (fitted : FittedCircuit) → HasNone (IsFault fitted.checked.resolved) → (k : ℕ) (m : TypedModule) → slice_get (modules_of fitted) k ≡ Some m → module_named (design_of fitted) m.name ≡ Some m }
+    ensures once { (fitted : FittedCircuit) → HasNone (IsFault fitted.checked.resolved) → (j k : ℕ) (m n : TypedModule) → slice_get (modules_of fitted) j ≡ Some m → slice_get (modules_of fitted) k ≡ Some n → m.name ≡ n.name → j ≡ k }
 {}
 
 /// In a well formed circuit main reaches a module exactly where it stands at some path; and what stands at a path is well typed.

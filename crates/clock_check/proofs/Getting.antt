@@ -298,9 +298,9 @@ gets_edge m holder ts is x y (by_node c leaf e k source named l clock sort at gi
     (has_edge (type_in m) d (part_of d.name leaf, source) (node e k leaf sort (ap (λ t. slice_get (leaves t) k) typ ∙ at) given clock refl))
 
 -- the same of a module of a circuit
-pub edges_are_links : (fitted : Fitted) → IsWellFormed fitted → AreOnce fitted → (k : ℕ) (holder : Module) (m : TypedModule) → slice_get fitted.checked.circuit.modules k ≡ Some holder
+pub edges_are_links : (fitted : Fitted) → IsWellFormed fitted → AreOnce fitted → (k : ℕ) (holder : Module) (m : TypedModule) → slice_get fitted.checked.resolved.modules k ≡ Some holder
     → slice_get (modules_of fitted) k ≡ Some m → (x y : Leaf) → Contains (module_edges (type_in m) holder) (x, y) ↔ Gets m x y
 edges_are_links fitted well once k holder m here' number x y =
-    let its = placed fitted.checked.circuit.modules fitted.declared fitted.checked.scope.reached k holder m here' number in
-    let in' : Contains fitted.checked.circuit.modules holder = get_contains fitted.checked.circuit.modules k holder here' in
+    let its = placed fitted.checked.resolved.modules fitted.declared fitted.checked.scope.reached k holder m here' number in
+    let in' : Contains fitted.checked.resolved.modules holder = get_contains fitted.checked.resolved.modules k holder here' in
     (λ c. edge_gets m holder its.declared its.is (once holder in') x y c, λ g. gets_edge m holder its.declared its.is x y g)

@@ -36,7 +36,7 @@ pub fn no_fault_has_one_clock()
 
 /// The links that the walk through a module finds are all links of chains of clocks that begin in it.
 pub fn edges_are_links()
-    ensures { (fitted : FittedCircuit) → IsWellFormed fitted → (k : ℕ) (holder : AModule) (m : TypedModule) → slice_get fitted.checked.circuit.modules k ≡ Some holder → slice_get (modules_of fitted) k ≡ Some m → (x y : Leaf) → Contains (module_edges (type_in m) holder) (x, y) ↔ Gets m x y }
+    ensures { (fitted : FittedCircuit) → IsWellFormed fitted → (k : ℕ) (holder : AModule) (m : TypedModule) → slice_get fitted.checked.resolved.modules k ≡ Some holder → slice_get (modules_of fitted) k ≡ Some m → (x y : Leaf) → Contains (module_edges (type_in m) holder) (x, y) ↔ Gets m x y }
 {
     names_are_declared_once();
 }

@@ -23,7 +23,7 @@ modules_apart fitted well path m e j k c d f g name =
     let it = known_module fitted well path m e in
     let at : (i : ℕ) (x : Component) → slice_get m.components i ≡ Some x → slice_get (declarations_of it.holder) i ≡ Some x.declaration = λ i x h.
     ap (λ l. slice_get l i) (sym it.typed.components) ∙ map_at (λ y. y.declaration) m.components i x h in
-    declared_once fitted.checked.circuit well.names it.holder (Contains-get fitted.checked.circuit.modules it.k it.holder it.here) j k c.declaration d.declaration (at j c f) (at k d g) name
+    declared_once fitted.checked.resolved well.names it.holder (Contains-get fitted.checked.resolved.modules it.k it.holder it.here) j k c.declaration d.declaration (at j c f) (at k d g) name
 
 pub stand_once : (fitted : Fitted) (well : IsWellFormed fitted) (main : TypedModule) → module_named (design_of fitted) (design_of fitted).main ≡ Some main → (placed : List Placed)
     → InFlatOrder (design_of fitted) [] main main.components placed → StandOnce placed

@@ -76,7 +76,7 @@ module _ (fitted : Fitted) (well : IsWellFormed fitted) where
       let it = known path m e in
       let at : (i : ℕ) (x : Component) → slice_get m.components i ≡ Some x → slice_get (declarations_of it.holder) i ≡ Some x.declaration = λ i x h.
       ap (λ l. slice_get l i) (sym it.typed.components) ∙ map_at (λ y. y.declaration) m.components i x h in
-      declared_once fitted.checked.circuit well.names it.holder (Contains-get fitted.checked.circuit.modules it.k it.holder it.here) j k c.declaration d.declaration (at j c f) (at k d g) name
+      declared_once fitted.checked.resolved well.names it.holder (Contains-get fitted.checked.resolved.modules it.k it.holder it.here) j k c.declaration d.declaration (at j c f) (at k d g) name
 
   -- The flat order lists each leaf of the run once.
   pub lists_leaves : (main : TypedModule) → module_named design design.main ≡ Some main → (placed : List Placed) → InFlatOrder design [] main main.components placed → ListsLeaves design placed

@@ -42,8 +42,8 @@ no_fault_covers fitted known none = record { covered = λ path m c leaf stands m
     by path m c leaf stands must true e = refl
     by path m c leaf stands must false e =
         let its : IsKnownModule fitted m = known path m stands.reached in
-        let h : Placed fitted.checked.circuit.modules fitted.declared fitted.checked.scope.reached its.k its.holder m =
-        placed fitted.checked.circuit.modules fitted.declared fitted.checked.scope.reached its.k its.holder m its.here its.number in
+        let h : Placed fitted.checked.resolved.modules fitted.declared fitted.checked.scope.reached its.k its.holder m =
+        placed fitted.checked.resolved.modules fitted.declared fitted.checked.scope.reached its.k its.holder m its.here its.number in
         let place = find_in (λ x. x.declaration.name == c.declaration.name) m.components c stands.declared in
         let d : slice_get (declarations_of its.holder) place.0 ≡ Some c.declaration = zipped (declarations_of its.holder) h.declared place.0 c (ap (λ l. slice_get l place.0) (sym h.is) ∙ place.1) in
         let lengths : length (names_of its.holder) ≡ length (declarations_of its.holder) =

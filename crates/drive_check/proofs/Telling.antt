@@ -39,7 +39,7 @@ abbrev pub AreNamed : Fitted → Type 0
 AreNamed fitted = (m : TypedModule) → Contains (modules_of fitted) m → (c : Component) → Contains m.components c → component_named m c.declaration.name ≡ Some c
 
 abbrev pub AreOnce : Fitted → Type 0
-AreOnce fitted = (holder : Module) → Contains fitted.checked.circuit.modules holder → (j k : ℕ) (d e : Declaration)
+AreOnce fitted = (holder : Module) → Contains fitted.checked.resolved.modules holder → (j k : ℕ) (d e : Declaration)
     → slice_get (declarations_of holder) j ≡ Some d → slice_get (declarations_of holder) k ≡ Some e → d.name ≡ e.name → j ≡ k
 
 -- Lists
@@ -270,8 +270,8 @@ has_module fitted m k e = get_contains (modules_of fitted) k m e
 
 pub all_told : (fitted : Fitted) → AreNamed fitted → (place : Place) → IsUndriven fitted place → Contains (faults_of fitted) (NotInitialized place)
 all_told fitted named place u =
-    let at : Placed fitted.checked.circuit.modules fitted.declared fitted.checked.scope.reached u.reached.number u.holder u.m =
-    placed fitted.checked.circuit.modules fitted.declared fitted.checked.scope.reached u.reached.number u.holder u.m u.reached.holds u.reached.typed in
+    let at : Placed fitted.checked.resolved.modules fitted.declared fitted.checked.scope.reached u.reached.number u.holder u.m =
+    placed fitted.checked.resolved.modules fitted.declared fitted.checked.scope.reached u.reached.number u.holder u.m u.reached.holds u.reached.typed in
     let types : Scope = type_in u.m in
     let there' : slice_get (map component_of (zip (declarations_of u.holder) at.declared)) u.declares.number ≡ Some u.c = subst (λ l. slice_get l u.declares.number ≡ Some u.c) at.is u.declares.component in
     let d : slice_get (declarations_of u.holder) u.declares.number ≡ Some u.c.declaration = zipped (declarations_of u.holder) at.declared u.declares.number u.c there' in
@@ -320,7 +320,7 @@ owner m id leaf h = by (component_named m id) refl h
 
 pub all_had : (fitted : Fitted) → AreOnce fitted → (f : DriveFault) → Contains (faults_of fitted) f → IsFault fitted f
 all_had fitted once f c =
-    let g : Found fitted.checked.circuit.modules fitted.declared fitted.checked.scope.reached f = found fitted.checked.circuit.modules fitted.declared fitted.checked.scope.reached f c in
+    let g : Found fitted.checked.resolved.modules fitted.declared fitted.checked.scope.reached f = found fitted.checked.resolved.modules fitted.declared fitted.checked.scope.reached f c in
     let ds : List Declaration = declarations_of g.holder in
     let names : List Name = names_of g.holder in
     let types : Scope = type_in g.m in
@@ -334,7 +334,7 @@ all_had fitted once f c =
     let o : Owner g.m name.id = owner g.m name.id leaf.0 leaf.1 in
     let its : slice_get ds o.number ≡ Some o.c.declaration = zipped ds g.declared o.number o.c (subst (λ l. slice_get l o.number ≡ Some o.c) g.is o.at) in
     let number : at.0 ≡ o.number =
-    once g.holder (Contains-get fitted.checked.circuit.modules g.number g.holder g.holds) at.0 o.number d o.c.declaration here.1 its
+    once g.holder (Contains-get fitted.checked.resolved.modules g.number g.holder g.holds) at.0 o.number d o.c.declaration here.1 its
     (same_ids ds names (names_are g.holder) at.0 d name here.1 here.0 ∙ sym o.name) in
     let same : d ≡ o.c.declaration = some_same (sym here.1 ∙ ap (slice_get ds) number ∙ its) in
     let l : LeafTold (λ x. is_certain types x o.c.declaration.behind) name o.c.declaration.sort leaf.0 f =

@@ -17,7 +17,7 @@ use Rattle.drive_check.specs.Sites.{names_of, place_of_leaf}
 pub record IsReached (fitted : Fitted) (holder : Module) (m : TypedModule) : Type 0 where
   pub number : ℕ
   pub reached : slice_get fitted.checked.scope.reached number ≡ Some true
-  pub holds : slice_get fitted.checked.circuit.modules number ≡ Some holder
+  pub holds : slice_get fitted.checked.resolved.modules number ≡ Some holder
   pub typed : slice_get (modules_of fitted) number ≡ Some m
 
 -- a component of a module, with its name as the text has it

@@ -37,4 +37,4 @@ modules_faults (holder ∷ modules) declared reached =
     where_reached (get_or reached 0 false) (module_faults holder declared) ++ modules_faults modules (drop (length (names_of holder)) declared) (drop 1 reached)
 
 abbrev pub faults_of : Fitted → List DriveFault
-faults_of fitted = modules_faults fitted.checked.circuit.modules fitted.declared fitted.checked.scope.reached
+faults_of fitted = modules_faults fitted.checked.resolved.modules fitted.declared fitted.checked.scope.reached

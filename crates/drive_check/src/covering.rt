@@ -44,7 +44,7 @@ pub fn covered(alloc: Global, fitted: &Fitted) -> Result<(), DriveFault>
 fn find(alloc: Global, fitted: &Fitted) -> Result<Vec<DriveFault>, AllocError>
     ensures { IfOk result (λ faults. faults.items ≡ faults_of fitted.now) }
 {
-    let modules = fitted.checked.circuit.modules.as_slice();
+    let modules = fitted.checked.resolved.get().modules.as_slice();
     let reached = fitted.checked.scope.reached.as_slice();
     let mut rest = fitted.declared.as_slice();
     let mut faults = Vec::new(alloc);

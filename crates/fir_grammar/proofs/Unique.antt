@@ -8,6 +8,7 @@ use Rattle.fir_layout.specs.Pieces.{pieces_of, bytes_of}
 use Rattle.bit_words.specs.declared.number.Number.{Number}
 use Rattle.fir_types.specs.declared.name.Name.{Name}
 use Rattle.fir_tree.specs.declared.circuit.Circuit.{Circuit}
+use Rattle.fir_tree.specs.declared.print.PrintItem.{PrintItem}
 use Rattle.fir_grammar.specs.Grammar.{Rule, Symbol, A, Tree, Values, tree, Derives, done, Text, IsCircuit, start_of, name_in, Spells, no_symbol, a_rule, a_piece, a_place, a_name, a_magnitude, a_placed_magnitude, a_quoted}
 use Rattle.fir_grammar.specs.Reading.{IsSettled}
 use Rattle.fir_grammar.proofs.Fronts.{spelled_derives}
@@ -80,9 +81,12 @@ module _ (text : List ℕ) where
       record { values = ap₂ (λ (i : Number) (x : Values ss). (i, x)) (quoted_agree (bytes_of text token) n n' is is') r.values; rest_is = r.rest_is; names = r.names; distinct = r.distinct }
 
 abbrev circuit_from : List (List ℕ) → Values (A Text ∷ []) → Circuit
-circuit_from names v = record { names = names; main = v.0.0; modules = v.0.1 }
+circuit_from names v = record { names = names; main = v.0.0; modules = v.0.1; prints = [] }
+
+all_read : {text : List ℕ} {list : List Laid} (c : Circuit) → IsCircuit text list c → c ≡ circuit_from c.names ((c.main, c.modules), tt)
+all_read c h = ap (λ (p : List PrintItem). record { names = c.names; main = c.main; modules = c.modules; prints = p }) h.none
 
 pub one_circuit : (text : List ℕ) (list : List Laid) (a b : Circuit) → IsCircuit text list a → IsCircuit text list b → a ≡ b
 one_circuit text list a b x y =
     let r = one_spelling text [] (tt, tt) fields_distinct x.spelled done y.spelled done in
-    ap₂ (λ (n : List (List ℕ)) (v : Values (A Text ∷ [])). circuit_from n v) r.names r.values
+    all_read a x ∙ ap₂ (λ (n : List (List ℕ)) (v : Values (A Text ∷ [])). circuit_from n v) r.names r.values ∙ sym (all_read b y)

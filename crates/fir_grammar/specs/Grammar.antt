@@ -455,3 +455,4 @@ field_names = codes "addr" ∷ codes "en" ∷ codes "clk" ∷ codes "data" ∷ c
 -- the laid list of a text is the spelling of the circuit
 pub record IsCircuit (text : List ℕ) (list : List Laid) (circuit : Circuit) : Type 0 where
   pub spelled : Spells text (A Text ∷ []) list field_names ((circuit.main, circuit.modules), tt) [] circuit.names
+  pub none : circuit.prints ≡ []

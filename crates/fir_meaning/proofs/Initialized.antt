@@ -159,6 +159,6 @@ pub initialized_drives : (fitted : Fitted) → IsInitialized (design_of fitted) 
     → must_be_driven c.declaration.sort (flow_of c.declaration.sort leaf.flip) ≡ true → (rho : Valuation)
     → is_some (drives (scene_of m path rho) (leaf_of c leaf) c.declaration.block) ≡ true
 initialized_drives fitted all path m c leaf stands must rho =
-    let ends = typed_ends fitted.checked.circuit.modules fitted.declared m c (at_design (design_of fitted) path m stands.reached) (component_found m c.declaration.name c stands.declared).1 in
+    let ends = typed_ends fitted.checked.resolved.modules fitted.declared m c (at_design (design_of fitted) path m stands.reached) (component_found m c.declaration.name c stands.declared).1 in
     certain_drives (type_in m) (leaf_of c leaf) c.declaration.block (local m path rho)
     (subst (λ b. is_certain (type_in m) (leaf_of c leaf) b ≡ true) (sym ends.is) (any_behind (type_in m) (leaf_of c leaf) ends.front c.declaration.behind (all.covered path m c leaf stands must)))

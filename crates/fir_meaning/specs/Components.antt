@@ -127,7 +127,7 @@ with_types (m ∷ modules) types =
 
 -- The modules of a circuit whose widths are known.
 abbrev pub modules_of : Fitted → List TypedModule
-modules_of fitted = with_types fitted.checked.circuit.modules fitted.declared
+modules_of fitted = with_types fitted.checked.resolved.modules fitted.declared
 
 -- A circuit as it runs: the name of its main module, and its modules.
 pub record Design : Type 0 where
@@ -136,7 +136,7 @@ pub record Design : Type 0 where
 
 -- The design of a circuit whose widths are known.
 abbrev pub design_of : Fitted → Design
-design_of fitted = record { main = fitted.checked.circuit.main.id; modules = modules_of fitted }
+design_of fitted = record { main = fitted.checked.resolved.main.id; modules = modules_of fitted }
 
 -- The first module of a name.
 abbrev pub module_named : Design → ℕ → Option TypedModule

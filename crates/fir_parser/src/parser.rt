@@ -59,6 +59,7 @@ fn read_all<'a>(alloc: Global, bytes: &'a [u8], laid: &'a [Laid]) -> Result<Circ
         names: reader.names,
         main,
         modules,
+        prints: List::new(alloc),
     })
 }
 

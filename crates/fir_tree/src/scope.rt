@@ -1,7 +1,7 @@
 //! What the stages behind the parser find out about a circuit.
 
 use crate::Circuit;
-use bit_words::List;
+use bit_words::{List, Shared};
 use fir_types::FirType;
 
 /// What the names of a circuit mean. Modules and declarations are numbered from 0 in text order.
@@ -21,7 +21,11 @@ pub type Types = List<FirType>;
 /// A circuit whose names and types have no fault.
 #[derive(Drop)]
 pub struct Checked {
-    pub circuit: Circuit,
+    /// The circuit as its text spells it.
+    pub circuit: Shared<Circuit>,
+    /// The same circuit with each `Reset` resolved, which all later stages read. Where none becomes an `AsyncReset`, it is the same value in
+    /// memory.
+    pub resolved: Shared<Circuit>,
     pub scope: Scope,
     /// The type of each expression node in text order.
     pub types: Types,

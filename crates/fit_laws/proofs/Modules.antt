@@ -107,9 +107,9 @@ module _ (all : Solved) (modules : List Module) where
   all_filled n reached = modules_filled modules 0 n reached
 
 -- The fitted types are the declared ones with widths.
-pub declarations_filled : (checked : Checked) (widths : List Width) (fitted : Fitted) → IsFitted checked widths fitted → AllZip (λ (d : Typed) (typ : FirType). IsFilled d typ) (declared_of checked.circuit) fitted.declared
-declarations_filled checked widths fitted is = subst (λ ts. AllZip IsFittedPair (declared_of checked.circuit) ts) (sym is.declared)
-    (all_filled (record { widths = widths; rules = (rules_in checked.circuit).rules }) checked.circuit.modules (all_open checked.circuit.modules) checked.scope.reached)
+pub declarations_filled : (checked : Checked) (widths : List Width) (fitted : Fitted) → IsFitted checked widths fitted → AllZip (λ (d : Typed) (typ : FirType). IsFilled d typ) (declared_of checked.resolved) fitted.declared
+declarations_filled checked widths fitted is = subst (λ ts. AllZip IsFittedPair (declared_of checked.resolved) ts) (sym is.declared)
+    (all_filled (record { widths = widths; rules = (rules_in checked.resolved).rules }) checked.resolved.modules (all_open checked.resolved.modules) checked.scope.reached)
 
 -- Their names are those of the declarations.
 pub declarations_named : (circuit : Circuit) → map (λ (d : Typed). d.name) (declared_of circuit) ≡ flat_map (λ (holder : Module). map (λ (d : Declaration). d.name) (declarations_of holder)) circuit.modules

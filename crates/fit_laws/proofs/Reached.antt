@@ -181,12 +181,12 @@ module _ (all : Solved) (modules : List Module) where
       reached_at rest (k + open_ports h.ports) (n + own.count) (drop 1 reached) more (right_empty (where_reached (get_or reached 0 false) own.faults) _ none) j holder m e
       (ap (λ l. slice_get (with_types rest l) j) (sym is) ∙ at) (flag_later reached j flag)
 
-module _ (fitted : Fitted) (scope : IsScope fitted.checked.circuit fitted.checked.scope) (fit : IsFit fitted.checked fitted) where
+module _ (fitted : Fitted) (scope : IsScope fitted.checked.resolved fitted.checked.scope) (fit : IsFit fitted.checked fitted) where
   abbrev circuit : Circuit
-  circuit = fitted.checked.circuit
+  circuit = fitted.checked.resolved
 
   abbrev all_of : Solved
-  all_of = record { widths = fit.widths; rules = (rules_in fitted.checked.circuit).rules }
+  all_of = record { widths = fit.widths; rules = (rules_in fitted.checked.resolved).rules }
 
   no_fault : (told_of fitted.checked fit.widths).faults ≡ []
   no_fault = none_contained (told_of fitted.checked fit.widths).faults fit.none

@@ -16,10 +16,10 @@ ghost use Rattle.fit_laws.specs.Numbered.{HasNumbers};
 /// text gives stays.
 pub fn fitted_declarations_are_those_of_the_text()
     ensures names { (circuit : ACircuit) → map (λ d. d.name) (declared_of circuit) ≡ flat_map (λ holder. map (λ d. d.name) (declarations_of holder)) circuit.modules }
-    ensures types { (checked : CheckedCircuit) (widths : List TheWidth) (fitted : FittedCircuit) → IsFitted checked widths fitted → AllZip (λ d typ. IsFilled d typ) (declared_of checked.circuit) fitted.declared }
+    ensures types { (checked : CheckedCircuit) (widths : List TheWidth) (fitted : FittedCircuit) → IsFitted checked widths fitted → AllZip (λ d typ. IsFilled d typ) (declared_of checked.resolved) fitted.declared }
 {}
 
 /// Where the least widths have no fault, each place of each declared type has a number from 0 to 128, in each module that main reaches.
 pub fn fitted_places_have_numbers()
-    ensures { (fitted : FittedCircuit) → IsScope fitted.checked.circuit fitted.checked.scope → IsFit fitted.checked fitted → (k : ℕ) (m : TypedModule) → slice_get (modules_of fitted) k ≡ Some m → slice_get fitted.checked.scope.reached k ≡ Some true → (c : AComponent) → Contains m.components c → HasNumbers c.typ }
+    ensures { (fitted : FittedCircuit) → IsScope fitted.checked.resolved fitted.checked.scope → IsFit fitted.checked fitted → (k : ℕ) (m : TypedModule) → slice_get (modules_of fitted) k ≡ Some m → slice_get fitted.checked.scope.reached k ≡ Some true → (c : AComponent) → Contains m.components c → HasNumbers c.typ }
 {}

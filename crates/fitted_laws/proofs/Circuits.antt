@@ -102,7 +102,7 @@ named_at (h ∷ modules) (suc k) x e = named_at modules k x e
 
 module _ (fitted : Fitted) (ok : IsAccepted fitted) where
   abbrev pub circuit : Circuit
-  circuit = fitted.checked.circuit
+  circuit = fitted.checked.resolved
 
   abbrev pub modules : List Module
   modules = circuit.modules

@@ -33,7 +33,7 @@ use Rattle.fir_names.proofs.Members.{Contains-get}
 
 module _ (fitted : Fitted) (ok : IsAccepted fitted) where
   abbrev circuit : Circuit
-  circuit = fitted.checked.circuit
+  circuit = fitted.checked.resolved
 
   abbrev with_ports : List WithPorts
   with_ports = modules_from 0 circuit.modules

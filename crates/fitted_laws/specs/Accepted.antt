@@ -10,8 +10,8 @@ use Rattle.fitted_laws.specs.Shaped.{is_shaped_circuit}
 
 -- Operations have their operands, names and types have no fault, and the least widths have none: the types are those that they give.
 pub record IsAccepted (fitted : Fitted) : Type 0 where
-  pub shaped : is_shaped_circuit fitted.checked.circuit ≡ true
-  pub scope : IsScope fitted.checked.circuit fitted.checked.scope
-  pub names : HasNone (IsNameFault fitted.checked.circuit)
-  pub types : HasNone (IsTypeFault fitted.checked.circuit)
+  pub shaped : is_shaped_circuit fitted.checked.resolved ≡ true
+  pub scope : IsScope fitted.checked.resolved fitted.checked.scope
+  pub names : HasNone (IsNameFault fitted.checked.resolved)
+  pub types : HasNone (IsTypeFault fitted.checked.resolved)
   pub fit : IsFit fitted.checked fitted

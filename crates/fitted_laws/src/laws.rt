@@ -25,18 +25,18 @@ pub fn filled_types_are_equivalent()
 
 /// An accepted circuit has a type for each declaration of its text, and the modules that main reaches are well typed.
 pub fn accepted_modules_are_well_typed()
-    ensures declared { (fitted : FittedCircuit) → IsAccepted fitted → length fitted.declared ≡ sum_by (λ holder. length (declarations_of holder)) fitted.checked.circuit.modules }
-    ensures typed { (fitted : FittedCircuit) → IsAccepted fitted → (k : ℕ) (holder : AModule) (m : TypedModule) → slice_get fitted.checked.circuit.modules k ≡ Some holder → slice_get (modules_of fitted) k ≡ Some m → slice_get fitted.checked.scope.reached k ≡ Some true → HasTypes holder m }
+    ensures declared { (fitted : FittedCircuit) → IsAccepted fitted → length fitted.declared ≡ sum_by (λ holder. length (declarations_of holder)) fitted.checked.resolved.modules }
+    ensures typed { (fitted : FittedCircuit) → IsAccepted fitted → (k : ℕ) (holder : AModule) (m : TypedModule) → slice_get fitted.checked.resolved.modules k ≡ Some holder → slice_get (modules_of fitted) k ≡ Some m → slice_get fitted.checked.scope.reached k ≡ Some true → HasTypes holder m }
 {}
 
 /// In the modules of an accepted circuit that main reaches, each condition of a conditional and each reset is one UInt of at most one bit.
 pub fn accepted_conditions_have_one_bit()
-    ensures { (fitted : FittedCircuit) → IsAccepted fitted → (k : ℕ) (holder : AModule) (m : TypedModule) → slice_get fitted.checked.circuit.modules k ≡ Some holder → slice_get (modules_of fitted) k ≡ Some m → slice_get fitted.checked.scope.reached k ≡ Some true → ask_one_bit (known_in m) holder.body ≡ true }
+    ensures { (fitted : FittedCircuit) → IsAccepted fitted → (k : ℕ) (holder : AModule) (m : TypedModule) → slice_get fitted.checked.resolved.modules k ≡ Some holder → slice_get (modules_of fitted) k ≡ Some m → slice_get fitted.checked.scope.reached k ≡ Some true → ask_one_bit (known_in m) holder.body ≡ true }
 {}
 
 /// In the same modules, the first operand of each mux that stands in an expression of the body is one UInt of at most one bit.
 pub fn accepted_choices_have_one_bit()
-    ensures { (fitted : FittedCircuit) → IsAccepted fitted → (k : ℕ) (holder : AModule) (m : TypedModule) → slice_get fitted.checked.circuit.modules k ≡ Some holder → slice_get (modules_of fitted) k ≡ Some m → slice_get fitted.checked.scope.reached k ≡ Some true → choose_in (known_in m) holder.body ≡ true }
+    ensures { (fitted : FittedCircuit) → IsAccepted fitted → (k : ℕ) (holder : AModule) (m : TypedModule) → slice_get fitted.checked.resolved.modules k ≡ Some holder → slice_get (modules_of fitted) k ≡ Some m → slice_get fitted.checked.scope.reached k ≡ Some true → choose_in (known_in m) holder.body ≡ true }
 {}
 
 /// An accepted circuit is well formed.

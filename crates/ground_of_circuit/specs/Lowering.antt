@@ -153,7 +153,7 @@ pub record IsGroundModule (texts : Texts) (circuit : Circuit) (m : TypedModule) 
 
 -- The ground statements are those of a circuit: module by module that main reaches.
 pub record IsGroundOf (fitted : Fitted) (lowered : GroundCircuit) : Type 0 where
-  pub main : Means fitted.checked.circuit fitted.checked.circuit.main.id lowered.main
-  pub counted : length lowered.modules ≡ length fitted.checked.circuit.modules
+  pub main : Means fitted.checked.resolved fitted.checked.resolved.main.id lowered.main
+  pub counted : length lowered.modules ≡ length fitted.checked.resolved.modules
   pub modules : (k : ℕ) (m : TypedModule) (g : GroundModule) → slice_get (modules_of fitted) k ≡ Some m → slice_get fitted.checked.scope.reached k ≡ Some true → slice_get lowered.modules k ≡ Some g
-      → IsGroundModule fitted.checked.circuit.names fitted.checked.circuit m g
+      → IsGroundModule fitted.checked.resolved.names fitted.checked.resolved m g

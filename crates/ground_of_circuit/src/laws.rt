@@ -9,5 +9,5 @@ ghost use Rattle.ground_of_circuit.specs.Lowering.{IsGroundOf};
 
 /// The main module of the ground statements is the circuit's.
 pub fn main_is_main()
-    ensures { (fitted : FittedCircuit) (lowered : TheGroundCircuit) → IsGroundOf fitted lowered → Means fitted.checked.circuit fitted.checked.circuit.main.id lowered.main }
+    ensures { (fitted : FittedCircuit) (lowered : TheGroundCircuit) → IsGroundOf fitted lowered → Means fitted.checked.resolved fitted.checked.resolved.main.id lowered.main }
 {}

@@ -46,7 +46,7 @@ module _ (fitted : Fitted) (well : IsWellFormed fitted) (lowered : GroundCircuit
   design = design_of fitted
 
   abbrev circuit : Circuit
-  circuit = fitted.checked.circuit
+  circuit = fitted.checked.resolved
 
   abbrev texts : Texts
   texts = circuit.names

@@ -58,7 +58,7 @@ module _ (design : Design) where
 
 module _ (fitted : Fitted) (well : IsWellFormed fitted) where
   abbrev circuit : Circuit
-  circuit = fitted.checked.circuit
+  circuit = fitted.checked.resolved
 
   abbrev its_design : Design
   its_design = design_of fitted

@@ -135,10 +135,10 @@ get_drop (x ∷ xs) (suc i) = get_drop xs i
 abbrev counts : Module → ℕ
 counts holder = length (declarations_of holder)
 
-pub stands_next : (fitted : Fitted) (i n : ℕ) (x : Module) (types after : List FirType) → i < length fitted.checked.circuit.modules → x ≡ get_or fitted.checked.circuit.modules i x → StandsFrom fitted i types
+pub stands_next : (fitted : Fitted) (i n : ℕ) (x : Module) (types after : List FirType) → i < length fitted.checked.resolved.modules → x ≡ get_or fitted.checked.resolved.modules i x → StandsFrom fitted i types
     → n ≡ length (declarations_of x) → after ≡ drop n types → StandsFrom fitted (i + 1) after
 stands_next fitted i n x types after lt is s m r =
-    let modules : List Module = fitted.checked.circuit.modules in
+    let modules : List Module = fitted.checked.resolved.modules in
     let f : drop i modules ≡ x ∷ drop (i + 1) modules = front modules i x lt is in
     let behind : after ≡ drop (length (declarations_of x)) types = r ∙ ap (λ k. drop k types) m in
     let sum : counts x + sum_by counts (drop (i + 1) modules) ≡ length types = sym (sum_by-cons counts x (drop (i + 1) modules)) ∙ ap (sum_by counts) (sym f) ∙ s.counted in
@@ -151,18 +151,18 @@ stands_next fitted i n x types after lt is s m r =
 pub stands_first : (fitted : Fitted) → IsWellFormed fitted → StandsFrom fitted 0 fitted.declared
 stands_first fitted w = record { typed = refl; counted = sym w.declared }
 
-pub enough : (fitted : Fitted) (i : ℕ) (x : Module) (types : List FirType) → i < length fitted.checked.circuit.modules → x ≡ get_or fitted.checked.circuit.modules i x → StandsFrom fitted i types
+pub enough : (fitted : Fitted) (i : ℕ) (x : Module) (types : List FirType) → i < length fitted.checked.resolved.modules → x ≡ get_or fitted.checked.resolved.modules i x → StandsFrom fitted i types
     → length (headings_of x) ≡ length (declarations_of x) → length (headings_of x) ≤ length types
 enough fitted i x types lt is s same =
-    let modules : List Module = fitted.checked.circuit.modules in
+    let modules : List Module = fitted.checked.resolved.modules in
     let sum : counts x + sum_by counts (drop (i + 1) modules) ≡ length types =
     sym (sum_by-cons counts x (drop (i + 1) modules)) ∙ ap (sum_by counts) (sym (front modules i x lt is)) ∙ s.counted in
     omega (arith, sum, same)
 
-own_module : (fitted : Fitted) (i : ℕ) (x : Module) (types : List FirType) → i < length fitted.checked.circuit.modules → x ≡ get_or fitted.checked.circuit.modules i x → StandsFrom fitted i types
+own_module : (fitted : Fitted) (i : ℕ) (x : Module) (types : List FirType) → i < length fitted.checked.resolved.modules → x ≡ get_or fitted.checked.resolved.modules i x → StandsFrom fitted i types
     → slice_get (modules_of fitted) i ≡ Some (module_with x types)
 own_module fitted i x types lt is s =
-    sym (get_drop (modules_of fitted) i) ∙ ap (λ l. slice_get l 0) (sym s.typed) ∙ ap (λ l. slice_get (with_types l types) 0) (front fitted.checked.circuit.modules i x lt is)
+    sym (get_drop (modules_of fitted) i) ∙ ap (λ l. slice_get l 0) (sym s.typed) ∙ ap (λ l. slice_get (with_types l types) 0) (front fitted.checked.resolved.modules i x lt is)
 
 -- Modules that are lowered
 
@@ -171,31 +171,31 @@ ReachLaw = (fitted : Fitted) → IsWellFormed fitted → (k : ℕ) (m : TypedMod
     → (slice_get fitted.checked.scope.reached k ≡ Some true) ↔ ((path : List ℕ) × (module_at (design_of fitted) path ≡ Some m))
 
 abbrev pub NumberLaw : Type 0
-NumberLaw = (fitted : Fitted) (name : ℕ) (m : TypedModule) → module_named (design_of fitted) name ≡ Some m → (k : ℕ) × Means fitted.checked.circuit name k × (slice_get (modules_of fitted) k ≡ Some m)
+NumberLaw = (fitted : Fitted) (name : ℕ) (m : TypedModule) → module_named (design_of fitted) name ≡ Some m → (k : ℕ) × Means fitted.checked.resolved name k × (slice_get (modules_of fitted) k ≡ Some m)
 
-pub lowerable : ReachLaw → NumberLaw → (fitted : Fitted) → IsWellFormed fitted → (numbers : Numbers) → IsPlaced (module_names fitted.checked.circuit) numbers → (i : ℕ) (x : Module) (types : List FirType)
-    → i < length fitted.checked.circuit.modules → x ≡ get_or fitted.checked.circuit.modules i x → StandsFrom fitted i types → slice_get fitted.checked.scope.reached i ≡ Some true
-    → (m : TypedModule) → slice_get (modules_of fitted) i ≡ Some m → IsLowerable fitted.checked.circuit fitted.checked.scope numbers x types m
+pub lowerable : ReachLaw → NumberLaw → (fitted : Fitted) → IsWellFormed fitted → (numbers : Numbers) → IsPlaced (module_names fitted.checked.resolved) numbers → (i : ℕ) (x : Module) (types : List FirType)
+    → i < length fitted.checked.resolved.modules → x ≡ get_or fitted.checked.resolved.modules i x → StandsFrom fitted i types → slice_get fitted.checked.scope.reached i ≡ Some true
+    → (m : TypedModule) → slice_get (modules_of fitted) i ≡ Some m → IsLowerable fitted.checked.resolved fitted.checked.scope numbers x types m
 lowerable reach number fitted w numbers placed i x types lt is s reached m e =
-    let holds : slice_get fitted.checked.circuit.modules i ≡ Some x = slice_get-get_or fitted.checked.circuit.modules i x lt ∙ ap Some (sym is) in
+    let holds : slice_get fitted.checked.resolved.modules i ≡ Some x = slice_get-get_or fitted.checked.resolved.modules i x lt ∙ ap Some (sym is) in
     let path = (reach fitted w i m e).0 reached in
     record {
       scoped = w.scope;
       names = w.names;
-      among = Contains-get fitted.checked.circuit.modules i x holds;
+      among = Contains-get fitted.checked.resolved.modules i x holds;
       components = ap (λ (n : TypedModule). n.components) (sym (some_same (sym (own_module fitted i x types lt is s) ∙ e)));
       typed = w.types i x m holds e reached;
       bundles = λ c memory listed sort. w.bundles.memories path.0 m c memory path.1 (w.bundles.names path.0 m c path.1 listed) sort;
       made = λ c target listed sort.
           let made = w.bundles.instances path.0 m c target path.1 (w.bundles.names path.0 m c path.1 listed) sort in
           let its = number fitted target made.0 made.1 in
-          placed_known fitted.checked.circuit numbers placed target its.0 its.1;
-      means = placed_means fitted.checked.circuit numbers placed;
+          placed_known fitted.checked.resolved numbers placed target its.0 its.1;
+      means = placed_means fitted.checked.resolved numbers placed;
     }
 
-pub one_lowerable : ReachLaw → NumberLaw → (fitted : Fitted) → IsWellFormed fitted → (numbers : Numbers) → IsPlaced (module_names fitted.checked.circuit) numbers → (i : ℕ) (x : Module) (types : List FirType)
-    → i < length fitted.checked.circuit.modules → x ≡ get_or fitted.checked.circuit.modules i x → StandsFrom fitted i types → slice_get fitted.checked.scope.reached i ≡ Some true
-    → (m : TypedModule) × IsLowerable fitted.checked.circuit fitted.checked.scope numbers x types m
+pub one_lowerable : ReachLaw → NumberLaw → (fitted : Fitted) → IsWellFormed fitted → (numbers : Numbers) → IsPlaced (module_names fitted.checked.resolved) numbers → (i : ℕ) (x : Module) (types : List FirType)
+    → i < length fitted.checked.resolved.modules → x ≡ get_or fitted.checked.resolved.modules i x → StandsFrom fitted i types → slice_get fitted.checked.scope.reached i ≡ Some true
+    → (m : TypedModule) × IsLowerable fitted.checked.resolved fitted.checked.scope numbers x types m
 one_lowerable reach number fitted w numbers placed i x types lt is s reached =
     (module_with x types, lowerable reach number fitted w numbers placed i x types lt is s reached (module_with x types) (own_module fitted i x types lt is s))
 

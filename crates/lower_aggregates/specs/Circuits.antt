@@ -20,14 +20,14 @@ with_new numbers id number = if is_some (lookup (nat_eq id) numbers) then number
 
 -- These are the types of the declarations of the modules from this number on.
 pub record StandsFrom (fitted : Fitted) (number : ℕ) (types : List FirType) : Type 0 where
-  pub typed : with_types (drop number fitted.checked.circuit.modules) types ≡ drop number (modules_of fitted)
-  pub counted : sum_by (λ holder. length (declarations_of holder)) (drop number fitted.checked.circuit.modules) ≡ length types
+  pub typed : with_types (drop number fitted.checked.resolved.modules) types ≡ drop number (modules_of fitted)
+  pub counted : sum_by (λ holder. length (declarations_of holder)) (drop number fitted.checked.resolved.modules) ≡ length types
 
 -- What is made of the module of this number: where main reaches it, its ground statements; and a `u32` numbers its leaves.
 pub record IsMadeAt (fitted : Fitted) (number : ℕ) (made : GroundModule) : Type 0 where
   pub short : length made.leaves < 2 ^ 32
   pub lowered : (m : TypedModule) → slice_get (modules_of fitted) number ≡ Some m → slice_get fitted.checked.scope.reached number ≡ Some true
-      → IsGroundModule fitted.checked.circuit.names fitted.checked.circuit m made
+      → IsGroundModule fitted.checked.resolved.names fitted.checked.resolved m made
 
 -- Each of these is made of the module of its number.
 abbrev pub AreMade : Fitted → List GroundModule → Type 0

@@ -25,7 +25,7 @@ pub fn lower(alloc: Global, fitted: &Fitted) -> Result<GroundCircuit, AllocError
     ensures lowered { IfOk result (λ lowered. IsGroundOf fitted.now lowered) }
     ensures numbered { IfOk result (λ lowered. All (λ m. length m.leaves < 2 ^ 32) lowered.modules) }
 {
-    let circuit = &fitted.checked.circuit;
+    let circuit = fitted.checked.resolved.get();
     let numbers = numbers_of(alloc, circuit.modules.as_slice())?;
     let main = number_of(&numbers, circuit.main.id);
     let modules = lower_modules(alloc, fitted, &numbers)?;
@@ -82,11 +82,11 @@ fn lower_modules(
     numbers: &IndexMap<u32, u32>,
 ) -> Result<List<GroundModule>, AllocError>
     requires formed { IsWellFormed fitted.now }
-    requires placed { IsPlaced (module_names fitted.now.checked.circuit) numbers.now.entries }
-    ensures counted { IfOk result (λ modules. length modules ≡ length fitted.now.checked.circuit.modules) }
+    requires placed { IsPlaced (module_names fitted.now.checked.resolved) numbers.now.entries }
+    ensures counted { IfOk result (λ modules. length modules ≡ length fitted.now.checked.resolved.modules) }
     ensures made { IfOk result (λ modules. AreMade fitted.now modules) }
 {
-    let holders = fitted.checked.circuit.modules.as_slice();
+    let holders = fitted.checked.resolved.get().modules.as_slice();
     let mut rest = fitted.declared.as_slice();
     let mut modules = List::new(alloc);
     for number in 0..holders.len() {
@@ -116,8 +116,8 @@ fn lower_at(
     types: &[FirType],
 ) -> Result<GroundModule, AllocError>
     requires formed { IsWellFormed fitted.now }
-    requires placed { IsPlaced (module_names fitted.now.checked.circuit) numbers.now.entries }
-    requires within { number < length fitted.now.checked.circuit.modules }
+    requires placed { IsPlaced (module_names fitted.now.checked.resolved) numbers.now.entries }
+    requires within { number < length fitted.now.checked.resolved.modules }
     requires stands { StandsFrom fitted.now number types.now }
     ensures { IfOk result (λ made. IsMadeAt fitted.now number made) }
 {
@@ -127,7 +127,7 @@ fn lower_at(
     if !is_reached(fitted.checked.scope.reached.as_slice(), number) {
         return Ok(empty_module(alloc));
     }
-    let circuit = &fitted.checked.circuit;
+    let circuit = fitted.checked.resolved.get();
     let holder = &circuit.modules.as_slice()[number];
     let made = lower_module(alloc, &circuit.names, numbers, holder, types)?;
     check_count(made.leaves.len())?;

@@ -174,10 +174,10 @@ module _ (fitted : Fitted) (well : IsWellFormed fitted) (lowered : GroundCircuit
   design = design_of fitted
 
   abbrev texts : Texts
-  texts = fitted.checked.circuit.names
+  texts = fitted.checked.resolved.names
 
   abbrev circuit : Circuit
-  circuit = fitted.checked.circuit
+  circuit = fitted.checked.resolved
 
   -- The module with a number, in each of its forms.
   pub record Known (n : ℕ) (m : TypedModule) (d : DrivenModule) : Type 0 where

@@ -49,8 +49,8 @@ pub record Setting : Type 0 where
 pub main_module : (fitted : Fitted) (well : IsWellFormed fitted) (lowered : GroundCircuit) (is : IsGroundOf fitted lowered) (driven : DrivenCircuit) (expanded : IsExpanded lowered driven) (d : DrivenModule) → slice_get driven.modules driven.main ≡ Some d
     → (m : TypedModule) × (module_named (design_of fitted) (design_of fitted).main ≡ Some m) × Leads fitted well lowered is driven expanded [] driven.main m d []
 main_module fitted well lowered is driven expanded d found =
-    let counted : length (modules_of fitted) ≡ length fitted.checked.circuit.modules =
-    sym (map_counted (λ (m : TypedModule). m.name) (modules_of fitted)) ∙ (ap length (names_with fitted.checked.circuit.modules fitted.declared) ∙ (map_counted _ _ ∙ map_counted _ _)) in
+    let counted : length (modules_of fitted) ≡ length fitted.checked.resolved.modules =
+    sym (map_counted (λ (m : TypedModule). m.name) (modules_of fitted)) ∙ (ap length (names_with fitted.checked.resolved.modules fitted.declared) ∙ (map_counted _ _ ∙ map_counted _ _)) in
     let below : driven.main < length (modules_of fitted) = subst (λ n. driven.main < n) (expanded.counted ∙ (is.counted ∙ sym counted)) (below_length driven.modules driven.main d found) in
     let m = item (modules_of fitted) driven.main below in
     let named : module_named (design_of fitted) (design_of fitted).main ≡ Some m.0 = module_meant fitted (design_of fitted).main lowered.main m.0 is.main (ap (slice_get (modules_of fitted)) (sym expanded.main) ∙ m.1) in
@@ -80,7 +80,7 @@ module _ (z : Setting) where
   design = design_of z.fitted
 
   abbrev pub texts : Texts
-  texts = z.fitted.checked.circuit.names
+  texts = z.fitted.checked.resolved.names
 
   abbrev pub spots : List Spot
   spots = leaf_spots z.is_flat.items

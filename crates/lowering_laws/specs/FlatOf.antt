@@ -44,7 +44,7 @@ pub record IsFlatOf (fitted : Fitted) (it : FlatCircuit) : Type 0 where
   pub placed : List Placed
   pub order : InFlatOrder (design_of fitted) [] main main.components placed
   pub counted : length it.leaves ≡ length (all_leaves placed)
-  pub leaves_are : (x : ℕ) (y : Standing) (leaf : GroundLeaf) → slice_get (all_leaves placed) x ≡ Some y → slice_get it.leaves x ≡ Some leaf → IsFlatLeafOf fitted.checked.circuit.names y leaf
+  pub leaves_are : (x : ℕ) (y : Standing) (leaf : GroundLeaf) → slice_get (all_leaves placed) x ≡ Some y → slice_get it.leaves x ≡ Some leaf → IsFlatLeafOf fitted.checked.resolved.names y leaf
   -- what statements leave in a leaf; the input of an instance is driven where the instance stands
   pub driven : (path : List ℕ) (m : TypedModule) (c : Component) (leaf : TypeLeaf) (x : ℕ) (y : Standing) (driver : Ground) (sight : Sight) → Stands (design_of fitted) path m c leaf → is_driven c leaf ≡ true
       → slice_get (all_leaves placed) x ≡ Some y → flat m path (leaf_of c leaf) ≡ flat_of y → own_driver it x ≡ Some driver → SeesLeaves placed sight
@@ -58,4 +58,4 @@ pub record IsFlatOf (fitted : Fitted) (it : FlatCircuit) : Type 0 where
   pub all_memories_there : length it.memories ≡ length (all_memories placed)
   pub all_elements_there : length elements ≡ length (all_memories placed)
   pub memories : (k : ℕ) (p : Placed) (memory : Memory) (element : FirType) (held : GroundMemory) (nm : NetMemory) → slice_get (all_memories placed) k ≡ Some (p, memory) → slice_get elements k ≡ Some element
-      → slice_get it.memories k ≡ Some held → without_word nm ≡ held → IsMemoryOf fitted.checked.circuit.names placed p memory element nm
+      → slice_get it.memories k ≡ Some held → without_word nm ≡ held → IsMemoryOf fitted.checked.resolved.names placed p memory element nm

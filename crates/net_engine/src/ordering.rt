@@ -22,7 +22,7 @@ use std::alloc::Global;
 pub fn ordered_net(alloc: Global, fitted: &Fitted) -> Result<Ordered, OrderFault>
     requires formed { IsWellFormed fitted.now }
     requires initialized { IsInitialized (design_of fitted.now) }
-    ensures { IsVerdict place_of rank_of (IsLoopFault (design_of fitted.now)) (IsOrderedNet fitted.now.checked.circuit.names (design_of fitted.now)) result }
+    ensures { IsVerdict place_of rank_of (IsLoopFault (design_of fitted.now)) (IsOrderedNet fitted.now.checked.resolved.names (design_of fitted.now)) result }
 {
     let lowered = lower(alloc, fitted)?;
     order_lowered(alloc, fitted, &lowered)

@@ -34,7 +34,7 @@ pub fn order_lowered(
     requires initialized { IsInitialized (design_of fitted.now) }
     requires made { IsGroundOf fitted.now lowered.now }
     requires numbered { All (λ m. length m.leaves < 2 ^ 32) lowered.now.modules }
-    ensures { IsVerdict place_of rank_of (IsLoopFault (design_of fitted.now)) (IsOrderedNet fitted.now.checked.circuit.names (design_of fitted.now)) result }
+    ensures { IsVerdict place_of rank_of (IsLoopFault (design_of fitted.now)) (IsOrderedNet fitted.now.checked.resolved.names (design_of fitted.now)) result }
 {
     verdicts_are_of_circuits();
     let net = net_of(alloc, fitted, lowered)?;
@@ -47,7 +47,7 @@ fn net_of(alloc: Global, fitted: &Fitted, lowered: &GroundCircuit) -> Result<Net
     requires initialized { IsInitialized (design_of fitted.now) }
     requires made { IsGroundOf fitted.now lowered.now }
     requires numbered { All (λ m. length m.leaves < 2 ^ 32) lowered.now.modules }
-    ensures { IfOk result (λ net. Serves fitted.now.checked.circuit.names (design_of fitted.now) net) }
+    ensures { IfOk result (λ net. Serves fitted.now.checked.resolved.names (design_of fitted.now) net) }
 {
     passes_serve_circuits();
     let net = net_of_statements(alloc, lowered)?;

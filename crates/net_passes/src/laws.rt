@@ -18,7 +18,7 @@ use sound_laws::laws::flat_circuits_are_sound;
 /// is the circuit's net, which serves it.
 pub fn passes_serve_circuits()
     ensures instanced { (fitted : FittedCircuit) → IsWellFormed fitted → (lowered : LoweredCircuit) → IsGroundOf fitted lowered → IsInstanced lowered }
-    ensures serves { (fitted : FittedCircuit) → IsWellFormed fitted → IsInitialized (design_of fitted) → (lowered : LoweredCircuit) → IsGroundOf fitted lowered → (net : TheNet) → IsNetOfPasses lowered net → Serves fitted.checked.circuit.names (design_of fitted) net }
+    ensures serves { (fitted : FittedCircuit) → IsWellFormed fitted → IsInitialized (design_of fitted) → (lowered : LoweredCircuit) → IsGroundOf fitted lowered → (net : TheNet) → IsNetOfPasses lowered net → Serves fitted.checked.resolved.names (design_of fitted) net }
 {
     lowered_circuits_have_instances();
     flat_circuits_are_sound();

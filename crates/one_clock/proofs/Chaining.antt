@@ -31,7 +31,7 @@ use Rattle.one_clock.proofs.Placing.{AreTargets, AreMeant, IsPlace, start_place}
 -- What the laws say
 
 abbrev pub AreEdges : Fitted → Type 0
-AreEdges fitted = (k : ℕ) (holder : Module) (m : TypedModule) → slice_get fitted.checked.circuit.modules k ≡ Some holder → slice_get (modules_of fitted) k ≡ Some m → (x y : Leaf)
+AreEdges fitted = (k : ℕ) (holder : Module) (m : TypedModule) → slice_get fitted.checked.resolved.modules k ≡ Some holder → slice_get (modules_of fitted) k ≡ Some m → (x y : Leaf)
     → Contains (module_edges (type_in m) holder) (x, y) ↔ Gets m x y
 
 abbrev pub AreAtPaths : Fitted → Type 0

@@ -124,8 +124,8 @@ pub record Laws (fitted : Fitted) : Type 0 where
   pub hung : AreHung fitted
 
 pub judged : (fitted : Fitted) → IsWellFormed fitted → Laws fitted → (table : Table) → IsTable fitted table → (places : List Standing)
-    → ((x : Stand) → Contains (stands_of places) x ↔ ComesFrom table ([], fitted.checked.circuit.main.id) x) → (keys : List FlatKey)
-    → Finds table places (root_in table fitted.checked.circuit.main.id) keys → (faults : List ClockFault) → faults ≡ flat_map (place_faults table (is_within keys)) places → Judges fitted faults
+    → ((x : Stand) → Contains (stands_of places) x ↔ ComesFrom table ([], fitted.checked.resolved.main.id) x) → (keys : List FlatKey)
+    → Finds table places (root_in table fitted.checked.resolved.main.id) keys → (faults : List ClockFault) → faults ≡ flat_map (place_faults table (is_within keys)) places → Judges fitted faults
 judged fitted well laws table holds places listed keys finds faults e = record {
   set = is_within keys;
   decides = decided;

@@ -27,7 +27,7 @@ abbrev pub AreTargets : Fitted → Type 0
 AreTargets fitted = (m : TypedModule) (its : IsKnownModule fitted m) (name : ℕ) → lookup (nat_eq name) (module_makes its.holder) ≡ target_of m name
 
 abbrev pub AreMeant : Fitted → Type 0
-AreMeant fitted = (name k : ℕ) (m : TypedModule) → Means fitted.checked.circuit name k → slice_get (modules_of fitted) k ≡ Some m → module_named (design_of fitted) name ≡ Some m
+AreMeant fitted = (name k : ℕ) (m : TypedModule) → Means fitted.checked.resolved name k → slice_get (modules_of fitted) k ≡ Some m → module_named (design_of fitted) name ≡ Some m
 
 -- a module of this name stands there
 abbrev pub IsPlace : Design → Stand → Type 0
@@ -54,15 +54,15 @@ module _ (fitted : Fitted) (well : IsWellFormed fitted) (table : Table) (holds :
   design = design_of fitted
 
   abbrev start : Stand
-  start = ([], fitted.checked.circuit.main.id)
+  start = ([], fitted.checked.resolved.main.id)
 
   -- main
 
   pub main_there : AreMeant fitted → (m : TypedModule) × (module_named design design.main ≡ Some m)
   main_there meant =
-      let h = holder_at fitted.checked.circuit.modules well.scope.main fitted.checked.circuit.main.id well.scope.is_main.has in
-      let m = has_number fitted.checked.circuit.modules fitted.declared well.scope.main h.0 h.1 in
-      (m.0, meant fitted.checked.circuit.main.id well.scope.main m.0 well.scope.is_main m.1)
+      let h = holder_at fitted.checked.resolved.modules well.scope.main fitted.checked.resolved.main.id well.scope.is_main.has in
+      let m = has_number fitted.checked.resolved.modules fitted.declared well.scope.main h.0 h.1 in
+      (m.0, meant fitted.checked.resolved.main.id well.scope.main m.0 well.scope.is_main m.1)
 
   pub start_place : AreMeant fitted → IsPlace design start
   start_place meant =

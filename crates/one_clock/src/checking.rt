@@ -53,7 +53,7 @@ fn find(alloc: Global, fitted: &Fitted) -> Result<Vec<ClockFault>, AllocError>
     instances_are_those_of_components();
     searches_find_what_is_rooted();
     faults_hang();
-    let main = fitted.checked.circuit.main.id;
+    let main = fitted.checked.resolved.get().main.id;
     let table = table_of(alloc, fitted)?;
     let places = places_of(alloc, &table, main)?;
     let rooted = rooted_leaves(alloc, &table, places.as_slice(), main)?;

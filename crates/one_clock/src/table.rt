@@ -22,7 +22,7 @@ pub fn table_of(alloc: Global, fitted: &Fitted) -> Result<IndexMap<u32, ModuleCl
     ensures { IfOk result (λ table. IsTable fitted.now table.entries) }
 {
     modules_are_named();
-    let modules = fitted.checked.circuit.modules.as_slice();
+    let modules = fitted.checked.resolved.get().modules.as_slice();
     let reached = fitted.checked.scope.reached.as_slice();
     let mut rest = fitted.declared.as_slice();
     let mut table = IndexMap::new(alloc);

@@ -43,7 +43,7 @@ pub fn main_leaves(alloc: Global, fitted: &Fitted) -> Result<MainLeaves, AllocEr
         inputs: List::new(alloc),
         ports: List::new(alloc),
     };
-    let Some(parts) = parts_of(alloc, fitted, fitted.checked.circuit.main.id)? else {
+    let Some(parts) = parts_of(alloc, fitted, fitted.checked.resolved.get().main.id)? else {
         return Ok(main);
     };
     let declared = parts.declared.as_slice();

@@ -47,8 +47,8 @@ module _ (fitted : Fitted) (well : IsWellFormed fitted) (lowered : GroundCircuit
   -- main has the number that the passes give it
   main_there : slice_get (modules_of fitted) driven.main ≡ Some main
   main_there =
-      let counted : length (modules_of fitted) ≡ length fitted.checked.circuit.modules =
-      sym (map_counted (λ (m : TypedModule). m.name) (modules_of fitted)) ∙ (ap length (names_with fitted.checked.circuit.modules fitted.declared) ∙ (map_counted _ _ ∙ map_counted _ _)) in
+      let counted : length (modules_of fitted) ≡ length fitted.checked.resolved.modules =
+      sym (map_counted (λ (m : TypedModule). m.name) (modules_of fitted)) ∙ (ap length (names_with fitted.checked.resolved.modules fitted.declared) ∙ (map_counted _ _ ∙ map_counted _ _)) in
       let below : driven.main < length (modules_of fitted) = subst (λ n. driven.main < n) (expanded.counted ∙ (is.counted ∙ sym counted)) (below_length driven.modules driven.main is_flat.main is_flat.found) in
       let m = item (modules_of fitted) driven.main below in
       let named : module_named (design_of fitted) (design_of fitted).main ≡ Some m.0 = module_meant fitted (design_of fitted).main lowered.main m.0 is.main (ap (slice_get (modules_of fitted)) (sym expanded.main) ∙ m.1) in

@@ -14,9 +14,9 @@ use std::ops::ControlFlow;
 /// The flow of the reference with this number in text order over all modules (FIRRTL specification 3.0, "Flows"), a reference
 /// before those in its indices. A number past the last reference is answered by `Source`. Takes no memory.
 pub fn flow_of(checked: &Checked, reference: u32) -> Flow
-    ensures { result ≡ flow_number checked.now.circuit reference }
+    ensures { result ≡ flow_number checked.now.resolved reference }
 {
-    match pass_modules(checked.circuit.modules.as_slice(), reference) {
+    match pass_modules(checked.resolved.get().modules.as_slice(), reference) {
         ControlFlow::Break(flow) => flow,
         ControlFlow::Continue(_) => Flow::Source,
     }

@@ -13,7 +13,7 @@ accepted_circuit text fitted fits =
     let widthed = fits.widthed in
     let typed = widthed.sized.typed in
     record {
-      shaped = spelled_shaped text typed.named.parsed.list fitted.checked.circuit typed.named.parsed.spelled;
+      shaped = spelled_shaped text typed.named.parsed.list fitted.checked.resolved typed.named.parsed.spelled;
       scope = fits.types.solved.scope;
       names = typed.named.none;
       types = typed.none;
@@ -22,7 +22,7 @@ accepted_circuit text fitted fits =
         least = fits.types.solved.least;
         fitted_is = fits.types.fitted_is;
         none = λ given h. widthed.none given
-            (same_fault fitted.checked.circuit fitted.checked widthed.checked fits.types.widths widthed.widths given fits.types.solved widthed.solved h);
+            (same_fault fitted.checked.resolved fitted.checked widthed.checked fits.types.widths widthed.widths given fits.types.solved widthed.solved h);
       };
     }
 

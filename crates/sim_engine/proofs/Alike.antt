@@ -26,7 +26,7 @@ use Rattle.sim_engine.specs.Stages.{IsFirstOfDrives, IsFirstOfClocks, IsFirstOfL
 
 -- fitted circuits that agree in what the last stages judge
 pub record AreAlike (first second : Fitted) : Type 0 where
-  pub circuit : first.checked.circuit ≡ second.checked.circuit
+  pub circuit : first.checked.resolved ≡ second.checked.resolved
   pub declared : first.declared ≡ second.declared
   pub reached : first.checked.scope.reached ≡ second.checked.scope.reached
 
@@ -35,13 +35,13 @@ turned first second same = record { circuit = sym same.circuit; declared = sym s
 
 modules_alike : (first second : Fitted) → AreAlike first second → modules_of first ≡ modules_of second
 modules_alike first second same =
-    ap (λ (c : Circuit). with_types c.modules first.declared) same.circuit ∙ ap (λ (types : List FirType). with_types second.checked.circuit.modules types) same.declared
+    ap (λ (c : Circuit). with_types c.modules first.declared) same.circuit ∙ ap (λ (types : List FirType). with_types second.checked.resolved.modules types) same.declared
 
 -- they have one design
 pub same_design : (first second : Fitted) → AreAlike first second → design_of first ≡ design_of second
 same_design first second same =
     ap (λ (c : Circuit). record { main = c.main.id; modules = modules_of first }) same.circuit
-    ∙ ap (λ (modules : List TypedModule). record { main = second.checked.circuit.main.id; modules = modules }) (modules_alike first second same)
+    ∙ ap (λ (modules : List TypedModule). record { main = second.checked.resolved.main.id; modules = modules }) (modules_alike first second same)
 
 -- a fault is the first among the same faults
 first_among : {F : Type 0} {place : F → Option Place} {rank : F → ℕ} {here there' : F → Type 0} → ((fault : F) → here fault → there' fault) → ((fault : F) → there' fault → here fault)

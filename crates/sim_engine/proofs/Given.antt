@@ -112,15 +112,16 @@ given_size text circuit given t found = by_place text (fault.Size given) (place_
 pub sized_by : (text : List ℕ) (circuit : Circuit) → IsTyped text circuit → HasNone (IsSizeFault circuit) → IsSized text circuit
 sized_by text circuit typed none = record { typed = typed; none = none }
 
-pub given_widths : (text : List ℕ) (checked : Checked) (given : WidthFault) → IsSized text checked.circuit → IsScope checked.circuit checked.scope → checked.types ≡ types_of checked.circuit
+pub given_widths : (text : List ℕ) (checked : Checked) (given : WidthFault) → IsSized text checked.resolved → IsScope checked.resolved checked.scope → checked.types ≡ types_of checked.resolved
     → (place_of_widths given ≡ None) ⊎ IsUnfit checked given → IsGiven text (unless_wanting (place_of_widths given) (fault.Width given))
 given_widths text checked given s scope types found = by_place text (fault.Width given) (place_of_widths given) refl (⊎_elim (λ m. inl m)
-    (λ (u : IsUnfit checked given). inr (of_widths checked.circuit checked u.widths given s (solved_by checked u.widths scope types u.least) u.first)) found)
+    (λ (u : IsUnfit checked given). inr (of_widths checked.resolved checked u.widths given s (solved_by checked u.widths scope types u.least) u.first)) found)
 
-pub fitted_by : (text : List ℕ) (checked : Checked) (fitted : Fitted) → IsSized text checked.circuit → IsScope checked.circuit checked.scope → checked.types ≡ types_of checked.circuit
+pub fitted_by : (text : List ℕ) (checked : Checked) (fitted : Fitted) → checked.circuit ≡ checked.resolved → IsSized text checked.resolved → IsScope checked.resolved checked.scope → checked.types ≡ types_of checked.resolved
     → IsFit checked fitted → IsFitted text fitted
-fitted_by text checked fitted s scope types fit = record {
-  widthed = subst (λ (x : Checked). IsWidthed text x.circuit) (sym fit.fitted_is.checked_is)
+fitted_by text checked fitted same s scope types fit = record {
+  same = subst (λ (x : Checked). x.circuit ≡ x.resolved) (sym fit.fitted_is.checked_is) same;
+  widthed = subst (λ (x : Checked). IsWidthed text x.resolved) (sym fit.fitted_is.checked_is)
       (record { sized = s; checked = checked; widths = fit.widths; solved = solved_by checked fit.widths scope types fit.least; none = fit.none });
   types = fitted_circuit checked fitted scope types fit;
 }

@@ -65,20 +65,20 @@ parsed_once text first second f s =
     one_circuit text s.list first second (subst (λ x. IsCircuit text x first) (laid_once text f.list s.list f.laid s.laid) f.spelled) s.spelled
 
 -- the parsed circuit of a fitted one
-parsed_in : (text : List ℕ) (fitted : Fitted) → IsFitted text fitted → IsParsed text fitted.checked.circuit
+parsed_in : (text : List ℕ) (fitted : Fitted) → IsFitted text fitted → IsParsed text fitted.checked.resolved
 parsed_in text fitted fits = fits.widthed.sized.typed.named.parsed
 
 fitted_once : (text : List ℕ) (first second : Fitted) → IsFitted text first → IsFitted text second → AreAlike first second
 fitted_once text first second f s =
-    let same = parsed_once text first.checked.circuit second.checked.circuit (parsed_in text first f) (parsed_in text second s) in
+    let same = parsed_once text first.checked.resolved second.checked.resolved (parsed_in text first f) (parsed_in text second s) in
     let moved = subst (λ x. IsFittedCircuit x first) same f.types in record {
       circuit = same;
-      declared = same_declared second.checked.circuit first second moved s.types;
-      reached = same_modules second.checked.circuit first second moved s.types;
+      declared = same_declared second.checked.resolved first second moved s.types;
+      reached = same_modules second.checked.resolved first second moved s.types;
     }
 
 pub accepted_once : (text : List ℕ) (first second : Fitted) → IsAccepted text first → IsAccepted text second
-    → (first.checked.circuit ≡ second.checked.circuit) × (design_of first ≡ design_of second)
+    → (first.checked.resolved ≡ second.checked.resolved) × (design_of first ≡ design_of second)
 accepted_once text first second f s =
     let same = fitted_once text first second f.clocked.driven.fits s.clocked.driven.fits in (same.circuit, same_design first second same)
 
@@ -164,10 +164,10 @@ widths_stage text = record {
   came = λ given p. (p.0, p.3);
   stops = λ given p a.
       let widthed = a.1.widthed in
-      let same = parsed_once text p.0 a.0.checked.circuit p.3.typed.named.parsed (parsed_in text a.0 a.1) in
+      let same = parsed_once text p.0 a.0.checked.resolved p.3.typed.named.parsed (parsed_in text a.0 a.1) in
       let solved = subst (λ x. IsSolved x p.1 p.2) same p.4 in
-      widthed.none given (same_fault a.0.checked.circuit p.1 widthed.checked p.2 widthed.widths given solved widthed.solved p.5.is);
-  down = λ a. (a.0.checked.circuit, a.1.widthed.sized);
+      widthed.none given (same_fault a.0.checked.resolved p.1 widthed.checked p.2 widthed.widths given solved widthed.solved p.5.is);
+  down = λ a. (a.0.checked.resolved, a.1.widthed.sized);
 }
 
 abbrev OfDrives : List ℕ → DriveFault → Type 0

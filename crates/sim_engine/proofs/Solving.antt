@@ -22,7 +22,7 @@ use Rattle.sim_engine.specs.Unfit.{IsUnfit}
 
 -- a circuit with these flags, and what is told of it with these widths
 abbrev pub flagged : Circuit → List Bool → Checked
-flagged circuit reached = record { circuit = circuit; scope = record { reached = reached; uses = []; targets = [] }; types = [] }
+flagged circuit reached = record { circuit = circuit; resolved = circuit; scope = record { reached = reached; uses = []; targets = [] }; types = [] }
 
 abbrev told_at : Circuit → List Bool → List Width → Told
 told_at circuit reached widths = told_of (flagged circuit reached) widths
@@ -36,8 +36,8 @@ same_reached circuit first second v w f s = reached_once circuit first.scope sec
 same_told : (circuit : Circuit) (first second : Checked) (v w : List Width) → IsSolved circuit first v → IsSolved circuit second w → told_of first v ≡ told_of second w
 same_told circuit first second v w f s =
     let one = least_once (rules_in circuit).rules (length (rules_in circuit).places) v w f.least s.least in
-    same_at (λ c r. told_at c r v) first.circuit second.circuit first.scope.reached second.scope.reached (f.circuit_is ∙ sym s.circuit_is) (same_reached circuit first second v w f s)
-    ∙ ap (λ x. told_at second.circuit second.scope.reached x) one
+    same_at (λ c r. told_at c r v) first.resolved second.resolved first.scope.reached second.scope.reached (f.circuit_is ∙ sym s.circuit_is) (same_reached circuit first second v w f s)
+    ∙ ap (λ x. told_at second.resolved second.scope.reached x) one
 
 pub same_fault : (circuit : Circuit) (first second : Checked) (v w : List Width) (given : WidthFault) → IsSolved circuit first v → IsSolved circuit second w
     → IsFault first v given → IsFault second w given
@@ -64,13 +64,13 @@ pub same_modules : (circuit : Circuit) (first second : Fitted) → IsFittedCircu
 same_modules circuit first second f s = same_reached circuit first.checked second.checked f.widths s.widths f.solved s.solved
 
 -- what the judge of widths answers, where the rules and the widths are the circuit's
-pub fit_from : (checked : Checked) (rules : Rules) (widths : List Width) (result : Result Fitted WidthFault) → rules ≡ rules_in checked.circuit
+pub fit_from : (checked : Checked) (rules : Rules) (widths : List Width) (result : Result Fitted WidthFault) → rules ≡ rules_in checked.resolved
     → IsLeast rules.rules (length rules.places) widths → IsVerdict place_of rank_of (IsFault checked widths) (IsFitted checked widths) result → IfOk result (IsFit checked)
 fit_from checked rules widths (Ok fitted) same least v =
     record { widths = widths; least = subst (λ (x : Rules). IsLeast x.rules (length x.places) widths) same least; fitted_is = v.ok; none = v.none }
 fit_from checked rules widths (Err fault) same least v = tt
 
-pub unfit_from : (checked : Checked) (rules : Rules) (widths : List Width) (result : Result Fitted WidthFault) → rules ≡ rules_in checked.circuit
+pub unfit_from : (checked : Checked) (rules : Rules) (widths : List Width) (result : Result Fitted WidthFault) → rules ≡ rules_in checked.resolved
     → IsLeast rules.rules (length rules.places) widths → IsVerdict place_of rank_of (IsFault checked widths) (IsFitted checked widths) result
     → IfErr result (λ fault. (place_of fault ≡ None) ⊎ IsUnfit checked fault)
 unfit_from checked rules widths (Ok fitted) same least v = tt
@@ -78,15 +78,15 @@ unfit_from checked rules widths (Err fault) same least v = ⊎_elim (λ m. inl m
     (λ f. inr (record { widths = widths; least = subst (λ (x : Rules). IsLeast x.rules (length x.places) widths) same least; first = f })) v.fault
 
 -- a circuit whose names and types are known, with its least widths
-pub solved_by : (checked : Checked) (widths : List Width) → IsScope checked.circuit checked.scope → checked.types ≡ types_of checked.circuit → AreLeast checked.circuit widths
-    → IsSolved checked.circuit checked widths
+pub solved_by : (checked : Checked) (widths : List Width) → IsScope checked.resolved checked.scope → checked.types ≡ types_of checked.resolved → AreLeast checked.resolved widths
+    → IsSolved checked.resolved checked widths
 solved_by checked widths scope types least = record { circuit_is = refl; scope = scope; types = types; least = least }
 
-pub fitted_circuit : (checked : Checked) (fitted : Fitted) → IsScope checked.circuit checked.scope → checked.types ≡ types_of checked.circuit → IsFit checked fitted
-    → IsFittedCircuit fitted.checked.circuit fitted
+pub fitted_circuit : (checked : Checked) (fitted : Fitted) → IsScope checked.resolved checked.scope → checked.types ≡ types_of checked.resolved → IsFit checked fitted
+    → IsFittedCircuit fitted.checked.resolved fitted
 fitted_circuit checked fitted scope types fit =
     let back = sym fit.fitted_is.checked_is in record {
       widths = fit.widths;
-      solved = subst (λ (x : Checked). IsSolved x.circuit x fit.widths) back (solved_by checked fit.widths scope types fit.least);
+      solved = subst (λ (x : Checked). IsSolved x.resolved x fit.widths) back (solved_by checked fit.widths scope types fit.least);
       fitted_is = subst (λ x. IsFitted x fit.widths fitted) back fit.fitted_is;
     }

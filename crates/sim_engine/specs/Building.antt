@@ -10,7 +10,7 @@ use Rattle.sim_engine.specs.declared.compile.Built.{Built}
 -- the ports are those of the net.
 pub record IsBuilt (text : List ℕ) (built : Built) : Type 0 where
   pub accepted : IsAccepted text built.fitted
-  pub ordered : IsOrderedNet built.fitted.checked.circuit.names (design_of built.fitted) built.ordered
+  pub ordered : IsOrderedNet built.fitted.checked.resolved.names (design_of built.fitted) built.ordered
   pub inputs : built.ports.inputs ≡ inputs built.ordered.net
   pub watched : built.ports.watched ≡ watched built.ordered.net
   pub names : built.ports.names ≡ port_names built.ordered.net

@@ -91,10 +91,11 @@ pub record IsWidthed (text : List ℕ) (circuit : Circuit) : Type 0 where
   pub solved : IsSolved circuit checked widths
   pub none : HasNone (IsWidthFault checked widths)
 
--- the types with these widths
+-- the types with these widths; the circuit that the later stages read is the one that the text spells
 pub record IsFitted (text : List ℕ) (fitted : Fitted) : Type 0 where
-  pub widthed : IsWidthed text fitted.checked.circuit
-  pub types : IsFittedCircuit fitted.checked.circuit fitted
+  pub same : fitted.checked.circuit ≡ fitted.checked.resolved
+  pub widthed : IsWidthed text fitted.checked.resolved
+  pub types : IsFittedCircuit fitted.checked.resolved fitted
 
 -- every leaf that must be driven is
 pub record IsDriven (text : List ℕ) (fitted : Fitted) : Type 0 where

@@ -9,5 +9,5 @@ use Rattle.width_fit.specs.declared.fault.WidthFault.{WidthFault}
 -- the least widths have a fault, and this is the first one
 pub record IsUnfit (checked : Checked) (given : WidthFault) : Type 0 where
   pub widths : List Width
-  pub least : AreLeast checked.circuit widths
+  pub least : AreLeast checked.resolved widths
   pub first : IsFirst checked widths given

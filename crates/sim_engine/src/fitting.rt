@@ -1,19 +1,20 @@
 //! The stages up to the widths.
 
-ghost use Rattle.std.specs.Prelude.{◌≡◌, ◌⊎◌, ◌≤◌, None, IfOk, IfErr, length};
+ghost use Rattle.std.specs.Prelude.{◌≡◌, ◌⊎◌, ◌×◌, ◌≤◌, None, IfOk, IfErr, length};
 ghost use Rattle.width_fit.specs.Faults.{place_of};
 ghost use Rattle.width_fit.specs.Fitting.{IsFit};
 ghost use Rattle.sim_engine.specs.Unfit.{IsUnfit};
 ghost use Rattle.sim_engine.specs.Stages.{circuit_limit, IsFitted, IsGiven};
 
 use crate::fault::CircuitFault;
+use bit_words::Shared;
 use fir_layout::lay_out;
 use fir_lexer::lex;
 use fir_names::resolve;
 use fir_parser::parse;
-use fir_tree::{Checked, Fitted};
+use fir_tree::{Checked, Circuit, Fitted, Scope, Types};
 use size_check::flat_measure;
-use std::alloc::Global;
+use std::alloc::{AllocError, Global};
 use type_check::check;
 use width_fit::{WidthFault, judge};
 use width_gathering::rules_of;
@@ -30,14 +31,24 @@ pub fn fit_text(alloc: Global, bytes: &[u8]) -> Result<Fitted, CircuitFault>
     let circuit = parse(alloc, bytes, &laid)?;
     let scope = resolve(alloc, &circuit)?;
     let types = check(alloc, &circuit, &scope)?;
-    let checked = Checked {
-        circuit,
-        scope,
-        types,
-    };
+    let checked = gather(alloc, circuit, scope, types)?;
     flat_measure(alloc, &checked)?;
     let fitted = fit_widths(alloc, checked)?;
     Ok(fitted)
+}
+
+/// The circuit with what its names mean and its types. No `Reset` of it becomes an `AsyncReset`, so the later stages read the same circuit.
+fn gather(alloc: Global, circuit: Circuit, scope: Scope, types: Types) -> Result<Checked, AllocError>
+    ensures { IfOk result (λ checked. (checked.circuit ≡ circuit) × (checked.resolved ≡ circuit) × (checked.scope ≡ scope) × (checked.types ≡ types)) }
+{
+    let circuit = Shared::new(alloc, circuit)?;
+    let resolved = circuit.share()?;
+    Ok(Checked {
+        circuit,
+        resolved,
+        scope,
+        types,
+    })
 }
 
 /// The circuit with the types that its least widths give, or the first fault of its widths.

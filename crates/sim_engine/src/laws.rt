@@ -16,7 +16,7 @@ ghost use Rattle.sim_engine.specs.declared.fault.CircuitFault.{CircuitFault as A
 pub fn a_text_is_settled()
     ensures fault { (text : List ℕ) (fault : AFault) → IsFirstFault text fault → IsOnly (IsFirstFault text) fault }
     ensures either { (text : List ℕ) (fault : AFault) (fitted : AFitted) → IsFirstFault text fault → ¬ (IsAccepted text fitted) }
-    ensures accepted { (text : List ℕ) (fitted other : AFitted) → IsAccepted text fitted → IsAccepted text other → (fitted.checked.circuit ≡ other.checked.circuit) × (design_of fitted ≡ design_of other) }
+    ensures accepted { (text : List ℕ) (fitted other : AFitted) → IsAccepted text fitted → IsAccepted text other → (fitted.checked.resolved ≡ other.checked.resolved) × (design_of fitted ≡ design_of other) }
     ensures laid { (text : List ℕ) (laid : List ALaid) → IsLaid text laid → IsOnly (IsLaid text) laid }
 {}
 

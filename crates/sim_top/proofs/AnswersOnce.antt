@@ -51,25 +51,25 @@ declared_at circuit reached declared = record { checked = flagged circuit reache
 
 same_listing : (circuit : Circuit) (first second : Fitted) → IsFittedCircuit circuit first → IsFittedCircuit circuit second → listing_of first ≡ listing_of second
 same_listing circuit first second p q =
-    same_at (λ c r. listing_of (declared_at c r first.declared)) first.checked.circuit second.checked.circuit first.checked.scope.reached second.checked.scope.reached
+    same_at (λ c r. listing_of (declared_at c r first.declared)) first.checked.resolved second.checked.resolved first.checked.scope.reached second.checked.scope.reached
     (p.solved.circuit_is ∙ sym q.solved.circuit_is) (same_modules circuit first second p q)
-    ∙ ap (λ x. listing_of (declared_at second.checked.circuit second.checked.scope.reached x)) (same_declared circuit first second p q)
+    ∙ ap (λ x. listing_of (declared_at second.checked.resolved second.checked.scope.reached x)) (same_declared circuit first second p q)
 
 listed_once : (text : List ℕ) (first second : Fitted) → IsAccepted text first → IsAccepted text second → listing_of first ≡ listing_of second
 listed_once text first second a o =
     let same = accepted_once text first second a o in
-    same_listing first.checked.circuit first second a.clocked.driven.fits.types
+    same_listing first.checked.resolved first second a.clocked.driven.fits.types
     (subst (λ (x : Circuit). IsFittedCircuit x second) (sym same.0) o.clocked.driven.fits.types)
 
 -- a stimulus has one trace
 abbrev HasOneTrace : Texts → Design → Type 0
 HasOneTrace texts design = (stimulus : Stimulus) (bytes other : List ℕ) → IsTraceText texts design stimulus bytes → IsTraceText texts design stimulus other → bytes ≡ other
 
-one_trace : (text : List ℕ) (fitted : Fitted) → IsAccepted text fitted → HasOneTrace fitted.checked.circuit.names (design_of fitted)
+one_trace : (text : List ℕ) (fitted : Fitted) → IsAccepted text fitted → HasOneTrace fitted.checked.resolved.names (design_of fitted)
 one_trace text fitted a stimulus bytes other p q =
     let well = fitted_well_formed text fitted a.clocked.driven.fits in
     let rows = rows_once fitted well a.no_loop first_state (all_inputs (design_of fitted) stimulus) p.rows q.rows p.trace q.trace in
-    p.is ∙ (ap (λ rs. header_of (watched_names fitted.checked.circuit.names (design_of fitted)) ++ flat_map line_of (enumerate_from 0 rs)) rows ∙ sym q.is)
+    p.is ∙ (ap (λ rs. header_of (watched_names fitted.checked.resolved.names (design_of fitted)) ++ flat_map line_of (enumerate_from 0 rs)) rows ∙ sym q.is)
 
 -- a run
 too_long : (n limit : ℕ) → limit < n → n ≤ limit → ⊥
@@ -116,16 +116,16 @@ texts_once (Cut workers) text stimulus _ _ _ _ (refused _ _ _ f p is at) (divide
 texts_once (Cut workers) text stimulus _ _ _ _ (divided _ _ _ fitted _ a cuts) (refused _ _ _ f p is at) = absurd (no_fault text f fitted is a)
 texts_once (Cut workers) text stimulus _ _ b d (divided _ _ _ fitted _ a cuts) (divided _ _ _ other _ o others) =
     let same = accepted_once text other fitted o a in
-    let here : IsCutText fitted.checked.circuit.names (design_of fitted) workers d =
-    subst (λ (x : Design). IsCutText fitted.checked.circuit.names x workers d) same.1 (subst (λ (c : Circuit). IsCutText c.names (design_of other) workers d) same.0 others) in
-    (refl, one_cut fitted.checked.circuit.names fitted (fitted_well_formed text fitted a.clocked.driven.fits) workers b d cuts here)
+    let here : IsCutText fitted.checked.resolved.names (design_of fitted) workers d =
+    subst (λ (x : Design). IsCutText fitted.checked.resolved.names x workers d) same.1 (subst (λ (c : Circuit). IsCutText c.names (design_of other) workers d) same.0 others) in
+    (refl, one_cut fitted.checked.resolved.names fitted (fitted_well_formed text fitted a.clocked.driven.fits) workers b d cuts here)
 texts_once Run text stimulus _ _ _ _ (refused _ _ _ f p is at) (ran _ _ fitted _ _ a r) = absurd (no_fault text f fitted is a)
 texts_once Run text stimulus _ _ _ _ (ran _ _ fitted _ _ a r) (refused _ _ _ f p is at) = absurd (no_fault text f fitted is a)
 texts_once Run text stimulus s t b d (ran _ _ fitted _ _ a r) (ran _ _ other _ _ o q) =
     let same = accepted_once text other fitted o a in
-    let here : Runs fitted.checked.circuit.names (design_of fitted) stimulus t d =
-    subst (λ (x : Design). Runs fitted.checked.circuit.names x stimulus t d) same.1 (subst (λ (c : Circuit). Runs c.names (design_of other) stimulus t d) same.0 q) in
-    runs_once fitted.checked.circuit.names (design_of fitted) (one_trace text fitted a) stimulus s t b d r here
+    let here : Runs fitted.checked.resolved.names (design_of fitted) stimulus t d =
+    subst (λ (x : Design). Runs fitted.checked.resolved.names x stimulus t d) same.1 (subst (λ (c : Circuit). Runs c.names (design_of other) stimulus t d) same.0 q) in
+    runs_once fitted.checked.resolved.names (design_of fitted) (one_trace text fitted a) stimulus s t b d r here
 
 -- what a command answers to a text
 other_part : (command : Command) (joined circuit stimulus : List ℕ) → IsPart command joined circuit stimulus → circuit_limit < length circuit

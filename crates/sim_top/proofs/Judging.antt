@@ -76,17 +76,17 @@ widths text stimulus built status bytes b zero e =
     rw (zero, e) (listed text stimulus built.fitted b.accepted)
 
 pub divided_of : (workers : ℕ) (text stimulus : List ℕ) (built : Built) (status : ℕ) (bytes : List ℕ) → IsBuilt text built → status ≡ 0
-    → IsCutText built.fitted.checked.circuit.names (design_of built.fitted) workers bytes → JudgesTexts (Cut workers) text stimulus status bytes
+    → IsCutText built.fitted.checked.resolved.names (design_of built.fitted) workers bytes → JudgesTexts (Cut workers) text stimulus status bytes
 divided_of workers text stimulus built status bytes b zero cuts =
     rw zero (divided workers text stimulus built.fitted bytes b.accepted cuts)
 
 -- a run of what was built
 ran_of : (text stimulus : List ℕ) (built : Built) (status : ℕ) (bytes : List ℕ) → IsBuilt text built
-    → Runs built.fitted.checked.circuit.names (design_of built.fitted) stimulus status bytes → JudgesTexts Run text stimulus status bytes
+    → Runs built.fitted.checked.resolved.names (design_of built.fitted) stimulus status bytes → JudgesTexts Run text stimulus status bytes
 ran_of text stimulus built status bytes b r = ran text stimulus built.fitted status bytes b.accepted r
 
-ports_are : (text : List ℕ) (built : Built) → IsBuilt text built → ArePortsOf built.fitted.checked.circuit.names (design_of built.fitted) built.ports
-ports_are text built b = ports_of_circuit built.fitted.checked.circuit.names (design_of built.fitted) built.ordered.net b.ordered.serves built.ports b.inputs b.watched b.names
+ports_are : (text : List ℕ) (built : Built) → IsBuilt text built → ArePortsOf built.fitted.checked.resolved.names (design_of built.fitted) built.ports
+ports_are text built b = ports_of_circuit built.fitted.checked.resolved.names (design_of built.fitted) built.ordered.net b.ordered.serves built.ports b.inputs b.watched b.names
 
 pub ran_long : (text stimulus : List ℕ) (built : Built) (status : ℕ) (bytes : List ℕ) → IsBuilt text built → stimulus_limit < length stimulus → status ≡ 3
     → bytes ≡ whole_stimulus_bytes TooLong first_place → JudgesTexts Run text stimulus status bytes

@@ -41,7 +41,7 @@ texts_told command text stimulus _ _ (refused _ _ _ fault p f at) = inr (of_circ
 texts_told Check text stimulus _ _ (accepted _ _ fitted a) = inl refl
 texts_told Widths text stimulus _ _ (listed _ _ fitted a) = inl refl
 texts_told (Cut workers) text stimulus _ _ (divided _ _ _ fitted _ a cuts) = inl refl
-texts_told Run text stimulus s b (ran _ _ fitted _ _ a r) = ran_told fitted.checked.circuit.names _ stimulus s b r
+texts_told Run text stimulus s b (ran _ _ fitted _ _ a r) = ran_told fitted.checked.resolved.names _ stimulus s b r
 
 judged_told : (command : Command) (joined : List ℕ) (s : ℕ) (b : List ℕ) → Judges command joined s b → Told s b
 judged_told command joined _ _ (joined_too_long _ _ l) = inr (of_whole TooLong first_place)
@@ -135,7 +135,7 @@ made_usage cycles size d reply e made one =
     let said = subst (IsMade cycles size) e made in told_usage _ _ (judged_told Run (ring_text size cycles) _ _ said.0) one
 
 pub made_run : (texts : List ℕ → Option (List ℕ)) (cycles size : ℕ) (d : Decision) (built : Built) (settings : Stimulus) (trace b : List ℕ) (s : ℕ) → d ≡ decision.Run built settings
-    → IsMade cycles size d → s ≡ 0 → IsTraceText built.fitted.checked.circuit.names (design_of built.fitted) settings trace → IsSummary trace b
+    → IsMade cycles size d → s ≡ 0 → IsTraceText built.fitted.checked.resolved.names (design_of built.fitted) settings trace → IsSummary trace b
     → AnswersTo texts (Of_made cycles size) s b
 made_run texts cycles size d built settings trace b s e made zero told sums =
     let ran = subst (IsMade cycles size) e made in

@@ -57,9 +57,9 @@ pub data JudgesTexts : Command → List ℕ → List ℕ → ℕ → List ℕ �
   accepted : (text stimulus : List ℕ) (fitted : Fitted) → IsAccepted text fitted → JudgesTexts Check text stimulus 0 (codes "ok\n")
   listed : (text stimulus : List ℕ) (fitted : Fitted) → IsAccepted text fitted → JudgesTexts Widths text stimulus 0 (listing_of fitted)
   divided : (workers : ℕ) (text stimulus : List ℕ) (fitted : Fitted) (bytes : List ℕ) → IsAccepted text fitted
-      → IsCutText fitted.checked.circuit.names (design_of fitted) workers bytes → JudgesTexts (Cut workers) text stimulus 0 bytes
+      → IsCutText fitted.checked.resolved.names (design_of fitted) workers bytes → JudgesTexts (Cut workers) text stimulus 0 bytes
   ran : (text stimulus : List ℕ) (fitted : Fitted) (status : ℕ) (bytes : List ℕ) → IsAccepted text fitted
-      → Runs fitted.checked.circuit.names (design_of fitted) stimulus status bytes → JudgesTexts Run text stimulus status bytes
+      → Runs fitted.checked.resolved.names (design_of fitted) stimulus status bytes → JudgesTexts Run text stimulus status bytes
 
 -- What a command answers to a joined text. Of the faults of the text as a whole the first in this order counts.
 pub data Judges : Command → List ℕ → ℕ → List ℕ → Type 0 where

@@ -57,7 +57,7 @@ IsReply status bytes = (status ≡ 0) ⊎ (((status ≡ 1) × (bytes ≡ codes "
 -- A decision has a property of answers: its reply has it, or the trace has it, at status 0.
 abbrev pub Gives : (ℕ → List ℕ → Type 0) → Decision → Type 0
 Gives Property (decision.Say reply) = Property reply.status reply.bytes.items
-Gives Property (decision.Run built stimulus) = (bytes : List ℕ) → IsTraceText built.fitted.checked.circuit.names (design_of built.fitted) stimulus bytes → Property 0 bytes
+Gives Property (decision.Run built stimulus) = (bytes : List ℕ) → IsTraceText built.fitted.checked.resolved.names (design_of built.fitted) stimulus bytes → Property 0 bytes
 
 -- What was built can be run under the stimulus.
 pub record IsRunnable (built : Built) (stimulus : Stimulus) : Type 0 where

@@ -180,7 +180,7 @@ fn divide(alloc: Global, built: &Built, workers: u32) -> Result<Reply, AllocErro
     requires built { (text : List ℕ) × IsBuilt text built.now }
     requires some { 1 ≤ workers }
     requires most { workers ≤ 64 }
-    ensures { IfOk result (λ r. (r.status ≡ 0) × IsCutText built.now.fitted.checked.circuit.names (design_of built.now.fitted) workers r.bytes.items) }
+    ensures { IfOk result (λ r. (r.status ≡ 0) × IsCutText built.now.fitted.checked.resolved.names (design_of built.now.fitted) workers r.bytes.items) }
 {
     Ok(Reply {
         status: 0,

@@ -239,7 +239,7 @@ fn sum_up<R: Threads + Wait + Sync, G: Gate + Sync>(
     requires some { 1 ≤ crew.now.workers }
     requires most { crew.now.workers ≤ 64 }
     ensures status { IfOk result (λ r. r.status ≡ 0) }
-    ensures summary { IfOk result (λ r. (trace : List ℕ) × IsTraceText built.now.fitted.checked.circuit.names (design_of built.now.fitted) stimulus.now trace × IsSummary trace r.bytes.items) }
+    ensures summary { IfOk result (λ r. (trace : List ℕ) × IsTraceText built.now.fitted.checked.resolved.names (design_of built.now.fitted) stimulus.now trace × IsSummary trace r.bytes.items) }
 {
     let plan = Plan {
         ordered: &built.ordered,
@@ -292,7 +292,7 @@ fn run<R: Threads + Wait + Sync, G: Gate + Sync, K: Sink>(
     requires runnable { IsRunnable built.now stimulus.now }
     requires some { 1 ≤ crew.now.workers }
     requires most { crew.now.workers ≤ 64 }
-    ensures ran { (bytes : List ℕ) × IsTraceText built.now.fitted.checked.circuit.names (design_of built.now.fitted) stimulus.now bytes
+    ensures ran { (bytes : List ℕ) × IsTraceText built.now.fitted.checked.resolved.names (design_of built.now.fitted) stimulus.now bytes
         × IsRun result bytes (K.written sink.old) (K.written sink.new) }
     ensures rose { result ≡ 5 → Rose (K.faults sink.old) (K.faults sink.new) }
     ensures spared { result ≢ 5 → K.faults sink.new ≡ K.faults sink.old }

@@ -21,9 +21,9 @@ use std::alloc::Global;
 ///
 /// A module is measured once, however often it stands. Time and memory are in proportion to the circuit.
 pub fn flat_measure(alloc: Global, checked: &Checked) -> Result<Measure, SizeFault>
-    ensures { IsVerdict place_of rank_of (IsFault checked.now.circuit) (IsMeasure checked.now.circuit) result }
+    ensures { IsVerdict place_of rank_of (IsFault checked.now.resolved) (IsMeasure checked.now.resolved) result }
 {
-    let circuit = &checked.circuit;
+    let circuit = checked.resolved.get();
     let modules = Modules::new(alloc, &circuit.names, circuit.modules.as_slice())?;
     let total = measure(alloc, circuit, &modules)?;
     let ports = main_ports(&modules, circuit.main.id);

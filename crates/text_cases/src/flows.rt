@@ -2,7 +2,7 @@
 
 use crate::stages::circuit_with;
 use crate::telling::{expect, placed};
-use bit_words::List;
+use bit_words::{List, Shared};
 use fir_names::resolve;
 use fir_tree::Checked;
 use reference_flow::flow_of;
@@ -21,8 +21,11 @@ fn told_flows(alloc: Global, checked: &Checked) -> Option<String> {
 fn flows_of(alloc: Global, modules: &str) -> Option<String> {
     let circuit = circuit_with(alloc, modules)?;
     let scope = resolve(alloc, &circuit).ok()?;
+    let circuit = Shared::new(alloc, circuit).ok()?;
+    let resolved = circuit.share().ok()?;
     let checked = Checked {
         circuit,
+        resolved,
         scope,
         types: List::new(alloc),
     };

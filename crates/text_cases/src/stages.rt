@@ -50,8 +50,11 @@ pub fn checked_with(alloc: Global, modules: &str) -> Option<Checked> {
     let circuit = circuit_with(alloc, modules)?;
     let scope = resolve(alloc, &circuit).ok()?;
     let types = check(alloc, &circuit, &scope).ok()?;
+    let circuit = Shared::new(alloc, circuit).ok()?;
+    let resolved = circuit.share().ok()?;
     Some(Checked {
         circuit,
+        resolved,
         scope,
         types,
     })

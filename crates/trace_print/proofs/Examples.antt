@@ -110,7 +110,7 @@ abbrev component : ℕ → ℕ → Bool → Component
 component holder id listed = record { holder = holder; name = id; listed = listed }
 
 -- An instance isn't listed, and no declaration of D.
-five_components : components_of fitted.checked.circuit.modules fitted.checked.scope.reached
+five_components : components_of fitted.checked.resolved.modules fitted.checked.scope.reached
     ≡ component 0 3 true ∷ component 0 4 true ∷ component 1 7 false ∷ component 1 8 true ∷ component 2 6 false ∷ []
 five_components = grind (arith, common_steps, stmt_lemmas)
 

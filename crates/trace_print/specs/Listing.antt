@@ -38,8 +38,8 @@ component_lines texts (component, typ) =
 
 -- the declarations of a circuit with their fitted types
 abbrev pub typed_components : Fitted → List (Component × FirType)
-typed_components fitted = zip (components_of fitted.checked.circuit.modules fitted.checked.scope.reached) fitted.declared
+typed_components fitted = zip (components_of fitted.checked.resolved.modules fitted.checked.scope.reached) fitted.declared
 
 -- the whole listing
 abbrev pub listing_of : Fitted → List ℕ
-listing_of fitted = flat_map (component_lines fitted.checked.circuit.names) (typed_components fitted)
+listing_of fitted = flat_map (component_lines fitted.checked.resolved.names) (typed_components fitted)

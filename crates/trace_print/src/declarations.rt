@@ -11,11 +11,11 @@ use std::alloc::{AllocError, Global};
 /// The declarations of all modules in text order, ports first in each. There are as many as the fitted circuit has declared
 /// types.
 pub fn components(alloc: Global, checked: &Checked) -> Result<Vec<Component>, AllocError>
-    ensures { IfOk result (λ all. all.items ≡ components_of checked.now.circuit.modules checked.now.scope.reached) }
+    ensures { IfOk result (λ all. all.items ≡ components_of checked.now.resolved.modules checked.now.scope.reached) }
 {
     let mut all = Vec::new(alloc);
     let mut rest = checked.scope.reached.as_slice();
-    for module in checked.circuit.modules.as_slice() {
+    for module in checked.resolved.get().modules.as_slice() {
         let (reached, others) = rest.split_first().unwrap_or((&false, &[]));
         push_module(&mut all, module, *reached)?;
         rest = others;

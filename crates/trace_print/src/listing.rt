@@ -18,7 +18,7 @@ pub fn widths_text(alloc: Global, fitted: &Fitted) -> Result<Vec<u8>, AllocError
     ensures { IfOk result (λ text. text.items ≡ listing_of fitted.now) }
 {
     let all = components(alloc, &fitted.checked)?;
-    let names = &fitted.checked.circuit.names;
+    let names = &fitted.checked.resolved.get().names;
     let mut text = Vec::new(alloc);
     for (component, typ) in all.iter().zip(fitted.declared.as_slice()) {
         push_component(alloc, &mut text, names, *component, typ)?;

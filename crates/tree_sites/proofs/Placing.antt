@@ -24,7 +24,7 @@ use Rattle.tree_sites.proofs.Lists.{one_in, contains_taken, take_grown, take_pas
 use Rattle.fir_names.proofs.Members.{Contains-get}
 
 abbrev pub AreMeant : Fitted → Type 0
-AreMeant fitted = (name k : ℕ) (m : TypedModule) → Means fitted.checked.circuit name k → slice_get (modules_of fitted) k ≡ Some m → module_named (design_of fitted) name ≡ Some m
+AreMeant fitted = (name k : ℕ) (m : TypedModule) → Means fitted.checked.resolved name k → slice_get (modules_of fitted) k ≡ Some m → module_named (design_of fitted) name ≡ Some m
 
 abbrev pub names_in : TypedModule → List ℕ
 names_in m = map (λ (c : Component). c.declaration.name) m.components
@@ -82,7 +82,7 @@ module _ (fitted : Fitted) (well : IsWellFormed fitted) (once : AreOnce fitted) 
       let its = known_module fitted well path m at in
       let own : map (λ (c : Component). c.declaration) m.components ≡ declarations_of its.holder = its.typed.components in
       subst AreApart (sym (names own))
-      (apart_by_places (λ (d : Declaration). d.name) (declarations_of its.holder) (λ j k d e p q same. once its.holder (Contains-get fitted.checked.circuit.modules its.k its.holder its.here) j k d e p q same))
+      (apart_by_places (λ (d : Declaration). d.name) (declarations_of its.holder) (λ j k d e p q same. once its.holder (Contains-get fitted.checked.resolved.modules its.k its.holder its.here) j k d e p q same))
     where
       map_map : (cs : List Component) → map (λ (c : Component). c.declaration.name) cs ≡ map (λ (d : Declaration). d.name) (map (λ (c : Component). c.declaration) cs)
       map_map [] = refl
@@ -96,13 +96,13 @@ module _ (fitted : Fitted) (well : IsWellFormed fitted) (once : AreOnce fitted) 
   design = design_of fitted
 
   abbrev start : Stand
-  start = ([], fitted.checked.circuit.main.id)
+  start = ([], fitted.checked.resolved.main.id)
 
   main_there : (m : TypedModule) × (module_named design design.main ≡ Some m)
   main_there =
-      let h = holder_at fitted.checked.circuit.modules well.scope.main fitted.checked.circuit.main.id well.scope.is_main.has in
-      let m = has_number fitted.checked.circuit.modules fitted.declared well.scope.main h.0 h.1 in
-      (m.0, meant fitted.checked.circuit.main.id well.scope.main m.0 well.scope.is_main m.1)
+      let h = holder_at fitted.checked.resolved.modules well.scope.main fitted.checked.resolved.main.id well.scope.is_main.has in
+      let m = has_number fitted.checked.resolved.modules fitted.declared well.scope.main h.0 h.1 in
+      (m.0, meant fitted.checked.resolved.main.id well.scope.main m.0 well.scope.is_main m.1)
 
   pub start_place : IsPlace design start
   start_place = let m = main_there in (m.0, ap (option_and_then (λ n. Some n)) m.1, m.1)
@@ -226,7 +226,7 @@ module _ (fitted : Fitted) (well : IsWellFormed fitted) (once : AreOnce fitted) 
 
   -- The list as it is held
 
-  pub first_listed : (main : ℕ) (empty all : List Standing) (path : Vec ℕ) → main ≡ fitted.checked.circuit.main.id → empty ≡ [] → path.items ≡ [] → all ≡ empty ++ record { path = path; name = main } ∷ [] → Listed design start (stands_of all) 0
+  pub first_listed : (main : ℕ) (empty all : List Standing) (path : Vec ℕ) → main ≡ fitted.checked.resolved.main.id → empty ≡ [] → path.items ≡ [] → all ≡ empty ++ record { path = path; name = main } ∷ [] → Listed design start (stands_of all) 0
   first_listed main empty all path is e f h =
       listed_first (stands_of all) (ap stands_of (h ∙ ap (λ l. l ++ record { path = path; name = main } ∷ []) e) ∙ ap₂ (λ (p : List ℕ) (n : ℕ). (p, n) ∷ []) f is)
 

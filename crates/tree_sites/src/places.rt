@@ -36,7 +36,7 @@ pub fn parts_of<'a>(
     ensures { IfOk result (λ parts. option_map bares_held parts ≡ option_map bares (module_named (design_of fitted.now) name)) }
 {
     let mut types = fitted.declared.as_slice();
-    for holder in fitted.checked.circuit.modules.as_slice() {
+    for holder in fitted.checked.resolved.get().modules.as_slice() {
         let declared = declarations_of(alloc, holder)?;
         if holder.name.id == name {
             return Ok(Some(Parts { declared, types }));
@@ -57,7 +57,7 @@ pub fn places_of(alloc: Global, fitted: &Fitted) -> Result<Vec<Standing>, AllocE
     let mut places = Vec::new(alloc);
     places.push(Standing {
         path: Vec::new(alloc),
-        name: fitted.checked.circuit.main.id,
+        name: fitted.checked.resolved.get().main.id,
     })?;
     for at in 0..usize::MAX {
         let Some(place) = places.get(at) else {

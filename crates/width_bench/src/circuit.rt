@@ -1,6 +1,6 @@
 //! Circuits of one module with many components without widths, each driven by another one.
 
-use bit_words::{Kind, List, Number};
+use bit_words::{Kind, List, Number, Shared};
 use fir_tree::{Checked, Circuit, Expr, Form, Module, Names, Scope, Stmt};
 use fir_types::{FirType, Name, Shape};
 use place_text::Place;
@@ -34,12 +34,17 @@ pub fn circuit_of(alloc: Global, chain: Chain, count: u32) -> Result<Checked, Al
         ports: List::new(alloc),
         body: List::from_vec(body),
     };
+    let circuit = Circuit {
+        names: Names::new(alloc),
+        main: name(MODULE),
+        modules: List::from_vec(vec![in alloc; module]?),
+        prints: List::new(alloc),
+    };
+    let circuit = Shared::new(alloc, circuit)?;
+    let resolved = circuit.share()?;
     Ok(Checked {
-        circuit: Circuit {
-            names: Names::new(alloc),
-            main: name(MODULE),
-            modules: List::from_vec(vec![in alloc; module]?),
-        },
+        circuit,
+        resolved,
         scope: Scope {
             reached: List::from_vec(vec![in alloc; true]?),
             uses: List::new(alloc),

@@ -38,14 +38,14 @@ same_told all modules instances h n (m ∷ ms) reached =
     (same_told all modules instances h (n + one.count) ms (drop 1 reached))
 
 pub told_is : (checked : Checked) (widths : List Width) (all : Solved) (with_ports : List WithPorts) (instances : Known) (places : List Place) (reached : List Bool)
-    → with_ports ≡ modules_from 0 checked.circuit.modules → AreInstances with_ports instances → places ≡ flat_map module_places checked.circuit.modules
-    → all ≡ record { widths = widths; rules = (rules_in checked.circuit).rules } → reached ≡ checked.scope.reached
+    → with_ports ≡ modules_from 0 checked.resolved.modules → AreInstances with_ports instances → places ≡ flat_map module_places checked.resolved.modules
+    → all ≡ record { widths = widths; rules = (rules_in checked.resolved).rules } → reached ≡ checked.scope.reached
     → told_among all instances (length places) with_ports reached ≡ told_of checked widths
 told_is checked widths all with_ports instances places reached ms h ps is r =
-    let count : length places ≡ all_open checked.circuit.modules = ap length ps ∙ modules_open checked.circuit.modules in
+    let count : length places ≡ all_open checked.resolved.modules = ap length ps ∙ modules_open checked.resolved.modules in
     same_told all with_ports instances h (length places) with_ports reached
     ∙ ap₂ (λ all ms. told_from all ms (length places) ms reached) is ms
-    ∙ ap₂ (λ n reached. told_from (record { widths = widths; rules = (rules_in checked.circuit).rules }) (modules_from 0 checked.circuit.modules) n (modules_from 0 checked.circuit.modules) reached) count r
+    ∙ ap₂ (λ n reached. told_from (record { widths = widths; rules = (rules_in checked.resolved).rules }) (modules_from 0 checked.resolved.modules) n (modules_from 0 checked.resolved.modules) reached) count r
 
 pub from_nothing : {X : Type 0} (old new told : List X) → old ≡ [] → new ≡ old ++ told → new ≡ told
 from_nothing old new told none is = is ∙ ap (λ l. l ++ told) none

@@ -24,7 +24,7 @@ AreLeast circuit widths = IsLeast (rules_in circuit).rules (length (rules_in cir
 
 -- a circuit with a scope of its names and the types of its expressions, and the least widths that meet its rules
 pub record IsSolved (circuit : Circuit) (checked : Checked) (widths : List Width) : Type 0 where
-  pub circuit_is : checked.circuit ≡ circuit
+  pub circuit_is : checked.resolved ≡ circuit
   pub scope : IsScope circuit checked.scope
   pub types : checked.types ≡ types_of circuit
   pub least : AreLeast circuit widths
@@ -32,7 +32,7 @@ pub record IsSolved (circuit : Circuit) (checked : Checked) (widths : List Width
 -- the least widths have no fault, and the fitted circuit has the types that they give
 pub record IsFit (checked : Checked) (fitted : Fitted) : Type 0 where
   pub widths : List Width
-  pub least : AreLeast checked.circuit widths
+  pub least : AreLeast checked.resolved widths
   pub fitted_is : IsFitted checked widths fitted
   pub none : HasNone (IsFault checked widths)
 

@@ -278,5 +278,5 @@ told_from all modules n (m ∷ rest) reached =
 
 abbrev pub told_of : Checked → List Width → Told
 told_of checked widths =
-    let modules = modules_from 0 checked.circuit.modules in
-    told_from (record { widths = widths; rules = (rules_in checked.circuit).rules }) modules (all_open checked.circuit.modules) modules checked.scope.reached
+    let modules = modules_from 0 checked.resolved.modules in
+    told_from (record { widths = widths; rules = (rules_in checked.resolved).rules }) modules (all_open checked.resolved.modules) modules checked.scope.reached

@@ -28,7 +28,7 @@ pub fn judge(
     rules: &Rules,
     widths: &Widths,
 ) -> Result<Fitted, WidthFault>
-    requires rules { rules.now ≡ rules_in checked.circuit }
+    requires rules { rules.now ≡ rules_in checked.resolved }
     requires widths { IsLeast rules.now.rules (length rules.now.places) widths.now }
     ensures { IsVerdict place_of rank_of (IsFault checked widths.now) (IsFitted checked widths.now) result }
 {

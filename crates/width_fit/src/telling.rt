@@ -38,7 +38,7 @@ pub fn tell(
     rules: &Rules,
     widths: &Widths,
 ) -> Result<(Vec<FirType>, Findings), AllocError>
-    requires { rules.now ≡ rules_in checked.now.circuit }
+    requires { rules.now ≡ rules_in checked.now.resolved }
     ensures declared { IfOk result (λ told. told.0.items ≡ (told_of checked.now widths.now).declared) }
     ensures nodes { IfOk result (λ told. told.1.nodes.items ≡ (told_of checked.now widths.now).nodes) }
     ensures faults { IfOk result (λ told. told.1.faults.items ≡ (told_of checked.now widths.now).faults) }
@@ -55,8 +55,8 @@ pub fn tell(
         fits: IndexMap::new(alloc),
         choices: Choices::new(alloc),
     };
-    let modules = with_ports(alloc, &mut walk.places, checked.circuit.modules.as_slice())?;
-    let names = &checked.circuit.names;
+    let modules = with_ports(alloc, &mut walk.places, checked.resolved.get().modules.as_slice())?;
+    let names = &checked.resolved.get().names;
     let components = instances_of(alloc, names, modules.as_slice())?;
     let fits = fits_of_instances(alloc, widths.as_slice(), &components, modules.as_slice())?;
     let instances = Instances { components, fits };

@@ -21,17 +21,17 @@ use width_rules::indexed::Indexed;
 ///
 /// Takes time and memory in proportion to the circuit and its types. More variables than fit a `u32` are a want of memory.
 pub fn rules_of(alloc: Global, checked: &Checked) -> Result<Rules, AllocError>
-    ensures exact { IfOk result (λ rules. rules ≡ rules_in checked.now.circuit) }
+    ensures exact { IfOk result (λ rules. rules ≡ rules_in checked.now.resolved) }
     ensures rules { IfOk result (λ rules. AreRules (length rules.places) rules.rules) }
 {
-    let names = &checked.circuit.names;
+    let names = &checked.resolved.get().names;
     let mut found = Found {
         names,
         known: IndexMap::new(alloc),
         places: Vec::new(alloc),
         rules: FoundRules::new(alloc),
     };
-    let modules = with_ports(alloc, &mut found.places, checked.circuit.modules.as_slice())?;
+    let modules = with_ports(alloc, &mut found.places, checked.resolved.get().modules.as_slice())?;
     let instances = instances_of(alloc, names, modules.as_slice())?;
     walk_bodies(alloc, &instances, &mut found, modules)?;
     Ok(Rules {

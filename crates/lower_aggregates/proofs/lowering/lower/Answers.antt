@@ -5,13 +5,13 @@ use Rattle.lower_aggregates.proofs.lowering.lower.Goals as goal
 
 pub number_of-main-requires : goal.number_of-main-requires
 number_of-main-requires c =
-    placed_known c.args.fitted.now.checked.circuit c.in_ok-numbers.numbers.entries (subst (λ l. IsPlaced (map (λ m. m.name) l) c.in_ok-numbers.numbers.entries) c.as_slice.ensures c.in_ok-numbers.ensures)
-    c.args.fitted.now.checked.circuit.main.id c.requires.scope.main c.requires.scope.is_main
+    placed_known c.args.fitted.now.checked.resolved c.in_ok-numbers.numbers.entries (subst (λ l. IsPlaced (map (λ m. m.name) l) c.in_ok-numbers.numbers.entries) c.as_slice.ensures c.in_ok-numbers.ensures)
+    c.args.fitted.now.checked.resolved.main.id c.requires.scope.main c.requires.scope.is_main
 
 pub returns-clause-lowered : goal.returns-clause-lowered
 returns-clause-lowered c = record {
-  main = placed_means c.args.fitted.now.checked.circuit c.in_ok-numbers.numbers.entries
-      (subst (λ l. IsPlaced (map (λ m. m.name) l) c.in_ok-numbers.numbers.entries) c.as_slice.ensures c.in_ok-numbers.ensures) c.args.fitted.now.checked.circuit.main.id c.number_of-main.result c.number_of-main.ensures;
+  main = placed_means c.args.fitted.now.checked.resolved c.in_ok-numbers.numbers.entries
+      (subst (λ l. IsPlaced (map (λ m. m.name) l) c.in_ok-numbers.numbers.entries) c.as_slice.ensures c.in_ok-numbers.ensures) c.args.fitted.now.checked.resolved.main.id c.number_of-main.result c.number_of-main.ensures;
   counted = c.in_ok-modules.ensures.counted;
   modules = λ k m g e reached at. (c.in_ok-modules.ensures.made k g at).lowered m e reached;
 }

@@ -7,8 +7,8 @@ use Rattle.lower_aggregates.proofs.lowering.lower_modules.Goals as goal
 
 pub loop-number-preserved : goal.loop-number-preserved
 loop-number-preserved c =
-    let below : c.loop-number.number < length c.args.fitted.now.checked.circuit.modules = search rules in
-    let is : c.index-holders-number.result ≡ get_or c.args.fitted.now.checked.circuit.modules c.loop-number.number c.index-holders-number.result =
+    let below : c.loop-number.number < length c.args.fitted.now.checked.resolved.modules = search rules in
+    let is : c.index-holders-number.result ≡ get_or c.args.fitted.now.checked.resolved.modules c.loop-number.number c.index-holders-number.result =
     c.index-holders-number.is ∙ ap (λ (l : List Module). get_or l c.loop-number.number c.index-holders-number.result) c.as_slice-holders.ensures in
     let later : c.unwrap_or-rest.result.now ≡ drop c.in_ok-count.count c.loop-number.rest.now = grind (arith, common_steps) in (
       stands_next c.args.fitted.now c.loop-number.number c.in_ok-count.count c.index-holders-number.result c.loop-number.rest.now c.unwrap_or-rest.result.now below is c.loop-number.invariant.0 c.in_ok-count.ensures later,

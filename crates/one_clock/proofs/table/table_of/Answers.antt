@@ -28,6 +28,6 @@ loop-number-preserved c =
 
 pub returns : goal.returns
 returns c = λ m its.
-    tabled_all c.as_slice-modules.result.now c.args.fitted.now.checked.circuit.modules (modules_of c.args.fitted.now) c.as_slice-reached.result.now c.args.fitted.now.checked.scope.reached
+    tabled_all c.as_slice-modules.result.now c.args.fitted.now.checked.resolved.modules (modules_of c.args.fitted.now) c.as_slice-reached.result.now c.args.fitted.now.checked.scope.reached
     c.loop-number.table.entries c.loop-number.number c.loop-number.rest.now c.loop-number.invariant (search rules) c.as_slice-modules.ensures c.as_slice-reached.ensures
     its.k its.holder m its.here its.number its.reached

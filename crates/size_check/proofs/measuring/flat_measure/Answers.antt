@@ -14,22 +14,22 @@ use Rattle.size_check.proofs.measuring.flat_measure.Goals as goal
 
 pub returns-in-Some : goal.returns-in-Some
 returns-in-Some c =
-    let circuit = c.args.checked.now.circuit in
-    let ports = c.main_ports-ports.ensures ∙ ap (λ ms. cap (ports_of (named ms c.args.checked.now.circuit.main.id))) (c.in_ok-modules.ensures.all ∙ c.as_slice.ensures) in
+    let circuit = c.args.checked.now.resolved in
+    let ports = c.main_ports-ports.ensures ∙ ap (λ ms. cap (ports_of (named ms c.args.checked.now.resolved.main.id))) (c.in_ok-modules.ensures.all ∙ c.as_slice.ensures) in
     passes c.in-Some.measure
-    (measures c.args.checked.now.circuit c.in_ok-total.total c.main_ports-ports.result c.in-Some.measure c.in_ok-total.ensures ports c.in-Some.ensures)
-    (no_fault c.args.checked.now.circuit (found_false c.args.checked.now.circuit c.in_ok-total.total c.main_ports-ports.result c.in_ok-total.ensures ports false c.in-Some.ensures.0))
+    (measures c.args.checked.now.resolved c.in_ok-total.total c.main_ports-ports.result c.in-Some.measure c.in_ok-total.ensures ports c.in-Some.ensures)
+    (no_fault c.args.checked.now.resolved (found_false c.args.checked.now.resolved c.in_ok-total.total c.main_ports-ports.result c.in_ok-total.ensures ports false c.in-Some.ensures.0))
 
 pub returns : goal.returns
 returns c =
-    let ports = c.main_ports-ports.ensures ∙ ap (λ ms. cap (ports_of (named ms c.args.checked.now.circuit.main.id))) (c.in_ok-modules.ensures.all ∙ c.as_slice.ensures) in
-    refuses_by one_each (TooLarge c.args.checked.now.circuit.main.place)
-    (one_fault c.args.checked.now.circuit (found_false c.args.checked.now.circuit c.in_ok-total.total c.main_ports-ports.result c.in_ok-total.ensures ports true c.in-None.ensures))
+    let ports = c.main_ports-ports.ensures ∙ ap (λ ms. cap (ports_of (named ms c.args.checked.now.resolved.main.id))) (c.in_ok-modules.ensures.all ∙ c.as_slice.ensures) in
+    refuses_by one_each (TooLarge c.args.checked.now.resolved.main.place)
+    (one_fault c.args.checked.now.resolved (found_false c.args.checked.now.resolved c.in_ok-total.total c.main_ports-ports.result c.in_ok-total.ensures ports true c.in-None.ensures))
 
 pub returns-in_err-total : goal.returns-in_err-total
 returns-in_err-total c =
     let p = err_from_is_err_and c.from_residual-in_err-total.result c.from_residual-in_err-total.ensures.1 in
     let e : c.from_residual-in_err-total.result ≡ Err NoMemory = p.1 ∙ ap Err p.2 in
-    let circuit = c.args.checked.now.circuit in
+    let circuit = c.args.checked.now.resolved in
     subst (IsVerdict place_of rank_of (IsFault circuit) (IsMeasure circuit)) (sym e)
     (record { ok = tt; none = tt; fault = inl refl; accepts = λ h. refl; refuses = λ first h. inl refl })

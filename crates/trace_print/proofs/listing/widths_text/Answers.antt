@@ -10,19 +10,19 @@ use Rattle.trace_print.proofs.listing.widths_text.Goals as goal
 
 pub loop-component-preserved : goal.loop-component-preserved
 loop-component-preserved c =
-    let all = components_of c.args.fitted.now.checked.circuit.modules c.args.fitted.now.checked.scope.reached in
+    let all = components_of c.args.fitted.now.checked.resolved.modules c.args.fitted.now.checked.scope.reached in
     let first = ap (λ s. iter_rest (zip_first s)) c.into_iter-component-iterator.ensures.into_iter_gives ∙ ap iter_rest c.zip-component-items.ensures.first ∙ c.iter.ensures.rest ∙ c.deref.ensures.value ∙ c.in_ok-all.ensures in
     let second = ap (λ s. iter_rest (zip_second s)) c.into_iter-component-iterator.ensures.into_iter_gives ∙ c.zip-component-items.ensures.second.0 ∙ c.as_slice.ensures in
     let z = zip_turn all c.args.fitted.now.declared c.loop-component.yielded c.into_iter-component-iterator.result c.loop-component.component-iterator c.next.new.self c.next.result
     first second c.loop-component.yielded_by (c.in-Some.component, c.in-Some.typ) c.in-Some.is c.next.ensures.steps in
-    lines_more (component_lines c.args.fitted.now.checked.circuit.names) all c.args.fitted.now.declared c.loop-component.yielded (c.in-Some.component, c.in-Some.typ) c.in-Some.component.now c.in-Some.typ.now
+    lines_more (component_lines c.args.fitted.now.checked.resolved.names) all c.args.fitted.now.declared c.loop-component.yielded (c.in-Some.component, c.in-Some.typ) c.in-Some.component.now c.in-Some.typ.now
     c.loop-component.text.items c.push_component.new.text.items z.0 z.1 z.2 z.3 c.loop-component.invariant c.in_ok-push_component.ensures
 
 pub returns : goal.returns
 returns c =
-    let all = components_of c.args.fitted.now.checked.circuit.modules c.args.fitted.now.checked.scope.reached in
+    let all = components_of c.args.fitted.now.checked.resolved.modules c.args.fitted.now.checked.scope.reached in
     let first = ap (λ s. iter_rest (zip_first s)) c.into_iter-component-iterator.ensures.into_iter_gives ∙ ap iter_rest c.zip-component-items.ensures.first ∙ c.iter.ensures.rest ∙ c.deref.ensures.value ∙ c.in_ok-all.ensures in
     let second = ap (λ s. iter_rest (zip_second s)) c.into_iter-component-iterator.ensures.into_iter_gives ∙ c.zip-component-items.ensures.second.0 ∙ c.as_slice.ensures in
     let z = zip_end all c.args.fitted.now.declared c.loop-component.yielded c.into_iter-component-iterator.result c.loop-component.component-iterator c.next.new.self c.next.result
     first second c.loop-component.yielded_by c.in-None.is c.next.ensures.steps in
-    c.loop-component.invariant ∙ ap (flat_map (component_lines c.args.fitted.now.checked.circuit.names)) (all_pairs all c.args.fitted.now.declared _ z)
+    c.loop-component.invariant ∙ ap (flat_map (component_lines c.args.fitted.now.checked.resolved.names)) (all_pairs all c.args.fitted.now.declared _ z)

@@ -12,5 +12,5 @@ loop-place-preserved c =
 pub returns : goal.returns
 returns c =
     let fitted = c.args.fitted.now in
-    laid_out fitted c.requires (c.names_are_declared_once.ensures fitted.checked.circuit c.requires.names) c.as_slice-listed.result.now
+    laid_out fitted c.requires (c.names_are_declared_once.ensures fitted.checked.resolved c.requires.names) c.as_slice-listed.result.now
     (subst (λ l. ArePlaces (design_of fitted) (stands_of l)) (sym c.as_slice-listed.ensures.value) c.in_ok-places.ensures) c.loop-place.place-index c.loop-place.layout (omega arith) c.loop-place.invariant

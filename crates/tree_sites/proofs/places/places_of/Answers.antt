@@ -5,7 +5,7 @@ use Rattle.tree_sites.proofs.places.places_of.Goals as goal
 pub loop-at-init : goal.loop-at-init
 loop-at-init c =
     let fitted = c.args.fitted.now in (
-      first_listed fitted c.requires (c.names_are_declared_once.ensures fitted.checked.circuit c.requires.names) (c.modules_are_named.ensures.meant fitted) fitted.checked.circuit.main.id
+      first_listed fitted c.requires (c.names_are_declared_once.ensures fitted.checked.resolved c.requires.names) (c.modules_are_named.ensures.meant fitted) fitted.checked.resolved.main.id
           c.new-places.result.items c.push.new.self.items c.new.result refl c.new-places.ensures.items c.new.ensures.items c.in_ok-push.ensures.items,
       omega arith,
     )
@@ -13,13 +13,13 @@ loop-at-init c =
 pub returns-in_default : goal.returns-in_default
 returns-in_default c =
     let fitted = c.args.fitted.now in
-    all_listed fitted c.requires (c.names_are_declared_once.ensures fitted.checked.circuit c.requires.names) (c.modules_are_named.ensures.meant fitted) c.loop-at.places.items c.deref.result.now c.loop-at.at
+    all_listed fitted c.requires (c.names_are_declared_once.ensures fitted.checked.resolved c.requires.names) (c.modules_are_named.ensures.meant fitted) c.loop-at.places.items c.deref.result.now c.loop-at.at
     c.loop-at.invariant.0 c.deref.ensures.value (search rules)
 
 pub loop-at-preserved : goal.loop-at-preserved
 loop-at-preserved c =
     let fitted = c.args.fitted.now in (
-      more_listed fitted c.requires (c.names_are_declared_once.ensures fitted.checked.circuit c.requires.names) (c.modules_are_named.ensures.meant fitted) c.loop-at.places.items c.deref.result.now
+      more_listed fitted c.requires (c.names_are_declared_once.ensures fitted.checked.resolved c.requires.names) (c.modules_are_named.ensures.meant fitted) c.loop-at.places.items c.deref.result.now
           c.in_ok-next.next.items c.append.new.self.items c.loop-at.at c.in-Some.place.now c.loop-at.invariant.0 c.deref.ensures.value (search rules) (search rules) c.in_ok-next.ensures c.in_ok-append.ensures.items,
       one_more c.loop-at.places.items c.deref.result.now c.in_ok-next.next.items c.append.new.self.items c.loop-at.at c.deref.ensures.value (search rules) c.in_ok-append.ensures.items,
     )

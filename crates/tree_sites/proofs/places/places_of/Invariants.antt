@@ -6,4 +6,4 @@ use Rattle.tree_sites.proofs.places.places_of.Given as goal
 
 -- so many of the places that are listed have been left behind
 abbrev pub invariant-loop-at : goal.invariant-loop-at
-invariant-loop-at l = Listed (design_of l.fitted) ([], l.fitted.checked.circuit.main.id) (stands_of l.places.items) l.at × (l.at ≤ length l.places.items)
+invariant-loop-at l = Listed (design_of l.fitted) ([], l.fitted.checked.resolved.main.id) (stands_of l.places.items) l.at × (l.at ≤ length l.places.items)

@@ -11,7 +11,7 @@ use Rattle.width_gathering.proofs.gathering.rules_of.Goals as goal
 
 pub returns-clause-exact : goal.returns-clause-exact
 returns-clause-exact c =
-    let circuit = c.args.checked.now.circuit in
+    let circuit = c.args.checked.now.resolved in
     let all = map ported c.in_ok-modules.modules.items in
     let ports = c.with_ports.new.places.items in
     let listed = c.in_ok-instances.instances.entries in
@@ -23,4 +23,4 @@ returns-clause-exact c =
     (c.in_ok-walk_bodies.ensures.rules ∙ ap (λ l. l ++ (bodies_among listed (length ports) all).rules) c.new-3.ensures)
 
 pub returns-clause-rules : goal.returns-clause-rules
-returns-clause-rules c = subst (λ (r : Rules). AreRules (length r.places) r.rules) (sym (returns-clause-exact c)) (are_rules c.args.checked.now.circuit.modules)
+returns-clause-rules c = subst (λ (r : Rules). AreRules (length r.places) r.rules) (sym (returns-clause-exact c)) (are_rules c.args.checked.now.resolved.modules)
