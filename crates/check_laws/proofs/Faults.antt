@@ -15,7 +15,7 @@ use Rattle.fir_types.specs.declared.fir_type.Shape.{Shape}
 use Rattle.fir_types.specs.declared.fir_type.Shape.TheOpen.{Shape-F}
 use Rattle.fir_types.specs.declared.fir_type.Shape.TheViews.{out-Shape, roll-Shape}
 use Rattle.fir_types.specs.declared.fir_type.Shape.TheVariants as shape
-use Rattle.fir_types.specs.declared.fir_type.Shape.TheVariants.{outs-Unsigned, outs-Signed, outs-Clock, outs-Reset, outs-Bundle, outs-Vector, rolls-Unsigned, rolls-Signed, rolls-Clock, rolls-Reset, rolls-Bundle, rolls-Vector}
+use Rattle.fir_types.specs.declared.fir_type.Shape.TheVariants.{outs-Unsigned, outs-Signed, outs-Clock, outs-Reset, outs-AsyncReset, outs-Bundle, outs-Vector, rolls-Unsigned, rolls-Signed, rolls-Clock, rolls-Reset, rolls-AsyncReset, rolls-Bundle, rolls-Vector}
 use Rattle.fir_types.specs.declared.fir_type.Field.{Field}
 use Rattle.fir_types.specs.declared.name.Name.{Name}
 use Rattle.fir_types.specs.Passivity.{has_flip}
@@ -31,7 +31,7 @@ use Rattle.fir_tree.specs.declared.expr.Suffix.TheVariants as suffix
 use Rattle.fir_tree.specs.declared.expr.Suffix.TheVariants.{rolls-Field, rolls-At, rolls-Index}
 use Rattle.circuit_parts.specs.declared.part.Part.{Part}
 use Rattle.circuit_parts.specs.Kinds.{is_unsigned}
-use Rattle.circuit_parts.proofs.Shapes.{ShapeCase, shape_uint, shape_sint, shape_clock, shape_reset, shape_bundle, shape_vector, case_of}
+use Rattle.circuit_parts.proofs.Shapes.{ShapeCase, shape_uint, shape_sint, shape_clock, shape_reset, shape_async, shape_bundle, shape_vector, case_of}
 use Rattle.type_check.specs.declared.fault.TypeFault.{TypeFault}
 use Rattle.type_check.specs.declared.fault.TypeFault.TheVariants.{FieldUnknown, NotBundle, NotVector, IndexRange, IndexKind, OperandKind, NotEquivalent, ConditionKind, NotPassive, LiteralFit}
 use Rattle.type_check.specs.Parts.{Known, component, unless, when, one_fault}
@@ -89,6 +89,7 @@ rolled s x q = by (case_of s) where
   by (shape_sint w k) = k ∙ sym (rolls-Signed w) ∙ ap roll-Shape (sym (ap out-Shape k ∙ outs-Signed w) ∙ q)
   by (shape_clock k) = k ∙ sym rolls-Clock ∙ ap roll-Shape (sym (ap out-Shape k ∙ outs-Clock) ∙ q)
   by (shape_reset k) = k ∙ sym rolls-Reset ∙ ap roll-Shape (sym (ap out-Shape k ∙ outs-Reset) ∙ q)
+  by (shape_async k) = k ∙ sym rolls-AsyncReset ∙ ap roll-Shape (sym (ap out-Shape k ∙ outs-AsyncReset) ∙ q)
   by (shape_bundle fs k) = k ∙ sym (rolls-Bundle fs) ∙ ap roll-Shape (sym (ap out-Shape k ∙ outs-Bundle fs) ∙ q)
   by (shape_vector o n k) = k ∙ sym (rolls-Vector o n) ∙ ap roll-Shape (sym (ap out-Shape k ∙ outs-Vector o n) ∙ q)
 
@@ -298,6 +299,7 @@ module _ (known : Known) where
         by (Shape-F.Signed w) q h = none (not_bundle base.typ (Shape-F.Signed w) q refl) h
         by Shape-F.Clock q h = none (not_bundle base.typ Shape-F.Clock q refl) h
         by Shape-F.Reset q h = none (not_bundle base.typ Shape-F.Reset q refl) h
+        by Shape-F.AsyncReset q h = none (not_bundle base.typ Shape-F.AsyncReset q refl) h
         by (Shape-F.Vector e n) q h = none (not_bundle base.typ (Shape-F.Vector e n) q refl) h
 
   at_told : (bracket at : Place) (n : ℕ) (o : Option Part) (fault : TypeFault) → Contains (suffix_step (suffix.At bracket at n) known o).faults fault → StepTold (suffix.At bracket at n) o fault
@@ -320,6 +322,7 @@ module _ (known : Known) where
         by (Shape-F.Signed w) q h = none (not_vector base.typ (Shape-F.Signed w) q refl) h
         by Shape-F.Clock q h = none (not_vector base.typ Shape-F.Clock q refl) h
         by Shape-F.Reset q h = none (not_vector base.typ Shape-F.Reset q refl) h
+        by Shape-F.AsyncReset q h = none (not_vector base.typ Shape-F.AsyncReset q refl) h
         by (Shape-F.Bundle fs) q h = none (not_vector base.typ (Shape-F.Bundle fs) q refl) h
 
   pub index_any : (s : Suffix) (bracket : Place) (index : Expr) (o : Option Part) → s ≡ suffix.Index bracket index
@@ -347,6 +350,7 @@ module _ (known : Known) where
     by (Shape-F.Signed w) q h = none (not_vector base.typ (Shape-F.Signed w) q refl) h
     by Shape-F.Clock q h = none (not_vector base.typ Shape-F.Clock q refl) h
     by Shape-F.Reset q h = none (not_vector base.typ Shape-F.Reset q refl) h
+    by Shape-F.AsyncReset q h = none (not_vector base.typ Shape-F.AsyncReset q refl) h
     by (Shape-F.Bundle fs) q h = none (not_vector base.typ (Shape-F.Bundle fs) q refl) h
 
   index_told : (bracket : Place) (index : Expr) → ExprTold index → (o : Option Part) (fault : TypeFault) → Contains (suffix_step (suffix.Index bracket index) known o).faults fault
@@ -495,6 +499,7 @@ module _ (known : Known) where
         by (Shape-F.Signed w) q = head_in (NotBundle name.place) []
         by Shape-F.Clock q = head_in (NotBundle name.place) []
         by Shape-F.Reset q = head_in (NotBundle name.place) []
+        by Shape-F.AsyncReset q = head_in (NotBundle name.place) []
         by (Shape-F.Vector e n) q = head_in (NotBundle name.place) []
   step_found_at_fault {base} {s} {fault} (no_field name fs is k q) =
       subst (λ (j : Judgement). Contains j.faults fault) (sym (field_is known s name base is))
@@ -508,6 +513,7 @@ module _ (known : Known) where
         by (Shape-F.Signed w) q = head_in (NotVector bracket) []
         by Shape-F.Clock q = head_in (NotVector bracket) []
         by Shape-F.Reset q = head_in (NotVector bracket) []
+        by Shape-F.AsyncReset q = head_in (NotVector bracket) []
         by (Shape-F.Bundle fs) q = head_in (NotVector bracket) []
   step_found_at_fault {base} {s} {fault} (past_the_end bracket at n e m is k past) =
       subst (λ (j : Judgement). Contains j.faults fault) (sym (at_is known s bracket at n base is))
@@ -523,6 +529,7 @@ module _ (known : Known) where
         by (Shape-F.Signed w) q = head_in (NotVector bracket) []
         by Shape-F.Clock q = head_in (NotVector bracket) []
         by Shape-F.Reset q = head_in (NotVector bracket) []
+        by Shape-F.AsyncReset q = head_in (NotVector bracket) []
         by (Shape-F.Bundle fs) q = head_in (NotVector bracket) []
   step_found_at_fault {base} {s} {fault} (no_number bracket index inner e m is its k isnt) =
       subst (λ (j : Judgement). Contains j.faults fault) (sym (index_is known s bracket index base is))

@@ -12,7 +12,7 @@ use Rattle.fir_types.specs.declared.fir_type.Shape.TheOpen.{Shape-F}
 use Rattle.fir_types.specs.declared.fir_type.Shape.TheFolds.{map-Shape}
 use Rattle.fir_types.specs.declared.fir_type.Shape.TheViews.{roll-Shape, roll-Field, roll-FirType}
 use Rattle.fir_types.specs.declared.fir_type.Shape.TheVariants as shape
-use Rattle.fir_types.specs.declared.fir_type.Shape.TheVariants.{rolls-Unsigned, rolls-Signed, rolls-Clock, rolls-Reset, rolls-Bundle, rolls-Vector}
+use Rattle.fir_types.specs.declared.fir_type.Shape.TheVariants.{rolls-Unsigned, rolls-Signed, rolls-Clock, rolls-Reset, rolls-AsyncReset, rolls-Bundle, rolls-Vector}
 use Rattle.fir_types.specs.declared.fir_type.Field.{Field, fold-Field}
 use Rattle.fir_types.specs.declared.name.Name.{Name}
 use Rattle.fir_types.specs.declared.memory.Memory.{Memory}
@@ -99,6 +99,9 @@ twice-clock t e = grind (arith, common_steps, the_lemmas)
 twice-reset : (t : FirType) → t.shape ≡ shape.Reset → twice_in t ≡ []
 twice-reset t e = grind (arith, common_steps, the_lemmas)
 
+twice-async : (t : FirType) → t.shape ≡ shape.AsyncReset → twice_in t ≡ []
+twice-async t e = grind (arith, common_steps, the_lemmas)
+
 twice-vector : (t e : FirType) (n : ℕ) → t.shape ≡ shape.Vector e n → twice_in t ≡ twice_in e
 twice-vector t e n h = grind (arith, common_steps, the_lemmas)
 
@@ -126,6 +129,7 @@ shape_no (Shape-F.Unsigned w) = subst ShapeNo (sym (rolls-Unsigned w)) (λ place
 shape_no (Shape-F.Signed w) = subst ShapeNo (sym (rolls-Signed w)) (λ place. subst No (sym (twice-signed (record { place = place; shape = shape.Signed w }) w refl)) no_nothing)
 shape_no Shape-F.Clock = subst ShapeNo (sym rolls-Clock) (λ place. subst No (sym (twice-clock (record { place = place; shape = shape.Clock }) refl)) no_nothing)
 shape_no Shape-F.Reset = subst ShapeNo (sym rolls-Reset) (λ place. subst No (sym (twice-reset (record { place = place; shape = shape.Reset }) refl)) no_nothing)
+shape_no Shape-F.AsyncReset = subst ShapeNo (sym rolls-AsyncReset) (λ place. subst No (sym (twice-async (record { place = place; shape = shape.AsyncReset }) refl)) no_nothing)
 shape_no (Shape-F.Bundle ps) = subst ShapeNo (sym (rolls-Bundle (map (λ e. e.0) ps))) (λ place.
     let fs : List Field = map (λ e. e.0) ps in
     let t : FirType = record { place = place; shape = shape.Bundle (map (λ e. e.0) ps) } in

@@ -40,6 +40,7 @@ field_quiet name base (Shape-F.Unsigned w) = refl
 field_quiet name base (Shape-F.Signed w) = refl
 field_quiet name base Shape-F.Clock = refl
 field_quiet name base Shape-F.Reset = refl
+field_quiet name base Shape-F.AsyncReset = refl
 field_quiet name base (Shape-F.Vector e n) = refl
 
 at_quiet : (bracket at : Place) (n : ℕ) (base : Part) (x : Shape-F Shape Field FirType) → (element_step bracket at n base x).nodes ≡ []
@@ -51,6 +52,7 @@ at_quiet bracket at n base (Shape-F.Unsigned w) = refl
 at_quiet bracket at n base (Shape-F.Signed w) = refl
 at_quiet bracket at n base Shape-F.Clock = refl
 at_quiet bracket at n base Shape-F.Reset = refl
+at_quiet bracket at n base Shape-F.AsyncReset = refl
 at_quiet bracket at n base (Shape-F.Bundle fs) = refl
 
 picked_quiet : (bracket at : Place) (inner base : Part) (x : Shape-F Shape Field FirType) → (index_step bracket at inner base x).nodes ≡ []
@@ -62,6 +64,7 @@ picked_quiet bracket at inner base (Shape-F.Unsigned w) = refl
 picked_quiet bracket at inner base (Shape-F.Signed w) = refl
 picked_quiet bracket at inner base Shape-F.Clock = refl
 picked_quiet bracket at inner base Shape-F.Reset = refl
+picked_quiet bracket at inner base Shape-F.AsyncReset = refl
 picked_quiet bracket at inner base (Shape-F.Bundle fs) = refl
 
 index_quiet : (bracket at : Place) (i o : Option Part) → (from_index bracket at i o).nodes ≡ []

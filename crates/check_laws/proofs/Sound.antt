@@ -62,6 +62,7 @@ field_sound name base (Shape-F.Unsigned w) = unsound (NotBundle name.place) (fie
 field_sound name base (Shape-F.Signed w) = unsound (NotBundle name.place) (field_step name base (Shape-F.Signed w)) refl
 field_sound name base Shape-F.Clock = unsound (NotBundle name.place) (field_step name base Shape-F.Clock) refl
 field_sound name base Shape-F.Reset = unsound (NotBundle name.place) (field_step name base Shape-F.Reset) refl
+field_sound name base Shape-F.AsyncReset = unsound (NotBundle name.place) (field_step name base Shape-F.AsyncReset) refl
 field_sound name base (Shape-F.Vector e n) = unsound (NotBundle name.place) (field_step name base (Shape-F.Vector e n)) refl
 
 at_sound : (bracket at : Place) (n : ℕ) (base : Part) (x : Shape-F Shape Field FirType) → Sound (element_step bracket at n base x)
@@ -73,6 +74,7 @@ at_sound bracket at n base (Shape-F.Unsigned w) = unsound (NotVector bracket) (e
 at_sound bracket at n base (Shape-F.Signed w) = unsound (NotVector bracket) (element_step bracket at n base (Shape-F.Signed w)) refl
 at_sound bracket at n base Shape-F.Clock = unsound (NotVector bracket) (element_step bracket at n base Shape-F.Clock) refl
 at_sound bracket at n base Shape-F.Reset = unsound (NotVector bracket) (element_step bracket at n base Shape-F.Reset) refl
+at_sound bracket at n base Shape-F.AsyncReset = unsound (NotVector bracket) (element_step bracket at n base Shape-F.AsyncReset) refl
 at_sound bracket at n base (Shape-F.Bundle fs) = unsound (NotVector bracket) (element_step bracket at n base (Shape-F.Bundle fs)) refl
 
 picked_sound : (bracket at : Place) (inner base : Part) (x : Shape-F Shape Field FirType) → Sound (index_step bracket at inner base x)
@@ -84,6 +86,7 @@ picked_sound bracket at inner base (Shape-F.Unsigned w) = unsound (NotVector bra
 picked_sound bracket at inner base (Shape-F.Signed w) = unsound (NotVector bracket) (index_step bracket at inner base (Shape-F.Signed w)) refl
 picked_sound bracket at inner base Shape-F.Clock = unsound (NotVector bracket) (index_step bracket at inner base Shape-F.Clock) refl
 picked_sound bracket at inner base Shape-F.Reset = unsound (NotVector bracket) (index_step bracket at inner base Shape-F.Reset) refl
+picked_sound bracket at inner base Shape-F.AsyncReset = unsound (NotVector bracket) (index_step bracket at inner base Shape-F.AsyncReset) refl
 picked_sound bracket at inner base (Shape-F.Bundle fs) = unsound (NotVector bracket) (index_step bracket at inner base (Shape-F.Bundle fs)) refl
 
 node_sound : (place : Place) (faults : List TypeFault) (typ : FirType) (js : List Judgement) → Sound (node place faults typ js)

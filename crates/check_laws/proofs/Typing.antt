@@ -11,7 +11,7 @@ use Rattle.prim_ops.specs.declared.operation.PrimOp.{PrimOp}
 use Rattle.prim_ops.specs.Kinds.{row_kind}
 use Rattle.fir_types.specs.declared.fir_type.FirType.{FirType, the_lemmas as type_lemmas}
 use Rattle.fir_types.specs.declared.fir_type.Shape.TheViews.{out-Shape}
-use Rattle.fir_types.specs.declared.fir_type.Shape.TheVariants.{outs-Unsigned, outs-Signed, outs-Clock, outs-Reset, outs-Bundle, outs-Vector}
+use Rattle.fir_types.specs.declared.fir_type.Shape.TheVariants.{outs-Unsigned, outs-Signed, outs-Clock, outs-Reset, outs-AsyncReset, outs-Bundle, outs-Vector}
 use Rattle.fir_types.specs.declared.fir_type.Field.{Field}
 use Rattle.fir_types.specs.declared.name.Name.{Name}
 use Rattle.fir_types.specs.Equivalence.{Equivalent, IsUnsigned, a_uint, a_reset}
@@ -29,7 +29,7 @@ use Rattle.fir_tree.specs.declared.expr.Suffix.TheVariants.{rolls-Field, rolls-A
 use Rattle.circuit_parts.specs.declared.part.Part.{Part}
 use Rattle.circuit_parts.specs.Parts.{source_of}
 use Rattle.circuit_parts.specs.Kinds.{sign_of, is_unsigned, ground, sign_or_unsigned}
-use Rattle.circuit_parts.proofs.Shapes.{ShapeCase, shape_uint, shape_sint, shape_clock, shape_reset, shape_bundle, shape_vector, case_of}
+use Rattle.circuit_parts.proofs.Shapes.{ShapeCase, shape_uint, shape_sint, shape_clock, shape_reset, shape_async, shape_bundle, shape_vector, case_of}
 use Rattle.type_check.specs.declared.fault.TypeFault.{TypeFault}
 use Rattle.type_check.specs.declared.fault.TypeFault.TheVariants.{OperandKind, NotEquivalent, ConditionKind, NotPassive, LiteralFit}
 use Rattle.type_check.specs.Parts.{Known, component, unless, when}
@@ -99,6 +99,7 @@ unsigned_is t y = by (case_of t.shape) where
   by : ShapeCase t.shape → IsUnsigned t
   by (shape_uint w e) = a_uint w e
   by (shape_reset e) = a_reset e
+  by (shape_async e) = a_reset e
   by (shape_sint w e) = absurd (grind (arith, common_steps, type_lemmas))
   by (shape_clock e) = absurd (grind (arith, common_steps, type_lemmas))
   by (shape_bundle fs e) = absurd (grind (arith, common_steps, type_lemmas))
@@ -220,6 +221,7 @@ module _ (known : Known) where
   field_by name base next (shape_sint w k) e = absurd (none_some (sym (ap (λ s. (field_step name base s).part) (ap out-Shape k ∙ outs-Signed w)) ∙ e))
   field_by name base next (shape_clock k) e = absurd (none_some (sym (ap (λ s. (field_step name base s).part) (ap out-Shape k ∙ outs-Clock)) ∙ e))
   field_by name base next (shape_reset k) e = absurd (none_some (sym (ap (λ s. (field_step name base s).part) (ap out-Shape k ∙ outs-Reset)) ∙ e))
+  field_by name base next (shape_async k) e = absurd (none_some (sym (ap (λ s. (field_step name base s).part) (ap out-Shape k ∙ outs-AsyncReset)) ∙ e))
   field_by name base next (shape_vector o n k) e = absurd (none_some (sym (ap (λ s. (field_step name base s).part) (ap out-Shape k ∙ outs-Vector o n)) ∙ e))
 
   at_by : (bracket at : Place) (n : ℕ) (base next : Part) → ShapeCase base.typ.shape → (element_step bracket at n base (out-Shape base.typ.shape)).part ≡ Some next → Steps known base (suffix.At bracket at n) next
@@ -231,6 +233,7 @@ module _ (known : Known) where
   at_by bracket at n base next (shape_sint w k) e = absurd (none_some (sym (ap (λ s. (element_step bracket at n base s).part) (ap out-Shape k ∙ outs-Signed w)) ∙ e))
   at_by bracket at n base next (shape_clock k) e = absurd (none_some (sym (ap (λ s. (element_step bracket at n base s).part) (ap out-Shape k ∙ outs-Clock)) ∙ e))
   at_by bracket at n base next (shape_reset k) e = absurd (none_some (sym (ap (λ s. (element_step bracket at n base s).part) (ap out-Shape k ∙ outs-Reset)) ∙ e))
+  at_by bracket at n base next (shape_async k) e = absurd (none_some (sym (ap (λ s. (element_step bracket at n base s).part) (ap out-Shape k ∙ outs-AsyncReset)) ∙ e))
   at_by bracket at n base next (shape_bundle fs k) e = absurd (none_some (sym (ap (λ s. (element_step bracket at n base s).part) (ap out-Shape k ∙ outs-Bundle fs)) ∙ e))
 
   index_by : (bracket place : Place) (index : Expr) (inner base next : Part) → IsPart known index inner → ShapeCase base.typ.shape
@@ -243,6 +246,7 @@ module _ (known : Known) where
   index_by bracket place index inner base next is (shape_sint w k) e = absurd (none_some (sym (ap (λ s. (index_step bracket place inner base s).part) (ap out-Shape k ∙ outs-Signed w)) ∙ e))
   index_by bracket place index inner base next is (shape_clock k) e = absurd (none_some (sym (ap (λ s. (index_step bracket place inner base s).part) (ap out-Shape k ∙ outs-Clock)) ∙ e))
   index_by bracket place index inner base next is (shape_reset k) e = absurd (none_some (sym (ap (λ s. (index_step bracket place inner base s).part) (ap out-Shape k ∙ outs-Reset)) ∙ e))
+  index_by bracket place index inner base next is (shape_async k) e = absurd (none_some (sym (ap (λ s. (index_step bracket place inner base s).part) (ap out-Shape k ∙ outs-AsyncReset)) ∙ e))
   index_by bracket place index inner base next is (shape_bundle fs k) e = absurd (none_some (sym (ap (λ s. (index_step bracket place inner base s).part) (ap out-Shape k ∙ outs-Bundle fs)) ∙ e))
 
   index_of : (bracket : Place) (index : Expr) → ExprIs index → (base next : Part) → (suffix_step (suffix.Index bracket index) known (Some base)).part ≡ Some next

@@ -12,14 +12,14 @@ use Rattle.fir_types.specs.declared.fir_type.Shape.TheOpen.{Shape-F}
 use Rattle.fir_types.specs.declared.fir_type.Shape.TheFolds.{map-Shape}
 use Rattle.fir_types.specs.declared.fir_type.Shape.TheViews.{roll-Shape, roll-Field, roll-FirType, out-Shape}
 use Rattle.fir_types.specs.declared.fir_type.Shape.TheVariants as shape
-use Rattle.fir_types.specs.declared.fir_type.Shape.TheVariants.{rolls-Unsigned, rolls-Signed, rolls-Clock, rolls-Reset, rolls-Bundle, rolls-Vector, outs-Unsigned, outs-Signed, outs-Clock, outs-Reset, outs-Bundle, outs-Vector}
+use Rattle.fir_types.specs.declared.fir_type.Shape.TheVariants.{rolls-Unsigned, rolls-Signed, rolls-Clock, rolls-Reset, rolls-AsyncReset, rolls-Bundle, rolls-Vector, outs-Unsigned, outs-Signed, outs-Clock, outs-Reset, outs-AsyncReset, outs-Bundle, outs-Vector}
 use Rattle.fir_types.specs.declared.fir_type.Field.{Field, fold-Field}
 use Rattle.fir_types.specs.declared.leaf.TypeLeaf.{TypeLeaf}
 use Rattle.fir_types.specs.declared.leaf.PathStep.{PathStep}
 use Rattle.fir_types.specs.declared.leaf.PathStep.TheVariants as step
 use Rattle.fir_types.specs.Leaves.{leaves, field_leaves, elements, under}
 use Rattle.fir_types.proofs.Layers.{leaves-bundle, leaves-vector, leaves-field}
-use Rattle.circuit_parts.proofs.Shapes.{ShapeCase, shape_uint, shape_sint, shape_clock, shape_reset, shape_bundle, shape_vector, case_of}
+use Rattle.circuit_parts.proofs.Shapes.{ShapeCase, shape_uint, shape_sint, shape_clock, shape_reset, shape_async, shape_bundle, shape_vector, case_of}
 use Rattle.fir_meaning.specs.Components.{width_of_leaf}
 use Rattle.fir_meaning.specs.Values.{field_of_shape, element_of_shape, length_of_shape, vector_length}
 use Rattle.fir_meaning.specs.WellTyped.{is_narrow, narrow_layer}
@@ -64,6 +64,7 @@ field_there typ name part e = by (case_of typ.shape) where
   by (shape_sint w is) = absurd (let f = sym (ap (λ s. field_of_shape name (out-Shape s)) is ∙ ap (field_of_shape name) (outs-Signed w)) ∙ e in cc)
   by (shape_clock is) = absurd (let f = sym (ap (λ s. field_of_shape name (out-Shape s)) is ∙ ap (field_of_shape name) outs-Clock) ∙ e in cc)
   by (shape_reset is) = absurd (let f = sym (ap (λ s. field_of_shape name (out-Shape s)) is ∙ ap (field_of_shape name) outs-Reset) ∙ e in cc)
+  by (shape_async is) = absurd (let f = sym (ap (λ s. field_of_shape name (out-Shape s)) is ∙ ap (field_of_shape name) outs-AsyncReset) ∙ e in cc)
   by (shape_bundle fields is) =
       let found : option_map (λ f. f.typ) (find (λ f. f.name.id == name) fields) ≡ Some part
       = sym (ap (λ s. field_of_shape name (out-Shape s)) is ∙ ap (field_of_shape name) (outs-Bundle fields)) ∙ e in
@@ -78,6 +79,7 @@ element_there typ part e = by (case_of typ.shape) where
   by (shape_sint w is) = absurd (let f = sym (ap (λ s. element_of_shape (out-Shape s)) is ∙ ap element_of_shape (outs-Signed w)) ∙ e in cc)
   by (shape_clock is) = absurd (let f = sym (ap (λ s. element_of_shape (out-Shape s)) is ∙ ap element_of_shape outs-Clock) ∙ e in cc)
   by (shape_reset is) = absurd (let f = sym (ap (λ s. element_of_shape (out-Shape s)) is ∙ ap element_of_shape outs-Reset) ∙ e in cc)
+  by (shape_async is) = absurd (let f = sym (ap (λ s. element_of_shape (out-Shape s)) is ∙ ap element_of_shape outs-AsyncReset) ∙ e in cc)
   by (shape_bundle fields is) = absurd (let f = sym (ap (λ s. element_of_shape (out-Shape s)) is ∙ ap element_of_shape (outs-Bundle fields)) ∙ e in cc)
   by (shape_vector element n is) =
       let same : element ≡ part = some_same (sym (ap (λ s. element_of_shape (out-Shape s)) is ∙ ap element_of_shape (outs-Vector element n)) ∙ e) in
@@ -209,12 +211,16 @@ clock_narrow place = ground_narrow (record { place = place; shape = shape.Clock 
 reset_narrow : (place : Place) → Narrow (record { place = place; shape = shape.Reset })
 reset_narrow place = ground_narrow (record { place = place; shape = shape.Reset }) (grind (arith, common_steps, the_lemmas)) (λ h. grind (arith, common_steps, the_lemmas))
 
+async_narrow : (place : Place) → Narrow (record { place = place; shape = shape.AsyncReset })
+async_narrow place = ground_narrow (record { place = place; shape = shape.AsyncReset }) (grind (arith, common_steps, the_lemmas)) (λ h. grind (arith, common_steps, the_lemmas))
+
 shape_narrow : (y : Shape-F ((s : Shape) × NarrowShape s) ((f : Field) × NarrowField f) ((t : FirType) × Narrow t))
     → NarrowShape (roll-Shape (map-Shape _ _ _ Shape Field FirType (λ e. e.0) (λ e. e.0) (λ e. e.0) y))
 shape_narrow (Shape-F.Unsigned w) = subst NarrowShape (sym (rolls-Unsigned w)) (λ place. unsigned_narrow place w)
 shape_narrow (Shape-F.Signed w) = subst NarrowShape (sym (rolls-Signed w)) (λ place. signed_narrow place w)
 shape_narrow Shape-F.Clock = subst NarrowShape (sym rolls-Clock) clock_narrow
 shape_narrow Shape-F.Reset = subst NarrowShape (sym rolls-Reset) reset_narrow
+shape_narrow Shape-F.AsyncReset = subst NarrowShape (sym rolls-AsyncReset) async_narrow
 shape_narrow (Shape-F.Bundle ps) = subst NarrowShape (sym (rolls-Bundle (map (λ e. e.0) ps))) (λ place h l i.
     let fs : List Field = map (λ e. e.0) ps in
     let t : FirType = record { place = place; shape = shape.Bundle (map (λ e. e.0) ps) } in

@@ -1,5 +1,5 @@
 -- Kinds of types (FIRRTL specification 3.0, "Ground Types"), and the numbers that a literal holds ("Constant Integer Expressions").
-use Rattle.std.specs.Prelude.{ℕ, zero, suc, ◌^◌, Bool, true, false, ◌&&◌, [], Option, Some, None, ℤ, pos, neg_ℤ, int_le, int_lt}
+use Rattle.std.specs.Prelude.{ℕ, zero, suc, ◌^◌, Bool, true, false, ◌&&◌, ◌||◌, [], Option, Some, None, ℤ, pos, neg_ℤ, int_le, int_lt}
 use Rattle.bit_words.specs.declared.value.Kind.{Kind as Sign}
 use Rattle.bit_words.specs.declared.value.Kind.TheVariants.{Unsigned, Signed}
 use Rattle.place_text.specs.declared.place.Place.{Place}
@@ -35,6 +35,18 @@ is_clock_layer _ = false
 -- whether a type is a `Clock`
 abbrev pub is_a_clock : FirType → Bool
 is_a_clock typ = is_clock_layer (out-Shape typ.shape)
+
+abbrev pub is_async_layer : Shape-F Shape Field FirType → Bool
+is_async_layer Shape-F.AsyncReset = true
+is_async_layer _ = false
+
+-- whether a type is an `AsyncReset`
+abbrev pub is_async : FirType → Bool
+is_async typ = is_async_layer (out-Shape typ.shape)
+
+-- whether a register may have a reset of this type: a `UInt` or an `AsyncReset`
+abbrev pub is_reset : FirType → Bool
+is_reset typ = is_unsigned typ || is_async typ
 
 -- a type of this kind
 abbrev pub ground : Place → Sign → Option ℕ → FirType

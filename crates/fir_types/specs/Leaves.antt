@@ -91,6 +91,20 @@ is_clock leaf = is_clock_shape (out-Shape leaf.typ.shape)
 abbrev pub has_clock : FirType → Bool
 has_clock typ = list_any is_clock (leaves typ)
 
+-- whether a type is a signal of its own, which carries no number: a Clock or an AsyncReset
+abbrev pub is_signal_shape : Shape-F Shape Field FirType → Bool
+is_signal_shape Shape-F.Clock = true
+is_signal_shape Shape-F.AsyncReset = true
+is_signal_shape _ = false
+
+-- whether a leaf is one
+abbrev pub is_signal : TypeLeaf → Bool
+is_signal leaf = is_signal_shape (out-Shape leaf.typ.shape)
+
+-- whether a leaf of a type is one
+abbrev pub has_signal : FirType → Bool
+has_signal typ = list_any is_signal (leaves typ)
+
 -- where a leaf stands, and whether it is turned round
 abbrev pub way_of : TypeLeaf → List PathStep × Bool
 way_of leaf = (leaf.path, leaf.flip)

@@ -51,6 +51,7 @@ shape_step (Shape-F.Unsigned w) ws = grind (arith, common_steps, the_lemmas)
 shape_step (Shape-F.Signed w) ws = grind (arith, common_steps, the_lemmas)
 shape_step Shape-F.Clock ws = grind (arith, common_steps, the_lemmas)
 shape_step Shape-F.Reset ws = grind (arith, common_steps, the_lemmas)
+shape_step Shape-F.AsyncReset ws = grind (arith, common_steps, the_lemmas)
 shape_step (Shape-F.Bundle fields) ws =
     let a = any_of (fields_taking (map (λ e. e.0) fields) ws).0 in
     let b = fields_free fields ws in

@@ -16,6 +16,7 @@ reset_layer (Shape-F.Unsigned width) = false
 reset_layer (Shape-F.Signed width) = false
 reset_layer Shape-F.Clock = false
 reset_layer Shape-F.Reset = true
+reset_layer Shape-F.AsyncReset = false
 reset_layer (Shape-F.Bundle fields) = list_any (λ f. f) fields
 reset_layer (Shape-F.Vector element n) = element
 

@@ -14,7 +14,7 @@ use Rattle.fir_types.specs.declared.fir_type.Shape.TheOpen.{Shape-F, Field-F, Fi
 use Rattle.fir_types.specs.declared.fir_type.Shape.TheFolds.{map-Shape, map-Field, map-FirType}
 use Rattle.fir_types.specs.declared.fir_type.Shape.TheViews.{roll-Shape, roll-Field, roll-FirType}
 use Rattle.fir_types.specs.declared.fir_type.Shape.TheVariants as shape
-use Rattle.fir_types.specs.declared.fir_type.Shape.TheVariants.{rolls-Unsigned, rolls-Signed, rolls-Clock, rolls-Reset, rolls-Bundle, rolls-Vector}
+use Rattle.fir_types.specs.declared.fir_type.Shape.TheVariants.{rolls-Unsigned, rolls-Signed, rolls-Clock, rolls-Reset, rolls-AsyncReset, rolls-Bundle, rolls-Vector}
 use Rattle.fir_types.specs.declared.fir_type.Field.{Field}
 use Rattle.fir_types.specs.declared.leaf.TypeLeaf.{TypeLeaf}
 use Rattle.fir_types.specs.declared.leaf.PathStep.{PathStep}
@@ -117,6 +117,7 @@ shape_step (Shape-F.Unsigned w) = record { rest = λ ws. grind (arith, common_st
 shape_step (Shape-F.Signed w) = record { rest = λ ws. grind (arith, common_steps, the_lemmas, behind_is ws); own = λ ws. grind (arith, common_steps, the_lemmas, first_taken ws) }
 shape_step Shape-F.Clock = record { rest = λ ws. grind (arith, common_steps, the_lemmas); own = λ ws. grind (arith, common_steps, the_lemmas) }
 shape_step Shape-F.Reset = record { rest = λ ws. grind (arith, common_steps, the_lemmas, behind_is ws); own = λ ws. grind (arith, common_steps, the_lemmas, first_taken ws) }
+shape_step Shape-F.AsyncReset = record { rest = λ ws. grind (arith, common_steps, the_lemmas, behind_is ws); own = λ ws. grind (arith, common_steps, the_lemmas, first_taken ws) }
 shape_step (Shape-F.Bundle fields) = record {
   rest = λ ws. grind (arith, common_steps, the_lemmas, flat_map-map, fields_rest fields ws);
   own = λ ws. grind (arith, common_steps, the_lemmas, flat_map-map, fields_own fields ws);
@@ -173,6 +174,9 @@ filled-clock t h ws = grind (arith, common_steps, the_lemmas)
 pub filled-reset : (t : FirType) → t.shape ≡ shape.Reset → (ws : List Width) → (filled t ws).shape ≡ shape.Unsigned (first_number ws)
 filled-reset t h ws = grind (arith, common_steps, the_lemmas)
 
+pub filled-async : (t : FirType) → t.shape ≡ shape.AsyncReset → (ws : List Width) → (filled t ws).shape ≡ shape.Unsigned (first_number ws)
+filled-async t h ws = grind (arith, common_steps, the_lemmas)
+
 pub filled-place : (t : FirType) (ws : List Width) → (filled t ws).place ≡ t.place
 filled-place t ws = grind (arith, common_steps, the_lemmas)
 
@@ -198,6 +202,9 @@ size-clock t e = grind (arith, common_steps, the_lemmas)
 
 pub size-reset : (t : FirType) → t.shape ≡ shape.Reset → size t ≡ 1
 size-reset t e = grind (arith, common_steps, the_lemmas)
+
+pub size-async : (t : FirType) → t.shape ≡ shape.AsyncReset → size t ≡ 1
+size-async t e = grind (arith, common_steps, the_lemmas)
 
 pub size-fields : (f : Field) (fs : List Field) → length (flat_map field_spots (f ∷ fs)) ≡ size f.typ + length (flat_map field_spots fs)
 size-fields f fs = length-append (field_spots f) (flat_map field_spots fs) ∙ ap (λ n. n + length (flat_map field_spots fs)) (size-field f)
@@ -226,6 +233,8 @@ shape_alike (Shape-F.Signed w) = subst ShapeAlike (sym (rolls-Signed w)) (λ pla
 shape_alike Shape-F.Clock = subst ShapeAlike (sym rolls-Clock) (λ place ws. clocks refl (filled-clock (record { place = place; shape = shape.Clock }) refl ws))
 shape_alike Shape-F.Reset = subst ShapeAlike (sym rolls-Reset) (λ place ws.
     unsigned (a_reset refl) (a_uint (first_number ws) (filled-reset (record { place = place; shape = shape.Reset }) refl ws)))
+shape_alike Shape-F.AsyncReset = subst ShapeAlike (sym rolls-AsyncReset) (λ place ws.
+    unsigned (a_reset refl) (a_uint (first_number ws) (filled-async (record { place = place; shape = shape.AsyncReset }) refl ws)))
 shape_alike (Shape-F.Bundle ps) = subst ShapeAlike (sym (rolls-Bundle (map (λ e. e.0) ps))) (λ place ws.
     let fs : List Field = map (λ e. e.0) ps in
     bundles fs (filled_fields fs ws) refl (filled-bundle (record { place = place; shape = shape.Bundle (map (λ e. e.0) ps) }) fs refl ws) (fields_alike ps ws))
@@ -494,6 +503,9 @@ shape_narrow Shape-F.Clock = subst ShapeNarrow (sym rolls-Clock) (λ place ws h.
 shape_narrow Shape-F.Reset = subst ShapeNarrow (sym rolls-Reset) (λ place ws h.
     let t : FirType = record { place = place; shape = shape.Reset } in
     is_narrow-unsigned (filled t ws) (first_number ws) (filled-reset t refl ws) ∙ le-leb (first_width ws) 128 (first_narrow ws h))
+shape_narrow Shape-F.AsyncReset = subst ShapeNarrow (sym rolls-AsyncReset) (λ place ws h.
+    let t : FirType = record { place = place; shape = shape.AsyncReset } in
+    is_narrow-unsigned (filled t ws) (first_number ws) (filled-async t refl ws) ∙ le-leb (first_width ws) 128 (first_narrow ws h))
 shape_narrow (Shape-F.Bundle ps) = subst ShapeNarrow (sym (rolls-Bundle (map (λ e. e.0) ps))) (λ place ws h.
     let fs : List Field = map (λ e. e.0) ps in
     let t : FirType = record { place = place; shape = shape.Bundle (map (λ e. e.0) ps) } in

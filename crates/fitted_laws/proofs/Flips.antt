@@ -12,7 +12,7 @@ use Rattle.fir_types.specs.declared.fir_type.Shape.TheOpen.{Shape-F}
 use Rattle.fir_types.specs.declared.fir_type.Shape.TheFolds.{map-Shape}
 use Rattle.fir_types.specs.declared.fir_type.Shape.TheViews.{roll-Shape, roll-Field, roll-FirType}
 use Rattle.fir_types.specs.declared.fir_type.Shape.TheVariants as shape
-use Rattle.fir_types.specs.declared.fir_type.Shape.TheVariants.{rolls-Unsigned, rolls-Signed, rolls-Clock, rolls-Reset, rolls-Bundle, rolls-Vector}
+use Rattle.fir_types.specs.declared.fir_type.Shape.TheVariants.{rolls-Unsigned, rolls-Signed, rolls-Clock, rolls-Reset, rolls-AsyncReset, rolls-Bundle, rolls-Vector}
 use Rattle.fir_types.specs.declared.fir_type.Field.{Field}
 use Rattle.fir_types.specs.Passivity.{has_flip, field_has_flip}
 use Rattle.fir_types.specs.Equivalence.{Equivalent, SameFields, IsUnsigned, IsSigned, unsigned, signed, clocks, vectors, bundles, no_fields, same_field, a_uint, a_sint, a_reset}
@@ -76,6 +76,9 @@ one-signed t w e = grind (arith, common_steps, the_lemmas)
 one-reset : (t : FirType) → t.shape ≡ shape.Reset → spots t ≡ record { flip = false; width = Some 1 } ∷ []
 one-reset t e = grind (arith, common_steps, the_lemmas)
 
+one-async : (t : FirType) → t.shape ≡ shape.AsyncReset → spots t ≡ record { flip = false; width = Some 1 } ∷ []
+one-async t e = grind (arith, common_steps, the_lemmas)
+
 one-clock : (t : FirType) → t.shape ≡ shape.Clock → spots t ≡ []
 one-clock t e = grind (arith, common_steps, the_lemmas)
 
@@ -85,6 +88,7 @@ shape_straight (Shape-F.Unsigned w) = subst ShapeStraight (sym (rolls-Unsigned w
 shape_straight (Shape-F.Signed w) = subst ShapeStraight (sym (rolls-Signed w)) (λ place h. subst (Each NoFlip) (sym (one-signed (record { place = place; shape = shape.Signed w }) w refl)) (refl, tt))
 shape_straight Shape-F.Clock = subst ShapeStraight (sym rolls-Clock) (λ place h. subst (Each NoFlip) (sym (one-clock (record { place = place; shape = shape.Clock }) refl)) tt)
 shape_straight Shape-F.Reset = subst ShapeStraight (sym rolls-Reset) (λ place h. subst (Each NoFlip) (sym (one-reset (record { place = place; shape = shape.Reset }) refl)) (refl, tt))
+shape_straight Shape-F.AsyncReset = subst ShapeStraight (sym rolls-AsyncReset) (λ place h. subst (Each NoFlip) (sym (one-async (record { place = place; shape = shape.AsyncReset }) refl)) (refl, tt))
 shape_straight (Shape-F.Bundle ps) = subst ShapeStraight (sym (rolls-Bundle (map (λ e. e.0) ps))) (λ place h.
     let fs : List Field = map (λ e. e.0) ps in
     let t : FirType = record { place = place; shape = shape.Bundle (map (λ e. e.0) ps) } in
@@ -194,6 +198,7 @@ shape_small (Shape-F.Signed w) = subst ShapeSmall (sym (rolls-Signed w)) (λ pla
     is_narrow-signed t w refl ∙ le-leb (width_or_none w) 128 ((subst (Each IsSmall) (one-signed t w refl) h).0))
 shape_small Shape-F.Clock = subst ShapeSmall (sym rolls-Clock) (λ place h. is_narrow-clock (record { place = place; shape = shape.Clock }) refl)
 shape_small Shape-F.Reset = subst ShapeSmall (sym rolls-Reset) (λ place h. grind (arith, common_steps, the_lemmas))
+shape_small Shape-F.AsyncReset = subst ShapeSmall (sym rolls-AsyncReset) (λ place h. grind (arith, common_steps, the_lemmas))
 shape_small (Shape-F.Bundle ps) = subst ShapeSmall (sym (rolls-Bundle (map (λ e. e.0) ps))) (λ place h.
     let fs : List Field = map (λ e. e.0) ps in
     let t : FirType = record { place = place; shape = shape.Bundle (map (λ e. e.0) ps) } in

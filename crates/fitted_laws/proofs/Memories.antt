@@ -12,7 +12,7 @@ use Rattle.fir_types.specs.declared.fir_type.Shape.TheOpen.{Shape-F}
 use Rattle.fir_types.specs.declared.fir_type.Shape.TheFolds.{map-Shape}
 use Rattle.fir_types.specs.declared.fir_type.Shape.TheViews.{roll-Shape, roll-Field, roll-FirType}
 use Rattle.fir_types.specs.declared.fir_type.Shape.TheVariants as shape
-use Rattle.fir_types.specs.declared.fir_type.Shape.TheVariants.{rolls-Unsigned, rolls-Signed, rolls-Clock, rolls-Reset, rolls-Bundle, rolls-Vector}
+use Rattle.fir_types.specs.declared.fir_type.Shape.TheVariants.{rolls-Unsigned, rolls-Signed, rolls-Clock, rolls-Reset, rolls-AsyncReset, rolls-Bundle, rolls-Vector}
 use Rattle.fir_types.specs.declared.fir_type.Field.{Field}
 use Rattle.fir_types.specs.declared.memory.Memory.{Memory}
 use Rattle.fir_types.specs.declared.memory.MemLine.{MemLine}
@@ -33,7 +33,7 @@ use Rattle.width_rules.proofs.FormulaLemmas.{width-Fixed}
 use Rattle.type_filling.specs.Filling.{filled, first_number}
 use Rattle.width_fit.specs.Judging.{slot_width}
 use Rattle.fir_meaning.specs.Components.{ports_bundle}
-use Rattle.fitted_laws.proofs.Filling.{filled_field, filled_fields, filled-bundle, filled-vector, filled-unsigned, filled-signed, filled-clock, filled-reset, filled-place, size-bundle, size-vector, size-fields, size-unsigned, size-clock}
+use Rattle.fitted_laws.proofs.Filling.{filled_field, filled_fields, filled-bundle, filled-vector, filled-unsigned, filled-signed, filled-clock, filled-reset, filled-async, filled-place, size-bundle, size-vector, size-fields, size-unsigned, size-clock}
 use Rattle.fitted_laws.proofs.Once.{mask-bundle, mask-vector, mask-field}
 use Rattle.fitted_laws.proofs.Stored.{line_size}
 use Rattle.fitted_laws.proofs.Bundles.{front_filled}
@@ -58,6 +58,9 @@ mask-clock t e = grind (arith, common_steps, the_lemmas)
 
 mask-reset : (t : FirType) → t.shape ≡ shape.Reset → (mask_of t).shape ≡ shape.Unsigned (Some 1)
 mask-reset t e = grind (arith, common_steps, the_lemmas)
+
+mask-async : (t : FirType) → t.shape ≡ shape.AsyncReset → (mask_of t).shape ≡ shape.Unsigned (Some 1)
+mask-async t e = grind (arith, common_steps, the_lemmas)
 
 -- A mask doesn't see widths
 
@@ -92,6 +95,9 @@ shape_unseen Shape-F.Clock = subst ShapeUnseen (sym rolls-Clock) (λ place ws.
 shape_unseen Shape-F.Reset = subst ShapeUnseen (sym rolls-Reset) (λ place ws.
     let t : FirType = record { place = place; shape = shape.Reset } in
     same_type (places_same t ws) (mask-unsigned (filled t ws) (first_number ws) (filled-reset t refl ws) ∙ sym (mask-reset t refl)))
+shape_unseen Shape-F.AsyncReset = subst ShapeUnseen (sym rolls-AsyncReset) (λ place ws.
+    let t : FirType = record { place = place; shape = shape.AsyncReset } in
+    same_type (places_same t ws) (mask-unsigned (filled t ws) (first_number ws) (filled-async t refl ws) ∙ sym (mask-async t refl)))
 shape_unseen (Shape-F.Bundle ps) = subst ShapeUnseen (sym (rolls-Bundle (map (λ e. e.0) ps))) (λ place ws.
     let fs : List Field = map (λ e. e.0) ps in
     let t : FirType = record { place = place; shape = shape.Bundle (map (λ e. e.0) ps) } in
@@ -157,6 +163,7 @@ shape_ones (Shape-F.Unsigned w) = subst ShapeOnes (sym (rolls-Unsigned w)) (λ p
 shape_ones (Shape-F.Signed w) = subst ShapeOnes (sym (rolls-Signed w)) (λ place. ground_ones (record { place = place; shape = shape.Signed w }) (mask-signed (record { place = place; shape = shape.Signed w }) w refl))
 shape_ones Shape-F.Clock = subst ShapeOnes (sym rolls-Clock) (λ place. ground_ones (record { place = place; shape = shape.Clock }) (mask-clock (record { place = place; shape = shape.Clock }) refl))
 shape_ones Shape-F.Reset = subst ShapeOnes (sym rolls-Reset) (λ place. ground_ones (record { place = place; shape = shape.Reset }) (mask-reset (record { place = place; shape = shape.Reset }) refl))
+shape_ones Shape-F.AsyncReset = subst ShapeOnes (sym rolls-AsyncReset) (λ place. ground_ones (record { place = place; shape = shape.AsyncReset }) (mask-async (record { place = place; shape = shape.AsyncReset }) refl))
 shape_ones (Shape-F.Bundle ps) = subst ShapeOnes (sym (rolls-Bundle (map (λ e. e.0) ps))) (λ place ws h.
     let fs : List Field = map (λ e. e.0) ps in
     let t : FirType = record { place = place; shape = shape.Bundle (map (λ e. e.0) ps) } in

@@ -14,7 +14,7 @@ use Rattle.fir_types.specs.declared.fir_type.Shape.TheOpen.{Shape-F}
 use Rattle.fir_types.specs.declared.fir_type.Shape.TheFolds.{map-Shape}
 use Rattle.fir_types.specs.declared.fir_type.Shape.TheViews.{roll-Shape, roll-Field, roll-FirType}
 use Rattle.fir_types.specs.declared.fir_type.Shape.TheVariants as shape
-use Rattle.fir_types.specs.declared.fir_type.Shape.TheVariants.{rolls-Unsigned, rolls-Signed, rolls-Clock, rolls-Reset, rolls-Bundle, rolls-Vector}
+use Rattle.fir_types.specs.declared.fir_type.Shape.TheVariants.{rolls-Unsigned, rolls-Signed, rolls-Clock, rolls-Reset, rolls-AsyncReset, rolls-Bundle, rolls-Vector}
 use Rattle.fir_types.specs.declared.fir_type.Field.{Field}
 use Rattle.fir_types.specs.declared.leaf.TypeLeaf.{TypeLeaf}
 use Rattle.fir_types.specs.declared.leaf.PathStep.{PathStep}
@@ -114,6 +114,7 @@ shape_mask_twice (Shape-F.Unsigned w) = subst ShapeMaskTwice (sym (rolls-Unsigne
 shape_mask_twice (Shape-F.Signed w) = subst ShapeMaskTwice (sym (rolls-Signed w)) (λ place. grind (arith, common_steps, the_lemmas))
 shape_mask_twice Shape-F.Clock = subst ShapeMaskTwice (sym rolls-Clock) (λ place. grind (arith, common_steps, the_lemmas))
 shape_mask_twice Shape-F.Reset = subst ShapeMaskTwice (sym rolls-Reset) (λ place. grind (arith, common_steps, the_lemmas))
+shape_mask_twice Shape-F.AsyncReset = subst ShapeMaskTwice (sym rolls-AsyncReset) (λ place. grind (arith, common_steps, the_lemmas))
 shape_mask_twice (Shape-F.Bundle ps) = subst ShapeMaskTwice (sym (rolls-Bundle (map (λ e. e.0) ps))) (λ place.
     let fs : List Field = map (λ e. e.0) ps in
     let t : FirType = record { place = place; shape = shape.Bundle (map (λ e. e.0) ps) } in
@@ -325,6 +326,7 @@ shape_differs (Shape-F.Unsigned w) = subst ShapeDiffers (sym (rolls-Unsigned w))
 shape_differs (Shape-F.Signed w) = subst ShapeDiffers (sym (rolls-Signed w)) (λ place h. one_differs (record { place = place; shape = shape.Signed w }) (grind (arith, common_steps, the_lemmas)))
 shape_differs Shape-F.Clock = subst ShapeDiffers (sym rolls-Clock) (λ place h. one_differs (record { place = place; shape = shape.Clock }) (grind (arith, common_steps, the_lemmas)))
 shape_differs Shape-F.Reset = subst ShapeDiffers (sym rolls-Reset) (λ place h. one_differs (record { place = place; shape = shape.Reset }) (grind (arith, common_steps, the_lemmas)))
+shape_differs Shape-F.AsyncReset = subst ShapeDiffers (sym rolls-AsyncReset) (λ place h. one_differs (record { place = place; shape = shape.AsyncReset }) (grind (arith, common_steps, the_lemmas)))
 shape_differs (Shape-F.Bundle ps) = subst ShapeDiffers (sym (rolls-Bundle (map (λ e. e.0) ps))) (λ place h.
     let fs : List Field = map (λ e. e.0) ps in
     let t : FirType = record { place = place; shape = shape.Bundle (map (λ e. e.0) ps) } in

@@ -8,7 +8,7 @@ use Rattle.fir_types.specs.declared.fir_type.FirType.{FirType, the_lemmas}
 use Rattle.fir_types.specs.declared.fir_type.Shape.TheVariants as shape
 use Rattle.fir_types.specs.declared.fir_type.Field.{Field}
 use Rattle.fir_types.specs.Equivalence.{IsUnsigned, IsSigned, a_uint, a_reset, a_sint}
-use Rattle.circuit_parts.proofs.Shapes.{ShapeCase, shape_uint, shape_sint, shape_clock, shape_reset, shape_bundle, shape_vector, case_of}
+use Rattle.circuit_parts.proofs.Shapes.{ShapeCase, shape_uint, shape_sint, shape_clock, shape_reset, shape_async, shape_bundle, shape_vector, case_of}
 use Rattle.circuit_parts.specs.Kinds.{sign_of, is_unsigned}
 
 pub unsigned_is : (t : FirType) → is_unsigned t ≡ true → IsUnsigned t
@@ -16,6 +16,7 @@ unsigned_is t y = by (case_of t.shape) where
   by : ShapeCase t.shape → IsUnsigned t
   by (shape_uint w e) = a_uint w e
   by (shape_reset e) = a_reset e
+  by (shape_async e) = a_reset e
   by (shape_sint w e) = absurd (grind (arith, common_steps, the_lemmas))
   by (shape_clock e) = absurd (grind (arith, common_steps, the_lemmas))
   by (shape_bundle fs e) = absurd (grind (arith, common_steps, the_lemmas))
@@ -35,6 +36,9 @@ sign-sint t w e = grind (arith, common_steps, the_lemmas)
 sign-reset : (t : FirType) → t.shape ≡ shape.Reset → sign_of t ≡ Some Unsigned
 sign-reset t e = grind (arith, common_steps, the_lemmas)
 
+sign-async : (t : FirType) → t.shape ≡ shape.AsyncReset → sign_of t ≡ Some Unsigned
+sign-async t e = grind (arith, common_steps, the_lemmas)
+
 sign-clock : (t : FirType) → t.shape ≡ shape.Clock → sign_of t ≡ None
 sign-clock t e = grind (arith, common_steps, the_lemmas)
 
@@ -52,6 +56,7 @@ number_is t k y = by (case_of t.shape) where
   by : ShapeCase t.shape → IsNumberType t k
   by (shape_uint w e) = subst (IsNumberType t) (same_sign (sym (sign-uint t w e) ∙ y)) (a_natural (a_uint w e))
   by (shape_reset e) = subst (IsNumberType t) (same_sign (sym (sign-reset t e) ∙ y)) (a_natural (a_reset e))
+  by (shape_async e) = subst (IsNumberType t) (same_sign (sym (sign-async t e) ∙ y)) (a_natural (a_reset e))
   by (shape_sint w e) = subst (IsNumberType t) (same_sign (sym (sign-sint t w e) ∙ y)) (an_integer (a_sint w e))
   by (shape_clock e) = absurd (let f = sym (sign-clock t e) ∙ y in cc)
   by (shape_bundle fs e) = absurd (let f = sym (sign-bundle t fs e) ∙ y in cc)

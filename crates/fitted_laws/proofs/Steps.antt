@@ -10,7 +10,7 @@ use Rattle.fir_types.specs.declared.fir_type.Shape.{Shape}
 use Rattle.fir_types.specs.declared.fir_type.Shape.TheOpen.{Shape-F}
 use Rattle.fir_types.specs.declared.fir_type.Shape.TheViews.{out-Shape}
 use Rattle.fir_types.specs.declared.fir_type.Shape.TheVariants as shape
-use Rattle.fir_types.specs.declared.fir_type.Shape.TheVariants.{outs-Unsigned, outs-Signed, outs-Clock, outs-Reset, outs-Bundle, outs-Vector}
+use Rattle.fir_types.specs.declared.fir_type.Shape.TheVariants.{outs-Unsigned, outs-Signed, outs-Clock, outs-Reset, outs-AsyncReset, outs-Bundle, outs-Vector}
 use Rattle.fir_types.specs.declared.fir_type.Field.{Field, fold-Field}
 use Rattle.fir_types.specs.declared.name.Name.{Name}
 use Rattle.prim_ops.specs.declared.widths.Width.{Width}
@@ -19,7 +19,7 @@ use Rattle.circuit_parts.specs.declared.part.Flow.{Flow}
 use Rattle.circuit_parts.specs.declared.part.Flow.TheVariants.{Source, Sink, Duplex}
 use Rattle.circuit_parts.specs.Parts.{part_of, flow_through, field_part, element_part, field_of_layer, field_or_whole, element_of_layer}
 use Rattle.circuit_parts.specs.Parts.{turned as turned_flow}
-use Rattle.circuit_parts.proofs.Shapes.{ShapeCase, shape_uint, shape_sint, shape_clock, shape_reset, shape_bundle, shape_vector, case_of}
+use Rattle.circuit_parts.proofs.Shapes.{ShapeCase, shape_uint, shape_sint, shape_clock, shape_reset, shape_async, shape_bundle, shape_vector, case_of}
 use Rattle.type_check.specs.declared.fault.TypeFault.{TypeFault}
 use Rattle.type_check.specs.Texts.{twice_in, twice_in_shape, field_faults, seconds_behind, FieldFaults}
 use Rattle.type_check.specs.Expressions as typing_check
@@ -226,6 +226,7 @@ module _ (Q : Flow → Formula → Type 0) (ws : List Width) where
     by (shape_sint w is) = absurd (let f = sym (ap (λ s. (typing_check.field_step name sized.part s).faults) (ap out-Shape is ∙ outs-Signed w)) ∙ e in cc)
     by (shape_clock is) = absurd (let f = sym (ap (λ s. (typing_check.field_step name sized.part s).faults) (ap out-Shape is ∙ outs-Clock)) ∙ e in cc)
     by (shape_reset is) = absurd (let f = sym (ap (λ s. (typing_check.field_step name sized.part s).faults) (ap out-Shape is ∙ outs-Reset)) ∙ e in cc)
+    by (shape_async is) = absurd (let f = sym (ap (λ s. (typing_check.field_step name sized.part s).faults) (ap out-Shape is ∙ outs-AsyncReset)) ∙ e in cc)
     by (shape_vector element n is) = absurd (let f = sym (ap (λ s. (typing_check.field_step name sized.part s).faults) (ap out-Shape is ∙ outs-Vector element n)) ∙ e in cc)
 
   -- Elements
@@ -267,6 +268,7 @@ module _ (Q : Flow → Formula → Type 0) (ws : List Width) where
   pub vector_of : (sized : Component) → IsGood Q sized → (fault : Shape-F Shape Field FirType → Judgement) → (fault (out-Shape sized.part.typ.shape)).faults ≡ []
       → ((w : Option ℕ) → (fault (Shape-F.Unsigned w)).faults ≡ [] → ⊥) → ((w : Option ℕ) → (fault (Shape-F.Signed w)).faults ≡ [] → ⊥) → ((fault Shape-F.Clock).faults ≡ [] → ⊥)
       → ((fault Shape-F.Reset).faults ≡ [] → ⊥) → ((fs : List Field) → (fault (Shape-F.Bundle fs)).faults ≡ [] → ⊥) → IsVector sized
+      → ((fault Shape-F.AsyncReset).faults ≡ [] → ⊥) → ((fs : List Field) → (fault (Shape-F.Bundle fs)).faults ≡ [] → ⊥) → IsVector sized
   vector_of sized good fault e u s c r b = by (case_of sized.part.typ.shape) where
     by : ShapeCase sized.part.typ.shape → IsVector sized
     by (shape_vector element n is) = vector_there sized element n is good
@@ -274,4 +276,5 @@ module _ (Q : Flow → Formula → Type 0) (ws : List Width) where
     by (shape_sint w is) = absurd (s w (sym (ap (λ x. (fault x).faults) (ap out-Shape is ∙ outs-Signed w)) ∙ e))
     by (shape_clock is) = absurd (c (sym (ap (λ x. (fault x).faults) (ap out-Shape is ∙ outs-Clock)) ∙ e))
     by (shape_reset is) = absurd (r (sym (ap (λ x. (fault x).faults) (ap out-Shape is ∙ outs-Reset)) ∙ e))
+    by (shape_async is) = absurd (r (sym (ap (λ x. (fault x).faults) (ap out-Shape is ∙ outs-AsyncReset)) ∙ e))
     by (shape_bundle fields is) = absurd (b fields (sym (ap (λ x. (fault x).faults) (ap out-Shape is ∙ outs-Bundle fields)) ∙ e))

@@ -199,6 +199,7 @@ inside_step (step.Field id) typ inner e = by (out-Shape typ.shape) refl e
     by (Shape-F.Signed w) is h = absurd (none_some h)
     by Shape-F.Clock is h = absurd (none_some h)
     by Shape-F.Reset is h = absurd (none_some h)
+    by Shape-F.AsyncReset is h = absurd (none_some h)
     by (Shape-F.Vector element n) is h = absurd (none_some h)
 inside_step (step.Element k) typ inner e = by (out-Shape typ.shape) refl both.1
   where
@@ -219,6 +220,7 @@ inside_step (step.Element k) typ inner e = by (out-Shape typ.shape) refl both.1
     by (Shape-F.Signed w) is h = absurd (none_some h)
     by Shape-F.Clock is h = absurd (none_some h)
     by Shape-F.Reset is h = absurd (none_some h)
+    by Shape-F.AsyncReset is h = absurd (none_some h)
     by (Shape-F.Bundle fields) is h = absurd (none_some h)
 
 pub lies_in : (way : List PathStep) (typ inner : FirType) → way_type way typ ≡ Some inner → (before : ℕ) × LiesIn typ way inner before

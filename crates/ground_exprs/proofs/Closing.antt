@@ -74,4 +74,5 @@ narrow_element t inner e h = by (out-Shape t.shape) refl e
     by (Shape-F.Signed w) is f = absurd (none_some f)
     by Shape-F.Clock is f = absurd (none_some f)
     by Shape-F.Reset is f = absurd (none_some f)
+    by Shape-F.AsyncReset is f = absurd (none_some f)
     by (Shape-F.Bundle fields) is f = absurd (none_some f)

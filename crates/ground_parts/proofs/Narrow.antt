@@ -83,6 +83,7 @@ shape_step (Shape-F.Unsigned w) place h = grind (arith, common_steps, the_lemmas
 shape_step (Shape-F.Signed w) place h = grind (arith, common_steps, the_lemmas, h)
 shape_step Shape-F.Clock place h = grind (arith, common_steps, the_lemmas)
 shape_step Shape-F.Reset place h = grind (arith, common_steps, the_lemmas)
+shape_step Shape-F.AsyncReset place h = grind (arith, common_steps, the_lemmas)
 shape_step (Shape-F.Bundle fields) place h =
     let is : shape_narrow (bare (Shape-F.Bundle fields)) ≡ list_all (λ b. b) (map narrow_field (map (λ e. e.0) fields))
     = grind (arith, common_steps, the_lemmas) in

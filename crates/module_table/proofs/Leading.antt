@@ -9,14 +9,14 @@ use Rattle.fir_types.specs.declared.fir_type.Shape.{Shape}
 use Rattle.fir_types.specs.declared.fir_type.Shape.TheOpen.{Shape-F}
 use Rattle.fir_types.specs.declared.fir_type.Shape.TheViews.{out-Shape}
 use Rattle.fir_types.specs.declared.fir_type.Shape.TheVariants as shape
-use Rattle.fir_types.specs.declared.fir_type.Shape.TheVariants.{outs-Unsigned, outs-Signed, outs-Clock, outs-Reset, outs-Bundle, outs-Vector}
+use Rattle.fir_types.specs.declared.fir_type.Shape.TheVariants.{outs-Unsigned, outs-Signed, outs-Clock, outs-Reset, outs-AsyncReset, outs-Bundle, outs-Vector}
 use Rattle.fir_types.specs.declared.fir_type.Field.{Field}
 use Rattle.fir_types.specs.declared.name.Name.{Name}
 use Rattle.fir_types.specs.Equivalence.{Equivalent}
 use Rattle.fir_tree.specs.declared.expr.Suffix.{Suffix}
 use Rattle.fir_tree.specs.declared.expr.Suffix.TheVariants as suffix
 use Rattle.circuit_parts.specs.declared.part.Part.{Part}
-use Rattle.circuit_parts.proofs.Shapes.{ShapeCase, shape_uint, shape_sint, shape_clock, shape_reset, shape_bundle, shape_vector, case_of}
+use Rattle.circuit_parts.proofs.Shapes.{ShapeCase, shape_uint, shape_sint, shape_clock, shape_reset, shape_async, shape_bundle, shape_vector, case_of}
 use Rattle.type_classes.specs.Numbers.{Table, HasNumber}
 use Rattle.type_classes.specs.Tables.{IsField, IsElement, FieldHas, ElementHas}
 use Rattle.type_index.specs.Knowing.{fields_in, element_in}
@@ -44,6 +44,7 @@ field_there typ part id field found same (shape_uint w is) = absurd (nothing_fou
 field_there typ part id field found same (shape_sint w is) = absurd (nothing_found field (found_in typ (Shape-F.Signed w) id field (ap out-Shape is ∙ outs-Signed w) found))
 field_there typ part id field found same (shape_clock is) = absurd (nothing_found field (found_in typ Shape-F.Clock id field (ap out-Shape is ∙ outs-Clock) found))
 field_there typ part id field found same (shape_reset is) = absurd (nothing_found field (found_in typ Shape-F.Reset id field (ap out-Shape is ∙ outs-Reset) found))
+field_there typ part id field found same (shape_async is) = absurd (nothing_found field (found_in typ Shape-F.AsyncReset id field (ap out-Shape is ∙ outs-AsyncReset) found))
 field_there typ part id field found same (shape_vector e n is) = absurd (nothing_found field (found_in typ (Shape-F.Vector e n) id field (ap out-Shape is ∙ outs-Vector e n) found))
 
 pub part_of_field : (step : Suffix) (name : Name) (typ part : FirType) (field : Field) → step ≡ suffix.Field name
@@ -59,6 +60,7 @@ element_there typ element found (shape_uint w is) = absurd (nothing_found elemen
 element_there typ element found (shape_sint w is) = absurd (nothing_found element (sym (element_of typ element (Shape-F.Signed w) (ap out-Shape is ∙ outs-Signed w) found)))
 element_there typ element found (shape_clock is) = absurd (nothing_found element (sym (element_of typ element Shape-F.Clock (ap out-Shape is ∙ outs-Clock) found)))
 element_there typ element found (shape_reset is) = absurd (nothing_found element (sym (element_of typ element Shape-F.Reset (ap out-Shape is ∙ outs-Reset) found)))
+element_there typ element found (shape_async is) = absurd (nothing_found element (sym (element_of typ element Shape-F.AsyncReset (ap out-Shape is ∙ outs-AsyncReset) found)))
 element_there typ element found (shape_bundle fields is) = absurd (nothing_found element (sym (element_of typ element (Shape-F.Bundle fields) (ap out-Shape is ∙ outs-Bundle fields) found)))
 
 pub part_of_vector : {K : Type 0} (typ_in : K → FirType) (step : Suffix) (typ : FirType) (found : Option K) → ((name : Name) → step ≡ suffix.Field name → ⊥)

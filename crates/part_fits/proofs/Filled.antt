@@ -144,6 +144,7 @@ shape_step (Shape-F.Unsigned w) = record { behind = λ ws. grind (arith, common_
 shape_step (Shape-F.Signed w) = record { behind = λ ws. grind (arith, common_steps, the_lemmas, behind_is ws); own = λ ws. grind (arith, common_steps, the_lemmas, first_taken ws); given_is = λ ws h. grind (arith, common_steps, the_lemmas, first_is ws, h) }
 shape_step Shape-F.Clock = record { behind = λ ws. grind (arith, common_steps, the_lemmas); own = λ ws. grind (arith, common_steps, the_lemmas); given_is = λ ws h. grind (arith, common_steps, the_lemmas) }
 shape_step Shape-F.Reset = record { behind = λ ws. grind (arith, common_steps, the_lemmas, behind_is ws); own = λ ws. grind (arith, common_steps, the_lemmas, first_taken ws); given_is = λ ws h. grind (arith, common_steps, the_lemmas, first_is ws, h) }
+shape_step Shape-F.AsyncReset = record { behind = λ ws. grind (arith, common_steps, the_lemmas, behind_is ws); own = λ ws. grind (arith, common_steps, the_lemmas, first_taken ws); given_is = λ ws h. grind (arith, common_steps, the_lemmas, first_is ws, h) }
 shape_step (Shape-F.Bundle fields) = record {
   behind = λ ws. grind (arith, common_steps, the_lemmas, flat_map-map, fields_behind fields ws);
   own = λ ws. grind (arith, common_steps, the_lemmas, flat_map-map, fields_own fields ws);

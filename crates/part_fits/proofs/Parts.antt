@@ -136,6 +136,7 @@ module _ (all : List Width) where
   layer_fields s ws (Shape-F.Signed w) is = grind (arith, common_steps, the_lemmas)
   layer_fields s ws Shape-F.Clock is = grind (arith, common_steps, the_lemmas)
   layer_fields s ws Shape-F.Reset is = grind (arith, common_steps, the_lemmas)
+  layer_fields s ws Shape-F.AsyncReset is = grind (arith, common_steps, the_lemmas)
   layer_fields s ws (Shape-F.Bundle fields) is = grind (arith, common_steps, the_lemmas)
   layer_fields s ws (Shape-F.Vector element n) is = grind (arith, common_steps, the_lemmas)
 
@@ -145,6 +146,7 @@ module _ (all : List Width) where
   layer_element s ws (Shape-F.Signed w) is = grind (arith, common_steps, the_lemmas)
   layer_element s ws Shape-F.Clock is = grind (arith, common_steps, the_lemmas)
   layer_element s ws Shape-F.Reset is = grind (arith, common_steps, the_lemmas)
+  layer_element s ws Shape-F.AsyncReset is = grind (arith, common_steps, the_lemmas)
   layer_element s ws (Shape-F.Bundle fields) is = grind (arith, common_steps, the_lemmas)
   layer_element s ws (Shape-F.Vector element n) is = grind (arith, common_steps, the_lemmas)
 
@@ -186,6 +188,7 @@ module _ (all : List Width) where
       by (Shape-F.Signed w) e = absurd cc
       by Shape-F.Clock e = absurd cc
       by Shape-F.Reset e = absurd cc
+      by Shape-F.AsyncReset e = absurd cc
       by (Shape-F.Bundle fs) e = record {
         typ_is = inner fs (find (is_named name) fs) (one fs (same fs e));
         over_is = over_field name fs sized.slots h.over_is;
@@ -208,6 +211,7 @@ module _ (all : List Width) where
       by (Shape-F.Signed w) e first = absurd cc
       by Shape-F.Clock e first = absurd cc
       by Shape-F.Reset e first = absurd cc
+      by Shape-F.AsyncReset e first = absurd cc
       by (Shape-F.Bundle fs) e first =
           found_at name gs position g (ap (λ l. first_at l name) (same fs e) ∙ first_kept name fs (widths_at sized.slots) ∙ first) lt got
       by (Shape-F.Vector element n) e first = absurd cc
@@ -230,6 +234,7 @@ module _ (all : List Width) where
       by (Shape-F.Signed w) e = absurd cc
       by Shape-F.Clock e = absurd cc
       by Shape-F.Reset e = absurd cc
+      by Shape-F.AsyncReset e = absurd cc
       by (Shape-F.Bundle fs) e = one (find (is_named name) fs) e
       by (Shape-F.Vector element n) e = absurd cc
 
@@ -248,6 +253,7 @@ module _ (all : List Width) where
       by (Shape-F.Signed w) e = absurd cc
       by Shape-F.Clock e = absurd cc
       by Shape-F.Reset e = absurd cc
+      by Shape-F.AsyncReset e = absurd cc
       by (Shape-F.Bundle fs) e = absurd cc
       by (Shape-F.Vector inner m) e = record { typ_is = cc; over_is = h.over_is }
 
@@ -264,5 +270,6 @@ module _ (all : List Width) where
       by (Shape-F.Signed w) e = absurd cc
       by Shape-F.Clock e = absurd cc
       by Shape-F.Reset e = absurd cc
+      by Shape-F.AsyncReset e = absurd cc
       by (Shape-F.Bundle fs) e = absurd cc
       by (Shape-F.Vector o m) e = cc

@@ -11,7 +11,7 @@ use Rattle.fir_types.specs.declared.fir_type.Shape.{Shape}
 use Rattle.fir_types.specs.declared.fir_type.Shape.TheOpen.{Shape-F}
 use Rattle.fir_types.specs.declared.fir_type.Shape.TheViews.{out-Shape}
 use Rattle.fir_types.specs.declared.fir_type.Shape.TheVariants as shape
-use Rattle.fir_types.specs.declared.fir_type.Shape.TheVariants.{rolls-Unsigned, rolls-Signed, rolls-Clock, rolls-Reset, rolls-Bundle, rolls-Vector, outs-Unsigned, outs-Signed, outs-Clock, outs-Reset, outs-Bundle, outs-Vector}
+use Rattle.fir_types.specs.declared.fir_type.Shape.TheVariants.{rolls-Unsigned, rolls-Signed, rolls-Clock, rolls-Reset, rolls-AsyncReset, rolls-Bundle, rolls-Vector, outs-Unsigned, outs-Signed, outs-Clock, outs-Reset, outs-AsyncReset, outs-Bundle, outs-Vector}
 use Rattle.fir_types.specs.declared.fir_type.Field.{Field}
 use Rattle.fir_types.specs.declared.port.Port.{Port}
 use Rattle.fir_types.specs.declared.memory.Memory.{Memory}
@@ -24,7 +24,7 @@ use Rattle.fir_types.specs.Memories.{element_in, element_of, first_or}
 use Rattle.fir_types.proofs.Lines.{lines_more}
 use Rattle.circuit_parts.specs.declared.part.Part.{Part}
 use Rattle.circuit_parts.specs.Parts.{part_of, source_of, flow_through, field_or_whole, field_of_layer, field_part, element_of_layer, element_part, no_part}
-use Rattle.circuit_parts.proofs.Shapes.{ShapeCase, shape_uint, shape_sint, shape_clock, shape_reset, shape_bundle, shape_vector, case_of}
+use Rattle.circuit_parts.proofs.Shapes.{ShapeCase, shape_uint, shape_sint, shape_clock, shape_reset, shape_async, shape_bundle, shape_vector, case_of}
 use Rattle.reference_flow.specs.declared.component.PartRef.{PartRef}
 use Rattle.reference_flow.specs.Reached.{lent, mask_of_part, IsPlain}
 
@@ -67,6 +67,9 @@ plain-clock part e = plain_layer part _ _ e outs-Clock (λ name. refl) refl
 pub plain-reset : (part : Part) → part.typ.shape ≡ shape.Reset → IsPlain part
 plain-reset part e = plain_layer part _ _ e outs-Reset (λ name. refl) refl
 
+pub plain-async : (part : Part) → part.typ.shape ≡ shape.AsyncReset → IsPlain part
+plain-async part e = plain_layer part _ _ e outs-AsyncReset (λ name. refl) refl
+
 pub plain-empty : (part : Part) → part.typ.shape ≡ shape.Bundle [] → IsPlain part
 plain-empty part e = plain_layer part _ _ e (outs-Bundle []) (λ name. refl) refl
 
@@ -92,6 +95,9 @@ mask-clock t h = grind (arith, common_steps, the_lemmas)
 
 mask-reset : (t : FirType) → t.shape ≡ shape.Reset → (mask_of t).shape ≡ shape.Unsigned (Some 1)
 mask-reset t h = grind (arith, common_steps, the_lemmas)
+
+mask-async : (t : FirType) → t.shape ≡ shape.AsyncReset → (mask_of t).shape ≡ shape.Unsigned (Some 1)
+mask-async t h = grind (arith, common_steps, the_lemmas)
 
 mask-field : (f : Field) → mask_of_field f ≡ record { flip = f.flip; name = f.name; typ = mask_of f.typ }
 mask-field f = grind (arith, common_steps, the_lemmas)
@@ -123,6 +129,7 @@ field-mask part name = by (case_of part.typ.shape)
     by (shape_sint w e) = field-plain part name (plain-signed part w e) (plain-unsigned (mask_of_part part) (Some 1) (mask-signed part.typ w e))
     by (shape_clock e) = field-plain part name (plain-clock part e) (plain-unsigned (mask_of_part part) (Some 1) (mask-clock part.typ e))
     by (shape_reset e) = field-plain part name (plain-reset part e) (plain-unsigned (mask_of_part part) (Some 1) (mask-reset part.typ e))
+    by (shape_async e) = field-plain part name (plain-async part e) (plain-unsigned (mask_of_part part) (Some 1) (mask-async part.typ e))
     by (shape_bundle fields e) =
         field-found (mask_of_part part) (map mask_of_field fields) name _ (mask-bundle part.typ fields e) (find-mask fields name)
         ∙ mask_or_whole part (find (λ f. f.name.id == name) fields) ∙ ap mask_of_part (sym (field-bundle part fields name e))

@@ -83,6 +83,7 @@ field_type_is typ id found e = by (out-Shape typ.shape) ∙ ap (λ (o : Option F
     by (Shape-F.Signed w) = refl
     by Shape-F.Clock = refl
     by Shape-F.Reset = refl
+    by Shape-F.AsyncReset = refl
     by (Shape-F.Bundle fs) = refl
     by (Shape-F.Vector element n) = refl
 
@@ -94,6 +95,7 @@ element_type_is typ found e = by (out-Shape typ.shape) ∙ ap (or_itself typ) (s
     by (Shape-F.Signed w) = refl
     by Shape-F.Clock = refl
     by Shape-F.Reset = refl
+    by Shape-F.AsyncReset = refl
     by (Shape-F.Bundle fs) = refl
     by (Shape-F.Vector element n) = refl
 

@@ -104,6 +104,7 @@ clock_width leaf e = clock_shape (out-Shape leaf.typ.shape) e where
   clock_shape (Shape-F.Signed w) e = absurd (true≢false (sym e))
   clock_shape Shape-F.Clock e = refl
   clock_shape Shape-F.Reset e = absurd (true≢false (sym e))
+  clock_shape Shape-F.AsyncReset e = absurd (true≢false (sym e))
   clock_shape (Shape-F.Bundle fs) e = absurd (true≢false (sym e))
   clock_shape (Shape-F.Vector t n) e = absurd (true≢false (sym e))
 

@@ -3,6 +3,7 @@
 ghost use Rattle.std.specs.Prelude.{◌≤◌, [], length, IfSome};
 ghost use Rattle.fir_expr.specs.Standing.{IsLaidFrom, wanted};
 
+use bit_words::Shared;
 use fir_layout::{Laid, lay_out};
 use fir_lexer::lex;
 use fir_names::resolve;

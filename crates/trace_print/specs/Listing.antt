@@ -21,6 +21,7 @@ abbrev pub shape_line : List ℕ → Shape → List ℕ
 shape_line front (shape.Unsigned width) = width_line front (codes "UInt") width
 shape_line front (shape.Signed width) = width_line front (codes "SInt") width
 shape_line front shape.Reset = width_line front (codes "UInt") (Some 1)
+shape_line front shape.AsyncReset = width_line front (codes "UInt") (Some 1)
 shape_line front _ = []
 
 -- the line of a leaf, behind the module and the name of the component

@@ -10,10 +10,10 @@ use Rattle.fir_types.specs.declared.fir_type.Shape.TheOpen.{Shape-F}
 use Rattle.fir_types.specs.declared.fir_type.Shape.TheFolds.{map-Shape}
 use Rattle.fir_types.specs.declared.fir_type.Shape.TheViews.{roll-Shape, roll-Field, roll-FirType, out-Shape}
 use Rattle.fir_types.specs.declared.fir_type.Shape.TheVariants as shape
-use Rattle.fir_types.specs.declared.fir_type.Shape.TheVariants.{rolls-Unsigned, rolls-Signed, rolls-Clock, rolls-Reset, rolls-Bundle, rolls-Vector}
+use Rattle.fir_types.specs.declared.fir_type.Shape.TheVariants.{rolls-Unsigned, rolls-Signed, rolls-Clock, rolls-Reset, rolls-AsyncReset, rolls-Bundle, rolls-Vector}
 use Rattle.fir_types.specs.declared.fir_type.Field.{Field, fold-Field}
 use Rattle.fir_types.specs.Equivalence.{Equivalent, IsUnsigned, IsSigned, SameFields, unsigned, signed, clocks, vectors, bundles, no_fields, same_field, a_uint, a_reset, a_sint}
-use Rattle.circuit_parts.proofs.Shapes.{ShapeCase, shape_uint, shape_sint, shape_clock, shape_reset, shape_bundle, shape_vector, case_of}
+use Rattle.circuit_parts.proofs.Shapes.{ShapeCase, shape_uint, shape_sint, shape_clock, shape_reset, shape_async, shape_bundle, shape_vector, case_of}
 use Rattle.type_check.specs.Texts.{are_equivalent, all_take, shape_takes, field_takes, same_flip, is_unsigned_layer, is_signed_layer}
 use Rattle.circuit_parts.specs.Kinds.{is_clock_layer}
 
@@ -45,6 +45,9 @@ of-unsigned l r w e = grind (arith, common_steps, the_lemmas)
 
 of-reset : (l r : FirType) → l.shape ≡ shape.Reset → are_equivalent l r ≡ is_unsigned_layer (out-Shape r.shape)
 of-reset l r e = grind (arith, common_steps, the_lemmas)
+
+of-async : (l r : FirType) → l.shape ≡ shape.AsyncReset → are_equivalent l r ≡ is_unsigned_layer (out-Shape r.shape)
+of-async l r e = grind (arith, common_steps, the_lemmas)
 
 of-signed : (l r : FirType) (w : Option ℕ) → l.shape ≡ shape.Signed w → are_equivalent l r ≡ is_signed_layer (out-Shape r.shape)
 of-signed l r w e = grind (arith, common_steps, the_lemmas)
@@ -127,6 +130,7 @@ FieldIs f = Is f.typ
 is_unsigned_by : (r : FirType) → ShapeCase r.shape → is_unsigned_layer (out-Shape r.shape) ≡ true → IsUnsigned r
 is_unsigned_by r (shape_uint w e) y = a_uint w e
 is_unsigned_by r (shape_reset e) y = a_reset e
+is_unsigned_by r (shape_async e) y = a_reset e
 is_unsigned_by r (shape_sint w e) y = absurd (grind (arith, common_steps, the_lemmas))
 is_unsigned_by r (shape_clock e) y = absurd (grind (arith, common_steps, the_lemmas))
 is_unsigned_by r (shape_bundle fs e) y = absurd (grind (arith, common_steps, the_lemmas))
@@ -136,6 +140,7 @@ is_signed_by : (r : FirType) → ShapeCase r.shape → is_signed_layer (out-Shap
 is_signed_by r (shape_sint w e) y = a_sint w e
 is_signed_by r (shape_uint w e) y = absurd (grind (arith, common_steps, the_lemmas))
 is_signed_by r (shape_reset e) y = absurd (grind (arith, common_steps, the_lemmas))
+is_signed_by r (shape_async e) y = absurd (grind (arith, common_steps, the_lemmas))
 is_signed_by r (shape_clock e) y = absurd (grind (arith, common_steps, the_lemmas))
 is_signed_by r (shape_bundle fs e) y = absurd (grind (arith, common_steps, the_lemmas))
 is_signed_by r (shape_vector o n e) y = absurd (grind (arith, common_steps, the_lemmas))
@@ -145,6 +150,7 @@ is_clock_by r (shape_clock e) y = e
 is_clock_by r (shape_uint w e) y = absurd (grind (arith, common_steps, the_lemmas))
 is_clock_by r (shape_sint w e) y = absurd (grind (arith, common_steps, the_lemmas))
 is_clock_by r (shape_reset e) y = absurd (grind (arith, common_steps, the_lemmas))
+is_clock_by r (shape_async e) y = absurd (grind (arith, common_steps, the_lemmas))
 is_clock_by r (shape_bundle fs e) y = absurd (grind (arith, common_steps, the_lemmas))
 is_clock_by r (shape_vector o n e) y = absurd (grind (arith, common_steps, the_lemmas))
 
@@ -157,6 +163,7 @@ vector_by l r e n h is (shape_uint w k) y = absurd (grind (arith, common_steps, 
 vector_by l r e n h is (shape_sint w k) y = absurd (grind (arith, common_steps, the_lemmas))
 vector_by l r e n h is (shape_clock k) y = absurd (grind (arith, common_steps, the_lemmas))
 vector_by l r e n h is (shape_reset k) y = absurd (grind (arith, common_steps, the_lemmas))
+vector_by l r e n h is (shape_async k) y = absurd (grind (arith, common_steps, the_lemmas))
 vector_by l r e n h is (shape_bundle gs k) y = absurd (grind (arith, common_steps, the_lemmas))
 
 fields_are : (ps : List ((f : Field) × FieldIs f)) (gs : List Field) → fields_same (map (λ e. e.0) ps) gs ≡ true → SameFields (map (λ e. e.0) ps) gs
@@ -180,6 +187,7 @@ bundle_by l r ps h (shape_uint w k) y = absurd (grind (arith, common_steps, the_
 bundle_by l r ps h (shape_sint w k) y = absurd (grind (arith, common_steps, the_lemmas))
 bundle_by l r ps h (shape_clock k) y = absurd (grind (arith, common_steps, the_lemmas))
 bundle_by l r ps h (shape_reset k) y = absurd (grind (arith, common_steps, the_lemmas))
+bundle_by l r ps h (shape_async k) y = absurd (grind (arith, common_steps, the_lemmas))
 bundle_by l r ps h (shape_vector o m k) y = absurd (grind (arith, common_steps, the_lemmas))
 
 shape_is : (y : Shape-F ((s : Shape) × ShapeIs s) ((f : Field) × FieldIs f) ((t : FirType) × Is t))
@@ -192,6 +200,8 @@ shape_is Shape-F.Clock = subst ShapeIs (sym rolls-Clock) (λ place r y.
     clocks refl (is_clock_by r (case_of r.shape) (sym (of-clock (record { place = place; shape = shape.Clock }) r refl) ∙ y)))
 shape_is Shape-F.Reset = subst ShapeIs (sym rolls-Reset) (λ place r y.
     unsigned (a_reset refl) (is_unsigned_by r (case_of r.shape) (sym (of-reset (record { place = place; shape = shape.Reset }) r refl) ∙ y)))
+shape_is Shape-F.AsyncReset = subst ShapeIs (sym rolls-AsyncReset) (λ place r y.
+    unsigned (a_reset refl) (is_unsigned_by r (case_of r.shape) (sym (of-async (record { place = place; shape = shape.AsyncReset }) r refl) ∙ y)))
 shape_is (Shape-F.Bundle fields) =
     let fs : List Field = map (λ e. e.0) fields in
     subst ShapeIs (sym (rolls-Bundle fs)) (λ place r y. bundle_by (record { place = place; shape = shape.Bundle fs }) r fields refl (case_of r.shape) y)

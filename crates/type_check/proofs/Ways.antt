@@ -25,6 +25,7 @@ there_in name base (Shape-F.Unsigned width) field found = absurd cc
 there_in name base (Shape-F.Signed width) field found = absurd cc
 there_in name base Shape-F.Clock field found = absurd cc
 there_in name base Shape-F.Reset field found = absurd cc
+there_in name base Shape-F.AsyncReset field found = absurd cc
 there_in name base (Shape-F.Bundle fields) field found = ap (field_found name base) found
 there_in name base (Shape-F.Vector element length) field found = absurd cc
 

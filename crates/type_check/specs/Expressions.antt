@@ -1,7 +1,7 @@
 -- The types of expressions (FIRRTL specification 3.0, "Expressions", "References", "Primitive Operations", "Multiplexers"), by cases
 -- on the node. A node has a type where its operands have types and it meets the conditions on them; where they have types and
 -- it doesn't, it is at fault; where one has none, it isn't judged.
-use Rattle.std.specs.Prelude.{◌≡◌, ℕ, nat_lt, Bool, true, false, ◌||◌, List, [], ◌∷◌, ◌++◌, map, flat_map, find, ◌==◌, Option, Some, None, option_map, is_some, ℤ, pos, int_le}
+use Rattle.std.specs.Prelude.{◌≡◌, ℕ, nat_lt, Bool, true, false, ◌&&◌, ◌||◌, if◌then◌else◌, List, [], ◌∷◌, ◌++◌, map, flat_map, find, ◌==◌, Option, Some, None, option_map, is_some, ℤ, pos, int_le}
 use Rattle.bit_words.specs.declared.value.Kind.{Kind as Sign}
 use Rattle.bit_words.specs.declared.value.Kind.TheVariants.{Unsigned, Signed}
 use Rattle.bit_words.specs.Numbers.{integer_of_number}
@@ -9,10 +9,12 @@ use Rattle.place_text.specs.declared.place.Place.{Place}
 use Rattle.fir_types.specs.declared.fir_type.FirType.{FirType}
 use Rattle.fir_types.specs.declared.fir_type.Shape.{Shape}
 use Rattle.fir_types.specs.declared.fir_type.Shape.TheOpen.{Shape-F}
+use Rattle.fir_types.specs.declared.fir_type.Shape.TheVariants as shape
 use Rattle.fir_types.specs.declared.fir_type.Shape.TheViews.{out-Shape}
 use Rattle.fir_types.specs.declared.fir_type.Field.{Field}
 use Rattle.fir_types.specs.declared.name.Name.{Name}
 use Rattle.prim_ops.specs.declared.operation.PrimOp.{PrimOp}
+use Rattle.prim_ops.specs.declared.operation.PrimOp.TheVariants.{AsUInt, AsSInt, AsAsyncReset}
 use Rattle.prim_ops.specs.Kinds.{row_kind}
 use Rattle.fir_tree.specs.declared.expr.Expr.{Expr, fold-Expr}
 use Rattle.fir_tree.specs.declared.expr.Suffix.{Suffix, fold-Suffix}
@@ -22,8 +24,8 @@ use Rattle.type_check.specs.declared.fault.TypeFault.TheVariants.{FieldUnknown, 
 use Rattle.type_check.specs.declared.fault.TypeFault.{TypeFault}
 use Rattle.type_check.specs.Parts.{Known, component, unless, when, one_fault, typed_without}
 use Rattle.circuit_parts.specs.Parts.{part_of, source_of, flow_through}
-use Rattle.circuit_parts.specs.Kinds.{holds, ground, sign_or_unsigned, no_type, sign_of, is_unsigned}
-use Rattle.type_check.specs.Texts.{has_clock, is_passive, are_equivalent}
+use Rattle.circuit_parts.specs.Kinds.{holds, ground, sign_or_unsigned, no_type, sign_of, is_unsigned, is_async}
+use Rattle.type_check.specs.Texts.{has_signal, is_passive, are_equivalent}
 
 -- What is found of an expression, or of a reference up to some step: the part with its type, the types of its nodes in
 -- text order, and the faults.
@@ -150,33 +152,48 @@ abbrev pub typed_operands : Known → List Judged → Option (List Operand)
 typed_operands known [] = Some []
 typed_operands known (e ∷ es) = with_operand (e.among known).part e.place (typed_operands known es)
 
+-- the operations that take an `AsyncReset`, as one bit without a sign
+abbrev pub takes_async : PrimOp → Bool
+takes_async AsUInt = true
+takes_async AsSInt = true
+takes_async AsAsyncReset = true
+takes_async _ = false
+
+-- the kind of an operand of an operation
+abbrev pub sign_for : PrimOp → FirType → Option Sign
+sign_for op typ = if takes_async op && is_async typ then Some Unsigned else sign_of typ
+
 abbrev pub with_sign : Option Sign → Option (List Sign) → Option (List Sign)
 with_sign (Some sign) (Some signs) = Some (sign ∷ signs)
 with_sign (Some sign) None = None
 with_sign None signs = None
 
--- the kinds of operands, where all are numbers
-abbrev pub signs_of : List Operand → Option (List Sign)
-signs_of [] = Some []
-signs_of (operand ∷ operands) = with_sign (sign_of operand.typ) (signs_of operands)
+-- the kinds of the operands of an operation, where it takes each
+abbrev pub signs_of : PrimOp → List Operand → Option (List Sign)
+signs_of op [] = Some []
+signs_of op (operand ∷ operands) = with_sign (sign_for op operand.typ) (signs_of op operands)
 
 -- the kind of the result, where the table has a row for these operands
 abbrev pub row_of : PrimOp → Option (List Sign) → Option Sign
 row_of op (Some signs) = row_kind op signs
 row_of op None = None
 
--- The type of a result has a width of its own, which is not told here.
+-- the type of a result of this kind; it has a width of its own, which is not told here
+abbrev pub result_type : PrimOp → Place → Sign → FirType
+result_type AsAsyncReset place sign = record { place = place; shape = shape.AsyncReset }
+result_type op place sign = ground place sign None
+
 abbrev pub operation : PrimOp → Place → List Judgement → List Operand → Judgement
 operation op place operands typed =
-    let row = row_of op (signs_of typed) in
-    node place (unless (is_some row) (OperandKind place)) (ground place (sign_or_unsigned row) None) operands
+    let row = row_of op (signs_of op typed) in
+    node place (unless (is_some row) (OperandKind place)) (result_type op place (sign_or_unsigned row)) operands
 
--- A choice takes a UInt and two passive and equivalent types without clocks. It has the type of the second operand; its widths
+-- A choice takes a UInt and two passive and equivalent types without a `Clock` or an `AsyncReset`. It has the type of the second operand; its widths
 -- are not told here.
 abbrev pub choice_faults : Place → Operand → Operand → Operand → List TypeFault
 choice_faults place condition first second =
     unless (is_unsigned condition.typ) (ConditionKind condition.place)
-    ++ (when (has_clock first.typ || has_clock second.typ) (OperandKind place)
+    ++ (when (has_signal first.typ || has_signal second.typ) (OperandKind place)
     ++ (unless (is_passive first.typ) (NotPassive first.place)
     ++ (unless (is_passive second.typ) (NotPassive second.place)
     ++ unless (are_equivalent first.typ second.typ) (NotEquivalent second.place))))

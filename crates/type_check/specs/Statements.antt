@@ -21,7 +21,7 @@ use Rattle.type_check.specs.Parts.{Known, known_with, unless, when, where_typed}
 use Rattle.circuit_parts.specs.Turns.{in_order}
 use Rattle.circuit_parts.specs.Parts.{port_flow, instance_in, part_of, source_of}
 use Rattle.type_check.specs.Texts.{twice_in, stored_faults, is_passive, are_equivalent}
-use Rattle.circuit_parts.specs.Kinds.{is_unsigned, is_a_clock}
+use Rattle.circuit_parts.specs.Kinds.{is_unsigned, is_reset, is_a_clock}
 use Rattle.type_check.specs.Expressions.{found_of}
 use Rattle.type_check.specs.Memories.{memory_faults}
 
@@ -67,6 +67,10 @@ clock_faults at clock = unless (is_a_clock clock.typ) (OperandKind at)
 
 abbrev pub condition_faults : Place → Part → List TypeFault
 condition_faults at condition = unless (is_unsigned condition.typ) (ConditionKind at)
+
+-- a reset is a `UInt` or an `AsyncReset`
+abbrev pub reset_faults : Place → Part → List TypeFault
+reset_faults at reset = unless (is_reset reset.typ) (ConditionKind at)
 
 abbrev pub init_faults : FirType → Place → Part → List TypeFault
 init_faults typ at init = unless (are_equivalent typ init.typ) (NotEquivalent at)
@@ -120,7 +124,7 @@ of_stmt modules (Stmt-F.Wire name typ) = and_then (notes (twice_in typ)) (declar
 of_stmt modules (Stmt-F.Reg name typ clock) =
     and_then (notes (stored_faults typ)) (and_then (expects (clock_faults clock.place) clock) (declares name.id (Some (part_of typ Duplex))))
 of_stmt modules (Stmt-F.RegReset name typ clock reset init) =
-    and_then (notes (stored_faults typ)) (and_then (expects (clock_faults clock.place) clock) (and_then (expects (condition_faults reset.place) reset)
+    and_then (notes (stored_faults typ)) (and_then (expects (clock_faults clock.place) clock) (and_then (expects (reset_faults reset.place) reset)
     (and_then (expects (init_faults typ init.place) init) (declares name.id (Some (part_of typ Duplex))))))
 of_stmt modules (Stmt-F.Mem memory) = and_then (notes (memory_faults memory)) (declares memory.name.id (Some (source_of (memory_of memory))))
 of_stmt modules (Stmt-F.Inst name target) = declares name.id (instance_in modules target.id)

@@ -11,10 +11,10 @@ use Rattle.fir_types.specs.declared.name.Name.{Name}
 use Rattle.fir_types.specs.Passivity.{has_flip}
 use Rattle.type_check.specs.declared.fault.TypeFault.TheVariants.{FieldTwice, OperandKind, NotPassive}
 use Rattle.type_check.specs.declared.fault.TypeFault.{TypeFault}
-use Rattle.circuit_parts.specs.Kinds.{is_clock_layer}
+use Rattle.circuit_parts.specs.Kinds.{is_clock_layer, is_async_layer}
 use Rattle.type_check.specs.Parts.{unless, when}
--- whether a leaf of a type is a `Clock`
-pub use Rattle.fir_types.specs.Leaves.{has_clock}
+-- whether a leaf of a type is a `Clock` or an `AsyncReset`
+pub use Rattle.fir_types.specs.Leaves.{has_signal}
 
 -- whether no `flip` stands in a type
 abbrev pub is_passive : FirType → Bool
@@ -51,6 +51,7 @@ shape_takes (Shape-F.Unsigned width) other = is_unsigned_layer (out-Shape other)
 shape_takes (Shape-F.Signed width) other = is_signed_layer (out-Shape other)
 shape_takes Shape-F.Clock other = is_clock_layer (out-Shape other)
 shape_takes Shape-F.Reset other = is_unsigned_layer (out-Shape other)
+shape_takes Shape-F.AsyncReset other = is_async_layer (out-Shape other)
 shape_takes (Shape-F.Bundle fields) other = bundle_takes fields (out-Shape other)
 shape_takes (Shape-F.Vector element length) other = vector_takes element length (out-Shape other)
 
@@ -89,6 +90,6 @@ field_faults f = (f.name, f.typ)
 abbrev pub twice_in : FirType → List TypeFault
 twice_in = fold-FirType (List TypeFault) FieldFaults (List TypeFault) twice_in_shape field_faults (λ t. t.shape)
 
--- The type of what is stored, in a register or a memory: no clock, and passive.
+-- The type of what is stored, in a register or a memory: no `Clock`, no `AsyncReset`, and passive.
 abbrev pub stored_faults : FirType → List TypeFault
-stored_faults typ = twice_in typ ++ (when (has_clock typ) (OperandKind typ.place) ++ unless (is_passive typ) (NotPassive typ.place))
+stored_faults typ = twice_in typ ++ (when (has_signal typ) (OperandKind typ.place) ++ unless (is_passive typ) (NotPassive typ.place))

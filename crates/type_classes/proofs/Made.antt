@@ -37,6 +37,9 @@ mask-clock t h = grind (arith, common_steps, the_lemmas)
 mask-reset : (t : FirType) → t.shape ≡ shape.Reset → (mask_of t).shape ≡ shape.Unsigned (Some 1)
 mask-reset t h = grind (arith, common_steps, the_lemmas)
 
+mask-async : (t : FirType) → t.shape ≡ shape.AsyncReset → (mask_of t).shape ≡ shape.Unsigned (Some 1)
+mask-async t h = grind (arith, common_steps, the_lemmas)
+
 mask-field : (f : Field) → mask_of_field f ≡ record { flip = f.flip; name = f.name; typ = mask_of f.typ }
 mask-field f = grind (arith, common_steps, the_lemmas)
 
@@ -61,6 +64,10 @@ unsigned_number table false t w h = as_unsigned (a_uint w h)
 pub reset_number : (table : Table) (mask : Bool) (t : FirType) → t.shape ≡ shape.Reset → HasNumber table (masked mask t) 0
 reset_number table true t h = as_unsigned (a_uint (Some 1) (mask-reset t h))
 reset_number table false t h = as_unsigned (a_reset h)
+
+pub async_number : (table : Table) (mask : Bool) (t : FirType) → t.shape ≡ shape.AsyncReset → HasNumber table (masked mask t) 0
+async_number table true t h = as_unsigned (a_uint (Some 1) (mask-async t h))
+async_number table false t h = as_unsigned (a_reset h)
 
 pub signed_number : (table : Table) (mask : Bool) (t : FirType) (w : Option ℕ) (n : ℕ) → t.shape ≡ shape.Signed w → (mask ≡ true → n ≡ 0) → (mask ≡ false → n ≡ 1)
     → HasNumber table (masked mask t) n
@@ -158,6 +165,8 @@ have_all table ps fields parts = have_none table (drop (length ps) ps) (drop_all
 -- by the shape
 
 pub unsigned_shape : (table : Table) (mask : Bool) (s : Shape) → ((w : Option ℕ) × (s ≡ shape.Unsigned w)) ⊎ (s ≡ shape.Reset) → (t : FirType) → t.shape ≡ s
+    → HasNumber table (masked mask t) 0
+pub unsigned_shape : (table : Table) (mask : Bool) (s : Shape) → ((w : Option ℕ) × (s ≡ shape.Unsigned w)) ⊎ (s ≡ shape.AsyncReset) → (t : FirType) → t.shape ≡ s
     → HasNumber table (masked mask t) 0
 unsigned_shape table mask s (inl (w, e)) t is = unsigned_number table mask t w (is ∙ e)
 unsigned_shape table mask s (inr e) t is = reset_number table mask t (is ∙ e)

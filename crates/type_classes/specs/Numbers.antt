@@ -33,6 +33,7 @@ mutual
     as_unsigned : {typ : FirType} → IsUnsigned typ → HasNumber table typ 0
     as_signed : {typ : FirType} → IsSigned typ → HasNumber table typ 1
     as_clock : {typ : FirType} → typ.shape ≡ shape.Clock → HasNumber table typ 2
+    as_async : {typ : FirType} → typ.shape ≡ shape.AsyncReset → HasNumber table typ 4
     as_vector : {typ : FirType} (element : FirType) (length inner number : ℕ) → typ.shape ≡ shape.Vector element length → HasNumber table element inner
         → vector_number table (record { element = inner; length = length }) ≡ Some number → HasNumber table typ number
     as_bundle : {typ : FirType} (fields : List Field) (number : ℕ) → typ.shape ≡ shape.Bundle fields → HaveNumber table fields number → HasNumber table typ number

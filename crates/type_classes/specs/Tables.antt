@@ -19,10 +19,10 @@ pub data HasPart (table : Table) : ℕ → ℕ → ℕ → Type 0 where
 abbrev pub HasParts : Table → ℕ → List (ℕ × ℕ) → Type 0
 HasParts table number numbers = (name class : ℕ) → lookup (nat_eq name) numbers ≡ Some class → HasPart table number name class
 
--- Different keys have different numbers, none is one of the four that stand for themselves, and the parts are those of their wholes.
+-- Different keys have different numbers, none is one of the five that stand for themselves, and the parts are those of their wholes.
 pub record IsSound (table : Table) (elements : List (ℕ × ℕ)) (fields : List (ℕ × FieldClasses)) (next : ℕ) : Type 0 where
-  pub vectors : (key : VectorKey) (number : ℕ) → vector_number table key ≡ Some number → (4 ≤ number) × (number < next)
-  pub bundles : (key : FieldKey) (number : ℕ) → field_number table key ≡ Some number → (4 ≤ number) × (number < next)
+  pub vectors : (key : VectorKey) (number : ℕ) → vector_number table key ≡ Some number → (5 ≤ number) × (number < next)
+  pub bundles : (key : FieldKey) (number : ℕ) → field_number table key ≡ Some number → (5 ≤ number) × (number < next)
   pub vectors_differ : (key other : VectorKey) (number : ℕ) → vector_number table key ≡ Some number → vector_number table other ≡ Some number → key ≡ other
   pub bundles_differ : (key other : FieldKey) (number : ℕ) → field_number table key ≡ Some number → field_number table other ≡ Some number → key ≡ other
   pub apart : (key : VectorKey) (other : FieldKey) (number : ℕ) → vector_number table key ≡ Some number → field_number table other ≡ Some number → ⊥

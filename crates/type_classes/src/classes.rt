@@ -22,6 +22,9 @@ pub const CLOCK: u32 = 2;
 /// The number of the bundle without fields.
 pub const EMPTY: u32 = 3;
 
+/// The number of `AsyncReset`.
+pub const ASYNC_RESET: u32 = 4;
+
 /// Numbers of classes of equivalent types. What the table lacks has no number, which costs time alone.
 #[derive(Drop)]
 pub struct Classes {
@@ -46,7 +49,7 @@ impl Classes {
             bundles: IndexMap::new(alloc),
             elements: IndexMap::new(alloc),
             fields: IndexMap::new(alloc),
-            next: 4,
+            next: 5,
         }
     }
 

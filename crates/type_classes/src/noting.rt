@@ -45,6 +45,7 @@ fn note_shape(
         Shape::Unsigned(_) | Shape::Reset => Ok(UNSIGNED),
         Shape::Signed(_) => Ok(unless_mask(mask, SIGNED)),
         Shape::Clock => Ok(unless_mask(mask, CLOCK)),
+        Shape::AsyncReset => Ok(unless_mask(mask, ASYNC_RESET)),
         Shape::Bundle(fields) => {
             let parts = parts_noted(alloc, classes, mask, fields.as_slice())?;
             note_parts(alloc, classes, &parts)

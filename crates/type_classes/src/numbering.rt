@@ -64,6 +64,7 @@ fn number_shape(
         Shape::Unsigned(_) | Shape::Reset => Ok(Some(UNSIGNED)),
         Shape::Signed(_) => Ok(Some(unless_mask(mask, SIGNED))),
         Shape::Clock => Ok(Some(unless_mask(mask, CLOCK))),
+        Shape::AsyncReset => Ok(Some(unless_mask(mask, ASYNC_RESET))),
         Shape::Bundle(fields) => match parts_of(alloc, classes, mask, fields.as_slice())? {
             Some(parts) => Ok(number_parts(classes, &parts)),
             None => Ok(None),

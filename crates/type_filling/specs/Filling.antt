@@ -38,6 +38,7 @@ of_shape (Shape-F.Unsigned width) widths = (shape.Unsigned (first_number widths)
 of_shape (Shape-F.Signed width) widths = (shape.Signed (first_number widths), behind_first widths)
 of_shape Shape-F.Clock widths = (shape.Clock, widths)
 of_shape Shape-F.Reset widths = (shape.Unsigned (first_number widths), behind_first widths)
+of_shape Shape-F.AsyncReset widths = (shape.AsyncReset, behind_first widths)
 of_shape (Shape-F.Bundle fields) widths = let taken = take_fields fields widths in (shape.Bundle taken.0, taken.1)
 of_shape (Shape-F.Vector element length) widths = let taken = element widths in (shape.Vector taken.0 length, taken.1)
 

@@ -10,7 +10,7 @@ use Rattle.fir_types.specs.declared.fir_type.FirType.{FirType}
 use Rattle.fir_types.specs.declared.fir_type.FirType.{the_lemmas as type_lemmas}
 use Rattle.fir_types.specs.declared.fir_type.Shape.{Shape}
 use Rattle.fir_types.specs.declared.fir_type.Shape.TheVariants as shape
-use Rattle.fir_types.specs.declared.fir_type.Shape.TheVariants.{outs-Unsigned, outs-Signed, outs-Clock, outs-Reset}
+use Rattle.fir_types.specs.declared.fir_type.Shape.TheVariants.{outs-Unsigned, outs-Signed, outs-Clock, outs-Reset, outs-AsyncReset}
 use Rattle.fir_types.specs.declared.fir_type.Shape.TheViews.{out-Shape}
 use Rattle.fir_types.specs.declared.fir_type.Field.{Field}
 use Rattle.fir_types.specs.Leaves.{count, field_count, leaves, field_leaves, is_clock, has_clock}
@@ -235,7 +235,14 @@ reset_matches texts typ is =
     ground_matches texts typ 1 false (ap is_ground (ap out-Shape is ∙ outs-Reset)) (λ fields h. absurd cc) (grind (arith, common_steps, type_lemmas))
     (grind (arith, common_steps, type_lemmas)) (grind (arith, common_steps, type_lemmas)) (grind (arith, common_steps, type_lemmas)) (grind (arith, common_steps, type_lemmas)) (omega arith)
 
+pub async_matches : (texts : Texts) (typ : FirType) → typ.shape ≡ shape.AsyncReset → Matches (IsRight texts) typ (of_ground 1 false)
+async_matches texts typ is =
+    ground_matches texts typ 1 false (ap is_ground (ap out-Shape is ∙ outs-AsyncReset)) (λ fields h. absurd cc) (grind (arith, common_steps, type_lemmas))
+    (grind (arith, common_steps, type_lemmas)) (grind (arith, common_steps, type_lemmas)) (grind (arith, common_steps, type_lemmas)) (grind (arith, common_steps, type_lemmas)) (omega arith)
+
 pub all_sized : (texts : Texts) (s : Shape) (typ : FirType) → ((w : Option ℕ) × (s ≡ shape.Unsigned w)) ⊎ ((w : Option ℕ) × (s ≡ shape.Signed w)) ⊎ (s ≡ shape.Reset) → typ.shape ≡ s
+    → Matches (IsRight texts) typ (of_ground 1 false)
+pub all_sized : (texts : Texts) (s : Shape) (typ : FirType) → ((w : Option ℕ) × (s ≡ shape.Unsigned w)) ⊎ ((w : Option ℕ) × (s ≡ shape.Signed w)) ⊎ (s ≡ shape.AsyncReset) → typ.shape ≡ s
     → Matches (IsRight texts) typ (of_ground 1 false)
 all_sized texts s typ (inl (w, e)) is = unsigned_matches texts typ w (is ∙ e)
 all_sized texts s typ (inr (inl (w, e))) is = signed_matches texts typ w (is ∙ e)

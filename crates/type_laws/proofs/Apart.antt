@@ -12,7 +12,7 @@ use Rattle.fir_types.specs.declared.fir_type.Shape.TheOpen.{Shape-F}
 use Rattle.fir_types.specs.declared.fir_type.Shape.TheFolds.{map-Shape}
 use Rattle.fir_types.specs.declared.fir_type.Shape.TheViews.{roll-Shape, roll-Field, roll-FirType}
 use Rattle.fir_types.specs.declared.fir_type.Shape.TheVariants as shape
-use Rattle.fir_types.specs.declared.fir_type.Shape.TheVariants.{rolls-Unsigned, rolls-Signed, rolls-Clock, rolls-Reset, rolls-Bundle, rolls-Vector}
+use Rattle.fir_types.specs.declared.fir_type.Shape.TheVariants.{rolls-Unsigned, rolls-Signed, rolls-Clock, rolls-Reset, rolls-AsyncReset, rolls-Bundle, rolls-Vector}
 use Rattle.fir_types.specs.declared.fir_type.Field.{Field, fold-Field}
 use Rattle.fir_types.specs.declared.leaf.TypeLeaf.{TypeLeaf}
 use Rattle.fir_types.specs.declared.leaf.PathStep.{PathStep}
@@ -187,6 +187,7 @@ shape_apart (Shape-F.Unsigned w) = subst ShapeApart (sym (rolls-Unsigned w)) (λ
 shape_apart (Shape-F.Signed w) = subst ShapeApart (sym (rolls-Signed w)) (λ place h. one_apart (record { place = place; shape = shape.Signed w }) (grind (arith, common_steps, the_lemmas)))
 shape_apart Shape-F.Clock = subst ShapeApart (sym rolls-Clock) (λ place h. one_apart (record { place = place; shape = shape.Clock }) (grind (arith, common_steps, the_lemmas)))
 shape_apart Shape-F.Reset = subst ShapeApart (sym rolls-Reset) (λ place h. one_apart (record { place = place; shape = shape.Reset }) (grind (arith, common_steps, the_lemmas)))
+shape_apart Shape-F.AsyncReset = subst ShapeApart (sym rolls-AsyncReset) (λ place h. one_apart (record { place = place; shape = shape.AsyncReset }) (grind (arith, common_steps, the_lemmas)))
 shape_apart (Shape-F.Bundle ps) = subst ShapeApart (sym (rolls-Bundle (map (λ e. e.0) ps))) (λ place h.
     let fs : List Field = map (λ e. e.0) ps in
     let t : FirType = record { place = place; shape = shape.Bundle (map (λ e. e.0) ps) } in

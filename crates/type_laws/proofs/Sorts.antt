@@ -11,7 +11,7 @@ use Rattle.fir_types.specs.declared.fir_type.Shape.TheOpen.{Shape-F}
 use Rattle.fir_types.specs.declared.fir_type.Shape.TheFolds.{map-Shape}
 use Rattle.fir_types.specs.declared.fir_type.Shape.TheViews.{roll-Shape, roll-Field, roll-FirType}
 use Rattle.fir_types.specs.declared.fir_type.Shape.TheVariants as shape
-use Rattle.fir_types.specs.declared.fir_type.Shape.TheVariants.{rolls-Unsigned, rolls-Signed, rolls-Clock, rolls-Reset, rolls-Bundle, rolls-Vector}
+use Rattle.fir_types.specs.declared.fir_type.Shape.TheVariants.{rolls-Unsigned, rolls-Signed, rolls-Clock, rolls-Reset, rolls-AsyncReset, rolls-Bundle, rolls-Vector}
 use Rattle.fir_types.specs.declared.fir_type.Field.{Field}
 use Rattle.fir_types.specs.declared.leaf.TypeLeaf.{TypeLeaf}
 use Rattle.fir_types.specs.declared.leaf.PathStep.{PathStep}
@@ -109,6 +109,7 @@ shape_kinds (Shape-F.Unsigned w) = subst ShapeKinds (sym (rolls-Unsigned w)) (λ
 shape_kinds (Shape-F.Signed w) = subst ShapeKinds (sym (rolls-Signed w)) (λ place. one_kind (record { place = place; shape = shape.Signed w }) (grind (arith, common_steps, the_lemmas)) refl)
 shape_kinds Shape-F.Clock = subst ShapeKinds (sym rolls-Clock) (λ place. one_kind (record { place = place; shape = shape.Clock }) (grind (arith, common_steps, the_lemmas)) refl)
 shape_kinds Shape-F.Reset = subst ShapeKinds (sym rolls-Reset) (λ place. one_kind (record { place = place; shape = shape.Reset }) (grind (arith, common_steps, the_lemmas)) refl)
+shape_kinds Shape-F.AsyncReset = subst ShapeKinds (sym rolls-AsyncReset) (λ place. one_kind (record { place = place; shape = shape.AsyncReset }) (grind (arith, common_steps, the_lemmas)) refl)
 shape_kinds (Shape-F.Bundle ps) = subst ShapeKinds (sym (rolls-Bundle (map (λ e. e.0) ps))) (λ place.
     let fs : List Field = map (λ e. e.0) ps in
     subst AllKinds (sym (leaves-bundle (record { place = place; shape = shape.Bundle (map (λ e. e.0) ps) }) fs refl)) (all_fields ps))

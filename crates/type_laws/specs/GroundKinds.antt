@@ -8,6 +8,7 @@ pub data GroundKind : Type 0 where
   An_unsigned : GroundKind
   A_signed : GroundKind
   A_clock : GroundKind
+  An_async : GroundKind
 
 -- `Reset` is `UInt<1>`. Bundles and vectors are no ground types.
 abbrev pub kind_of_shape : Shape → Option GroundKind
@@ -15,6 +16,7 @@ kind_of_shape (shape.Unsigned width) = Some An_unsigned
 kind_of_shape shape.Reset = Some An_unsigned
 kind_of_shape (shape.Signed width) = Some A_signed
 kind_of_shape shape.Clock = Some A_clock
+kind_of_shape shape.AsyncReset = Some An_async
 kind_of_shape _ = None
 
 -- the kind of a leaf

@@ -121,6 +121,7 @@ layer_fits count name (Shape-F.Unsigned w) slots h = h
 layer_fits count name (Shape-F.Signed w) slots h = h
 layer_fits count name Shape-F.Clock slots h = h
 layer_fits count name Shape-F.Reset slots h = h
+layer_fits count name Shape-F.AsyncReset slots h = h
 layer_fits count name (Shape-F.Bundle fields) slots h = field_fits count name fields slots h
 layer_fits count name (Shape-F.Vector element n) slots h = h
 

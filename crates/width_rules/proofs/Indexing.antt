@@ -106,6 +106,7 @@ field_told name base f place typ flow count slots found at is turns fits counted
     by (Shape-F.Signed w) found at = absurd cc
     by Shape-F.Clock found at = absurd cc
     by Shape-F.Reset found at = absurd cc
+    by Shape-F.AsyncReset found at = absurd cc
 
 -- and where there is none
 pub field_none : (name : ℕ) (base : Component) (slots : List Slot) → find (λ x. x.name.id == name) (fields_in (out-Shape base.part.typ.shape)) ≡ None
@@ -119,6 +120,7 @@ field_none name base slots none own = λ i. record { part = by (out-Shape base.p
     by (Shape-F.Signed w) none = refl
     by Shape-F.Clock none = refl
     by Shape-F.Reset none = refl
+    by Shape-F.AsyncReset none = refl
 
 -- what is left behind all fields of a bundle
 pub behind_all : (name : ℕ) (typ : FirType) (fs : List Field) (count : ℕ) (slots rest : List Slot) → typ.shape ≡ shape.Bundle fs
