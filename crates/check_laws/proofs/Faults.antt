@@ -35,11 +35,11 @@ use Rattle.circuit_parts.proofs.Shapes.{ShapeCase, shape_uint, shape_sint, shape
 use Rattle.type_check.specs.declared.fault.TypeFault.{TypeFault}
 use Rattle.type_check.specs.declared.fault.TypeFault.TheVariants.{FieldUnknown, NotBundle, NotVector, IndexRange, IndexKind, OperandKind, NotEquivalent, ConditionKind, NotPassive, LiteralFit}
 use Rattle.type_check.specs.Parts.{Known, component, unless, when, one_fault}
-use Rattle.type_check.specs.Texts.{has_clock, is_passive, are_equivalent}
+use Rattle.type_check.specs.Texts.{has_signal, is_passive, are_equivalent}
 use Rattle.type_check.specs.Expressions.{Judgement, Operand, found_of, judged, suffix_step, along, behind, over, operation, choice, choice_faults, typed_operands, with_operand, all_among, signs_of, row_of, fits_literal, from_index, field_step, field_found, element_step, element_found, index_step, indexed}
 use Rattle.type_check.proofs.Equivalence.{yes, is_equivalent}
 use Rattle.check_laws.specs.Typing.{IsPart, HaveTypes, no_operands, one_operand}
-use Rattle.check_laws.specs.Faults.{IsNoBundle, IsNoVector, StepFails, no_bundle, no_field, no_vector, past_the_end, nothing_to_index, no_number, WayFails, here, further, HasRow, ChoiceFails, condition_kind, a_clock, first_flips, second_flips, unlike, operand_of, IsAtFault, reference, literal, operation as an_operation, choice as a_choice, StandsIn, itself, in_operation, in_choice, in_index}
+use Rattle.check_laws.specs.Faults.{IsNoBundle, IsNoVector, StepFails, no_bundle, no_field, no_vector, past_the_end, nothing_to_index, no_number, WayFails, here, further, HasRow, ChoiceFails, condition_kind, a_signal, first_flips, second_flips, unlike, operand_of, IsAtFault, reference, literal, operation as an_operation, choice as a_choice, StandsIn, itself, in_operation, in_choice, in_index}
 use Rattle.check_laws.proofs.Members.{nothing_in, head_in, tail_in, in_cases}
 use Rattle.check_laws.proofs.Typing.{some_same, none_some, heads, tails, ref_is, literal_is, prim_is, mux_is, field_is, at_is, index_is, field_out, at_out, index_out, unsigned_is, is_unsigned_yes, signs_some, signs_back, SuffixIs, suffix_case, is_part, found_is, step_found, types_found}
 
@@ -112,7 +112,7 @@ choice_fails place c a b fault h = ⊎_elim
     (λ l. let t = unless_tells (is_unsigned c.typ) (ConditionKind c.place) fault l in
     subst (ChoiceFails place c a b) t.1 (condition_kind (λ is. not_both (is_unsigned c.typ) t.0 (is_unsigned_yes is))))
     (λ r1. ⊎_elim
-    (λ l. let t = when_tells (has_clock a.typ || has_clock b.typ) (OperandKind place) fault l in subst (ChoiceFails place c a b) t.1 (a_clock t.0))
+    (λ l. let t = when_tells (has_signal a.typ || has_signal b.typ) (OperandKind place) fault l in subst (ChoiceFails place c a b) t.1 (a_signal t.0))
     (λ r2. ⊎_elim
     (λ l. let t = unless_tells (is_passive a.typ) (NotPassive a.place) fault l in
     subst (ChoiceFails place c a b) t.1 (first_flips (λ is. not_both (is_passive a.typ) t.0 (ap not is))))
@@ -123,14 +123,14 @@ choice_fails place c a b fault h = ⊎_elim
     subst (ChoiceFails place c a b) t.1 (unlike (λ is. not_both (are_equivalent a.typ b.typ) t.0 (yes is))))
     (Contains-append_cases others same fault r3))
     (Contains-append_cases passive (others ++ same) fault r2))
-    (Contains-append_cases clocks (passive ++ (others ++ same)) fault r1))
-    (Contains-append_cases kind (clocks ++ (passive ++ (others ++ same))) fault h)
+    (Contains-append_cases signals (passive ++ (others ++ same)) fault r1))
+    (Contains-append_cases kind (signals ++ (passive ++ (others ++ same))) fault h)
   where
     kind : List TypeFault
     kind = unless (is_unsigned c.typ) (ConditionKind c.place)
 
-    clocks : List TypeFault
-    clocks = when (has_clock a.typ || has_clock b.typ) (OperandKind place)
+    signals : List TypeFault
+    signals = when (has_signal a.typ || has_signal b.typ) (OperandKind place)
 
     passive : List TypeFault
     passive = unless (is_passive a.typ) (NotPassive a.place)
@@ -151,8 +151,8 @@ fails_choice place c a b fault h = by fault h where
   kind : List TypeFault
   kind = unless (is_unsigned c.typ) (ConditionKind c.place)
 
-  clocks : List TypeFault
-  clocks = when (has_clock a.typ || has_clock b.typ) (OperandKind place)
+  signals : List TypeFault
+  signals = when (has_signal a.typ || has_signal b.typ) (OperandKind place)
 
   passive : List TypeFault
   passive = unless (is_passive a.typ) (NotPassive a.place)
@@ -163,20 +163,20 @@ fails_choice place c a b fault h = by fault h where
   same : List TypeFault
   same = unless (are_equivalent a.typ b.typ) (NotEquivalent b.place)
 
-  behind_kind : (fault : TypeFault) → Contains (clocks ++ (passive ++ (others ++ same))) fault → Contains (choice_faults place c a b) fault
-  behind_kind fault r = Contains-append_right kind (clocks ++ (passive ++ (others ++ same))) fault r
+  behind_kind : (fault : TypeFault) → Contains (signals ++ (passive ++ (others ++ same))) fault → Contains (choice_faults place c a b) fault
+  behind_kind fault r = Contains-append_right kind (signals ++ (passive ++ (others ++ same))) fault r
 
-  behind_clocks : (fault : TypeFault) → Contains (passive ++ (others ++ same)) fault → Contains (choice_faults place c a b) fault
-  behind_clocks fault r = behind_kind fault (Contains-append_right clocks (passive ++ (others ++ same)) fault r)
+  behind_signals : (fault : TypeFault) → Contains (passive ++ (others ++ same)) fault → Contains (choice_faults place c a b) fault
+  behind_signals fault r = behind_kind fault (Contains-append_right signals (passive ++ (others ++ same)) fault r)
 
   behind_passive : (fault : TypeFault) → Contains (others ++ same) fault → Contains (choice_faults place c a b) fault
-  behind_passive fault r = behind_clocks fault (Contains-append_right passive (others ++ same) fault r)
+  behind_passive fault r = behind_signals fault (Contains-append_right passive (others ++ same) fault r)
 
   by : (fault : TypeFault) → ChoiceFails place c a b fault → Contains (choice_faults place c a b) fault
-  by fault (condition_kind isnt) = Contains-append_left kind (clocks ++ (passive ++ (others ++ same))) fault
+  by fault (condition_kind isnt) = Contains-append_left kind (signals ++ (passive ++ (others ++ same))) fault
       (told_unless (is_unsigned c.typ) (ConditionKind c.place) (no_truth (is_unsigned c.typ) (λ e. isnt (unsigned_is c.typ e))))
-  by fault (a_clock is) = behind_kind fault (Contains-append_left clocks (passive ++ (others ++ same)) fault (told_when (has_clock a.typ || has_clock b.typ) (OperandKind place) is))
-  by fault (first_flips isnt) = behind_clocks fault (Contains-append_left passive (others ++ same) fault (told_unless (is_passive a.typ) (NotPassive a.place) (flips (has_flip a.typ) isnt)))
+  by fault (a_signal is) = behind_kind fault (Contains-append_left signals (passive ++ (others ++ same)) fault (told_when (has_signal a.typ || has_signal b.typ) (OperandKind place) is))
+  by fault (first_flips isnt) = behind_signals fault (Contains-append_left passive (others ++ same) fault (told_unless (is_passive a.typ) (NotPassive a.place) (flips (has_flip a.typ) isnt)))
   by fault (second_flips isnt) = behind_passive fault (Contains-append_left others same fault (told_unless (is_passive b.typ) (NotPassive b.place) (flips (has_flip b.typ) isnt)))
   by fault (unlike isnt) = behind_passive fault (Contains-append_right others same fault
       (told_unless (are_equivalent a.typ b.typ) (NotEquivalent b.place) (no_truth (are_equivalent a.typ b.typ) (λ e. isnt (is_equivalent a.typ b.typ e)))))
@@ -193,7 +193,7 @@ all_faults js = flat_map (λ (j : Judgement). j.faults) js
 pub operation_keeps : (op : PrimOp) (place : Place) (js : List Judgement) (o : Option (List Operand)) (fault : TypeFault) → Contains (all_faults js) fault
     → Contains (over place (operation op place) js o).faults fault
 operation_keeps op place js None fault c = c
-operation_keeps op place js (Some os) fault c = Contains-append_left (all_faults js) (unless (is_some (row_of op (signs_of os))) (OperandKind place)) fault c
+operation_keeps op place js (Some os) fault c = Contains-append_left (all_faults js) (unless (is_some (row_of op (signs_of op os))) (OperandKind place)) fault c
 
 pub choice_keeps : (place : Place) (js : List Judgement) (o : Option (List Operand)) (fault : TypeFault) → Contains (all_faults js) fault
     → Contains (over place (choice place) js o).faults fault
@@ -205,10 +205,10 @@ choice_keeps place js (Some (c ∷ a ∷ b ∷ [])) fault h = Contains-append_le
 choice_keeps place js (Some (c ∷ a ∷ b ∷ d ∷ os)) fault h = h
 
 operation_tells : (op : PrimOp) (place : Place) (js : List Judgement) (o : Option (List Operand)) (fault : TypeFault) → Contains (over place (operation op place) js o).faults fault
-    → Contains (all_faults js) fault ⊎ ((os : List Operand) × (o ≡ Some os) × Contains (unless (is_some (row_of op (signs_of os))) (OperandKind place)) fault)
+    → Contains (all_faults js) fault ⊎ ((os : List Operand) × (o ≡ Some os) × Contains (unless (is_some (row_of op (signs_of op os))) (OperandKind place)) fault)
 operation_tells op place js None fault c = inl c
 operation_tells op place js (Some os) fault c = ⊎_elim inl (λ own. inr (os, refl, own))
-    (Contains-append_cases (all_faults js) (unless (is_some (row_of op (signs_of os))) (OperandKind place)) fault c)
+    (Contains-append_cases (all_faults js) (unless (is_some (row_of op (signs_of op os))) (OperandKind place)) fault c)
 
 abbrev OwnOfChoice : Place → Option (List Operand) → TypeFault → Type 0
 OwnOfChoice place o fault = (c : Operand) × (a : Operand) × (b : Operand) × (o ≡ Some (c ∷ a ∷ b ∷ [])) × Contains (choice_faults place c a b) fault
@@ -228,17 +228,17 @@ types_in os = map (λ (o : Operand). o.typ) os
 abbrev pub places_in : List Operand → List Place
 places_in os = map (λ (o : Operand). o.place) os
 
-row_there : (op : PrimOp) (os : List Operand) → is_some (row_of op (signs_of os)) ≡ false → ¬ (HasRow op (types_in os))
+row_there : (op : PrimOp) (os : List Operand) → is_some (row_of op (signs_of op os)) ≡ false → ¬ (HasRow op (types_in os))
 row_there op os e (signs, sign, kinds, row) =
-    not_both (is_some (row_of op (signs_of os))) e (ap (λ s. is_some (row_of op s)) (signs_back os signs kinds) ∙ ap is_some row)
+    not_both (is_some (row_of op (signs_of op os))) e (ap (λ s. is_some (row_of op s)) (signs_back op os signs kinds) ∙ ap is_some row)
 
-no_row : (op : PrimOp) (os : List Operand) → ¬ (HasRow op (types_in os)) → is_some (row_of op (signs_of os)) ≡ false
-no_row op os isnt = by (signs_of os) refl where
-  row_by : (signs : List Sign) (row : Option Sign) → signs_of os ≡ Some signs → row_kind op signs ≡ row → is_some row ≡ false
+no_row : (op : PrimOp) (os : List Operand) → ¬ (HasRow op (types_in os)) → is_some (row_of op (signs_of op os)) ≡ false
+no_row op os isnt = by (signs_of op os) refl where
+  row_by : (signs : List Sign) (row : Option Sign) → signs_of op os ≡ Some signs → row_kind op signs ≡ row → is_some row ≡ false
   row_by signs None q r = refl
-  row_by signs (Some sign) q r = absurd (isnt (signs, sign, signs_some os signs q, r))
+  row_by signs (Some sign) q r = absurd (isnt (signs, sign, signs_some op os signs q, r))
 
-  by : (s : Option (List Sign)) → signs_of os ≡ s → is_some (row_of op s) ≡ false
+  by : (s : Option (List Sign)) → signs_of op os ≡ s → is_some (row_of op s) ≡ false
   by None q = refl
   by (Some signs) q = row_by signs (row_kind op signs) q refl
 
@@ -431,10 +431,10 @@ module _ (known : Known) where
         whole = record { place = place; form = form.Prim op (map (λ e. e.0) ps) params }
 
         by : Contains (all_faults (all_among known (map judged es))) fault
-            ⊎ ((os : List Operand) × (typed_operands known (map judged es) ≡ Some os) × Contains (unless (is_some (row_of op (signs_of os))) (OperandKind place)) fault) → Told whole fault
+            ⊎ ((os : List Operand) × (typed_operands known (map judged es) ≡ Some os) × Contains (unless (is_some (row_of op (signs_of op os))) (OperandKind place)) fault) → Told whole fault
         by (inl h) = let t = among_told ps fault h in (t.2.0, in_operation op es params t.0 refl t.1 t.2.1, t.2.2)
         by (inr (os, q, own)) =
-            let t = unless_tells (is_some (row_of op (signs_of os))) (OperandKind place) fault own in
+            let t = unless_tells (is_some (row_of op (signs_of op os))) (OperandKind place) fault own in
             (whole, itself, subst (IsAtFault known whole) t.1 (an_operation op es params (types_in os) refl (operands_found es os q).0 (row_there op os t.0)))
 
   three_told : (e : Expr) (es : List Expr) (c a b : Operand) (fault : TypeFault) → e.form ≡ form.Mux es → typed_operands known (map judged es) ≡ Some (c ∷ a ∷ b ∷ [])
@@ -572,8 +572,8 @@ module _ (known : Known) where
       let js = all_among known (map judged es) in
       subst (λ (j : Judgement). Contains j.faults fault) (sym (prim_is known e op es params is))
       (subst (λ o. Contains (over e.place (operation op e.place) js o).faults fault) (sym t.1)
-      (Contains-append_right (all_faults js) (unless (is_some (row_of op (signs_of t.0))) (OperandKind e.place)) fault
-      (told_unless (is_some (row_of op (signs_of t.0))) (OperandKind e.place) (no_row op t.0 (λ row. isnt (subst (HasRow op) t.2 row))))))
+      (Contains-append_right (all_faults js) (unless (is_some (row_of op (signs_of op t.0))) (OperandKind e.place)) fault
+      (told_unless (is_some (row_of op (signs_of op t.0))) (OperandKind e.place) (no_row op t.0 (λ row. isnt (subst (HasRow op) t.2 row))))))
   own_found {e} {fault} (a_choice x y z c a b is have fails) =
       let t = types_found known have in
       let js = all_among known (map judged (x ∷ y ∷ z ∷ [])) in

@@ -23,7 +23,7 @@ use Rattle.fir_types.specs.Memories.{element_in, depth_in, read_latency_in, writ
 use Rattle.type_check.specs.declared.fault.TypeFault.{TypeFault}
 use Rattle.type_check.specs.declared.fault.TypeFault.TheVariants.{FieldTwice, OperandKind, NotPassive, MemoryField}
 use Rattle.type_check.specs.Parts.{unless, when}
-use Rattle.type_check.specs.Texts.{has_clock, is_passive, has_name, seconds_behind, FieldFaults, twice_in_shape, field_faults, twice_in, stored_faults}
+use Rattle.type_check.specs.Texts.{has_signal, is_passive, has_name, seconds_behind, FieldFaults, twice_in_shape, field_faults, twice_in, stored_faults}
 use Rattle.type_check.specs.Memories.{line_faults, is_element, is_depth, is_read_latency, is_write_latency, is_under, is_port, is_said, place_of, again_behind, missing, memory_faults}
 
 -- no fault of a memory's lines is among these
@@ -144,9 +144,9 @@ twice_no = ind-FirType ShapeNo FieldNo NoTwice
     (λ x y is. subst (λ z. NoTwice (roll-FirType z)) is (y.shape.1 y.place))
 
 stored_no : (t : FirType) → No (stored_faults t)
-stored_no t = no_both (twice_in t) (when (has_clock t) (OperandKind t.place) ++ unless (is_passive t) (NotPassive t.place)) (twice_no t)
-    (no_both (when (has_clock t) (OperandKind t.place)) (unless (is_passive t) (NotPassive t.place))
-    (other_when (has_clock t) (OperandKind t.place) refl) (other_unless (is_passive t) (NotPassive t.place) refl))
+stored_no t = no_both (twice_in t) (when (has_signal t) (OperandKind t.place) ++ unless (is_passive t) (NotPassive t.place)) (twice_no t)
+    (no_both (when (has_signal t) (OperandKind t.place)) (unless (is_passive t) (NotPassive t.place))
+    (other_when (has_signal t) (OperandKind t.place) refl) (other_unless (is_passive t) (NotPassive t.place) refl))
 
 -- Lines that say nothing again
 

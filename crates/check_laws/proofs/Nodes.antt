@@ -24,7 +24,7 @@ use Rattle.circuit_parts.specs.Kinds.{is_unsigned, ground, sign_or_unsigned}
 use Rattle.type_check.specs.declared.fault.TypeFault.{TypeFault}
 use Rattle.type_check.specs.declared.fault.TypeFault.TheVariants.{OperandKind, LiteralFit}
 use Rattle.type_check.specs.Parts.{Known, component, unless}
-use Rattle.type_check.specs.Expressions.{Judgement, Operand, found_of, judged, suffix_step, along, as_node, node, over, operation, choice, choice_faults, typed_operands, all_among, signs_of, row_of, fits_literal, from_index, field_step, field_found, element_step, element_found, index_step, indexed, type_or_none}
+use Rattle.type_check.specs.Expressions.{Judgement, Operand, found_of, judged, suffix_step, along, as_node, node, over, operation, choice, choice_faults, typed_operands, all_among, signs_of, row_of, result_type, fits_literal, from_index, field_step, field_found, element_step, element_found, index_step, indexed, type_or_none}
 use Rattle.check_laws.specs.Nodes.{NodesOf, reference, literal, operation as an_operation, choice as a_choice, NodesOfEach, no_operands, one_operand, NodesOnWay, no_steps, to_field, to_element, to_indexed, ListTypes, no_nodes, a_part, no_part}
 use Rattle.check_laws.proofs.Typing.{none_some, ref_is, literal_is, prim_is, mux_is, field_is, at_is, field_out, at_out, is_part, found_is}
 use Rattle.check_laws.proofs.Faults.{index_any}
@@ -88,8 +88,8 @@ operation_first : (op : PrimOp) (place : Place) (js : List Judgement) (o : Optio
     → (over place (operation op place) js o).nodes ≡ own_type place (over place (operation op place) js o) ∷ all_nodes js
 operation_first op place js None = refl
 operation_first op place js (Some os) =
-    let row = row_of op (signs_of os) in
-    node_first place (unless (is_some row) (OperandKind place)) (ground place (sign_or_unsigned row) None) js
+    let row = row_of op (signs_of op os) in
+    node_first place (unless (is_some row) (OperandKind place)) (result_type op place (sign_or_unsigned row)) js
 
 choice_first : (place : Place) (js : List Judgement) (o : Option (List Operand)) → (over place (choice place) js o).nodes ≡ own_type place (over place (choice place) js o) ∷ all_nodes js
 choice_first place js None = refl

@@ -30,7 +30,7 @@ use Rattle.circuit_parts.specs.Kinds.{is_unsigned, ground, sign_or_unsigned}
 use Rattle.type_check.specs.declared.fault.TypeFault.{TypeFault}
 use Rattle.type_check.specs.declared.fault.TypeFault.TheVariants.{FieldUnknown, NotBundle, NotVector, IndexRange, IndexKind, OperandKind, LiteralFit}
 use Rattle.type_check.specs.Parts.{Known, unless}
-use Rattle.type_check.specs.Expressions.{Judgement, Operand, found_of, judged, suffix_step, along, as_node, node, over, operation, choice, choice_faults, typed_operands, with_operand, all_among, signs_of, row_of, fits_literal, from_index, field_step, field_found, element_step, element_found, index_step, indexed}
+use Rattle.type_check.specs.Expressions.{Judgement, Operand, found_of, judged, suffix_step, along, as_node, node, over, operation, choice, choice_faults, typed_operands, with_operand, all_among, signs_of, row_of, result_type, fits_literal, from_index, field_step, field_found, element_step, element_found, index_step, indexed}
 use Rattle.check_laws.specs.Typing.{IsPart}
 use Rattle.check_laws.specs.Faults.{StandsIn, itself, in_operation, in_choice, in_index, IsComplete}
 use Rattle.check_laws.proofs.Members.{head_in, tail_in}
@@ -95,8 +95,8 @@ node_sound place (fault ∷ faults) typ js q = absurd (q fault (Contains-append_
 
 operation_sound : (op : PrimOp) (place : Place) (js : List Judgement) (os : List Operand) → Sound (over place (operation op place) js (Some os))
 operation_sound op place js os =
-    let row = row_of op (signs_of os) in
-    node_sound place (unless (is_some row) (OperandKind place)) (ground place (sign_or_unsigned row) None) js
+    let row = row_of op (signs_of op os) in
+    node_sound place (unless (is_some row) (OperandKind place)) (result_type op place (sign_or_unsigned row)) js
 
 choice_sound : (place : Place) (js : List Judgement) (os : List Operand) (p q r : Place) → places_in os ≡ p ∷ q ∷ r ∷ [] → Sound (over place (choice place) js (Some os))
 choice_sound place js [] p q r e = absurd cc

@@ -28,13 +28,13 @@ use Rattle.fir_tree.specs.declared.expr.Suffix.TheVariants as suffix
 use Rattle.fir_tree.specs.declared.expr.Suffix.TheVariants.{rolls-Field, rolls-At, rolls-Index}
 use Rattle.circuit_parts.specs.declared.part.Part.{Part}
 use Rattle.circuit_parts.specs.Parts.{source_of}
-use Rattle.circuit_parts.specs.Kinds.{sign_of, is_unsigned, ground, sign_or_unsigned}
+use Rattle.circuit_parts.specs.Kinds.{is_unsigned, ground, sign_or_unsigned}
 use Rattle.circuit_parts.proofs.Shapes.{ShapeCase, shape_uint, shape_sint, shape_clock, shape_reset, shape_async, shape_bundle, shape_vector, case_of}
 use Rattle.type_check.specs.declared.fault.TypeFault.{TypeFault}
 use Rattle.type_check.specs.declared.fault.TypeFault.TheVariants.{OperandKind, NotEquivalent, ConditionKind, NotPassive, LiteralFit}
 use Rattle.type_check.specs.Parts.{Known, component, unless, when}
-use Rattle.type_check.specs.Texts.{has_clock, is_passive, are_equivalent}
-use Rattle.type_check.specs.Expressions.{Judgement, Operand, found_of, judged, suffix_step, along, as_node, node, over, operation, choice, choice_faults, typed_operands, with_operand, all_among, signs_of, with_sign, row_of, fits_literal, from_index, behind, field_step, field_found, element_step, element_found, index_step, indexed, unjudged, Has}
+use Rattle.type_check.specs.Texts.{has_signal, is_passive, are_equivalent}
+use Rattle.type_check.specs.Expressions.{Judgement, Operand, found_of, judged, suffix_step, along, as_node, node, over, operation, choice, choice_faults, typed_operands, with_operand, all_among, signs_of, with_sign, sign_for, row_of, result_type, fits_literal, from_index, behind, field_step, field_found, element_step, element_found, index_step, indexed, unjudged, Has}
 use Rattle.type_check.proofs.Equivalence.{yes, is_equivalent}
 use Rattle.check_laws.specs.Typing.{IsPart, reference, literal, operation as an_operation, choice as a_choice, Leads, nowhere_else, one_step, Steps, to_field, to_element, to_indexed, HaveTypes, no_operands, one_operand}
 
@@ -99,7 +99,7 @@ unsigned_is t y = by (case_of t.shape) where
   by : ShapeCase t.shape → IsUnsigned t
   by (shape_uint w e) = a_uint w e
   by (shape_reset e) = a_reset e
-  by (shape_async e) = a_reset e
+  by (shape_async e) = absurd (grind (arith, common_steps, type_lemmas))
   by (shape_sint w e) = absurd (grind (arith, common_steps, type_lemmas))
   by (shape_clock e) = absurd (grind (arith, common_steps, type_lemmas))
   by (shape_bundle fs e) = absurd (grind (arith, common_steps, type_lemmas))
@@ -109,20 +109,20 @@ pub is_unsigned_yes : {t : FirType} → IsUnsigned t → is_unsigned t ≡ true
 is_unsigned_yes {t} (a_uint w e) = grind (arith, common_steps, type_lemmas)
 is_unsigned_yes {t} (a_reset e) = grind (arith, common_steps, type_lemmas)
 
-pub signs_some : (os : List Operand) (signs : List Sign) → signs_of os ≡ Some signs → map sign_of (map (λ (o : Operand). o.typ) os) ≡ map Some signs
-signs_some [] signs e = ap (map Some) (some_same e)
-signs_some (o ∷ os) signs e = by (sign_of o.typ) (signs_of os) refl refl e (signs_some os) where
-  by : (a : Option Sign) (b : Option (List Sign)) → sign_of o.typ ≡ a → signs_of os ≡ b → with_sign a b ≡ Some signs
-      → ((rest : List Sign) → signs_of os ≡ Some rest → map sign_of (map (λ (o : Operand). o.typ) os) ≡ map Some rest) → map sign_of (map (λ (o : Operand). o.typ) (o ∷ os)) ≡ map Some signs
+pub signs_some : (op : PrimOp) (os : List Operand) (signs : List Sign) → signs_of op os ≡ Some signs → map (sign_for op) (map (λ (o : Operand). o.typ) os) ≡ map Some signs
+signs_some op [] signs e = ap (map Some) (some_same e)
+signs_some op (o ∷ os) signs e = by (sign_for op o.typ) (signs_of op os) refl refl e (signs_some op os) where
+  by : (a : Option Sign) (b : Option (List Sign)) → sign_for op o.typ ≡ a → signs_of op os ≡ b → with_sign a b ≡ Some signs
+      → ((rest : List Sign) → signs_of op os ≡ Some rest → map (sign_for op) (map (λ (o : Operand). o.typ) os) ≡ map Some rest) → map (sign_for op) (map (λ (o : Operand). o.typ) (o ∷ os)) ≡ map Some signs
   by (Some a) (Some b) p q e more = ap₂ (λ x xs. x ∷ xs) p (more b q) ∙ ap (map Some) (some_same e)
   by (Some a) None p q e more = absurd cc
   by None b p q e more = absurd cc
 
-pub signs_back : (os : List Operand) (signs : List Sign) → map sign_of (map (λ (o : Operand). o.typ) os) ≡ map Some signs → signs_of os ≡ Some signs
-signs_back [] [] e = refl
-signs_back [] (s ∷ signs) e = absurd cc
-signs_back (o ∷ os) [] e = absurd cc
-signs_back (o ∷ os) (s ∷ signs) e = ap₂ with_sign (heads e) (signs_back os signs (tails e))
+pub signs_back : (op : PrimOp) (os : List Operand) (signs : List Sign) → map (sign_for op) (map (λ (o : Operand). o.typ) os) ≡ map Some signs → signs_of op os ≡ Some signs
+signs_back op [] [] e = refl
+signs_back op [] (s ∷ signs) e = absurd cc
+signs_back op (o ∷ os) [] e = absurd cc
+signs_back op (o ∷ os) (s ∷ signs) e = ap₂ with_sign (heads e) (signs_back op os signs (tails e))
 
 pub unless_none : (b : Bool) (fault : TypeFault) → unless b fault ≡ [] → b ≡ true
 unless_none true fault e = refl
@@ -161,8 +161,8 @@ node_found place faults typ js e = ap (λ fs. (node place fs typ js).part) e
 -- What a choice asks for.
 record Chooses (condition first second : FirType) : Type 0 where
   pub condition_is : IsUnsigned condition
-  pub first_clocks : has_clock first ≡ false
-  pub second_clocks : has_clock second ≡ false
+  pub first_signals : has_signal first ≡ false
+  pub second_signals : has_signal second ≡ false
   pub first_passive : IsPassive first
   pub second_passive : IsPassive second
   pub equivalent : Equivalent first second
@@ -170,18 +170,18 @@ record Chooses (condition first second : FirType) : Type 0 where
 chooses : (place : Place) (c a b : Operand) → choice_faults place c a b ≡ [] → Chooses c.typ a.typ b.typ
 chooses place c a b e =
     let kind = unless (is_unsigned c.typ) (ConditionKind c.place) in
-    let clocks = when (has_clock a.typ || has_clock b.typ) (OperandKind place) in
+    let signals = when (has_signal a.typ || has_signal b.typ) (OperandKind place) in
     let passive = unless (is_passive a.typ) (NotPassive a.place) in
     let others = unless (is_passive b.typ) (NotPassive b.place) in
     let same = unless (are_equivalent a.typ b.typ) (NotEquivalent b.place) in
-    let r1 = right_empty kind (clocks ++ (passive ++ (others ++ same))) e in
-    let r2 = right_empty clocks (passive ++ (others ++ same)) r1 in
+    let r1 = right_empty kind (signals ++ (passive ++ (others ++ same))) e in
+    let r2 = right_empty signals (passive ++ (others ++ same)) r1 in
     let r3 = right_empty passive (others ++ same) r2 in
-    let both = or_parts (has_clock a.typ) (has_clock b.typ) (when_none (has_clock a.typ || has_clock b.typ) (OperandKind place) (left_empty clocks (passive ++ (others ++ same)) r1)) in
+    let both = or_parts (has_signal a.typ) (has_signal b.typ) (when_none (has_signal a.typ || has_signal b.typ) (OperandKind place) (left_empty signals (passive ++ (others ++ same)) r1)) in
     record {
-      condition_is = unsigned_is c.typ (unless_none (is_unsigned c.typ) (ConditionKind c.place) (left_empty kind (clocks ++ (passive ++ (others ++ same))) e));
-      first_clocks = both.0;
-      second_clocks = both.1;
+      condition_is = unsigned_is c.typ (unless_none (is_unsigned c.typ) (ConditionKind c.place) (left_empty kind (signals ++ (passive ++ (others ++ same))) e));
+      first_signals = both.0;
+      second_signals = both.1;
       first_passive = not_true (has_flip a.typ) (unless_none (is_passive a.typ) (NotPassive a.place) (left_empty passive (others ++ same) r2));
       second_passive = not_true (has_flip b.typ) (unless_none (is_passive b.typ) (NotPassive b.place) (left_empty others same r3));
       equivalent = is_equivalent a.typ b.typ (unless_none (are_equivalent a.typ b.typ) (NotEquivalent b.place) (right_empty others same r3));
@@ -190,7 +190,7 @@ chooses place c a b e =
 choice_quiet : (place : Place) (c a b : Operand) → Chooses c.typ a.typ b.typ → choice_faults place c a b ≡ []
 choice_quiet place c a b h =
     let e1 : is_unsigned c.typ ≡ true = is_unsigned_yes h.condition_is in
-    let e2 : (has_clock a.typ || has_clock b.typ) ≡ false = ap₂ (λ x y. x || y) h.first_clocks h.second_clocks in
+    let e2 : (has_signal a.typ || has_signal b.typ) ≡ false = ap₂ (λ x y. x || y) h.first_signals h.second_signals in
     let e3 : is_passive a.typ ≡ true = ap not h.first_passive in
     let e4 : is_passive b.typ ≡ true = ap not h.second_passive in
     let e5 : are_equivalent a.typ b.typ ≡ true = yes h.equivalent in
@@ -320,7 +320,7 @@ module _ (known : Known) where
     by None b q r e' more = absurd (none_some e')
 
   abbrev operation_node : PrimOp → Place → List Judgement → Option Sign → Judgement
-  operation_node op place js row = node place (unless (is_some row) (OperandKind place)) (ground place (sign_or_unsigned row) None) js
+  operation_node op place js row = node place (unless (is_some row) (OperandKind place)) (result_type op place (sign_or_unsigned row)) js
 
   operation_by : (op : PrimOp) (ps : List ((e : Expr) × ExprIs e)) (params : List ℕ) (place : Place)
       → ExprIs (record { place = place; form = form.Prim op (map (λ e. e.0) ps) params })
@@ -332,20 +332,20 @@ module _ (known : Known) where
         js : List Judgement
         js = all_among known (map judged (map (λ e. e.0) ps))
 
-        row_by : (os : List Operand) (signs : List Sign) (row : Option Sign) → HaveTypes known (map (λ e. e.0) ps) (map (λ (o : Operand). o.typ) os) → signs_of os ≡ Some signs
+        row_by : (os : List Operand) (signs : List Sign) (row : Option Sign) → HaveTypes known (map (λ e. e.0) ps) (map (λ (o : Operand). o.typ) os) → signs_of op os ≡ Some signs
             → row_kind op signs ≡ row → (operation_node op place js row).part ≡ Some part → IsPart known (record { place = place; form = form.Prim op (map (λ e. e.0) ps) params }) part
         row_by os signs (Some sign) have q r e' = subst (IsPart known (record { place = place; form = form.Prim op (map (λ e. e.0) ps) params })) (some_same e')
-            (an_operation op (map (λ e. e.0) ps) params (map (λ (o : Operand). o.typ) os) signs sign refl have (signs_some os signs q) r)
+            (an_operation op (map (λ e. e.0) ps) params (map (λ (o : Operand). o.typ) os) signs sign refl have (signs_some op os signs q) r)
         row_by os signs None have q r e' = absurd (none_some e')
 
-        signs_by : (os : List Operand) (a : Option (List Sign)) → HaveTypes known (map (λ e. e.0) ps) (map (λ (o : Operand). o.typ) os) → signs_of os ≡ a
+        signs_by : (os : List Operand) (a : Option (List Sign)) → HaveTypes known (map (λ e. e.0) ps) (map (λ (o : Operand). o.typ) os) → signs_of op os ≡ a
             → (operation_node op place js (row_of op a)).part ≡ Some part → IsPart known (record { place = place; form = form.Prim op (map (λ e. e.0) ps) params }) part
         signs_by os (Some signs) have q e' = row_by os signs (row_kind op signs) have q refl e'
         signs_by os None have q e' = absurd (none_some e')
 
         by : (o : Option (List Operand)) → typed_operands known (map judged (map (λ e. e.0) ps)) ≡ o → (over place (operation op place) js o).part ≡ Some part
             → IsPart known (record { place = place; form = form.Prim op (map (λ e. e.0) ps) params }) part
-        by (Some os) q e' = signs_by os (signs_of os) (types_by ps os q) refl e'
+        by (Some os) q e' = signs_by os (signs_of op os) (types_by ps os q) refl e'
         by None q e' = absurd (none_some e')
 
   choice_by : (ps : List ((e : Expr) × ExprIs e)) (place : Place) → ExprIs (record { place = place; form = form.Mux (map (λ e. e.0) ps) })
@@ -366,7 +366,7 @@ module _ (known : Known) where
             let h = node_part place (choice_faults place c a b) a.typ js part e' in
             let m : Chooses c.typ a.typ b.typ = chooses place c a b h.0 in
             subst (IsPart known (record { place = place; form = form.Mux (map (λ e. e.0) ps) })) h.1
-            (a_choice (map (λ e. e.0) ps) c.typ a.typ b.typ refl have m.condition_is m.first_clocks m.second_clocks m.first_passive m.second_passive m.equivalent)
+            (a_choice (map (λ e. e.0) ps) c.typ a.typ b.typ refl have m.condition_is m.first_signals m.second_signals m.first_passive m.second_passive m.equivalent)
         three (c ∷ a ∷ b ∷ d ∷ os) have e' = absurd (none_some e')
 
         by : (o : Option (List Operand)) → typed_operands known (map judged (map (λ e. e.0) ps)) ≡ o → (over place (choice place) js o).part ≡ Some part
@@ -420,12 +420,12 @@ module _ (known : Known) where
         let t = types_found have in
         let js = all_among known (map judged es) in
         ap (λ (j : Judgement). j.part) (prim_is known e op es params is) ∙ ap (λ o. (over e.place (operation op e.place) js o).part) t.1
-        ∙ ap (λ a. (operation_node op e.place js (row_of op a)).part) (signs_back t.0 signs (ap (map sign_of) t.2 ∙ kinds)) ∙ ap (λ r. (operation_node op e.place js r).part) row
-    found_is {e = e} (a_choice es c a b is have kind clocks others passive passives same) =
+        ∙ ap (λ a. (operation_node op e.place js (row_of op a)).part) (signs_back op t.0 signs (ap (map (sign_for op)) t.2 ∙ kinds)) ∙ ap (λ r. (operation_node op e.place js r).part) row
+    found_is {e = e} (a_choice es c a b is have kind signals others passive passives same) =
         let t = types_found have in
         let js = all_among known (map judged es) in
         ap (λ (j : Judgement). j.part) (mux_is known e es is) ∙ ap (λ o. (over e.place (choice e.place) js o).part) t.1
-        ∙ choice_found e.place js t.0 c a b t.2 (record { condition_is = kind; first_clocks = clocks; second_clocks = others; first_passive = passive; second_passive = passives; equivalent = same })
+        ∙ choice_found e.place js t.0 c a b t.2 (record { condition_is = kind; first_signals = signals; second_signals = others; first_passive = passive; second_passive = passives; equivalent = same })
 
     leads_found : {base part : Part} {ss : List Suffix} → Leads known base ss part → (along (map suffix_step ss) known (Some base)).part ≡ Some part
     leads_found nowhere_else = refl

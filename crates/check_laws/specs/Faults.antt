@@ -18,12 +18,11 @@ use Rattle.fir_tree.specs.declared.expr.Suffix.{Suffix}
 use Rattle.fir_tree.specs.declared.expr.Form.TheVariants as form
 use Rattle.fir_tree.specs.declared.expr.Suffix.TheVariants as suffix
 use Rattle.circuit_parts.specs.declared.part.Part.{Part}
-use Rattle.circuit_parts.specs.Kinds.{sign_of}
 use Rattle.type_check.specs.declared.fault.TypeFault.{TypeFault}
 use Rattle.type_check.specs.declared.fault.TypeFault.TheVariants as fault
 use Rattle.type_check.specs.Parts.{Known, component}
-use Rattle.type_check.specs.Texts.{has_clock}
-use Rattle.type_check.specs.Expressions.{Operand, fits_literal}
+use Rattle.type_check.specs.Texts.{has_signal}
+use Rattle.type_check.specs.Expressions.{Operand, fits_literal, sign_for}
 use Rattle.check_laws.specs.Typing.{IsPart, Steps, HaveTypes}
 
 abbrev pub IsNoBundle : FirType → Type 0
@@ -55,12 +54,12 @@ pub data WayFails (known : Known) : Part → List Suffix → TypeFault → Type 
 
 -- the table of an operation has a row for operands of these types
 abbrev pub HasRow : PrimOp → List FirType → Type 0
-HasRow op types = (signs : List Sign) × (sign : Sign) × (map sign_of types ≡ map Some signs) × (row_kind op signs ≡ Some sign)
+HasRow op types = (signs : List Sign) × (sign : Sign) × (map (sign_for op) types ≡ map Some signs) × (row_kind op signs ≡ Some sign)
 
 -- the conditions on the operands of a choice at a place, each told where it stands
 pub data ChoiceFails (place : Place) (condition first second : Operand) : TypeFault → Type 0 where
   condition_kind : ¬ (IsUnsigned condition.typ) → ChoiceFails place condition first second (fault.ConditionKind condition.place)
-  a_clock : IsTrue (has_clock first.typ || has_clock second.typ) → ChoiceFails place condition first second (fault.OperandKind place)
+  a_signal : IsTrue (has_signal first.typ || has_signal second.typ) → ChoiceFails place condition first second (fault.OperandKind place)
   first_flips : ¬ (IsPassive first.typ) → ChoiceFails place condition first second (fault.NotPassive first.place)
   second_flips : ¬ (IsPassive second.typ) → ChoiceFails place condition first second (fault.NotPassive second.place)
   unlike : ¬ (Equivalent first.typ second.typ) → ChoiceFails place condition first second (fault.NotEquivalent second.place)

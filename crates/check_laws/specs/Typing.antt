@@ -19,24 +19,24 @@ use Rattle.fir_tree.specs.declared.expr.Form.TheVariants as form
 use Rattle.fir_tree.specs.declared.expr.Suffix.TheVariants as suffix
 use Rattle.circuit_parts.specs.declared.part.Part.{Part}
 use Rattle.circuit_parts.specs.Parts.{part_of, source_of, flow_through}
-use Rattle.circuit_parts.specs.Kinds.{sign_of, ground}
+use Rattle.circuit_parts.specs.Kinds.{ground}
 use Rattle.type_check.specs.Parts.{Known, component}
-use Rattle.type_check.specs.Texts.{has_clock}
-use Rattle.type_check.specs.Expressions.{fits_literal}
+use Rattle.type_check.specs.Texts.{has_signal}
+use Rattle.type_check.specs.Expressions.{fits_literal, sign_for, result_type}
 
 mutual
   -- Among the components that are known, the expression is this part. A result has a width of its own, which is not told here; a
-  -- choice takes a UInt and two passive and equivalent types without clocks.
+  -- choice takes a UInt and two passive and equivalent types without a Clock or an AsyncReset.
   pub data IsPart (known : Known) : Expr → Part → Type 0 where
     reference : {e : Expr} {part : Part} (name : Name) (suffixes : List Suffix) (base : Part) → e.form ≡ form.Ref name suffixes
         → component known name.id ≡ Some base → Leads known base suffixes part → IsPart known e part
     literal : {e : Expr} (sign : Sign) (width : Option ℕ) (number : Number) → e.form ≡ form.Literal sign width number
         → IsTrue (fits_literal sign width (integer_of_number number)) → IsPart known e (source_of (ground e.place sign width))
     operation : {e : Expr} (op : PrimOp) (operands : List Expr) (params : List ℕ) (types : List FirType) (signs : List Sign) (sign : Sign)
-        → e.form ≡ form.Prim op operands params → HaveTypes known operands types → map sign_of types ≡ map Some signs → row_kind op signs ≡ Some sign
-        → IsPart known e (source_of (ground e.place sign None))
+        → e.form ≡ form.Prim op operands params → HaveTypes known operands types → map (sign_for op) types ≡ map Some signs → row_kind op signs ≡ Some sign
+        → IsPart known e (source_of (result_type op e.place sign))
     choice : {e : Expr} (operands : List Expr) (condition first second : FirType) → e.form ≡ form.Mux operands
-        → HaveTypes known operands (condition ∷ first ∷ second ∷ []) → IsUnsigned condition → has_clock first ≡ false → has_clock second ≡ false
+        → HaveTypes known operands (condition ∷ first ∷ second ∷ []) → IsUnsigned condition → has_signal first ≡ false → has_signal second ≡ false
         → IsPassive first → IsPassive second → Equivalent first second → IsPart known e (source_of first)
 
   -- the suffixes lead from one part to another

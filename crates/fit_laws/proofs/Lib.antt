@@ -1,5 +1,6 @@
 mod Parts
 mod Slots
+mod Filled
 mod Numbers
 mod Resets
 mod Statements

@@ -13,7 +13,7 @@ use Rattle.fir_tree.specs.declared.expr.Form.TheFolds.{map-Form, map-Suffix, map
 use Rattle.fir_tree.specs.declared.expr.Form.TheViews.{roll-Form, roll-Suffix, roll-Expr}
 use Rattle.circuit_parts.specs.declared.part.Part.{Part}
 use Rattle.circuit_parts.specs.Parts.{source_of, field_part, element_part}
-use Rattle.circuit_parts.specs.Kinds.{sign_of, ground, sign_or_unsigned}
+use Rattle.circuit_parts.specs.Kinds.{sign_of, sign_or_unsigned}
 use Rattle.type_check.specs.Parts as check
 use Rattle.width_rules.specs.declared.component.Component.{Component}
 use Rattle.width_rules.specs.Sources as sources
@@ -97,7 +97,7 @@ module _ (one other : Known) (same : (name : ℕ) → (component one name).part 
       → FormSame (roll-Form (map-Form _ _ _ Form Suffix Expr (λ e. e.0) (λ e. e.0) (λ e. e.0) y))
   form_case (Form-F.Ref name ps) = form_rolled _ (λ place. named_same ps (component one name.id) (component other name.id) (same name.id))
   form_case (Form-F.Literal kind width n) = form_rolled _ (λ place. refl)
-  form_case (Form-F.Prim prim ps params) = form_rolled _ (λ place. ap (λ ks. source_of (ground place (sign_or_unsigned (row_kind prim ks)) None)) (kinds_same ps))
+  form_case (Form-F.Prim prim ps params) = form_rolled _ (λ place. ap (λ ks. source_of (sources.result_type prim place (sign_or_unsigned (row_kind prim ks)))) (kinds_same ps))
   form_case (Form-F.Mux ps) = form_rolled _ (λ place. choice_same ps)
 
   abbrev step_layer : Suffix-F Form Suffix Expr → Suffix-F (Place → sources.Among) (Component → Component) sources.Among

@@ -20,20 +20,21 @@ use Rattle.fir_names.specs.Scopes.{texts, FirstOf, Means, Reaches, through, IsSc
 use Rattle.fir_names.proofs.Graphs.{some_same}
 use Rattle.circuit_laws.proofs.Instances.{declared_instance}
 use Rattle.width_rules.specs.declared.slot.Slot.{Slot}
-use Rattle.width_rules.specs.Places.{spots, size, slots_from, open_spots}
+use Rattle.width_rules.specs.Places.{Spot, spots, size, slots_from, open_spots}
 use Rattle.width_rules.specs.Solutions.{IsWidth}
 use Rattle.width_rules.specs.Sources.{formula_of, component_or_none}
 use Rattle.width_rules.specs.Circuits.{ports_from, open_ports, modules_from, all_open, instance_in, instance_component, rules_in}
 use Rattle.width_rules.proofs.Monotone.{width_is_width}
 use Rattle.type_filling.specs.Filling.{filled, number}
 use Rattle.width_fit.specs.Fitting.{IsFit}
+use Rattle.width_fit.specs.Written.{place_widths}
 use Rattle.width_fit.specs.Judging as judging
 use Rattle.width_fit.specs.Judging.{Solved, slot_width, component_faults, ports_faults, told_from, told_of, where_reached}
-use Rattle.width_fit.proofs.Filled.{places_filled}
 use Rattle.fit_laws.specs.Declared.{Typed, IsFilled, declared_in}
 use Rattle.fit_laws.specs.Numbered.{is_number, HasNumbers}
 use Rattle.fit_laws.proofs.Slots.{instance_counted}
 use Rattle.fit_laws.proofs.Numbers.{IsNumber, AreNumbers, left_empty, right_empty, numbers_append, faultless_numbers}
+use Rattle.fit_laws.proofs.Filled.{places_filled, numbers_fill}
 use Rattle.fit_laws.proofs.Resets.{filled_free}
 use Rattle.fit_laws.proofs.Statements.{IsSound, IsNumbered, IsInstance}
 use Rattle.fit_laws.proofs.Modules.{surveyed, ModuleTells, module_tells}
@@ -90,9 +91,12 @@ module _ (ws : List Width) (bounded : (k : ℕ) → IsWidth (get_or ws k (Bits 0
   all_small [] h = refl
   all_small (s ∷ slots) h = ap₂ (λ a b. a && b) (small_number (slot_width ws s) h.0 (width_is_width ws bounded (formula_of s))) (all_small slots h.1)
 
-  numbers_fill : (typ : FirType) (slots : List Slot) → length slots ≡ size typ → AreNumbers ws slots → HasNumbers (filled typ (map (slot_width ws) slots))
-  numbers_fill typ slots e h = record {
-    numbers = ap (list_all is_number) (places_filled typ (map (slot_width ws) slots) (length-map slots (slot_width ws) ∙ e)) ∙ all_small slots h;
+  slots_fill : (typ : FirType) (slots : List Slot) → length slots ≡ size typ → AreNumbers ws slots → HasNumbers (filled typ (map (slot_width ws) slots))
+  slots_fill typ slots e h = record {
+    numbers =
+        let counted : length (map (slot_width ws) slots) ≡ size typ = length-map slots (slot_width ws) ∙ e in
+        numbers_fill (place_widths typ) (map (slot_width ws) slots) (place_widths (filled typ (map (slot_width ws) slots))) (counted ∙ sym (length-map (spots typ) (λ (spot : Spot). spot.width)))
+        (places_filled typ (map (slot_width ws) slots) counted) (all_small slots h);
     resets = filled_free typ (map (slot_width ws) slots);
   }
 
@@ -233,6 +237,6 @@ module _ (fitted : Fitted) (scope : IsScope fitted.checked.resolved fitted.check
       let sized = instance_in (modules_from 0 circuit.modules) i.target in
       let numbers : AreNumbers fit.widths sized.slots = subst (λ s. AreNumbers fit.widths s.slots) (sym t.instance_is)
       (port_numbers all_of circuit.modules t.from t.holder.ports (t.faultless (all_open circuit.modules) fitted.checked.scope.reached no_fault reach.2)) in
-      subst HasNumbers (sym i.filled_is) (numbers_fill fit.widths fit.least.assignment.bounded sized.part.typ sized.slots (instance_counted 0 circuit.modules i.target) numbers))
-      (λ (n : IsNumbered fit.widths c.typ). subst HasNumbers (sym n.filled_is) (numbers_fill fit.widths fit.least.assignment.bounded n.typ n.slots n.counted n.numbers))
+      subst HasNumbers (sym i.filled_is) (slots_fill fit.widths fit.least.assignment.bounded sized.part.typ sized.slots (instance_counted 0 circuit.modules i.target) numbers))
+      (λ (n : IsNumbered fit.widths c.typ). subst HasNumbers (sym n.filled_is) (slots_fill fit.widths fit.least.assignment.bounded n.typ n.slots n.counted n.numbers))
       one.holds

@@ -21,7 +21,7 @@ use Rattle.fir_tree.specs.declared.circuit.Module.{Module}
 use Rattle.circuit_parts.specs.Parts as parts
 use Rattle.width_rules.specs.declared.slot.Slot.{Slot}
 use Rattle.width_rules.specs.declared.slot.Slot.TheVariants as slot
-use Rattle.width_rules.specs.Places.{Spot, spots, size, turned, slots_from, is_open, open_spots, node_slots}
+use Rattle.width_rules.specs.Places.{Spot, spots, size, turned, slots_from, is_open, open_spots}
 use Rattle.width_rules.specs.Layers.{field_spots}
 use Rattle.width_rules.specs.Sources.{component_or_none}
 use Rattle.width_rules.specs.Circuits.{ports_from, open_ports, modules_from, instance_in, instance_component, memory_slots, line_slots, mask_slots}
@@ -45,10 +45,6 @@ size-fields f fs = length-append (field_spots f) (flat_map field_spots fs)
 pub length-slots : (n : ℕ) (ss : List Spot) → length (slots_from n ss) ≡ length ss
 length-slots n [] = refl
 length-slots n (s ∷ ss) = ap suc (length-slots (n + is_open s.width) ss)
-
-pub length-node_slots : (n : ℕ) (ss : List Spot) → length (node_slots n ss) ≡ length ss
-length-node_slots n [] = refl
-length-node_slots n (s ∷ ss) = ap suc (length-node_slots (n + 1) ss)
 
 -- Memories
 

@@ -22,7 +22,7 @@ use Rattle.circuit_parts.specs.declared.part.Flow.TheVariants.{Duplex}
 use Rattle.circuit_parts.specs.Parts as parts
 use Rattle.width_rules.specs.declared.component.Component.{Component}
 use Rattle.width_rules.specs.declared.slot.Slot.{Slot}
-use Rattle.width_rules.specs.Places.{Spot, spots, size, slot_of, is_open, slots_from, node_slots}
+use Rattle.width_rules.specs.Places.{Spot, spots, size, slot_of, is_open, slots_from, node_spots, node_slots}
 use Rattle.width_rules.specs.Sources as sources
 use Rattle.width_rules.specs.Sources.{measured}
 use Rattle.width_rules.specs.Circuits.{WithPorts, modules_from, instance_in, memory_slots}
@@ -32,12 +32,12 @@ use Rattle.width_fit.specs.Written.{place_widths}
 use Rattle.width_fit.specs.Judging as judging
 use Rattle.width_fit.specs.Judging.{Solved, survey, slot_width}
 use Rattle.width_fit.proofs.Measured.{same_measured}
-use Rattle.width_fit.proofs.Filled.{places_filled}
 use Rattle.fir_meaning.specs.Components.{Declaration, An_instance, Told, ToldArm, told, of_told, of_told_arm, declared_from}
 use Rattle.fit_laws.specs.Declared as declared
 use Rattle.fit_laws.specs.Declared.{Typed, Declares, KeepsWidth, IsFilled, declared_by, type_of}
 use Rattle.fit_laws.proofs.Parts.{parts_of, known_more, type_is}
-use Rattle.fit_laws.proofs.Slots.{length-slots, length-node_slots, memory_counted, instance_counted, instance_is}
+use Rattle.fit_laws.proofs.Slots.{length-slots, memory_counted, instance_counted, instance_is}
+use Rattle.fit_laws.proofs.Filled.{node_counted, kept_fills, places_filled}
 use Rattle.fit_laws.proofs.Numbers.{AreNumbers, left_empty, right_empty, faultless_numbers, memory_numbers}
 
 pub zip_both : {A B : Type 0} (S : A → B → Type 0) (as' bs : List A) (cs ds : List B) → AllZip S as' cs → AllZip S bs ds → AllZip S (as' ++ bs) (cs ++ ds)
@@ -85,7 +85,7 @@ filled_slots ws d slots e h =
       widths = map (slot_width ws) slots;
       counted = counted;
       filled_is = refl;
-      kept = λ w. subst (λ found. AllZip KeepsWidth (place_widths d.typ) found) (sym (places_filled d.typ (map (slot_width ws) slots) counted)) (h w);
+      kept = λ w. kept_fills (place_widths d.typ) (map (slot_width ws) slots) (place_widths (filled d.typ (map (slot_width ws) slots))) (places_filled d.typ (map (slot_width ws) slots) counted) (h w);
     }
 
 module _ (all : Solved) (modules : List Module) where
@@ -195,13 +195,13 @@ module _ (all : Solved) (modules : List Module) where
       → Tells_all (record { declares = d ∷ []; types = λ known. declared.one false name.id (parts.source_of (type_of known e)) known; widths = judging.of_node all name e })
   node_tells name e d q known n =
       let typ : FirType = (survey all.widths e known).measured.part.typ in
-      let slots : List Slot = node_slots n (spots typ) in
+      let slots : List Slot = node_slots n typ in
       let same : (measured e known).part.typ ≡ typ = sym (ap (λ (m : sources.Measured). m.part.typ) (same_measured all.widths e known)) in
       let is : type_of (parts_of known) e ≡ typ = type_is known e ∙ same in
-      let counted : length slots ≡ size typ = length-node_slots n (spots typ) in
+      let counted : length slots ≡ size typ = length-slots n (node_spots typ) ∙ node_counted typ in
       record {
         known_is = ap (λ t. (declared.one false name.id (parts.source_of t) (parts_of known)).known) (type_is known e)
-            ∙ known_more known name.id (record { part = parts.source_of (measured e known).part.typ; slots = node_slots n (spots (measured e known).part.typ) });
+            ∙ known_more known name.id (record { part = parts.source_of (measured e known).part.typ; slots = node_slots n (measured e known).part.typ });
         names = ap (λ x. x ∷ []) (sym q);
         types = (subst (λ t. IsFilled (record { name = name.id; typ = t; written = false }) (filled typ (map (slot_width all.widths) slots))) (sym is) (filled_slots all.widths (record { name = name.id; typ = typ; written = false }) slots counted (λ w. cc)), tt);
         sound = λ none. (

@@ -17,7 +17,8 @@ use Rattle.fir_types.proofs.Masks.{straight}
 use Rattle.prim_ops.specs.declared.widths.Width.{Width}
 use Rattle.prim_ops.specs.declared.widths.Width.TheVariants.{Bits}
 use Rattle.fir_tree.specs.declared.expr.Expr.{Expr}
-use Rattle.type_check.specs.Texts.{twice_in, has_clock}
+use Rattle.fir_types.specs.Leaves.{has_clock}
+use Rattle.type_check.specs.Texts.{twice_in}
 use Rattle.type_check.specs.Memories.{memory_faults}
 use Rattle.width_rules.specs.declared.slot.Slot.{Slot}
 use Rattle.width_rules.specs.Places.{size}

@@ -15,6 +15,7 @@ use Rattle.bit_words.specs.declared.value.Kind.TheVariants.{Unsigned, Signed}
 use Rattle.bit_words.specs.declared.number.Number.{Number}
 use Rattle.bit_words.specs.Numbers.{integer_of_number}
 use Rattle.fir_types.specs.declared.fir_type.FirType.{FirType, the_lemmas}
+use Rattle.fir_types.specs.declared.fir_type.Shape.TheVariants as shape
 use Rattle.fir_types.specs.declared.fir_type.Shape.TheViews.{out-Shape}
 use Rattle.fir_types.specs.declared.name.Name.{Name}
 use Rattle.fir_types.specs.Equivalence.{Equivalent, a_uint, a_sint}
@@ -41,15 +42,15 @@ use Rattle.type_check.specs.declared.fault.TypeFault.{TypeFault}
 use Rattle.type_check.specs.declared.fault.TypeFault.TheVariants.{OperandKind, ConditionKind, NotPassive, LiteralFit}
 use Rattle.type_check.specs.Parts as check
 use Rattle.type_check.specs.Parts.{unless, when, typed_without}
-use Rattle.type_check.specs.Texts.{twice_in, has_clock, is_passive, are_equivalent}
+use Rattle.type_check.specs.Texts.{twice_in, has_signal, is_passive, are_equivalent}
 use Rattle.type_check.specs.Expressions as checking
-use Rattle.type_check.specs.Expressions.{Judgement, Judged, Operand, judged, found_of, along, behind, as_node, type_or_none, node, fits_literal, typed_operands, with_operand, signs_of, with_sign, row_of, over, from_index, indexed, element_found}
+use Rattle.type_check.specs.Expressions.{Judgement, Judged, Operand, judged, found_of, along, behind, as_node, type_or_none, node, fits_literal, typed_operands, with_operand, signs_of, with_sign, sign_for, result_type, row_of, over, from_index, indexed, element_found}
 use Rattle.width_rules.specs.declared.component.Component.{Component}
 use Rattle.width_rules.specs.declared.slot.Slot.{Slot}
 use Rattle.width_rules.specs.declared.rule.Formula.{Formula}
 use Rattle.width_rules.specs.declared.rule.Formula.TheVariants as formula
 use Rattle.width_rules.specs.Formulas.{width_under}
-use Rattle.width_rules.specs.Places.{capped, Spot, spots, size}
+use Rattle.width_rules.specs.Places.{capped, Spot, one_spot, spots, size, node_spots}
 use Rattle.width_rules.specs.Sources as sources
 use Rattle.width_rules.specs.Sources.{Measured, formula_of, lone, kind_of, operation_formula, greater_of, component, component_or_none, named, measured_reference, element_step}
 use Rattle.width_rules.proofs.Rows.{row_arity}
@@ -75,9 +76,10 @@ use Rattle.circuit_laws.proofs.Alone.{every-left, every-right}
 use Rattle.circuit_laws.proofs.Pieces.{mapped_some}
 use Rattle.fitted_laws.specs.Shaped as shaping
 use Rattle.fitted_laws.specs.Shaped.{is_shaped, all_are}
-use Rattle.fitted_laws.proofs.Filling.{leaf_shapes, first_width, filled_unsigned, filled_signed, IsNumber, bigger, wider_filled, size_alike, unsigned_size, signed_size}
+use Rattle.fitted_laws.proofs.Filling.{leaf_shapes, first_width, filled_unsigned, filled_signed, async_shapes, IsNumber, bigger, wider_filled, size_alike, unsigned_size, signed_size, size-async}
 use Rattle.type_check.proofs.Equivalence.{is_equivalent}
-use Rattle.fitted_laws.proofs.Signs.{unsigned_is, IsNumberType, a_natural, an_integer, number_is}
+use Rattle.fitted_laws.proofs.Asyncs.{OneSlots, OneWidth, OneWidths, one_widths, unsigned_node, signed_node, node-async, given_in, given_alike}
+use Rattle.fitted_laws.proofs.Signs.{unsigned_is, IsNumberType, a_natural, an_integer, number_is, TakesType, a_number, an_async, takes_type, kind_taken}
 use Rattle.fitted_laws.proofs.Steps.{left_empty, right_empty, Placed, IsGood, IsVector, field_step, vector_of}
 use Rattle.fitted_laws.proofs.Literals.{same_least}
 
@@ -169,6 +171,7 @@ module _ (Q : Flow → Formula → Type 0) (allows : Allows Q) (ws : List Width)
     pub once : twice_in part.typ ≡ []
     pub placed : Placed Q part.flow (spots part.typ) s.measured.formulas
     pub numbers : s.faults ≡ [] → Each IsNumber (widths_of ws s.measured)
+    pub ones : s.faults ≡ [] → OneWidths (node_spots part.typ) (widths_of ws s.measured)
     pub typed_is : (K : Known) → Filled ws wk K → s.faults ≡ [] → t K ≡ Some (leaf_shapes (filled part.typ (widths_of ws s.measured)))
 
   abbrev form_judged : Form → Place → TKnown → Judgement
@@ -250,7 +253,7 @@ module _ (Q : Flow → Formula → Type 0) (allows : Allows Q) (ws : List Width)
       → (next : Part) × IsStepFound (checking.element_step bracket at n sized.part (out-Shape sized.part.typ.shape)) (record { to = element_step; index = λ known. [] })
       (λ K typ. if nat_lt n (vector_length typ) then element_of_shape (out-Shape typ.shape) else None) sized next
   at_found bracket at n sized good e =
-      let v : IsVector Q ws sized = vector_of Q ws sized good (checking.element_step bracket at n sized.part) e (λ w f. let g = f in cc) (λ w f. let g = f in cc) (λ f. let g = f in cc) (λ f. let g = f in cc) (λ fs f. let g = f in cc) in
+      let v : IsVector Q ws sized = vector_of Q ws sized good (checking.element_step bracket at n sized.part) e (λ w f. let g = f in cc) (λ w f. let g = f in cc) (λ f. let g = f in cc) (λ f. let g = f in cc) (λ f. let g = f in cc) (λ fs f. let g = f in cc) in
       let inside = element_in_range sized.part v.element (nat_lt n v.length') at (ap (λ s. (checking.element_step bracket at n sized.part s).faults) (sym v.out) ∙ e) in (
         part_of v.element sized.part.flow,
         record {
@@ -269,7 +272,7 @@ module _ (Q : Flow → Formula → Type 0) (allows : Allows Q) (ws : List Width)
       → (next : Part) × IsStepFound (behind (found_of tk e) (from_index bracket (judged e).place (Some ip) (Some sized.part))) (record { to = element_step; index = λ known. survey ws e known ∷ [] })
       (λ K typ. if is_one_unsigned (typed e K) then element_of_shape (out-Shape typ.shape) else None) sized next
   index_found bracket e ip f sized good h =
-      let v : IsVector Q ws sized = vector_of Q ws sized good (checking.index_step bracket (judged e).place ip sized.part) h (λ w f. let g = f in cc) (λ w f. let g = f in cc) (λ f. let g = f in cc) (λ f. let g = f in cc) (λ fs f. let g = f in cc) in
+      let v : IsVector Q ws sized = vector_of Q ws sized good (checking.index_step bracket (judged e).place ip sized.part) h (λ w f. let g = f in cc) (λ w f. let g = f in cc) (λ f. let g = f in cc) (λ f. let g = f in cc) (λ f. let g = f in cc) (λ fs f. let g = f in cc) in
       let kind = index_unsigned (judged e).place sized.part v.element (is_unsigned ip.typ) (ap (λ s. (checking.index_step bracket (judged e).place ip sized.part s).faults) (sym v.out) ∙ h) in (
         part_of v.element sized.part.flow,
         record {
@@ -370,6 +373,8 @@ module _ (Q : Flow → Formula → Type 0) (allows : Allows Q) (ws : List Width)
               once = subst (λ (p : Part). twice_in p.typ ≡ []) r.1.part_is r.1.good.once;
               placed = subst (λ (p : Part). Placed Q p.flow (spots p.typ) (map formula_of last.slots)) r.1.part_is r.1.good.placed;
               numbers = λ none. none_over (widths_of ws (measured_reference last)) (where_false _ _ (left_empty _ [] (right_empty (flat_map (λ (s : Survey). s.faults) surveys) _ none)));
+              ones = λ none. subst (OneWidths (node_spots r.0.typ)) (sym widths)
+                  (one_widths ws (node_spots r.0.typ) last.slots (subst (λ (p : Part). OneSlots (node_spots p.typ) last.slots) r.1.part_is r.1.good.ones));
               typed_is = λ K fits none.
                   ap (λ o. option_map (λ typ. map typing.leaf_shape (leaves typ)) (type_behind K (map suffix_typed ss) o)) (fits name.id sized one.1)
                   ∙ ap (option_map (λ typ. map typing.leaf_shape (leaves typ))) (r.1.typed_is K fits (left_empty (flat_map (λ (s : Survey). s.faults) surveys) _ none))
@@ -399,6 +404,10 @@ module _ (Q : Flow → Formula → Type 0) (allows : Allows Q) (ws : List Width)
   ground_once place Unsigned width = grind (arith, common_steps, the_lemmas)
   ground_once place Signed width = grind (arith, common_steps, the_lemmas)
 
+  ground_free : (place : Place) (kind : Kind) (width : Option ℕ) → node_spots (ground place kind width) ≡ one_spot None
+  ground_free place Unsigned width = unsigned_node (a_uint width refl)
+  ground_free place Signed width = signed_node (a_sint width refl)
+
   one_placed : (flow : Flow) (t : FirType) (f : Formula) → ((through : Flow) → Q through f) → Placed Q flow (spots t) (f ∷ [])
   one_placed flow t f h = by (spots t) where
     by : (ss : List Spot) → Placed Q flow ss (f ∷ [])
@@ -423,6 +432,7 @@ module _ (Q : Flow → Formula → Type 0) (allows : Allows Q) (ws : List Width)
           once = ground_once place kind width;
           placed = one_placed Source typ (formula.Fixed (capped n)) (λ through. allows.fixed through (capped n));
           numbers = nums;
+          ones = λ none. subst (λ ss. OneWidths ss (widths_of ws m)) (sym (ground_free place kind width)) (tt, tt);
           typed_is = λ K fits none.
               let w = literal_widths kind width number place (nums none) in
               let same : meaning.literal_width kind (integer_of_number number) width ≡ n
@@ -464,21 +474,21 @@ module _ (Q : Flow → Formula → Type 0) (allows : Allows Q) (ws : List Width)
   operands_typed (p ∷ ps) [] f = absurd f
   operands_typed (p ∷ ps) (q ∷ qs) f = ap₂ (λ o rest. with_operand o (judged p.0).place rest) f.0.found (operands_typed ps qs f.1)
 
-  -- the kinds of parts
-  abbrev HaveKinds : List Part → List Kind → Type 0
-  HaveKinds [] [] = ⊤
-  HaveKinds [] (k ∷ ks) = ⊥
-  HaveKinds (q ∷ qs) [] = ⊥
-  HaveKinds (q ∷ qs) (k ∷ ks) = (sign_of q.typ ≡ Some k) × HaveKinds qs ks
+  -- the kinds of the parts that an operation takes
+  abbrev HaveKinds : PrimOp → List Part → List Kind → Type 0
+  HaveKinds prim [] [] = ⊤
+  HaveKinds prim [] (k ∷ ks) = ⊥
+  HaveKinds prim (q ∷ qs) [] = ⊥
+  HaveKinds prim (q ∷ qs) (k ∷ ks) = TakesType q.typ k × HaveKinds prim qs ks
 
-  signs_have : (ps : List ((e : Expr) × ExprIs e)) (qs : List Part) → AreFound ps qs → (ks : List Kind) → signs_of (operands_of (map (λ e. e.0) ps) qs) ≡ Some ks → HaveKinds qs ks
-  signs_have [] [] f [] e = tt
-  signs_have [] [] f (k ∷ ks) e = cc
-  signs_have [] (q ∷ qs) f ks e = absurd f
-  signs_have (p ∷ ps) [] f ks e = absurd f
-  signs_have (p ∷ ps) (q ∷ qs) f ks e = by (sign_of q.typ) refl (signs_of (operands_of (map (λ e. e.0) ps) qs)) refl ks e (signs_have ps qs f.1) where
-    by : (o : Option Kind) → sign_of q.typ ≡ o → (r : Option (List Kind)) → signs_of (operands_of (map (λ e. e.0) ps) qs) ≡ r → (ks : List Kind) → with_sign o r ≡ Some ks
-        → ((ks : List Kind) → signs_of (operands_of (map (λ e. e.0) ps) qs) ≡ Some ks → HaveKinds qs ks) → HaveKinds (q ∷ qs) ks
+  signs_have : (prim : PrimOp) (ps : List ((e : Expr) × ExprIs e)) (qs : List Part) → AreFound ps qs → (ks : List Kind) → signs_of prim (operands_of (map (λ e. e.0) ps) qs) ≡ Some ks → HaveKinds prim qs ks
+  signs_have prim [] [] f [] e = tt
+  signs_have prim [] [] f (k ∷ ks) e = cc
+  signs_have prim [] (q ∷ qs) f ks e = absurd f
+  signs_have prim (p ∷ ps) [] f ks e = absurd f
+  signs_have prim (p ∷ ps) (q ∷ qs) f ks e = by (sign_for prim q.typ) refl (signs_of prim (operands_of (map (λ e. e.0) ps) qs)) refl ks e (signs_have prim ps qs f.1) where
+    by : (o : Option Kind) → sign_for prim q.typ ≡ o → (r : Option (List Kind)) → signs_of prim (operands_of (map (λ e. e.0) ps) qs) ≡ r → (ks : List Kind) → with_sign o r ≡ Some ks
+        → ((ks : List Kind) → signs_of prim (operands_of (map (λ e. e.0) ps) qs) ≡ Some ks → HaveKinds prim qs ks) → HaveKinds prim (q ∷ qs) ks
     by None s r t ks e rest = cc
     by (Some k) s None t ks e rest = cc
     by (Some k) s (Some more) t [] e rest = absurd (let g : k ∷ more ≡ [] = some_same e in cc)
@@ -486,7 +496,7 @@ module _ (Q : Flow → Formula → Type 0) (allows : Allows Q) (ws : List Width)
         let g : k ∷ more ≡ k' ∷ ks = some_same e in
         let a : k ≡ k' = cc in
         let b : more ≡ ks = cc in
-        (s ∙ ap Some a, rest ks (t ∙ ap Some b))
+        (takes_type prim q.typ k' (s ∙ ap Some a), rest ks (t ∙ ap Some b))
 
   signs_some : (prim : PrimOp) (o : Option (List Kind)) → is_some (row_of prim o) ≡ true → (ks : List Kind) × (o ≡ Some ks) × (k : Kind) × (row_kind prim ks ≡ Some k)
   signs_some prim None e = cc
@@ -495,15 +505,15 @@ module _ (Q : Flow → Formula → Type 0) (allows : Allows Q) (ws : List Width)
   abbrev all_surveys : List Expr → List Survey
   all_surveys es = map (λ (e : judging.Among). e wk) (map (survey ws) es)
 
-  kinds_measured : (ps : List ((e : Expr) × ExprIs e)) (qs : List Part) (ks : List Kind) → AreFound ps qs → HaveKinds qs ks
+  kinds_measured : (prim : PrimOp) (ps : List ((e : Expr) × ExprIs e)) (qs : List Part) (ks : List Kind) → AreFound ps qs → HaveKinds prim qs ks
       → map kind_of (map (λ (s : Survey). s.measured) (all_surveys (map (λ e. e.0) ps))) ≡ ks
-  kinds_measured [] [] [] f h = refl
-  kinds_measured [] [] (k ∷ ks) f h = absurd h
-  kinds_measured [] (q ∷ qs) ks f h = absurd f
-  kinds_measured (p ∷ ps) [] ks f h = absurd f
-  kinds_measured (p ∷ ps) (q ∷ qs) [] f h = absurd h
-  kinds_measured (p ∷ ps) (q ∷ qs) (k ∷ ks) f h =
-      ap₂ (λ x xs. x ∷ xs) (ap (λ (part : Part). sign_or_unsigned (sign_of part.typ)) f.0.measured ∙ ap sign_or_unsigned h.0) (kinds_measured ps qs ks f.1 h.1)
+  kinds_measured prim [] [] [] f h = refl
+  kinds_measured prim [] [] (k ∷ ks) f h = absurd h
+  kinds_measured prim [] (q ∷ qs) ks f h = absurd f
+  kinds_measured prim (p ∷ ps) [] ks f h = absurd f
+  kinds_measured prim (p ∷ ps) (q ∷ qs) [] f h = absurd h
+  kinds_measured prim (p ∷ ps) (q ∷ qs) (k ∷ ks) f h =
+      ap₂ (λ x xs. x ∷ xs) (ap (λ (part : Part). sign_or_unsigned (sign_of part.typ)) f.0.measured ∙ kind_taken q.typ k h.0) (kinds_measured prim ps qs ks f.1 h.1)
 
   -- the widths of operands, each a number
   number_of_one : (us : List Width) → length us ≡ 1 → Each IsNumber us → us ≡ Bits (first_width us) ∷ []
@@ -518,11 +528,21 @@ module _ (Q : Flow → Formula → Type 0) (allows : Allows Q) (ws : List Width)
     by [] e = cc
     by (f ∷ fs) e = cc
 
-  kind_shapes : (t : FirType) (k : Kind) → sign_of t ≡ Some k → (vs : List Width) → (leaf_shapes (filled t vs) ≡ shaped k (first_width vs) ∷ []) × (size t ≡ 1)
-  kind_shapes t k e vs = by k (number_is t k e) where
-    by : (k : Kind) → IsNumberType t k → (leaf_shapes (filled t vs) ≡ shaped k (first_width vs) ∷ []) × (size t ≡ 1)
-    by Unsigned (a_natural u) = (filled_unsigned u vs, unsigned_size u)
-    by Signed (an_integer s) = (filled_signed s vs, signed_size s)
+  kind_size : (t : FirType) (k : Kind) → TakesType t k → size t ≡ 1
+  kind_size t Unsigned (a_number (a_natural u)) = unsigned_size u
+  kind_size t Signed (a_number (an_integer s)) = signed_size s
+  kind_size t Unsigned (an_async e) = size-async t e
+
+  -- the one width of an AsyncReset is 1
+  one_first : (vs : List Width) → OneWidths (one_spot (Some 1)) vs → first_width vs ≡ 1
+  one_first [] h = absurd h
+  one_first (v ∷ []) h = ap (λ w. first_width (w ∷ [])) h.0
+  one_first (v ∷ w ∷ vs) h = absurd h.1
+
+  kind_shapes : (t : FirType) (k : Kind) → TakesType t k → (vs : List Width) → OneWidths (node_spots t) vs → leaf_shapes (filled t vs) ≡ shaped k (first_width vs) ∷ []
+  kind_shapes t Unsigned (a_number (a_natural u)) vs h = filled_unsigned u vs
+  kind_shapes t Signed (a_number (an_integer s)) vs h = filled_signed s vs
+  kind_shapes t Unsigned (an_async e) vs h = async_shapes t e vs ∙ ap (λ w. shaped Unsigned w ∷ []) (sym (one_first vs (subst (λ ss. OneWidths ss vs) (node-async t e) h)))
 
   abbrev widths_all : List Expr → List ℕ
   widths_all es = map (λ (s : Survey). first_width (widths_of ws s.measured)) (all_surveys es)
@@ -532,36 +552,50 @@ module _ (Q : Flow → Formula → Type 0) (allows : Allows Q) (ws : List Width)
   shapes_all (k ∷ ks) [] = []
   shapes_all (k ∷ ks) (n ∷ ns) = shaped k n ∷ shapes_all ks ns
 
-  record OperandsTyped (ps : List ((e : Expr) × ExprIs e)) (ks : List Kind) (K : Known) : Type 0 where
+  record OperandsNumbered (ps : List ((e : Expr) × ExprIs e)) (ks : List Kind) : Type 0 where
     pub numbers : map (λ f. width_under f ws) (map (λ (m : Measured). lone m.formulas) (map (λ (s : Survey). s.measured) (all_surveys (map (λ e. e.0) ps)))) ≡ map Bits (widths_all (map (λ e. e.0) ps))
-    pub typed_as : all_of (map (λ operand. typing.lone_shape (operand K)) (map typed (map (λ e. e.0) ps))) ≡ Some (shapes_all ks (widths_all (map (λ e. e.0) ps)))
     pub counted : length (widths_all (map (λ e. e.0) ps)) ≡ length ks
 
-  operand_number : (p : (e : Expr) × ExprIs e) (q : Part) (k : Kind) → IsFound (found_of tk p.0) (survey ws p.0 wk) (typed p.0) q → sign_of q.typ ≡ Some k → (survey ws p.0 wk).faults ≡ []
+  abbrev OperandsTyped : List ((e : Expr) × ExprIs e) → List Kind → Known → Type 0
+  OperandsTyped ps ks K = all_of (map (λ operand. typing.lone_shape (operand K)) (map typed (map (λ e. e.0) ps))) ≡ Some (shapes_all ks (widths_all (map (λ e. e.0) ps)))
+
+  operand_number : (p : (e : Expr) × ExprIs e) (q : Part) (k : Kind) → IsFound (found_of tk p.0) (survey ws p.0 wk) (typed p.0) q → TakesType q.typ k → (survey ws p.0 wk).faults ≡ []
       → widths_of ws (survey ws p.0 wk).measured ≡ Bits (first_width (widths_of ws (survey ws p.0 wk).measured)) ∷ []
   operand_number p q k f h none =
       number_of_one (widths_of ws (survey ws p.0 wk).measured)
-      (length-map (survey ws p.0 wk).measured.formulas (λ f. width_under f ws) ∙ f.counted ∙ (kind_shapes q.typ k h []).1) (f.numbers none)
+      (length-map (survey ws p.0 wk).measured.formulas (λ f. width_under f ws) ∙ f.counted ∙ kind_size q.typ k h) (f.numbers none)
 
-  operands_typed_as : (ps : List ((e : Expr) × ExprIs e)) (qs : List Part) (ks : List Kind) → AreFound ps qs → HaveKinds qs ks → (K : Known) → Filled ws wk K
-      → flat_map (λ (s : Survey). s.faults) (all_surveys (map (λ e. e.0) ps)) ≡ [] → OperandsTyped ps ks K
-  operands_typed_as [] [] [] f h K fits none = record { numbers = refl; typed_as = refl; counted = refl }
-  operands_typed_as [] [] (k ∷ ks) f h K fits none = absurd h
-  operands_typed_as [] (q ∷ qs) ks f h K fits none = absurd f
-  operands_typed_as (p ∷ ps) [] ks f h K fits none = absurd f
-  operands_typed_as (p ∷ ps) (q ∷ qs) [] f h K fits none = absurd h
-  operands_typed_as (p ∷ ps) (q ∷ qs) (k ∷ ks) f h K fits none =
+  operands_numbered : (prim : PrimOp) (ps : List ((e : Expr) × ExprIs e)) (qs : List Part) (ks : List Kind) → AreFound ps qs → HaveKinds prim qs ks
+      → flat_map (λ (s : Survey). s.faults) (all_surveys (map (λ e. e.0) ps)) ≡ [] → OperandsNumbered ps ks
+  operands_numbered prim [] [] [] f h none = record { numbers = refl; counted = refl }
+  operands_numbered prim [] [] (k ∷ ks) f h none = absurd h
+  operands_numbered prim [] (q ∷ qs) ks f h none = absurd f
+  operands_numbered prim (p ∷ ps) [] ks f h none = absurd f
+  operands_numbered prim (p ∷ ps) (q ∷ qs) [] f h none = absurd h
+  operands_numbered prim (p ∷ ps) (q ∷ qs) (k ∷ ks) f h none =
       let s : Survey = survey ws p.0 wk in
       let own : s.faults ≡ [] = left_empty s.faults _ none in
-      let rest : OperandsTyped ps ks K = operands_typed_as ps qs ks f.1 h.1 K fits (right_empty s.faults _ none) in
-      let n : ℕ = first_width (widths_of ws s.measured) in
-      let one : typed p.0 K ≡ Some (shaped k n ∷ []) = f.0.typed_is K fits own ∙ ap Some ((kind_shapes q.typ k h.0 (widths_of ws s.measured)).0) in
+      let rest : OperandsNumbered ps ks = operands_numbered prim ps qs ks f.1 h.1 (right_empty s.faults _ none) in
       record {
-        numbers = ap₂ (λ x xs. x ∷ xs) (lone_of s.measured n (operand_number p q k f.0 h.0 own)) rest.numbers;
-        typed_as = ap (λ o. option_and_then (λ s. option_and_then (λ more. Some (s ∷ more)) (all_of (map (λ operand. typing.lone_shape (operand K)) (map typed (map (λ e. e.0) ps))))) (typing.lone_shape o)) one
-            ∙ ap (option_and_then (λ more. Some (shaped k n ∷ more))) rest.typed_as;
+        numbers = ap₂ (λ x xs. x ∷ xs) (lone_of s.measured (first_width (widths_of ws s.measured)) (operand_number p q k f.0 h.0 own)) rest.numbers;
         counted = ap suc rest.counted;
       }
+
+  operands_typed_as : (prim : PrimOp) (ps : List ((e : Expr) × ExprIs e)) (qs : List Part) (ks : List Kind) → AreFound ps qs → HaveKinds prim qs ks → (K : Known) → Filled ws wk K
+      → flat_map (λ (s : Survey). s.faults) (all_surveys (map (λ e. e.0) ps)) ≡ [] → OperandsTyped ps ks K
+  operands_typed_as prim [] [] [] f h K fits none = refl
+  operands_typed_as prim [] [] (k ∷ ks) f h K fits none = absurd h
+  operands_typed_as prim [] (q ∷ qs) ks f h K fits none = absurd f
+  operands_typed_as prim (p ∷ ps) [] ks f h K fits none = absurd f
+  operands_typed_as prim (p ∷ ps) (q ∷ qs) [] f h K fits none = absurd h
+  operands_typed_as prim (p ∷ ps) (q ∷ qs) (k ∷ ks) f h K fits none =
+      let s : Survey = survey ws p.0 wk in
+      let own : s.faults ≡ [] = left_empty s.faults _ none in
+      let rest : OperandsTyped ps ks K = operands_typed_as prim ps qs ks f.1 h.1 K fits (right_empty s.faults _ none) in
+      let n : ℕ = first_width (widths_of ws s.measured) in
+      let one : typed p.0 K ≡ Some (shaped k n ∷ []) = f.0.typed_is K fits own ∙ ap Some (kind_shapes q.typ k h.0 (widths_of ws s.measured) (f.0.ones own)) in
+      ap (λ o. option_and_then (λ s. option_and_then (λ more. Some (s ∷ more)) (all_of (map (λ operand. typing.lone_shape (operand K)) (map typed (map (λ e. e.0) ps))))) (typing.lone_shape o)) one
+      ∙ ap (option_and_then (λ more. Some (shaped k n ∷ more))) rest
 
   numbers-bits : (ns : List ℕ) → numbers_of (map Bits ns) ≡ Some ns
   numbers-bits [] = refl
@@ -595,12 +629,12 @@ module _ (Q : Flow → Formula → Type 0) (allows : Allows Q) (ws : List Width)
   params_are_fit prim place params (k ∷ l ∷ ks) (x ∷ y ∷ es) c n e = refl
 
   operation_typed : (prim : PrimOp) (place : Place) (params : List ℕ) (ps : List ((e : Expr) × ExprIs e)) (ks : List Kind) (k : Kind) → row_kind prim ks ≡ Some k
-      → nat_eq (length params) (arity_of prim).1 ≡ true → (K : Known) → OperandsTyped ps ks K → parameter_faults ws prim place params (all_surveys (map (λ e. e.0) ps)) ≡ []
+      → nat_eq (length params) (arity_of prim).1 ≡ true → (K : Known) → OperandsNumbered ps ks → OperandsTyped ps ks K → parameter_faults ws prim place params (all_surveys (map (λ e. e.0) ps)) ≡ []
       → width_under (formula.Op prim ks (map (λ (m : Measured). lone m.formulas) (map (λ (s : Survey). s.measured) (all_surveys (map (λ e. e.0) ps)))) params) ws ≡ bounded (width_number prim ks (widths_all (map (λ e. e.0) ps)) params)
       → IsNumber (bounded (width_number prim ks (widths_all (map (λ e. e.0) ps)) params))
       → option_map (λ s. s ∷ []) (option_and_then (shape_of_row prim params) (all_of (map (λ operand. typing.lone_shape (operand K)) (map typed (map (λ e. e.0) ps)))))
       ≡ Some (shaped k (width_number prim ks (widths_all (map (λ e. e.0) ps)) params) ∷ [])
-  operation_typed prim place params ps ks k row arity K o fit width number =
+  operation_typed prim place params ps ks k row arity K o typed_as fit width number =
       let ns : List ℕ = widths_all (map (λ e. e.0) ps) in
       let os : List Shape = shapes_all ks ns in
       let w : ℕ = width_number prim ks ns params in
@@ -612,7 +646,7 @@ module _ (Q : Flow → Formula → Type 0) (allows : Allows Q) (ws : List Width)
       let ok : is_row prim os params (width_of_row prim os params) ≡ true
       = ap₂ (λ a b. a && b) (ap₂ (λ a b. a && b) (eq-eqb (length os) (arity_of prim).0 (counted ∙ arity_is)) arity)
       (ap₂ (λ a b. a && b) (params_are_fit prim place params ks (map (λ e. e.0) ps) o.counted o.numbers fit) (ap (λ x. nat_le x 128) w_is ∙ small)) in
-      ap (λ x. option_map (λ s. s ∷ []) (option_and_then (shape_of_row prim params) x)) o.typed_as
+      ap (λ x. option_map (λ s. s ∷ []) (option_and_then (shape_of_row prim params) x)) typed_as
       ∙ ap (λ b. option_map (λ s. s ∷ []) (cond b (option_and_then (λ kind. Some (shaped kind (width_of_row prim os params))) (row_kind prim (map (λ (s : Shape). s.kind) os))) None)) ok
       ∙ ap (λ x. option_map (λ s. s ∷ []) (option_and_then (λ kind. Some (shaped kind (width_of_row prim os params))) (row_kind prim x))) kinds
       ∙ ap (λ x. option_map (λ s. s ∷ []) (option_and_then (λ kind. Some (shaped kind (width_of_row prim os params))) x)) row
@@ -622,6 +656,52 @@ module _ (Q : Flow → Formula → Type 0) (allows : Allows Q) (ws : List Width)
       → ((os : List Operand) → (rule js os).faults ≡ [] → flat_map (λ (j : Judgement). j.faults) js ≡ []) → (over place rule js o).faults ≡ [] → flat_map (λ (j : Judgement). j.faults) js ≡ []
   faults_of_over place rule js (Some os) h e = h os e
   faults_of_over place rule js None h e = e
+
+  -- the result of an operation is a number, or an AsyncReset of one bit
+  data ResultIs (prim : PrimOp) (place : Place) (ks : List Kind) (params : List ℕ) (k : Kind) : Type 0 where
+    plain : result_type prim place k ≡ ground place k None → ResultIs prim place ks params k
+    cast : (result_type prim place k).shape ≡ shape.AsyncReset → k ≡ Unsigned → ((ns : List ℕ) → length ns ≡ length ks → width_number prim ks ns params ≡ 1) → ResultIs prim place ks params k
+
+  result_is : (prim : PrimOp) (place : Place) (ks : List Kind) (params : List ℕ) (k : Kind) → row_kind prim ks ≡ Some k → ResultIs prim place ks params k
+  result_is op.AsAsyncReset place [] params k e = cc
+  result_is op.AsAsyncReset place (a ∷ []) params k e = cast refl (sym (some_same e)) one where
+    one : (ns : List ℕ) → length ns ≡ 1 → width_number op.AsAsyncReset (a ∷ []) ns params ≡ 1
+    one [] l = absurd (omega (arith, l))
+    one (n ∷ []) l = refl
+    one (n ∷ m ∷ ns) l = absurd (omega (arith, l))
+  result_is op.AsAsyncReset place (a ∷ b ∷ []) params k e = cc
+  result_is op.AsAsyncReset place (a ∷ b ∷ c ∷ ks) params k e = cc
+  result_is _ place ks params k e = plain refl
+
+  result_size : {prim : PrimOp} {place : Place} {ks : List Kind} {params : List ℕ} {k : Kind} → ResultIs prim place ks params k → size (result_type prim place k) ≡ 1
+  result_size {place = place} {k = k} (plain e) = ap size e ∙ ground_size place k None
+  result_size {prim = prim} {place = place} {k = k} (cast e u one) = size-async (result_type prim place k) e
+
+  async_once : (t : FirType) → t.shape ≡ shape.AsyncReset → twice_in t ≡ []
+  async_once t e = grind (arith, common_steps, the_lemmas)
+
+  result_once : {prim : PrimOp} {place : Place} {ks : List Kind} {params : List ℕ} {k : Kind} → ResultIs prim place ks params k → twice_in (result_type prim place k) ≡ []
+  result_once {place = place} {k = k} (plain e) = ap twice_in e ∙ ground_once place k None
+  result_once {prim = prim} {place = place} {k = k} (cast e u one) = async_once (result_type prim place k) e
+
+  result_ones : {prim : PrimOp} {place : Place} {ks : List Kind} {params : List ℕ} {k : Kind} → ResultIs prim place ks params k → (ns : List ℕ) → length ns ≡ length ks
+      → OneWidths (node_spots (result_type prim place k)) (Bits (width_number prim ks ns params) ∷ [])
+  result_ones {prim = prim} {place = place} {ks = ks} {params = params} {k = k} (plain e) ns l =
+      subst (λ ss. OneWidths ss (Bits (width_number prim ks ns params) ∷ [])) (sym (ap node_spots e ∙ ground_free place k None)) (tt, tt)
+  result_ones {prim = prim} {place = place} {ks = ks} {params = params} {k = k} (cast e u one) ns l =
+      subst (λ ss. OneWidths ss (Bits (width_number prim ks ns params) ∷ [])) (sym (node-async (result_type prim place k) e)) (ap Bits (one ns l), tt)
+
+  result_shapes : {prim : PrimOp} {place : Place} {ks : List Kind} {params : List ℕ} {k : Kind} → ResultIs prim place ks params k → (ns : List ℕ) → length ns ≡ length ks
+      → leaf_shapes (filled (result_type prim place k) (Bits (width_number prim ks ns params) ∷ [])) ≡ shaped k (width_number prim ks ns params) ∷ []
+  result_shapes {prim = prim} {place = place} {ks = ks} {params = params} {k = k} (plain e) ns l =
+      ap (λ t. leaf_shapes (filled t (Bits (width_number prim ks ns params) ∷ []))) e ∙ ground_shapes place k None (width_number prim ks ns params)
+  result_shapes {prim = prim} {place = place} {ks = ks} {params = params} {k = k} (cast e u one) ns l =
+      async_shapes (result_type prim place k) e (Bits (width_number prim ks ns params) ∷ []) ∙ ap₂ (λ x w. shaped x w ∷ []) (sym u) (sym (one ns l))
+
+  -- the type check and the rules give a result one type
+  same_result : (prim : PrimOp) (place : Place) (k : Kind) → sources.result_type prim place k ≡ result_type prim place k
+  same_result op.AsAsyncReset place k = refl
+  same_result _ place k = refl
 
   operation_found : (prim : PrimOp) (place : Place) (params : List ℕ) (ps : List ((e : Expr) × ExprIs e)) → Every Name (IsIn tk) (flat_map (λ names. names) (map references (map (λ e. e.0) ps)))
       → (over place (checking.operation prim place) (map (λ (e : Judged). e.among tk) (judged_all (map (λ e. e.0) ps))) (typed_operands tk (judged_all (map (λ e. e.0) ps)))).faults ≡ []
@@ -637,40 +717,45 @@ module _ (Q : Flow → Formula → Type 0) (allows : Allows Q) (ws : List Width)
       let os : List Operand = operands_of es f.0 in
       let ops : typed_operands tk (judged_all es) ≡ Some os = operands_typed ps f.0 f.1 in
       let e' : (checking.operation prim place js os).faults ≡ [] = ap (λ o. (over place (checking.operation prim place) js o).faults) (sym ops) ∙ e in
-      let own : unless (is_some (row_of prim (signs_of os))) (OperandKind place) ≡ [] = right_empty (flat_map (λ (j : Judgement). j.faults) js) _ e' in
-      let row = signs_some prim (signs_of os) (unless_true _ _ own) in
-      let kinds : HaveKinds f.0 row.0 = signs_have ps f.0 f.1 row.0 row.1 in
+      let own : unless (is_some (row_of prim (signs_of prim os))) (OperandKind place) ≡ [] = right_empty (flat_map (λ (j : Judgement). j.faults) js) _ e' in
+      let row = signs_some prim (signs_of prim os) (unless_true _ _ own) in
+      let kinds : HaveKinds prim f.0 row.0 = signs_have prim ps f.0 f.1 row.0 row.1 in
       let k : Kind = row.2 in
-      let typ : FirType = ground place (sign_or_unsigned (row_of prim (signs_of os))) None in
-      let typ_is : typ ≡ ground place k None = ap (λ o. ground place (sign_or_unsigned o) None) (ap (row_of prim) row.1 ∙ row.3) in
+      let typ : FirType = result_type prim place (sign_or_unsigned (row_of prim (signs_of prim os))) in
+      let typ_is : typ ≡ result_type prim place k = ap (λ o. result_type prim place (sign_or_unsigned o)) (ap (row_of prim) row.1 ∙ row.3) in
       let ms : List Measured = map (λ (s : Survey). s.measured) (all_surveys es) in
       let m : Measured = sources.operation prim place ms params in
-      let kinds_are : map kind_of ms ≡ row.0 = kinds_measured ps f.0 row.0 f.1 kinds in
-      let part_is : m.part ≡ source_of (ground place k None) = ap (λ ks. source_of (ground place (sign_or_unsigned (row_kind prim ks)) None)) kinds_are ∙ ap (λ o. source_of (ground place (sign_or_unsigned o) None)) row.3 in
+      let kinds_are : map kind_of ms ≡ row.0 = kinds_measured prim ps f.0 row.0 f.1 kinds in
+      let part_is : m.part ≡ source_of (result_type prim place k)
+      = ap (λ ks. source_of (sources.result_type prim place (sign_or_unsigned (row_kind prim ks)))) kinds_are ∙ ap (λ o. source_of (sources.result_type prim place (sign_or_unsigned o))) row.3
+      ∙ ap source_of (same_result prim place k) in
       let lones : List Formula = map (λ (x : Measured). lone x.formulas) ms in
       let some_row : is_some (row_kind prim (map kind_of ms)) ≡ true = ap (λ ks. is_some (row_kind prim ks)) kinds_are ∙ ap is_some row.3 in
       let formula_is : operation_formula prim ms params ≡ formula.Op prim row.0 lones params
       = ap (λ b. if b then formula.Op prim (map kind_of ms) lones params else formula.Fixed 0) (ap₂ (λ a b. a && b) some_row arity) ∙ ap (λ ks. formula.Op prim ks lones params) kinds_are in
       let all : List Survey = all_surveys es in
       let s : Survey = surveyed ws place m (parameter_faults ws prim place params all) all in
-      let nums : s.faults ≡ [] → Each IsNumber (widths_of ws m) = λ none. none_over (widths_of ws m) (where_false _ _ (left_empty _ (parameter_faults ws prim place params all) (right_empty (flat_map (λ (x : Survey). x.faults) all) _ none))) in (
-        source_of (ground place k None),
+      let nums : s.faults ≡ [] → Each IsNumber (widths_of ws m) = λ none. none_over (widths_of ws m) (where_false _ _ (left_empty _ (parameter_faults ws prim place params all) (right_empty (flat_map (λ (x : Survey). x.faults) all) _ none))) in
+      let result : ResultIs prim place row.0 params k = result_is prim place row.0 params k row.3 in
+      let numbered : s.faults ≡ [] → OperandsNumbered ps row.0 = λ none. operands_numbered prim ps f.0 row.0 f.1 kinds (left_empty (flat_map (λ (x : Survey). x.faults) all) _ none) in
+      let w : ℕ = width_number prim row.0 (widths_all es) params in
+      let width : s.faults ≡ [] → width_under (formula.Op prim row.0 lones params) ws ≡ bounded w
+      = λ none. width-Op prim row.0 lones params ws ∙ ap (λ vs. row_width prim row.0 vs params) (numbered none).numbers ∙ ap (of_numbers (λ vs. width_number prim row.0 vs params)) (numbers-bits (widths_all es)) in
+      let number : s.faults ≡ [] → IsNumber (bounded w) = λ none. subst IsNumber (ap (λ g. width_under g ws) formula_is ∙ width none) (nums none).0 in
+      let widths : s.faults ≡ [] → widths_of ws m ≡ Bits w ∷ [] = λ none. ap (λ g. g ∷ []) (ap (λ g. width_under g ws) formula_is ∙ width none ∙ (bounded_number w (number none)).0) in (
+        source_of (result_type prim place k),
         record {
           found = ap (λ o. (over place (checking.operation prim place) js o).part) ops ∙ ap (option_map source_of) (typed_without_none _ typ own) ∙ ap (λ t. Some (source_of t)) typ_is;
           measured = part_is;
-          counted = sym (ground_size place k None);
-          once = ground_once place k None;
-          placed = one_placed Source (ground place k None) (operation_formula prim ms params) (λ through. subst (Q through) (sym formula_is) (allows.op through prim row.0 lones params));
+          counted = sym (result_size result);
+          once = result_once result;
+          placed = one_placed Source (result_type prim place k) (operation_formula prim ms params) (λ through. subst (Q through) (sym formula_is) (allows.op through prim row.0 lones params));
           numbers = nums;
+          ones = λ none. subst (OneWidths (node_spots (result_type prim place k))) (sym (widths none)) (result_ones result (widths_all es) (numbered none).counted);
           typed_is = λ K fits none.
-              let o : OperandsTyped ps row.0 K = operands_typed_as ps f.0 row.0 f.1 kinds K fits (left_empty (flat_map (λ (x : Survey). x.faults) all) _ none) in
-              let w : ℕ = width_number prim row.0 (widths_all es) params in
-              let width : width_under (formula.Op prim row.0 lones params) ws ≡ bounded w
-              = width-Op prim row.0 lones params ws ∙ ap (λ vs. row_width prim row.0 vs params) o.numbers ∙ ap (of_numbers (λ vs. width_number prim row.0 vs params)) (numbers-bits (widths_all es)) in
-              let number : IsNumber (bounded w) = subst IsNumber (ap (λ g. width_under g ws) formula_is ∙ width) (nums none).0 in
-              let widths : widths_of ws m ≡ Bits w ∷ [] = ap (λ g. g ∷ []) (ap (λ g. width_under g ws) formula_is ∙ width ∙ (bounded_number w number).0) in
-              operation_typed prim place params ps row.0 k row.3 arity K o (right_empty _ (parameter_faults ws prim place params all) (right_empty (flat_map (λ (x : Survey). x.faults) all) _ none)) width number
-              ∙ ap Some (sym (ground_shapes place k None w)) ∙ ap (λ vs. Some (leaf_shapes (filled (ground place k None) vs))) (sym widths);
+              let typed_as : OperandsTyped ps row.0 K = operands_typed_as prim ps f.0 row.0 f.1 kinds K fits (left_empty (flat_map (λ (x : Survey). x.faults) all) _ none) in
+              operation_typed prim place params ps row.0 k row.3 arity K (numbered none) typed_as (right_empty _ (parameter_faults ws prim place params all) (right_empty (flat_map (λ (x : Survey). x.faults) all) _ none)) (width none) (number none)
+              ∙ ap Some (sym (result_shapes result (widths_all es) (numbered none).counted)) ∙ ap (λ vs. Some (leaf_shapes (filled (result_type prim place k) vs))) (sym (widths none));
         },
       )
 
@@ -680,6 +765,24 @@ module _ (Q : Flow → Formula → Type 0) (allows : Allows Q) (ws : List Width)
   greater_widths [] gs = refl
   greater_widths (f ∷ fs) [] = refl
   greater_widths (f ∷ fs) (g ∷ gs) = ap₂ (λ x xs. x ∷ xs) (width-Greatest (f ∷ g ∷ []) ws) (greater_widths fs gs)
+
+  -- of two widths 1 the greater one is 1
+  most_ones : (ss ts : List Spot) (us vs : List Width) → given_in ss ≡ given_in ts → OneWidths ss us → OneWidths ts vs → OneWidths ss (map bigger (zip us vs))
+  most_ones [] [] [] [] e h k = tt
+  most_ones [] ts (u ∷ us) vs e h k = absurd h
+  most_ones [] [] [] (v ∷ vs) e h k = absurd k
+  most_ones [] (t ∷ ts) us vs e h k = cc
+  most_ones (s ∷ ss) ts [] vs e h k = absurd h
+  most_ones (s ∷ ss) [] us vs e h k = cc
+  most_ones (s ∷ ss) (t ∷ ts) us [] e h k = absurd k
+  most_ones (s ∷ ss) (t ∷ ts) (u ∷ us) (v ∷ vs) e h k =
+      let here' : s.width ≡ t.width = cc in
+      let rest : given_in ss ≡ given_in ts = cc in
+      (one s.width h.0 (subst (λ o. OneWidth o v) (sym here') k.0), most_ones ss ts us vs rest h.1 k.1)
+    where
+      one : (o : Option ℕ) → OneWidth o u → OneWidth o v → OneWidth o (bigger (u, v))
+      one None a b = tt
+      one (Some w) a b = ap₂ (λ x y. bigger (x, y)) a b
 
   most_placed : (flow : Flow) (ss : List Spot) (fs gs : List Formula) → Placed Q flow ss (map greater_of (zip fs gs))
   most_placed flow [] fs gs = tt
@@ -704,7 +807,7 @@ module _ (Q : Flow → Formula → Type 0) (allows : Allows Q) (ws : List Width)
       let own = right_empty (flat_map (λ (j : Judgement). j.faults) js) _ e in
       let a : is_unsigned cq.typ ≡ true = unless_true _ _ (left_empty (unless (is_unsigned cq.typ) (ConditionKind (judged c).place)) _ own) in
       let rest = right_empty (unless (is_unsigned cq.typ) (ConditionKind (judged c).place)) _ own in
-      let rest2 = right_empty (when (has_clock fq.typ || has_clock sq.typ) (OperandKind place)) _ rest in
+      let rest2 = right_empty (when (has_signal fq.typ || has_signal sq.typ) (OperandKind place)) _ rest in
       let rest3 = right_empty (unless (is_passive fq.typ) (NotPassive (judged first).place)) _ rest2 in
       let same : are_equivalent fq.typ sq.typ ≡ true = unless_true _ _ (right_empty (unless (is_passive sq.typ) (NotPassive (judged second).place)) _ rest3) in
       let alike : Equivalent fq.typ sq.typ = is_equivalent fq.typ sq.typ same in
@@ -726,6 +829,8 @@ module _ (Q : Flow → Formula → Type 0) (allows : Allows Q) (ws : List Width)
           once = y.once;
           placed = most_placed Source (spots fq.typ) m1.formulas m2.formulas;
           numbers = λ none. none_over (widths_of ws m) (where_false _ _ (left_empty _ (choice_faults ws surveys) (right_empty (flat_map (λ (q : Survey). q.faults) surveys) _ none)));
+          ones = λ none. subst (OneWidths (node_spots fq.typ)) (sym (greater_widths m1.formulas m2.formulas))
+              (most_ones (node_spots fq.typ) (node_spots sq.typ) (widths_of ws m1) (widths_of ws m2) (given_alike alike) (y.ones (faults_1 none)) (z.ones (faults_2 none)));
           typed_is = λ K fits none.
               let us : List Width = widths_of ws m1 in
               let vs : List Width = widths_of ws m2 in

@@ -20,7 +20,7 @@ use Rattle.fir_types.specs.declared.leaf.TypeLeaf.{TypeLeaf}
 use Rattle.fir_types.specs.declared.leaf.PathStep.{PathStep}
 use Rattle.fir_types.specs.declared.leaf.PathStep.TheVariants as step
 use Rattle.fir_types.specs.Leaves.{leaves, field_leaves, elements, under}
-use Rattle.fir_types.specs.Equivalence.{Equivalent, SameFields, IsUnsigned, IsSigned, unsigned, signed, clocks, vectors, bundles, no_fields, same_field, a_uint, a_sint, a_reset}
+use Rattle.fir_types.specs.Equivalence.{Equivalent, SameFields, IsUnsigned, IsSigned, unsigned, signed, clocks, asyncs, vectors, bundles, no_fields, same_field, a_uint, a_sint, a_reset}
 use Rattle.fir_types.proofs.Layers.{leaves-bundle, leaves-vector, leaves-field}
 use Rattle.prim_ops.specs.declared.widths.Width.{Width}
 use Rattle.prim_ops.specs.declared.widths.Width.TheVariants.{Bits, Over}
@@ -174,7 +174,7 @@ filled-clock t h ws = grind (arith, common_steps, the_lemmas)
 pub filled-reset : (t : FirType) → t.shape ≡ shape.Reset → (ws : List Width) → (filled t ws).shape ≡ shape.Unsigned (first_number ws)
 filled-reset t h ws = grind (arith, common_steps, the_lemmas)
 
-pub filled-async : (t : FirType) → t.shape ≡ shape.AsyncReset → (ws : List Width) → (filled t ws).shape ≡ shape.Unsigned (first_number ws)
+pub filled-async : (t : FirType) → t.shape ≡ shape.AsyncReset → (ws : List Width) → (filled t ws).shape ≡ shape.AsyncReset
 filled-async t h ws = grind (arith, common_steps, the_lemmas)
 
 pub filled-place : (t : FirType) (ws : List Width) → (filled t ws).place ≡ t.place
@@ -233,8 +233,7 @@ shape_alike (Shape-F.Signed w) = subst ShapeAlike (sym (rolls-Signed w)) (λ pla
 shape_alike Shape-F.Clock = subst ShapeAlike (sym rolls-Clock) (λ place ws. clocks refl (filled-clock (record { place = place; shape = shape.Clock }) refl ws))
 shape_alike Shape-F.Reset = subst ShapeAlike (sym rolls-Reset) (λ place ws.
     unsigned (a_reset refl) (a_uint (first_number ws) (filled-reset (record { place = place; shape = shape.Reset }) refl ws)))
-shape_alike Shape-F.AsyncReset = subst ShapeAlike (sym rolls-AsyncReset) (λ place ws.
-    unsigned (a_reset refl) (a_uint (first_number ws) (filled-async (record { place = place; shape = shape.AsyncReset }) refl ws)))
+shape_alike Shape-F.AsyncReset = subst ShapeAlike (sym rolls-AsyncReset) (λ place ws. asyncs refl (filled-async (record { place = place; shape = shape.AsyncReset }) refl ws))
 shape_alike (Shape-F.Bundle ps) = subst ShapeAlike (sym (rolls-Bundle (map (λ e. e.0) ps))) (λ place ws.
     let fs : List Field = map (λ e. e.0) ps in
     bundles fs (filled_fields fs ws) refl (filled-bundle (record { place = place; shape = shape.Bundle (map (λ e. e.0) ps) }) fs refl ws) (fields_alike ps ws))
@@ -259,6 +258,7 @@ mutual
   size_alike (unsigned u v) = unsigned_size u ∙ sym (unsigned_size v)
   size_alike (signed u v) = signed_size u ∙ sym (signed_size v)
   size_alike {a} {b} (clocks u v) = size-clock a u ∙ sym (size-clock b v)
+  size_alike {a} {b} (asyncs u v) = size-async a u ∙ sym (size-async b v)
   size_alike {a} {b} (vectors e o n u v q) = size-vector a e n u ∙ size_alike q ∙ sym (size-vector b o n v)
   size_alike {a} {b} (bundles fs gs u v q) = size-bundle a fs u ∙ fields_size_alike q ∙ sym (size-bundle b gs v)
 
@@ -324,6 +324,9 @@ shapes-signed t w e = grind (arith, common_steps, the_lemmas)
 pub shapes-clock : (t : FirType) → t.shape ≡ shape.Clock → leaf_shapes t ≡ shaped Unsigned 0 ∷ []
 shapes-clock t e = grind (arith, common_steps, the_lemmas)
 
+pub shapes-async : (t : FirType) → t.shape ≡ shape.AsyncReset → leaf_shapes t ≡ shaped Unsigned 1 ∷ []
+shapes-async t e = grind (arith, common_steps, the_lemmas)
+
 abbrev pub first_width : List Width → ℕ
 first_width ws = width_or_none (first_number ws)
 
@@ -333,6 +336,10 @@ filled_unsigned {t} (a_reset e) ws = shapes-unsigned (filled t ws) (first_number
 
 pub filled_signed : {t : FirType} → IsSigned t → (ws : List Width) → leaf_shapes (filled t ws) ≡ shaped Signed (first_width ws) ∷ []
 filled_signed {t} (a_sint w e) ws = shapes-signed (filled t ws) (first_number ws) (filled-signed t w e ws)
+
+-- an AsyncReset has one bit, whatever fills it
+pub async_shapes : (t : FirType) → t.shape ≡ shape.AsyncReset → (ws : List Width) → leaf_shapes (filled t ws) ≡ shaped Unsigned 1 ∷ []
+async_shapes t e ws = shapes-async (filled t ws) (filled-async t e ws)
 
 -- The wider of two types with widths
 
@@ -418,6 +425,8 @@ mutual
   wider_filled {a} {b} (clocks p q) us vs h k l m =
       ap₂ wider_each (shapes-clock (filled a us) (filled-clock a p us)) (shapes-clock (filled b vs) (filled-clock b q vs))
       ∙ ap Some (sym (shapes-clock (filled a (map bigger (zip us vs))) (filled-clock a p (map bigger (zip us vs)))))
+  wider_filled {a} {b} (asyncs p q) us vs h k l m =
+      ap₂ wider_each (async_shapes a p us) (async_shapes b q vs) ∙ ap Some (sym (async_shapes a p (map bigger (zip us vs))))
   wider_filled {a} {b} (vectors e o n p q r) us vs h k l m =
       ap₂ wider_each (shapes-vector (filled a us) (filled e us) n (filled-vector a e n p us)) (shapes-vector (filled b vs) (filled o vs) n (filled-vector b o n q vs))
       ∙ wider-times n (leaf_shapes (filled e us)) (leaf_shapes (filled o vs)) (leaf_shapes (filled e (map bigger (zip us vs))))
@@ -476,6 +485,9 @@ is_narrow-signed t w e = grind (arith, common_steps, the_lemmas)
 pub is_narrow-clock : (t : FirType) → t.shape ≡ shape.Clock → is_narrow t ≡ true
 is_narrow-clock t e = grind (arith, common_steps, the_lemmas)
 
+pub is_narrow-async : (t : FirType) → t.shape ≡ shape.AsyncReset → is_narrow t ≡ true
+is_narrow-async t e = grind (arith, common_steps, the_lemmas)
+
 list_all-of : {A : Type 0} (f : A → Bool) (xs : List A) → list_all (λ b. b) (map f xs) ≡ list_all f xs
 list_all-of f [] = refl
 list_all-of f (x ∷ xs) = ap (λ b. f x && b) (list_all-of f xs)
@@ -504,8 +516,7 @@ shape_narrow Shape-F.Reset = subst ShapeNarrow (sym rolls-Reset) (λ place ws h.
     let t : FirType = record { place = place; shape = shape.Reset } in
     is_narrow-unsigned (filled t ws) (first_number ws) (filled-reset t refl ws) ∙ le-leb (first_width ws) 128 (first_narrow ws h))
 shape_narrow Shape-F.AsyncReset = subst ShapeNarrow (sym rolls-AsyncReset) (λ place ws h.
-    let t : FirType = record { place = place; shape = shape.AsyncReset } in
-    is_narrow-unsigned (filled t ws) (first_number ws) (filled-async t refl ws) ∙ le-leb (first_width ws) 128 (first_narrow ws h))
+    let t : FirType = record { place = place; shape = shape.AsyncReset } in is_narrow-async (filled t ws) (filled-async t refl ws))
 shape_narrow (Shape-F.Bundle ps) = subst ShapeNarrow (sym (rolls-Bundle (map (λ e. e.0) ps))) (λ place ws h.
     let fs : List Field = map (λ e. e.0) ps in
     let t : FirType = record { place = place; shape = shape.Bundle (map (λ e. e.0) ps) } in

@@ -15,7 +15,7 @@ use Rattle.fir_types.specs.declared.fir_type.Shape.TheVariants as shape
 use Rattle.fir_types.specs.declared.fir_type.Shape.TheVariants.{rolls-Unsigned, rolls-Signed, rolls-Clock, rolls-Reset, rolls-AsyncReset, rolls-Bundle, rolls-Vector}
 use Rattle.fir_types.specs.declared.fir_type.Field.{Field}
 use Rattle.fir_types.specs.Passivity.{has_flip, field_has_flip}
-use Rattle.fir_types.specs.Equivalence.{Equivalent, SameFields, IsUnsigned, IsSigned, unsigned, signed, clocks, vectors, bundles, no_fields, same_field, a_uint, a_sint, a_reset}
+use Rattle.fir_types.specs.Equivalence.{Equivalent, SameFields, IsUnsigned, IsSigned, unsigned, signed, clocks, asyncs, vectors, bundles, no_fields, same_field, a_uint, a_sint, a_reset}
 use Rattle.fir_types.proofs.Layers.{flip-bundle}
 use Rattle.prim_ops.specs.declared.widths.Width.{Width}
 use Rattle.prim_ops.specs.declared.widths.Width.TheVariants.{Bits, Over}
@@ -129,6 +129,7 @@ mutual
   flips_alike (unsigned u v) = unsigned_flips u ∙ sym (unsigned_flips v)
   flips_alike (signed u v) = signed_flips u ∙ sym (signed_flips v)
   flips_alike {a} {b} (clocks u v) = ap flips (one-clock a u) ∙ sym (ap flips (one-clock b v))
+  flips_alike {a} {b} (asyncs u v) = ap flips (one-async a u) ∙ sym (ap flips (one-async b v))
   flips_alike {a} {b} (vectors e o n u v q) = ap flips (spots-vector a e n u) ∙ flips_alike q ∙ sym (ap flips (spots-vector b o n v))
   flips_alike {a} {b} (bundles fs gs u v q) = ap flips (spots-bundle a fs u) ∙ fields_alike q ∙ sym (ap flips (spots-bundle b gs v))
 

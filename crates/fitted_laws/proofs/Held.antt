@@ -1,5 +1,5 @@
 -- What registers and memories hold: no Clock and nothing flipped; and the names of a memory's ports.
-use Rattle.std.proofs.Common.{◌≡◌, ◌≢◌, ℕ, zero, suc, ◌==◌, Bool, true, false, not, cond, List, [], ◌∷◌, ◌++◌, map, Some, refl, sym, ap, ap₂, ◌∙◌, subst, arith, ⊎_elim}
+use Rattle.std.proofs.Common.{◌≡◌, ◌≢◌, ℕ, zero, suc, ◌==◌, Bool, true, false, not, ◌||◌, cond, List, [], ◌∷◌, ◌++◌, map, Some, refl, sym, ap, ap₂, ◌∙◌, subst, arith, ⊎_elim}
 use Rattle.std.proofs.lemmas.List.Elements.{Contains-append_cases}
 use Rattle.std.specs.Prelude.{Contains, nat_eq, find}
 use Rattle.std.specs.List.{flat_map, list_any, filter_map, AllByRecursion}
@@ -19,16 +19,19 @@ use Rattle.fir_types.specs.declared.memory.MemLine.{MemLine}
 use Rattle.fir_types.specs.declared.memory.MemLine.TheVariants as line
 use Rattle.fir_types.specs.declared.memory.PortMode.{PortMode}
 use Rattle.fir_types.specs.declared.memory.PortMode.TheVariants as mode
-use Rattle.fir_types.specs.Leaves.{leaves, field_leaves, elements, under, way_of, is_clock}
+use Rattle.fir_types.specs.declared.fir_type.Shape.{Shape}
+use Rattle.fir_types.specs.declared.fir_type.Shape.TheOpen.{Shape-F}
+use Rattle.fir_types.specs.declared.fir_type.Shape.TheViews.{out-Shape}
+use Rattle.fir_types.specs.Leaves.{leaves, field_leaves, elements, under, way_of, is_clock_shape, is_clock, has_clock, is_signal_shape, is_signal, has_signal}
 use Rattle.fir_types.specs.Memories.{element_of, element_in, depth_of, first_or}
 use Rattle.fir_types.specs.Bundles.{memory_of, port_field, port_type, fields_of_mode, mask_of, plain_field, flipped_field, uint_at, clock_at, address_bits, addr_name, en_name, clk_name, data_name, mask_name, rdata_name, wmode_name, wdata_name, wmask_name}
 use Rattle.fir_types.specs.Passivity.{has_flip}
-use Rattle.fir_types.specs.Equivalence.{Equivalent, IsUnsigned, IsSigned, SameFields, unsigned, signed, clocks, vectors, bundles, no_fields, same_field, a_uint, a_reset, a_sint}
+use Rattle.fir_types.specs.Equivalence.{Equivalent, IsUnsigned, IsSigned, SameFields, unsigned, signed, clocks, asyncs, vectors, bundles, no_fields, same_field, a_uint, a_reset, a_sint}
 use Rattle.fir_types.proofs.Layers.{leaves-bundle, leaves-vector, leaves-field, flip-bundle}
 use Rattle.fir_types.proofs.Masks.{masked}
 use Rattle.type_check.specs.declared.fault.TypeFault.TheVariants.{MemoryField, OperandKind, NotPassive}
 use Rattle.type_check.specs.Parts.{when}
-use Rattle.type_check.specs.Texts.{has_clock, stored_faults, twice_in, is_passive}
+use Rattle.type_check.specs.Texts.{stored_faults, twice_in, is_passive}
 use Rattle.type_check.specs.Memories.{memory_faults, line_faults, again_behind, is_said, is_port}
 use Rattle.fir_meaning.specs.MemoryPorts.{MemoryPort, memory_ports, port_named, port_in}
 use Rattle.circuit_laws.specs.Names.{Every}
@@ -70,6 +73,9 @@ signed_no {t} (a_sint w e) = grind (arith, common_steps, the_lemmas)
 clock_yes : (t : FirType) → t.shape ≡ shape.Clock → map is_clock (leaves t) ≡ true ∷ []
 clock_yes t e = grind (arith, common_steps, the_lemmas)
 
+async_no : (t : FirType) → t.shape ≡ shape.AsyncReset → map is_clock (leaves t) ≡ false ∷ []
+async_no t e = grind (arith, common_steps, the_lemmas)
+
 clocks_field : (f : Field) → map is_clock (field_leaves f) ≡ map is_clock (leaves f.typ)
 clocks_field f = ap (map is_clock) (leaves-field f) ∙ clocks_under (step.Field f.name.id ∷ []) f.flip (leaves f.typ)
 
@@ -78,6 +84,7 @@ mutual
   same_clocks (unsigned u v) = unsigned_no u ∙ sym (unsigned_no v)
   same_clocks (signed u v) = signed_no u ∙ sym (signed_no v)
   same_clocks {l} {r} (clocks u v) = clock_yes l u ∙ sym (clock_yes r v)
+  same_clocks {l} {r} (asyncs u v) = async_no l u ∙ sym (async_no r v)
   same_clocks {l} {r} (vectors e o n u v q) =
       ap (map is_clock) (leaves-vector l e n u) ∙ clocks_elements (leaves e) (leaves o) n (same_clocks q) ∙ sym (ap (map is_clock) (leaves-vector r o n v))
   same_clocks {l} {r} (bundles fs gs u v q) = ap (map is_clock) (leaves-bundle l fs u) ∙ same_bundle_clocks q ∙ sym (ap (map is_clock) (leaves-bundle r gs v))
@@ -102,6 +109,22 @@ no_clocks (l ∷ ls) (m ∷ ms) e h =
     let own : is_clock l ≡ is_clock m = cc in
     let rest : map is_clock ls ≡ map is_clock ms = cc in
     (sym own ∙ h.0, no_clocks ls ms rest h.1)
+
+-- without a signal there is no Clock
+no_clock_layer : (x : Shape-F Shape Field FirType) → is_signal_shape x ≡ false → is_clock_shape x ≡ false
+no_clock_layer Shape-F.Clock e = cc
+no_clock_layer Shape-F.AsyncReset e = refl
+no_clock_layer (Shape-F.Unsigned w) e = refl
+no_clock_layer (Shape-F.Signed w) e = refl
+no_clock_layer Shape-F.Reset e = refl
+no_clock_layer (Shape-F.Bundle fields) e = refl
+no_clock_layer (Shape-F.Vector element n) e = refl
+
+no_signals : (ls : List TypeLeaf) → list_any is_signal ls ≡ false → list_any is_clock ls ≡ false
+no_signals [] e = refl
+no_signals (l ∷ ls) e =
+    let both = or_parts (is_signal l) (list_any is_signal ls) e in
+    ap₂ (λ a b. a || b) (no_clock_layer (out-Shape l.typ.shape) both.0) (no_signals ls both.1)
 
 pub unclocked : {t r : FirType} → Equivalent t r → has_clock t ≡ false → (l : TypeLeaf) → Contains (leaves r) l → is_clock l ≡ false
 unclocked {t} {r} q e l i = every_in NoClock (leaves r) (no_clocks (leaves t) (leaves r) (same_clocks q) (none_any (leaves t) e)) l i
@@ -207,7 +230,8 @@ empty_silent : has_clock (record { place = record { line = 1; column = 1 }; shap
 empty_silent = grind (arith, common_steps, the_lemmas)
 
 pub stored_silent : (typ : FirType) → stored_faults typ ≡ [] → has_clock typ ≡ false
-stored_silent typ e = false_when (has_clock typ) (OperandKind typ.place) (left_empty (when (has_clock typ) (OperandKind typ.place)) _ (right_empty (twice_in typ) _ e))
+stored_silent typ e =
+    no_signals (leaves typ) (false_when (has_signal typ) (OperandKind typ.place) (left_empty (when (has_signal typ) (OperandKind typ.place)) _ (right_empty (twice_in typ) _ e)))
 
 negated : (b : Bool) → not b ≡ true → b ≡ false
 negated true e = cc
@@ -216,7 +240,7 @@ negated false e = refl
 pub stored_holds : (typ : FirType) → stored_faults typ ≡ [] → (has_clock typ ≡ false) × (has_flip typ ≡ false)
 stored_holds typ e = (
   stored_silent typ e,
-  negated (has_flip typ) (unless_true (is_passive typ) (NotPassive typ.place) (right_empty (when (has_clock typ) (OperandKind typ.place)) _ (right_empty (twice_in typ) _ e))),
+  negated (has_flip typ) (unless_true (is_passive typ) (NotPassive typ.place) (right_empty (when (has_signal typ) (OperandKind typ.place)) _ (right_empty (twice_in typ) _ e))),
 )
 
 element_silent : (other : FirType) (lines : List MemLine) → has_clock other ≡ false → flat_map line_faults lines ≡ [] → has_clock (first_or other (filter_map element_in lines)) ≡ false

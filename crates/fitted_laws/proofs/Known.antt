@@ -58,7 +58,7 @@ more_placed ms more flow (s ∷ ss) [] h = tt
 more_placed ms more flow (s ∷ ss) (f ∷ fs) h = (more_marked ms more _ f h.0, more_placed ms more flow ss fs h.1)
 
 pub more_good : (ms more : Marks) (sized : Component) → IsGood (Marked ms) sized → IsGood (Marked (ms ++ more)) sized
-more_good ms more sized g = record { counted = g.counted; once = g.once; placed = more_placed ms more sized.part.flow _ _ g.placed }
+more_good ms more sized g = record { counted = g.counted; once = g.once; placed = more_placed ms more sized.part.flow _ _ g.placed; ones = g.ones }
 
 pub more_knows : (ms more : Marks) (tk : TKnown) (wk : WKnown) → Knows (Marked ms) tk wk → Knows (Marked (ms ++ more)) tk wk
 more_knows ms more tk wk k = record { same = k.same; good = λ name sized e. more_good ms more sized (k.good name sized e) }

@@ -1,6 +1,7 @@
 mod Filling
 mod Signs
 mod Literals
+mod Asyncs
 mod Steps
 mod Once
 mod Expressions

@@ -97,7 +97,7 @@ shape_unseen Shape-F.Reset = subst ShapeUnseen (sym rolls-Reset) (λ place ws.
     same_type (places_same t ws) (mask-unsigned (filled t ws) (first_number ws) (filled-reset t refl ws) ∙ sym (mask-reset t refl)))
 shape_unseen Shape-F.AsyncReset = subst ShapeUnseen (sym rolls-AsyncReset) (λ place ws.
     let t : FirType = record { place = place; shape = shape.AsyncReset } in
-    same_type (places_same t ws) (mask-unsigned (filled t ws) (first_number ws) (filled-async t refl ws) ∙ sym (mask-async t refl)))
+    same_type (places_same t ws) (mask-async (filled t ws) (filled-async t refl ws) ∙ sym (mask-async t refl)))
 shape_unseen (Shape-F.Bundle ps) = subst ShapeUnseen (sym (rolls-Bundle (map (λ e. e.0) ps))) (λ place ws.
     let fs : List Field = map (λ e. e.0) ps in
     let t : FirType = record { place = place; shape = shape.Bundle (map (λ e. e.0) ps) } in

@@ -34,6 +34,7 @@ use Rattle.circuit_laws.specs.Designs.{component_of}
 use Rattle.circuit_laws.proofs.Alone.{every-right}
 use Rattle.circuit_laws.proofs.Scoping.{IsNamed, AllNamed}
 use Rattle.fitted_laws.specs.Shaped.{is_shaped_module}
+use Rattle.fitted_laws.proofs.Asyncs.{slots_one}
 use Rattle.fitted_laws.proofs.Steps.{left_empty, right_empty, IsGood}
 use Rattle.fitted_laws.proofs.Expressions.{TKnown, WKnown, Knows, Filled}
 use Rattle.fitted_laws.proofs.Known.{Marks, Marked, RuleMarked, knows_with, filled_with, kept_found, with_itself, more_rule}
@@ -65,6 +66,7 @@ module _ (all : Solved) (modules : List Module) (with_ports : List WithPorts) (p
     counted = length-slots n (spots p.typ);
     once = once;
     placed = free_placed ms (port_flow p) (spots p.typ) _ (slots_free ms n (spots p.typ) (λ x lo hi. b x (omega (arith, hi, h))));
+    ones = slots_one n p.typ;
   }
 
   ports_know : (ms : Marks) → Begins ports ms → (n : ℕ) (ps : List Port) → n + open_ports ps ≤ ports → (tk : TKnown) (wk : WKnown) → (ports_walk ps tk).faults ≡ [] → Knows (Marked ms) tk wk

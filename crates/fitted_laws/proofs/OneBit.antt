@@ -4,6 +4,7 @@ use Rattle.std.specs.Prelude.{nat_le}
 use Rattle.std.specs.List.{list_all}
 use Rattle.fir_types.specs.Equivalence.{IsUnsigned}
 use Rattle.fir_types.specs.declared.fir_type.FirType.{FirType}
+use Rattle.fir_types.specs.declared.fir_type.Shape.TheVariants as shape
 use Rattle.prim_ops.specs.declared.widths.Width.{Width}
 use Rattle.prim_ops.specs.declared.widths.Width.TheVariants.{Bits, Over}
 use Rattle.fir_tree.specs.declared.expr.Expr.{Expr}
@@ -25,7 +26,7 @@ use Rattle.fitted_laws.specs.OneBit as asking
 use Rattle.fitted_laws.specs.Choices as choosing
 use Rattle.fitted_laws.specs.Choices.{chooses, chooses_in, choose_in}
 use Rattle.fitted_laws.specs.OneBit.{one_bit, is_one_bit, asks_one_bit, ask_one_bit}
-use Rattle.fitted_laws.proofs.Filling.{leaf_shapes, first_width, filled_unsigned}
+use Rattle.fitted_laws.proofs.Filling.{leaf_shapes, first_width, filled_unsigned, async_shapes}
 use Rattle.fitted_laws.proofs.Expressions.{and_left, and_right}
 
 -- what is measured with one bit at most has one bit at most
@@ -38,6 +39,10 @@ measured_narrow ws (f ∷ fs) e = one (width_under f ws) e where
 
 pub filled_one_bit : (ws : List Width) (m : Measured) (typ : FirType) → IsUnsigned typ → nat_le (level (lone_width ws m)) 1 ≡ true → one_bit (Some (leaf_shapes (filled typ (widths_of ws m)))) ≡ true
 filled_one_bit ws m typ u e = ap (λ l. one_bit (Some l)) (filled_unsigned u (widths_of ws m)) ∙ measured_narrow ws m.formulas e
+
+-- an AsyncReset has one bit
+pub async_one_bit : (typ : FirType) → typ.shape ≡ shape.AsyncReset → (vs : List Width) → one_bit (Some (leaf_shapes (filled typ vs))) ≡ true
+async_one_bit typ e vs = ap (λ l. one_bit (Some l)) (async_shapes typ e vs)
 
 one_bit_unsigned : (o : Option (List Shape)) → one_bit o ≡ true → is_one_unsigned o ≡ true
 one_bit_unsigned (Some (s ∷ [])) e = and_left (is_unsigned s) (nat_le s.width 1) e

@@ -15,15 +15,16 @@ use Rattle.width_rules.specs.declared.rule.Formula.TheVariants as formula
 use Rattle.width_rules.specs.declared.rule.Rule.{Rule}
 use Rattle.width_rules.specs.Formulas.{level, width_under}
 use Rattle.width_rules.specs.Solutions.{IsWidth, level_at, MeetsOne, Meets, IsAssignment, AtOrBelow, IsLeast}
-use Rattle.width_rules.specs.Places.{Spot, slot_of, is_open, slots_from, open_spots, node_slots}
+use Rattle.width_rules.specs.Places.{Spot, slot_of, is_open, slots_from, open_spots}
 use Rattle.width_rules.specs.Sources.{formula_of}
 use Rattle.width_rules.specs.Circuits.{at_least, driven, connected, zeroed, invalidated, node_rules}
 use Rattle.width_rules.proofs.Bounds.{Each, each_append}
-use Rattle.width_rules.proofs.FormulaLemmas.{width-Var}
+use Rattle.width_rules.proofs.FormulaLemmas.{width-Fixed, width-Var}
 use Rattle.width_rules.proofs.Monotone.{width_is_width, width_grows}
 use Rattle.width_fit.specs.Judging.{slot_width}
 use Rattle.fir_names.proofs.Graphs.{some_same}
 use Rattle.circuit_laws.proofs.Scoping.{get-either}
+use Rattle.fitted_laws.proofs.Asyncs.{OneSlot, OneSlots, OneWidth, OneWidths}
 use Rattle.fitted_laws.proofs.Steps.{Placed}
 use Rattle.fitted_laws.proofs.Known.{Marks, Marked, RuleMarked, get_behind}
 use Rattle.fitted_laws.proofs.Walking.{Solves, rule_of}
@@ -57,10 +58,6 @@ pub length-slots : (n : ℕ) (ss : List Spot) → length (slots_from n ss) ≡ l
 length-slots n [] = refl
 length-slots n (s ∷ ss) = ap suc (length-slots (n + is_open s.width) ss)
 
-pub length-node_slots : (n : ℕ) (ss : List Spot) → length (node_slots n ss) ≡ length ss
-length-node_slots n [] = refl
-length-node_slots n (s ∷ ss) = ap suc (length-node_slots (n + 1) ss)
-
 get-none : (k x : ℕ) (o : Option Formula) → slice_get (replicate k None) x ≡ Some o → o ≡ None
 get-none zero x o e = cc
 get-none (suc k) zero o e = sym (some_same e)
@@ -90,30 +87,71 @@ node_marks ms fs n k f e g = ap (λ m. slice_get (ms ++ map Some fs) (m + k)) (s
   mapped (x ∷ fs) zero g = ap Some g
   mapped (x ∷ fs) (suc k) g = mapped fs k g
 
-pub node_marked : (ms : Marks) (n : ℕ) (ss : List Spot) (fs : List Formula) → ((k : ℕ) (f : Formula) → slice_get fs k ≡ Some f → slice_get ms (n + k) ≡ Some (Some f)) → Each (RuleMarked ms) (node_rules (node_slots n ss) fs)
+-- the formulas of the places that have variables
+abbrev opened : Option ℕ → Formula → List Formula → List Formula
+opened None f rest = f ∷ rest
+opened (Some w) f rest = rest
+
+abbrev pub open_formulas : List Spot → List Formula → List Formula
+open_formulas [] fs = []
+open_formulas (s ∷ ss) [] = []
+open_formulas (s ∷ ss) (f ∷ fs) = opened s.width f (open_formulas ss fs)
+
+pub open_counted : (ss : List Spot) (fs : List Formula) → length ss ≡ length fs → length (open_formulas ss fs) ≡ open_spots ss
+open_counted [] fs e = refl
+open_counted (s ∷ ss) [] e = absurd (omega (arith, e))
+open_counted (s ∷ ss) (f ∷ fs) e = by s.width (open_counted ss fs (omega (arith, e))) where
+  by : (o : Option ℕ) → length (open_formulas ss fs) ≡ open_spots ss → length (opened o f (open_formulas ss fs)) ≡ is_open o + open_spots ss
+  by None h = omega (arith, h)
+  by (Some w) h = omega (arith, h)
+
+-- the variables from n on take these formulas
+abbrev Takes : Marks → ℕ → List Formula → Type 0
+Takes ms n fs = (k : ℕ) (f : Formula) → slice_get fs k ≡ Some f → slice_get ms (n + k) ≡ Some (Some f)
+
+takes_first : (ms : Marks) (n : ℕ) (f : Formula) (fs : List Formula) → Takes ms n (f ∷ fs) → slice_get ms n ≡ Some (Some f)
+takes_first ms n f fs h = ap (slice_get ms) (let e : n ≡ n + 0 = omega arith in e) ∙ h 0 f refl
+
+takes_later : (ms : Marks) (n : ℕ) (f : Formula) (fs : List Formula) → Takes ms n (f ∷ fs) → Takes ms (n + 1) fs
+takes_later ms n f fs h k g e = ap (slice_get ms) (let m : (n + 1) + k ≡ n + suc k = omega arith in m) ∙ h (suc k) g e
+
+takes_same : (ms : Marks) (n : ℕ) (fs : List Formula) → Takes ms n fs → Takes ms (n + 0) fs
+takes_same ms n fs h k g e = ap (slice_get ms) (let m : (n + 0) + k ≡ n + k = omega arith in m) ∙ h k g e
+
+pub node_marked : (ms : Marks) (n : ℕ) (ss : List Spot) (fs : List Formula) → ((k : ℕ) (f : Formula) → slice_get (open_formulas ss fs) k ≡ Some f → slice_get ms (n + k) ≡ Some (Some f))
+    → Each (RuleMarked ms) (node_rules (slots_from n ss) fs)
 node_marked ms n [] fs h = tt
 node_marked ms n (s ∷ ss) [] h = tt
-node_marked ms n (s ∷ ss) (f ∷ fs) h =
-    let here' : slice_get ms n ≡ Some (Some f) = ap (slice_get ms) (let e : n ≡ n + 0 = omega arith in e) ∙ h 0 f refl in
-    (inr here', node_marked ms (n + 1) ss fs (λ k g e. ap (slice_get ms) (let m : (n + 1) + k ≡ n + suc k = omega arith in m) ∙ h (suc k) g e))
+node_marked ms n (s ∷ ss) (f ∷ fs) h = by s.width h where
+  by : (o : Option ℕ) → Takes ms n (opened o f (open_formulas ss fs)) → Each (RuleMarked ms) (node_rules (slot_of n o ∷ slots_from (n + is_open o) ss) (f ∷ fs))
+  by None h = (inr (takes_first ms n f (open_formulas ss fs) h), node_marked ms (n + 1) ss fs (takes_later ms n f (open_formulas ss fs) h))
+  by (Some w) h = node_marked ms (n + 0) ss fs (takes_same ms n (open_formulas ss fs) h)
 
-pub node_ruled : (n : ℕ) (ss : List Spot) (fs : List Formula) → length ss ≡ length fs → (k : ℕ) (f : Formula) → slice_get fs k ≡ Some f → Contains (node_rules (node_slots n ss) fs) (rule_of (n + k) f)
-node_ruled n [] [] e k f g = cc
-node_ruled n [] (x ∷ fs) e k f g = absurd (omega (arith, e))
-node_ruled n (s ∷ ss) [] e k f g = cc
-node_ruled n (s ∷ ss) (x ∷ fs) e zero f g =
-    subst (λ r. Contains (rule_of n x ∷ node_rules (node_slots (n + 1) ss) fs) r) (ap₂ rule_of (let m : n ≡ n + 0 = omega arith in m) (some_same g)) (Contains-first (node_rules (node_slots (n + 1) ss) fs))
-node_ruled n (s ∷ ss) (x ∷ fs) e (suc k) f g =
-    Contains-later (rule_of n x) (node_rules (node_slots (n + 1) ss) fs) (subst (λ m. Contains (node_rules (node_slots (n + 1) ss) fs) (rule_of m f)) (let m : (n + 1) + k ≡ n + suc k = omega arith in m) (node_ruled (n + 1) ss fs (omega (arith, e)) k f g))
+pub node_ruled : (n : ℕ) (ss : List Spot) (fs : List Formula) (k : ℕ) (f : Formula) → slice_get (open_formulas ss fs) k ≡ Some f → Contains (node_rules (slots_from n ss) fs) (rule_of (n + k) f)
+node_ruled n [] fs k f g = cc
+node_ruled n (s ∷ ss) [] k f g = cc
+node_ruled n (s ∷ ss) (x ∷ fs) k f g = by s.width k g where
+  by : (o : Option ℕ) (k : ℕ) → slice_get (opened o x (open_formulas ss fs)) k ≡ Some f → Contains (node_rules (slot_of n o ∷ slots_from (n + is_open o) ss) (x ∷ fs)) (rule_of (n + k) f)
+  by None zero g =
+      subst (λ r. Contains (rule_of n x ∷ node_rules (slots_from (n + 1) ss) fs) r) (ap₂ rule_of (let m : n ≡ n + 0 = omega arith in m) (some_same g)) (Contains-first (node_rules (slots_from (n + 1) ss) fs))
+  by None (suc k) g =
+      Contains-later (rule_of n x) (node_rules (slots_from (n + 1) ss) fs)
+      (subst (λ m. Contains (node_rules (slots_from (n + 1) ss) fs) (rule_of m f)) (let m : (n + 1) + k ≡ n + suc k = omega arith in m) (node_ruled (n + 1) ss fs k f g))
+  by (Some w) k g = subst (λ m. Contains (node_rules (slots_from (n + 0) ss) fs) (rule_of m f)) (let m : (n + 0) + k ≡ n + k = omega arith in m) (node_ruled (n + 0) ss fs k f g)
 
 pub node_widths : (ws : List Width) (ms : Marks) → Solves ws ms → (n : ℕ) (ss : List Spot) (fs : List Formula) → length ss ≡ length fs
-    → ((k : ℕ) (f : Formula) → slice_get fs k ≡ Some f → slice_get ms (n + k) ≡ Some (Some f)) → map (slot_width ws) (node_slots n ss) ≡ map (λ f. width_under f ws) fs
-node_widths ws ms s n [] [] e h = refl
-node_widths ws ms s n [] (f ∷ fs) e h = absurd (omega (arith, e))
-node_widths ws ms s n (x ∷ ss) [] e h = absurd (omega (arith, e))
-node_widths ws ms s n (x ∷ ss) (f ∷ fs) e h =
-    ap₂ (λ a b. a ∷ b) (s n f (ap (slice_get ms) (let m : n ≡ n + 0 = omega arith in m) ∙ h 0 f refl))
-    (node_widths ws ms s (n + 1) ss fs (omega (arith, e)) (λ k g q. ap (slice_get ms) (let m : (n + 1) + k ≡ n + suc k = omega arith in m) ∙ h (suc k) g q))
+    → OneSlots ss (slots_from n ss) → OneWidths ss (map (λ f. width_under f ws) fs)
+    → ((k : ℕ) (f : Formula) → slice_get (open_formulas ss fs) k ≡ Some f → slice_get ms (n + k) ≡ Some (Some f)) → map (slot_width ws) (slots_from n ss) ≡ map (λ f. width_under f ws) fs
+node_widths ws ms s n [] [] e o v h = refl
+node_widths ws ms s n [] (f ∷ fs) e o v h = absurd (omega (arith, e))
+node_widths ws ms s n (x ∷ ss) [] e o v h = absurd (omega (arith, e))
+node_widths ws ms s n (x ∷ ss) (f ∷ fs) e o v h = by x.width o.0 v.0 o.1 h where
+  by : (w : Option ℕ) → OneSlot w (slot_of n w) → OneWidth w (width_under f ws) → OneSlots ss (slots_from (n + is_open w) ss) → Takes ms n (opened w f (open_formulas ss fs))
+      → slot_width ws (slot_of n w) ∷ map (slot_width ws) (slots_from (n + is_open w) ss) ≡ width_under f ws ∷ map (λ f. width_under f ws) fs
+  by None a b o h =
+      ap₂ (λ a b. a ∷ b) (s n f (takes_first ms n f (open_formulas ss fs) h)) (node_widths ws ms s (n + 1) ss fs (omega (arith, e)) o v.1 (takes_later ms n f (open_formulas ss fs) h))
+  by (Some w) a b o h =
+      ap₂ (λ a b. a ∷ b) (ap (slot_width ws) a ∙ width-Fixed 1 ws ∙ sym b) (node_widths ws ms s (n + 0) ss fs (omega (arith, e)) o v.1 (takes_same ms n (open_formulas ss fs) h))
 
 -- Connects
 

@@ -1,5 +1,5 @@
 -- What each statement comes to.
-use Rattle.std.proofs.Common.{◌≡◌, ◌≢◌, ℕ, zero, suc, ◌+◌, Bool, true, false, not, ◌&&◌, List, [], ◌∷◌, ◌++◌, map, length, get_or, replicate, Option, Some, None, refl, sym, ap, ap₂, ◌∙◌, subst, arith, slice_get, ◌⊎◌, inl, inr, ⊎_elim, append-nil, length-append}
+use Rattle.std.proofs.Common.{◌≡◌, ◌≢◌, ℕ, zero, suc, ◌+◌, Bool, true, false, not, ◌&&◌, ◌||◌, List, [], ◌∷◌, ◌++◌, map, length, get_or, replicate, Option, Some, None, refl, sym, ap, ap₂, ◌∙◌, subst, arith, slice_get, ◌⊎◌, inl, inr, ⊎_elim, append-nil, length-append}
 use Rattle.std.specs.Prelude.{Contains, ⊤, is_some, nat_eq, option_map}
 use Rattle.std.specs.List.{AllZip, list_all, list_any, flat_map}
 use Rattle.std.specs.Map.{lookup}
@@ -26,9 +26,9 @@ use Rattle.circuit_parts.specs.declared.part.Part.{Part as APart}
 use Rattle.circuit_parts.specs.declared.part.Flow.{Flow}
 use Rattle.circuit_parts.specs.declared.part.Flow.TheVariants.{Source, Sink, Duplex}
 use Rattle.circuit_parts.specs.Parts.{part_of, source_of, instance_in}
-use Rattle.circuit_parts.specs.Kinds.{is_unsigned}
+use Rattle.circuit_parts.specs.Kinds.{is_unsigned, is_async, is_reset}
 use Rattle.type_check.specs.Parts as check
-use Rattle.type_check.specs.Texts.{twice_in, stored_faults, is_passive, has_clock, are_equivalent}
+use Rattle.type_check.specs.Texts.{twice_in, stored_faults, is_passive, has_signal, are_equivalent}
 use Rattle.type_check.specs.declared.fault.TypeFault.{TypeFault}
 use Rattle.type_check.specs.declared.fault.TypeFault.TheVariants.{OperandKind}
 use Rattle.type_check.specs.Memories.{memory_faults}
@@ -38,7 +38,7 @@ use Rattle.width_rules.specs.declared.component.Component.{Component}
 use Rattle.width_rules.specs.declared.slot.Slot.{Slot}
 use Rattle.width_rules.specs.declared.rule.Formula.{Formula}
 use Rattle.width_rules.specs.Solutions.{IsWidth}
-use Rattle.width_rules.specs.Places.{spots, size, slots_from, open_spots, node_slots}
+use Rattle.width_rules.specs.Places.{spots, size, slots_from, open_spots, node_spots, node_slots, node_size}
 use Rattle.width_rules.specs.Sources as sources
 use Rattle.width_rules.specs.Sources.{Measured, formula_of, measured}
 use Rattle.width_rules.specs.Circuits as ruling
@@ -62,7 +62,8 @@ use Rattle.fitted_laws.specs.OneBit.{one_bit}
 use Rattle.fitted_laws.specs.Choices.{chooses}
 use Rattle.fitted_laws.proofs.Filling.{leaf_shapes, filled_equivalent}
 use Rattle.type_check.proofs.Equivalence.{is_equivalent}
-use Rattle.fitted_laws.proofs.Signs.{unsigned_is}
+use Rattle.fitted_laws.proofs.Signs.{unsigned_is, async_is}
+use Rattle.fitted_laws.proofs.Asyncs.{OneWidths, node_counted, slots_one, node_slots_one}
 use Rattle.fitted_laws.proofs.Steps.{left_empty, right_empty, Placed, IsGood}
 use Rattle.fitted_laws.proofs.Expressions.{TKnown, WKnown, Knows, Filled, expr_found, NamesType, expr_named, unless_true, where_false, not_true, some_is, and_left, and_right}
 use Rattle.fitted_laws.proofs.Once.{memory_once}
@@ -70,12 +71,12 @@ use Rattle.fitted_laws.proofs.Stored.{memory_good}
 use Rattle.fitted_laws.proofs.Known.{Marks, Marked, RuleMarked, marks_allow, more_knows, more_good, knows_with, filled_with, kept_found, with_itself}
 use Rattle.fitted_laws.proofs.Walking.{SeenIn, named_known, Begins, begins_more, Stands, Solves, rule_of, NamedAs, Walks, Comes, Comes_to, both, comes_both, comes_nothing, stands_still}
 use Rattle.width_fit.proofs.Measured.{same_measured}
-use Rattle.fitted_laws.proofs.Ruling.{NoFlip, slots_free, length-slots, length-node_slots, free_marks, free_ruled, free_placed, node_marks, node_marked, node_ruled, node_widths, connected_marked, invalidated_marked, drivable}
+use Rattle.fitted_laws.proofs.Ruling.{NoFlip, slots_free, length-slots, free_marks, free_ruled, free_placed, open_formulas, open_counted, node_marks, node_marked, node_ruled, node_widths, connected_marked, invalidated_marked, drivable}
 use Rattle.fitted_laws.proofs.Flips.{straight_spots, flips_alike, drivable_straight, source_placed, places_narrow}
 use Rattle.fitted_laws.proofs.Held.{stored_holds}
 use Rattle.fitted_laws.proofs.Matching.{match_by}
 use Rattle.fitted_laws.proofs.OneBit as fit
-use Rattle.fitted_laws.proofs.OneBit.{is_fit_stmt, is_fit_arm, is_good, is_good_bit, filled_one_bit}
+use Rattle.fitted_laws.proofs.OneBit.{is_fit_stmt, is_fit_arm, is_good, is_good_bit, filled_one_bit, async_one_bit}
 use Rattle.fitted_laws.proofs.Choices.{expr_small}
 use Rattle.fitted_laws.proofs.Declared.{IsDeclared, slots_narrow, filled_differ, filled_straight, plain_declared}
 
@@ -100,6 +101,7 @@ module _ (all : Solved) (modules : List Module) (with_ports : List WithPorts) (p
     pub counted : length (survey ws e wk).measured.formulas ≡ size part.typ
     pub once : twice_in part.typ ≡ []
     pub placed : Placed (Marked ms) part.flow (spots part.typ) (survey ws e wk).measured.formulas
+    pub ones : (survey ws e wk).faults ≡ [] → OneWidths (node_spots part.typ) (widths_of ws (survey ws e wk).measured)
     pub typed_is : (K : Known) → Filled ws wk K → (survey ws e wk).faults ≡ [] → typed e K ≡ Some (leaf_shapes (filled part.typ (widths_of ws (survey ws e wk).measured)))
     pub small_is : (K : Known) → Filled ws wk K → (survey ws e wk).faults ≡ [] → chooses K e ≡ true
     pub named_is : (K : Known) → Filled ws wk K → (survey ws e wk).faults ≡ [] → NamesType (named_type K e) (filled part.typ (widths_of ws (survey ws e wk).measured))
@@ -115,6 +117,7 @@ module _ (all : Solved) (modules : List Module) (with_ports : List WithPorts) (p
         counted = r.1.counted;
         once = r.1.once;
         placed = r.1.placed;
+        ones = r.1.ones;
         typed_is = r.1.typed_is;
         small_is = λ K fits none. expr_small (Marked ms) (marks_allow ms) ws tk wk st.knows K fits e (named_known tk seen si (references e) au) f shape none;
         named_is = expr_named (Marked ms) (marks_allow ms) ws tk wk st.knows e (named_known tk seen si (references e) au) f shape r.0 r.1.found;
@@ -138,6 +141,18 @@ module _ (all : Solved) (modules : List Module) (with_ports : List WithPorts) (p
       let own = left_empty (survey ws e wk).faults (judging.condition_faults ws (survey ws e wk)) none in
       let small = not_true _ (where_false _ _ (right_empty (survey ws e wk).faults (judging.condition_faults ws (survey ws e wk)) none)) in
       ap₂ (λ a b. a && b) (ap one_bit (f.typed_is K fits own) ∙ filled_one_bit ws (survey ws e wk).measured f.part.typ (unsigned_is f.part.typ u) small) (f.small_is K fits own)
+
+  -- a reset is a UInt of one bit at most or an AsyncReset
+  reset_true : (tk : TKnown) (wk : WKnown) (ms : Marks) (e : Expr) (f : IsFoundIn tk wk ms e) → is_reset f.part.typ ≡ true → (K : Known) → Filled ws wk K
+      → (survey ws e wk).faults ++ judging.condition_faults ws (survey ws e wk) ≡ [] → is_good_bit K e ≡ true
+  reset_true tk wk ms e f u K fits none = by (is_unsigned f.part.typ) (is_async f.part.typ) refl refl u where
+    own : (survey ws e wk).faults ≡ []
+    own = left_empty (survey ws e wk).faults (judging.condition_faults ws (survey ws e wk)) none
+
+    by : (a b : Bool) → is_unsigned f.part.typ ≡ a → is_async f.part.typ ≡ b → (a || b) ≡ true → is_good_bit K e ≡ true
+    by true b p q h = condition_true tk wk ms e f p K fits none
+    by false true p q h = ap₂ (λ a b. a && b) (ap one_bit (f.typed_is K fits own) ∙ async_one_bit f.part.typ (async_is f.part.typ q) (widths_of ws (survey ws e wk).measured)) (f.small_is K fits own)
+    by false false p q h = cc
 
   -- A declaration
 
@@ -245,6 +260,7 @@ module _ (all : Solved) (modules : List Module) (with_ports : List WithPorts) (p
     once = once;
     placed = free_placed (ms ++ replicate (open_spots (spots typ)) None) Duplex (spots typ) (map formula_of (slots_from n (spots typ)))
         (slots_free (ms ++ replicate (open_spots (spots typ)) None) n (spots typ) (free_marks ms n (open_spots (spots typ)) e));
+    ones = slots_one n typ;
   }
 
   abbrev new_marks : FirType → Marks
@@ -333,17 +349,17 @@ module _ (all : Solved) (modules : List Module) (with_ports : List WithPorts) (p
   reset_register_comes name typ clock reset init sc sr si' block behind tk wk n ms seen i st si au ti e =
       let w : Walks = layer (Stmt-F.RegReset name typ clock reset init) block behind in
       let once : twice_in typ ≡ [] = left_empty (twice_in typ) _ (left_empty (stored_faults typ) _ e) in
-      let passive : is_passive typ ≡ true = unless_true _ _ (right_empty (check.when (has_clock typ) (OperandKind typ.place)) _ (right_empty (twice_in typ) _ (left_empty (stored_faults typ) _ e))) in
+      let passive : is_passive typ ≡ true = unless_true _ _ (right_empty (check.when (has_signal typ) (OperandKind typ.place)) _ (right_empty (twice_in typ) _ (left_empty (stored_faults typ) _ e))) in
       let holds = stored_holds typ (left_empty (stored_faults typ) _ e) in
       let rest = right_empty (stored_faults typ) _ e in
       let rest2 = right_empty (asked (checking.clock_faults clock.place) tk clock) _ rest in
-      let rest3 = right_empty (asked (checking.condition_faults reset.place) tk reset) _ rest2 in
+      let rest3 = right_empty (asked (checking.reset_faults reset.place) tk reset) _ rest2 in
       let names : AllNamed (map (λ name. record { name = name; seen = seen }) ((references clock ++ references reset) ++ references init)) = every-left Use IsNamed (map (λ name. record { name = name; seen = seen }) ((references clock ++ references reset) ++ references init)) [] au in
       let two = names_left seen (references clock ++ references reset) (references init) names in
       let fc = found_in tk wk n ms seen st si clock (names_left seen (references clock) (references reset) two) (left_empty (found_of tk clock).faults _ (left_empty (asked (checking.clock_faults clock.place) tk clock) _ rest)) sc in
-      let fr = found_in tk wk n ms seen st si reset (names_right seen (references clock) (references reset) two) (left_empty (found_of tk reset).faults _ (left_empty (asked (checking.condition_faults reset.place) tk reset) _ rest2)) sr in
+      let fr = found_in tk wk n ms seen st si reset (names_right seen (references clock) (references reset) two) (left_empty (found_of tk reset).faults _ (left_empty (asked (checking.reset_faults reset.place) tk reset) _ rest2)) sr in
       let fi = found_in tk wk n ms seen st si init (names_right seen (references clock ++ references reset) (references init) names) (left_empty (found_of tk init).faults _ (left_empty (asked (checking.init_faults typ init.place) tk init) _ rest3)) si' in
-      let ru : is_unsigned fr.part.typ ≡ true = unless_true _ _ (meets (checking.condition_faults reset.place) tk wk ms reset fr (left_empty (asked (checking.condition_faults reset.place) tk reset) _ rest2)) in
+      let ru : is_reset fr.part.typ ≡ true = unless_true _ _ (meets (checking.reset_faults reset.place) tk wk ms reset fr (left_empty (asked (checking.reset_faults reset.place) tk reset) _ rest2)) in
       let more : Marks = ms ++ new_marks typ in
       let g : IsGood (Marked more) (record { part = part_of typ Duplex; slots = slots_from n (spots typ) }) = storage_good ms n typ st.counted once in
       let zeros : n + (0 + (0 + 0)) ≡ n = omega arith in
@@ -370,7 +386,7 @@ module _ (all : Solved) (modules : List Module) (with_ports : List WithPorts) (p
             let own : (survey ws reset wk).faults ++ judging.condition_faults ws (survey ws reset wk) ≡ [] = left_empty ((survey ws reset wk).faults ++ judging.condition_faults ws (survey ws reset wk)) _ none2 in
             let none3 = right_empty ((survey ws reset wk).faults ++ judging.condition_faults ws (survey ws reset wk)) _ none2 in (
               ap₂ (λ a b. a && b) (typed_true tk wk ms clock fc K fits (left_empty (survey ws clock wk).faults _ none))
-                  (ap₂ (λ a b. a && b) (condition_true tk wk ms reset fr ru K fits own) (typed_true tk wk ms init fi K fits (left_empty (survey ws init wk).faults _ none3))),
+                  (ap₂ (λ a b. a && b) (reset_true tk wk ms reset fr ru K fits own) (typed_true tk wk ms init fi K fits (left_empty (survey ws init wk).faults _ none3))),
               plain_declared ws with_ports bounded K _ typ (slots_from n (spots typ)) once (λ e s. cc) (λ t s. cc) (λ m s. cc) (λ r. holds),
             );
       })
@@ -494,7 +510,7 @@ module _ (all : Solved) (modules : List Module) (with_ports : List WithPorts) (p
         widths_known = refl;
         count = count_counted memory.name element;
         marks_count = marks_counted memory.name element;
-        good = memory_good more memory slots faultless (length-slots n (spots element)) (slots_free more n (spots element) (free_marks ms n (open_spots (spots element)) st.counted));
+        good = memory_good more memory slots faultless (length-slots n (spots element)) (slots_one n element) (slots_free more n (spots element) (free_marks ms n (open_spots (spots element)) st.counted));
         declares = refl;
         d_name = refl;
         declared = refl;
@@ -531,15 +547,16 @@ module _ (all : Solved) (modules : List Module) (with_ports : List WithPorts) (p
       let m : measured e wk ≡ s.measured = sym (same_measured ws e wk) in
       let mt : (measured e wk).part.typ ≡ typ = ap (λ (x : Measured). x.part.typ) m ∙ ap (λ (p : APart). p.typ) f.measured_is in
       let st' : s.measured.part.typ ≡ typ = ap (λ (p : APart). p.typ) f.measured_is in
-      let marks : Marks = map Some fs in
+      let gs : List Formula = open_formulas (node_spots typ) fs in
+      let marks : Marks = map Some gs in
       let more : Marks = ms ++ marks in
-      let sized : Component = record { part = source_of typ; slots = node_slots n (spots typ) } in
-      let at : (k : ℕ) (g : Formula) → slice_get fs k ≡ Some g → slice_get more (n + k) ≡ Some (Some g) = λ k g q. node_marks ms fs n k g st.counted q in
-      let same : length (spots typ) ≡ length fs = sym f.counted in
-      let known : sources.known_with wk name.id (record { part = source_of (measured e wk).part.typ; slots = node_slots n (spots (measured e wk).part.typ) }) ≡ sources.known_with wk name.id sized
-      = ap (λ t. sources.known_with wk name.id (record { part = source_of t; slots = node_slots n (spots t) })) mt in
-      let rules : node_rules (node_slots n (spots (measured e wk).part.typ)) (measured e wk).formulas ≡ node_rules (node_slots n (spots typ)) fs
-      = ap₂ (λ t xs. node_rules (node_slots n (spots t)) xs) mt (ap (λ (x : Measured). x.formulas) m) in
+      let sized : Component = record { part = source_of typ; slots = node_slots n typ } in
+      let at : (k : ℕ) (g : Formula) → slice_get gs k ≡ Some g → slice_get more (n + k) ≡ Some (Some g) = λ k g q. node_marks ms gs n k g st.counted q in
+      let same : length (node_spots typ) ≡ length fs = node_counted typ ∙ sym f.counted in
+      let known : sources.known_with wk name.id (record { part = source_of (measured e wk).part.typ; slots = node_slots n (measured e wk).part.typ }) ≡ sources.known_with wk name.id sized
+      = ap (λ t. sources.known_with wk name.id (record { part = source_of t; slots = node_slots n t })) mt in
+      let rules : node_rules (node_slots n (measured e wk).part.typ) (measured e wk).formulas ≡ node_rules (node_slots n typ) fs
+      = ap₂ (λ t xs. node_rules (node_slots n t) xs) mt (ap (λ (x : Measured). x.formulas) m) in
       brings_comes w tk wk n ms i st (record {
         name = name.id;
         sized = sized;
@@ -548,34 +565,35 @@ module _ (all : Solved) (modules : List Module) (with_ports : List WithPorts) (p
         types_known = ap (λ o. check.known_with tk name.id (option_map (λ (p : APart). source_of p.typ) o)) f.part_is;
         rules_known = known;
         widths_known = known;
-        count = ap size st' ∙ sym (ap size mt) ∙ sym (length-replicate (size (measured e wk).part.typ) name.place);
-        marks_count = length-map fs Some ∙ f.counted ∙ sym (ap size mt) ∙ sym (length-replicate (size (measured e wk).part.typ) name.place);
+        count = ap node_size st' ∙ sym (ap node_size mt) ∙ sym (length-replicate (node_size (measured e wk).part.typ) name.place);
+        marks_count = length-map gs Some ∙ open_counted (node_spots typ) fs same ∙ sym (ap node_size mt) ∙ sym (length-replicate (node_size (measured e wk).part.typ) name.place);
         good = record {
-          counted = length-node_slots n (spots typ);
+          counted = length-slots n (node_spots typ) ∙ node_counted typ;
           once = f.once;
-          placed = source_placed more (spots typ) (map formula_of (node_slots n (spots typ))) (straight_spots typ straight);
+          placed = source_placed more (spots typ) (map formula_of (node_slots n typ)) (straight_spots typ straight);
+          ones = node_slots_one n typ;
         };
         declares = refl;
         d_name = refl;
-        declared = ap (λ t. filled t (map (slot_width ws) (node_slots n (spots t))) ∷ []) st';
+        declared = ap (λ t. filled t (map (slot_width ws) (node_slots n t)) ∷ []) st';
         shows = ap (λ k. (name.id, k) ∷ []) (let q : i + 0 ≡ i = omega arith in q);
-        marked = subst (Each (RuleMarked more)) (sym rules) (node_marked more n (spots typ) fs at);
+        marked = subst (Each (RuleMarked more)) (sym rules) (node_marked more n (node_spots typ) fs at);
         ruled = λ x g is. ⊎_elim (λ l. inl l)
             (λ r. inr (subst (λ list. Contains list (rule_of x g)) (sym rules)
-            (subst (λ y. Contains (node_rules (node_slots n (spots typ)) fs) (rule_of y g)) (ap (λ k. k + r.0) (sym st.counted) ∙ sym r.1)
-            (node_ruled n (spots typ) fs same r.0 g (some_marks fs r.0 g r.2)))))
+            (subst (λ y. Contains (node_rules (node_slots n typ) fs) (rule_of y g)) (ap (λ k. k + r.0) (sym st.counted) ∙ sym r.1)
+            (node_ruled n (node_spots typ) fs r.0 g (some_marks gs r.0 g r.2)))))
             (get-either ms marks x (Some g) is);
         well = λ K fits solves none.
             let own : s.faults ≡ [] = left_empty s.faults _ none in
             let typed_is : typed e K ≡ Some (leaf_shapes (filled typ (widths_of ws s.measured))) = f.typed_is K fits own in
-            let widths : map (slot_width ws) (node_slots n (spots typ)) ≡ widths_of ws s.measured = node_widths ws more solves n (spots typ) fs same at in (
+            let widths : map (slot_width ws) (node_slots n typ) ≡ widths_of ws s.measured = node_widths ws more solves n (node_spots typ) fs same (node_slots_one n typ) (f.ones own) at in (
               typed_true tk wk ms e f K fits own,
               record {
-                node = λ x q. let same : e ≡ x = cc in subst (λ y. typed y K ≡ Some (leaf_shapes (filled typ (map (slot_width ws) (node_slots n (spots typ)))))) same
+                node = λ x q. let same : e ≡ x = cc in subst (λ y. typed y K ≡ Some (leaf_shapes (filled typ (map (slot_width ws) (node_slots n typ))))) same
                     (typed_is ∙ ap (λ vs. Some (leaf_shapes (filled typ vs))) (sym widths));
-                passive = λ x q. filled_straight ws with_ports typ (map (slot_width ws) (node_slots n (spots typ))) straight;
-                narrow = slots_narrow ws with_ports bounded typ (node_slots n (spots typ));
-                ways = filled_differ ws with_ports typ (map (slot_width ws) (node_slots n (spots typ))) f.once;
+                passive = λ x q. filled_straight ws with_ports typ (map (slot_width ws) (node_slots n typ)) straight;
+                narrow = slots_narrow ws with_ports bounded typ (node_slots n typ);
+                ways = filled_differ ws with_ports typ (map (slot_width ws) (node_slots n typ)) f.once;
                 instance = λ t q. cc;
                 memory = λ x q. cc;
                 elements = λ x q. cc;

@@ -27,16 +27,17 @@ use Rattle.type_check.specs.Expressions.{Judgement, field_found, element_found, 
 use Rattle.width_rules.specs.declared.component.Component.{Component}
 use Rattle.width_rules.specs.declared.slot.Slot.{Slot}
 use Rattle.width_rules.specs.declared.rule.Formula.{Formula}
-use Rattle.width_rules.specs.Places.{Spot, spots, size, turned, field_slots, slots_of_field, slots_of_layer}
-use Rattle.width_rules.specs.Layers.{field_spots}
+use Rattle.width_rules.specs.Places.{Spot, spots, size, turned, node_spots, field_slots, slots_of_field, slots_of_layer}
+use Rattle.width_rules.specs.Layers.{field_spots, node_field_spots}
 use Rattle.width_rules.specs.Sources as sources
 use Rattle.width_rules.specs.Sources.{formula_of}
-use Rattle.width_rules.proofs.Spots.{spots-bundle, spots-vector, spots-field}
+use Rattle.width_rules.proofs.Spots.{spots-bundle, spots-vector, spots-field, node-bundle, node-vector}
 use Rattle.type_filling.specs.Filling.{filled}
 use Rattle.width_fit.specs.Judging.{slot_width}
 use Rattle.fir_meaning.specs.Values.{field_of_shape, element_of_shape, length_of_shape, vector_length}
 use Rattle.fir_names.proofs.Graphs.{some_same}
 use Rattle.circuit_laws.proofs.Pieces.{found_in}
+use Rattle.fitted_laws.proofs.Asyncs.{OneSlots, field_one, fields_one}
 use Rattle.fitted_laws.proofs.Filling.{filled_fields, filled-bundle, filled-vector, field_widths, field_of_filled, size-bundle, size-vector, size-fields, size-field}
 use Rattle.fir_names.proofs.Members.{Contains-none, Contains-one}
 
@@ -91,12 +92,13 @@ placed_rest Q flow (x ∷ xs) ys [] h = none ys where
   none (y ∷ ys) = tt
 placed_rest Q flow (x ∷ xs) ys (f ∷ fs) h = placed_rest Q flow xs ys fs h.1
 
--- A component of the rules that stands: it has a slot for each place, no bundle in it has two fields of one name, and something holds of
--- its places.
+-- A component of the rules that stands: it has a slot for each place, no bundle in it has two fields of one name, something holds of
+-- its places, and its AsyncResets have width 1.
 pub record IsGood (Q : Flow → Formula → Type 0) (sized : Component) : Type 0 where
   pub counted : length sized.slots ≡ size sized.part.typ
   pub once : twice_in sized.part.typ ≡ []
   pub placed : Placed Q sized.part.flow (spots sized.part.typ) (map formula_of sized.slots)
+  pub ones : OneSlots (node_spots sized.part.typ) sized.slots
 
 -- Fields
 
@@ -165,6 +167,18 @@ slots_placed Q flow name (g ∷ fs) f slots e h = by (g.name.id == name) refl (s
       (placed_turned Q g.flip flow (spots g.typ) (map formula_of (take (size g.typ) slots)) (subst (λ ss. Placed Q flow ss (map formula_of (take (size g.typ) slots))) (spots-field g) own))
   by false q rest = rest (subst (λ c. cond c (Some g) (find (λ f. f.name.id == name) fs) ≡ Some f) q e) others
 
+slots_ones : (name : ℕ) (fs : List Field) (f : Field) (slots : List Slot) → find (λ f. f.name.id == name) fs ≡ Some f
+    → OneSlots (flat_map node_field_spots fs) slots → OneSlots (node_spots f.typ) (field_slots name fs slots)
+slots_ones name [] f slots e h = cc
+slots_ones name (g ∷ fs) f slots e h = by (g.name.id == name) refl (slots_ones name fs f (drop (size g.typ) slots)) where
+  by : (b : Bool) → (g.name.id == name) ≡ b
+      → (find (λ f. f.name.id == name) fs ≡ Some f → OneSlots (flat_map node_field_spots fs) (drop (size g.typ) slots) → OneSlots (node_spots f.typ) (field_slots name fs (drop (size g.typ) slots)))
+      → OneSlots (node_spots f.typ) (if b then take (size g.typ) slots else field_slots name fs (drop (size g.typ) slots))
+  by true q rest =
+      let same : g ≡ f = some_same (subst (λ c. cond c (Some g) (find (λ f. f.name.id == name) fs) ≡ Some f) q e) in
+      subst (λ (x : Field). OneSlots (node_spots x.typ) (take (size g.typ) slots)) same (field_one g fs slots h)
+  by false q rest = rest (subst (λ c. cond c (Some g) (find (λ f. f.name.id == name) fs) ≡ Some f) q e) (fields_one g fs slots h)
+
 pub slots_widths : (ws : List Width) (name : ℕ) (fs : List Field) (slots : List Slot) → map (slot_width ws) (field_slots name fs slots) ≡ field_widths name fs (map (slot_width ws) slots)
 slots_widths ws name [] slots = refl
 slots_widths ws name (f ∷ fs) slots = by (f.name.id == name) (slots_widths ws name fs (drop (size f.typ) slots)) where
@@ -206,6 +220,9 @@ module _ (Q : Flow → Formula → Type 0) (ws : List Width) where
             placed = subst (λ (p : Part). Placed Q p.flow (spots p.typ) (map formula_of (slots_of_field name.id base.typ sized.slots))) (sym part_is)
                 (subst (λ ss. Placed Q (flow_through f.flip base.flow) (spots f.typ) (map formula_of ss)) (sym slots_are)
                 (slots_placed Q base.flow name.id fields f sized.slots q (subst (λ ss. Placed Q base.flow ss (map formula_of sized.slots)) (spots-bundle base.typ fields is) good.placed)));
+            ones = subst (λ (p : Part). OneSlots (node_spots p.typ) (slots_of_field name.id base.typ sized.slots)) (sym part_is)
+                (subst (OneSlots (node_spots f.typ)) (sym slots_are)
+                (slots_ones name.id fields f sized.slots q (subst (λ ss. OneSlots ss sized.slots) (node-bundle base.typ fields is) good.ones)));
           };
           typed = ap (field_of_shape name.id) out_filled ∙ field_of_filled name.id fields widths ∙ ap (option_map (λ (g : Field). filled g.typ (field_widths name.id fields widths))) q
               ∙ ap (λ vs. Some (filled f.typ vs)) (sym (slots_widths ws name.id fields sized.slots) ∙ ap (map (slot_width ws)) (sym slots_are));
@@ -260,6 +277,7 @@ module _ (Q : Flow → Formula → Type 0) (ws : List Width) where
           once = ap (λ (p : Part). twice_in p.typ) part_is ∙ sym (twice-vector base.typ element n is) ∙ good.once;
           placed = subst (λ (p : Part). Placed Q p.flow (spots p.typ) (map formula_of sized.slots)) (sym part_is)
               (subst (λ ss. Placed Q base.flow ss (map formula_of sized.slots)) (spots-vector base.typ element n is) good.placed);
+          ones = subst (λ (p : Part). OneSlots (node_spots p.typ) sized.slots) (sym part_is) (subst (λ ss. OneSlots ss sized.slots) (node-vector base.typ element n is) good.ones);
         };
         counted = ap length_of_shape out_filled;
         typed = ap element_of_shape out_filled;
@@ -267,14 +285,13 @@ module _ (Q : Flow → Formula → Type 0) (ws : List Width) where
 
   pub vector_of : (sized : Component) → IsGood Q sized → (fault : Shape-F Shape Field FirType → Judgement) → (fault (out-Shape sized.part.typ.shape)).faults ≡ []
       → ((w : Option ℕ) → (fault (Shape-F.Unsigned w)).faults ≡ [] → ⊥) → ((w : Option ℕ) → (fault (Shape-F.Signed w)).faults ≡ [] → ⊥) → ((fault Shape-F.Clock).faults ≡ [] → ⊥)
-      → ((fault Shape-F.Reset).faults ≡ [] → ⊥) → ((fs : List Field) → (fault (Shape-F.Bundle fs)).faults ≡ [] → ⊥) → IsVector sized
-      → ((fault Shape-F.AsyncReset).faults ≡ [] → ⊥) → ((fs : List Field) → (fault (Shape-F.Bundle fs)).faults ≡ [] → ⊥) → IsVector sized
-  vector_of sized good fault e u s c r b = by (case_of sized.part.typ.shape) where
+      → ((fault Shape-F.Reset).faults ≡ [] → ⊥) → ((fault Shape-F.AsyncReset).faults ≡ [] → ⊥) → ((fs : List Field) → (fault (Shape-F.Bundle fs)).faults ≡ [] → ⊥) → IsVector sized
+  vector_of sized good fault e u s c r a b = by (case_of sized.part.typ.shape) where
     by : ShapeCase sized.part.typ.shape → IsVector sized
     by (shape_vector element n is) = vector_there sized element n is good
     by (shape_uint w is) = absurd (u w (sym (ap (λ x. (fault x).faults) (ap out-Shape is ∙ outs-Unsigned w)) ∙ e))
     by (shape_sint w is) = absurd (s w (sym (ap (λ x. (fault x).faults) (ap out-Shape is ∙ outs-Signed w)) ∙ e))
     by (shape_clock is) = absurd (c (sym (ap (λ x. (fault x).faults) (ap out-Shape is ∙ outs-Clock)) ∙ e))
     by (shape_reset is) = absurd (r (sym (ap (λ x. (fault x).faults) (ap out-Shape is ∙ outs-Reset)) ∙ e))
-    by (shape_async is) = absurd (r (sym (ap (λ x. (fault x).faults) (ap out-Shape is ∙ outs-AsyncReset)) ∙ e))
+    by (shape_async is) = absurd (a (sym (ap (λ x. (fault x).faults) (ap out-Shape is ∙ outs-AsyncReset)) ∙ e))
     by (shape_bundle fields is) = absurd (b fields (sym (ap (λ x. (fault x).faults) (ap out-Shape is ∙ outs-Bundle fields)) ∙ e))

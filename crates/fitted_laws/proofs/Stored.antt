@@ -14,7 +14,7 @@ use Rattle.fir_types.specs.declared.memory.PortMode.TheVariants as mode
 use Rattle.fir_types.specs.declared.port.Port.{Port}
 use Rattle.fir_types.specs.declared.name.Name.{Name}
 use Rattle.fir_types.specs.Memories.{element_of, depth_of}
-use Rattle.fir_types.specs.Bundles.{instance_of, instance_field, memory_of, port_field, port_type, address_bits, mask_of, plain_field, uint_at, clock_at, fields_of_mode, addr_name, en_name, clk_name}
+use Rattle.fir_types.specs.Bundles.{instance_of, instance_field, memory_of, port_field, port_type, address_bits, mask_of, plain_field, uint_at, clock_at, flipped_field, fields_of_mode, addr_name, en_name, clk_name, data_name, mask_name, rdata_name, wmode_name, wdata_name, wmask_name}
 use Rattle.fir_tree.specs.declared.circuit.Module.{Module}
 use Rattle.circuit_parts.specs.declared.part.Part.{Part}
 use Rattle.circuit_parts.specs.declared.part.Flow.TheVariants.{Source}
@@ -25,14 +25,17 @@ use Rattle.type_check.specs.Memories.{memory_faults}
 use Rattle.width_rules.specs.declared.component.Component.{Component}
 use Rattle.width_rules.specs.declared.slot.Slot.{Slot}
 use Rattle.width_rules.specs.declared.slot.Slot.TheVariants as slot
-use Rattle.width_rules.specs.Places.{Spot, spots, size, slots_from, open_spots}
-use Rattle.width_rules.specs.Layers.{field_spots}
+use Rattle.width_rules.specs.Places.{Spot, spots, size, slots_from, open_spots, node_spots}
+use Rattle.width_rules.specs.Layers.{field_spots, node_field_spots}
 use Rattle.width_rules.specs.Sources.{formula_of, component_or_none}
-use Rattle.width_rules.specs.Circuits.{ports_from, open_ports, modules_from, all_open, instance_in, instance_component, memory_slots, line_slots, mask_slots}
+use Rattle.width_rules.specs.Circuits.{ports_from, open_ports, modules_from, all_open, instance_in, instance_component, memory_slots, line_slots, mode_slots, mask_slots}
 use Rattle.width_rules.proofs.Bounds.{Each}
+use Rattle.width_rules.proofs.Spots.{node-bundle}
 use Rattle.fir_names.proofs.Graphs.{some_same}
 use Rattle.circuit_laws.specs.Names.{Every}
 use Rattle.circuit_laws.proofs.Scoping.{Distinct}
+use Rattle.fir_types.specs.Equivalence.{a_uint}
+use Rattle.fitted_laws.proofs.Asyncs.{OneSlots, one_spots, slots_one, fixed_one, with_field, last_field, unsigned_node, node-clock}
 use Rattle.fitted_laws.proofs.Filling.{size-bundle, size-fields, size-unsigned, size-clock}
 use Rattle.fitted_laws.proofs.Steps.{IsGood}
 use Rattle.fitted_laws.proofs.Once.{instance_once, memory_once}
@@ -133,12 +136,68 @@ lines_counted memory element h (line.ReadLatency at n ∷ lines) = lines_counted
 lines_counted memory element h (line.WriteLatency at n ∷ lines) = lines_counted memory element h lines
 lines_counted memory element h (line.ReadUnder at u ∷ lines) = lines_counted memory element h lines
 
-pub memory_good : (ms : Marks) (memory : Memory) (element : List Slot) → memory_faults memory ≡ [] → length element ≡ size (element_of memory) → AreFree ms element
+-- the ports of a memory are AsyncResets where its elements are
+
+module _ (memory : Memory) (element : List Slot) (ones : OneSlots (node_spots (element_of memory)) element) where
+  abbrev e : FirType
+  e = element_of memory
+
+  uint_one : (place : Place) (n : ℕ) (x : Slot) → OneSlots (node_spots (uint_at place n)) (x ∷ [])
+  uint_one place n x = subst (λ ss. OneSlots ss (x ∷ [])) (sym (unsigned_node {t = uint_at place n} (a_uint (Some n) refl))) (tt, tt)
+
+  clock_one : (place : Place) → OneSlots (node_spots (clock_at place)) []
+  clock_one place = subst (λ ss. OneSlots ss []) (sym (node-clock (clock_at place) refl)) tt
+
+  mask_one : OneSlots (node_spots (mask_of e)) (mask_slots memory)
+  mask_one = fixed_one (node_spots (mask_of e)) (spots (mask_of e)) (spots (mask_of e)) (one_spots (mask_of e)) refl
+
+  mode_one : (place : Place) (m : PortMode) → OneSlots (flat_map node_field_spots (fields_of_mode place e m)) (mode_slots memory element m)
+  mode_one place mode.Reader = last_field (flipped_field place data_name e) element ones
+  mode_one place mode.Writer =
+      with_field (plain_field place data_name e) (plain_field place mask_name (mask_of e) ∷ []) element (mask_slots memory) ones
+      (last_field (plain_field place mask_name (mask_of e)) (mask_slots memory) mask_one)
+  mode_one place mode.ReadWriter =
+      let masks : List Field = plain_field place wmask_name (mask_of e) ∷ [] in
+      let data' : List Field = plain_field place wdata_name e ∷ masks in
+      with_field (flipped_field place rdata_name e) (plain_field place wmode_name (uint_at place 1) ∷ data') element (slot.Fixed 1 ∷ (element ++ mask_slots memory)) ones
+      (with_field (plain_field place wmode_name (uint_at place 1)) data' (slot.Fixed 1 ∷ []) (element ++ mask_slots memory) (uint_one place 1 (slot.Fixed 1))
+      (with_field (plain_field place wdata_name e) masks element (mask_slots memory) ones (last_field (plain_field place wmask_name (mask_of e)) (mask_slots memory) mask_one)))
+
+  port_one : (at : Place) (m : PortMode) (name : Name) → OneSlots (node_spots (port_type e (depth_of memory) m name.place)) (line_slots memory element (line.MemPort at m name))
+  port_one at m name =
+      let place : Place = name.place in
+      let d : ℕ = depth_of memory in
+      let clks : List Field = plain_field place clk_name (clock_at place) ∷ fields_of_mode place e m in
+      let ens : List Field = plain_field place en_name (uint_at place 1) ∷ clks in
+      let a : Slot = slot.Fixed (address_bits d) in
+      let own : List Slot = mode_slots memory element m in
+      subst (λ ss. OneSlots ss (a ∷ (slot.Fixed 1 ∷ own))) (sym (node-bundle (port_type e d m place) (fields_of_port e d m place) refl))
+      (with_field (plain_field place addr_name (uint_at place (address_bits d))) ens (a ∷ []) (slot.Fixed 1 ∷ own) (uint_one place (address_bits d) a)
+      (with_field (plain_field place en_name (uint_at place 1)) clks (slot.Fixed 1 ∷ []) own (uint_one place 1 (slot.Fixed 1))
+      (with_field (plain_field place clk_name (clock_at place)) (fields_of_mode place e m) [] own (clock_one place) (mode_one place m))))
+
+  lines_one : (lines : List MemLine) → OneSlots (flat_map node_field_spots (fields_of memory lines)) (flat_map (line_slots memory element) lines)
+  lines_one [] = tt
+  lines_one (line.MemPort at m name ∷ lines) =
+      with_field (record { flip = true; name = name; typ = port_type e (depth_of memory) m name.place }) (fields_of memory lines) (line_slots memory element (line.MemPort at m name))
+      (flat_map (line_slots memory element) lines) (port_one at m name) (lines_one lines)
+  lines_one (line.Element at typ ∷ lines) = lines_one lines
+  lines_one (line.Depth at n ∷ lines) = lines_one lines
+  lines_one (line.ReadLatency at n ∷ lines) = lines_one lines
+  lines_one (line.WriteLatency at n ∷ lines) = lines_one lines
+  lines_one (line.ReadUnder at u ∷ lines) = lines_one lines
+
+  memory_one : OneSlots (node_spots (memory_of memory)) (memory_slots memory element)
+  memory_one = subst (λ ss. OneSlots ss (memory_slots memory element)) (sym (node-bundle (memory_of memory) (fields_of memory memory.lines) refl)) (lines_one memory.lines)
+
+pub memory_good : (ms : Marks) (memory : Memory) (element : List Slot) → memory_faults memory ≡ [] → length element ≡ size (element_of memory)
+    → OneSlots (node_spots (element_of memory)) element → AreFree ms element
     → IsGood (Marked ms) (record { part = source_of (memory_of memory); slots = memory_slots memory element })
-memory_good ms memory element e h f = record {
+memory_good ms memory element e h ones f = record {
   counted = lines_counted memory element h memory.lines ∙ sym (size-bundle (memory_of memory) (fields_of memory memory.lines) refl);
   once = memory_once memory e;
   placed = free_placed ms Source (spots (memory_of memory)) (map formula_of (memory_slots memory element)) (lines_free ms memory element f memory.lines);
+  ones = memory_one memory element ones;
 }
 
 -- Instances
@@ -189,6 +248,10 @@ ports_counted n [] = refl
 ports_counted n (p ∷ ps) =
     length-append (slots_from n (spots p.typ)) _ ∙ ap₂ (λ x y. x + y) (length-slots n (spots p.typ)) (ports_counted (n + open_spots (spots p.typ)) ps) ∙ sym (size-fields (instance_field p) (map instance_field ps))
 
+ports_one : (n : ℕ) (ports : List Port) → OneSlots (flat_map node_field_spots (map instance_field ports)) (flat_map (λ (slots : List Slot). slots) (ports_from n ports))
+ports_one n [] = tt
+ports_one n (p ∷ ps) = with_field (instance_field p) (map instance_field ps) (slots_from n (spots p.typ)) _ (slots_one n p.typ) (ports_one (n + open_spots (spots p.typ)) ps)
+
 pub ports_free : (ms : Marks) (count n : ℕ) → Begins count ms → (ports : List Port) → n + open_ports ports ≤ count → AreFree ms (flat_map (λ (slots : List Slot). slots) (ports_from n ports))
 ports_free ms count n b [] h = tt
 ports_free ms count n b (p ∷ ps) h =
@@ -200,4 +263,5 @@ instance_good ms count from m g b h = record {
   counted = ports_counted from m.ports ∙ sym (size-bundle (instance_of m.ports) (map instance_field m.ports) refl);
   once = instance_once m.ports g.names g.once;
   placed = free_placed ms Source (spots (instance_of m.ports)) _ (ports_free ms count from b m.ports h);
+  ones = subst (λ ss. OneSlots ss (flat_map (λ (slots : List Slot). slots) (ports_from from m.ports))) (sym (node-bundle (instance_of m.ports) (map instance_field m.ports) refl)) (ports_one from m.ports);
 }

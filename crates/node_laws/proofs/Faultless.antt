@@ -31,7 +31,7 @@ use Rattle.type_check.specs.Texts.{stored_faults}
 use Rattle.type_check.specs.declared.fault.TypeFault.{TypeFault}
 use Rattle.type_check.specs.Expressions.{found_of, Has}
 use Rattle.type_check.specs.Faults.{IsFault}
-use Rattle.type_check.specs.Statements.{Walk, and_then, in_turn, expects, condition_faults, clock_faults, init_faults, stmt_walk, arm_walk, port_walk, module_walk, types_of}
+use Rattle.type_check.specs.Statements.{Walk, and_then, in_turn, expects, condition_faults, reset_faults, clock_faults, init_faults, stmt_walk, arm_walk, port_walk, module_walk, types_of}
 use Rattle.check_laws.specs.Faults.{itself}
 use Rattle.check_laws.specs.Nodes.{NodesOfEach, no_operands, one_operand}
 use Rattle.check_laws.proofs.Typing.{found_is}
@@ -172,9 +172,9 @@ module _ (modules : List Module) where
       let two = every-left Name (IsIn known) (references clock ++ references reset) (references init) all in
       let rest = right_empty (stored_faults typ) _ b.none in
       let rest2 = right_empty (expects (clock_faults clock.place) clock known).faults _ rest in
-      let rest3 = right_empty (expects (condition_faults reset.place) reset known).faults _ rest2 in
+      let rest3 = right_empty (expects (reset_faults reset.place) reset known).faults _ rest2 in
       let one : IsSound known clock = record { names = every-left Name (IsIn known) (references clock) (references reset) two; none = asked_none (clock_faults clock.place) known clock _ rest } in
-      let second : IsSound known reset = record { names = every-right Name (IsIn known) (references clock) (references reset) two; none = asked_none (condition_faults reset.place) known reset _ rest2 } in
+      let second : IsSound known reset = record { names = every-right Name (IsIn known) (references clock) (references reset) two; none = asked_none (reset_faults reset.place) known reset _ rest2 } in
       let third : IsSound known init = record { names = every-right Name (IsIn known) (references clock ++ references reset) (references init) all; none = asked_none (init_faults typ init.place) known init _ rest3 } in
       (one, (second, (third, tt)))
   sound_layer (Stmt-F.Mem memory) b = tt

@@ -1,4 +1,4 @@
--- Conditions of a block, and what stands as one UInt (FIRRTL specification 3.0, "Conditionals", "References", "Multiplexers").
+-- Conditions of a block, and what stands as one UInt (FIRRTL specification 3.0, "Conditionals", "References", "Multiplexers", "Registers").
 use Rattle.std.specs.Prelude.{◌≡◌, ℕ, List, [], ◌∷◌, Contains, Some}
 use Rattle.bit_words.specs.declared.value.Kind.TheVariants.{Unsigned}
 use Rattle.fir_tree.specs.declared.expr.Expr.{Expr}
@@ -29,7 +29,7 @@ pub data StandsInBlock (e : Expr) (block : List Stmt) : Type 0 where
   in_a_statement : (inner : List Stmt) (s : Stmt) (outer : Expr) → BlockIn inner block → Contains inner s → Contains (expressions_in (out-Stmt s)) outer
       → StandsIn e outer → StandsInBlock e block
 
--- the expression is one UInt
+-- The expression is one UInt. The value of an AsyncReset is one of one bit.
 pub record IsOneUInt (known : Known) (e : Expr) : Type 0 where
   pub width : ℕ
   pub is : typed e known ≡ Some (shaped Unsigned width ∷ [])

@@ -37,8 +37,9 @@ pub fn tables_list_nodes()
 {}
 
 /// In a well typed module, as main reaches them in an accepted circuit, each expression that stands in its body has kinds and widths. A
-/// condition, a reset, the first operand of a mux and an index are one UInt each. The operands of an operation are one number each, of
-/// kinds and widths that its row takes, and its result is what the row gives.
+/// condition, the first operand of a mux and an index are one UInt each, and so is the value of a reset, which may be an AsyncReset. The
+/// operands of an operation are one number each, of kinds and widths that its row takes, and its result is what the row gives: to them
+/// an AsyncReset is a UInt of one bit.
 pub fn operands_have_their_kinds()
     ensures typed { (holder : AModule) (m : TypedModule) → HasTypes holder m → (e : AnExpr) → StandsInBlock e holder.body → (shapes : List AShape) × (typed e (known_in m) ≡ Some shapes) }
     ensures conditions { (holder : AModule) (m : TypedModule) → HasTypes holder m → (e : AnExpr) → IsConditionIn e holder.body → IsOneUInt (known_in m) e }

@@ -7,9 +7,9 @@ use Rattle.fir_types.specs.declared.fir_type.Shape.TheVariants as shape
 use Rattle.fir_types.specs.declared.fir_type.Field.{Field}
 use Rattle.fir_types.specs.declared.leaf.PathStep.TheVariants as step
 use Rattle.fir_types.specs.Leaves.{leaves}
-use Rattle.fir_types.specs.Equivalence.{Equivalent}
-use Rattle.fir_types.proofs.Cases.{of_bundle, IsBundleLike, bundle_like}
-use Rattle.type_laws.specs.GroundKinds.{ground_kind, A_signed}
+use Rattle.fir_types.specs.Equivalence.{Equivalent, IsUnsigned, a_uint, a_reset}
+use Rattle.fir_types.proofs.Cases.{of_unsigned, of_bundle, IsBundleLike, bundle_like}
+use Rattle.type_laws.specs.GroundKinds.{ground_kind, A_signed, An_async}
 use Rattle.type_laws.specs.DoubledFields.{has_doubled_field, HasNoDoubledField}
 
 abbrev place : Place
@@ -30,6 +30,17 @@ reset_kind = grind (arith, the_lemmas)
 
 sint_kind : map ground_kind (leaves (typ (shape.Signed (Some 1)))) ≡ Some A_signed ∷ []
 sint_kind = grind (arith, the_lemmas)
+
+-- An AsyncReset has a kind of its own, and no UInt of one bit is equivalent to it.
+async_kind : map ground_kind (leaves (typ shape.AsyncReset)) ≡ Some An_async ∷ []
+async_kind = grind (arith, the_lemmas)
+
+no_uint : IsUnsigned (typ shape.AsyncReset) → ⊥
+no_uint (a_uint w e) = absurd cc
+no_uint (a_reset e) = absurd cc
+
+not_one_bit : Equivalent (uint 1) (typ shape.AsyncReset) → ⊥
+not_one_bit e = no_uint (of_unsigned (a_uint (Some 1) refl) e)
 
 -- An empty bundle and a vector of length 0 have the same leaves, none, and are not equivalent: the law has no converse.
 abbrev empty : FirType

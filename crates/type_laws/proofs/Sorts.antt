@@ -17,9 +17,9 @@ use Rattle.fir_types.specs.declared.leaf.TypeLeaf.{TypeLeaf}
 use Rattle.fir_types.specs.declared.leaf.PathStep.{PathStep}
 use Rattle.fir_types.specs.declared.leaf.PathStep.TheVariants as step
 use Rattle.fir_types.specs.Leaves.{leaves, field_leaves, elements, under}
-use Rattle.fir_types.specs.Equivalence.{Equivalent, IsUnsigned, IsSigned, SameFields, unsigned, signed, clocks, vectors, bundles, no_fields, same_field, a_uint, a_reset, a_sint}
+use Rattle.fir_types.specs.Equivalence.{Equivalent, IsUnsigned, IsSigned, SameFields, unsigned, signed, clocks, asyncs, vectors, bundles, no_fields, same_field, a_uint, a_reset, a_sint}
 use Rattle.fir_types.proofs.Layers.{leaves-bundle, leaves-vector, leaves-field}
-use Rattle.type_laws.specs.GroundKinds.{GroundKind, An_unsigned, A_signed, A_clock, ground_kind}
+use Rattle.type_laws.specs.GroundKinds.{GroundKind, An_unsigned, A_signed, A_clock, An_async, ground_kind}
 
 abbrev kinds : List TypeLeaf → List (Option GroundKind)
 kinds ls = map ground_kind ls
@@ -50,11 +50,15 @@ signed_kind {t} (a_sint w e) = grind (arith, common_steps, the_lemmas)
 clock_kind : (t : FirType) → t.shape ≡ shape.Clock → kinds (leaves t) ≡ Some A_clock ∷ []
 clock_kind t e = grind (arith, common_steps, the_lemmas)
 
+async_kind : (t : FirType) → t.shape ≡ shape.AsyncReset → kinds (leaves t) ≡ Some An_async ∷ []
+async_kind t e = grind (arith, common_steps, the_lemmas)
+
 mutual
   pub same_kinds : {l r : FirType} → Equivalent l r → kinds (leaves l) ≡ kinds (leaves r)
   same_kinds (unsigned u v) = unsigned_kind u ∙ sym (unsigned_kind v)
   same_kinds (signed u v) = signed_kind u ∙ sym (signed_kind v)
   same_kinds {l} {r} (clocks u v) = clock_kind l u ∙ sym (clock_kind r v)
+  same_kinds {l} {r} (asyncs u v) = async_kind l u ∙ sym (async_kind r v)
   same_kinds {l} {r} (vectors e o n u v q) =
       ap kinds (leaves-vector l e n u) ∙ kinds_elements (leaves e) (leaves o) n (same_kinds q) ∙ sym (ap kinds (leaves-vector r o n v))
   same_kinds {l} {r} (bundles fs gs u v q) = ap kinds (leaves-bundle l fs u) ∙ same_bundle_kinds q ∙ sym (ap kinds (leaves-bundle r gs v))
