@@ -1,7 +1,7 @@
 //! The kinds of types.
 
 ghost use Rattle.std.specs.Prelude.{◌≡◌, IfOk};
-ghost use Rattle.circuit_parts.specs.Kinds.{sign_of, is_unsigned, is_a_clock, ground, no_type};
+ghost use Rattle.circuit_parts.specs.Kinds.{sign_of, is_unsigned, is_a_clock, is_async, is_reset, ground, no_type};
 
 use bit_words::{Kind, List, Shared};
 use fir_types::{FirType, Shape};
@@ -31,6 +31,20 @@ pub fn is_clock(typ: &FirType) -> bool
     ensures { result ≡ is_a_clock typ.now }
 {
     matches!(&typ.shape, Shape::Clock)
+}
+
+/// Whether a type is an `AsyncReset`.
+pub fn is_async(typ: &FirType) -> bool
+    ensures { result ≡ is_async typ.now }
+{
+    matches!(&typ.shape, Shape::AsyncReset)
+}
+
+/// Whether a register may have a reset of this type: a `UInt` or an `AsyncReset`.
+pub fn is_reset(typ: &FirType) -> bool
+    ensures { result ≡ is_reset typ.now }
+{
+    is_unsigned(typ) || is_async(typ)
 }
 
 /// A type of this kind.

@@ -12,10 +12,10 @@ use Rattle.fir_types.specs.declared.memory.MemLine.TheVariants as line
 use Rattle.fir_types.specs.declared.memory.Under.TheVariants as under
 use Rattle.fir_types.specs.declared.memory.PortMode.TheVariants as mode
 use Rattle.fir_types.specs.Memories.{IsValid}
-use Rattle.fir_types.specs.Leaves.{leaves, count}
+use Rattle.fir_types.specs.Leaves.{leaves, count, has_clock, has_signal}
 use Rattle.fir_types.specs.Passivity.{has_flip, IsPassive}
-use Rattle.fir_types.specs.Equivalence.{Equivalent, unsigned, vectors, a_uint, a_reset}
-use Rattle.fir_types.proofs.Cases.{of_vectors, of_bundles, same_at}
+use Rattle.fir_types.specs.Equivalence.{Equivalent, unsigned, asyncs, vectors, a_uint, a_reset}
+use Rattle.fir_types.proofs.Cases.{of_async, of_vectors, of_bundles, same_at}
 use Rattle.fir_types.specs.Bundles.{instance_of, memory_of, port_type, address_bits, least_reaching, mask_of}
 
 abbrev place : Place
@@ -56,6 +56,33 @@ flip_within = simp the_lemmas
 
 uint_passive : IsPassive (uint 4)
 uint_passive = simp the_lemmas
+
+-- A Clock and an AsyncReset are signals, and only the first is a clock. A Reset is neither.
+async_leaf : has_signal (typ (shape.Bundle (field true 0 (typ shape.AsyncReset) ∷ []))) ≡ true
+async_leaf = grind (arith, the_lemmas)
+
+async_is_no_clock : has_clock (typ (shape.Vector (typ shape.AsyncReset) 2)) ≡ false
+async_is_no_clock = grind (arith, the_lemmas)
+
+clock_leaf : has_signal (typ shape.Clock) ≡ true
+clock_leaf = grind (arith, the_lemmas)
+
+reset_is_no_signal : has_signal (typ shape.Reset) ≡ false
+reset_is_no_signal = grind (arith, the_lemmas)
+
+-- A vector of length 0 has no signal, as it has no leaf.
+no_signal : has_signal (typ (shape.Vector (typ shape.AsyncReset) 0)) ≡ false
+no_signal = grind (arith, the_lemmas)
+
+-- AsyncReset is equivalent to itself alone.
+asyncs_alike : Equivalent (typ shape.AsyncReset) (typ shape.AsyncReset)
+asyncs_alike = asyncs refl refl
+
+async_is_no_reset : Equivalent (typ shape.AsyncReset) (typ shape.Reset) → ⊥
+async_is_no_reset e = let s = of_async refl e in absurd cc
+
+async_takes_no_uint : Equivalent (typ shape.AsyncReset) (uint 1) → ⊥
+async_takes_no_uint e = let s = of_async refl e in absurd cc
 
 -- UInt<4>[2] and Reset[2] are equivalent. Vectors go by their length, and bundles by their orientation.
 vectors_of_unsigned : Equivalent (typ (shape.Vector (uint 4) 2)) (typ (shape.Vector (typ shape.Reset) 2))

@@ -9,7 +9,7 @@ use Rattle.fir_types.specs.declared.fir_type.Field.{Field}
 use Rattle.fir_types.specs.declared.leaf.TypeLeaf.{TypeLeaf}
 use Rattle.fir_types.specs.declared.leaf.PathStep.{PathStep}
 use Rattle.fir_types.specs.declared.leaf.PathStep.TheVariants as step
-use Rattle.fir_types.specs.Leaves.{leaves, count, field_count, field_leaves, elements, under, is_clock}
+use Rattle.fir_types.specs.Leaves.{leaves, count, field_count, field_leaves, elements, under}
 use Rattle.fir_types.specs.Passivity.{has_flip, field_has_flip}
 
 list_any-map : {A : Type 0} (f : A → Bool) (xs : List A) → list_any (λ b. b) (map f xs) ≡ list_any f xs
@@ -37,28 +37,31 @@ count-field f = grind (arith, common_steps, the_lemmas)
 pub flip-bundle : (t : FirType) (fs : List Field) → t.shape ≡ shape.Bundle fs → has_flip t ≡ list_any field_has_flip fs
 flip-bundle t fs e = grind (arith, common_steps, the_lemmas, list_any-map)
 
--- some leaf is a clock, in lists that are put together
+-- some leaf is of a kind, in lists that are put together
 
-pub clock-fields : (fs : List Field) → list_any is_clock (flat_map field_leaves fs) ≡ list_any (λ f. list_any is_clock (field_leaves f)) fs
-clock-fields [] = refl
-clock-fields (f ∷ fs) = list_any-append is_clock (field_leaves f) (flat_map field_leaves fs) ∙ ap (λ b. list_any is_clock (field_leaves f) || b) (clock-fields fs)
+pub some-fields : (q : FirType → Bool) (fs : List Field)
+    → list_any (λ l. q l.typ) (flat_map field_leaves fs) ≡ list_any (λ f. list_any (λ l. q l.typ) (field_leaves f)) fs
+some-fields q [] = refl
+some-fields q (f ∷ fs) =
+    list_any-append (λ l. q l.typ) (field_leaves f) (flat_map field_leaves fs) ∙ ap (λ b. list_any (λ l. q l.typ) (field_leaves f) || b) (some-fields q fs)
 
-pub clock-under : (path : List PathStep) (flip : Bool) (ls : List TypeLeaf) → list_any is_clock (map (under path flip) ls) ≡ list_any is_clock ls
-clock-under path flip [] = refl
-clock-under path flip (l ∷ ls) = ap (λ b. is_clock l || b) (clock-under path flip ls)
+some-under : (q : FirType → Bool) (path : List PathStep) (flip : Bool) (ls : List TypeLeaf)
+    → list_any (λ l. q l.typ) (map (under path flip) ls) ≡ list_any (λ l. q l.typ) ls
+some-under q path flip [] = refl
+some-under q path flip (l ∷ ls) = ap (λ b. q l.typ || b) (some-under q path flip ls)
 
-pub clock-field : (f : Field) → list_any is_clock (field_leaves f) ≡ list_any is_clock (leaves f.typ)
-clock-field f = ap (list_any is_clock) (leaves-field f) ∙ clock-under (step.Field f.name.id ∷ []) f.flip (leaves f.typ)
+pub some-field : (q : FirType → Bool) (f : Field) → list_any (λ l. q l.typ) (field_leaves f) ≡ list_any (λ l. q l.typ) (leaves f.typ)
+some-field q f = ap (list_any (λ l. q l.typ)) (leaves-field f) ∙ some-under q (step.Field f.name.id ∷ []) f.flip (leaves f.typ)
 
 same_or : (b : Bool) → (b || b) ≡ b
 same_or true = refl
 same_or false = refl
 
 -- an element has one, or none has
-pub clock-elements : (ls : List TypeLeaf) (n : ℕ) → 0 < n → list_any is_clock (elements ls n) ≡ list_any is_clock ls
-clock-elements ls zero h = grind (arith, common_steps)
-clock-elements ls (suc zero) h = clock-under (step.Element 0 ∷ []) false ls
-clock-elements ls (suc (suc n)) h =
-    list_any-append is_clock (elements ls (suc n)) (map (under (step.Element (suc n) ∷ []) false) ls)
-    ∙ ap (λ b. b || list_any is_clock (map (under (step.Element (suc n) ∷ []) false) ls)) (clock-elements ls (suc n) (grind (arith, common_steps)))
-    ∙ ap (λ b. list_any is_clock ls || b) (clock-under (step.Element (suc n) ∷ []) false ls) ∙ same_or (list_any is_clock ls)
+pub some-elements : (q : FirType → Bool) (ls : List TypeLeaf) (n : ℕ) → 0 < n → list_any (λ l. q l.typ) (elements ls n) ≡ list_any (λ l. q l.typ) ls
+some-elements q ls zero h = grind (arith, common_steps)
+some-elements q ls (suc zero) h = some-under q (step.Element 0 ∷ []) false ls
+some-elements q ls (suc (suc n)) h =
+    list_any-append (λ l. q l.typ) (elements ls (suc n)) (map (under (step.Element (suc n) ∷ []) false) ls)
+    ∙ ap (λ b. b || list_any (λ l. q l.typ) (map (under (step.Element (suc n) ∷ []) false) ls)) (some-elements q ls (suc n) (grind (arith, common_steps)))
+    ∙ ap (λ b. list_any (λ l. q l.typ) ls || b) (some-under q (step.Element (suc n) ∷ []) false ls) ∙ same_or (list_any (λ l. q l.typ) ls)

@@ -1,6 +1,6 @@
 -- Runs of vector lengths: a walk goes from a vector to its element, and what it answers for the element is its answer for the vector.
-use Rattle.std.proofs.Common.{◌≡◌, ℕ, zero, suc, ◌*◌, ◌<◌, ◌≤◌, min, false, List, [], ◌∷◌, ◌++◌, refl, sym, ap, ◌∙◌, subst, arith, inl, inr}
-use Rattle.std.specs.List.{list_any}
+use Rattle.std.proofs.Common.{◌≡◌, ℕ, zero, suc, ◌*◌, ◌<◌, ◌≤◌, min, Bool, true, false, List, [], ◌∷◌, ◌++◌, refl, sym, ap, ◌∙◌, subst, arith, inl, inr}
+use Rattle.std.specs.List.{list_any, flat_map}
 use Rattle.std.proofs.Math.Nat.{min-eq_left, min-eq_right, min-le_right}
 use Rattle.std.proofs.lemmas.Bool.Decides.{leb_tells}
 use Rattle.std.proofs.lemmas.Grind.{common_steps}
@@ -8,12 +8,15 @@ use Rattle.place_text.specs.declared.place.Place.{Place}
 use Rattle.fir_types.specs.declared.fir_type.FirType.{FirType, size-FirType, the_lemmas}
 use Rattle.fir_types.specs.declared.fir_type.Shape.{Shape}
 use Rattle.fir_types.specs.declared.fir_type.Shape.TheVariants as shape
+use Rattle.fir_types.specs.declared.fir_type.Shape.TheViews.{out-Shape}
+use Rattle.fir_types.specs.declared.fir_type.Field.{Field}
+use Rattle.fir_types.specs.declared.leaf.TypeLeaf.{TypeLeaf}
 use Rattle.fir_types.specs.Bundles.{mask_of, mask_of_shape}
 use Rattle.fir_types.specs.Equivalence.{Equivalent}
-use Rattle.fir_types.specs.Leaves.{count, leaves, is_clock}
+use Rattle.fir_types.specs.Leaves.{count, leaves, field_leaves, elements, is_clock_shape, is_signal_shape, is_asked}
 use Rattle.fir_types.specs.Passivity.{has_flip}
 use Rattle.fir_types.specs.Runs.{within}
-use Rattle.fir_types.proofs.Layers.{count-vector, leaves-vector, clock-elements}
+use Rattle.fir_types.proofs.Layers.{count-vector, leaves-vector, some-fields, some-field, some-elements}
 use Rattle.fir_types.proofs.Masks.{flip-vector}
 use Rattle.fir_types.proofs.Cases.{vectors_from, of_vectors}
 
@@ -53,16 +56,30 @@ counted_on typ inside element factor length after m is h a =
     ap (λ x. factor * x) (count-vector inside element length is) ∙ grind (arith, common_steps) in
     h ∙ ap (λ x. min x m) e ∙ sym (stops_before (factor * length) (count element) m) ∙ ap (λ x. min (x * count element) m) (sym a)
 
--- clocks, flips
+-- clocks and signals, flips
 
-pub clock_on : (typ inside element : FirType) (length : ℕ) → inside.shape ≡ shape.Vector element length → 0 < length
-    → list_any is_clock (leaves typ) ≡ list_any is_clock (leaves inside) → list_any is_clock (leaves typ) ≡ list_any is_clock (leaves element)
-clock_on typ inside element length is more h =
-    h ∙ ap (list_any is_clock) (leaves-vector inside element length is) ∙ clock-elements (leaves element) length more
+abbrev clocks : FirType → Bool
+clocks typ = is_clock_shape (out-Shape typ.shape)
 
-pub no_clock : (inside element : FirType) (length : ℕ) → inside.shape ≡ shape.Vector element length → length ≡ 0 → list_any is_clock (leaves inside) ≡ false
-no_clock inside element zero is none = ap (list_any is_clock) (leaves-vector inside element 0 is)
-no_clock inside element (suc n) is none = absurd (omega arith)
+abbrev signals : FirType → Bool
+signals typ = is_signal_shape (out-Shape typ.shape)
+
+pub asked-fields : (both : Bool) (fs : List Field) → list_any (is_asked both) (flat_map field_leaves fs) ≡ list_any (λ f. list_any (is_asked both) (field_leaves f)) fs
+asked-fields true fs = some-fields signals fs
+asked-fields false fs = some-fields clocks fs
+
+pub asked-field : (both : Bool) (f : Field) → list_any (is_asked both) (field_leaves f) ≡ list_any (is_asked both) (leaves f.typ)
+asked-field true f = some-field signals f
+asked-field false f = some-field clocks f
+
+asked-elements : (both : Bool) (ls : List TypeLeaf) (n : ℕ) → 0 < n → list_any (is_asked both) (elements ls n) ≡ list_any (is_asked both) ls
+asked-elements true ls n h = some-elements signals ls n h
+asked-elements false ls n h = some-elements clocks ls n h
+
+pub asked_on : (both : Bool) (typ inside element : FirType) (length : ℕ) → inside.shape ≡ shape.Vector element length → 0 < length
+    → list_any (is_asked both) (leaves typ) ≡ list_any (is_asked both) (leaves inside) → list_any (is_asked both) (leaves typ) ≡ list_any (is_asked both) (leaves element)
+asked_on both typ inside element length is more h =
+    h ∙ ap (list_any (is_asked both)) (leaves-vector inside element length is) ∙ asked-elements both (leaves element) length more
 
 pub flip_on : (typ inside element : FirType) (length : ℕ) → inside.shape ≡ shape.Vector element length → has_flip typ ≡ has_flip inside → has_flip typ ≡ has_flip element
 flip_on typ inside element length is h = h ∙ flip-vector inside element length is

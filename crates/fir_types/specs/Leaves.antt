@@ -105,6 +105,11 @@ is_signal leaf = is_signal_shape (out-Shape leaf.typ.shape)
 abbrev pub has_signal : FirType → Bool
 has_signal typ = list_any is_signal (leaves typ)
 
+-- what is asked of a leaf: whether it is one, or whether it is a Clock
+abbrev pub is_asked : Bool → TypeLeaf → Bool
+is_asked true leaf = is_signal leaf
+is_asked false leaf = is_clock leaf
+
 -- where a leaf stands, and whether it is turned round
 abbrev pub way_of : TypeLeaf → List PathStep × Bool
 way_of leaf = (leaf.path, leaf.flip)

@@ -263,11 +263,7 @@ fn mask_shape(alloc: Global, shape: &Shape) -> Result<Shape, AllocError>
     ensures { IfOk result (λ mask. mask ≡ mask_of_shape shape.now) }
 {
     match shape {
-        Shape::Unsigned(_)
-        | Shape::Signed(_)
-        | Shape::Clock
-        | Shape::Reset
-        | Shape::AsyncReset => {
+        Shape::Unsigned(_) | Shape::Signed(_) | Shape::Clock | Shape::Reset | Shape::AsyncReset => {
             Ok(Shape::Unsigned(Some(1)))
         }
         Shape::Bundle(fields) => {

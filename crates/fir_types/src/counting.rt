@@ -3,7 +3,7 @@
 
 ghost use Rattle.std.specs.Prelude.{◌≡◌, ◌-◌, ◌^◌, min, map, sum};
 ghost use Rattle.std.specs.List.{list_any};
-ghost use Rattle.fir_types.specs.Leaves.{count, field_count, leaves, field_leaves, is_clock, has_clock};
+ghost use Rattle.fir_types.specs.Leaves.{count, field_count, leaves, field_leaves, has_clock, has_signal, is_asked};
 
 use crate::{Field, FirType, Shape};
 
@@ -44,18 +44,31 @@ fn count_fields(fields: &[Field]) -> u128
 }
 
 /// Whether a leaf of the type is a `Clock`. A vector of length 0 has no leaf.
-#[cycle(clock)]
 pub fn has_clock(typ: &FirType) -> bool
     ensures { result ≡ has_clock typ.now }
+{
+    has_asked(typ, false)
+}
+
+/// Whether a leaf of the type is a `Clock` or an `AsyncReset`.
+pub fn has_signal(typ: &FirType) -> bool
+    ensures { result ≡ has_signal typ.now }
+{
+    has_asked(typ, true)
+}
+
+/// Whether a leaf of the type is a `Clock`, or with `asynchronous` an `AsyncReset`.
+#[cycle(asked)]
+fn has_asked(typ: &FirType, asynchronous: bool) -> bool
+    ensures { result ≡ list_any (is_asked asynchronous) (leaves typ.now) }
 {
     let mut inside = typ;
     loop {
         match &inside.shape {
-            Shape::Unsigned(_) | Shape::Signed(_) | Shape::Reset | Shape::AsyncReset => {
-                return false;
-            }
+            Shape::Unsigned(_) | Shape::Signed(_) | Shape::Reset => return false,
             Shape::Clock => return true,
-            Shape::Bundle(fields) => return clock_in_fields(fields.as_slice()),
+            Shape::AsyncReset => return asynchronous,
+            Shape::Bundle(fields) => return asked_in_fields(fields.as_slice(), asynchronous),
             Shape::Vector(element, length) => {
                 if *length == 0 {
                     return false;
@@ -66,12 +79,12 @@ pub fn has_clock(typ: &FirType) -> bool
     }
 }
 
-#[cycle(clock)]
-fn clock_in_fields(fields: &[Field]) -> bool
-    ensures { result ≡ list_any (λ field. list_any is_clock (field_leaves field)) fields.now }
+#[cycle(asked)]
+fn asked_in_fields(fields: &[Field], asynchronous: bool) -> bool
+    ensures { result ≡ list_any (λ field. list_any (is_asked asynchronous) (field_leaves field)) fields.now }
 {
     for field in fields {
-        if has_clock(&field.typ) {
+        if has_asked(&field.typ, asynchronous) {
             return true;
         }
     }

@@ -18,7 +18,7 @@ pub mod port;
 
 pub use bundles::{address_width, depth_of, element_of, instance_type, memory_type};
 pub use copying::copy;
-pub use counting::{has_clock, leaf_count};
+pub use counting::{has_clock, has_signal, leaf_count};
 pub use equivalence::{equivalent, field_of};
 pub use fir_type::{Field, FirType, Shape};
 pub use leaf::{PathStep, TypeLeaf};

@@ -64,11 +64,7 @@ fn push_inside(
     ensures path { OnOk result (path.new.items ≡ path.old.items) }
 {
     match &typ.shape {
-        Shape::Unsigned(_)
-        | Shape::Signed(_)
-        | Shape::Clock
-        | Shape::Reset
-        | Shape::AsyncReset => {
+        Shape::Unsigned(_) | Shape::Signed(_) | Shape::Clock | Shape::Reset | Shape::AsyncReset => {
             listed.push(TypeLeaf {
                 path: List::from_slice(alloc, path.as_slice())?,
                 flip,
