@@ -1,11 +1,12 @@
-//! Types, rules, widths and listings of a circuit.
+//! Types, rules, widths and listings of a circuit, and the lines of a trace.
 
 use crate::stages::checked_with;
+use bit_words::{Kind, List, Row, Text, from_words};
 use fir_tree::{Checked, Fitted};
 use fir_types::{FirType, Shape};
 use prim_ops::Width;
 use std::alloc::Global;
-use trace_print::{components, widths_text};
+use trace_print::{components, header, trace_line, widths_text};
 use width_fit::judge;
 use width_gathering::rules_of;
 use width_solver::solve;
@@ -144,5 +145,34 @@ fn declarations_are_in_text_order(rt: HostRuntime) {
     match told_components(rt.alloc(), modules) {
         Some(told) => assert_eq!(rt; told.as_slice(), wanted.as_slice()),
         None => assert!(rt; false, "no declarations"),
+    }
+}
+
+/// The first line of a trace, and the line of a cycle.
+fn told_trace(alloc: Global) -> Option<(Vec<u8>, Vec<u8>)> {
+    let mut names: List<Text> = List::new(alloc);
+    for name in ["io.outputGCD", "io.outputValid"] {
+        names
+            .push(List::from_slice(alloc, name.as_bytes()).ok()?)
+            .ok()?;
+    }
+    let four = from_words(Kind::Unsigned, 16, 4, 0);
+    let minus_seven = from_words(Kind::Signed, 4, 9, 0);
+    let row: Row = List::from_slice(alloc, &[four, minus_seven]).ok()?;
+    let first = header(alloc, &names).ok()?;
+    Some((first, trace_line(alloc, 3, &row).ok()?))
+}
+
+#[test]
+fn a_trace_has_its_lines(rt: HostRuntime) {
+    match told_trace(rt.alloc()) {
+        Some((first, line)) => {
+            assert_eq!(rt;
+                first.as_slice(),
+                "cycle io.outputGCD io.outputValid\n".as_bytes()
+            );
+            assert_eq!(rt; line.as_slice(), "3 4 -7\n".as_bytes());
+        }
+        None => assert!(rt; false, "no lines"),
     }
 }
