@@ -1,6 +1,6 @@
 """Prints a table: the time to order and to cut nets of registers, at a size and at twice the size, and the ratio.
 
-usage: cuts.py PROGRAM
+usage: cuts.py PROGRAM, which is firsim_bench
 
 The time goes with the sum of the cones: those of a ring and of a mesh are as large at twice the size, so that the ratio is 2;
 those of a chain are twice as large, so that it is 4.
@@ -23,7 +23,7 @@ def best_seconds(program, shape, count, parts):
     best = None
     for _ in range(7):
         began = time.perf_counter()
-        written = subprocess.run([program, shape, str(count), str(parts)], stdout=subprocess.PIPE, check=True).stdout
+        written = subprocess.run([program, "cuts", shape, str(count), str(parts)], stdout=subprocess.PIPE, check=True).stdout
         took = time.perf_counter() - began
         last = written.decode().splitlines()[-1].split()
         assert last[:2] == ["needed", str(count)], written

@@ -1,7 +1,7 @@
 """Prints a table: the time to give the leaves of made modules their drivers, at one size and at the double of it, the ratio,
 and the greatest memory.
 
-usage: drivers.py PROGRAM
+usage: drivers.py PROGRAM, which is firsim_bench
 
 In time that is linear in the size of the drivers the ratio is 2; it is 4 for the arms of one chain, since each arm's driver has
 the conditions of all arms before it.
@@ -25,7 +25,7 @@ def best_seconds(program, shape, count, expected):
     best = None
     for _ in range(5):
         began = time.perf_counter()
-        written = subprocess.run([program, shape, str(count)], stdout=subprocess.PIPE, check=True).stdout
+        written = subprocess.run([program, "whens", shape, str(count)], stdout=subprocess.PIPE, check=True).stdout
         took = time.perf_counter() - began
         assert expected is None or written == b"%d\n" % expected, (shape, count, written)
         best = took if best is None else min(best, took)

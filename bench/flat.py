@@ -1,6 +1,6 @@
 """Prints a table: the time to flatten made circuits of some 60,000 leaves, and of twice as many, the ratio, and the greatest memory.
 
-usage: flat.py PROGRAM
+usage: flat.py PROGRAM, which is firsim_bench
 
 In time that is linear in the flat leaves and drivers the ratio is 2.
 """
@@ -23,7 +23,7 @@ def best_seconds(program, form):
     written = b""
     for _ in range(5):
         began = time.perf_counter()
-        written = subprocess.run([program, *map(str, form)], stdout=subprocess.PIPE, check=True).stdout
+        written = subprocess.run([program, "instances", *map(str, form)], stdout=subprocess.PIPE, check=True).stdout
         took = time.perf_counter() - began
         best = took if best is None else min(best, took)
     return best, int(written.split()[0])

@@ -3,7 +3,7 @@
 Each turn of either program takes the result of the turn before as its first operand. Dashes stand where the width of the
 result is over 128.
 
-usage: operations.py PROGRAM
+usage: operations.py PROGRAM, which is firsim_bench
 """
 import os
 import subprocess
@@ -58,10 +58,10 @@ def seconds(command):
 
 def nanoseconds(program, operation, kind, width, further):
     """The time of a turn, without the time that the process takes to start."""
-    long = seconds([program, operation, kind, str(width), str(TURNS), *further])
+    long = seconds([*program, operation, kind, str(width), str(TURNS), *further])
     if long is None:
         return None
-    return max(0.01, (long - seconds([program, operation, kind, str(width), "0", *further])) / TURNS * 1e9)
+    return max(0.01, (long - seconds([*program, operation, kind, str(width), "0", *further])) / TURNS * 1e9)
 
 
 def main():
@@ -77,8 +77,8 @@ def main():
             for operation in C_FORMS:
                 row = []
                 for width in WIDTHS:
-                    ns = nanoseconds(ours, operation, kind, width, [])
-                    plain = nanoseconds(theirs, operation, kind, width, ["5"])
+                    ns = nanoseconds([ours, "operations"], operation, kind, width, [])
+                    plain = nanoseconds([theirs], operation, kind, width, ["5"])
                     row.append("-" if ns is None else f"{ns:.1f} ns, {ns / plain:.1f}")
                 print(f"{operation:10}" + "".join(f"{text:>20}" for text in row), flush=True)
 

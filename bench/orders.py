@@ -1,6 +1,6 @@
 """Prints a table: the time to order the assignments of chains and a ring of 65,000 and of 130,000 leaves, and the ratio.
 
-usage: orders.py PROGRAM
+usage: orders.py PROGRAM, which is firsim_bench
 
 In time that is linear in the size of the net the ratio is 2.
 """
@@ -22,7 +22,7 @@ def best_seconds(program, shape, count):
     best = None
     for _ in range(7):
         began = time.perf_counter()
-        written = subprocess.run([program, shape, str(count)], stdout=subprocess.PIPE, check=True).stdout
+        written = subprocess.run([program, "orders", shape, str(count)], stdout=subprocess.PIPE, check=True).stdout
         took = time.perf_counter() - began
         assert written == wanted, written
         best = took if best is None else min(best, took)

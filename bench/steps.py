@@ -1,7 +1,7 @@
 """Prints how long an instruction and a cycle of code over a mix of all operations take, in the order that it is made in, in the order and
 the slots that a run gives it, and in order in windows, and the same for a loop in C over the same instructions that tests no number, and the ratio.
 
-usage: steps.py PROGRAM
+usage: steps.py PROGRAM, which is firsim_bench
 """
 import os
 import subprocess
@@ -41,7 +41,7 @@ def main():
             count, cycles = 21 * blocks, INSTRUCTIONS // (21 * blocks)
             first = None
             for window in WINDOWS:
-                words = [str(blocks), str(window)]
+                words = ["codes", str(blocks), str(window)]
                 with open(listing, "wb") as file:
                     subprocess.run([ours, *words], stdout=file, check=True)
                 cycle, word = nanoseconds([ours, *words], cycles)

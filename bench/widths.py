@@ -1,6 +1,6 @@
 """Prints a table: the time to fit the widths of chains and a ring of 20,000 and of 100,000 components, and the ratio.
 
-usage: widths.py PROGRAM
+usage: widths.py PROGRAM, which is firsim_bench
 
 In time that is linear in the size of the circuit the ratio is 5.
 """
@@ -20,7 +20,7 @@ def best_seconds(program, shape, count):
     best = None
     for _ in range(7):
         began = time.perf_counter()
-        written = subprocess.run([program, shape, str(count)], stdout=subprocess.PIPE, check=True).stdout
+        written = subprocess.run([program, "widths", shape, str(count)], stdout=subprocess.PIPE, check=True).stdout
         took = time.perf_counter() - began
         assert written == b"%d\n" % (7 * count), written
         best = took if best is None else min(best, took)

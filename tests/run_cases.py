@@ -16,7 +16,7 @@ from pathlib import Path
 # The witness runs each circuit for so many cycles, but not those with so many leaves that it would take too long; and of the cases those
 # whose circuit has a shorter text than this.
 CYCLES = 20
-SLOW = ("aes_sbox", "bf_machine", "riscish", "sha256_round")
+SLOW = ("aes_sbox", "bf_machine", "operations", "riscish", "sha256_round")
 LONG = 4_000
 
 
@@ -116,6 +116,16 @@ def limits():
         yield f"a circuit past the limit of {meaning}", {"words": ["check"], "stdin": text(1), "status": 2, "stdout": "circuit TooLarge 2:9\n"}
 
 
+def chains():
+    """Wires of which each is driven by the one before it, and the first one by 7 bits; the connects stand from the first or from the last."""
+    front = "FIRRTL version 3.0.0\ncircuit M :\n  module M :\n" + "".join(f"    wire w{k} : UInt\n" for k in range(1_000))
+    connects = ["    connect w0, UInt<7>(1)\n", *(f"    connect w{k}, w{k - 1}\n" for k in range(1, 1_000))]
+    listing = "".join(f"M w{k} UInt 7\n" for k in range(1_000))
+    for end, lines in (("beginning", connects), ("end", connects[::-1])):
+        case = {"words": ["widths"], "stdin": front + "".join(lines), "status": 0, "stdout": listing}
+        yield f"widths of a chain of 1,000 wires, connects from its {end}", case
+
+
 def told_faults(page):
     """The cases of docs/FAULTS.md: a block of text under a heading with a kind, and the line that is written."""
     front = "FIRRTL version 3.0.0\ncircuit M :\n  module M :\n"
@@ -151,6 +161,10 @@ def main():
         for workers in ("1", "2", "7"):
             case = {"words": ["run", "--workers", workers], "stdin": text, "status": 0, "stdout": trace}
             faults.append((f"the trace of {path.stem} by {workers} workers", fault_of(program, case)))
+        if path.with_suffix(".widths").exists():
+            listing = path.with_suffix(".widths").read_text("latin-1")
+            case = {"words": ["widths"], "stdin": path.read_text("latin-1"), "status": 0, "stdout": listing}
+            faults.append((f"the widths of {path.stem}", fault_of(program, case)))
         if path.stem not in SLOW:
             faults.append((f"{CYCLES} cycles of {path.stem} as it is written", other_witness(witness, path, CYCLES)))
     faults.append(("1,000 runs by 8 workers give one trace", other_trace(program, folder / "corpus/fifo_mem.fir", 1_000)))
@@ -158,7 +172,7 @@ def main():
         circuit, stimulus, trace = (path.with_suffix(suffix).read_text("latin-1") for suffix in (".fir", ".stim", ".expect"))
         case = {"words": ["run", "c.fir", "c.stim"], "held": {"c.fir": circuit, "c.stim": stimulus}, "stdin": "", "status": 0, "stdout": trace}
         faults.append((f"the trace of the example {path.stem}", fault_of(program, case)))
-    for name, case in limits():
+    for name, case in [*limits(), *chains()]:
         faults.append((name, fault_of(program, case)))
     for name, case in told_faults((folder / "../docs/FAULTS.md").read_text()):
         faults.append((name, fault_of(program, case)))

@@ -1,7 +1,6 @@
 //! The cases, a module for each subject.
 
 mod expanding;
-mod lines;
 mod nets;
 mod orders;
 mod placing;

@@ -1,4 +1,5 @@
-//! Cases for the crates of stimuli, circuits of ground statements and nets: these are made by hand, and answers are told as texts.
+//! The calls of the stages behind the lowering, one by one: each with ample memory, on a circuit of ground statements or a net that is made
+//! by hand, and its answer. What whole circuits do is asked of the built program, in tests/.
 #![tactic(auto)]
 
 #[cfg(test)]

@@ -1,33 +1,16 @@
-//! Cases that begin as text: what each stage answers to short texts, told as texts.
+//! The calls of the stages that begin as text, one by one: each with ample memory, on a short text, and its answer. What whole texts are
+//! answered with is asked of the built program, in tests/.
 #![tactic(auto)]
 
 #[cfg(test)]
-mod bundles;
-#[cfg(test)]
-mod circuits;
-#[cfg(test)]
-mod expressions;
-#[cfg(test)]
-mod fitting;
-#[cfg(test)]
 mod flows;
 #[cfg(test)]
-mod layouts;
+mod judged;
 #[cfg(test)]
-mod leaves;
+mod laid;
 #[cfg(test)]
-mod listings;
+mod parsed;
 #[cfg(test)]
-mod refusals;
-#[cfg(test)]
-mod rules;
-#[cfg(test)]
-mod scopes;
+mod shapes;
 #[cfg(test)]
 mod stages;
-#[cfg(test)]
-mod telling;
-#[cfg(test)]
-mod tokens;
-#[cfg(test)]
-mod types;

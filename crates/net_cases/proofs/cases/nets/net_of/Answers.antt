@@ -13,5 +13,5 @@ loop-index-preserved c = record {
 
 pub returns-clause-mentions : goal.returns-clause-mentions
 returns-clause-mentions c =
-    let net : Net = record { ports = c.args.plan.ports; leaves = c.loop-index.leaves; drivers = c.loop-index.drivers; registers = c.in_ok-registers.registers; memories = c.in_ok-memories.memories } in
+    let net : Net = record { ports = c.args.ports; leaves = c.loop-index.leaves; drivers = c.loop-index.drivers; registers = c.in_ok-registers.registers; memories = c.new.result } in
     mentions net _ (omega (arith, c.loop-index.invariant.count, c.loop-index-test.false, c.loop-index.auto.index-end)) c.loop-index.invariant.below

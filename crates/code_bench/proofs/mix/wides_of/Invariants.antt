@@ -1,9 +1,0 @@
-use Rattle.std.proofs.Common.{◌≡◌, ◌*◌, length, All}
-use Rattle.flat_code.specs.Fine.{IsWide}
-use Rattle.code_bench.proofs.mix.wides_of.Given as goal
-
-abbrev pub invariant-loop-block : goal.invariant-loop-block
-invariant-loop-block l = record {
-  count : length l.all ≡ l.block;
-  fine : All (IsWide (20 * l.blocks) 4096) l.all;
-}

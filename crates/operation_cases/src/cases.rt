@@ -1,5 +1,0 @@
-//! The cases, a module for each subject.
-
-mod examples;
-mod rows;
-mod values;

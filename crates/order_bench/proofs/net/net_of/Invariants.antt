@@ -1,9 +1,0 @@
-use Rattle.std.proofs.Common.{◌≡◌, length}
-use Rattle.hand_nets.proofs.Reading.{AllBelow}
-use Rattle.order_bench.proofs.net.net_of.Given as goal
-
-abbrev pub invariant-loop-index : goal.invariant-loop-index
-invariant-loop-index l = record {
-  count : length l.leaves ≡ l.index;
-  below : AllBelow l.count l.drivers;
-}
