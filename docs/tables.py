@@ -1,0 +1,303 @@
+"""Makes the tables of docs/ and README.md that follow from the sources, each between two marker lines, so that they are written once.
+
+usage: tables.py [--check]  (from anywhere)
+
+- the families of crates (docs/families.txt), with what the first lines of each crate's root file say of it: docs/ARCHITECTURE.md, README.md
+- how many crates there are, and the longest chain of crates below the program (crates.txt): docs/ARCHITECTURE.md
+- the definitions that the clauses of the top call lead to, file by file, with their lines: docs/AUDIT.md
+
+With --check nothing is written: the last line is `N passed, M failed`, and each table that isn't current is named. Besides, each crate of
+crates.txt is in one family, and each path crates/... and docs/... that a document names is there.
+"""
+import re
+import sys
+from pathlib import Path
+
+TOP = Path(__file__).resolve().parent.parent
+ROOT_CALL = "run_program"  # the call whose clauses a reader must believe
+PROGRAM = "firsim"
+PAGES = ["README.md", *sorted(str(page.relative_to(TOP)) for page in (TOP / "docs").glob("*.md"))]
+
+
+# The workspace.
+
+
+def crates():
+    """The crates of crates.txt in order, each with what it stands on."""
+    rows = [row.partition("#")[0].partition(":") for row in (TOP / "crates.txt").read_text().splitlines()]
+    listed = {name.split()[0]: used.split() for name, _, used in rows if name.strip()}
+    return {name: [each for each in used if each in listed] for name, used in listed.items()}
+
+
+def root_of(crate):
+    return next(path for name in ("lib.rt", "main.rt") if (path := TOP / "crates" / crate / "src" / name).is_file())
+
+
+def first_lines(crate):
+    """The paragraphs in front of a crate's root file, without the sentence that all crates of laws have."""
+    said = []
+    for line in root_of(crate).read_text().splitlines():
+        if not line.startswith("//!"):
+            break
+        said.append(line[3:].strip())
+    text = " ".join(line for line in said if line)
+    return re.sub(r"( Keeps the contracts? of (a law|laws);| Keeps this as its contract\.)? ?[Tt]he functions?( here)? do(es)? nothing(: (their|its) contracts? (are|is) the (laws?|facts))?\.", "", text)
+
+
+def longest_chain(uses):
+    """The longest chain of crates from one that stands on none to the program."""
+    chains = {}
+    for name in topological(uses):
+        below = max((chains[each] for each in uses[name]), key=len, default=[])
+        chains[name] = [*below, name]
+    return chains[PROGRAM]
+
+
+def paths_below(uses):
+    counts = {}
+    for name in topological(uses):
+        counts[name] = 1 + sum(counts[each] for each in uses[name])
+    return counts[PROGRAM]
+
+
+def topological(uses):
+    order, seen = [], set()
+
+    def visit(name):
+        if name not in seen:
+            seen.add(name)
+            for each in uses[name]:
+                visit(each)
+            order.append(name)
+
+    for name in uses:
+        visit(name)
+    return order
+
+
+def families():
+    """The families in order: name, and the lines `key: text` behind it."""
+    found = []
+    for line in (TOP / "docs/families.txt").read_text().splitlines():
+        key, _, text = line.partition(": ")
+        if line.startswith("#") or not line.strip():
+            continue
+        if key == "family":
+            found.append({"family": text})
+        else:
+            found[-1][key] = (found[-1].get(key, "") + " " + text).strip()
+    return found
+
+
+# The tables.
+
+
+def link_of(title):
+    return "docs/ARCHITECTURE.md#" + re.sub(r"[^a-z0-9 -]", "", title.lower()).replace(" ", "-")
+
+
+def table_of_families():
+    lines = []
+    for number, family in enumerate(families(), 1):
+        keeps, _, where = family["keeps"].partition(" | ")
+        lines += [f"### {number}. {family['family']}", "", "| | |", "|---|---|", f"| comes in | {family['in']} |", f"| goes out | {family['out']} |"]
+        lines += [f"| keeps | {keeps}" + (f" ([{where.rsplit('/', 1)[1]}](../{where}))" if where else "") + " |", "", "| crate | what it is |", "|---|---|"]
+        lines += [f"| {name} | {first_lines(name)} |" for name in family["crates"].split()] + [""]
+    return lines[:-1]
+
+
+def table_of_groups():
+    lines = ["| crates | comes in | goes out |", "|---|---|---|"]
+    for number, family in enumerate(families(), 1):
+        lines.append(f"| [{family['family']}]({link_of(f'{number}. ' + family['family'])}) | {family['in']} | {family['out']} |")
+    return lines
+
+
+def table_of_chain():
+    uses = crates()
+    chain = longest_chain(uses)
+    return [
+        f"{len(uses)} crates stand today. The longest chain to the program has {len(chain)} crates by the lists of `crates.txt`, which name laws too:",
+        ", ".join(chain) + f". {paths_below(uses):,} paths lead down from {PROGRAM} through these lists.",
+    ]
+
+
+# What the top call's clauses lead to.
+
+NAME = r"[A-Za-z_][A-Za-z0-9_'-]*"
+IMPORT = re.compile(r"^(?:ghost )?(?:pub )?use Rattle\.(\w+)\.specs\.([\w.]+?)(?:\.\{(.*)\}| as (\S+));?$")
+HEAD = re.compile(rf"^(?:pub |abbrev |pub\()*(?:abbrev pub|abbrev|pub record|record|pub data|data|module _) ?({NAME})?")
+
+
+def imports_of(lines):
+    """Local names with the crate, the module and the name there; an empty name for a module."""
+    found = {}
+    for line in lines:
+        match = IMPORT.match(line)
+        if match:
+            crate, module, names, alias = match.groups()
+            for each in (names or "").split(","):
+                name, _, other = each.strip().partition(" as ")
+                if name:
+                    found[other or name] = (crate, module, name)
+            if alias:
+                found[alias] = (crate, module, "")
+    return found
+
+
+def items_of(lines):
+    """The definitions of a file: name, names that it brings, lines with the comment above them."""
+    items, comment = [], 0
+    for number, line in enumerate(lines):
+        head = HEAD.match(line)
+        if head and not line.startswith("use"):
+            items.append({"name": head[1] or "", "brings": {head[1] or ""}, "lines": [line], "comment": comment})
+            comment = 0
+        elif line.startswith("--") and (not items or not line[2:].strip() or starts_item(lines, number)):
+            comment += 1
+        elif line.startswith(("use", "pub use", "pub mod")) or not line.strip():
+            comment = 0 if not line.startswith("--") and line.strip() else comment
+        elif items:
+            items[-1]["lines"].append(line)
+            constructor = re.match(rf"^ +(?:pub )?({NAME}) :", line)
+            if constructor:
+                items[-1]["brings"].add(constructor[1])
+    return items
+
+
+def starts_item(lines, number):
+    """Whether a comment at the margin stands before a definition."""
+    rest = (line for line in lines[number:] if not line.startswith("--"))
+    return bool(HEAD.match(next(rest, "")))
+
+
+class Spec:
+    def __init__(self, path):
+        lines = path.read_text().splitlines()
+        self.total = sum(1 for line in lines if line.strip())
+        self.imports = imports_of(lines)
+        self.items = items_of(lines)
+        self.by_name = {name: item for item in self.items for name in item["brings"] if name}
+
+
+def names_in(lines):
+    return set(re.findall(NAME, " ".join(re.sub(r"--.*|\"[^\"]*\"", "", line) for line in lines)))
+
+
+def believed():
+    """What the clauses of the top call lead to: the definitions of each specs file, the types of the code, and the words of the toolchain."""
+    specs, reached, types, words, todo = {}, {}, set(), set(), []
+
+    def ask(crate, module, name):
+        if crate == "std":
+            words.add(f"{module}.{name}")
+        elif "declared" in module:
+            types.add((crate, module.split(".")[-2] if module.endswith(("TheVariants", "TheOpen", "TheViews")) else module.split(".")[-1]))
+        elif name:
+            todo.append((crate, module, name))
+
+    call = next(path for path in sorted(TOP.glob("crates/*/src/*.rt")) if f"pub fn {ROOT_CALL}" in path.read_text())
+    lines = call.read_text().splitlines()
+    first = next(number for number, line in enumerate(lines) if line.startswith(f"pub fn {ROOT_CALL}"))
+    last = next(number for number in range(first, len(lines)) if lines[number] == "{")
+    known = imports_of(lines)
+    for name in names_in(lines[first:last]) & known.keys():
+        ask(*known[name])
+    while todo:
+        crate, module, name = todo.pop()
+        path = TOP / "crates" / crate / "specs" / (module.replace(".", "/") + ".antt")
+        if not path.is_file():
+            continue  # a list, a box or a shared value, in the form that the toolchain fixes
+        spec = specs.setdefault(path, Spec(path))
+        item = spec.by_name.get(name)
+        if item is None:
+            if name in spec.imports:
+                ask(*spec.imports[name])
+            continue
+        if id(item) in reached.setdefault(path, {}):
+            continue
+        reached[path][id(item)] = item
+        for each in names_in(item["lines"]):
+            if each in spec.by_name and spec.by_name[each] is not item:
+                todo.append((crate, module, each))
+            elif each in spec.imports:
+                ask(*spec.imports[each])
+    return specs, reached, types, words
+
+
+def table_of_beliefs():
+    specs, reached, types, words = believed()
+    place = {name: number for number, name in enumerate(name for family in families() for name in family["crates"].split())}
+    rows, total, count = [], 0, 0
+    for path in sorted(reached, key=lambda path: (-place[path.parts[-3]], path.name)):
+        items = reached[path].values()
+        lines = sum(len([line for line in item["lines"] if line.strip()]) + item["comment"] for item in items)
+        total, count = total + lines, count + len(items)
+        link = f"../{path.relative_to(TOP)}"
+        rows.append(f"| {path.parts[-3]} | [{path.stem}]({link}) | {len(items)} | {lines} | {specs[path].total} |")
+    head = [
+        f"{count} definitions in {len(rows)} files, {total:,} lines with their comments. They speak of {len(types)} types of the code as plain data,",
+        f"and of {len(words)} words of the toolchain's own library.",
+        "",
+        "| crate | file | definitions | their lines | lines of the file |",
+        "|---|---|---|---|---|",
+    ]
+    return head + rows
+
+
+# The pages.
+
+TABLES = [
+    ("docs/ARCHITECTURE.md", "families", table_of_families),
+    ("docs/ARCHITECTURE.md", "chain", table_of_chain),
+    ("docs/AUDIT.md", "definitions", table_of_beliefs),
+    ("README.md", "groups", table_of_groups),
+]
+
+
+def placed(page, name, lines):
+    """The page with these lines between the markers of a table."""
+    begin, end = f"<!-- {name}: made by docs/tables.py -->", f"<!-- end of {name} -->"
+    before, found, rest = page.partition(begin + "\n")
+    inside, ended, after = rest.partition(end)
+    if not found or not ended:
+        raise SystemExit(f"tables: no markers for {name}")
+    return before + begin + "\n" + "\n".join(lines) + "\n" + end + after
+
+
+def faults_of_lists():
+    """Crates that are in no family or in two, or that aren't there; and paths that documents name and that aren't there."""
+    listed, placed_in = crates(), [name for family in families() for name in family["crates"].split()]
+    yield "each crate of crates.txt is in one family", [f"{name} is in {placed_in.count(name)} families" for name in {*listed, *placed_in} if placed_in.count(name) != 1 or name not in listed]
+    for page in PAGES:
+        text = re.sub(r"<!-- (\w+): made by.*?<!-- end of \1 -->", "", (TOP / page).read_text(), flags=re.S)
+        named = set(re.findall(r"\b(?:crates|docs|tests|edits|bench|examples)/[\w./-]*\w", text)) - {"docs/tables"}
+        yield f"the paths that {page} names are there", sorted(path for path in named if not (TOP / path).exists() and "NAME" not in path and "/out" not in path)
+
+
+def main():
+    check, failed, passed = sys.argv[1:] == ["--check"], 0, 0
+    for page, name, make in TABLES:
+        path = TOP / page
+        old = path.read_text()
+        new = placed(old, name, make())
+        if check and new != old:
+            failed += 1
+            print(f"tables: the table {name} of {page} isn't current: run docs/tables.py")
+        elif not check and new != old:
+            path.write_text(new)
+            print(f"tables: wrote {name} of {page}")
+        else:
+            passed += 1
+    if not check:
+        return 0
+    for meaning, faults in faults_of_lists():
+        passed, failed = passed + (not faults), failed + bool(faults)
+        for fault in faults:
+            print(f"tables: {meaning}: {fault}")
+    print(f"{passed} passed, {failed} failed")
+    return 1 if failed else 0
+
+
+if __name__ == "__main__":
+    sys.exit(main())
