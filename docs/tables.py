@@ -92,10 +92,6 @@ def families():
 # The tables.
 
 
-def link_of(title):
-    return "docs/ARCHITECTURE.md#" + re.sub(r"[^a-z0-9 -]", "", title.lower()).replace(" ", "-")
-
-
 def table_of_families():
     lines = []
     for number, family in enumerate(families(), 1):
@@ -109,7 +105,7 @@ def table_of_families():
 def table_of_groups():
     lines = ["| crates | comes in | goes out |", "|---|---|---|"]
     for number, family in enumerate(families(), 1):
-        lines.append(f"| [{family['family']}]({link_of(f'{number}. ' + family['family'])}) | {family['in']} | {family['out']} |")
+        lines.append(f"| {number}. {family['family']} | {family['in']} | {family['out']} |")
     return lines
 
 
