@@ -15,6 +15,7 @@ from pathlib import Path
 
 TOP = Path(__file__).resolve().parent.parent
 ROOT_CALL = "run_program"  # the call whose clauses a reader must believe
+CUT = "IsCutText"  # what is asked of `cut` alone
 PROGRAM = "firsim"
 PAGES = ["README.md", *sorted(str(page.relative_to(TOP)) for page in (TOP / "docs").glob("*.md"))]
 
@@ -122,7 +123,7 @@ def table_of_chain():
 
 NAME = r"[A-Za-z_][A-Za-z0-9_'-]*"
 IMPORT = re.compile(r"^(?:ghost )?(?:pub )?use Rattle\.(\w+)\.specs\.([\w.]+?)(?:\.\{(.*)\}| as (\S+));?$")
-HEAD = re.compile(rf"^(?:pub |abbrev |pub\()*(?:abbrev pub|abbrev|pub record|record|pub data|data|module _) ?({NAME})?")
+HEAD = re.compile(rf"^(?:abbrev pub|unfoldable pub|pub record|pub data|  abbrev pub|  unfoldable pub|  pub record|  pub data) ({NAME})")
 
 
 def imports_of(lines):
@@ -142,29 +143,25 @@ def imports_of(lines):
 
 
 def items_of(lines):
-    """The definitions of a file: name, names that it brings, lines with the comment above them."""
+    """The definitions of a file: the names that each brings, its lines, and how many lines of comments it has."""
     items, comment = [], 0
-    for number, line in enumerate(lines):
+    for line in lines:
         head = HEAD.match(line)
-        if head and not line.startswith("use"):
-            items.append({"name": head[1] or "", "brings": {head[1] or ""}, "lines": [line], "comment": comment})
+        if head:
+            items.append({"brings": {head[1]}, "lines": [line], "comment": comment})
             comment = 0
-        elif line.startswith("--") and (not items or not line[2:].strip() or starts_item(lines, number)):
+        elif line.strip().startswith("--"):
             comment += 1
-        elif line.startswith(("use", "pub use", "pub mod")) or not line.strip():
-            comment = 0 if not line.startswith("--") and line.strip() else comment
+        elif not line.strip() or re.match(r"(pub )?use |pub mod |module _", line):
+            comment = 0
         elif items:
             items[-1]["lines"].append(line)
+            items[-1]["comment"] += comment
+            comment = 0
             constructor = re.match(rf"^ +(?:pub )?({NAME}) :", line)
             if constructor:
                 items[-1]["brings"].add(constructor[1])
     return items
-
-
-def starts_item(lines, number):
-    """Whether a comment at the margin stands before a definition."""
-    rest = (line for line in lines[number:] if not line.startswith("--"))
-    return bool(HEAD.match(next(rest, "")))
 
 
 class Spec:
@@ -173,23 +170,24 @@ class Spec:
         self.total = sum(1 for line in lines if line.strip())
         self.imports = imports_of(lines)
         self.items = items_of(lines)
-        self.by_name = {name: item for item in self.items for name in item["brings"] if name}
+        self.by_name = {name: item for item in self.items for name in item["brings"]}
 
 
 def names_in(lines):
     return set(re.findall(NAME, " ".join(re.sub(r"--.*|\"[^\"]*\"", "", line) for line in lines)))
 
 
-def believed():
-    """What the clauses of the top call lead to: the definitions of each specs file, the types of the code, and the words of the toolchain."""
-    specs, reached, types, words, todo = {}, {}, set(), set(), []
+def believed(without=""):
+    """What the clauses of the top call lead to: the definitions of each specs file, the types of the code, and the words of the toolchain. A name
+    may be left out, with all that it alone leads to."""
+    specs, reached, types, words, todo, own = {}, {}, set(), set(), [], crates()
 
     def ask(crate, module, name):
-        if crate == "std":
-            words.add(f"{module}.{name}")
+        if crate not in own:
+            words.add(f"{crate}.{module}.{name}")
         elif "declared" in module:
             types.add((crate, module.split(".")[-2] if module.endswith(("TheVariants", "TheOpen", "TheViews")) else module.split(".")[-1]))
-        elif name:
+        elif name and name != without:
             todo.append((crate, module, name))
 
     call = next(path for path in sorted(TOP.glob("crates/*/src/*.rt")) if f"pub fn {ROOT_CALL}" in path.read_text())
@@ -223,22 +221,28 @@ def believed():
 
 def table_of_beliefs():
     specs, reached, types, words = believed()
+    others = believed(CUT)[1]
     place = {name: number for number, name in enumerate(name for family in families() for name in family["crates"].split())}
-    rows, total, count = [], 0, 0
+    rows, total, count, for_cut = [], 0, 0, 0
     for path in sorted(reached, key=lambda path: (-place[path.parts[-3]], path.name)):
         items = reached[path].values()
-        lines = sum(len([line for line in item["lines"] if line.strip()]) + item["comment"] for item in items)
+        lines = lines_of(items)
         total, count = total + lines, count + len(items)
-        link = f"../{path.relative_to(TOP)}"
-        rows.append(f"| {path.parts[-3]} | [{path.stem}]({link}) | {len(items)} | {lines} | {specs[path].total} |")
+        for_cut += lines - lines_of(others.get(path, {}).values())
+        who = "" if path in others else "cut"
+        rows.append(f"| {path.parts[-3]} | [{path.stem}](../{path.relative_to(TOP)}) | {len(items)} | {lines} | {specs[path].total} | {who} |")
     head = [
-        f"{count} definitions in {len(rows)} files, {total:,} lines with their comments. They speak of {len(types)} types of the code as plain data,",
-        f"and of {len(words)} words of the toolchain's own library.",
+        f"{count:,} definitions in {len(rows)} files, {total:,} lines with their comments, {for_cut} of them for `cut` alone. They speak of {len(types)} types of the",
+        f"code as plain data, and of {len(words)} words of the toolchain's own libraries.",
         "",
-        "| crate | file | definitions | their lines | lines of the file |",
-        "|---|---|---|---|---|",
+        "| crate | file | definitions | their lines | lines of the file | asked by |",
+        "|---|---|---|---|---|---|",
     ]
     return head + rows
+
+
+def lines_of(items):
+    return sum(len([line for line in item["lines"] if line.strip()]) + item["comment"] for item in items)
 
 
 # The pages.
