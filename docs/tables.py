@@ -271,7 +271,7 @@ def faults_of_lists():
     yield "each crate of crates.txt is in one family", [f"{name} is in {placed_in.count(name)} families" for name in {*listed, *placed_in} if placed_in.count(name) != 1 or name not in listed]
     for page in PAGES:
         text = re.sub(r"<!-- (\w+): made by.*?<!-- end of \1 -->", "", (TOP / page).read_text(), flags=re.S)
-        named = set(re.findall(r"\b(?:crates|docs|tests|edits|bench|examples)/[\w./-]*\w", text)) - {"docs/tables"}
+        named = set(re.findall(r"\b(?:crates|docs|tests|edits|bench|examples|scripts|prebuilt)/[\w./-]*\w", text)) - {"docs/tables"}
         yield f"the paths that {page} names are there", sorted(path for path in named if not (TOP / path).exists() and "NAME" not in path and "/out" not in path)
 
 
