@@ -9,6 +9,7 @@ usage: tables.py [--check]  (from anywhere)
 With --check nothing is written: the last line is `N passed, M failed`, and each table that isn't current is named. Besides, each crate of
 crates.txt is in one family, and each path crates/... and docs/... that a document names is there.
 """
+import functools
 import re
 import sys
 from pathlib import Path
@@ -31,7 +32,10 @@ def crates():
 
 
 def root_of(crate):
-    return next(path for name in ("lib.rt", "main.rt") if (path := TOP / "crates" / crate / "src" / name).is_file())
+    found = [path for name in ("lib.rt", "main.rt") if (path := TOP / "crates" / crate / "src" / name).is_file()]
+    if not found:
+        raise SystemExit(f"tables: docs/families.txt names {crate}, which is no crate")
+    return found[0]
 
 
 def first_lines(crate):
@@ -173,6 +177,11 @@ class Spec:
         self.by_name = {name: item for item in self.items for name in item["brings"]}
 
 
+@functools.cache
+def spec_of(path):
+    return Spec(path)
+
+
 def names_in(lines):
     return set(re.findall(NAME, " ".join(re.sub(r"--.*|\"[^\"]*\"", "", line) for line in lines)))
 
@@ -202,7 +211,7 @@ def believed(without=""):
         path = TOP / "crates" / crate / "specs" / (module.replace(".", "/") + ".antt")
         if not path.is_file():
             continue  # a list, a box or a shared value, in the form that the toolchain fixes
-        spec = specs.setdefault(path, Spec(path))
+        spec = specs[path] = spec_of(path)
         item = spec.by_name.get(name)
         if item is None:
             if name in spec.imports:
