@@ -7,7 +7,7 @@ usage: tables.py [--check]  (from anywhere)
 - the definitions that the clauses of the top call lead to, file by file, with their lines: docs/AUDIT.md
 
 With --check nothing is written: the last line is `N passed, M failed`, and each table that isn't current is named. Besides, each crate of
-crates.txt is in one family, and each path crates/... and docs/... that a document names is there.
+crates.txt is in one family; and the paths, the crates and the files of definitions that a document names are there.
 """
 import functools
 import re
@@ -85,7 +85,7 @@ def families():
     found = []
     for line in (TOP / "docs/families.txt").read_text().splitlines():
         key, _, text = line.partition(": ")
-        if line.startswith("#") or not line.strip():
+        if line.startswith("#") or not line.strip() or key == "planned":
             continue
         if key == "family":
             found.append({"family": text})
@@ -274,14 +274,32 @@ def placed(page, name, lines):
     return before + begin + "\n" + "\n".join(lines) + "\n" + end + after
 
 
-def faults_of_lists():
-    """Crates that are in no family or in two, or that aren't there; and paths that documents name and that aren't there."""
+def faults_of_pages():
+    """What doesn't hold of the families and of the pages: a meaning, and what is missing."""
     listed, placed_in = crates(), [name for family in families() for name in family["crates"].split()]
-    yield "each crate of crates.txt is in one family", [f"{name} is in {placed_in.count(name)} families" for name in {*listed, *placed_in} if placed_in.count(name) != 1 or name not in listed]
+    wrong = sorted(name for name in {*listed, *placed_in} if placed_in.count(name) != 1 or name not in listed)
+    yield "each crate of crates.txt is in one family", wrong
+    yield "each family keeps a definition that is there", [family["family"] for family in families() if not keeps(family["keeps"])]
+    planned = re.search("^planned: (.*)$", (TOP / "docs/families.txt").read_text(), re.M)[1].split()
     for page in PAGES:
         text = re.sub(r"<!-- (\w+): made by.*?<!-- end of \1 -->", "", (TOP / page).read_text(), flags=re.S)
-        named = set(re.findall(r"\b(?:crates|docs|tests|edits|bench|examples|scripts|prebuilt)/[\w./-]*\w", text)) - {"docs/tables"}
-        yield f"the paths that {page} names are there", sorted(path for path in named if not (TOP / path).exists() and "NAME" not in path and "/out" not in path)
+        paths = set(re.findall(r"\b(?:crates|docs|tests|edits|bench|examples|scripts|prebuilt)/[\w./-]*\w", text))
+        yield f"the paths that {page} names are there", sorted(path for path in paths if not (TOP / path).exists() and not re.search("NAME|/out", path))
+        plain = re.sub(r"```.*?```|`[^`]*`|^    .*?$", "", text, flags=re.S | re.M)
+        yield f"the crates that {page} names are there", sorted(set(re.findall(r"\b[a-z]+(?:_[a-z]+)+\b", plain)) - listed.keys() - set(planned))
+        files = re.findall(r"[(;] ?([a-z_]+), ((?:[A-Z]\w+(?:, | and )?)+)", text)
+        named = [f"{crate}, {name}" for crate, names in files if crate in listed for name in re.findall(r"[A-Z]\w+", names) if not has(crate, name)]
+        yield f"the files of definitions that {page} names are there", named
+
+
+def has(crate, name):
+    return any((TOP / "crates" / crate / folder / f"{name}.antt").is_file() for folder in ("specs", "proofs"))
+
+
+def keeps(text):
+    """Whether the definition that a family keeps is there, or it says that there is none."""
+    meaning, _, path = text.partition(" | ")
+    return not path or (TOP / path).is_file() and re.match(r"`(\w+)`", meaning)[1] in Spec(TOP / path).by_name
 
 
 def main():
@@ -300,7 +318,7 @@ def main():
             passed += 1
     if not check:
         return 0
-    for meaning, faults in faults_of_lists():
+    for meaning, faults in faults_of_pages():
         passed, failed = passed + (not faults), failed + bool(faults)
         for fault in faults:
             print(f"tables: {meaning}: {fault}")
