@@ -7,7 +7,8 @@ usage: tables.py [--check]  (from anywhere)
 - the definitions that the clauses of the top call lead to, file by file, with their lines: docs/AUDIT.md
 
 With --check nothing is written: the last line is `N passed, M failed`, and each table that isn't current is named. Besides, each crate of
-crates.txt is in one family; and the paths, the crates and the files of definitions that a document names are there.
+crates.txt is in one family; the paths, the crates and the files of definitions that a document names are there; and README.md is short, and
+shows its example as it is.
 """
 import functools
 import re
@@ -46,7 +47,8 @@ def first_lines(crate):
             break
         said.append(line[3:].strip())
     text = " ".join(line for line in said if line)
-    return re.sub(r"( Keeps the contracts? of (a law|laws);| Keeps this as its contract\.)? ?[Tt]he functions?( here)? do(es)? nothing(: (their|its) contracts? (are|is) the (laws?|facts))?\.", "", text)
+    keeps_laws = r"( Keeps the contracts? of (a law|laws);| Keeps this as its contract\.)?"
+    return re.sub(keeps_laws + r" ?[Tt]he functions?( here)? do(es)? nothing(: (their|its) contracts? (are|is) the (laws?|facts))?\.", "", text)
 
 
 def longest_chain(uses):
@@ -241,7 +243,8 @@ def table_of_beliefs():
         who = "" if path in others else "cut"
         rows.append(f"| {path.parts[-3]} | [{path.stem}](../{path.relative_to(TOP)}) | {len(items)} | {lines} | {specs[path].total} | {who} |")
     head = [
-        f"{count:,} definitions in {len(rows)} files, {total:,} lines with their comments, {for_cut} of them for `cut` alone. They speak of {len(types)} types of the",
+        f"{count:,} definitions in {len(rows)} files, {total:,} lines with their comments, {for_cut} of them for `cut` alone. They speak of"
+        f" {len(types)} types of the",
         f"code as plain data, and of {len(words)} words of the toolchain's own libraries.",
         "",
         "| crate | file | definitions | their lines | lines of the file | asked by |",
@@ -290,6 +293,24 @@ def faults_of_pages():
         files = re.findall(r"[(;] ?([a-z_]+), ((?:[A-Z]\w+(?:, | and )?)+)", text)
         named = [f"{crate}, {name}" for crate, names in files if crate in listed for name in re.findall(r"[A-Z]\w+", names) if not has(crate, name)]
         yield f"the files of definitions that {page} names are there", named
+
+
+    yield "README.md is short", faults_of_readme()
+
+
+def faults_of_readme():
+    text = (TOP / "README.md").read_text()
+    lines = text.splitlines()
+    outside = re.sub(r"```.*?```|^(?:\||    |\d\. |#|<!--).*?$", "\n", text, flags=re.S | re.M)
+    faults = [f"{len(lines)} lines, more than 150"] if len(lines) > 150 else []
+    faults += [f"line {number} has {len(line)} columns, more than 120" for number, line in enumerate(lines, 1) if len(line) > 120]
+    faults += [f"a paragraph over 8 lines: {each[:40]}" for each in re.split(r"\n\n+", outside) if each.strip().count("\n") >= 8]
+    shown = ("examples/gcd.stim", "examples/gcd.expect")
+    return faults + [f"it doesn't show {name}" for name in shown if indented((TOP / name).read_text()) not in text]
+
+
+def indented(text):
+    return "".join(f"    {line}\n" for line in text.splitlines())
 
 
 def has(crate, name):
