@@ -11,6 +11,7 @@ crates.txt is in one family; the paths, the crates and the files of definitions 
 shows its example as it is.
 """
 import functools
+import itertools
 import re
 import sys
 from pathlib import Path
@@ -174,6 +175,8 @@ class Spec:
     def __init__(self, path):
         lines = path.read_text().splitlines()
         self.total = sum(1 for line in lines if line.strip())
+        front = " ".join(line[2:].strip() for line in itertools.takewhile(lambda line: line.startswith("--"), lines))
+        self.says = re.sub(r"(?<=[^.])\. .*", ".", front).replace("|", "")
         self.imports = imports_of(lines)
         self.items = items_of(lines)
         self.by_name = {name: item for item in self.items for name in item["brings"]}
@@ -241,14 +244,15 @@ def table_of_beliefs():
         total, count = total + lines, count + len(items)
         for_cut += lines - lines_of(others.get(path, {}).values())
         who = "" if path in others else "cut"
-        rows.append(f"| {path.parts[-3]} | [{path.stem}](../{path.relative_to(TOP)}) | {len(items)} | {lines} | {specs[path].total} | {who} |")
+        link = f"[{path.stem}](../{path.relative_to(TOP)})"
+        rows.append(f"| {path.parts[-3]} | {link} | {specs[path].says} | {len(items)} | {lines} | {specs[path].total} | {who} |")
     head = [
         f"{count:,} definitions in {len(rows)} files, {total:,} lines with their comments, {for_cut} of them for `cut` alone. They speak of"
         f" {len(types)} types of the",
         f"code as plain data, and of {len(words)} words of the toolchain's own libraries.",
         "",
-        "| crate | file | definitions | their lines | lines of the file | asked by |",
-        "|---|---|---|---|---|---|",
+        "| crate | file | what it says | definitions | their lines | lines of the file | asked by |",
+        "|---|---|---|---|---|---|---|",
     ]
     return head + rows
 
