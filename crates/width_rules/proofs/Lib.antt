@@ -18,3 +18,4 @@ pub mod Walking
 pub mod Cuts
 pub mod Ends
 mod Examples
+pub mod Nodes
