@@ -18,4 +18,3 @@ pub mod Walking
 pub mod Cuts
 pub mod Ends
 mod Examples
-pub mod Nodes
