@@ -11,7 +11,10 @@ import re
 import subprocess
 import sys
 import tempfile
+import xml.etree.ElementTree as Tree
 from pathlib import Path
+
+import minute
 
 # The witness runs each circuit for so many cycles, but not those with so many leaves that it would take too long; and of the cases those
 # whose circuit has a shorter text than this.
@@ -130,19 +133,36 @@ def told_faults(page):
     """The cases of docs/FAULTS.md: a block of text under a heading with a kind, and the line that is written."""
     front = "FIRRTL version 3.0.0\ncircuit M :\n  module M :\n"
     module = "".join(f"    {line}\n" for line in re.search(r"with these lines:\n\n```\n(.*?)```", page, re.S)[1].splitlines())
-    for kind, whole, text, line in re.findall(r"^### (\w+)\n\n(The whole text:\n\n)?```\n(.*?)```\n\n`(.*?)`", page, re.M | re.S):
-        words, status = ["check"], 2
+    for kind, told in re.findall(r"^### (\w+)\n(.*?)(?=^##|\Z)", page, re.M | re.S):
+        shown = re.search(r"^```\n(.*?)```\n\n`(.*?)`", told, re.M | re.S)
+        if not shown:
+            continue
+        (text, line), words, status = shown.groups(), ["check"], 2
         if line.startswith("stimulus"):
             words, status, text = ["run"], 3, front + module + "%stimulus\n" + text
-        elif not whole:
+        elif "The whole text:" not in told:
             text = front + "".join(f"    {each}\n" for each in text.splitlines())
         yield f"docs/FAULTS.md: {kind}", {"words": words, "stdin": text, "status": status, "stdout": line + "\n"}
+
+
+def regressed(program, folder, workers):
+    """The cases of a folder by ./regress, with so many workers: a name and why it failed, or none, for each, read back from its report."""
+    with tempfile.TemporaryDirectory() as room:
+        file = Path(room) / "report.xml"
+        words = [folder, "--program", program, "--workers", workers, "--junit", file]
+        done = subprocess.run([minute.TOP / "regress", *words], capture_output=True, text=True)
+        cases = [*Tree.parse(file).iter("testcase")] if file.exists() else []
+    for case in cases:
+        yield f"the trace of {case.get('name')} by {workers} workers", next((each.get("message") for each in case), None)
+    failed = sum(len(case) > 0 for case in cases)
+    told = f"{len(cases) - failed} passed, {failed} failed"
+    well = len(cases) == len([*folder.glob("*.stim")]) and done.stdout.splitlines()[-1:] == [told] and done.returncode == (failed > 0)
+    yield f"regress tells of each circuit of {folder.name}, by {workers} workers", None if well else f"{done.stdout[-300:]!r} {done.stderr[-300:]!r}"
 
 
 def main():
     program, witness, folder = str(Path(sys.argv[1]).resolve()), str(Path(sys.argv[2]).resolve()), Path(sys.argv[3])
     cases = [json.loads(line) for line in (folder / "cases.jsonl").read_text().splitlines()]
-    run(program, ["check"], b"")  # builds the program where that has still to be done
     faults = [(case["name"], fault_of(program, case)) for case in cases]
     for case in cases:
         if case["words"] in (["run"], ["run", "-"]) and case["status"] == 0 and len(case["stdin"].split("%stimulus")[0]) < LONG:
@@ -155,12 +175,10 @@ def main():
     for path in sorted([*examples.glob("*.fir"), *examples.glob("*.txt")]):
         case = {"words": ["check"], "stdin": path.read_text("latin-1"), "status": 0, "stdout": "ok\n"}
         faults.append((f"check accepts {path.name}", fault_of(program, case)))
+    for workers in ("1", "2", "7"):
+        faults += regressed(program, folder / "corpus", workers)
+    faults += regressed(program, folder / "../examples", "1")
     for path in sorted([*(folder / "corpus").glob("*.fir")]):
-        text = path.read_text("latin-1") + "%stimulus\n" + path.with_suffix(".stim").read_text("latin-1")
-        trace = path.with_suffix(".expect").read_text("latin-1")
-        for workers in ("1", "2", "7"):
-            case = {"words": ["run", "--workers", workers], "stdin": text, "status": 0, "stdout": trace}
-            faults.append((f"the trace of {path.stem} by {workers} workers", fault_of(program, case)))
         if path.with_suffix(".widths").exists():
             listing = path.with_suffix(".widths").read_text("latin-1")
             case = {"words": ["widths"], "stdin": path.read_text("latin-1"), "status": 0, "stdout": listing}
@@ -168,10 +186,6 @@ def main():
         if path.stem not in SLOW:
             faults.append((f"{CYCLES} cycles of {path.stem} as it is written", other_witness(witness, path, CYCLES)))
     faults.append(("1,000 runs by 8 workers give one trace", other_trace(program, folder / "corpus/fifo_mem.fir", 1_000)))
-    for path in sorted(examples.glob("*.fir")):
-        circuit, stimulus, trace = (path.with_suffix(suffix).read_text("latin-1") for suffix in (".fir", ".stim", ".expect"))
-        case = {"words": ["run", "c.fir", "c.stim"], "held": {"c.fir": circuit, "c.stim": stimulus}, "stdin": "", "status": 0, "stdout": trace}
-        faults.append((f"the trace of the example {path.stem}", fault_of(program, case)))
     for name, case in [*limits(), *chains()]:
         faults.append((name, fault_of(program, case)))
     for name, case in told_faults((folder / "../docs/FAULTS.md").read_text()):
@@ -192,6 +206,7 @@ def main():
         faults.append((name, fault_of(program, case)))
     too_long = {"words": ["check"], "stdin": " " * 5_242_881, "status": 2, "stdout": "circuit TooLong 1:1\n"}
     faults.append(("a text over 5,242,880 bytes is too long", fault_of(program, too_long)))
+    faults += minute.faults(program)
     failed = [(name, fault) for name, fault in faults if fault]
     for name, fault in failed:
         print(f"FAILED {name}: {fault}")
