@@ -1,7 +1,7 @@
 //! Circuits, their stimuli and the traces that these mean.
 
 /// A circuit, a stimulus, and the trace.
-#[derive(Clone, Copy, Debug)]
+#[derive(Clone, Copy)]
 pub struct Case {
     pub circuit: &'static str,
     pub stimulus: &'static str,

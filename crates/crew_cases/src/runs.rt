@@ -10,7 +10,7 @@ use std::sync::atomic::{AtomicU64, Ordering};
 use std::thread::Threads;
 
 /// What a crew wrote, and how often a worker came to the gate.
-#[derive(Debug, Drop)]
+#[derive(Drop)]
 struct Written {
     trace: Vec<u8>,
     entries: u64,
