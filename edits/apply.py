@@ -1,7 +1,9 @@
 """Asks of each edit, here and in crates/NAME/must-fail, whether it still applies to its crate: each `old:` stands exactly once in its file,
 and what each `new:` names of other crates is on the crate's line in crates.txt. Proves nothing.
 
-usage: apply.py (from anywhere); the last line is `N passed, M failed`
+usage: apply.py [--list] (from anywhere); the last line is `N passed, M failed`
+
+With --list it writes edits/README.md first, which has a line for each edit; without, that page must be as it would be written.
 """
 import pathlib
 import re
@@ -40,12 +42,40 @@ def misses(edit, crate, used):
     return None if texts else "it names no file"
 
 
+HEAD = """# Wrong bodies
+
+An edit is a file of lines `file:`, `old:` and `new:`; its name says what its body does wrong, and the prover must refuse it. Those with
+a mark stand in `crates/CRATE/must-fail` and are tried by the gate. The others stand here, in `edits/CRATE`, and are tried by `edits/try CRATE..`
+whenever the crate changes. `edits/apply.py --list` writes this page.
+
+| crate | file | wrong body | gate |
+|---|---|---|---|
+"""
+
+
+def page(tried):
+    """The page with a line for each edit."""
+    lines = []
+    for crate, edit in tried:
+        file = re.search(r"^file: *(.*)$", edit.read_text(), re.M)
+        mark = "x" if edit.parent.name == "must-fail" else ""
+        lines.append(f"| {crate} | {file[1].strip() if file else ''} | {edit.stem.replace('-', ' ')} | {mark} |\n")
+    return HEAD + "".join(lines)
+
+
 def main():
     passed = failed = 0
     used = uses()
     tried = [(edit.parent.name, edit) for edit in (TOP / "edits").glob("*/*.edit")]
     tried += [(edit.parent.parent.name, edit) for edit in (TOP / "crates").glob("*/must-fail/*.edit")]
-    for crate, edit in sorted(tried):
+    tried.sort(key=lambda pair: (pair[0], pair[1].name))
+    told = TOP / "edits/README.md"
+    if sys.argv[1:] == ["--list"]:
+        told.write_text(page(tried))
+    elif not told.is_file() or told.read_text() != page(tried):
+        print("edits/README.md isn't the list of the edits: `edits/apply.py --list` writes it")
+        failed += 1
+    for crate, edit in tried:
         why = misses(edit, crate, used)
         passed, failed = passed + (why is None), failed + (why is not None)
         if why:

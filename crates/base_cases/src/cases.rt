@@ -1,9 +1,8 @@
 //! The cases, a module for each subject.
 
 mod boxes;
-mod fault_orders;
-mod fitting;
-mod number_words;
+mod made;
+mod operations;
 mod phases;
 mod pools;
 mod posts;

@@ -1,4 +1,5 @@
-//! Cases for the crates at the bottom: values that are made by hand, and answers that are known from outside.
+//! Cases for the crates at the bottom: single calls whose answers are known from outside, on values that are made by hand; the shelves and
+//! sinks that fail; lists of steps, and the table in threads.
 #![tactic(auto)]
 
 #[cfg(test)]

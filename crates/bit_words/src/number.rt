@@ -11,7 +11,7 @@ use crate::value::Kind;
 use thiserror::Error;
 
 /// A base that digits are written in.
-#[derive(Clone, Copy, Debug, PartialEq, Eq)]
+#[derive(Clone, Copy)]
 pub enum Base {
     /// Base 2, named by `b`.
     Binary,
@@ -24,7 +24,7 @@ pub enum Base {
 }
 
 /// A number as a text writes it (FIRRTL specification 3.0, "FIRRTL Language Definition").
-#[derive(Clone, Copy, Debug, PartialEq, Eq)]
+#[derive(Clone, Copy)]
 pub struct Number {
     /// Whether a minus stands before it. `-0` is 0.
     pub negative: bool,
@@ -33,7 +33,7 @@ pub struct Number {
 }
 
 /// Why a text has no `Number`.
-#[derive(Clone, Copy, Debug, PartialEq, Eq, Error)]
+#[derive(Clone, Copy, Debug, Error)]
 pub enum NumberFault {
     /// It hasn't the form of a number.
     #[error("not a number")]

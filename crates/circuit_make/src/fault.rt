@@ -4,7 +4,7 @@ use std::alloc::AllocError;
 use thiserror::Error;
 
 /// Why no text was made.
-#[derive(Clone, Copy, Debug, PartialEq, Eq, Drop, Error)]
+#[derive(Clone, Copy, Debug, Drop, Error)]
 pub enum MakeFault {
     /// The number of registers or of cycles isn't from 1 to 4,096.
     #[error("a number out of its range")]

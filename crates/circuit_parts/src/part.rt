@@ -14,7 +14,7 @@ pub enum Flow {
 }
 
 /// A component, or a part of one: its type and its flow.
-#[derive(Debug, Drop)]
+#[derive(Drop)]
 pub struct Part {
     pub typ: FirType,
     pub flow: Flow,

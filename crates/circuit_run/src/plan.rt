@@ -13,7 +13,7 @@ pub struct Plan<'a> {
 }
 
 /// What is kept after some cycles, and the lines of these cycles.
-#[derive(Debug, Drop)]
+#[derive(Drop)]
 pub struct Told {
     pub kept: Kept,
     pub lines: Vec<u8>,

@@ -6,7 +6,7 @@ use std::alloc::AllocError;
 use thiserror::Error;
 
 /// Why a circuit may have more than one clock: the first fault, with its place.
-#[derive(Clone, Copy, Debug, PartialEq, Eq, Drop, Error)]
+#[derive(Clone, Copy, Debug, Drop, Error)]
 pub enum ClockFault {
     /// A register or a memory's port whose clock doesn't lead to main's first Clock input. The place is that of the register's or
     /// the port's name.

@@ -10,7 +10,7 @@ use indexmap::IndexSet;
 use std::alloc::{AllocError, Global};
 
 /// A leaf of the run: the instances that lead to its module, the outermost first, its component there, and the way to it.
-#[derive(Debug, PartialEq, Eq, Hash, Drop)]
+#[derive(PartialEq, Eq, Hash, Drop)]
 pub struct FlatKey {
     pub path: Vec<u32>,
     pub component: u32,

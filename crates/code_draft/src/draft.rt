@@ -4,7 +4,7 @@ use bit_words::List;
 use flat_code::{Instr, Port, Wide};
 
 /// Code that grows by one instruction after the other. Each slot is written once.
-#[derive(Debug, Drop)]
+#[derive(Drop)]
 pub struct Draft {
     /// The instructions.
     pub instrs: List<Instr>,

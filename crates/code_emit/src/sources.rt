@@ -8,7 +8,7 @@ use flat_code::{Region, Spot};
 /// A value that is kept outside the frame, under a number.
 ///
 /// The width is at most 128.
-#[derive(Clone, Copy, Debug)]
+#[derive(Clone, Copy)]
 pub struct Kept {
     pub kind: Kind,
     pub width: u8,
@@ -17,7 +17,7 @@ pub struct Kept {
 }
 
 /// Where the value of a leaf is found.
-#[derive(Clone, Copy, Debug)]
+#[derive(Clone, Copy)]
 pub enum Source {
     /// In the shared words, from the word of this number on.
     Word(Kept),
@@ -32,7 +32,7 @@ pub enum Source {
 /// Where a leaf of the elements of a memory is found.
 ///
 /// The width is at most 128.
-#[derive(Clone, Copy, Debug)]
+#[derive(Clone, Copy)]
 pub struct Elements {
     pub kind: Kind,
     pub width: u8,
@@ -41,7 +41,7 @@ pub struct Elements {
 }
 
 /// The sources of leaves, by their numbers, and of memories, leaf by leaf of an element.
-#[derive(Debug, Drop)]
+#[derive(Drop)]
 pub struct Sources {
     pub leaves: List<Option<Source>>,
     pub memories: List<List<Elements>>,

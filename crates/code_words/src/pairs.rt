@@ -17,7 +17,7 @@ use flat_code::{Instr, Op, Spot};
 use std::alloc::AllocError;
 
 /// How a word is made of two others.
-#[derive(Clone, Copy, Debug)]
+#[derive(Clone, Copy)]
 pub(crate) struct Pair {
     /// Gives a word.
     pub first: Instr,

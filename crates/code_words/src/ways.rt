@@ -16,7 +16,7 @@ use flat_code::{Instr, Op, Spot};
 use std::alloc::AllocError;
 
 /// A kind and a width of at most 128.
-#[derive(Clone, Copy, Debug)]
+#[derive(Clone, Copy)]
 pub struct Measure {
     pub kind: Kind,
     pub width: u8,
@@ -24,7 +24,7 @@ pub struct Measure {
 }
 
 /// How a word is made.
-#[derive(Clone, Copy, Debug)]
+#[derive(Clone, Copy)]
 pub(crate) enum Way {
     /// It stands in this slot.
     Same(u32),

@@ -31,7 +31,7 @@ pub struct PortLeaf<'a> {
 }
 
 /// What is written into a leaf: the leaves that show the address and the data, and where the words stand.
-#[derive(Clone, Copy, Debug)]
+#[derive(Clone, Copy)]
 pub struct Target {
     pub address: u32,
     pub source: u32,

@@ -6,7 +6,7 @@ use std::alloc::AllocError;
 use thiserror::Error;
 
 /// Why the assignments of a net have no order.
-#[derive(Clone, Copy, Debug, PartialEq, Eq, Drop, Error)]
+#[derive(Clone, Copy, Debug, Drop, Error)]
 pub enum OrderFault {
     /// A leaf that reads itself, directly or through others: the first in flat order. The place is its component's name.
     #[error("a combinational loop")]

@@ -1,7 +1,7 @@
 //! The commands.
 
 /// What a command line asks for. Names of texts are lent by the words; `-` is the name of standard input.
-#[derive(Clone, Copy, Debug, PartialEq, Eq)]
+#[derive(Clone, Copy)]
 pub enum Command<'a> {
     /// Runs a circuit under a stimulus, which stands behind the circuit in its text where no name is given.
     Run {

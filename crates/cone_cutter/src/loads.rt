@@ -8,7 +8,7 @@ use std::alloc::{AllocError, Global};
 /// What each partition holds, and how much it is.
 ///
 /// The bit `p` of a leaf's mask says that partition `p` holds it.
-#[derive(Debug, Drop)]
+#[derive(Drop)]
 pub struct Load {
     pub masks: Vec<u64>,
     pub costs: Vec<usize>,

@@ -11,14 +11,14 @@ use bit_words::List;
 use std::alloc::{AllocError, Global};
 
 /// A sink with the partition in which it was placed, both by their numbers.
-#[derive(Clone, Copy, Debug, PartialEq, Eq)]
+#[derive(Clone, Copy)]
 pub struct Placing {
     pub sink: u32,
     pub part: u32,
 }
 
 /// The placings of all sinks, in their order, and what the partitions then hold.
-#[derive(Debug, Drop)]
+#[derive(Drop)]
 pub struct Placed {
     pub placings: Vec<Placing>,
     pub load: Load,

@@ -10,7 +10,7 @@ use ground_net::Net;
 use std::alloc::{AllocError, Global};
 
 /// A sink of a net: a watched leaf by its number, a register or a memory by its place in the net.
-#[derive(Clone, Copy, Debug, PartialEq, Eq)]
+#[derive(Clone, Copy)]
 pub enum SinkAt {
     Watched(u32),
     Register(usize),

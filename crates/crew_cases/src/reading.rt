@@ -1,4 +1,4 @@
-//! A circuit's text and a stimulus's text are read, and run on one thread or by workers.
+//! A circuit's text and a stimulus's text are read, and run by workers.
 
 ghost use Rattle.std.specs.Prelude.{IfSome};
 ghost use Rattle.net_meaning.specs.Words.{SaysItsWords};
@@ -56,16 +56,6 @@ pub fn read(alloc: Global, circuit: &[u8], stimulus: &[u8]) -> Option<Given>
         Ok(stimulus) => Some(Given { built, stimulus }),
         Err(_) => None,
     }
-}
-
-/// The trace that one thread writes.
-pub fn traced_alone(alloc: Global, given: &Given) -> Option<Vec<u8>>
-    requires { IsPlanned given.now.built.ordered given.now.built.ports given.now.stimulus }
-{
-    let Built { ordered, ports, .. } = &given.built;
-    let mut sink = SinkMemory::new(alloc, ROOM, STEP, Vec::new(alloc)).ok()?;
-    circuit_run::simulate(alloc, ordered, ports, &given.stimulus, &mut sink).ok()?;
-    Vec::from_slice(alloc, sink.bytes()).ok()
 }
 
 /// The trace that workers write, where there are 1 to 64.

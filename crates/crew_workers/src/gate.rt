@@ -7,7 +7,7 @@ pub trait Gate {
 }
 
 /// Does nothing.
-#[derive(Debug, Drop)]
+#[derive(Drop)]
 pub struct OpenGate;
 
 impl Gate for OpenGate {

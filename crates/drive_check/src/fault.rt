@@ -6,7 +6,7 @@ use std::alloc::AllocError;
 use thiserror::Error;
 
 /// Why leaves of a circuit may have no value: the first fault, with its place.
-#[derive(Clone, Copy, Debug, PartialEq, Eq, Drop, Error)]
+#[derive(Clone, Copy, Debug, Drop, Error)]
 pub enum DriveFault {
     /// A leaf that must be driven and isn't, whatever the values are. The place is that of the port, the wire, the instance or
     /// the memory's port.

@@ -11,14 +11,14 @@ use indexmap::IndexSet;
 use std::alloc::{AllocError, Global};
 
 /// A step from a component to a part of it: to the field of this name, or to the element of this number.
-#[derive(Clone, Copy, Debug, PartialEq, Eq, Hash)]
+#[derive(Clone, Copy, PartialEq, Eq, Hash)]
 pub enum Step {
     Field(u32),
     Element(u128),
 }
 
 /// A leaf of a module: the number of its component's name, and the way to it.
-#[derive(Debug, PartialEq, Eq, Hash, Drop)]
+#[derive(PartialEq, Eq, Hash, Drop)]
 pub struct LeafKey {
     pub component: u32,
     pub way: Vec<Step>,

@@ -15,7 +15,7 @@ use ground_net::{Ground, copied};
 use std::alloc::{AllocError, Global};
 
 /// A condition of a `when` around the statements, and the number of leaves that are declared before that `when`.
-#[derive(Debug, Drop)]
+#[derive(Drop)]
 pub struct Asked {
     pub first: u32,
     pub condition: Ground,
@@ -24,14 +24,14 @@ pub struct Asked {
 }
 
 /// A connect of a leaf: the condition under which it is made, where there is one, and its source.
-#[derive(Debug, Drop)]
+#[derive(Drop)]
 pub struct Way {
     pub guard: Option<Ground>,
     pub source: Ground,
 }
 
 /// A guard that is being put together: conditions that are not to hold, and conditions that are to.
-#[derive(Debug, Drop)]
+#[derive(Drop)]
 pub struct Part {
     pub refused: Vec<Ground>,
     pub accepted: Vec<Ground>,

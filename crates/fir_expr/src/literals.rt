@@ -24,7 +24,7 @@ use token_reader::{
 };
 
 /// What the first tokens say an expression is.
-#[derive(Clone, Copy, Debug, PartialEq, Eq)]
+#[derive(Clone, Copy)]
 pub enum Head {
     /// A reference, or nothing that an expression can begin with.
     Component,

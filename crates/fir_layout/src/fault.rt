@@ -6,7 +6,7 @@ use std::alloc::AllocError;
 use thiserror::Error;
 
 /// Why a text has no layout: the first line that fits no open block.
-#[derive(Clone, Copy, Debug, PartialEq, Eq, Drop, Error)]
+#[derive(Clone, Copy, Debug, Drop, Error)]
 pub enum LayoutFault {
     /// A line with fewer spaces than the block that it stands in, and with none whose number it has, or with a tab behind
     /// its spaces. The place is the first byte behind the spaces.

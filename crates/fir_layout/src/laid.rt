@@ -3,7 +3,7 @@
 use fir_lexer::Token;
 
 /// One part of the laid list. The numbers are offsets into the text, from 0.
-#[derive(Clone, Copy, Debug, PartialEq, Eq)]
+#[derive(Clone, Copy)]
 pub enum Laid {
     /// A token.
     Item(Token),

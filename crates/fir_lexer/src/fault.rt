@@ -6,7 +6,7 @@ use std::alloc::AllocError;
 use thiserror::Error;
 
 /// Why a text has no tokens: its first fault from the left, at the place where its piece begins.
-#[derive(Clone, Copy, Debug, PartialEq, Eq, Drop, Error)]
+#[derive(Clone, Copy, Debug, Drop, Error)]
 pub enum LexFault {
     /// A byte that begins no token and isn't white space.
     #[error("bad byte")]

@@ -12,7 +12,7 @@ use crate::closing::{bracket_rest, info_rest, string_rest};
 use crate::token::TokenKind;
 
 /// The kinds of piece. A text is a list of pieces, and all but tokens count as white space.
-#[derive(Clone, Copy, Debug, PartialEq, Eq)]
+#[derive(Clone, Copy)]
 pub enum PieceKind {
     /// A space, a tab or a comma.
     Blank,

@@ -1,7 +1,7 @@
 //! What a token is.
 
 /// The kinds of token.
-#[derive(Clone, Copy, Debug, PartialEq, Eq)]
+#[derive(Clone, Copy, PartialEq, Eq)]
 pub enum TokenKind {
     /// A letter, `_` or `$`, then letters, digits, `_`, `$` and `-`.
     Word,
@@ -20,7 +20,7 @@ pub enum TokenKind {
 }
 
 /// A token: its kind, and where its bytes begin and end in the text, as offsets from 0. The byte at `end` is behind it.
-#[derive(Clone, Copy, Debug, PartialEq, Eq)]
+#[derive(Clone, Copy)]
 pub struct Token {
     pub kind: TokenKind,
     pub start: u32,

@@ -8,7 +8,7 @@ use place_text::Place;
 use std::alloc::{AllocError, Global};
 
 /// An instance: the number of its module, and the place of the module's name.
-#[derive(Clone, Copy, Debug, PartialEq, Eq)]
+#[derive(Clone, Copy)]
 pub struct Edge {
     pub to: u32,
     pub place: Place,

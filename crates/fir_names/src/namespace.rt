@@ -4,7 +4,7 @@ use crate::fault::NameFault;
 use place_text::Place;
 
 /// Names that stand beside one another: those of the modules in a circuit, and those of the declarations in a module.
-#[derive(Clone, Copy, Debug, PartialEq, Eq)]
+#[derive(Clone, Copy)]
 pub enum Namespace {
     OfCircuit,
     OfModule,

@@ -18,7 +18,7 @@ pub struct Found {
 }
 
 /// A module on the path.
-#[derive(Clone, Copy, Debug, PartialEq, Eq)]
+#[derive(Clone, Copy)]
 struct Step {
     node: usize,
     /// Modules are numbered in the order in which they are met, from 1.

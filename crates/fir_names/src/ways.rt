@@ -14,7 +14,7 @@ pub struct Ways {
 }
 
 /// A module at the other end of an edge, with the number of the edge.
-#[derive(Clone, Copy, Debug, PartialEq, Eq)]
+#[derive(Clone, Copy)]
 struct End {
     node: usize,
     edge: usize,

@@ -18,7 +18,7 @@ pub struct Circuit {
 }
 
 /// A module.
-#[derive(Debug, Drop)]
+#[derive(Drop)]
 pub struct Module {
     pub name: Name,
     pub ports: List<Port>,

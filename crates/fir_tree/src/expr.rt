@@ -7,7 +7,7 @@ use prim_ops::Prim;
 
 /// An expression, with the place of its first token.
 #[cycle(expr)]
-#[derive(Debug, Drop)]
+#[derive(Drop)]
 pub struct Expr {
     pub place: Place,
     pub form: Form,
@@ -15,7 +15,7 @@ pub struct Expr {
 
 /// What an expression is.
 #[cycle(expr)]
-#[derive(Debug, Drop)]
+#[derive(Drop)]
 pub enum Form {
     /// A component, and the way from it to one of its parts.
     Ref(Name, List<Suffix>),
@@ -29,7 +29,7 @@ pub enum Form {
 
 /// A step of a reference.
 #[cycle(expr)]
-#[derive(Debug, Drop)]
+#[derive(Drop)]
 pub enum Suffix {
     /// `.f`
     Field(Name),

@@ -6,7 +6,7 @@ use std::alloc::AllocError;
 use thiserror::Error;
 
 /// Why a laid list is no circuit: the kind of its first bad token, with that token's place.
-#[derive(Clone, Copy, Debug, PartialEq, Eq, Drop, Error)]
+#[derive(Clone, Copy, Debug, Drop, Error)]
 pub enum ParseFault {
     /// The token can't continue the text.
     #[error("a token that can't continue the text")]

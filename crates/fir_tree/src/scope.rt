@@ -5,7 +5,7 @@ use bit_words::{List, Shared};
 use fir_types::FirType;
 
 /// What the names of a circuit mean. Modules and declarations are numbered from 0 in text order.
-#[derive(Debug, Drop)]
+#[derive(Drop)]
 pub struct Scope {
     /// For each module, whether the main module reaches it through instances. It reaches itself.
     pub reached: List<bool>,

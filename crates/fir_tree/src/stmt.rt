@@ -7,7 +7,7 @@ use place_text::Place;
 
 /// A statement.
 #[cycle(stmt)]
-#[derive(Debug, Drop)]
+#[derive(Drop)]
 pub enum Stmt {
     Wire(Name, FirType),
     /// A register with its clock.
@@ -28,7 +28,7 @@ pub enum Stmt {
 
 /// An arm of a `when`.
 #[cycle(stmt)]
-#[derive(Debug, Drop)]
+#[derive(Drop)]
 pub struct Arm {
     pub condition: Expr,
     pub body: List<Stmt>,

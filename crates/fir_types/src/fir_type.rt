@@ -6,7 +6,7 @@ use place_text::Place;
 
 /// A type as a circuit writes it, with the place of its first token.
 #[cycle(fir_type)]
-#[derive(Debug, Drop)]
+#[derive(Drop)]
 pub struct FirType {
     pub place: Place,
     pub shape: Shape,
@@ -14,7 +14,7 @@ pub struct FirType {
 
 /// What a type is. A width is in bits, and None where the circuit leaves it to be inferred.
 #[cycle(fir_type)]
-#[derive(Debug, Drop)]
+#[derive(Drop)]
 pub enum Shape {
     /// `UInt` or `UInt<w>`.
     Unsigned(Option<u128>),
@@ -34,7 +34,7 @@ pub enum Shape {
 
 /// A field of a bundle.
 #[cycle(fir_type)]
-#[derive(Debug, Drop)]
+#[derive(Drop)]
 pub struct Field {
     /// Whether the field's direction is turned round.
     pub flip: bool,

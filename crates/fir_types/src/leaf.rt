@@ -4,7 +4,7 @@ use crate::FirType;
 use bit_words::List;
 
 /// A leaf of a type.
-#[derive(Debug, Drop)]
+#[derive(Drop)]
 pub struct TypeLeaf {
     /// The way to it from the whole type.
     pub path: List<PathStep>,
@@ -14,7 +14,7 @@ pub struct TypeLeaf {
 }
 
 /// A step from a type to a part of it.
-#[derive(Clone, Copy, Debug, PartialEq, Eq)]
+#[derive(Clone, Copy, PartialEq, Eq)]
 pub enum PathStep {
     /// To the field of this name, by the number of its text.
     Field(u32),

@@ -5,14 +5,14 @@ use bit_words::List;
 use place_text::Place;
 
 /// A memory as a circuit declares it: its lines in text order. Which lines it needs, and how often, is judged later.
-#[derive(Debug, Drop)]
+#[derive(Drop)]
 pub struct Memory {
     pub name: Name,
     pub lines: List<MemLine>,
 }
 
 /// A line of a memory, with the place of its first word.
-#[derive(Debug, Drop)]
+#[derive(Drop)]
 pub enum MemLine {
     /// `data-type`: the type of an element.
     Element(Place, FirType),
@@ -29,7 +29,7 @@ pub enum MemLine {
 }
 
 /// What a port of a memory does.
-#[derive(Clone, Copy, Debug, PartialEq, Eq)]
+#[derive(Clone, Copy)]
 pub enum PortMode {
     Reader,
     Writer,
@@ -37,7 +37,7 @@ pub enum PortMode {
 }
 
 /// What a read gives in the cycle of a write to the same element.
-#[derive(Clone, Copy, Debug, PartialEq, Eq)]
+#[derive(Clone, Copy)]
 pub enum Under {
     /// What the element held before the write.
     Old,

@@ -3,7 +3,7 @@
 use crate::{FirType, Name};
 
 /// A port of a module.
-#[derive(Debug, Drop)]
+#[derive(Drop)]
 pub struct Port {
     /// An `output`; else an `input`.
     pub output: bool,

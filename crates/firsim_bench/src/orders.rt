@@ -20,7 +20,7 @@ const SHAPES: [(&str, Shape); 4] = [
 ];
 
 /// What became of a net.
-#[derive(Clone, Copy, Debug, PartialEq, Eq)]
+#[derive(Clone, Copy)]
 enum Answer {
     /// So many assignments are in order.
     Ordered(usize),

@@ -7,7 +7,7 @@ use ground_net::{DrivenCircuit, DrivenModule};
 use std::alloc::{AllocError, Global};
 
 /// A module at a path of instances.
-#[derive(Debug, Drop)]
+#[derive(Drop)]
 pub struct Level {
     pub module: u32,
     /// None for main.
@@ -17,7 +17,7 @@ pub struct Level {
 }
 
 /// Where an instance stands: the level of its holder, its number there, and its first leaf there.
-#[derive(Clone, Copy, Debug)]
+#[derive(Clone, Copy)]
 pub struct Holder {
     pub level: u32,
     pub instance: u32,
@@ -25,14 +25,14 @@ pub struct Holder {
 }
 
 /// A leaf: its level, and its number in the module there.
-#[derive(Clone, Copy, Debug)]
+#[derive(Clone, Copy)]
 pub struct Site {
     pub level: u32,
     pub number: u32,
 }
 
 /// A memory: its level, its number in the module there, and how many leaves stand before it in flat order.
-#[derive(Clone, Copy, Debug)]
+#[derive(Clone, Copy)]
 pub struct MemorySite {
     pub level: u32,
     pub number: u32,
@@ -40,7 +40,7 @@ pub struct MemorySite {
 }
 
 /// The levels of a run, for each of them the flat numbers of its module's leaves, and the leaves and memories in flat order.
-#[derive(Debug, Drop)]
+#[derive(Drop)]
 pub struct Plan {
     pub levels: List<Level>,
     pub tables: List<List<u32>>,

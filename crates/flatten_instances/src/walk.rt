@@ -12,7 +12,7 @@ use ground_net::{DrivenCircuit, DrivenModule, GroundInstance};
 use std::alloc::{AllocError, Global};
 
 /// Where a walk through the module of a level stands: behind the leaves that have numbers, and so many memories and instances.
-#[derive(Debug, Drop)]
+#[derive(Drop)]
 pub struct Walk {
     pub level: u32,
     pub module: u32,

@@ -20,14 +20,14 @@ use indexmap::IndexMap;
 use std::alloc::{AllocError, Global};
 
 /// The ground statements of a body, and how many leaves are declared before what follows it.
-#[derive(Debug, Drop)]
+#[derive(Drop)]
 pub struct Lowered {
     pub body: List<GroundStmt>,
     pub behind: u32,
 }
 
 /// The arms of a `when`, and how many leaves are declared before its `else`.
-#[derive(Debug, Drop)]
+#[derive(Drop)]
 struct LoweredArms {
     arms: List<GroundArm>,
     behind: u32,

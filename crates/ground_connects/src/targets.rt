@@ -12,7 +12,7 @@ use prim_ops::Prim;
 use std::alloc::{AllocError, Global};
 
 /// A leaf that a statement may set, and the conditions under which it does.
-#[derive(Debug, Drop)]
+#[derive(Drop)]
 pub struct Target {
     pub leaf: u32,
     pub conditions: List<Ground>,

@@ -3,7 +3,7 @@
 use fir_types::FirType;
 
 /// A component: its type, and the number of its first leaf.
-#[derive(Debug, Drop)]
+#[derive(Drop)]
 pub struct Component {
     pub typ: FirType,
     pub first: u32,

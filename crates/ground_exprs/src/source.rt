@@ -8,7 +8,7 @@ use ground_net::Ground;
 /// An expression over numbered leaves, with the kind and the width of its value.
 ///
 /// The width is at most 128.
-#[derive(Debug, Drop)]
+#[derive(Drop)]
 pub struct Source {
     pub expr: Ground,
     pub kind: Kind,

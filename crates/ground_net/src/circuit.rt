@@ -13,7 +13,7 @@ use place_text::Place;
 /// A leaf of a module, with its name there and the place of its component's name.
 ///
 /// The width is at most 128.
-#[derive(Debug, Drop)]
+#[derive(Drop)]
 pub struct GroundLeaf {
     pub name: Text,
     pub kind: Kind,
@@ -24,7 +24,7 @@ pub struct GroundLeaf {
 }
 
 /// What a leaf of a module is.
-#[derive(Clone, Copy, Debug, PartialEq, Eq)]
+#[derive(Clone, Copy)]
 pub enum GroundRole {
     /// A leaf of a port that the module only reads.
     Input,
@@ -38,7 +38,7 @@ pub enum GroundRole {
 
 /// A statement over the leaves of a module.
 #[cycle(ground_stmt)]
-#[derive(Debug, Drop)]
+#[derive(Drop)]
 pub enum GroundStmt {
     /// The leaf is set to the source where all of the conditions are 1.
     Connect(u32, List<Ground>, Ground),
@@ -48,7 +48,7 @@ pub enum GroundStmt {
 
 /// An arm.
 #[cycle(ground_stmt)]
-#[derive(Debug, Drop)]
+#[derive(Drop)]
 pub struct GroundArm {
     pub condition: Ground,
     pub body: List<GroundStmt>,
@@ -56,7 +56,7 @@ pub struct GroundArm {
 
 /// An instance of the module of this number: its leaves are those of the module's ports, from `first` on. So many of its
 /// holder's memories stand before it.
-#[derive(Debug, Drop)]
+#[derive(Drop)]
 pub struct GroundInstance {
     pub name: Text,
     pub first: u32,
@@ -65,7 +65,7 @@ pub struct GroundInstance {
 }
 
 /// A memory of a module: `first` leaves stand before it. The numbers of its ports' leaves are those of the module.
-#[derive(Debug, Drop)]
+#[derive(Drop)]
 pub struct GroundMemory {
     pub name: Text,
     pub first: u32,
@@ -77,7 +77,7 @@ pub struct GroundMemory {
 
 /// A module as ground statements. Its first leaves are those of its ports. Its registers, memories and instances stand in
 /// text order.
-#[derive(Debug, Drop)]
+#[derive(Drop)]
 pub struct GroundModule {
     /// How many of the leaves are those of its ports.
     pub ports: u32,
@@ -89,14 +89,14 @@ pub struct GroundModule {
 }
 
 /// The modules in text order, and the number of main.
-#[derive(Debug, Drop)]
+#[derive(Drop)]
 pub struct GroundCircuit {
     pub modules: List<GroundModule>,
     pub main: u32,
 }
 
 /// A module as drivers: one, or none, for each leaf.
-#[derive(Debug, Drop)]
+#[derive(Drop)]
 pub struct DrivenModule {
     /// How many of the leaves are those of its ports.
     pub ports: u32,
@@ -108,7 +108,7 @@ pub struct DrivenModule {
 }
 
 /// The modules in text order, and the number of main.
-#[derive(Debug, Drop)]
+#[derive(Drop)]
 pub struct DrivenCircuit {
     pub modules: List<DrivenModule>,
     pub main: u32,
@@ -116,7 +116,7 @@ pub struct DrivenCircuit {
 
 /// All leaves of a run in flat order, those of main's ports first, with their drivers, registers and memories. Of the leaves
 /// only main's inputs are inputs.
-#[derive(Debug, Drop)]
+#[derive(Drop)]
 pub struct FlatCircuit {
     /// How many of the leaves are those of main's ports.
     pub ports: u32,

@@ -5,7 +5,7 @@ use prim_ops::Prim;
 
 /// An expression over numbered leaves, whose value is one value.
 #[cycle(ground)]
-#[derive(Debug, Drop)]
+#[derive(Drop)]
 pub enum Ground {
     /// This value.
     Const(Value),

@@ -10,7 +10,7 @@ use place_text::Place;
 /// component's name.
 ///
 /// The width is at most 128.
-#[derive(Debug, Drop)]
+#[derive(Drop)]
 pub struct Leaf {
     pub name: Text,
     pub kind: Kind,
@@ -21,7 +21,7 @@ pub struct Leaf {
 }
 
 /// What a leaf is in a cycle. Leaves of a role with a number are counted from 0 in flat order.
-#[derive(Clone, Copy, Debug, PartialEq, Eq)]
+#[derive(Clone, Copy)]
 pub enum Role {
     /// A leaf of an input of main, which is given.
     Input(u32),
@@ -37,7 +37,7 @@ pub enum Role {
 
 /// A run as leaves, registers and memories. The leaves of main's ports come first; there is one driver, or none, for each
 /// leaf.
-#[derive(Debug, Drop)]
+#[derive(Drop)]
 pub struct Net {
     /// How many of the leaves are those of main's ports.
     pub ports: u32,
@@ -48,21 +48,21 @@ pub struct Net {
 }
 
 /// A leaf of a register. Its driver is what its statements leave; without one it keeps its value.
-#[derive(Debug, Drop)]
+#[derive(Drop)]
 pub struct NetRegister {
     pub leaf: u32,
     pub reset: Option<NetReset>,
 }
 
 /// A reset: where it is 1, the register takes `init`.
-#[derive(Debug, Drop)]
+#[derive(Drop)]
 pub struct NetReset {
     pub reset: Ground,
     pub init: Ground,
 }
 
 /// A memory of so many elements.
-#[derive(Debug, Drop)]
+#[derive(Drop)]
 pub struct NetMemory {
     pub name: Text,
     /// How many leaves stand before the memory in flat order. A memory without ports has no leaf that would say it.
@@ -78,7 +78,7 @@ pub struct NetMemory {
 /// A leaf of an element, with the text of the way to it.
 ///
 /// The width is at most 128.
-#[derive(Debug, Drop)]
+#[derive(Drop)]
 pub struct ElementLeaf {
     pub path: Text,
     pub kind: Kind,
@@ -87,7 +87,7 @@ pub struct ElementLeaf {
 }
 
 /// A port of a memory, with the numbers of its leaves.
-#[derive(Debug, Drop)]
+#[derive(Drop)]
 pub struct NetPort {
     pub addr: u32,
     pub en: u32,
@@ -100,14 +100,14 @@ pub struct NetPort {
 }
 
 /// What a port writes: the numbers of its data and of its masks, leaf by leaf of an element.
-#[derive(Debug, Drop)]
+#[derive(Drop)]
 pub struct NetWrite {
     pub leaves: List<u32>,
     pub masks: List<u32>,
 }
 
 /// What a port reads: the numbers of its data, leaf by leaf of an element.
-#[derive(Debug, Drop)]
+#[derive(Drop)]
 pub struct NetRead {
     pub leaves: List<u32>,
     /// Whether the data come a cycle later.
@@ -117,28 +117,28 @@ pub struct NetRead {
 }
 
 /// A net with its assignments in an order: each stands behind those that it reads.
-#[derive(Debug, Drop)]
+#[derive(Drop)]
 pub struct Ordered {
     pub net: Net,
     pub sequence: List<u32>,
 }
 
 /// The partitions of a net, and how many assignments they need together, each counted once.
-#[derive(Debug, Drop)]
+#[derive(Drop)]
 pub struct Cut {
     pub parts: List<CutPart>,
     pub needed: u32,
 }
 
 /// A partition: the numbers of its sinks, and the assignments that they need.
-#[derive(Debug, Drop)]
+#[derive(Drop)]
 pub struct CutPart {
     pub sinks: List<u32>,
     pub assignments: List<u32>,
 }
 
 /// The leaves by which a run is fed and watched, and the names of all leaves of main's ports.
-#[derive(Debug, Drop)]
+#[derive(Drop)]
 pub struct Ports {
     pub inputs: List<PortLeaf>,
     pub watched: List<PortLeaf>,
@@ -148,7 +148,7 @@ pub struct Ports {
 /// A leaf of a port of main, with its number among the leaves of the net.
 ///
 /// The width is at most 128.
-#[derive(Debug, Drop)]
+#[derive(Drop)]
 pub struct PortLeaf {
     pub name: Text,
     pub kind: Kind,

@@ -4,7 +4,7 @@ use bit_words::List;
 use ground_net::Ground;
 
 /// A dynamic index on the way to a part: it picks one of so many elements, whose leaves stand a stride apart.
-#[derive(Debug, Drop)]
+#[derive(Drop)]
 pub struct Pick {
     pub index: Ground,
     pub length: u128,
@@ -12,7 +12,7 @@ pub struct Pick {
 }
 
 /// A part of a component: the number of its first leaf where each index on the way is 0, and these indices, the outermost first.
-#[derive(Debug, Drop)]
+#[derive(Drop)]
 pub struct Part {
     pub first: u32,
     pub picks: List<Pick>,

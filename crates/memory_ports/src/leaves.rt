@@ -10,7 +10,7 @@ use ground_net::{GroundLeaf, GroundRole, Leaf, Role, copied_text};
 use std::alloc::{AllocError, Global};
 
 /// How many leaves have had a number in each sort of role.
-#[derive(Clone, Copy, Debug)]
+#[derive(Clone, Copy)]
 pub struct Counts {
     pub inputs: u32,
     pub registers: u32,

@@ -9,7 +9,7 @@ use ground_net::{FlatCircuit, Ground, GroundMemory, NetPort, NetRead};
 use std::alloc::{AllocError, Global};
 
 /// What a leaf shows of a memory.
-#[derive(Debug, Drop)]
+#[derive(Drop)]
 pub enum ReadData {
     /// Data of the same cycle: this load.
     Load(Ground),

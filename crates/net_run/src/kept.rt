@@ -4,7 +4,7 @@ use bit_words::{List, Value};
 
 /// The values of the registers, of the memories' contents and of the captured reads, each in the order of their numbers. A memory has
 /// its elements one after the other, each leaf by leaf.
-#[derive(Debug, Drop)]
+#[derive(Drop)]
 pub struct Kept {
     pub registers: List<Value>,
     pub contents: List<List<Value>>,

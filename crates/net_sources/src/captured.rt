@@ -10,7 +10,7 @@ use ground_net::{Net, NetPort};
 use std::alloc::{AllocError, Global};
 
 /// A captured read: the number of its memory, and the leaf of the net that shows it.
-#[derive(Clone, Copy, Debug)]
+#[derive(Clone, Copy)]
 pub struct CapturedRead {
     pub memory: usize,
     pub leaf: u32,

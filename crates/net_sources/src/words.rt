@@ -15,7 +15,7 @@ use std::alloc::{AllocError, Global};
 const NUMBERS: u128 = 4_294_967_296;
 
 /// The first words of a net's registers and of its captured reads, by their numbers, and behind each list the word behind its last.
-#[derive(Debug, Drop)]
+#[derive(Drop)]
 pub struct FirstWords {
     pub registers: List<u32>,
     pub captured: List<u32>,

@@ -24,7 +24,7 @@ pub struct Work<'a> {
 }
 
 /// Code with the spots that it shows, their positions in the watch list, and the words that it owns.
-#[derive(Debug, Drop)]
+#[derive(Drop)]
 pub struct Made {
     pub draft: Draft,
     pub shown: List<Spot>,

@@ -3,7 +3,7 @@
 use bit_words::List;
 
 /// A word that gets a value.
-#[derive(Debug, Clone, Copy, PartialEq, Eq)]
+#[derive(Clone, Copy)]
 pub struct Publication {
     /// The number of the word, from 0.
     pub word: u32,
@@ -12,7 +12,7 @@ pub struct Publication {
 }
 
 /// What the workers of a run publish, cycle by cycle.
-#[derive(Debug, Drop)]
+#[derive(Drop)]
 pub struct Script {
     /// The number of workers, at least 1.
     pub workers: u32,
@@ -42,7 +42,7 @@ pub struct View {
 }
 
 /// The state of a run.
-#[derive(Debug, Drop)]
+#[derive(Drop)]
 pub struct PhaseState {
     /// The number of arrivals of all workers.
     pub barrier: u64,
@@ -55,7 +55,7 @@ pub struct PhaseState {
 }
 
 /// One atomic action of the view with that number.
-#[derive(Debug, Clone, Copy, PartialEq, Eq)]
+#[derive(Debug, Clone, Copy)]
 pub enum Step {
     /// Cuts a view that never arrived into the workers below `at` and the rest, which becomes a new last view.
     Split { view: u32, at: u32 },

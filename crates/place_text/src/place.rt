@@ -12,7 +12,7 @@ pub struct Place {
 }
 
 /// Which of the two texts of a run a fault stands in.
-#[derive(Clone, Copy, Debug, PartialEq, Eq)]
+#[derive(Clone, Copy)]
 pub enum TextPart {
     Circuit,
     Stimulus,

@@ -18,14 +18,14 @@ use tree_sites::places::parts_of;
 use tree_sites::{Declaration, Sort};
 
 /// A leaf of a port of main: where it is found, and the leaf of the port's type, which has its kind and width.
-#[derive(Debug, Drop)]
+#[derive(Drop)]
 pub struct MainLeaf {
     pub key: LeafKey,
     pub leaf: TypeLeaf,
 }
 
 /// The leaves of main's ports, in port order.
-#[derive(Debug, Drop)]
+#[derive(Drop)]
 pub struct MainLeaves {
     /// Those that are given from outside: what main only reads, without clocks.
     pub inputs: List<LeafKey>,

@@ -32,7 +32,7 @@ fn main(rt: HostRuntime) -> ExitCode {
 }
 
 /// A trace with the line behind it, and the status that says the same.
-#[derive(Debug, Drop)]
+#[derive(Drop)]
 struct Outcome {
     text: Vec<u8>,
     status: u8,

@@ -4,7 +4,7 @@ ghost use Rattle.std.specs.Prelude.{◌≡◌, Some, IfSome};
 ghost use Rattle.prim_ops.specs.Operations.{arity_of, name_of, IsWritten, of_version};
 
 /// A primitive operation.
-#[derive(Clone, Copy, Debug, PartialEq, Eq)]
+#[derive(Clone, Copy)]
 pub enum PrimOp {
     /// The sum.
     Add,

@@ -28,9 +28,6 @@ const STIMULUS: &str = "cycles 4
 
 const TRACE: &str = "cycle out\n0 0\n1 0\n2 1\n3 2\n";
 
-/// The summary of five cycles of a ring of three registers.
-const SUMMARY: &str = "bytes 31\n4 12\n";
-
 /// The summary of 2,049 cycles of a ring of two registers: two whole epochs and one of a cycle.
 const LONG_SUMMARY: &str = "bytes 18280\n2048 2048\n";
 
@@ -46,16 +43,14 @@ impl Gate for Counter {
     }
 }
 
-/// A shelf that holds the circuit as `c`, the stimulus as `s` and both as `-`, and fails at these calls.
+/// A shelf that holds the circuit and the stimulus as `-`, and fails at these calls.
 fn shelf(alloc: Global, fails: &[u64]) -> Result<ShelfMemory, AllocError> {
     let mut joined = String::from_str(alloc, CIRCUIT)?;
     joined.push_str("%stimulus\n")?;
     joined.push_str(STIMULUS)?;
     let mut texts = Vec::new(alloc);
-    for (name, text) in [("-", joined.as_str()), ("c", CIRCUIT), ("s", STIMULUS)] {
-        let name = String::from_str(alloc, name)?;
-        texts.push((name, Vec::from_slice(alloc, text.as_bytes())?))?;
-    }
+    let name = String::from_str(alloc, "-")?;
+    texts.push((name, Vec::from_slice(alloc, joined.as_bytes())?))?;
     Ok(ShelfMemory::new(texts, 1, Vec::from_slice(alloc, fails)?))
 }
 
@@ -108,26 +103,6 @@ fn the_side_that_failed_is_told(rt: HostRuntime) -> Result<(), Fail> {
 }
 
 #[test]
-fn texts_are_read_by_their_names(rt: HostRuntime) -> Result<(), Fail> {
-    for (words, status, bytes) in [
-        (["run", "c", "s"].as_slice(), 0, TRACE),
-        // the whole text of a circuit is read
-        (["run", "-", "s"].as_slice(), 2, "circuit BadToken 10:1\n"),
-        (["run", "c", "c"].as_slice(), 3, "stimulus BadLine 1:1\n"),
-        (["run", "c", "none"].as_slice(), 4, ""),
-        (["run", "none", "s"].as_slice(), 4, ""),
-        (["check", "c"].as_slice(), 0, "ok\n"),
-        (["run", "c"].as_slice(), 2, "circuit NoStimulus 1:1\n"),
-        (["run", "a", "b", "c"].as_slice(), 1, "usage\n"),
-    ] {
-        let (given, written) = answer(&rt, rt.alloc(), &OpenGate, words, never())?;
-        assert_eq!(rt; given, status);
-        assert_eq!(rt; written.as_slice(), bytes.as_bytes());
-    }
-    Ok(())
-}
-
-#[test]
 fn each_worker_enters_the_gate_in_each_cycle(rt: HostRuntime) -> Result<(), Fail> {
     for (workers, times) in [("1", 4), ("2", 8), ("5", 20), ("64", 256)] {
         let gate = Counter {
@@ -138,17 +113,6 @@ fn each_worker_enters_the_gate_in_each_cycle(rt: HostRuntime) -> Result<(), Fail
         assert_eq!(rt; status, 0);
         assert_eq!(rt; written.as_slice(), TRACE.as_bytes());
         assert_eq!(rt; gate.entered.load(SeqCst), times);
-    }
-    Ok(())
-}
-
-#[test]
-fn summaries_are_the_same_by_any_number_of_workers(rt: HostRuntime) -> Result<(), Fail> {
-    for workers in ["1", "2", "5", "64"] {
-        let words = ["make", "--workers", workers, "--cycles", "5", "3"];
-        let (status, written) = answer(&rt, rt.alloc(), &OpenGate, &words, never())?;
-        assert_eq!(rt; status, 0);
-        assert_eq!(rt; written.as_slice(), SUMMARY.as_bytes());
     }
     Ok(())
 }

@@ -45,7 +45,7 @@ fn most_turns(reads: &[Vec<u32>]) -> usize {
 }
 
 /// A vertex on the path.
-#[derive(Clone, Copy, Debug, PartialEq, Eq)]
+#[derive(Clone, Copy)]
 struct Step {
     vertex: u32,
     /// Vertices are numbered in the order in which they are met, from 1.

@@ -37,7 +37,7 @@ pub enum Decision {
 }
 
 /// A status and the bytes that are written.
-#[derive(Debug, Drop)]
+#[derive(Drop)]
 pub struct Reply {
     pub status: u8,
     pub bytes: Vec<u8>,

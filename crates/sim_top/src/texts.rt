@@ -10,7 +10,7 @@ pub const JOINED_LIMIT: usize = 5_242_880;
 pub const STIMULUS_LIMIT: usize = 4_194_304;
 
 /// What is wrong with a circuit's or a stimulus's text as a whole.
-#[derive(Clone, Copy, Debug, PartialEq, Eq)]
+#[derive(Clone, Copy, Debug)]
 pub enum WholeFault {
     /// The text has more bytes than its limit.
     TooLong,

@@ -8,7 +8,7 @@ use command_words::read_words;
 use std::alloc::{AllocError, Global};
 
 /// What is judged.
-#[derive(Clone, Copy, Debug, PartialEq, Eq)]
+#[derive(Clone, Copy)]
 pub enum Command {
     /// Runs a circuit under a stimulus.
     Run,
@@ -21,7 +21,7 @@ pub enum Command {
 }
 
 /// A command, with the names of the texts that it reads.
-#[derive(Clone, Copy, Debug, PartialEq, Eq)]
+#[derive(Clone, Copy)]
 pub enum Asked<'a> {
     /// The text holds the circuit, and behind the line `%stimulus` its stimulus.
     Joined(Command, &'a str),

@@ -6,7 +6,7 @@ use std::alloc::AllocError;
 use thiserror::Error;
 
 /// Why a circuit isn't measured: the first fault, with its place.
-#[derive(Clone, Copy, Debug, PartialEq, Eq, Drop, Error)]
+#[derive(Clone, Copy, Debug, Drop, Error)]
 pub enum SizeFault {
     /// A circuit that passes a limit of its size. The place is that of the circuit's name.
     #[error("a circuit that is too large")]

@@ -1,7 +1,7 @@
 //! The measure of a circuit.
 
 /// How large a circuit is that runs.
-#[derive(Clone, Copy, Debug, PartialEq, Eq)]
+#[derive(Clone, Copy)]
 pub struct Measure {
     /// The flat leaves.
     pub leaves: u32,

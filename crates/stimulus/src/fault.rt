@@ -6,7 +6,7 @@ use std::alloc::AllocError;
 use thiserror::Error;
 
 /// Why a text is no stimulus: its first fault by line and then by column, with its place in the stimulus.
-#[derive(Clone, Copy, Debug, PartialEq, Eq, Drop, Error)]
+#[derive(Clone, Copy, Debug, Drop, Error)]
 pub enum StimFault {
     /// A line lacks its form. The place is the first word that lacks its form or is one too many, or directly behind the last
     /// word where words are missing; the end of a text without a line.

@@ -193,7 +193,7 @@ pub fn is_mark(part: Laid, mark: u8) -> bool
 }
 
 /// What may stand where a name is wanted.
-#[derive(Clone, Copy, Debug, PartialEq, Eq)]
+#[derive(Clone, Copy)]
 pub enum NameSort {
     /// A word, or one between backquotes.
     Plain,

@@ -1,7 +1,7 @@
 //! The declarations that a listing names.
 
 /// A declaration of a module.
-#[derive(Clone, Copy, Debug, PartialEq, Eq)]
+#[derive(Clone, Copy)]
 pub struct Component {
     /// The number of the name of the module that holds it.
     pub holder: u32,

@@ -4,7 +4,7 @@ use bit_words::{List, Value};
 use fir_types::{FirType, TypeLeaf};
 
 /// A component of the module at an instance path.
-#[derive(Debug, Drop)]
+#[derive(Drop)]
 pub struct Site {
     /// The names of the instances that lead to its module, the outermost first.
     pub path: List<u32>,

@@ -6,7 +6,7 @@ use std::alloc::AllocError;
 use thiserror::Error;
 
 /// Why the types of a circuit don't fit: the first fault, with its place.
-#[derive(Clone, Copy, Debug, PartialEq, Eq, Drop, Error)]
+#[derive(Clone, Copy, Debug, Drop, Error)]
 pub enum TypeFault {
     /// A field before it in the bundle has the name.
     #[error("a second field of a name")]

@@ -17,7 +17,7 @@ const MOST_PARTS: usize = 8_000_000;
 
 /// The text that a bundle or a vector is from: inside the lengths of vectors the place of the first field's name, or of the
 /// type where it has none, and how many lengths there are.
-#[derive(Clone, Copy, Debug, PartialEq, Eq, Hash)]
+#[derive(Clone, Copy, PartialEq, Eq, Hash)]
 pub struct TypeText {
     line: u32,
     column: u32,

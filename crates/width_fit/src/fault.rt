@@ -6,7 +6,7 @@ use std::alloc::AllocError;
 use thiserror::Error;
 
 /// Why the widths of a circuit can't be fitted: the first fault, with its place.
-#[derive(Clone, Copy, Debug, PartialEq, Eq, Drop, Error)]
+#[derive(Clone, Copy, Debug, Drop, Error)]
 pub enum WidthFault {
     /// A place without a width that nothing drives. The place is the component's name.
     #[error("an unknown width")]

@@ -5,7 +5,7 @@ use bit_words::SharedList;
 use circuit_parts::Part;
 
 /// A component or a part of one, with the widths of its type's places.
-#[derive(Debug, Drop)]
+#[derive(Drop)]
 pub struct Component {
     pub part: Part,
     pub slots: SharedList<Slot>,

@@ -5,7 +5,7 @@ use place_text::Place;
 use prim_ops::Prim;
 
 /// A width, by the variables.
-#[derive(Debug, Drop)]
+#[derive(Drop)]
 pub enum Formula {
     /// This many bits, where 129 stands for any number past 128.
     Fixed(u8),
@@ -18,7 +18,7 @@ pub enum Formula {
 }
 
 /// The variable `target` is at least the formula.
-#[derive(Debug, Drop)]
+#[derive(Drop)]
 pub struct Rule {
     pub target: u32,
     pub formula: Formula,
@@ -28,7 +28,7 @@ pub struct Rule {
 const _: () = prove!(size_of::<Rule>() <= 40);
 
 /// The rules of a circuit.
-#[derive(Debug, Drop)]
+#[derive(Drop)]
 pub struct Rules {
     /// For each variable the place of the component that it belongs to. Variables are numbered from 0: first those of the
     /// ports of all modules, then those of the bodies, each in text order.

@@ -4,7 +4,7 @@ ghost use Rattle.std.specs.Prelude.{◌≡◌};
 ghost use Rattle.width_rules.specs.Places.{capped};
 
 /// The width of a place of a component: the number of bits that its declaration gives, or the variable of this number.
-#[derive(Clone, Copy, Debug, PartialEq, Eq)]
+#[derive(Clone, Copy)]
 pub enum Slot {
     /// This many bits, where 129 stands for any number past 128.
     Fixed(u8),

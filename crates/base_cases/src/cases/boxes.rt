@@ -1,7 +1,7 @@
-//! Lists and boxes that contracts see as what they hold.
+//! Lists and boxes that contracts see as what they hold, and the decimal text of a value.
 
 use super::telling::expect;
-use bit_words::{Boxed, Kind, List, Shared, SharedList, Value, from_words};
+use bit_words::{Boxed, Kind, List, Shared, SharedList, Value, from_words, push_decimal};
 use std::test::Fail;
 
 #[test]
@@ -30,5 +30,19 @@ fn one_value_has_several_owners(rt: HostRuntime) -> Result<(), Fail> {
     expect(&rt, "the first owner", shared.as_slice(), &[3, 4]);
     expect(&rt, "the second owner", again.get().as_slice(), &[3, 4]);
     expect(&rt, "its list", (again.len(), again.is_empty()), (2, false));
+    Ok(())
+}
+
+#[test]
+fn a_value_has_a_decimal_text(rt: HostRuntime) -> Result<(), Fail> {
+    let mut out = Vec::from_slice(rt.alloc(), b"= ")?;
+    push_decimal(&mut out, from_words(Kind::Signed, 64, 1 << 63, 0))?;
+    let wanted = "= -9223372036854775808";
+    expect(
+        &rt,
+        "the least of 64 bits",
+        out.as_slice(),
+        wanted.as_bytes(),
+    );
     Ok(())
 }

@@ -118,7 +118,7 @@ fn drive<N: Plan, R: Wait>(
 }
 
 // What the two posts read at the beginning, what the first reads at the end, and the last words.
-#[derive(Debug, Drop)]
+#[derive(Drop)]
 struct Seen {
     first: u64,
     second: u64,

@@ -19,7 +19,7 @@ const ELEMENTS: Region = Region {
 };
 
 /// Three slots.
-#[derive(Clone, Copy, Debug, PartialEq, Eq)]
+#[derive(Clone, Copy)]
 struct Trio {
     first: u32,
     second: u32,

@@ -10,7 +10,7 @@ use hand_nets::{choice, leaf_at};
 use std::alloc::{AllocError, Global};
 
 /// What registers and assignments read. There is an assignment for each register.
-#[derive(Clone, Copy, Debug, PartialEq, Eq)]
+#[derive(Clone, Copy)]
 pub enum Shape {
     /// A register reads its assignment, and that the register before.
     Ring,
@@ -21,7 +21,7 @@ pub enum Shape {
 }
 
 /// Three leaves.
-#[derive(Clone, Copy, Debug, PartialEq, Eq)]
+#[derive(Clone, Copy)]
 struct Trio {
     first: u32,
     second: u32,

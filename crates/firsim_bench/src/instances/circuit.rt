@@ -13,7 +13,7 @@ use place_text::Place;
 use std::alloc::{AllocError, Global};
 
 /// How many modules hold instances of the next one, how many each, and how many leaves of its own a module has.
-#[derive(Clone, Copy, Debug)]
+#[derive(Clone, Copy)]
 pub struct Form {
     pub levels: u32,
     pub instances: u32,

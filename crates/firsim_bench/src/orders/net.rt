@@ -10,7 +10,7 @@ use hand_nets::leaf_at;
 use std::alloc::{AllocError, Global};
 
 /// Which leaf each one reads.
-#[derive(Clone, Copy, Debug, PartialEq, Eq)]
+#[derive(Clone, Copy)]
 pub enum Shape {
     /// The one before it.
     Forward,

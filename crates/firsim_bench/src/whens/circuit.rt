@@ -9,7 +9,7 @@ use place_text::Place;
 use std::alloc::{AllocError, Global};
 
 /// How the connects stand.
-#[derive(Clone, Copy, Debug, PartialEq, Eq)]
+#[derive(Clone, Copy)]
 pub enum Form {
     /// Each leaf is connected once.
     Plain,

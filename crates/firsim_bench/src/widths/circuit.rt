@@ -7,7 +7,7 @@ use place_text::Place;
 use std::alloc::{AllocError, Global};
 
 /// How the components drive one another.
-#[derive(Clone, Copy, Debug, PartialEq, Eq)]
+#[derive(Clone, Copy, PartialEq, Eq)]
 pub enum Chain {
     /// Wires, each driven by the one before it, where the connects stand from the first wire to the last.
     Forward,
