@@ -5,7 +5,7 @@ usage: tables.py [--check]  (from anywhere)
 - the families of crates (docs/families.txt), with what the first lines of each crate's root file say of it: docs/ARCHITECTURE.md, README.md
 - how many crates there are, and the longest chain of crates below the program (crates.txt): docs/ARCHITECTURE.md
 - the definitions that the clauses of the top call lead to, file by file, with their lines: docs/AUDIT.md
-- the laws that no other crate's contract, definition or proof names, each with what it says: docs/PROOFS.md
+- the laws that no contract, definition, proof or other part of a document names, each with what it says: docs/PROOFS.md
 
 With --check nothing is written: the last line is `N passed, M failed`, and each table that isn't current is named. Besides, each crate of
 crates.txt is in one family; the paths, the crates and the files of definitions that a document names are there; and README.md is short, and
@@ -262,20 +262,24 @@ LAW = re.compile(r"((?:^///.*\n)+)pub fn (\w+)\(\)\n(?:    (?:ensures|requires).
 
 
 def table_of_laws():
-    """The laws that nothing names but their own proofs and the documents, in the order of crates.txt."""
+    """The laws that nothing names but their own proofs, and no document but this table, in the order of crates.txt."""
     kinds = ("src/**/*.rt", "specs/**/*.antt", "proofs/**/*.antt")
     words = {path: set(re.findall(r"\w+", path.read_text())) for kind in kinds for path in sorted((TOP / "crates").glob(f"*/{kind}"))}
     named = {}
     for path, held in words.items():
         for word in held:
             named.setdefault(word, []).append(path)
+    told_of = set()
+    for page in PAGES:
+        text = re.sub(r"<!-- (\w+): made by.*?<!-- end of \1 -->", "", (TOP / page).read_text(), flags=re.S)
+        told_of |= set(re.findall(r"\w+", text))
     rows = ["| crate | law | what it says |", "|---|---|---|"]
     for crate in crates():
         for path in sorted((TOP / "crates" / crate / "src").rglob("*.rt")):
             text = path.read_text()
             for told, law in LAW.findall(text):
                 elsewhere = [each for each in named[law] if each != path and law not in each.parts]
-                if not elsewhere and len(re.findall(rf"\b{law}\b", text)) == 1:
+                if not elsewhere and law not in told_of and len(re.findall(rf"\b{law}\b", text)) == 1:
                     rows.append(f"| {crate} | `{law}` | {' '.join(line.strip('/ ') for line in told.splitlines())} |")
     return rows
 
