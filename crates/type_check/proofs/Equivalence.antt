@@ -12,10 +12,10 @@ use Rattle.fir_types.specs.declared.fir_type.Shape.TheViews.{roll-Shape, roll-Fi
 use Rattle.fir_types.specs.declared.fir_type.Shape.TheVariants as shape
 use Rattle.fir_types.specs.declared.fir_type.Shape.TheVariants.{rolls-Unsigned, rolls-Signed, rolls-Clock, rolls-Reset, rolls-AsyncReset, rolls-Bundle, rolls-Vector}
 use Rattle.fir_types.specs.declared.fir_type.Field.{Field, fold-Field}
-use Rattle.fir_types.specs.Equivalence.{Equivalent, IsUnsigned, IsSigned, SameFields, unsigned, signed, clocks, vectors, bundles, no_fields, same_field, a_uint, a_reset, a_sint}
+use Rattle.fir_types.specs.Equivalence.{Equivalent, IsUnsigned, IsSigned, SameFields, unsigned, signed, clocks, asyncs, vectors, bundles, no_fields, same_field, a_uint, a_reset, a_sint}
 use Rattle.circuit_parts.proofs.Shapes.{ShapeCase, shape_uint, shape_sint, shape_clock, shape_reset, shape_async, shape_bundle, shape_vector, case_of}
 use Rattle.type_check.specs.Texts.{are_equivalent, all_take, shape_takes, field_takes, same_flip, is_unsigned_layer, is_signed_layer}
-use Rattle.circuit_parts.specs.Kinds.{is_clock_layer}
+use Rattle.circuit_parts.specs.Kinds.{is_clock_layer, is_async_layer}
 
 -- the answer, layer by layer
 
@@ -46,7 +46,7 @@ of-unsigned l r w e = grind (arith, common_steps, the_lemmas)
 of-reset : (l r : FirType) → l.shape ≡ shape.Reset → are_equivalent l r ≡ is_unsigned_layer (out-Shape r.shape)
 of-reset l r e = grind (arith, common_steps, the_lemmas)
 
-of-async : (l r : FirType) → l.shape ≡ shape.AsyncReset → are_equivalent l r ≡ is_unsigned_layer (out-Shape r.shape)
+of-async : (l r : FirType) → l.shape ≡ shape.AsyncReset → are_equivalent l r ≡ is_async_layer (out-Shape r.shape)
 of-async l r e = grind (arith, common_steps, the_lemmas)
 
 of-signed : (l r : FirType) (w : Option ℕ) → l.shape ≡ shape.Signed w → are_equivalent l r ≡ is_signed_layer (out-Shape r.shape)
@@ -73,6 +73,9 @@ signed_layer {t} (a_sint w e) = grind (arith, common_steps, the_lemmas)
 clock_layer : (t : FirType) → t.shape ≡ shape.Clock → is_clock_layer (out-Shape t.shape) ≡ true
 clock_layer t e = grind (arith, common_steps, the_lemmas)
 
+async_layer : (t : FirType) → t.shape ≡ shape.AsyncReset → is_async_layer (out-Shape t.shape) ≡ true
+async_layer t e = grind (arith, common_steps, the_lemmas)
+
 unsigned_yes : {l r : FirType} → IsUnsigned l → IsUnsigned r → are_equivalent l r ≡ true
 unsigned_yes {l} {r} (a_uint w e) v = of-unsigned l r w e ∙ unsigned_layer v
 unsigned_yes {l} {r} (a_reset e) v = of-reset l r e ∙ unsigned_layer v
@@ -94,6 +97,7 @@ mutual
   yes (unsigned u v) = unsigned_yes u v
   yes (signed u v) = signed_yes u v
   yes {l} {r} (clocks u v) = of-clock l r u ∙ clock_layer r v
+  yes {l} {r} (asyncs u v) = of-async l r u ∙ async_layer r v
   yes {l} {r} (vectors e o n u v q) = of-vectors l r e o n n u v ∙ both_yes (grind (arith, common_steps)) (yes q)
   yes {l} {r} (bundles fs gs u v q) = of-bundles l r fs gs u v ∙ fields_yes q
 
@@ -130,7 +134,7 @@ FieldIs f = Is f.typ
 is_unsigned_by : (r : FirType) → ShapeCase r.shape → is_unsigned_layer (out-Shape r.shape) ≡ true → IsUnsigned r
 is_unsigned_by r (shape_uint w e) y = a_uint w e
 is_unsigned_by r (shape_reset e) y = a_reset e
-is_unsigned_by r (shape_async e) y = a_reset e
+is_unsigned_by r (shape_async e) y = absurd (grind (arith, common_steps, the_lemmas))
 is_unsigned_by r (shape_sint w e) y = absurd (grind (arith, common_steps, the_lemmas))
 is_unsigned_by r (shape_clock e) y = absurd (grind (arith, common_steps, the_lemmas))
 is_unsigned_by r (shape_bundle fs e) y = absurd (grind (arith, common_steps, the_lemmas))
@@ -153,6 +157,15 @@ is_clock_by r (shape_reset e) y = absurd (grind (arith, common_steps, the_lemmas
 is_clock_by r (shape_async e) y = absurd (grind (arith, common_steps, the_lemmas))
 is_clock_by r (shape_bundle fs e) y = absurd (grind (arith, common_steps, the_lemmas))
 is_clock_by r (shape_vector o n e) y = absurd (grind (arith, common_steps, the_lemmas))
+
+is_async_by : (r : FirType) → ShapeCase r.shape → is_async_layer (out-Shape r.shape) ≡ true → r.shape ≡ shape.AsyncReset
+is_async_by r (shape_async e) y = e
+is_async_by r (shape_uint w e) y = absurd (grind (arith, common_steps, the_lemmas))
+is_async_by r (shape_sint w e) y = absurd (grind (arith, common_steps, the_lemmas))
+is_async_by r (shape_clock e) y = absurd (grind (arith, common_steps, the_lemmas))
+is_async_by r (shape_reset e) y = absurd (grind (arith, common_steps, the_lemmas))
+is_async_by r (shape_bundle fs e) y = absurd (grind (arith, common_steps, the_lemmas))
+is_async_by r (shape_vector o n e) y = absurd (grind (arith, common_steps, the_lemmas))
 
 vector_by : (l r e : FirType) (n : ℕ) → l.shape ≡ shape.Vector e n → Is e → ShapeCase r.shape → are_equivalent l r ≡ true → Equivalent l r
 vector_by l r e n h is (shape_vector o m k) y =
@@ -201,7 +214,7 @@ shape_is Shape-F.Clock = subst ShapeIs (sym rolls-Clock) (λ place r y.
 shape_is Shape-F.Reset = subst ShapeIs (sym rolls-Reset) (λ place r y.
     unsigned (a_reset refl) (is_unsigned_by r (case_of r.shape) (sym (of-reset (record { place = place; shape = shape.Reset }) r refl) ∙ y)))
 shape_is Shape-F.AsyncReset = subst ShapeIs (sym rolls-AsyncReset) (λ place r y.
-    unsigned (a_reset refl) (is_unsigned_by r (case_of r.shape) (sym (of-async (record { place = place; shape = shape.AsyncReset }) r refl) ∙ y)))
+    asyncs refl (is_async_by r (case_of r.shape) (sym (of-async (record { place = place; shape = shape.AsyncReset }) r refl) ∙ y)))
 shape_is (Shape-F.Bundle fields) =
     let fs : List Field = map (λ e. e.0) fields in
     subst ShapeIs (sym (rolls-Bundle fs)) (λ place r y. bundle_by (record { place = place; shape = shape.Bundle fs }) r fields refl (case_of r.shape) y)

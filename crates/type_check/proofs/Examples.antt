@@ -48,6 +48,19 @@ a_reset_is_a_uint = grind (arith, common_steps, the_lemmas)
 a_uint_is_no_sint : are_equivalent (uint 3) (sint 3) ≡ false
 a_uint_is_no_sint = grind (arith, common_steps, the_lemmas)
 
+-- AsyncReset is equivalent to itself alone, in both orders, and not to what a Reset is.
+an_async_is_one : are_equivalent (typ shape.AsyncReset) (typ shape.AsyncReset) ≡ true
+an_async_is_one = grind (arith, common_steps, the_lemmas)
+
+an_async_is_no_uint : are_equivalent (typ shape.AsyncReset) (uint 1) ≡ false
+an_async_is_no_uint = grind (arith, common_steps, the_lemmas)
+
+a_uint_is_no_async : are_equivalent (uint 1) (typ shape.AsyncReset) ≡ false
+a_uint_is_no_async = grind (arith, common_steps, the_lemmas)
+
+a_reset_is_no_async : are_equivalent (typ shape.Reset) (typ shape.AsyncReset) ≡ false
+a_reset_is_no_async = grind (arith, common_steps, the_lemmas)
+
 -- Bundles go by names and orientation, vectors by length.
 abbrev one : Bool → ℕ → FirType → FirType
 one flip id t = typ (shape.Bundle (field flip (name id 1) t ∷ []))
@@ -94,9 +107,12 @@ second_a : twice_in (typ (shape.Bundle (field false (name 7 1) (uint 1) ∷ fiel
     ≡ one_fault (FieldTwice (at 3))
 second_a = grind (arith, common_steps, the_lemmas)
 
--- A stored type has no clock and no flip, also not where a vector has no elements.
+-- A stored type has no clock, no AsyncReset and no flip, also not where a vector has no elements.
 stored_clock : stored_faults (typ shape.Clock) ≡ one_fault (OperandKind (at 1))
 stored_clock = grind (arith, common_steps, the_lemmas)
+
+stored_async : stored_faults (typ shape.AsyncReset) ≡ one_fault (OperandKind (at 1))
+stored_async = grind (arith, common_steps, the_lemmas)
 
 stored_flip : stored_faults (typ (shape.Vector (one true 7 (uint 1)) 0)) ≡ one_fault (NotPassive (at 1))
 stored_flip = grind (arith, common_steps, the_lemmas)

@@ -15,7 +15,8 @@ use Rattle.fir_tree.specs.declared.expr.Suffix.TheVariants as suffix
 use Rattle.fir_tree.specs.declared.stmt.Stmt.{Stmt, the_lemmas as stmt_lemmas}
 use Rattle.fir_tree.specs.declared.stmt.Stmt.TheVariants as stmt
 use Rattle.fir_tree.specs.declared.circuit.Module.{Module}
-use Rattle.prim_ops.specs.declared.operation.PrimOp.TheVariants.{Add, AsUInt}
+use Rattle.prim_ops.specs.declared.operation.PrimOp.{PrimOp}
+use Rattle.prim_ops.specs.declared.operation.PrimOp.TheVariants.{Add, AsUInt, AsAsyncReset, Not}
 use Rattle.type_check.specs.declared.fault.TypeFault.TheVariants as kind
 use Rattle.type_check.specs.Statements.{module_walk}
 
@@ -98,3 +99,48 @@ all_typed : (module_walk [] (module_of (input 20 uint ∷ output 22 uint ∷ [])
     (stmt.Connect (ref 22 5) (record { place = record { line = 1; column = 8 }; form = form.Prim Add (ref 20 9 ∷ number 10 3 4 ∷ []) [] }) ∷ [])) []).nodes
     ≡ uint ∷ typ 8 (shape.Unsigned None) ∷ uint ∷ typ 10 (shape.Unsigned (Some 3)) ∷ []
 all_typed = grind (arith, common_steps, stmt_lemmas, expr_lemmas, type_lemmas)
+
+-- AsyncReset: the input a is one, c is a clock, k a condition.
+abbrev async : FirType
+async = typ 1 shape.AsyncReset
+
+abbrev clock : FirType
+clock = typ 1 shape.Clock
+
+abbrev prim : ℕ → PrimOp → Expr → Expr
+prim column op operand = record { place = record { line = 1; column = column }; form = form.Prim op (operand ∷ []) [] }
+
+-- `regreset r : UInt<1>, c, a, UInt<1>(0)`: an AsyncReset may be a reset.
+async_reset : (module_walk [] (module_of (input 20 async ∷ input 25 clock ∷ []) (stmt.RegReset (name 26 2) uint (ref 25 4) (ref 20 5) (number 6 1 0) ∷ [])) []).faults ≡ []
+async_reset = grind (arith, common_steps, stmt_lemmas, expr_lemmas, type_lemmas)
+
+-- An SInt may not.
+signed_reset : (module_walk [] (module_of (input 20 sint ∷ input 25 clock ∷ []) (stmt.RegReset (name 26 2) uint (ref 25 4) (ref 20 5) (number 6 1 0) ∷ [])) []).faults
+    ≡ kind.ConditionKind (record { line = 1; column = 5 }) ∷ []
+signed_reset = grind (arith, common_steps, stmt_lemmas, expr_lemmas, type_lemmas)
+
+-- `when a :`: it is no condition.
+async_condition : (module_walk [] (module_of (input 20 async ∷ []) (stmt.When (record { condition = ref 20 5; body = [] } ∷ []) [] ∷ [])) []).faults
+    ≡ kind.ConditionKind (record { line = 1; column = 5 }) ∷ []
+async_condition = grind (arith, common_steps, stmt_lemmas, expr_lemmas, type_lemmas)
+
+-- `connect o, asUInt(a)`: a cast takes it. `connect o, not(a)`: no other operation does.
+async_cast : (module_walk [] (module_of (input 20 async ∷ output 22 uint ∷ []) (stmt.Connect (ref 22 5) (prim 8 AsUInt (ref 20 9)) ∷ [])) []).faults ≡ []
+async_cast = grind (arith, common_steps, stmt_lemmas, expr_lemmas, type_lemmas)
+
+async_operand : (module_walk [] (module_of (input 20 async ∷ output 22 uint ∷ []) (stmt.Connect (ref 22 5) (prim 8 Not (ref 20 9)) ∷ [])) []).faults
+    ≡ kind.OperandKind (record { line = 1; column = 8 }) ∷ []
+async_operand = grind (arith, common_steps, stmt_lemmas, expr_lemmas, type_lemmas)
+
+-- `connect o, asAsyncReset(u)` drives an AsyncReset, and no UInt.
+async_driven : (module_walk [] (module_of (input 20 uint ∷ output 22 async ∷ []) (stmt.Connect (ref 22 5) (prim 8 AsAsyncReset (ref 20 9)) ∷ [])) []).faults ≡ []
+async_driven = grind (arith, common_steps, stmt_lemmas, expr_lemmas, type_lemmas)
+
+uint_not_driven : (module_walk [] (module_of (input 20 uint ∷ output 22 uint ∷ []) (stmt.Connect (ref 22 5) (prim 8 AsAsyncReset (ref 20 9)) ∷ [])) []).faults
+    ≡ kind.NotEquivalent (record { line = 1; column = 8 }) ∷ []
+uint_not_driven = grind (arith, common_steps, stmt_lemmas, expr_lemmas, type_lemmas)
+
+-- `reg r : AsyncReset, c`: none is stored.
+async_stored : (module_walk [] (module_of (input 25 clock ∷ []) (stmt.Reg (name 26 2) async (ref 25 4) ∷ [])) []).faults
+    ≡ kind.OperandKind (record { line = 1; column = 1 }) ∷ []
+async_stored = grind (arith, common_steps, stmt_lemmas, expr_lemmas, type_lemmas)

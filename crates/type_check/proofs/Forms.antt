@@ -18,7 +18,7 @@ use Rattle.circuit_parts.specs.declared.part.Part.{Part}
 use Rattle.type_check.specs.declared.rules.Operand.{Operand as Held}
 use Rattle.type_check.specs.Parts.{Known, unless, typed_without}
 use Rattle.circuit_parts.specs.Parts.{source_of}
-use Rattle.type_check.specs.Expressions.{Judgement, Operand, found_of, judged, node, unjudged_node, over, operation, choice, type_or_none, fits_literal, typed_operands, all_among, row_of, signs_of}
+use Rattle.type_check.specs.Expressions.{Judgement, Operand, found_of, judged, node, unjudged_node, over, operation, choice, type_or_none, fits_literal, typed_operands, all_among, row_of, signs_of, result_type}
 use Rattle.circuit_parts.specs.Kinds.{ground, no_type, sign_or_unsigned}
 use Rattle.type_check.specs.Judging.{operand_of, together, filled, AddsBelow}
 use Rattle.type_check.specs.Walks.{Adds}
@@ -92,7 +92,7 @@ adds_operation known e op operands params held old between new is typed h types 
     let js = all_among known (map judged operands) in
     let own = operation op e.place [] (map operand_of held) in
     subst (λ j. AddsBelow e.place j old new) (sym (prim_is known e op operands params is ∙ ap (over e.place (operation op e.place) js) typed))
-    (node_below e.place own.faults (ground e.place (sign_or_unsigned (row_of op (signs_of (map operand_of held)))) None) js (adds_faults h types faults))
+    (node_below e.place own.faults (result_type op e.place (sign_or_unsigned (row_of op (signs_of op (map operand_of held))))) js (adds_faults h types faults))
 
 pub adds_choice : (known : Known) (e : Expr) (operands : List Expr) (held : List Held) (old between new : Findings)
     → e.form ≡ form.Mux operands → typed_operands known (map judged operands) ≡ Some (map operand_of held)

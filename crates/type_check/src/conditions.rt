@@ -3,7 +3,7 @@
 ghost use Rattle.std.specs.Prelude.{◌≡◌, ◌++◌, [], OnOk};
 ghost use Rattle.type_check.specs.Expressions.{found_of};
 ghost use Rattle.type_check.specs.Parts.{unless, where_typed};
-ghost use Rattle.type_check.specs.Statements.{expects, connects, clock_faults, condition_faults, init_faults, sink_faults, source_faults, equal_faults};
+ghost use Rattle.type_check.specs.Statements.{expects, connects, clock_faults, condition_faults, reset_faults, init_faults, sink_faults, source_faults, equal_faults};
 ghost use Rattle.type_check.specs.Walks.{Walks};
 
 use crate::fault::TypeFault;
@@ -11,7 +11,7 @@ use crate::judge::judge;
 use crate::texts::{are_equivalent, push_unless};
 use crate::walk::Walk;
 use crate::whole::{are_equivalent_at, is_passive_at};
-use circuit_parts::kinds::{is_clock, is_unsigned};
+use circuit_parts::kinds::{is_clock, is_reset, is_unsigned};
 use circuit_parts::{Flow, Part};
 use fir_tree::Expr;
 use fir_types::FirType;
@@ -30,7 +30,7 @@ pub fn expect_clock(alloc: Global, walk: &mut Walk<'_>, clock: &Expr) -> Result<
     Ok(())
 }
 
-/// A condition of an arm, or a reset.
+/// A condition of an arm.
 pub fn expect_condition(
     alloc: Global,
     walk: &mut Walk<'_>,
@@ -41,6 +41,17 @@ pub fn expect_condition(
     if let Some(part) = judge(alloc, &walk.known, &mut walk.found, condition)? {
         let fault = TypeFault::ConditionKind(condition.place);
         push_unless(&mut walk.found.faults, is_unsigned(&part.typ), fault)?;
+    }
+    Ok(())
+}
+
+/// A reset of a register.
+pub fn expect_reset(alloc: Global, walk: &mut Walk<'_>, reset: &Expr) -> Result<(), AllocError>
+    ensures { OnOk result (Walks (expects (reset_faults reset.now.place) reset.now) walk.old walk.new) }
+{
+    if let Some(part) = judge(alloc, &walk.known, &mut walk.found, reset)? {
+        let fault = TypeFault::ConditionKind(reset.place);
+        push_unless(&mut walk.found.faults, is_reset(&part.typ), fault)?;
     }
     Ok(())
 }

@@ -6,10 +6,10 @@ ghost use Rattle.circuit_parts.specs.declared.part.Flow.TheVariants.{Duplex as A
 ghost use Rattle.circuit_parts.specs.Parts.{part_of, source_of, instance_in, port_flow};
 ghost use Rattle.type_check.specs.Texts.{twice_in, stored_faults};
 ghost use Rattle.type_check.specs.Memories.{memory_faults};
-ghost use Rattle.type_check.specs.Statements.{and_then, notes, declares, expects, names_node, port_walk, clock_faults, condition_faults, init_faults};
+ghost use Rattle.type_check.specs.Statements.{and_then, notes, declares, expects, names_node, port_walk, clock_faults, reset_faults, init_faults};
 ghost use Rattle.type_check.specs.Walks.{Walks};
 
-use crate::conditions::{expect_clock, expect_condition, expect_init};
+use crate::conditions::{expect_clock, expect_init, expect_reset};
 use crate::fault::TypeFault;
 use crate::judge::judge;
 use crate::memory::push_memory;
@@ -68,11 +68,11 @@ pub fn declare_reset_register(
     reset: &Expr,
     init: &Expr,
 ) -> Result<(), AllocError>
-    ensures { OnOk result (Walks (and_then (notes (stored_faults typ.now)) (and_then (expects (clock_faults clock.now.place) clock.now) (and_then (expects (condition_faults reset.now.place) reset.now) (and_then (expects (init_faults typ.now init.now.place) init.now) (declares name.id (Some (part_of typ.now A_duplex))))))) walk.old walk.new) }
+    ensures { OnOk result (Walks (and_then (notes (stored_faults typ.now)) (and_then (expects (clock_faults clock.now.place) clock.now) (and_then (expects (reset_faults reset.now.place) reset.now) (and_then (expects (init_faults typ.now init.now.place) init.now) (declares name.id (Some (part_of typ.now A_duplex))))))) walk.old walk.new) }
 {
     push_stored(alloc, &mut walk.found.faults, typ)?;
     expect_clock(alloc, walk, clock)?;
-    expect_condition(alloc, walk, reset)?;
+    expect_reset(alloc, walk, reset)?;
     expect_init(alloc, walk, typ, init)?;
     declare(alloc, walk, name, typ, Flow::Duplex)
 }

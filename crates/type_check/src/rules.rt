@@ -6,19 +6,19 @@ ghost use Rattle.prim_ops.specs.Kinds.{row_kind};
 ghost use Rattle.type_check.specs.declared.fault.TypeFault.TheVariants.{LiteralFit};
 ghost use Rattle.type_check.specs.Parts.{unless};
 ghost use Rattle.circuit_parts.specs.Parts.{source_of};
-ghost use Rattle.type_check.specs.Expressions.{fits_literal, node, row_of, signs_of, operation, choice};
+ghost use Rattle.type_check.specs.Expressions.{fits_literal, node, row_of, signs_of, sign_for, takes_async, result_type, operation, choice};
 ghost use Rattle.circuit_parts.specs.Kinds.{ground};
 ghost use Rattle.type_check.specs.Judging.{operand_of, IsFound};
 
 use crate::fault::TypeFault;
 use crate::texts::{fits_literal, push_unless};
-use crate::whole::{are_equivalent_at, has_clock_at, is_passive_at};
+use crate::whole::{are_equivalent_at, has_signal_at, is_passive_at};
 use bit_words::{Kind as Sign, Number};
 use circuit_parts::Part;
-use circuit_parts::kinds::{ground, is_unsigned, sign_of};
+use circuit_parts::kinds::{ground, is_async, is_unsigned, sign_of};
 use circuit_parts::steps::source;
 use fir_tree::Expr;
-use fir_types::copy;
+use fir_types::{FirType, Shape, copy};
 use module_table::Components;
 use place_text::Place;
 use prim_ops::{Prim, arity, kind_of};
@@ -63,19 +63,49 @@ pub fn judge_operation(
         faults.push(TypeFault::OperandKind(place))?;
         return Ok(None);
     };
-    Ok(Some(source(ground(place, sign, None))))
+    Ok(Some(source(result_type(op, place, sign))))
 }
 
 /// The kind of the result, where the operation takes operands of these kinds.
 fn row(op: Prim, operands: &[Operand<'_>]) -> Option<Sign>
-    ensures { result ≡ row_of op (signs_of (map operand_of operands.now)) }
+    ensures { result ≡ row_of op (signs_of op (map operand_of operands.now)) }
 {
     match operands {
-        [operand] => row_of_kinds(op, &[sign_of(&operand.part.typ)?]),
+        [operand] => row_of_kinds(op, &[kind_for(op, &operand.part.typ)?]),
         [first, second] => {
-            row_of_kinds(op, &[sign_of(&first.part.typ)?, sign_of(&second.part.typ)?])
+            row_of_kinds(op, &[kind_for(op, &first.part.typ)?, kind_for(op, &second.part.typ)?])
         }
         _ => None,
+    }
+}
+
+/// The kind of an operand of this type, where the operation takes it. A cast takes an `AsyncReset` as one bit.
+fn kind_for(op: Prim, typ: &FirType) -> Option<Sign>
+    ensures { result ≡ sign_for op typ.now }
+{
+    if takes_async(op) && is_async(typ) {
+        return Some(Sign::Unsigned);
+    }
+    sign_of(typ)
+}
+
+/// Whether an operation takes an `AsyncReset`.
+fn takes_async(op: Prim) -> bool
+    ensures { result ≡ takes_async op }
+{
+    matches!(op, Prim::AsUInt | Prim::AsSInt | Prim::AsAsyncReset)
+}
+
+/// The type of a result of this kind.
+fn result_type(op: Prim, place: Place, sign: Sign) -> FirType
+    ensures { result ≡ result_type op place sign }
+{
+    match op {
+        Prim::AsAsyncReset => FirType {
+            place,
+            shape: Shape::AsyncReset,
+        },
+        _ => ground(place, sign, None),
     }
 }
 
@@ -89,7 +119,7 @@ fn row_of_kinds(op: Prim, kinds: &[Sign]) -> Option<Sign>
     kind_of(op, kinds)
 }
 
-/// A choice between the second operand and the third. Its faults: over what is no condition, over clocks, over types with a `flip`,
+/// A choice between the second operand and the third. Its faults: over what is no condition, over signals, over types with a `flip`,
 /// and over two types that aren't equivalent.
 pub fn judge_choice(
     known: &Components<'_>,
@@ -107,9 +137,9 @@ pub fn judge_choice(
     let before = faults.len();
     let fault = TypeFault::ConditionKind(condition.expr.place);
     push_unless(faults, is_unsigned(&condition.part.typ), fault)?;
-    let clocks = has_clock_at(known, first.expr, &first.part)
-        || has_clock_at(known, second.expr, &second.part);
-    push_unless(faults, !clocks, TypeFault::OperandKind(place))?;
+    let signals = has_signal_at(known, first.expr, &first.part)
+        || has_signal_at(known, second.expr, &second.part);
+    push_unless(faults, !signals, TypeFault::OperandKind(place))?;
     let passive = is_passive_at(known, first.expr, &first.part);
     push_unless(faults, passive, TypeFault::NotPassive(first.expr.place))?;
     let passive = is_passive_at(known, second.expr, &second.part);

@@ -10,7 +10,7 @@ ghost use Rattle.type_check.specs.Expressions.{fits_literal};
 
 use crate::fault::TypeFault;
 use bit_words::{Kind, Number, fits};
-use fir_types::{Field, FirType, Shape, equivalent, has_clock, passive};
+use fir_types::{Field, FirType, Shape, equivalent, has_signal, passive};
 use indexmap::IndexSet;
 use std::alloc::{AllocError, Global};
 
@@ -65,7 +65,11 @@ pub fn push_twice(
     let mut inside = typ;
     loop {
         match &inside.shape {
-            Shape::Unsigned(_) | Shape::Signed(_) | Shape::Clock | Shape::Reset => return Ok(()),
+            Shape::Unsigned(_)
+            | Shape::Signed(_)
+            | Shape::Clock
+            | Shape::Reset
+            | Shape::AsyncReset => return Ok(()),
             Shape::Bundle(fields) => {
                 push_seconds(alloc, faults, fields.as_slice())?;
                 return push_twice_in(alloc, faults, fields.as_slice());
@@ -114,7 +118,7 @@ pub fn push_stored(
     ensures { OnOk result (faults.new.items ≡ faults.old.items ++ stored_faults typ.now) }
 {
     push_twice(alloc, faults, typ)?;
-    let clocked = has_clock(typ);
-    push_unless(faults, !clocked, TypeFault::OperandKind(typ.place))?;
+    let signals = has_signal(typ);
+    push_unless(faults, !signals, TypeFault::OperandKind(typ.place))?;
     push_unless(faults, is_passive(typ), TypeFault::NotPassive(typ.place))
 }

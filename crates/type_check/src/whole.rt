@@ -7,23 +7,23 @@ ghost use Rattle.module_table.specs.Leading.{Leads};
 ghost use Rattle.type_check.specs.Judging.{Agrees};
 ghost use Rattle.type_check.specs.Parts.{Known as TheKnown};
 ghost use Rattle.circuit_parts.specs.declared.part.Part.{Part as APart};
-ghost use Rattle.type_check.specs.Texts.{has_clock, is_passive, are_equivalent};
+ghost use Rattle.type_check.specs.Texts.{has_signal, is_passive, are_equivalent};
 
 use crate::texts::{are_equivalent, is_passive};
 use circuit_parts::Part;
 use fir_tree::{Expr, Form};
-use fir_types::has_clock;
+use fir_types::has_signal;
 use module_table::{Components, Reference, reference_of};
 use type_index::Known;
 
-/// Whether a leaf of the type of an expression that is this part is a `Clock`.
-pub fn has_clock_at(known: &Components<'_>, expr: &Expr, part: &Part) -> bool
+/// Whether a leaf of the type of an expression that is this part is a `Clock` or an `AsyncReset`.
+pub fn has_signal_at(known: &Components<'_>, expr: &Expr, part: &Part) -> bool
     requires { (found_of known.now.parts expr.now).part ≡ Some part.now }
-    ensures { result ≡ has_clock part.now.typ }
+    ensures { result ≡ has_signal part.now.typ }
 {
     match part_at(known, expr) {
-        Some(there) => there.index.clocked,
-        None => has_clock(&part.typ),
+        Some(there) => there.index.signals,
+        None => has_signal(&part.typ),
     }
 }
 

@@ -6,4 +6,4 @@ use Rattle.type_check.proofs.declarations.declare_reset_register.Goals as goal
 
 pub returns : goal.returns
 returns c = on_ok_weaker c.declare.result (λ h. walks_noted (stored_faults c.args.typ.now) refl refl c.in_ok-push_stored.ensures
-    (walks_then c.in_ok-expect_clock.ensures (walks_then c.in_ok-expect_condition.ensures (walks_then c.in_ok-expect_init.ensures h)))) c.declare.ensures
+    (walks_then c.in_ok-expect_clock.ensures (walks_then c.in_ok-expect_reset.ensures (walks_then c.in_ok-expect_init.ensures h)))) c.declare.ensures
