@@ -8,6 +8,7 @@ use Rattle.bit_words.proofs.Congruence.{bits_back}
 use Rattle.prim_ops.specs.declared.operation.PrimOp.{PrimOp}
 use Rattle.prim_ops.specs.declared.operation.PrimOp.TheVariants as prim
 use Rattle.prim_ops.specs.Results.{floor_div}
+use Rattle.prim_ops.specs.Widths.{width_on_one}
 use Rattle.prim_ops.proofs.Residues.{word_low}
 use Rattle.cycle_values.specs.Values.{operation}
 use Rattle.net_meaning.specs.Shapes.{shaped, shape_of_row}
@@ -134,6 +135,13 @@ module _ (x : Spot) (few : x.width ≤ 64) where
       gives = λ words inputs F cut. masked (slice_index F x.low) width mask m ∙ ap₂ (λ n w. n % 2 ^ w) (low_at F cut) (sym (width_of prim.Tail F h));
     }
 
+    -- the lowest bit of the value
+    pub async_operates : (mask : ℕ) → Row prim.AsAsyncReset → mask ≡ 2 ^ width - 1 → Operates (working op.Keep 0 x.low 0 0 mask) (x ∷ []) (row_value prim.AsAsyncReset params)
+    async_operates mask h m = record {
+      computes = λ d a. one_computes op.Keep 0 mask x.low d refl (λ ports wides i. refl) (omega arith) (low_written d a);
+      gives = λ words inputs F cut. masked (slice_index F x.low) width mask m ∙ ap₂ (λ n w. n % 2 ^ w) (low_at F cut) (sym (width_of prim.AsAsyncReset F h));
+    }
+
     pub bits_shifts : Row prim.Bits → Shifts x (slice_index params 1) width (row_value prim.Bits params)
     bits_shifts h F = ap (λ w. (spot_value F x).bits / 2 ^ slice_index params 1 % 2 ^ w) (width_of prim.Bits F h)
 
@@ -142,6 +150,9 @@ module _ (x : Spot) (few : x.width ≤ 64) where
 
     pub shr_shifts : Row prim.Shr → x.kind ≡ Unsigned → Shifts x (slice_index params 0) width (row_value prim.Shr params)
     shr_shifts h e F = ap₂ (λ n w. bits_of w (floor_div n (2 ^ slice_index params 0))) (plain (spot_value F x) e) (width_of prim.Shr F h)
+
+    pub shr_four_shifts : Row prim.ShrFour → x.kind ≡ Unsigned → Shifts x (slice_index params 0) width (row_value prim.ShrFour params)
+    shr_four_shifts h e F = ap₂ (λ n w. bits_of w (floor_div n (2 ^ slice_index params 0))) (plain (spot_value F x) e) (width_of prim.ShrFour F h)
 
     pub shr_signed : Row prim.Shr → x.kind ≡ Signed → 0 < x.width → Shifts x (min (slice_index params 0) (x.width - 1)) width (row_value prim.Shr params)
     shr_signed h e some F =
@@ -153,6 +164,24 @@ module _ (x : Spot) (few : x.width ≤ 64) where
         let narrow : v.width ≤ 64 = few_at F x few in
         let least : v.width - n ≤ 64 = omega (arith, narrow) in
         let count : width ≡ max (v.width - n) 1 = sym wide ∙ cut_width (v.width - n) least in
+        ap₂ (λ k w. bits_of w (floor_div (integer k v.width v.bits) (2 ^ n))) e wide
+        ∙ (shifted_signed v.width n v.bits width (omega (arith, some, same)) within count ∙ ap (λ w. v.bits / 2 ^ min n (w - 1) % 2 ^ width) same)
+      where
+        cut_width : (m : ℕ) → m ≤ 64 → min (max m 1) 128 ≡ max m 1
+        cut_width m h = omega (arith, h)
+
+    -- an SInt keeps a bit in either version
+    pub shr_four_signed : Row prim.ShrFour → x.kind ≡ Signed → 0 < x.width → Shifts x (min (slice_index params 0) (x.width - 1)) width (row_value prim.ShrFour params)
+    shr_four_signed h e some F =
+        let v = spot_value F x in
+        let n = slice_index params 0 in
+        let within : v.bits < 2 ^ v.width = v.within in
+        let same = width_at F x in
+        let wide = width_of prim.ShrFour F h in
+        let narrow : v.width ≤ 64 = few_at F x few in
+        let least : v.width - n ≤ 64 = omega (arith, narrow) in
+        let count : width ≡ max (v.width - n) 1
+        = sym wide ∙ (ap (λ k. min (width_on_one prim.ShrFour k v.width n (slice_index params 1)) 128) e ∙ cut_width (v.width - n) least) in
         ap₂ (λ k w. bits_of w (floor_div (integer k v.width v.bits) (2 ^ n))) e wide
         ∙ (shifted_signed v.width n v.bits width (omega (arith, some, same)) within count ∙ ap (λ w. v.bits / 2 ^ min n (w - 1) % 2 ^ width) same)
       where

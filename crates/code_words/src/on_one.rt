@@ -40,6 +40,8 @@ pub(crate) fn way_on_one(prim: Prim, x: Spot, params: &[u128], width: u8) -> Opt
         Prim::Xorr => Some(Way::Word(of_one(Op::Parity, x, 0, 0))),
         Prim::Shl => raised(x, parameter(params, 0), width),
         Prim::Shr => shifted(x, parameter(params, 0), width),
+        Prim::ShrFour => shifted(x, parameter(params, 0), width),
+        Prim::AsAsyncReset => Some(Way::Word(of_one(Op::Keep, x, 0, low_mask(width)))),
         _ => None,
     }
 }

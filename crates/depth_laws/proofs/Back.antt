@@ -123,7 +123,7 @@ case_parts a_writer b h o ws x full w = tt
 case_parts a_readwriter b h o ws x full w = tt
 case_parts a_reference b h o (expr, _) x full w = (w, tt)
 case_parts a_mux b h o (at, (operands, _)) x full w = let i = pop (length o) (back (brackets-mux at operands) (suffixes-mux at operands) w) in (i.0, (i.1, tt))
-case_parts (an_operation prim) b h o (at, (operands, (parameters, _))) x full w = let i = pop (length o) (back (brackets-prim at prim operands parameters) (suffixes-prim at prim operands parameters) w) in (i.0, (i.1, (tt, tt)))
+case_parts (an_operation prim written) b h o (at, (operands, (parameters, _))) x full w = let i = pop (length o) (back (brackets-prim at prim operands parameters) (suffixes-prim at prim operands parameters) w) in (i.0, (i.1, (tt, tt)))
 case_parts no_more_expressions b h o ws x full w = tt
 case_parts (one_more_expression n) b h o (first, (others, _)) x full w = (left _ _ w, (right _ _ w, tt))
 case_parts no_more_numbers b h o ws x full w = tt

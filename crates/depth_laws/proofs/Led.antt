@@ -104,7 +104,7 @@ module _ (text : List ℕ) where
   spelled_filled a_readwriter i s = tt
   spelled_filled a_reference i s = tt
   spelled_filled a_mux i s = tt
-  spelled_filled (an_operation prim) i s = tt
+  spelled_filled (an_operation prim written) i s = tt
   spelled_filled no_more_expressions i s = tt
   spelled_filled (one_more_expression n) i s = tt
   spelled_filled no_more_numbers i s = tt

@@ -101,7 +101,7 @@ module _ (text : List ℕ) where
   spelled_plain a_readwriter s = tt
   spelled_plain a_reference s = tt
   spelled_plain a_mux s = tt
-  spelled_plain (an_operation prim) s = tt
+  spelled_plain (an_operation prim written) s = tt
   spelled_plain no_more_expressions s = tt
   spelled_plain (one_more_expression n) s = tt
   spelled_plain no_more_numbers s = tt

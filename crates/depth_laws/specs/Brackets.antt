@@ -17,6 +17,7 @@ brackets_of_shape (Shape-F.Unsigned width) = 0
 brackets_of_shape (Shape-F.Signed width) = 0
 brackets_of_shape Shape-F.Clock = 0
 brackets_of_shape Shape-F.Reset = 0
+brackets_of_shape Shape-F.AsyncReset = 0
 brackets_of_shape (Shape-F.Bundle fields) = greatest fields + 1
 brackets_of_shape (Shape-F.Vector element length) = max element 1
 

@@ -18,6 +18,7 @@ lengths_of_shape (Shape-F.Unsigned width) = (0, 0)
 lengths_of_shape (Shape-F.Signed width) = (0, 0)
 lengths_of_shape Shape-F.Clock = (0, 0)
 lengths_of_shape Shape-F.Reset = (0, 0)
+lengths_of_shape Shape-F.AsyncReset = (0, 0)
 lengths_of_shape (Shape-F.Bundle fields) = (0, greatest fields)
 lengths_of_shape (Shape-F.Vector element n) = (element.0 + 1, element.1)
 

@@ -59,7 +59,11 @@ impl Listing {
         ensures path { OnOk result (self.new.path.items ≡ self.old.path.items) }
     {
         match &typ.shape {
-            Shape::Unsigned(_) | Shape::Signed(_) | Shape::Clock | Shape::Reset => {
+            Shape::Unsigned(_)
+            | Shape::Signed(_)
+            | Shape::Clock
+            | Shape::Reset
+            | Shape::AsyncReset => {
                 self.listed.push(TypeLeaf {
                     path: List::from_slice(self.alloc, self.path.as_slice())?,
                     flip,

@@ -3,7 +3,7 @@ use Rattle.std.proofs.Common.{◌≡◌, ℕ, ◌+◌, Bool, true, false, ◌&&�
 use Rattle.std.proofs.lemmas.Slice.Eq.{bytes_eq-Decides}
 use Rattle.bit_words.specs.declared.value.Kind.{Kind}
 use Rattle.prim_ops.specs.declared.operation.PrimOp.{PrimOp}
-use Rattle.prim_ops.specs.Operations.{name_of}
+use Rattle.prim_ops.specs.Operations.{name_of, IsWritten}
 use Rattle.fir_lexer.specs.declared.token.Token.{Token}
 use Rattle.fir_lexer.specs.declared.token.TokenKind.{TokenKind}
 use Rattle.fir_lexer.specs.declared.token.TokenKind.TheVariants as kind
@@ -11,7 +11,7 @@ use Rattle.fir_layout.specs.declared.laid.Laid.{Laid}
 use Rattle.fir_layout.specs.declared.laid.Laid.TheVariants.{Item, LineEnd, Open, Close, End}
 use Rattle.fir_layout.specs.Pieces.{Piece, A_token, A_line_end, A_block_opens, A_block_closes, The_end, piece_of, pieces_of, bytes_of}
 use Rattle.fir_grammar.specs.Grammar.{The_word, The_call, The_mark, Takes, Expression, a_reference, a_component, cut, takes_on, goes_into}
-use Rattle.fir_grammar.proofs.Cases.{choose, Chosen, operation_in, operations}
+use Rattle.fir_grammar.proofs.Cases.{choose, Chosen, Written, operation_in, operations}
 use Rattle.fir_grammar.proofs.ReadingLaws.{chosen_alone}
 use Rattle.fir_expr.specs.declared.literals.Head.{Head as TheHead}
 use Rattle.fir_expr.specs.declared.literals.Head.TheVariants as head
@@ -30,10 +30,10 @@ no_text_so xs ys false none e = e
 no_text : (xs ys : List ℕ) → ¬ (xs ≡ ys) → bytes_eq xs ys ≡ false
 no_text xs ys none = no_text_so xs ys (bytes_eq xs ys) none refl
 
-no_operation_in : (prims : List PrimOp) (bytes : List ℕ) (ps : List Piece) (other : Option (Chosen Expression)) → ((prim : PrimOp) → ¬ (bytes ≡ name_of prim ++ codes "("))
+no_operation_in : (prims : List Written) (bytes : List ℕ) (ps : List Piece) (other : Option (Chosen Expression)) → ((prim : PrimOp) → IsWritten prim → ¬ (bytes ≡ name_of prim ++ codes "("))
     → operation_in prims (A_token kind.Call bytes ∷ ps) other ≡ other
 no_operation_in [] bytes ps other none = refl
-no_operation_in (prim ∷ prims) bytes ps other none = rw (no_text bytes (name_of prim ++ codes "(") (none prim)) (no_operation_in prims bytes ps other none)
+no_operation_in (prim ∷ prims) bytes ps other none = rw (no_text bytes (name_of prim.0 ++ codes "(") (none prim.0 prim.1)) (no_operation_in prims bytes ps other none)
 
 call_reference : (bytes : List ℕ) (ps : List Piece) → ((word : List ℕ) → bytes ≡ word ++ codes "(" → NamesNothing word)
     → choose Expression (A_token kind.Call bytes ∷ ps) ≡ Some (_, a_reference)
@@ -42,7 +42,7 @@ call_reference bytes ps none =
       no_text bytes (codes "mux" ++ codes "(") (λ e. (none (codes "mux") e).no_mux refl),
       no_text bytes (codes "UInt" ++ codes "(") (λ e. (none (codes "UInt") e).no_unsigned refl),
       no_text bytes (codes "SInt" ++ codes "(") (λ e. (none (codes "SInt") e).no_signed refl),
-    ) (no_operation_in operations bytes ps (Some (_, a_reference)) (λ prim e. (none (name_of prim) e).no_operation prim refl))
+    ) (no_operation_in operations bytes ps (Some (_, a_reference)) (λ prim written e. (none (name_of prim) e).no_operation prim written refl))
 
 word_reference : (bytes : List ℕ) (ps : List Piece) → ¬ (bytes ≡ codes "UInt") → ¬ (bytes ≡ codes "SInt") → choose Expression (A_token kind.Word bytes ∷ ps) ≡ Some (_, a_reference)
 word_reference bytes ps no_unsigned no_signed = rw (no_text bytes (codes "UInt") no_unsigned, no_text bytes (codes "SInt") no_signed) refl
@@ -139,7 +139,7 @@ module _ (text : List ℕ) (list : List Laid) (i : ℕ) where
     call_head head.Mux e says = call_starts (codes "mux") e says
     call_head (head.Literal k) e says = call_starts (kind_name k) e says
     call_head (head.WideLiteral k) e says = absurd says
-    call_head (head.Operation prim) e says = call_starts (name_of prim) e says
+    call_head (head.Operation prim) e says = (says.0, call_starts (name_of prim) e says.1)
 
     -- what a word that names a kind says there
     pub kind_head : (head : TheHead) (named : Kind) (q : Laid) → token.kind ≡ kind.Word → bytes ≡ kind_name named → slice_get list (i + 1) ≡ Some q → IsHeadBefore named (piece_of text q) head

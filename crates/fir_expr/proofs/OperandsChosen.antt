@@ -5,7 +5,7 @@ use Rattle.fir_lexer.specs.declared.token.TokenKind.TheVariants as kind
 use Rattle.fir_layout.specs.declared.laid.Laid.{Laid}
 use Rattle.fir_layout.specs.Pieces.{Piece, A_token, piece_of, pieces_of}
 use Rattle.prim_ops.specs.declared.operation.PrimOp.{PrimOp}
-use Rattle.prim_ops.specs.Operations.{name_of}
+use Rattle.prim_ops.specs.Operations.{name_of, IsWritten}
 use Rattle.fir_grammar.specs.Grammar.{The_call, The_mark, Takes, Its_place, Symbol, Is, A, IsCase, Derives, mark, Expression, Expressions, Reference, Suffixes, cut, takes_on, a_mux, an_operation, no_more_expressions, one_more_expression, a_component, no_suffix, a_field_suffix, an_element_suffix, an_index_suffix, name}
 use Rattle.fir_grammar.specs.Reading.{IsSettled}
 use Rattle.fir_grammar.proofs.Cases.{choose, starts_digits, operation_chosen}
@@ -36,9 +36,9 @@ enters_component pieces i = enters_always pieces i a_component component_case
 
 -- operations and `mux(`
 
-operation_piece : (prim : PrimOp) (p : Piece) → Takes (The_call (name_of prim)) p → (ps : List Piece) → choose Expression (p ∷ ps) ≡ Some (_, an_operation prim)
-operation_piece prim (A_token kind.Call bytes) same ps = rw same (operation_chosen prim ps)
-operation_piece prim _ none ps = absurd none
+operation_piece : (prim : PrimOp) (written : IsWritten prim) (p : Piece) → Takes (The_call (name_of prim)) p → (ps : List Piece) → choose Expression (p ∷ ps) ≡ Some (_, an_operation prim written)
+operation_piece prim written (A_token kind.Call bytes) same ps = rw same (operation_chosen prim written ps)
+operation_piece prim written _ none ps = absurd none
 
 mux_piece : (p : Piece) → Takes (The_call (codes "mux")) p → (ps : List Piece) → choose Expression (p ∷ ps) ≡ Some (_, a_mux)
 mux_piece (A_token kind.Call bytes) same ps = rw same refl
@@ -87,9 +87,9 @@ module _ {text : List ℕ} {list : List Laid} {i : ℕ} where
   pub enters_mux : StartsWith (The_call (codes "mux")) text list i → Enters (pieces_of text list) i a_mux
   enters_mux h = enters_by_piece (pieces_of text list) i a_mux (piece_of text h.part) (piece_at text list i h.part h.here) (mux_piece (piece_of text h.part) h.takes)
 
-  pub enters_operation : (prim : PrimOp) → StartsWith (The_call (name_of prim)) text list i → Enters (pieces_of text list) i (an_operation prim)
-  enters_operation prim h =
-      enters_by_piece (pieces_of text list) i (an_operation prim) (piece_of text h.part) (piece_at text list i h.part h.here) (operation_piece prim (piece_of text h.part) h.takes)
+  pub enters_operation : (prim : PrimOp) (written : IsWritten prim) → StartsWith (The_call (name_of prim)) text list i → Enters (pieces_of text list) i (an_operation prim written)
+  enters_operation prim written h =
+      enters_by_piece (pieces_of text list) i (an_operation prim written) (piece_of text h.part) (piece_at text list i h.part h.here) (operation_piece prim written (piece_of text h.part) h.takes)
 
   pub enters_field : StartsWith (The_mark 46) text list i → Enters (pieces_of text list) i a_field_suffix
   enters_field h = enters_by_piece (pieces_of text list) i a_field_suffix (piece_of text h.part) (piece_at text list i h.part h.here) (field_piece (piece_of text h.part) h.takes)

@@ -10,7 +10,7 @@ use Rattle.fir_layout.specs.declared.laid.Laid.{Laid}
 use Rattle.fir_layout.specs.declared.laid.Laid.TheVariants.{Item}
 use Rattle.fir_layout.specs.Pieces.{Piece, A_token, piece_of, pieces_of}
 use Rattle.prim_ops.specs.declared.operation.PrimOp.{PrimOp}
-use Rattle.prim_ops.specs.Operations.{name_of, arity_of}
+use Rattle.prim_ops.specs.Operations.{name_of, arity_of, IsWritten}
 use Rattle.fir_tree.specs.declared.expr.Expr.{Expr}
 use Rattle.fir_tree.specs.declared.expr.Form.TheVariants as form
 use Rattle.fir_tree.specs.declared.expr.Suffix.{Suffix}
@@ -111,29 +111,29 @@ as_numbers : {text : List ℕ} {list : List Laid} {i n m j : ℕ} {names after :
     → HasPassed (A (Numbers m) ∷ []) text list i names (xs, tt) j after
 as_numbers {text} {list} {i} {j} {names} {after} {xs} e h = subst (λ (k : ℕ). HasPassed (A (Numbers k) ∷ []) text list i names (xs, tt) j after) e h
 
-module _ (prim : PrimOp) {text : List ℕ} {list : List Laid} {i brackets n k : ℕ} (s : StandsIn (pieces_of text list) i brackets) (head : StartsWith (The_call (name_of prim)) text list i)
+module _ (prim : PrimOp) (written : IsWritten prim) {text : List ℕ} {list : List Laid} {i brackets n k : ℕ} (s : StandsIn (pieces_of text list) i brackets) (head : StartsWith (The_call (name_of prim)) text list i)
     (d : n ≡ (arity_of prim).0) (e : k ≡ (arity_of prim).1) where
   pub operation_no_call : {fault : ParseFault} → IsNotTaken (The_call (name_of prim)) text list i fault → IsRefused (A Expression ∷ []) text list i fault
-  operation_no_call refused = refused_case (an_operation prim) (enters_operation prim head) (refused_first (A (Expressions (arity_of prim).0) ∷ A (Numbers (arity_of prim).1) ∷ close ∷ []) (refused.refused Its_place))
+  operation_no_call refused = refused_case (an_operation prim written) (enters_operation prim written head) (refused_first (A (Expressions (arity_of prim).0) ∷ A (Numbers (arity_of prim).1) ∷ close ∷ []) (refused.refused Its_place))
 
   module _ {l : Laid} (t : IsTaken (The_call (name_of prim)) text list i l) where
     pub operation_no_operand : {fault : ParseFault} → IsRefused (A (Expressions n) ∷ []) text list (i + 1) fault → IsRefused (A Expression ∷ []) text list i fault
-    operation_no_operand {fault} refused = refused_case (an_operation prim) (enters_operation prim head)
+    operation_no_operand {fault} refused = refused_case (an_operation prim written) (enters_operation prim written head)
         (refused_behind (read_placed [] t) (refused_first (A (Numbers (arity_of prim).1) ∷ close ∷ []) (subst (λ (m : ℕ). IsRefused (A (Expressions m) ∷ []) text list (i + 1) fault) d refused)))
 
     module _ {names after : List (List ℕ)} {old new : List Expr} {j : ℕ} (h : HasOperands n text list (i + 1) names old new j after) (none : old ≡ []) where
       pub operation_no_number : {fault : ParseFault} → IsRefused (A (Numbers k) ∷ []) text list j fault → IsRefused (A Expression ∷ []) text list i fault
-      operation_no_number {fault} refused = refused_case (an_operation prim) (enters_operation prim head)
+      operation_no_number {fault} refused = refused_case (an_operation prim written) (enters_operation prim written head)
           (refused_behind (read_then (read_placed names t) (as_operands d (operands_all h none)).read) (refused_first (close ∷ []) (subst (λ (m : ℕ). IsRefused (A (Numbers m) ∷ []) text list j fault) e refused)))
 
       module _ {ns : List ℕ} {z : ℕ} (parameters : HasPassed (A (Numbers k) ∷ []) text list j after (ns, tt) z after) where
         pub operation_not_closed : {fault : ParseFault} → IsNotTaken (The_mark 41) text list z fault → IsRefused (A Expression ∷ []) text list i fault
-        operation_not_closed refused = refused_case (an_operation prim) (enters_operation prim head)
+        operation_not_closed refused = refused_case (an_operation prim written) (enters_operation prim written head)
             (refused_behind (read_then (read_then (read_placed names t) (as_operands d (operands_all h none)).read) (as_numbers e parameters).read) (refused.refused Nothing))
 
         pub operation_read : {m : Laid} → IsTaken (The_mark 41) text list z m → HasPassed (A Expression ∷ []) text list i names (record { place = place text (start_of l); form = form.Prim prim new ns }, tt) (z + 1) after
         operation_read {m} u = record {
-          read = read_case (an_operation prim) (enters_operation prim head)
+          read = read_case (an_operation prim written) (enters_operation prim written head)
               (read_then (read_then (read_then (read_placed names t) (as_operands d (operands_all h none)).read) (as_numbers e parameters).read) (read_mark after u));
           whole = whole_closed (opener_call (name_of prim)) t (λ at. refl) (whole_then h.passed.whole parameters.whole) u s;
           room = omega (arith, room_step names list i l t.here, h.passed.room, parameters.room, room_step after list z m u.here);

@@ -2,7 +2,7 @@
 use Rattle.std.specs.Prelude.{ℕ, ◌+◌, ◌-◌, ◌^◌, ◌<◌, ◌≤◌, List, [], ◌∷◌, ◌++◌, codes, Result, Ok, Err}
 use Rattle.bit_words.specs.declared.value.Kind.{Kind}
 use Rattle.bit_words.specs.declared.value.Kind.TheVariants as sign
-use Rattle.prim_ops.specs.Operations.{name_of}
+use Rattle.prim_ops.specs.Operations.{name_of, IsWritten}
 use Rattle.fir_layout.specs.declared.laid.Laid.{Laid}
 use Rattle.fir_layout.specs.Pieces.{pieces_of}
 use Rattle.fir_tree.specs.declared.fault.ParseFault.{ParseFault}
@@ -45,4 +45,4 @@ IsHeadAt head.Component text list i = GoesInto a_reference text list i
 IsHeadAt head.Mux text list i = StartsWith (The_call (codes "mux")) text list i
 IsHeadAt (head.Literal kind) text list i = StartsWith (The_call (kind_name kind)) text list i
 IsHeadAt (head.WideLiteral kind) text list i = StartsWith (The_word (kind_name kind)) text list i × StartsWith (The_mark 60) text list (i + 1)
-IsHeadAt (head.Operation prim) text list i = StartsWith (The_call (name_of prim)) text list i
+IsHeadAt (head.Operation prim) text list i = IsWritten prim × StartsWith (The_call (name_of prim)) text list i

@@ -1,7 +1,7 @@
 //! Expressions and references (FIRRTL specification 3.0, "Expressions").
 
 ghost use Rattle.std.specs.Prelude.{◌≡◌, ◌≤◌, ◌<◌, ◌+◌, ℕ, List, length, take, codes, IfOk, IfErr, IfSome, IfNone, IsTrue, ◌↔◌, ◌∷◌, []};
-ghost use Rattle.prim_ops.specs.Operations.{name_of};
+ghost use Rattle.prim_ops.specs.Operations.{name_of, IsWritten};
 ghost use Rattle.fir_layout.specs.Pieces.{piece_of, pieces_of};
 ghost use Rattle.fir_grammar.specs.Faults.{most, levels, last_suffixes};
 ghost use Rattle.fir_grammar.specs.Grammar.{A, Expression, Expressions, Reference, Suffixes, The_call, The_mark};
@@ -68,6 +68,7 @@ fn mux(from: &Source, names: &mut Names, at: usize, brackets: u32) -> Read<Expr>
 #[cycle(expr)]
 fn operation(from: &Source, names: &mut Names, at: usize, brackets: u32, prim: Prim) -> Read<Expr>
     requires start { MayBegin from.now.text.now from.now.laid.now names.old at brackets }
+    requires written { IsWritten prim }
     requires head { StartsWith (The_call (name_of prim)) from.now.text.now from.now.laid.now at }
     ensures { Answers Expression from.now.text.now from.now.laid.now at names.old result names.new }
 {

@@ -7,8 +7,8 @@ use Rattle.std.proofs.lemmas.Slice.Eq.{bytes_eq-Decides}
 use Rattle.fir_lexer.specs.declared.token.TokenKind.TheVariants as kind
 use Rattle.fir_layout.specs.Pieces.{Piece, A_token, A_line_end, A_block_opens, A_block_closes, The_end}
 use Rattle.prim_ops.specs.declared.operation.PrimOp.{PrimOp}
-use Rattle.prim_ops.specs.declared.operation.PrimOp.TheVariants.{Add, Sub, Mul, Div, Rem, Lt, Leq, Gt, Geq, Eq, Neq, Pad, AsUInt, AsSInt, Shl, Shr, Dshl, Dshr, Cvt, Neg, Not, And, Or, Xor, Andr, Orr, Xorr, Cat, Bits, Head, Tail}
-use Rattle.prim_ops.specs.Operations.{name_of}
+use Rattle.prim_ops.specs.declared.operation.PrimOp.TheVariants.{Add, Sub, Mul, Div, Rem, Lt, Leq, Gt, Geq, Eq, Neq, Pad, AsUInt, AsSInt, AsAsyncReset, Shl, Shr, ShrFour, Dshl, Dshr, Cvt, Neg, Not, And, Or, Xor, Andr, Orr, Xorr, Cat, Bits, Head, Tail}
+use Rattle.prim_ops.specs.Operations.{name_of, IsWritten}
 use Rattle.fir_grammar.specs.Grammar.{Terminal, The_word, The_call, The_mark, A_name, A_field, A_number, A_quoted_number, Opens, Closes, Takes, Kept, Symbol, Is, A, Rule, Text, Circuit_body, Modules, Module, Module_body, Ports, Port, Type_of, Lengths, Base_type, Width, Fields, Field, Statements, Statement, Block, Branches, Memory_lines, Memory_line, Under_write, Expression, Expressions, Numbers, Reference, Suffixes, Integer, IsCase, a_text, no_modules, some_modules, last_module, next_module, a_module, no_module_body, a_module_body, next_port, last_port, an_input, an_output, a_type, last_length, next_length, an_unsigned, a_signed, a_clock, a_reset, a_bundle, no_width, a_width, last_field, next_field, plain_field, flipped_field, last_statement, next_statement, a_wire, a_register, a_reset_register, a_memory, an_instance, a_node, a_connect, an_invalidate, a_when, a_skip, no_branch, else_when, else_, no_block, a_block, last_memory_line, next_memory_line, a_data_type, a_depth, a_read_latency, a_write_latency, a_read_under_write, under_old, under_new, under_undefined, a_reader, a_writer, a_readwriter, a_reference, a_mux, an_operation, no_more_expressions, one_more_expression, no_more_numbers, one_more_number, a_component, no_suffix, a_field_suffix, an_element_suffix, an_index_suffix, an_unsigned_literal, a_signed_literal, a_wide_unsigned_literal, a_wide_signed_literal, a_plain_integer, a_negative_integer, a_quoted_integer, Derives, meets, expands, Front}
 use Rattle.fir_grammar.specs.Reading.{CannotBegin, IsSettled}
 use Rattle.fir_grammar.proofs.Fronts.{Derives-whole}
@@ -51,12 +51,16 @@ behind (p ∷ ps) = ps
 abbrev pub Chosen : Rule → Type 0
 Chosen r = (body : List Symbol) × IsCase r body
 
-abbrev pub operation_in : List PrimOp → List Piece → Option (Chosen Expression) → Option (Chosen Expression)
-operation_in [] ps other = other
-operation_in (prim ∷ prims) ps other = if starts_call (name_of prim) ps then Some (_, an_operation prim) else operation_in prims ps other
+-- an operation that a text writes
+abbrev pub Written : Type 0
+Written = (prim : PrimOp) × IsWritten prim
 
-abbrev pub operations : List PrimOp
-operations = Add ∷ Sub ∷ Mul ∷ Div ∷ Rem ∷ Lt ∷ Leq ∷ Gt ∷ Geq ∷ Eq ∷ Neq ∷ Pad ∷ AsUInt ∷ AsSInt ∷ Shl ∷ Shr ∷ Dshl ∷ Dshr ∷ Cvt ∷ Neg ∷ Not ∷ And ∷ Or ∷ Xor ∷ Andr ∷ Orr ∷ Xorr ∷ Cat ∷ Bits ∷ Head ∷ Tail ∷ []
+abbrev pub operation_in : List Written → List Piece → Option (Chosen Expression) → Option (Chosen Expression)
+operation_in [] ps other = other
+operation_in (prim ∷ prims) ps other = if starts_call (name_of prim.0) ps then Some (_, an_operation prim.0 prim.1) else operation_in prims ps other
+
+abbrev pub operations : List Written
+operations = (Add, tt) ∷ (Sub, tt) ∷ (Mul, tt) ∷ (Div, tt) ∷ (Rem, tt) ∷ (Lt, tt) ∷ (Leq, tt) ∷ (Gt, tt) ∷ (Geq, tt) ∷ (Eq, tt) ∷ (Neq, tt) ∷ (Pad, tt) ∷ (AsUInt, tt) ∷ (AsSInt, tt) ∷ (Shl, tt) ∷ (Shr, tt) ∷ (Dshl, tt) ∷ (Dshr, tt) ∷ (Cvt, tt) ∷ (Neg, tt) ∷ (Not, tt) ∷ (And, tt) ∷ (Or, tt) ∷ (Xor, tt) ∷ (Andr, tt) ∷ (Orr, tt) ∷ (Xorr, tt) ∷ (Cat, tt) ∷ (Bits, tt) ∷ (Head, tt) ∷ (Tail, tt) ∷ []
 
 abbrev pub choose : (r : Rule) → List Piece → Option (Chosen r)
 choose Text ps = Some (_, a_text)
@@ -334,45 +338,47 @@ reference_digits ss ps _ a_component d = let s = start d in ap starts_digits s.i
 expression_digits : (ss : List Symbol) (ps : List Piece) (body : List Symbol) → IsCase Expression body → Derives (body ++ ss) ps → starts_digits ps ≡ false
 expression_digits ss ps _ a_reference d = let e = enter d in reference_digits ss ps e.body e.case e.more
 expression_digits ss ps _ a_mux d = ap starts_digits (call_first d).is
-expression_digits ss ps _ (an_operation prim) d = ap starts_digits (call_first d).is
+expression_digits ss ps _ (an_operation prim written) d = ap starts_digits (call_first d).is
 expression_digits ss ps _ an_unsigned_literal d = ap starts_digits (call_first d).is
 expression_digits ss ps _ a_signed_literal d = ap starts_digits (call_first d).is
 expression_digits ss ps _ a_wide_unsigned_literal d = ap starts_digits (word_first d).is
 expression_digits ss ps _ a_wide_signed_literal d = ap starts_digits (word_first d).is
 
 -- an operation is found by its name
-pub operation_chosen : (prim : PrimOp) (ps : List Piece) → choose Expression (A_token kind.Call (name_of prim ++ codes "(") ∷ ps) ≡ Some (_, an_operation prim)
-operation_chosen Add ps = refl
-operation_chosen Sub ps = refl
-operation_chosen Mul ps = refl
-operation_chosen Div ps = refl
-operation_chosen Rem ps = refl
-operation_chosen Lt ps = refl
-operation_chosen Leq ps = refl
-operation_chosen Gt ps = refl
-operation_chosen Geq ps = refl
-operation_chosen Eq ps = refl
-operation_chosen Neq ps = refl
-operation_chosen Pad ps = refl
-operation_chosen AsUInt ps = refl
-operation_chosen AsSInt ps = refl
-operation_chosen Shl ps = refl
-operation_chosen Shr ps = refl
-operation_chosen Dshl ps = refl
-operation_chosen Dshr ps = refl
-operation_chosen Cvt ps = refl
-operation_chosen Neg ps = refl
-operation_chosen Not ps = refl
-operation_chosen And ps = refl
-operation_chosen Or ps = refl
-operation_chosen Xor ps = refl
-operation_chosen Andr ps = refl
-operation_chosen Orr ps = refl
-operation_chosen Xorr ps = refl
-operation_chosen Cat ps = refl
-operation_chosen Bits ps = refl
-operation_chosen Head ps = refl
-operation_chosen Tail ps = refl
+pub operation_chosen : (prim : PrimOp) (written : IsWritten prim) (ps : List Piece) → choose Expression (A_token kind.Call (name_of prim ++ codes "(") ∷ ps) ≡ Some (_, an_operation prim written)
+operation_chosen Add written ps = refl
+operation_chosen Sub written ps = refl
+operation_chosen Mul written ps = refl
+operation_chosen Div written ps = refl
+operation_chosen Rem written ps = refl
+operation_chosen Lt written ps = refl
+operation_chosen Leq written ps = refl
+operation_chosen Gt written ps = refl
+operation_chosen Geq written ps = refl
+operation_chosen Eq written ps = refl
+operation_chosen Neq written ps = refl
+operation_chosen Pad written ps = refl
+operation_chosen AsUInt written ps = refl
+operation_chosen AsSInt written ps = refl
+operation_chosen Shl written ps = refl
+operation_chosen Shr written ps = refl
+operation_chosen Dshl written ps = refl
+operation_chosen Dshr written ps = refl
+operation_chosen Cvt written ps = refl
+operation_chosen Neg written ps = refl
+operation_chosen Not written ps = refl
+operation_chosen And written ps = refl
+operation_chosen Or written ps = refl
+operation_chosen Xor written ps = refl
+operation_chosen Andr written ps = refl
+operation_chosen Orr written ps = refl
+operation_chosen Xorr written ps = refl
+operation_chosen Cat written ps = refl
+operation_chosen Bits written ps = refl
+operation_chosen Head written ps = refl
+operation_chosen Tail written ps = refl
+operation_chosen AsAsyncReset written ps = absurd written
+operation_chosen ShrFour written ps = absurd written
 
 -- a name begins a reference where no `<` follows
 reference_piece : (p : Piece) → Takes A_name p → (ps : List Piece) → starts_mark 60 ps ≡ false → choose Expression (p ∷ ps) ≡ Some (_, a_reference)
@@ -461,7 +467,7 @@ chooses ss ps h under_new d = ap (choose Under_write) (word_first d).is
 chooses ss ps h under_undefined d = ap (choose Under_write) (word_first d).is
 chooses ss ps h a_reference d = let e = enter d in reference_chosen ss ps h.0.1.1.0 e.body e.case e.more
 chooses ss ps h a_mux d = ap (choose Expression) (call_first d).is
-chooses ss ps h (an_operation prim) d = let c = call_first d in ap (choose Expression) c.is ∙ operation_chosen prim c.others
+chooses ss ps h (an_operation prim written) d = let c = call_first d in ap (choose Expression) c.is ∙ operation_chosen prim written c.others
 chooses ss ps h no_more_expressions d = refl
 chooses ss ps h (one_more_expression n) d = refl
 chooses ss ps h no_more_numbers d = refl

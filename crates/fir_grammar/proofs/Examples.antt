@@ -94,7 +94,7 @@ wide_literal = expands _ a_node (meets refl (meets tt (meets refl (expands _ a_w
 
 -- Operands, then parameters, as many as the operation takes.
 short_literal : Derives (A Expression ∷ []) (c "add" ∷ c "tail" ∷ c "UInt" ∷ d "1" ∷ m 41 ∷ d "1" ∷ m 41 ∷ c "SInt" ∷ m 45 ∷ d "2" ∷ m 41 ∷ m 41 ∷ [])
-short_literal = expands _ (an_operation Add) (meets refl (expands _ (one_more_expression 1) (expands _ (an_operation Tail) (meets refl (expands _ (one_more_expression 0) (expands _ an_unsigned_literal (meets refl (expands _ a_plain_integer (meets is_1 (meets refl (expands _ no_more_expressions (expands _ (one_more_number 0) (meets is_1 (expands _ no_more_numbers (meets refl (expands _ (one_more_expression 0) (expands _ a_signed_literal (meets refl (expands _ a_negative_integer (meets refl (meets is_2 (meets refl (expands _ no_more_expressions (expands _ no_more_numbers (meets refl (done))))))))))))))))))))))))))
+short_literal = expands _ (an_operation Add tt) (meets refl (expands _ (one_more_expression 1) (expands _ (an_operation Tail tt) (meets refl (expands _ (one_more_expression 0) (expands _ an_unsigned_literal (meets refl (expands _ a_plain_integer (meets is_1 (meets refl (expands _ no_more_expressions (expands _ (one_more_number 0) (meets is_1 (expands _ no_more_numbers (meets refl (expands _ (one_more_expression 0) (expands _ a_signed_literal (meets refl (expands _ a_negative_integer (meets refl (meets is_2 (meets refl (expands _ no_more_expressions (expands _ no_more_numbers (meets refl (done))))))))))))))))))))))))))
 
 -- A whole text: its circuit has no module.
 empty_text : Derives (A Text ∷ []) (w "FIRRTL" ∷ w "version" ∷ d "3" ∷ m 46 ∷ d "0" ∷ m 46 ∷ d "0" ∷ A_line_end ∷ w "circuit" ∷ w "M" ∷ m 58 ∷ A_line_end ∷ The_end ∷ [])

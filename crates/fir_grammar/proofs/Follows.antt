@@ -64,7 +64,7 @@ reference_mark ss m bytes _ a_component ps f = (Front-taken f).0
 expression_mark_case : (ss : List Symbol) (m : ℕ) (bytes : List ℕ) (body : List Symbol) → IsCase Expression body → Never (body ++ ss) (a_mark m bytes)
 expression_mark_case ss m bytes _ a_reference ps f = never_rule Reference ss (a_mark m bytes) (reference_mark ss m bytes) ps f
 expression_mark_case ss m bytes _ a_mux ps f = (Front-taken f).0
-expression_mark_case ss m bytes _ (an_operation prim) ps f = (Front-taken f).0
+expression_mark_case ss m bytes _ (an_operation prim written) ps f = (Front-taken f).0
 expression_mark_case ss m bytes _ an_unsigned_literal ps f = (Front-taken f).0
 expression_mark_case ss m bytes _ a_signed_literal ps f = (Front-taken f).0
 expression_mark_case ss m bytes _ a_wide_unsigned_literal ps f = (Front-taken f).0
@@ -264,7 +264,7 @@ settled_case ss a_writer h = h.1
 settled_case ss a_readwriter h = h.1
 settled_case ss a_reference h = ((h.0.0, (h.0.1.0, tt)), h.1)
 settled_case ss a_mux h = (expression_mark_next ss 41 (apart 46 41 refl) (apart 91 41 refl) (apart 60 41 refl), h.1)
-settled_case ss (an_operation prim) h = (expressions_close (arity_of prim).1 ss, (tt, h.1))
+settled_case ss (an_operation prim written) h = (expressions_close (arity_of prim).1 ss, (tt, h.1))
 settled_case ss no_more_expressions h = h.1
 settled_case ss (one_more_expression n) h = (expression_expressions n ss h.0, h)
 settled_case ss no_more_numbers h = h.1

@@ -9,7 +9,7 @@ use Rattle.bit_words.specs.declared.number.Base.TheVariants.{Decimal}
 use Rattle.fir_lexer.specs.declared.token.TokenKind.TheVariants as kind
 use Rattle.fir_layout.specs.Pieces.{Piece, A_token, A_line_end, A_block_opens, A_block_closes, The_end, bytes_of, piece_of}
 use Rattle.prim_ops.specs.declared.operation.PrimOp.{PrimOp}
-use Rattle.prim_ops.specs.Operations.{name_of, arity_of}
+use Rattle.prim_ops.specs.Operations.{name_of, arity_of, IsWritten}
 use Rattle.bit_words.specs.declared.number.Number.{Number}
 use Rattle.bit_words.specs.declared.value.Kind.TheVariants as sign
 use Rattle.place_text.specs.declared.place.Place.{Place}
@@ -253,7 +253,7 @@ pub data IsCase : Rule → List Symbol → Type 0 where
   a_reference : IsCase Expression (A Reference ∷ [])
   a_mux : IsCase Expression (call_at "mux" ∷ A (Expressions 3) ∷ close ∷ [])
   -- | op( as many expr, then as many num, as the operation takes, ")"
-  an_operation : (prim : PrimOp) → IsCase Expression
+  an_operation : (prim : PrimOp) → IsWritten prim → IsCase Expression
       (Is Its_place (The_call (name_of prim)) ∷ A (Expressions (arity_of prim).0) ∷ A (Numbers (arity_of prim).1) ∷ close ∷ [])
   no_more_expressions : IsCase (Expressions 0) []
   one_more_expression : (n : ℕ) → IsCase (Expressions (suc n)) (A Expression ∷ A (Expressions n) ∷ [])
@@ -393,7 +393,7 @@ tree a_writer (at, (name, _)) = line.MemPort at mode.Writer name
 tree a_readwriter (at, (name, _)) = line.MemPort at mode.ReadWriter name
 tree a_reference (expr, _) = expr
 tree a_mux (at, (operands, _)) = record { place = at; form = form.Mux operands }
-tree (an_operation prim) (at, (operands, (parameters, _))) = record { place = at; form = form.Prim prim operands parameters }
+tree (an_operation prim written) (at, (operands, (parameters, _))) = record { place = at; form = form.Prim prim operands parameters }
 tree no_more_expressions _ = []
 tree (one_more_expression n) (first, (others, _)) = first ∷ others
 tree no_more_numbers _ = []

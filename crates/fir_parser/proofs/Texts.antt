@@ -106,8 +106,8 @@ nothing_behind old new laid h =
 
 -- the circuit
 pub circuit_read : (old new : Reader) (main : Name) (modules : List TheModule) → old.at ≡ 0 → old.names ≡ field_names → HasTaken (A Text ∷ []) old new ((main, modules), tt) → drop new.at old.laid.now ≡ []
-    → IsCircuit old.bytes.now old.laid.now (record { names = new.names; main = main; modules = modules })
-circuit_read old new main modules at names h end = record { spelled = rw (end, at, names) at h.read.spelled }
+    → IsCircuit old.bytes.now old.laid.now (record { names = new.names; main = main; modules = modules; prints = [] })
+circuit_read old new main modules at names h end = record { spelled = rw (end, at, names) at h.read.spelled; none = refl }
 
 left_none : (list : List Laid) (j : ℕ) → drop j list ≡ [] → length list ≤ j
 left_none list j e = let counted : length (drop j list) ≡ 0 = ap (λ (ls : List Laid). length ls) e in let a = length-drop j list in omega (arith, a, counted)

@@ -201,7 +201,7 @@ case_good a_writer (at, (name, _)) g = tt
 case_good a_readwriter (at, (name, _)) g = tt
 case_good a_reference (expr, _) (g, _) = g
 case_good a_mux (at, (operands, _)) (g, _) = of-mux at operands ∙ both g.1 (eq-eqb (length (map is_shaped operands)) 3 (length-map operands is_shaped ∙ g.0))
-case_good (an_operation prim) (at, (operands, (parameters, _))) (g, (h, _)) =
+case_good (an_operation prim written) (at, (operands, (parameters, _))) (g, (h, _)) =
     of-prim at prim operands parameters
     ∙ both g.1 (both (eq-eqb (length (map is_shaped operands)) (arity_of prim).0 (length-map operands is_shaped ∙ g.0)) (eq-eqb (length parameters) (arity_of prim).1 h))
 case_good no_more_expressions _ g = (refl, refl)

@@ -31,7 +31,7 @@ pub fn width_of(typ: &FirType) -> u8
 {
     let width = match &typ.shape {
         Shape::Unsigned(Some(width)) | Shape::Signed(Some(width)) => *width,
-        Shape::Reset => 1,
+        Shape::Reset | Shape::AsyncReset => 1,
         _ => 0,
     };
     width.min(128) as u8

@@ -11,10 +11,12 @@ ghost use Rattle.meaning_examples.specs.Samples.{typ, whole_leaf, leaf};
 ghost use Rattle.meaning_examples.specs.Sides.{pairs, x_of, x_leaf};
 ghost use Rattle.meaning_examples.specs.Registers.{IsMadeOf, of_pair, cut, resetting};
 
-/// A `Reset` has one bit, without a sign.
+/// A `Reset` and an `AsyncReset` have one bit, without a sign.
 pub fn resets_have_one_bit()
     ensures width { width_of_leaf (whole_leaf (typ shape.Reset)) ≡ 1 }
     ensures kind { kind_of_leaf (whole_leaf (typ shape.Reset)) ≡ Unsigned }
+    ensures async_width { width_of_leaf (whole_leaf (typ shape.AsyncReset)) ≡ 1 }
+    ensures async_kind { kind_of_leaf (whole_leaf (typ shape.AsyncReset)) ≡ Unsigned }
 {}
 
 /// An `init` that is wider than its register is cut: 19 in 8 bits is 3 in 4.

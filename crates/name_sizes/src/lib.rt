@@ -146,7 +146,11 @@ pub fn ways_of(names: &Names, typ: &FirType) -> Ways
     let mut inside = typ;
     loop {
         match &inside.shape {
-            Shape::Unsigned(_) | Shape::Signed(_) | Shape::Clock | Shape::Reset => {
+            Shape::Unsigned(_)
+            | Shape::Signed(_)
+            | Shape::Clock
+            | Shape::Reset
+            | Shape::AsyncReset => {
                 return run.around(Ways {
                     leaves: 1,
                     bytes: 0,

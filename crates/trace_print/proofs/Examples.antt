@@ -14,6 +14,7 @@ use Rattle.fir_types.specs.declared.fir_type.Field.{Field}
 use Rattle.fir_types.specs.declared.leaf.PathStep.TheVariants as step
 use Rattle.fir_types.specs.declared.port.Port.{Port}
 use Rattle.fir_types.specs.Leaves.{leaves}
+use Rattle.fir_tree.specs.declared.circuit.Circuit.{Circuit}
 use Rattle.fir_tree.specs.declared.circuit.Module.{Module}
 use Rattle.fir_tree.specs.declared.expr.Expr.{Expr}
 use Rattle.fir_tree.specs.declared.scope.Fitted.{Fitted}
@@ -23,7 +24,7 @@ use Rattle.trace_print.specs.declared.component.Component.{Component}
 use Rattle.trace_print.specs.Trace.{header_of, trace_line_of}
 use Rattle.trace_print.specs.Components.{stmt_declared, components_of}
 use Rattle.leaf_names.specs.LeafNames.{Texts}
-use Rattle.trace_print.specs.Listing.{component_lines, listing_of}
+use Rattle.trace_print.specs.Listing.{shape_line, component_lines, listing_of}
 
 -- a header
 
@@ -94,11 +95,15 @@ main = record { name = name 1; ports = []; body = stmt.Inst (name 7) (name 0) �
 abbrev apart : Module
 apart = record { name = name 2; ports = port false 6 (typ (shape.Unsigned (Some 3))) ∷ []; body = [] }
 
+abbrev circuit : Circuit
+circuit = record { names = texts; main = name 1; modules = child ∷ main ∷ apart ∷ []; prints = [] }
+
 -- The three modules, of which M reaches itself and C, with the types of their declarations.
 abbrev fitted : Fitted
 fitted = record {
   checked = record {
-    circuit = record { names = texts; main = name 1; modules = child ∷ main ∷ apart ∷ [] };
+    circuit = circuit;
+    resolved = circuit;
     scope = record { reached = true ∷ true ∷ false ∷ []; uses = []; targets = 0 ∷ [] };
     types = [];
   };
@@ -124,6 +129,15 @@ bundle_leaves = grind (arith, type_lemmas)
 
 wire_leaves : leaves (typ (shape.Signed (Some 4))) ≡ record { path = []; flip = false; typ = typ (shape.Signed (Some 4)) } ∷ []
 wire_leaves = grind (arith, type_lemmas)
+
+-- A Reset and an AsyncReset are one bit.
+reset_line : shape_line (codes "M r") shape.Reset ≡ codes "M r UInt 1\n"
+unfolding digits
+reset_line = refl
+
+async_line : shape_line (codes "M a") shape.AsyncReset ≡ codes "M a UInt 1\n"
+unfolding digits
+async_line = refl
 
 -- The clock has no line.
 three_lines : listing_of fitted ≡ codes "C io.v[0].x UInt 3\nC io.v[1].x UInt 3\nM w SInt 4\n"

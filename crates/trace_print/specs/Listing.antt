@@ -16,7 +16,7 @@ abbrev pub width_line : List ℕ → List ℕ → Option ℕ → List ℕ
 width_line front kind (Some width) = front ++ codes " " ++ kind ++ codes " " ++ decimal width ++ codes "\n"
 width_line front kind None = []
 
--- A Reset is one bit, and a Clock has no line.
+-- A Reset and an AsyncReset are one bit, and a Clock has no line.
 abbrev pub shape_line : List ℕ → Shape → List ℕ
 shape_line front (shape.Unsigned width) = width_line front (codes "UInt") width
 shape_line front (shape.Signed width) = width_line front (codes "SInt") width

@@ -2,3 +2,4 @@ pub mod Same
 pub mod Sound
 pub mod Made
 pub mod Ports
+mod Examples

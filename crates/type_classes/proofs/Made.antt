@@ -13,7 +13,7 @@ use Rattle.fir_types.specs.Equivalence.{a_uint, a_reset, a_sint}
 use Rattle.fir_types.specs.Runs.{within}
 use Rattle.fir_types.proofs.Runs.{within_last}
 use Rattle.type_classes.specs.declared.keys.FieldPart.{FieldPart}
-use Rattle.type_classes.specs.Numbers.{Table, vector_number, field_number, HasNumber, HaveNumber, as_unsigned, as_signed, as_clock, as_vector, as_bundle, as_empty, as_fields}
+use Rattle.type_classes.specs.Numbers.{Table, vector_number, field_number, HasNumber, HaveNumber, as_unsigned, as_signed, as_clock, as_async, as_vector, as_bundle, as_empty, as_fields}
 use Rattle.type_classes.specs.Masks.{masked, masked_field}
 use Rattle.type_classes.specs.Parts.{AreParts, no_parts, one_part}
 
@@ -65,10 +65,6 @@ pub reset_number : (table : Table) (mask : Bool) (t : FirType) → t.shape ≡ s
 reset_number table true t h = as_unsigned (a_uint (Some 1) (mask-reset t h))
 reset_number table false t h = as_unsigned (a_reset h)
 
-pub async_number : (table : Table) (mask : Bool) (t : FirType) → t.shape ≡ shape.AsyncReset → HasNumber table (masked mask t) 0
-async_number table true t h = as_unsigned (a_uint (Some 1) (mask-async t h))
-async_number table false t h = as_unsigned (a_reset h)
-
 pub signed_number : (table : Table) (mask : Bool) (t : FirType) (w : Option ℕ) (n : ℕ) → t.shape ≡ shape.Signed w → (mask ≡ true → n ≡ 0) → (mask ≡ false → n ≡ 1)
     → HasNumber table (masked mask t) n
 signed_number table true t w n h a b = subst (HasNumber table (mask_of t)) (sym (a refl)) (as_unsigned (a_uint (Some 1) (mask-signed t w h)))
@@ -78,6 +74,11 @@ pub clock_number : (table : Table) (mask : Bool) (t : FirType) (n : ℕ) → t.s
     → HasNumber table (masked mask t) n
 clock_number table true t n h a b = subst (HasNumber table (mask_of t)) (sym (a refl)) (as_unsigned (a_uint (Some 1) (mask-clock t h)))
 clock_number table false t n h a b = subst (HasNumber table t) (sym (b refl)) (as_clock h)
+
+pub async_number : (table : Table) (mask : Bool) (t : FirType) (n : ℕ) → t.shape ≡ shape.AsyncReset → (mask ≡ true → n ≡ 0) → (mask ≡ false → n ≡ 4)
+    → HasNumber table (masked mask t) n
+async_number table true t n h a b = subst (HasNumber table (mask_of t)) (sym (a refl)) (as_unsigned (a_uint (Some 1) (mask-async t h)))
+async_number table false t n h a b = subst (HasNumber table t) (sym (b refl)) (as_async h)
 
 pub vector_has : (table : Table) (mask : Bool) (t e : FirType) (l inner n : ℕ) → t.shape ≡ shape.Vector e l → HasNumber table (masked mask e) inner
     → vector_number table (record { element = inner; length = l }) ≡ Some n → HasNumber table (masked mask t) n
@@ -165,8 +166,6 @@ have_all table ps fields parts = have_none table (drop (length ps) ps) (drop_all
 -- by the shape
 
 pub unsigned_shape : (table : Table) (mask : Bool) (s : Shape) → ((w : Option ℕ) × (s ≡ shape.Unsigned w)) ⊎ (s ≡ shape.Reset) → (t : FirType) → t.shape ≡ s
-    → HasNumber table (masked mask t) 0
-pub unsigned_shape : (table : Table) (mask : Bool) (s : Shape) → ((w : Option ℕ) × (s ≡ shape.Unsigned w)) ⊎ (s ≡ shape.AsyncReset) → (t : FirType) → t.shape ≡ s
     → HasNumber table (masked mask t) 0
 unsigned_shape table mask s (inl (w, e)) t is = unsigned_number table mask t w (is ∙ e)
 unsigned_shape table mask s (inr e) t is = reset_number table mask t (is ∙ e)

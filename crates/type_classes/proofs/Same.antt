@@ -9,11 +9,11 @@ use Rattle.fir_types.specs.declared.fir_type.FirType.{FirType, the_lemmas}
 use Rattle.fir_types.specs.declared.fir_type.Shape.TheVariants as shape
 use Rattle.fir_types.specs.declared.fir_type.Shape.TheViews.{out-Shape}
 use Rattle.fir_types.specs.declared.fir_type.Field.{Field}
-use Rattle.fir_types.specs.Equivalence.{Equivalent, IsUnsigned, IsSigned, SameFields, unsigned, signed, clocks, vectors, bundles, no_fields, same_field, a_uint, a_reset, a_sint}
+use Rattle.fir_types.specs.Equivalence.{Equivalent, IsUnsigned, IsSigned, SameFields, unsigned, signed, clocks, asyncs, vectors, bundles, no_fields, same_field, a_uint, a_reset, a_sint}
 use Rattle.type_classes.specs.declared.keys.VectorKey.{VectorKey}
 use Rattle.type_classes.specs.declared.keys.FieldKey.{FieldKey}
 use Rattle.type_classes.specs.declared.keys.FieldClasses.{FieldClasses}
-use Rattle.type_classes.specs.Numbers.{Table, vector_number, field_number, HasNumber, HaveNumber, as_unsigned, as_signed, as_clock, as_vector, as_bundle, as_empty, as_fields}
+use Rattle.type_classes.specs.Numbers.{Table, vector_number, field_number, HasNumber, HaveNumber, as_unsigned, as_signed, as_clock, as_async, as_vector, as_bundle, as_empty, as_fields}
 use Rattle.type_classes.specs.Tables.{HasPart, here, behind, IsSound, FieldHas, ElementHas}
 
 same_element : (e o : FirType) (n m : ℕ) → shape.Vector e n ≡ shape.Vector o m → e ≡ o
@@ -39,13 +39,19 @@ module _ {table : Table} {elements : List (ℕ × ℕ)} {fields : List (ℕ × F
   from_three : {fs : List Field} {n : ℕ} → HaveNumber table fs n → 3 ≤ n
   from_three as_empty = omega arith
   from_three (as_fields {field = f} c a n h hs is) =
-      let b : 4 ≤ n = (sound.bundles (record { name = f.name.id; flip = f.flip; class = c; after = a }) n is).0 in
+      let b : 5 ≤ n = (sound.bundles (record { name = f.name.id; flip = f.flip; class = c; after = a }) n is).0 in
+      omega arith
+
+  not_four : {fs : List Field} {n : ℕ} → HaveNumber table fs n → n ≡ 4 → ⊥
+  not_four as_empty e = omega arith
+  not_four (as_fields {field = f} c a n h hs is) e =
+      let b : 5 ≤ n = (sound.bundles (record { name = f.name.id; flip = f.flip; class = c; after = a }) n is).0 in
       omega arith
 
   -- one number, equivalent types
 
   no_vector : {fs : List Field} {n : ℕ} (key : VectorKey) (m : ℕ) → vector_number table key ≡ Some m → HaveNumber table fs n → m ≡ n → ⊥
-  no_vector key m is as_empty e = let b : 4 ≤ m = (sound.vectors key m is).0 in omega arith
+  no_vector key m is as_empty e = let b : 5 ≤ m = (sound.vectors key m is).0 in omega arith
   no_vector key m is (as_fields {field = f} c a n h hs at) e =
       sound.apart key (record { name = f.name.id; flip = f.flip; class = c; after = a }) n (subst (λ k. vector_number table key ≡ Some k) e is) at
 
@@ -54,27 +60,39 @@ module _ {table : Table} {elements : List (ℕ × ℕ)} {fields : List (ℕ × F
     equal_numbers (as_unsigned a) (as_unsigned b) e = unsigned a b
     equal_numbers (as_unsigned a) (as_signed b) e = absurd (omega arith)
     equal_numbers (as_unsigned a) (as_clock b) e = absurd (omega arith)
+    equal_numbers (as_unsigned a) (as_async b) e = absurd (omega arith)
     equal_numbers (as_unsigned a) (as_vector o l i m is h at) e =
-        let b : 4 ≤ m = (sound.vectors (record { element = i; length = l }) m at).0 in absurd (omega arith)
+        let b : 5 ≤ m = (sound.vectors (record { element = i; length = l }) m at).0 in absurd (omega arith)
     equal_numbers (as_unsigned a) (as_bundle gs m is hs) e = let b : 3 ≤ m = from_three hs in absurd (omega arith)
     equal_numbers (as_signed a) (as_unsigned b) e = absurd (omega arith)
     equal_numbers (as_signed a) (as_signed b) e = signed a b
     equal_numbers (as_signed a) (as_clock b) e = absurd (omega arith)
+    equal_numbers (as_signed a) (as_async b) e = absurd (omega arith)
     equal_numbers (as_signed a) (as_vector o l i m is h at) e =
-        let b : 4 ≤ m = (sound.vectors (record { element = i; length = l }) m at).0 in absurd (omega arith)
+        let b : 5 ≤ m = (sound.vectors (record { element = i; length = l }) m at).0 in absurd (omega arith)
     equal_numbers (as_signed a) (as_bundle gs m is hs) e = let b : 3 ≤ m = from_three hs in absurd (omega arith)
     equal_numbers (as_clock a) (as_unsigned b) e = absurd (omega arith)
     equal_numbers (as_clock a) (as_signed b) e = absurd (omega arith)
     equal_numbers (as_clock a) (as_clock b) e = clocks a b
+    equal_numbers (as_clock a) (as_async b) e = absurd (omega arith)
     equal_numbers (as_clock a) (as_vector o l i m is h at) e =
-        let b : 4 ≤ m = (sound.vectors (record { element = i; length = l }) m at).0 in absurd (omega arith)
+        let b : 5 ≤ m = (sound.vectors (record { element = i; length = l }) m at).0 in absurd (omega arith)
     equal_numbers (as_clock a) (as_bundle gs m is hs) e = let b : 3 ≤ m = from_three hs in absurd (omega arith)
+    equal_numbers (as_async a) (as_unsigned b) e = absurd (omega arith)
+    equal_numbers (as_async a) (as_signed b) e = absurd (omega arith)
+    equal_numbers (as_async a) (as_clock b) e = absurd (omega arith)
+    equal_numbers (as_async a) (as_async b) e = asyncs a b
+    equal_numbers (as_async a) (as_vector o l i m is h at) e =
+        let b : 5 ≤ m = (sound.vectors (record { element = i; length = l }) m at).0 in absurd (omega arith)
+    equal_numbers (as_async a) (as_bundle gs m is hs) e = absurd (not_four hs (sym e))
     equal_numbers (as_vector o l i n is h at) (as_unsigned b) e =
-        let b : 4 ≤ n = (sound.vectors (record { element = i; length = l }) n at).0 in absurd (omega arith)
+        let b : 5 ≤ n = (sound.vectors (record { element = i; length = l }) n at).0 in absurd (omega arith)
     equal_numbers (as_vector o l i n is h at) (as_signed b) e =
-        let b : 4 ≤ n = (sound.vectors (record { element = i; length = l }) n at).0 in absurd (omega arith)
+        let b : 5 ≤ n = (sound.vectors (record { element = i; length = l }) n at).0 in absurd (omega arith)
     equal_numbers (as_vector o l i n is h at) (as_clock b) e =
-        let b : 4 ≤ n = (sound.vectors (record { element = i; length = l }) n at).0 in absurd (omega arith)
+        let b : 5 ≤ n = (sound.vectors (record { element = i; length = l }) n at).0 in absurd (omega arith)
+    equal_numbers (as_vector o l i n is h at) (as_async b) e =
+        let b : 5 ≤ n = (sound.vectors (record { element = i; length = l }) n at).0 in absurd (omega arith)
     equal_numbers {u = u} (as_vector o l i n is h at) (as_vector p k j m js g bt) e =
         let one : VectorKey = record { element = i; length = l } in
         let other : VectorKey = record { element = j; length = k } in
@@ -85,15 +103,16 @@ module _ {table : Table} {elements : List (ℕ × ℕ)} {fields : List (ℕ × F
     equal_numbers (as_bundle fs n is hs) (as_unsigned b) e = let b : 3 ≤ n = from_three hs in absurd (omega arith)
     equal_numbers (as_bundle fs n is hs) (as_signed b) e = let b : 3 ≤ n = from_three hs in absurd (omega arith)
     equal_numbers (as_bundle fs n is hs) (as_clock b) e = let b : 3 ≤ n = from_three hs in absurd (omega arith)
+    equal_numbers (as_bundle fs n is hs) (as_async b) e = absurd (not_four hs e)
     equal_numbers (as_bundle fs n is hs) (as_vector o l i m js h at) e = absurd (no_vector (record { element = i; length = l }) m at hs (sym e))
     equal_numbers (as_bundle fs n is hs) (as_bundle gs m js ks) e = bundles fs gs is js (equal_fields hs ks e)
 
     equal_fields : {fs gs : List Field} {n m : ℕ} → HaveNumber table fs n → HaveNumber table gs m → n ≡ m → SameFields fs gs
     equal_fields as_empty as_empty e = no_fields
     equal_fields as_empty (as_fields {field = f} c a m h hs is) e =
-        let b : 4 ≤ m = (sound.bundles (record { name = f.name.id; flip = f.flip; class = c; after = a }) m is).0 in absurd (omega arith)
+        let b : 5 ≤ m = (sound.bundles (record { name = f.name.id; flip = f.flip; class = c; after = a }) m is).0 in absurd (omega arith)
     equal_fields (as_fields {field = f} c a n h hs is) as_empty e =
-        let b : 4 ≤ n = (sound.bundles (record { name = f.name.id; flip = f.flip; class = c; after = a }) n is).0 in absurd (omega arith)
+        let b : 5 ≤ n = (sound.bundles (record { name = f.name.id; flip = f.flip; class = c; after = a }) n is).0 in absurd (omega arith)
     equal_fields (as_fields {field = f} c a n h hs is) (as_fields {field = g} d b m k ks at) e =
         let one : FieldKey = record { name = f.name.id; flip = f.flip; class = c; after = a } in
         let other : FieldKey = record { name = g.name.id; flip = g.flip; class = d; after = b } in
@@ -109,6 +128,8 @@ module _ {table : Table} {elements : List (ℕ × ℕ)} {fields : List (ℕ × F
   of_unsigned (a_reset e) (as_signed (a_sint v f)) = absurd cc
   of_unsigned (a_uint w e) (as_clock f) = absurd cc
   of_unsigned (a_reset e) (as_clock f) = absurd cc
+  of_unsigned (a_uint w e) (as_async f) = absurd cc
+  of_unsigned (a_reset e) (as_async f) = absurd cc
   of_unsigned (a_uint w e) (as_vector o l i n f h at) = absurd cc
   of_unsigned (a_reset e) (as_vector o l i n f h at) = absurd cc
   of_unsigned (a_uint w e) (as_bundle fs n f hs) = absurd cc
@@ -119,6 +140,7 @@ module _ {table : Table} {elements : List (ℕ × ℕ)} {fields : List (ℕ × F
   of_signed (a_sint w e) (as_unsigned (a_uint v f)) = absurd cc
   of_signed (a_sint w e) (as_unsigned (a_reset f)) = absurd cc
   of_signed (a_sint w e) (as_clock f) = absurd cc
+  of_signed (a_sint w e) (as_async f) = absurd cc
   of_signed (a_sint w e) (as_vector o l i n f h at) = absurd cc
   of_signed (a_sint w e) (as_bundle fs n f hs) = absurd cc
 
@@ -129,6 +151,16 @@ module _ {table : Table} {elements : List (ℕ × ℕ)} {fields : List (ℕ × F
   of_clock e (as_signed (a_sint v f)) = absurd cc
   of_clock e (as_vector o l i n f h at) = absurd cc
   of_clock e (as_bundle fs n f hs) = absurd cc
+  of_clock e (as_async f) = absurd cc
+
+  of_async : {t : FirType} {n : ℕ} → t.shape ≡ shape.AsyncReset → HasNumber table t n → n ≡ 4
+  of_async e (as_async f) = refl
+  of_async e (as_unsigned (a_uint v f)) = absurd cc
+  of_async e (as_unsigned (a_reset f)) = absurd cc
+  of_async e (as_signed (a_sint v f)) = absurd cc
+  of_async e (as_clock f) = absurd cc
+  of_async e (as_vector o l i n f h at) = absurd cc
+  of_async e (as_bundle fs n f hs) = absurd cc
 
   of_vector : {t : FirType} {n : ℕ} (e : FirType) (l : ℕ) → t.shape ≡ shape.Vector e l → HasNumber table t n
       → (i : ℕ) × HasNumber table e i × (vector_number table (record { element = i; length = l }) ≡ Some n)
@@ -141,6 +173,7 @@ module _ {table : Table} {elements : List (ℕ × ℕ)} {fields : List (ℕ × F
   of_vector e l is (as_unsigned (a_reset f)) = absurd cc
   of_vector e l is (as_signed (a_sint v f)) = absurd cc
   of_vector e l is (as_clock f) = absurd cc
+  of_vector e l is (as_async f) = absurd cc
   of_vector e l is (as_bundle fs n f hs) = absurd cc
 
   of_bundle : {t : FirType} {n : ℕ} (fs : List Field) → t.shape ≡ shape.Bundle fs → HasNumber table t n → HaveNumber table fs n
@@ -149,6 +182,7 @@ module _ {table : Table} {elements : List (ℕ × ℕ)} {fields : List (ℕ × F
   of_bundle fs is (as_unsigned (a_reset f)) = absurd cc
   of_bundle fs is (as_signed (a_sint v f)) = absurd cc
   of_bundle fs is (as_clock f) = absurd cc
+  of_bundle fs is (as_async f) = absurd cc
   of_bundle fs is (as_vector o l i n f h at) = absurd cc
 
   -- equivalent types, one number
@@ -158,6 +192,7 @@ module _ {table : Table} {elements : List (ℕ × ℕ)} {fields : List (ℕ × F
     equivalent_numbers (unsigned a b) h k = of_unsigned a h ∙ sym (of_unsigned b k)
     equivalent_numbers (signed a b) h k = of_signed a h ∙ sym (of_signed b k)
     equivalent_numbers (clocks a b) h k = of_clock a h ∙ sym (of_clock b k)
+    equivalent_numbers (asyncs a b) h k = of_async a h ∙ sym (of_async b k)
     equivalent_numbers {n = n} {m = m} (vectors e o l is js q) h k =
         let a = of_vector e l is h in
         let b = of_vector o l js k in
@@ -177,7 +212,7 @@ module _ {table : Table} {elements : List (ℕ × ℕ)} {fields : List (ℕ × F
 
   -- the number of a part
 
-  part_above : {n name class : ℕ} → HasPart table n name class → 4 ≤ n
+  part_above : {n name class : ℕ} → HasPart table n name class → 5 ≤ n
   part_above {n} {name} {class} (here flip after is) = (sound.bundles (record { name = name; flip = flip; class = class; after = after }) n is).0
   part_above {n} (behind key is other rest) = (sound.bundles key n is).0
 
@@ -195,7 +230,7 @@ module _ {table : Table} {elements : List (ℕ × ℕ)} {fields : List (ℕ × F
 
   part_found : {fs : List Field} {n name class : ℕ} → HaveNumber table fs n → HasPart table n name class
       → (field : Field) × (find (λ f. f.name.id == name) fs ≡ Some field) × HasNumber table field.typ class
-  part_found as_empty p = let b : 4 ≤ 3 = part_above p in absurd (omega arith)
+  part_found as_empty p = let b : 5 ≤ 3 = part_above p in absurd (omega arith)
   part_found {name = name} {class = class} (as_fields {field = f} {fields = fs} c a n h hs is) (here flip after at) =
       let one : FieldKey = record { name = f.name.id; flip = f.flip; class = c; after = a } in
       let other : FieldKey = record { name = name; flip = flip; class = class; after = after } in
@@ -215,17 +250,19 @@ module _ {table : Table} {elements : List (ℕ × ℕ)} {fields : List (ℕ × F
       )
 
   pub field_has : {t : FirType} {n name class : ℕ} → HasNumber table t n → HasPart table n name class → FieldHas table t name class
-  field_has (as_unsigned u) p = let b : 4 ≤ 0 = part_above p in absurd (omega arith)
-  field_has (as_signed u) p = let b : 4 ≤ 1 = part_above p in absurd (omega arith)
-  field_has (as_clock u) p = let b : 4 ≤ 2 = part_above p in absurd (omega arith)
+  field_has (as_unsigned u) p = let b : 5 ≤ 0 = part_above p in absurd (omega arith)
+  field_has (as_signed u) p = let b : 5 ≤ 1 = part_above p in absurd (omega arith)
+  field_has (as_clock u) p = let b : 5 ≤ 2 = part_above p in absurd (omega arith)
+  field_has (as_async u) p = let b : 5 ≤ 4 = part_above p in absurd (omega arith)
   field_has (as_vector e l i n is h at) p = absurd (part_apart (record { element = i; length = l }) at p)
   field_has (as_bundle fs n is hs) p = let r = part_found hs p in ∣ (r.0.typ, (fs, r.0, is, r.1, refl), r.2) ∣₁
 
   pub element_has : {t : FirType} {n : ℕ} (inner length : ℕ) → HasNumber table t n → vector_number table (record { element = inner; length = length }) ≡ Some n
       → ElementHas table t inner
-  element_has i l (as_unsigned u) at = let b : 4 ≤ 0 = (sound.vectors (record { element = i; length = l }) 0 at).0 in absurd (omega arith)
-  element_has i l (as_signed u) at = let b : 4 ≤ 1 = (sound.vectors (record { element = i; length = l }) 1 at).0 in absurd (omega arith)
-  element_has i l (as_clock u) at = let b : 4 ≤ 2 = (sound.vectors (record { element = i; length = l }) 2 at).0 in absurd (omega arith)
+  element_has i l (as_unsigned u) at = let b : 5 ≤ 0 = (sound.vectors (record { element = i; length = l }) 0 at).0 in absurd (omega arith)
+  element_has i l (as_signed u) at = let b : 5 ≤ 1 = (sound.vectors (record { element = i; length = l }) 1 at).0 in absurd (omega arith)
+  element_has i l (as_clock u) at = let b : 5 ≤ 2 = (sound.vectors (record { element = i; length = l }) 2 at).0 in absurd (omega arith)
+  element_has i l (as_async u) at = let b : 5 ≤ 4 = (sound.vectors (record { element = i; length = l }) 4 at).0 in absurd (omega arith)
   element_has i l (as_vector e k j n is h bt) at =
       let one : VectorKey = record { element = j; length = k } in
       let other : VectorKey = record { element = i; length = l } in

@@ -100,7 +100,7 @@ module _ (vs : List (VectorKey × ℕ)) (bs : List (FieldKey × ℕ)) (es : List
   pub sound_vector : (ws : List (VectorKey × ℕ)) (key : VectorKey) → after ≡ next + 1 → lookup (same_vector key) vs ≡ None → VectorsWith vs ws key next
       → IsSound (table vs bs) es fs next → IsSound (table ws bs) es fs after
   sound_vector ws key up none with' s = record {
-    vectors = λ q m is. elim (from q m is) as (λ _. (4 ≤ m) × (m < after)) [
+    vectors = λ q m is. elim (from q m is) as (λ _. (5 ≤ m) × (m < after)) [
       | inl p ↦ let f = s.free in (omega (arith, p.1, f), omega (arith, p.1))
       | inr o ↦ let b = s.vectors q m o in (b.0, omega (arith, b.1))
     ];
@@ -135,7 +135,7 @@ module _ (vs : List (VectorKey × ℕ)) (bs : List (FieldKey × ℕ)) (es : List
       → IsSound (table vs bs) es fs next → IsSound (table vs cs) es fs after
   sound_bundle cs key up none with' s = record {
     vectors = λ q m is. let b = s.vectors q m is in (b.0, omega (arith, b.1));
-    bundles = λ q m is. elim (from q m is) as (λ _. (4 ≤ m) × (m < after)) [
+    bundles = λ q m is. elim (from q m is) as (λ _. (5 ≤ m) × (m < after)) [
       | inl p ↦ let f = s.free in (omega (arith, p.1, f), omega (arith, p.1))
       | inr o ↦ let b = s.bundles q m o in (b.0, omega (arith, b.1))
     ];

@@ -29,7 +29,7 @@ pub record IsSound (table : Table) (elements : List (ℕ × ℕ)) (fields : List
   pub elements' : (number inner : ℕ) → lookup (nat_eq number) elements ≡ Some inner
       → (length : ℕ) × (vector_number table (record { element = inner; length = length }) ≡ Some number)
   pub fields' : (number : ℕ) (inside : FieldClasses) → lookup (nat_eq number) fields ≡ Some inside → HasParts table number inside.numbers.entries
-  pub free : 4 ≤ next
+  pub free : 5 ≤ next
 
 -- the first field of this name has this type
 abbrev pub IsField : FirType → ℕ → FirType → Type 0

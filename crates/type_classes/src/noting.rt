@@ -4,7 +4,7 @@ ghost use Rattle.std.specs.Prelude.{◌≡◌, List, IfOk, OnOk};
 ghost use Rattle.type_classes.specs.Sights.{table_of, Grows};
 ghost use Rattle.type_classes.specs.Tables.{HasParts};
 
-use crate::classes::{CLOCK, Classes, EMPTY, SIGNED, UNSIGNED};
+use crate::classes::{ASYNC_RESET, CLOCK, Classes, EMPTY, SIGNED, UNSIGNED};
 use crate::keys::{FieldClasses, FieldPart, VectorKey};
 use crate::numbering::unless_mask;
 use fir_types::{Field, FirType, Shape};

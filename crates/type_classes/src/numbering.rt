@@ -10,7 +10,7 @@ ghost use Rattle.type_classes.specs.Parts.{AreParts};
 ghost use Rattle.type_classes.specs.Sights.{table_of};
 ghost use Rattle.type_classes.specs.Masks.{masked, masked_field};
 
-use crate::classes::{CLOCK, Classes, EMPTY, SIGNED, UNSIGNED};
+use crate::classes::{ASYNC_RESET, CLOCK, Classes, EMPTY, SIGNED, UNSIGNED};
 use crate::keys::{FieldKey, FieldPart, VectorKey};
 use fir_types::{Field, FirType, Shape};
 use place_text::Place;

@@ -81,6 +81,10 @@ fn fill_shape<'a>(
             Ok((Shape::Signed(width), rest))
         }
         Shape::Clock => Ok((Shape::Clock, widths)),
+        Shape::AsyncReset => {
+            let (_, rest) = take_first(widths);
+            Ok((Shape::AsyncReset, rest))
+        }
         Shape::Bundle(fields) => {
             let (fields, rest) = fill_fields(alloc, fields.as_slice(), widths)?;
             Ok((Shape::Bundle(Shared::new(alloc, fields)?), rest))

@@ -56,6 +56,13 @@ fn behind_shape<'a>(shape: &Shape, fitted: &Shape, widths: &'a [Width]) -> Optio
             Shape::Clock => Some(widths),
             _ => None,
         },
+        Shape::AsyncReset => {
+            let Shape::AsyncReset = fitted else {
+                return None;
+            };
+            let (_, rest) = take_first(widths);
+            Some(rest)
+        }
         Shape::Bundle(fields) => {
             let Shape::Bundle(others) = fitted else {
                 return None;

@@ -14,7 +14,7 @@ use Rattle.circuit_parts.specs.declared.part.Part.{Part}
 use Rattle.circuit_parts.specs.declared.part.Flow.TheVariants.{Duplex}
 use Rattle.circuit_parts.specs.Parts.{part_of, source_of}
 use Rattle.width_rules.specs.declared.slot.Slot.{Slot}
-use Rattle.width_rules.specs.Places.{spots, size, slots_from, open_spots, node_slots}
+use Rattle.width_rules.specs.Places.{spots, slots_from, open_spots, node_slots, node_size}
 use Rattle.width_rules.specs.declared.component.Component.{Component}
 use Rattle.width_rules.specs.Sources.{Known, component, known_with}
 use Rattle.width_rules.specs.Circuits.{places_for, memory_slots}
@@ -71,19 +71,19 @@ memory_walks all memory element slots typ fitted part a b e s p t fit d n f is k
 }
 
 pub node_walks : (all : Solved) (name : Name) (e : Expr) (held : Surveyed) (mid : Findings) (slots : List Slot) (fitted : FirType) (part : Part) (a b : Walk) → held ≡ kept all.widths (survey all.widths e a.known.entries)
-    → Adds (survey all.widths e a.known.entries) a.found mid → slots ≡ node_slots (length a.places.items) (spots held.part.typ)
-    → b.places.items ≡ a.places.items ++ places_for name.place (size held.part.typ) → fitted ≡ filled held.part.typ (map (slot_width all.widths) slots)
+    → Adds (survey all.widths e a.known.entries) a.found mid → slots ≡ node_slots (length a.places.items) held.part.typ
+    → b.places.items ≡ a.places.items ++ places_for name.place (node_size held.part.typ) → fitted ≡ filled held.part.typ (map (slot_width all.widths) slots)
     → b.declared.items ≡ a.declared.items ++ fitted ∷ [] → b.found.nodes.items ≡ mid.nodes.items → b.found.faults.items ≡ mid.faults.items ++ component_faults all name.place slots
     → part ≡ source_of held.part.typ → b.known.entries ≡ known_with a.known.entries name.id (record { part = part; slots = slots }) → Walks (of_node all name e) a b
 node_walks all name e held mid slots fitted part a b h adds s p fit d n f is k =
     let found = survey all.widths e a.known.entries in
     let count = length a.places.items in
     let t : held.part.typ ≡ found.measured.part.typ = ap (λ held. held.part.typ) h in
-    let own : slots ≡ node_slots count (spots found.measured.part.typ) = s ∙ ap (λ typ. node_slots count (spots typ)) t in
+    let own : slots ≡ node_slots count found.measured.part.typ = s ∙ ap (node_slots count) t in
     record {
       known = k ∙ ap₂ (λ part slots. known_with a.known.entries name.id (record { part = part; slots = slots })) (is ∙ ap source_of t) own
-          ∙ ap (λ m. known_with a.known.entries name.id (record { part = source_of m.part.typ; slots = node_slots count (spots m.part.typ) })) (same_measured all.widths e a.known.entries);
-      count = counted a b name.place (size held.part.typ) p ∙ ap (λ typ. count + size typ) t;
+          ∙ ap (λ m. known_with a.known.entries name.id (record { part = source_of m.part.typ; slots = node_slots count m.part.typ })) (same_measured all.widths e a.known.entries);
+      count = counted a b name.place (node_size held.part.typ) p ∙ ap (λ typ. count + node_size typ) t;
       declared = d ∙ ap (λ t. a.declared.items ++ t ∷ []) (fit ∙ ap₂ (λ typ slots. filled typ (map (slot_width all.widths) slots)) t own);
       nodes = n ∙ adds.nodes;
       faults = f ∙ ap₂ (λ l slots. l ++ component_faults all name.place slots) adds.faults own ∙ append_assoc a.found.faults.items _ _;

@@ -24,7 +24,7 @@ use Rattle.width_rules.specs.declared.slot.Slot.{Slot}
 use Rattle.width_rules.specs.declared.slot.Slot.TheVariants as slot
 use Rattle.width_rules.specs.declared.rule.Rule.{Rule}
 use Rattle.width_rules.specs.Formulas.{level, width_under}
-use Rattle.width_rules.specs.Places.{capped, spots, size, slots_from, open_spots, node_slots}
+use Rattle.width_rules.specs.Places.{capped, spots, slots_from, open_spots, node_slots, node_size}
 use Rattle.width_rules.specs.Sources.{Known, Measured, measured_reference, component, named, field_step, element_step, operation, choice, literal_bits, lone}
 use Rattle.circuit_parts.specs.Turns.{in_order}
 use Rattle.circuit_parts.specs.Parts.{source_of}
@@ -203,10 +203,10 @@ of_instance all modules name target known n =
 abbrev pub of_node : Solved → Name → Expr → Surveys
 of_node all name e known n =
     let s = survey all.widths e known in
-    let slots = node_slots n (spots s.measured.part.typ) in
+    let slots = node_slots n s.measured.part.typ in
     record {
       known = (names_node name e known n).known;
-      count = size s.measured.part.typ;
+      count = node_size s.measured.part.typ;
       declared = filled s.measured.part.typ (map (slot_width all.widths) slots) ∷ [];
       nodes = s.nodes;
       faults = s.faults ++ component_faults all name.place slots;

@@ -13,10 +13,10 @@ use Rattle.prim_ops.specs.Operations.{arity_of}
 use Rattle.prim_ops.specs.Kinds.{row_kind}
 use Rattle.prim_ops.specs.Widths.{row_width}
 use Rattle.circuit_parts.specs.Parts.{source_of, no_part}
-use Rattle.circuit_parts.specs.Kinds.{sign_of, ground, sign_or_unsigned}
+use Rattle.circuit_parts.specs.Kinds.{sign_of, sign_or_unsigned}
 use Rattle.width_rules.specs.declared.component.Component.{Component}
 use Rattle.width_rules.specs.Formulas.{level}
-use Rattle.width_rules.specs.Sources.{Known, operation, choice, measured_reference, named, component}
+use Rattle.width_rules.specs.Sources.{Known, result_type, operation, choice, measured_reference, named, component}
 use Rattle.width_fit.specs.declared.fault.WidthFault.{WidthFault}
 use Rattle.width_fit.specs.declared.fault.WidthFault.TheVariants.{WidthOver, ParameterRange, ConditionWidth}
 use Rattle.width_fit.specs.declared.found.Findings.{Findings}
@@ -69,7 +69,7 @@ width_in_row prim kinds widths params = if is_some (row_kind prim kinds) && nat_
 
 abbrev pub operated : PrimOp → Place → List Sign → List Width → List ℕ → Surveyed
 operated prim place kinds widths params =
-    record { place = place; part = source_of (ground place (sign_or_unsigned (row_kind prim kinds)) None); widths = width_in_row prim kinds widths params ∷ [] }
+    record { place = place; part = source_of (result_type prim place (sign_or_unsigned (row_kind prim kinds))); widths = width_in_row prim kinds widths params ∷ [] }
 
 abbrev pub chosen : Place → List Surveyed → Surveyed
 chosen place (condition ∷ first ∷ second ∷ []) = record { place = place; part = source_of first.part.typ; widths = map wider_of (zip first.widths second.widths) }

@@ -24,7 +24,7 @@ use place_text::Place;
 use prim_ops::{Prim, Width};
 use std::alloc::{AllocError, Global};
 use width_rules::indexed::Indexed;
-use width_rules::measuring::{look_up, no_component, row_of, width_of};
+use width_rules::measuring::{look_up, no_component, result_type, row_of, width_of};
 use width_rules::steps::walk_steps;
 use width_rules::widths::bounded;
 
@@ -225,7 +225,7 @@ fn survey_operation(
     let kind = row_of(prim, kinds.as_slice()).unwrap_or(Kind::Unsigned);
     Ok(Surveyed {
         place,
-        part: source(ground(place, kind, None)),
+        part: source(result_type(prim, place, kind)),
         widths: whole,
     })
 }

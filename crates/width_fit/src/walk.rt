@@ -253,7 +253,7 @@ fn declare_instance(
     declare(&mut walk.known, &mut walk.fits, name.id, instance, fit)
 }
 
-/// A node, whose places all have variables.
+/// A node, whose places have variables, but for those that are an AsyncReset.
 fn declare_node(
     alloc: Global,
     given: &Given<'_>,

@@ -166,7 +166,7 @@ fn declare_instance(
     note(&mut found.known, name.id, instance)
 }
 
-/// A node has a variable for each place, which is at least the expression's width.
+/// A node has a variable for each place but for an AsyncReset; it is at least the expression's width.
 fn declare_node(
     alloc: Global,
     found: &mut Found<'_>,

@@ -13,10 +13,10 @@ use Rattle.fir_tree.specs.declared.expr.Expr.{Expr, the_lemmas}
 use Rattle.fir_tree.specs.declared.expr.Suffix.{Suffix}
 use Rattle.fir_tree.specs.declared.expr.Form.TheVariants as form
 use Rattle.circuit_parts.specs.Parts.{source_of}
-use Rattle.circuit_parts.specs.Kinds.{ground, sign_or_unsigned}
+use Rattle.circuit_parts.specs.Kinds.{sign_or_unsigned}
 use Rattle.width_rules.specs.declared.rule.Formula.{Formula}
 use Rattle.width_rules.specs.declared.component.Component.{Component}
-use Rattle.width_rules.specs.Sources.{Known, Measured, measured, measured_reference, component, suffix_step, named, kind_of, lone, operation, choice, greater_of}
+use Rattle.width_rules.specs.Sources.{Known, Measured, measured, measured_reference, component, suffix_step, named, kind_of, lone, result_type, operation, choice, greater_of}
 use Rattle.width_rules.specs.Parts.{formula_over, operation_over}
 
 pub measured-ref : (e : Expr) (name : Name) (suffixes : List Suffix) (known : Known) → e.form ≡ form.Ref name suffixes → measured e known ≡ measured_reference (named (map suffix_step suffixes) (component known name.id))
@@ -55,7 +55,7 @@ named_more suffixes i s base before after lt is h a =
 -- an operation over what was found of its operands
 pub prim_told : (e : Expr) (op : PrimOp) (operands : List Expr) (params ps : List ℕ) (known : Known) (kinds : List Kind) (formulas : List Formula) (typ : FirType) (own : Formula)
     → e.form ≡ form.Prim op operands params → kinds ≡ map (λ x. kind_of (measured x known)) operands → formulas ≡ map (λ x. lone (measured x known).formulas) operands → ps ≡ params
-    → typ ≡ ground e.place (sign_or_unsigned (row_kind op kinds)) None → own ≡ formula_over op kinds formulas ps → record { part = source_of typ; formulas = own ∷ [] } ≡ measured e known
+    → typ ≡ result_type op e.place (sign_or_unsigned (row_kind op kinds)) → own ≡ formula_over op kinds formulas ps → record { part = source_of typ; formulas = own ∷ [] } ≡ measured e known
 prim_told e op operands params ps known kinds formulas typ own h k f p t o =
     ap₂ (λ typ own. record { part = source_of typ; formulas = own ∷ [] }) t o
     ∙ ap₂ (λ ks fs. operation_over op e.place ks fs ps) k f

@@ -4,7 +4,7 @@ use Rattle.std.proofs.Math.Nat.{pow-le-pow_right}
 use Rattle.bit_words.specs.declared.value.Kind.{Kind}
 use Rattle.bit_words.specs.declared.value.Kind.TheVariants.{Unsigned, Signed}
 use Rattle.prim_ops.specs.declared.operation.PrimOp.{PrimOp}
-use Rattle.prim_ops.specs.declared.operation.PrimOp.TheVariants.{Add, Sub, Mul, Div, Rem, Lt, Leq, Gt, Geq, Eq, Neq, Pad, AsUInt, AsSInt, Shl, Shr, Dshl, Dshr, Cvt, Neg, Not, And, Or, Xor, Andr, Orr, Xorr, Cat, Head, Tail}
+use Rattle.prim_ops.specs.declared.operation.PrimOp.TheVariants.{Add, Sub, Mul, Div, Rem, Lt, Leq, Gt, Geq, Eq, Neq, Pad, AsUInt, AsSInt, AsAsyncReset, Shl, Shr, ShrFour, Dshl, Dshr, Cvt, Neg, Not, And, Or, Xor, Andr, Orr, Xorr, Cat, Head, Tail}
 use Rattle.prim_ops.specs.declared.operation.PrimOp.TheVariants.{Bits as BitsOp}
 use Rattle.prim_ops.specs.Widths.{width_on_one, width_on_two, width_number}
 
@@ -23,8 +23,11 @@ one_grows Neq kind v w n low h = omega (arith, h)
 one_grows Pad kind v w n low h = omega (arith, h)
 one_grows AsUInt kind v w n low h = omega (arith, h)
 one_grows AsSInt kind v w n low h = omega (arith, h)
+one_grows AsAsyncReset kind v w n low h = omega (arith, h)
 one_grows Shl kind v w n low h = omega (arith, h)
 one_grows Shr kind v w n low h = omega (arith, h)
+one_grows ShrFour Unsigned v w n low h = omega (arith, h)
+one_grows ShrFour Signed v w n low h = omega (arith, h)
 one_grows Dshl kind v w n low h = omega (arith, h)
 one_grows Dshr kind v w n low h = omega (arith, h)
 one_grows Cvt Unsigned v w n low h = omega (arith, h)
@@ -58,8 +61,10 @@ two_grows Neq kind u v w x h i = omega (arith, h, i)
 two_grows Pad kind u v w x h i = omega (arith, h, i)
 two_grows AsUInt kind u v w x h i = omega (arith, h, i)
 two_grows AsSInt kind u v w x h i = omega (arith, h, i)
+two_grows AsAsyncReset kind u v w x h i = omega (arith, h, i)
 two_grows Shl kind u v w x h i = omega (arith, h, i)
 two_grows Shr kind u v w x h i = omega (arith, h, i)
+two_grows ShrFour kind u v w x h i = omega (arith, h, i)
 two_grows Dshl kind u v w x h i = omega (arith, h, pow-le-pow_right {n = 2} (omega arith) {i = w} {j = x} i)
 two_grows Dshr kind u v w x h i = omega (arith, h, i)
 two_grows Cvt kind u v w x h i = omega (arith, h, i)

@@ -17,3 +17,4 @@ pub mod Targets
 pub mod Walking
 pub mod Cuts
 pub mod Ends
+mod Examples

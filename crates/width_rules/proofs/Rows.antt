@@ -2,7 +2,7 @@
 use Rattle.std.proofs.Common.{◌≡◌, true, List, [], ◌∷◌, length, is_some, refl}
 use Rattle.bit_words.specs.declared.value.Kind.{Kind}
 use Rattle.prim_ops.specs.declared.operation.PrimOp.{PrimOp}
-use Rattle.prim_ops.specs.declared.operation.PrimOp.TheVariants.{Add, Sub, Mul, Div, Rem, Lt, Leq, Gt, Geq, Eq, Neq, Pad, AsUInt, AsSInt, Shl, Shr, Dshl, Dshr, Cvt, Neg, Not, And, Or, Xor, Andr, Orr, Xorr, Cat, Bits, Head, Tail}
+use Rattle.prim_ops.specs.declared.operation.PrimOp.TheVariants.{Add, Sub, Mul, Div, Rem, Lt, Leq, Gt, Geq, Eq, Neq, Pad, AsUInt, AsSInt, AsAsyncReset, Shl, Shr, ShrFour, Dshl, Dshr, Cvt, Neg, Not, And, Or, Xor, Andr, Orr, Xorr, Cat, Bits, Head, Tail}
 use Rattle.prim_ops.specs.Operations.{arity_of}
 use Rattle.prim_ops.specs.Kinds.{kind_on_one, kind_on_two, row_kind}
 
@@ -21,8 +21,10 @@ on_one Neq a h = absurd cc
 on_one Pad a h = refl
 on_one AsUInt a h = refl
 on_one AsSInt a h = refl
+on_one AsAsyncReset a h = refl
 on_one Shl a h = refl
 on_one Shr a h = refl
+on_one ShrFour a h = refl
 on_one Dshl a h = absurd cc
 on_one Dshr a h = absurd cc
 on_one Cvt a h = refl
@@ -54,8 +56,10 @@ on_two Neq a b h = refl
 on_two Pad a b h = absurd cc
 on_two AsUInt a b h = absurd cc
 on_two AsSInt a b h = absurd cc
+on_two AsAsyncReset a b h = absurd cc
 on_two Shl a b h = absurd cc
 on_two Shr a b h = absurd cc
+on_two ShrFour a b h = absurd cc
 on_two Dshl a b h = refl
 on_two Dshr a b h = refl
 on_two Cvt a b h = absurd cc

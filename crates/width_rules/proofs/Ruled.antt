@@ -25,7 +25,7 @@ use Rattle.width_rules.specs.declared.rule.Formula.TheVariants as formula
 use Rattle.width_rules.specs.declared.rule.Rule.{Rule}
 use Rattle.width_rules.specs.Formulas.{IsFormula}
 use Rattle.width_rules.specs.Solutions.{IsRule, AreRules}
-use Rattle.width_rules.specs.Places.{Spot, spots, size, slot_of, is_open, slots_from, open_spots, node_slots}
+use Rattle.width_rules.specs.Places.{Spot, spots, slot_of, is_open, slots_from, open_spots, node_spots, node_slots, node_size}
 use Rattle.width_rules.specs.Sources.{Known, known_with, measured, formula_of, component_or_none}
 use Rattle.width_rules.specs.Circuits.{Walk, Gathered, WithPorts, mask_slots, line_slots, at_least, driven, connected, zeroed, invalidated, node_rules, nothing, and_then, in_turn, places_for, instance_in, instance_component, of_stmt, of_arm, stmt_walk, arm_walk, known_ports, body_walk, bodies_from, ports_from, open_ports, modules_from, all_open, rules_of_modules}
 use Rattle.width_rules.proofs.Bounds.{Each, each_all, each_append, fixed_is, var_below, SlotFits, SlotsFit, FormulasFit, slot_formula, slot_formulas}
@@ -41,10 +41,6 @@ one_slot count n None h = omega (arith, h)
 slots_fit : (count n : ℕ) (ss : List Spot) → n + open_spots ss ≤ count → SlotsFit count (slots_from n ss)
 slots_fit count n [] h = tt
 slots_fit count n (s ∷ ss) h = (one_slot count n s.width (omega (arith, h)), slots_fit count (n + is_open s.width) ss (omega (arith, h)))
-
-nodes_fit : (count n : ℕ) (ss : List Spot) → n + length ss ≤ count → SlotsFit count (node_slots n ss)
-nodes_fit count n [] h = tt
-nodes_fit count n (s ∷ ss) h = (omega (arith, h), nodes_fit count (n + 1) ss (omega (arith, h)))
 
 ones_fit : (count : ℕ) (ss : List Spot) → SlotsFit count (map (λ (spot : Spot). slot.Fixed 1) ss)
 ones_fit count [] = tt
@@ -178,8 +174,8 @@ module _ (count : ℕ) (modules : List WithPorts) (ports : ModulesFit count modu
   of_layer (Stmt-F.Inst name target) = rolled _ (λ known n h le. record { known = with_fits count known name.id _ h (instance_fits count modules target.id ports); rules = tt })
   of_layer (Stmt-F.Node name e) = rolled _ (λ known n h le.
       let source = measured e known in
-      let slots = node_slots n (spots source.part.typ) in
-      let own = nodes_fit count n (spots source.part.typ) (open_within count n (size source.part.typ) name.place le) in
+      let slots = node_slots n source.part.typ in
+      let own = slots_fit count n (node_spots source.part.typ) (open_within count n (node_size source.part.typ) name.place le) in
       record { known = with_fits count known name.id _ h own; rules = node_fits count slots source.formulas own (measured_fits count e known h) })
   of_layer (Stmt-F.Connect left right) = rolled _ (λ known n h le.
       record { known = h; rules = connected_fits count (spots (measured left known).part.typ) (measured left known).formulas (measured right known).formulas (measured_fits count left known h) (measured_fits count right known h) })

@@ -1,9 +1,11 @@
 -- The widths of the places of bundles.
 use Rattle.std.proofs.Common.{◌≡◌, ℕ, zero, suc, ◌+◌, ◌<◌, Bool, List, [], ◌∷◌, ◌++◌, map, length, take, get_or, refl, sym, ap, ap₂, ◌∙◌, subst, arith, append_assoc, append-nil, length-append}
 use Rattle.std.specs.List.{flat_map}
-use Rattle.std.proofs.lemmas.List.{map-append, length-replicate, replicate-append-replicate, replicate_more}
+use Rattle.std.proofs.lemmas.Grind.{common_steps}
+use Rattle.std.proofs.lemmas.List.{map-append, length-replicate, replicate-append-replicate}
+use Rattle.std.proofs.lemmas.List.Folds.{flat_map-map}
 use Rattle.place_text.specs.declared.place.Place.{Place}
-use Rattle.fir_types.specs.declared.fir_type.FirType.{FirType}
+use Rattle.fir_types.specs.declared.fir_type.FirType.{FirType, the_lemmas}
 use Rattle.fir_types.specs.declared.fir_type.Shape.TheVariants as shape
 use Rattle.fir_types.specs.declared.fir_type.Field.{Field}
 use Rattle.fir_types.specs.Bundles.{mask_of, mask_of_field}
@@ -11,9 +13,9 @@ pub use Rattle.width_spots.proofs.Layers.{spots-bundle, spots-vector, spots-fiel
 use Rattle.width_spots.proofs.Layers.{fields_next, mask-bundle, mask-field}
 use Rattle.width_rules.specs.declared.slot.Slot.{Slot}
 use Rattle.width_rules.specs.declared.slot.Slot.TheVariants as slot
-use Rattle.width_rules.specs.Places.{Spot, spots, turned, slot_of, is_open, slots_from, open_spots, node_slots}
+use Rattle.width_rules.specs.Places.{Spot, spots, turned, slot_of, is_open, slots_from, open_spots, node_spots}
 use Rattle.width_rules.specs.Circuits.{places_for}
-use Rattle.width_rules.specs.Layers.{field_spots, one_bit, mask_widths, mask_field_widths, Adds}
+use Rattle.width_rules.specs.Layers.{field_spots, node_field_spots, one_bit, mask_widths, mask_field_widths, Adds}
 
 -- Masks
 
@@ -81,30 +83,17 @@ adds_more place fs i f {a} {b} {c} {p} {q} {r} lt is h k =
 
 -- Nodes
 
--- as many variables, from n on
-abbrev pub counted_slots : ℕ → ℕ → List Slot
-counted_slots n zero = []
-counted_slots n (suc more) = slot.Var n ∷ counted_slots (n + 1) more
+pub node-bundle : (t : FirType) (fs : List Field) → t.shape ≡ shape.Bundle fs → node_spots t ≡ flat_map node_field_spots fs
+node-bundle t fs e = grind (arith, common_steps, the_lemmas, flat_map-map)
 
-pub counted_more : (n more : ℕ) → counted_slots n (more + 1) ≡ counted_slots n more ++ slot.Var (n + more) ∷ []
-counted_more n zero = ap (λ k. slot.Var k ∷ []) (omega arith)
-counted_more n (suc more) =
-    let step : suc more + 1 ≡ suc (more + 1) = omega arith in
-    ap (counted_slots n) step ∙ ap (λ l. slot.Var n ∷ l) (counted_more (n + 1) more ∙ ap (λ k. counted_slots (n + 1) more ++ slot.Var k ∷ []) (omega arith))
+pub node-vector : (t e : FirType) (n : ℕ) → t.shape ≡ shape.Vector e n → node_spots t ≡ node_spots e
+node-vector t e n h = grind (arith, common_steps, the_lemmas)
 
-pub counted_is : (n : ℕ) (ss : List Spot) → counted_slots n (length ss) ≡ node_slots n ss
-counted_is n [] = refl
-counted_is n (s ∷ ss) = ap (λ l. slot.Var n ∷ l) (counted_is (n + 1) ss)
+node-field : (f : Field) → node_field_spots f ≡ map (turned f.flip) (node_spots f.typ)
+node-field f = grind (arith, common_steps, the_lemmas)
 
-pub record Variables (place : Place) (n : ℕ) (after : List Slot) (from to : List Place) : Type 0 where
-  pub slots : after ≡ counted_slots (length from) n
-  pub places : to ≡ from ++ places_for place n
-
-pub variables_more : (place : Place) (n : ℕ) {b c : List Slot} {p q r : List Place} → b ≡ counted_slots (length p) n → q ≡ p ++ places_for place n
-    → c ≡ b ++ slot.Var (length q) ∷ [] → r ≡ q ++ place ∷ [] → Variables place (n + 1) c p r
-variables_more place n {b} {c} {p} {q} {r} slots places new from =
-    let len : length q ≡ length p + n = ap length places ∙ length-append p (places_for place n) ∙ ap (λ k. length p + k) (length-replicate n place) in
-    record {
-      slots = new ∙ ap₂ (λ l k. l ++ slot.Var k ∷ []) slots len ∙ sym (counted_more (length p) n);
-      places = from ∙ ap (λ l. l ++ place ∷ []) places ∙ append_assoc p _ _ ∙ ap (λ l. p ++ l) (replicate_more n place);
-    }
+pub node_adds_more : (place : Place) (fs : List Field) (i : ℕ) (f : Field) {a b c : List Slot} {p q r : List Place} → i < length fs → f ≡ get_or fs i f
+    → Adds place (flat_map node_field_spots (take i fs)) a b p q → Adds place (node_spots f.typ) b c q r → Adds place (flat_map node_field_spots (take (i + 1) fs)) a c p r
+node_adds_more place fs i f {a} {b} {c} {p} {q} {r} lt is h k =
+    subst (λ ss. Adds place ss a c p r) (sym (fields_next node_field_spots fs i f lt is))
+    (adds_then place h (subst (λ ss. Adds place ss b c q r) (sym (node-field f)) (adds_turned place f.flip k)))

@@ -30,7 +30,7 @@ use Rattle.width_rules.specs.declared.rule.Formula.{Formula}
 use Rattle.width_rules.specs.declared.rule.Formula.TheVariants as formula
 use Rattle.width_rules.specs.declared.rule.Rule.{Rule}
 use Rattle.width_rules.specs.declared.rule.Rules.{Rules}
-use Rattle.width_rules.specs.Places.{Spot, spots, size, slots_from, open_spots, node_slots}
+use Rattle.width_rules.specs.Places.{Spot, spots, slots_from, open_spots, node_slots, node_size}
 use Rattle.width_rules.specs.Sources.{Known, known_with, measured, formula_of, component_or_none}
 
 -- Rules
@@ -163,7 +163,7 @@ instance_in modules name = component_or_none (option_map instance_component (fin
 abbrev pub declares_instance : List WithPorts → Name → Name → Walk
 declares_instance modules name target known n = record { known = known_with known name.id (instance_in modules target.id); places = []; rules = [] }
 
--- a node: each place has a variable, which is at least the expression's width
+-- a node: the variable of a place is at least the expression's width
 abbrev pub node_rules : List Slot → List Formula → List Rule
 node_rules (s ∷ slots) (f ∷ formulas) = at_least (formula_of s) f ++ node_rules slots formulas
 node_rules _ _ = []
@@ -171,10 +171,10 @@ node_rules _ _ = []
 abbrev pub names_node : Name → Expr → Walk
 names_node name e known n =
     let source = measured e known in
-    let slots = node_slots n (spots source.part.typ) in
+    let slots = node_slots n source.part.typ in
     record {
       known = known_with known name.id (record { part = source_of source.part.typ; slots = slots });
-      places = places_for name.place (size source.part.typ);
+      places = places_for name.place (node_size source.part.typ);
       rules = node_rules slots source.formulas;
     }
 

@@ -2,7 +2,7 @@
 use Rattle.std.specs.Prelude.{◌≡◌, ℕ, ◌++◌, List, [], ◌∷◌, map, length}
 use Rattle.place_text.specs.declared.place.Place.{Place}
 use Rattle.fir_types.specs.declared.fir_type.FirType.{FirType}
-use Rattle.fir_types.specs.declared.fir_type.Field.{Field}
+use Rattle.fir_types.specs.declared.fir_type.Field.{Field, fold-Field}
 use Rattle.fir_types.specs.declared.memory.MemLine.{MemLine}
 use Rattle.fir_types.specs.declared.memory.MemLine.TheVariants as line
 use Rattle.fir_types.specs.declared.memory.PortMode.{PortMode}
@@ -11,8 +11,12 @@ use Rattle.fir_types.specs.Bundles.{mask_of, mask_of_field, address_bits}
 pub use Rattle.width_spots.specs.Spots.{field_spots, field_size, flip_of, flips_under}
 use Rattle.width_rules.specs.declared.slot.Slot.{Slot}
 use Rattle.width_rules.specs.declared.slot.Slot.TheVariants as slot
-use Rattle.width_rules.specs.Places.{Spot, spots, slots_from, open_spots}
+use Rattle.width_rules.specs.Places.{Spot, spots, of_field, node_shape, slots_from, open_spots}
 use Rattle.width_rules.specs.Circuits.{places_for}
+
+-- the places of a field of a node, and their variables
+abbrev pub node_field_spots : Field → List Spot
+node_field_spots = fold-Field (List Spot) (List Spot) (List Spot) node_shape of_field (λ t. t.shape)
 
 -- the width of a mask's place
 abbrev pub one_bit : Spot → Slot

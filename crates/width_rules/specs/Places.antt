@@ -1,6 +1,6 @@
 -- The widths of the places of a type (FIRRTL specification 3.0, "Width Inference"): the places are those of `spots`.
-use Rattle.std.specs.Prelude.{ℕ, ◌+◌, min, ◌==◌, if◌then◌else◌, List, [], ◌∷◌, take, drop, Option, Some, None}
-use Rattle.fir_types.specs.declared.fir_type.FirType.{FirType}
+use Rattle.std.specs.Prelude.{ℕ, ◌+◌, min, ◌==◌, if◌then◌else◌, List, [], ◌∷◌, take, drop, flat_map, Option, Some, None}
+use Rattle.fir_types.specs.declared.fir_type.FirType.{FirType, fold-FirType}
 use Rattle.fir_types.specs.declared.fir_type.Shape.{Shape}
 use Rattle.fir_types.specs.declared.fir_type.Shape.TheOpen.{Shape-F}
 use Rattle.fir_types.specs.declared.fir_type.Shape.TheViews.{out-Shape}
@@ -31,10 +31,25 @@ abbrev pub open_spots : List Spot → ℕ
 open_spots [] = 0
 open_spots (spot ∷ rest) = is_open spot.width + open_spots rest
 
--- A node has a variable for each place, whatever the text gives.
-abbrev pub node_slots : ℕ → List Spot → List Slot
-node_slots n [] = []
-node_slots n (spot ∷ rest) = Var n ∷ node_slots (n + 1) rest
+-- A node has a variable for each place, whatever the text gives, but for an AsyncReset: that has width 1 and no variable.
+abbrev pub node_shape : Shape-F (List Spot) (List Spot) (List Spot) → List Spot
+node_shape (Shape-F.Unsigned width) = one_spot None
+node_shape (Shape-F.Signed width) = one_spot None
+node_shape Shape-F.Reset = one_spot None
+node_shape Shape-F.AsyncReset = one_spot (Some 1)
+node_shape Shape-F.Clock = []
+node_shape (Shape-F.Bundle fields) = flat_map (λ spots. spots) fields
+node_shape (Shape-F.Vector element length) = element
+
+abbrev pub node_spots : FirType → List Spot
+node_spots = fold-FirType (List Spot) (List Spot) (List Spot) node_shape of_field (λ t. t.shape)
+
+abbrev pub node_slots : ℕ → FirType → List Slot
+node_slots n typ = slots_from n (node_spots typ)
+
+-- how many variables a node of this type has
+abbrev pub node_size : FirType → ℕ
+node_size typ = open_spots (node_spots typ)
 
 -- Of the widths of a bundle's places those of the first field of a name; and what is left behind all fields where there is no such field.
 abbrev pub field_slots : ℕ → List Field → List Slot → List Slot

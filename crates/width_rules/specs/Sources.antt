@@ -4,7 +4,10 @@ use Rattle.std.specs.Map.{lookup}
 use Rattle.bit_words.specs.declared.value.Kind.{Kind}
 use Rattle.bit_words.specs.Numbers.{integer_of_number}
 use Rattle.place_text.specs.declared.place.Place.{Place}
+use Rattle.fir_types.specs.declared.fir_type.FirType.{FirType}
+use Rattle.fir_types.specs.declared.fir_type.Shape.TheVariants as shape
 use Rattle.prim_ops.specs.declared.operation.PrimOp.{PrimOp}
+use Rattle.prim_ops.specs.declared.operation.PrimOp.TheVariants.{AsAsyncReset}
 use Rattle.prim_ops.specs.Operations.{arity_of}
 use Rattle.prim_ops.specs.Kinds.{row_kind}
 use Rattle.fir_tree.specs.declared.expr.Expr.{Expr, fold-Expr}
@@ -82,9 +85,14 @@ operation_formula op operands params =
     if is_some (row_kind op (map kind_of operands)) && nat_eq (length params) (arity_of op).1
     then formula.Op op (map kind_of operands) (map (λ e. lone e.formulas) operands) params else formula.Fixed 0
 
+-- the type of an operation's result of this kind: that of a cast to AsyncReset is one
+abbrev pub result_type : PrimOp → Place → Kind → FirType
+result_type AsAsyncReset place kind = record { place = place; shape = shape.AsyncReset }
+result_type op place kind = ground place kind None
+
 abbrev pub operation : PrimOp → Place → List Measured → List ℕ → Measured
 operation op place operands params = record {
-  part = source_of (ground place (sign_or_unsigned (row_kind op (map kind_of operands))) None);
+  part = source_of (result_type op place (sign_or_unsigned (row_kind op (map kind_of operands))));
   formulas = operation_formula op operands params ∷ [];
 }
 

@@ -4,9 +4,9 @@ ghost use Rattle.std.specs.Prelude.{◌≡◌, ◌++◌, ◌∷◌, [], map, zip
 ghost use Rattle.bit_words.specs.Numbers.{integer_of_number};
 ghost use Rattle.prim_ops.specs.Kinds.{row_kind};
 ghost use Rattle.circuit_parts.specs.Parts.{source_of, no_part};
-ghost use Rattle.circuit_parts.specs.Kinds.{sign_of, ground, sign_or_unsigned};
+ghost use Rattle.circuit_parts.specs.Kinds.{sign_of, sign_or_unsigned};
 ghost use Rattle.width_rules.specs.Places.{capped};
-ghost use Rattle.width_rules.specs.Sources.{component, component_or_none, named, measured, measured_reference, suffix_step, formula_of, literal_bits, lone, kind_of, greater_of, choice};
+ghost use Rattle.width_rules.specs.Sources.{component, component_or_none, named, measured, measured_reference, suffix_step, formula_of, literal_bits, lone, kind_of, result_type, greater_of, choice};
 ghost use Rattle.width_rules.specs.Parts.{measured_by, formula_over, viewed};
 ghost use Rattle.width_rules.specs.Pieces.{slots_in};
 ghost use Rattle.width_rules.specs.Targets.{has_target};
@@ -334,10 +334,23 @@ pub fn width_of(kind: Kind, width: Option<u128>, number: Number) -> u128
 
 /// The type of an operation's result over operands of these kinds.
 fn operation_type(prim: Prim, place: Place, kinds: &[Kind]) -> FirType
-    ensures { result ≡ ground place (sign_or_unsigned (row_kind prim kinds.now)) None }
+    ensures { result ≡ result_type prim place (sign_or_unsigned (row_kind prim kinds.now)) }
 {
     let row = row_of(prim, kinds).unwrap_or(Kind::Unsigned);
-    ground(place, row, None)
+    result_type(prim, place, row)
+}
+
+/// The type of an operation's result of this kind: that of a cast to AsyncReset is one.
+pub fn result_type(prim: Prim, place: Place, kind: Kind) -> FirType
+    ensures { result ≡ result_type prim place kind }
+{
+    match prim {
+        Prim::AsAsyncReset => FirType {
+            place,
+            shape: Shape::AsyncReset,
+        },
+        _ => ground(place, kind, None),
+    }
 }
 
 fn operation_formula(

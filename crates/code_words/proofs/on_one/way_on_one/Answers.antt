@@ -5,7 +5,7 @@ use Rattle.code_words.specs.declared.ways.Way.TheVariants.{Word, Twice}
 use Rattle.code_words.specs.Working.{working}
 use Rattle.code_words.specs.Ways.{Rests, Refits, Shifts, GivesRow, row_value}
 use Rattle.code_words.proofs.There.{some_so, row_for, way_row}
-use Rattle.code_words.proofs.Ones.{pad_refits, cvt_refits, as_uint_rests, as_sint_rests, not_operates, tail_operates, bits_shifts, head_shifts, shr_shifts, shr_signed, andr_operates, orr_follow, xorr_operates}
+use Rattle.code_words.proofs.Ones.{pad_refits, cvt_refits, as_uint_rests, as_sint_rests, not_operates, tail_operates, async_operates, bits_shifts, head_shifts, shr_shifts, shr_signed, shr_four_shifts, shr_four_signed, andr_operates, orr_follow, xorr_operates}
 use Rattle.code_words.proofs.on_one.way_on_one.Goals as goal
 
 pub returns-in-Pad : goal.returns-in-Pad
@@ -67,6 +67,24 @@ returns-in-Shr c =
     some_so c.shifted.result c.shifted.ensures (λ way f. subst (λ p. GivesRow way p ps (x ∷ []) width) (sym c.in-Shr.is) (λ kind h.
     f R (λ e. subst (λ m. Shifts x m width R) (sym n) (shr_shifts x c.requires.operand ps kind width h e))
     (λ e some. subst (λ m. Shifts x (min m (x.width - 1)) width R) (sym n) (shr_signed x c.requires.operand ps kind width h e some))))
+
+pub returns-in-ShrFour : goal.returns-in-ShrFour
+returns-in-ShrFour c =
+    let x = c.args.x in
+    let ps = c.args.params.now in
+    let width = c.args.width in
+    let R = row_value prim.ShrFour ps in
+    let n = c.parameter-in-ShrFour.ensures in
+    some_so c.shifted-in-ShrFour.result c.shifted-in-ShrFour.ensures (λ way f. subst (λ p. GivesRow way p ps (x ∷ []) width) (sym c.in-ShrFour.is) (λ kind h.
+    f R (λ e. subst (λ m. Shifts x m width R) (sym n) (shr_four_shifts x c.requires.operand ps kind width h e))
+    (λ e some. subst (λ m. Shifts x (min m (x.width - 1)) width R) (sym n) (shr_four_signed x c.requires.operand ps kind width h e some))))
+
+pub returns-in-AsAsyncReset : goal.returns-in-AsAsyncReset
+returns-in-AsAsyncReset c =
+    let x = c.args.x in
+    let mask = c.low_mask-in-AsAsyncReset.result in
+    row_for c.args.prim prim.AsAsyncReset (Word c.of_one-in-AsAsyncReset.result) (Word (working op.Keep 0 x.low 0 0 mask)) c.args.params.now (x ∷ []) c.args.width c.in-AsAsyncReset.is
+    (ap Word c.of_one-in-AsAsyncReset.ensures) (λ kind h. async_operates x c.requires.operand c.args.params.now kind c.args.width mask h (c.low_mask-in-AsAsyncReset.ensures.narrow c.requires.result))
 
 pub returns-in-Andr : goal.returns-in-Andr
 returns-in-Andr c =

@@ -62,7 +62,7 @@ mux-returns t c = rw c.place_of_part-place.ensures
 pub operation-returns-in_err-call : goal.operation-returns-in_err-call
 operation-returns-in_err-call t c =
     let p = err_from_is_err_and c.from_residual.result c.from_residual.ensures.1 in
-    rw (p.1, p.2) (operation_no_call c.args.prim c.requires.start.stands c.requires.head refl refl (c.in_err-call.ensures.taken (name_of c.args.prim) c.requires.head))
+    rw (p.1, p.2) (operation_no_call c.args.prim c.requires.written c.requires.start.stands c.requires.head refl refl (c.in_err-call.ensures.taken (name_of c.args.prim) c.requires.head))
 
 pub operation-operands-requires : goal.operation-operands-requires
 operation-operands-requires t c =
@@ -75,7 +75,7 @@ operation-operands-requires t c =
 pub operation-returns-in_err-behind : goal.operation-returns-in_err-behind
 operation-returns-in_err-behind t c =
     let p = err_from_is_err_and c.from_residual-in_err-behind.result c.from_residual-in_err-behind.ensures.1 in
-    rw (p.1, p.2) (operation_no_operand c.args.prim c.requires.start.stands c.requires.head (ap (λ (x : ℕ × ℕ). x.0) c.arity-counts.ensures) refl (c.in_ok-call.ensures.taken (name_of c.args.prim) c.requires.head) c.in_err-behind.ensures.err)
+    rw (p.1, p.2) (operation_no_operand c.args.prim c.requires.written c.requires.start.stands c.requires.head (ap (λ (x : ℕ × ℕ). x.0) c.arity-counts.ensures) refl (c.in_ok-call.ensures.taken (name_of c.args.prim) c.requires.head) c.in_err-behind.ensures.err)
 
 pub operation-numbers-requires-clause-stands : goal.operation-numbers-requires-clause-stands
 operation-numbers-requires-clause-stands t c = (
@@ -87,13 +87,13 @@ operation-numbers-requires-clause-stands t c = (
 pub operation-returns-in_err-parameters : goal.operation-returns-in_err-parameters
 operation-returns-in_err-parameters t c =
     let p = err_from_is_err_and c.from_residual-in_err-parameters.result c.from_residual-in_err-parameters.ensures.1 in
-    rw (p.1, p.2) (operation_no_number c.args.prim c.requires.start.stands c.requires.head (ap (λ (x : ℕ × ℕ). x.0) c.arity-counts.ensures) (ap (λ (x : ℕ × ℕ). x.1) c.arity-counts.ensures)
+    rw (p.1, p.2) (operation_no_number c.args.prim c.requires.written c.requires.start.stands c.requires.head (ap (λ (x : ℕ × ℕ). x.0) c.arity-counts.ensures) (ap (λ (x : ℕ × ℕ). x.1) c.arity-counts.ensures)
     (c.in_ok-call.ensures.taken (name_of c.args.prim) c.requires.head) c.in_ok-behind.ensures.ok c.new-read.ensures (c.in_err-parameters.ensures c.operands.new.names))
 
 pub operation-returns-in_err-take_mark : goal.operation-returns-in_err-take_mark
 operation-returns-in_err-take_mark t c =
     let p = err_from_is_err_and c.from_residual-in_err-take_mark.result c.from_residual-in_err-take_mark.ensures.1 in
-    rw (p.1, p.2) (operation_not_closed c.args.prim c.requires.start.stands c.requires.head (ap (λ (x : ℕ × ℕ). x.0) c.arity-counts.ensures) (ap (λ (x : ℕ × ℕ). x.1) c.arity-counts.ensures)
+    rw (p.1, p.2) (operation_not_closed c.args.prim c.requires.written c.requires.start.stands c.requires.head (ap (λ (x : ℕ × ℕ). x.0) c.arity-counts.ensures) (ap (λ (x : ℕ × ℕ). x.1) c.arity-counts.ensures)
     (c.in_ok-call.ensures.taken (name_of c.args.prim) c.requires.head) c.in_ok-behind.ensures.ok c.new-read.ensures (c.in_ok-parameters.ensures c.operands.new.names) c.in_err-take_mark.ensures.taken)
 
 pub operation-place_of_part-place-requires-clause-inside : goal.operation-place_of_part-place-requires-clause-inside
@@ -102,7 +102,7 @@ operation-place_of_part-place-requires-clause-inside t c =
 
 pub operation-returns : goal.operation-returns
 operation-returns t c = rw c.place_of_part-place.ensures
-    (operation_read c.args.prim c.requires.start.stands c.requires.head (ap (λ (x : ℕ × ℕ). x.0) c.arity-counts.ensures) (ap (λ (x : ℕ × ℕ). x.1) c.arity-counts.ensures)
+    (operation_read c.args.prim c.requires.written c.requires.start.stands c.requires.head (ap (λ (x : ℕ × ℕ). x.0) c.arity-counts.ensures) (ap (λ (x : ℕ × ℕ). x.1) c.arity-counts.ensures)
     (c.in_ok-call.ensures.taken (name_of c.args.prim) c.requires.head) c.in_ok-behind.ensures.ok c.new-read.ensures (c.in_ok-parameters.ensures c.operands.new.names) c.in_ok-take_mark.ensures.taken)
 
 -- operands

@@ -8,3 +8,9 @@ returns-clause-width c = grind (arith, common_steps, type_lemmas)
 
 pub returns-clause-kind : goal.returns-clause-kind
 returns-clause-kind c = grind (arith, common_steps, type_lemmas)
+
+pub returns-clause-async_width : goal.returns-clause-async_width
+returns-clause-async_width c = grind (arith, common_steps, type_lemmas)
+
+pub returns-clause-async_kind : goal.returns-clause-async_kind
+returns-clause-async_kind c = grind (arith, common_steps, type_lemmas)

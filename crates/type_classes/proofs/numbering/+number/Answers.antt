@@ -2,7 +2,7 @@ use Rattle.std.proofs.Common.{refl, ◌∙◌}
 use Rattle.fir_types.proofs.Runs.{further_in, element_falls}
 use Rattle.type_classes.specs.Sights.{table_of}
 use Rattle.type_classes.specs.Parts.{no_parts}
-use Rattle.type_classes.proofs.Made.{unsigned_shape, signed_number, clock_number, vector_shape, bundle_shape, parts_more}
+use Rattle.type_classes.proofs.Made.{unsigned_shape, signed_number, clock_number, async_number, vector_shape, bundle_shape, parts_more}
 use Rattle.type_classes.proofs.numbering.+number.Goals as goal
 
 pub number_shape-returns-in-Signed : goal.number_shape-returns-in-Signed
@@ -13,6 +13,11 @@ pub number_shape-returns-in-Clock : goal.number_shape-returns-in-Clock
 number_shape-returns-in-Clock t c = λ typ is.
     clock_number (table_of c.args.classes.now) c.args.mask typ c.unless_mask-in-Clock.result (is ∙ c.in-Clock.is) c.unless_mask-in-Clock.ensures.masks
     c.unless_mask-in-Clock.ensures.plain
+
+pub number_shape-returns-in-AsyncReset : goal.number_shape-returns-in-AsyncReset
+number_shape-returns-in-AsyncReset t c = λ typ is.
+    async_number (table_of c.args.classes.now) c.args.mask typ c.unless_mask-in-AsyncReset.result (is ∙ c.in-AsyncReset.is) c.unless_mask-in-AsyncReset.ensures.masks
+    c.unless_mask-in-AsyncReset.ensures.plain
 
 pub number_shape-returns-in-Some : goal.number_shape-returns-in-Some
 number_shape-returns-in-Some t c =
