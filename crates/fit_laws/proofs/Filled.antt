@@ -1,6 +1,6 @@
 -- The places of a filled type have the widths that fill it, but for an AsyncReset, whose place has width 1; and a node of a type has as
 -- many places.
-use Rattle.std.proofs.Common.{◌≡◌, ◌⊎◌, ℕ, zero, suc, ◌+◌, ◌-◌, ◌≤◌, Bool, true, ◌&&◌, List, [], ◌∷◌, ◌++◌, map, length, drop, Option, Some, refl, sym, ap, ap₂, ◌∙◌, subst, inl, inr, arith, length-append, ⊎_elim}
+use Rattle.std.proofs.Common.{◌≡◌, ◌⊎◌, ℕ, ◌+◌, ◌-◌, ◌≤◌, Bool, true, false, ◌&&◌, List, [], ◌∷◌, ◌++◌, map, length, drop, Option, Some, refl, sym, ap, ap₂, ◌∙◌, subst, inl, inr, arith, length-append, ⊎_elim}
 use Rattle.std.specs.Prelude.{⊤}
 use Rattle.std.specs.List.{AllZip, flat_map, list_all}
 use Rattle.std.proofs.lemmas.Grind.{common_steps}
@@ -209,13 +209,13 @@ numbers_fill [] ws (x ∷ xs) e h k = absurd h
 numbers_fill (o ∷ os) [] xs e h k = absurd h
 numbers_fill (o ∷ os) (w ∷ ws) [] e h k = absurd h
 numbers_fill (o ∷ os) (w ∷ ws) (x ∷ xs) e h k =
-    ap₂ (λ a b. a && b) (⊎_elim (λ is. ap is_number is ∙ first (is_number (number w)) k) (λ is. ap is_number is.1) h.0)
-    (numbers_fill os ws xs (omega (arith, e)) h.1 (others (is_number (number w)) k))
+    ap₂ (λ a b. a && b) (⊎_elim (λ is. ap is_number is ∙ first (is_number (number w)) _ k) (λ is. ap is_number is.1) h.0)
+    (numbers_fill os ws xs (omega (arith, e)) h.1 (others (is_number (number w)) _ k))
   where
-    first : (b : Bool) {c : Bool} → (b && c) ≡ true → b ≡ true
-    first true q = refl
-    first false q = cc
+    first : (b c : Bool) → (b && c) ≡ true → b ≡ true
+    first true c q = refl
+    first false c q = cc
 
-    others : (b : Bool) {c : Bool} → (b && c) ≡ true → c ≡ true
-    others true q = q
-    others false q = cc
+    others : (b c : Bool) → (b && c) ≡ true → c ≡ true
+    others true c q = q
+    others false c q = cc
