@@ -13,10 +13,10 @@ use Rattle.fir_types.specs.declared.fir_type.Shape.TheVariants as shape
 use Rattle.fir_types.specs.declared.fir_type.Shape.TheVariants.{outs-Unsigned, outs-Signed, outs-Clock, outs-Reset, outs-AsyncReset}
 use Rattle.fir_types.specs.declared.fir_type.Shape.TheViews.{out-Shape}
 use Rattle.fir_types.specs.declared.fir_type.Field.{Field}
-use Rattle.fir_types.specs.Leaves.{count, field_count, leaves, field_leaves, is_clock, has_clock}
+use Rattle.fir_types.specs.Leaves.{count, field_count, leaves, field_leaves, is_clock_shape, is_signal_shape, has_clock, has_signal}
 use Rattle.fir_types.specs.Passivity.{has_flip, field_has_flip}
 use Rattle.fir_types.specs.Runs.{within}
-use Rattle.fir_types.proofs.Layers.{count-bundle, count-field, flip-bundle, leaves-bundle, leaves-vector, clock-fields, clock-field, clock-elements}
+use Rattle.fir_types.proofs.Layers.{count-bundle, count-field, flip-bundle, leaves-bundle, leaves-vector, some-fields, some-field, some-elements}
 use Rattle.fir_types.proofs.Masks.{flip-vector}
 use Rattle.fir_types.proofs.Runs.{within_last}
 use Rattle.leaf_names.specs.LeafNames.{Texts}
@@ -75,29 +75,40 @@ passive_push fs f before own after b o e =
     e ∙ ap₂ (λ x y. x && y && not f.flip) b o ∙ none_of (list_any field_has_flip fs) (has_flip f.typ) f.flip
     ∙ ap (λ x. not (list_any field_has_flip fs || (x || false))) (sym (flip-field f)) ∙ ap not (sym (list_any-append field_has_flip fs (f ∷ [])))
 
-clocked_push : (fs : List Field) (f : Field) (before own after : Bool) → before ≡ list_any (λ field. has_clock field.typ) fs → own ≡ has_clock f.typ
-    → after ≡ (before || own) → after ≡ list_any (λ field. has_clock field.typ) (fs ++ f ∷ [])
-clocked_push fs f before own after b o e =
-    e ∙ ap₂ (λ x y. x || y) b (o ∙ one (has_clock f.typ)) ∙ sym (list_any-append (λ field. has_clock field.typ) fs (f ∷ []))
+any_push : (has : FirType → Bool) (fs : List Field) (f : Field) (before own after : Bool) → before ≡ list_any (λ field. has field.typ) fs → own ≡ has f.typ
+    → after ≡ (before || own) → after ≡ list_any (λ field. has field.typ) (fs ++ f ∷ [])
+any_push has fs f before own after b o e =
+    e ∙ ap₂ (λ x y. x || y) b (o ∙ one (has f.typ)) ∙ sym (list_any-append (λ field. has field.typ) fs (f ∷ []))
   where
     one : (x : Bool) → x ≡ (x || false)
     one true = refl
     one false = refl
 
-clock-bundle : (typ : FirType) (fs : List Field) → typ.shape ≡ shape.Bundle fs → has_clock typ ≡ list_any (λ field. has_clock field.typ) fs
-clock-bundle typ fs is = ap (list_any is_clock) (leaves-bundle typ fs is) ∙ clock-fields fs ∙ each fs
-  where
-    each : (fs : List Field) → list_any (λ field. list_any is_clock (field_leaves field)) fs ≡ list_any (λ field. has_clock field.typ) fs
-    each [] = refl
-    each (f ∷ fs) = ap₂ (λ x y. x || y) (clock-field f) (each fs)
+-- whether some leaf has a type of a kind
+abbrev some_leaf : (FirType → Bool) → FirType → Bool
+some_leaf q typ = list_any (λ leaf. q leaf.typ) (leaves typ)
 
--- a vector has a clock where its element has one and its length isn't 0
-clock-vector : (typ element : FirType) (n : ℕ) → typ.shape ≡ shape.Vector element n → has_clock typ ≡ (not (n == 0) && has_clock element)
-clock-vector typ element zero is = ap (list_any is_clock) (leaves-vector typ element 0 is)
-clock-vector typ element (suc n) is = ap (list_any is_clock) (leaves-vector typ element (suc n) is) ∙ clock-elements (leaves element) (suc n) (omega arith) ∙ some n (has_clock element)
+some-bundle : (q : FirType → Bool) (typ : FirType) (fs : List Field) → typ.shape ≡ shape.Bundle fs → some_leaf q typ ≡ list_any (λ field. some_leaf q field.typ) fs
+some-bundle q typ fs is = ap (list_any (λ leaf. q leaf.typ)) (leaves-bundle typ fs is) ∙ some-fields q fs ∙ each fs
+  where
+    each : (fs : List Field) → list_any (λ field. list_any (λ leaf. q leaf.typ) (field_leaves field)) fs ≡ list_any (λ field. some_leaf q field.typ) fs
+    each [] = refl
+    each (f ∷ fs) = ap₂ (λ x y. x || y) (some-field q f) (each fs)
+
+-- a vector has one where its element has one and its length isn't 0
+some-vector : (q : FirType → Bool) (typ element : FirType) (n : ℕ) → typ.shape ≡ shape.Vector element n → some_leaf q typ ≡ (not (n == 0) && some_leaf q element)
+some-vector q typ element zero is = ap (list_any (λ leaf. q leaf.typ)) (leaves-vector typ element 0 is)
+some-vector q typ element (suc n) is =
+    ap (list_any (λ leaf. q leaf.typ)) (leaves-vector typ element (suc n) is) ∙ some-elements q (leaves element) (suc n) (omega arith) ∙ some n (some_leaf q element)
   where
     some : (n : ℕ) (x : Bool) → x ≡ (not (suc n == 0) && x)
     some n x = grind (arith, common_steps)
+
+abbrev is_clock_type : FirType → Bool
+is_clock_type typ = is_clock_shape (out-Shape typ.shape)
+
+abbrev is_signal_type : FirType → Bool
+is_signal_type typ = is_signal_shape (out-Shape typ.shape)
 
 right : {P : FirType → TypeIndex → Type 0} {typ : FirType} {index : TypeIndex} → Matches P typ index → P typ index
 right (ground g p) = p
@@ -108,9 +119,10 @@ pub gathers_more : (texts : Texts) (fs : List Field) (f : Field) (part : TypeInd
     → named_leaves ≡ part.leaves
     → ((field : Field) → field.name.id ≡ f.name.id → part.leaves ≡ cap (count field.typ) → part.bytes ≡ cap (way_bytes texts field.typ) → named_bytes ≡ cap (field_bytes texts field))
     → after.parts ≡ before.parts ++ part ∷ [] → after.ways.leaves ≡ cap (before.ways.leaves + named_leaves) → after.ways.bytes ≡ cap (before.ways.bytes + named_bytes)
-    → after.passive ≡ (before.passive && part.passive && not f.flip) → after.clocked ≡ (before.clocked || part.clocked) → after.places ≡ min (before.places + part.places) (2 ^ 64 - 1)
+    → after.passive ≡ (before.passive && part.passive && not f.flip) → after.clocked ≡ (before.clocked || part.clocked)
+    → after.signals ≡ (before.signals || part.signals) → after.places ≡ min (before.places + part.places) (2 ^ 64 - 1)
     → Gathers texts fs before → Matches (IsRight texts) f.typ part → Gathers texts (fs ++ f ∷ []) after
-gathers_more texts fs f part before after named_leaves named_bytes nl nb p l b v c z g m =
+gathers_more texts fs f part before after named_leaves named_bytes nl nb p l b v c a z g m =
     let k : IsKnown f.typ part = (right m).0 in
     let w : part.bytes ≡ cap (way_bytes texts f.typ) = (right m).1 in
     record {
@@ -118,7 +130,8 @@ gathers_more texts fs f part before after named_leaves named_bytes nl nb p l b v
       leaves = cap_push field_count fs f before.ways.leaves named_leaves after.ways.leaves g.leaves (nl ∙ k.leaves ∙ ap cap (sym (count-field f))) l;
       bytes = cap_push (field_bytes texts) fs f before.ways.bytes named_bytes after.ways.bytes g.bytes (nb f refl k.leaves w) b;
       passive = passive_push fs f before.passive part.passive after.passive g.passive k.passive v;
-      clocked = clocked_push fs f before.clocked part.clocked after.clocked g.clocked k.clocked c;
+      clocked = any_push has_clock fs f before.clocked part.clocked after.clocked g.clocked k.clocked c;
+      signals = any_push has_signal fs f before.signals part.signals after.signals g.signals k.signals a;
       places = places_push fs f before.places part.places after.places g.places k.places z;
     }
 
@@ -136,14 +149,15 @@ same_among a b xs ys h =
 
 pub bundle_matches : (texts : Texts) (typ : FirType) (fs : List Field) (gathered : Gathered) (among : Option FieldIndex) (index : TypeIndex) → typ.shape ≡ shape.Bundle fs
     → Gathers texts fs gathered → IfSome among (λ x. IsIndexOf x fs (map places_of gathered.parts)) → index.leaves ≡ gathered.ways.leaves → index.bytes ≡ gathered.ways.bytes
-    → index.passive ≡ gathered.passive → index.clocked ≡ gathered.clocked → index.places ≡ gathered.places → index.inside ≡ inside.Bundle among gathered.parts → Matches (IsRight texts) typ index
-bundle_matches texts typ fs gathered among index is g a l b v c z q =
+    → index.passive ≡ gathered.passive → index.clocked ≡ gathered.clocked → index.signals ≡ gathered.signals → index.places ≡ gathered.places → index.inside ≡ inside.Bundle among gathered.parts → Matches (IsRight texts) typ index
+bundle_matches texts typ fs gathered among index is g a l b v c s z q =
     let own : IsAmong among fs = subst (λ ws. IfSome among (λ x. IsIndexOf x fs ws)) (weighed (λ t x p. p.0.places) fs gathered.parts g.parts) a in
     bundle fs among gathered.parts is q (
       record {
         leaves = l ∙ g.leaves ∙ ap cap (sym (count-bundle typ fs is));
         passive = v ∙ g.passive ∙ ap not (sym (flip-bundle typ fs is));
-        clocked = c ∙ g.clocked ∙ sym (clock-bundle typ fs is);
+        clocked = c ∙ g.clocked ∙ sym (some-bundle is_clock_type typ fs is);
+        signals = s ∙ g.signals ∙ sym (some-bundle is_signal_type typ fs is);
         places = z ∙ g.places ∙ ap (λ n. min n (2 ^ 64 - 1)) (sym (size-bundle typ fs is));
         among = λ fields other inners h k. subst (λ x. IsAmong x fields) (same_among among other gathered.parts inners (sym q ∙ k))
             (subst (IsAmong among) (same_fields fs fields (sym is ∙ h)) own);
@@ -156,15 +170,16 @@ bundle_matches texts typ fs gathered among index is g a l b v c z q =
 pub vector_matches : (texts : Texts) (typ element : FirType) (n : ℕ) (inner index : TypeIndex) → typ.shape ≡ shape.Vector element n → Matches (IsRight texts) element inner
     → (inner.leaves ≡ cap (count element) → index.leaves ≡ cap (count typ))
     → (inner.leaves ≡ cap (count element) → inner.bytes ≡ cap (way_bytes texts element) → index.bytes ≡ cap (way_bytes texts typ))
-    → index.passive ≡ inner.passive → index.clocked ≡ (not (n == 0) && inner.clocked) → index.places ≡ inner.places → index.inside ≡ inside.Vector inner → Matches (IsRight texts) typ index
-vector_matches texts typ element n inner index is m l b v c z q =
+    → index.passive ≡ inner.passive → index.clocked ≡ (not (n == 0) && inner.clocked) → index.signals ≡ (not (n == 0) && inner.signals) → index.places ≡ inner.places → index.inside ≡ inside.Vector inner → Matches (IsRight texts) typ index
+vector_matches texts typ element n inner index is m l b v c s z q =
     let k : IsKnown element inner = (right m).0 in
     let w : inner.bytes ≡ cap (way_bytes texts element) = (right m).1 in
     vector element n inner is q (
       record {
         leaves = l k.leaves;
         passive = v ∙ k.passive ∙ ap not (sym (flip-vector typ element n is));
-        clocked = c ∙ ap (λ x. not (n == 0) && x) k.clocked ∙ sym (clock-vector typ element n is);
+        clocked = c ∙ ap (λ x. not (n == 0) && x) k.clocked ∙ sym (some-vector is_clock_type typ element n is);
+        signals = s ∙ ap (λ x. not (n == 0) && x) k.signals ∙ sym (some-vector is_signal_type typ element n is);
         places = z ∙ k.places ∙ ap (λ ss. min (length ss) (2 ^ 64 - 1)) (sym (spots-vector typ element n is));
         among = λ fields among inners h e. absurd cc;
       },
@@ -197,53 +212,57 @@ around_end lengths left innermost index is h texts typ m =
 
 -- types without parts
 
-abbrev of_ground : ℕ → Bool → TypeIndex
-of_ground places clocked = record { leaves = 1; bytes = 0; passive = true; clocked = clocked; places = places; inside = inside.Ground }
+abbrev of_ground : ℕ → Bool → Bool → TypeIndex
+of_ground places clocked signals = record { leaves = 1; bytes = 0; passive = true; clocked = clocked; signals = signals; places = places; inside = inside.Ground }
 
-ground_matches : (texts : Texts) (typ : FirType) (places : ℕ) (clocked : Bool) → is_ground (out-Shape typ.shape) ≡ true → ((fields : List Field) → typ.shape ≡ shape.Bundle fields → ⊥)
-    → count typ ≡ 1 → way_bytes texts typ ≡ 0 → has_flip typ ≡ false → has_clock typ ≡ clocked → size typ ≡ places → places ≤ 1
-    → Matches (IsRight texts) typ (of_ground places clocked)
-ground_matches texts typ places clocked g none c w f k z l =
+ground_matches : (texts : Texts) (typ : FirType) (places : ℕ) (clocked signals : Bool) → is_ground (out-Shape typ.shape) ≡ true
+    → ((fields : List Field) → typ.shape ≡ shape.Bundle fields → ⊥) → count typ ≡ 1 → way_bytes texts typ ≡ 0 → has_flip typ ≡ false → has_clock typ ≡ clocked
+    → has_signal typ ≡ signals → size typ ≡ places → places ≤ 1 → Matches (IsRight texts) typ (of_ground places clocked signals)
+ground_matches texts typ places clocked signals g none c w f k s z l =
     ground g (
       record {
         leaves = ap cap (sym c);
         passive = ap not (sym f);
         clocked = sym k;
+        signals = sym s;
         places = omega (arith, z, l);
         among = λ fields among inners h e. absurd (none fields h);
       },
       ap cap (sym w),
     )
 
-pub unsigned_matches : (texts : Texts) (typ : FirType) (w : Option ℕ) → typ.shape ≡ shape.Unsigned w → Matches (IsRight texts) typ (of_ground 1 false)
+pub unsigned_matches : (texts : Texts) (typ : FirType) (w : Option ℕ) → typ.shape ≡ shape.Unsigned w → Matches (IsRight texts) typ (of_ground 1 false false)
 unsigned_matches texts typ w is =
-    ground_matches texts typ 1 false (ap is_ground (ap out-Shape is ∙ outs-Unsigned w)) (λ fields h. absurd cc) (grind (arith, common_steps, type_lemmas))
-    (grind (arith, common_steps, type_lemmas)) (grind (arith, common_steps, type_lemmas)) (grind (arith, common_steps, type_lemmas)) (grind (arith, common_steps, type_lemmas)) (omega arith)
+    ground_matches texts typ 1 false false (ap is_ground (ap out-Shape is ∙ outs-Unsigned w)) (λ fields h. absurd cc) (grind (arith, common_steps, type_lemmas))
+    (grind (arith, common_steps, type_lemmas)) (grind (arith, common_steps, type_lemmas)) (grind (arith, common_steps, type_lemmas)) (grind (arith, common_steps, type_lemmas))
+    (grind (arith, common_steps, type_lemmas)) (omega arith)
 
-pub signed_matches : (texts : Texts) (typ : FirType) (w : Option ℕ) → typ.shape ≡ shape.Signed w → Matches (IsRight texts) typ (of_ground 1 false)
+pub signed_matches : (texts : Texts) (typ : FirType) (w : Option ℕ) → typ.shape ≡ shape.Signed w → Matches (IsRight texts) typ (of_ground 1 false false)
 signed_matches texts typ w is =
-    ground_matches texts typ 1 false (ap is_ground (ap out-Shape is ∙ outs-Signed w)) (λ fields h. absurd cc) (grind (arith, common_steps, type_lemmas))
-    (grind (arith, common_steps, type_lemmas)) (grind (arith, common_steps, type_lemmas)) (grind (arith, common_steps, type_lemmas)) (grind (arith, common_steps, type_lemmas)) (omega arith)
+    ground_matches texts typ 1 false false (ap is_ground (ap out-Shape is ∙ outs-Signed w)) (λ fields h. absurd cc) (grind (arith, common_steps, type_lemmas))
+    (grind (arith, common_steps, type_lemmas)) (grind (arith, common_steps, type_lemmas)) (grind (arith, common_steps, type_lemmas)) (grind (arith, common_steps, type_lemmas))
+    (grind (arith, common_steps, type_lemmas)) (omega arith)
 
-pub clock_matches : (texts : Texts) (typ : FirType) → typ.shape ≡ shape.Clock → Matches (IsRight texts) typ (of_ground 0 true)
+pub clock_matches : (texts : Texts) (typ : FirType) → typ.shape ≡ shape.Clock → Matches (IsRight texts) typ (of_ground 0 true true)
 clock_matches texts typ is =
-    ground_matches texts typ 0 true (ap is_ground (ap out-Shape is ∙ outs-Clock)) (λ fields h. absurd cc) (grind (arith, common_steps, type_lemmas))
-    (grind (arith, common_steps, type_lemmas)) (grind (arith, common_steps, type_lemmas)) (grind (arith, common_steps, type_lemmas)) (grind (arith, common_steps, type_lemmas)) (omega arith)
+    ground_matches texts typ 0 true true (ap is_ground (ap out-Shape is ∙ outs-Clock)) (λ fields h. absurd cc) (grind (arith, common_steps, type_lemmas))
+    (grind (arith, common_steps, type_lemmas)) (grind (arith, common_steps, type_lemmas)) (grind (arith, common_steps, type_lemmas)) (grind (arith, common_steps, type_lemmas))
+    (grind (arith, common_steps, type_lemmas)) (omega arith)
 
-pub reset_matches : (texts : Texts) (typ : FirType) → typ.shape ≡ shape.Reset → Matches (IsRight texts) typ (of_ground 1 false)
+pub reset_matches : (texts : Texts) (typ : FirType) → typ.shape ≡ shape.Reset → Matches (IsRight texts) typ (of_ground 1 false false)
 reset_matches texts typ is =
-    ground_matches texts typ 1 false (ap is_ground (ap out-Shape is ∙ outs-Reset)) (λ fields h. absurd cc) (grind (arith, common_steps, type_lemmas))
-    (grind (arith, common_steps, type_lemmas)) (grind (arith, common_steps, type_lemmas)) (grind (arith, common_steps, type_lemmas)) (grind (arith, common_steps, type_lemmas)) (omega arith)
+    ground_matches texts typ 1 false false (ap is_ground (ap out-Shape is ∙ outs-Reset)) (λ fields h. absurd cc) (grind (arith, common_steps, type_lemmas))
+    (grind (arith, common_steps, type_lemmas)) (grind (arith, common_steps, type_lemmas)) (grind (arith, common_steps, type_lemmas)) (grind (arith, common_steps, type_lemmas))
+    (grind (arith, common_steps, type_lemmas)) (omega arith)
 
-pub async_matches : (texts : Texts) (typ : FirType) → typ.shape ≡ shape.AsyncReset → Matches (IsRight texts) typ (of_ground 1 false)
+pub async_matches : (texts : Texts) (typ : FirType) → typ.shape ≡ shape.AsyncReset → Matches (IsRight texts) typ (of_ground 1 false true)
 async_matches texts typ is =
-    ground_matches texts typ 1 false (ap is_ground (ap out-Shape is ∙ outs-AsyncReset)) (λ fields h. absurd cc) (grind (arith, common_steps, type_lemmas))
-    (grind (arith, common_steps, type_lemmas)) (grind (arith, common_steps, type_lemmas)) (grind (arith, common_steps, type_lemmas)) (grind (arith, common_steps, type_lemmas)) (omega arith)
+    ground_matches texts typ 1 false true (ap is_ground (ap out-Shape is ∙ outs-AsyncReset)) (λ fields h. absurd cc) (grind (arith, common_steps, type_lemmas))
+    (grind (arith, common_steps, type_lemmas)) (grind (arith, common_steps, type_lemmas)) (grind (arith, common_steps, type_lemmas)) (grind (arith, common_steps, type_lemmas))
+    (grind (arith, common_steps, type_lemmas)) (omega arith)
 
 pub all_sized : (texts : Texts) (s : Shape) (typ : FirType) → ((w : Option ℕ) × (s ≡ shape.Unsigned w)) ⊎ ((w : Option ℕ) × (s ≡ shape.Signed w)) ⊎ (s ≡ shape.Reset) → typ.shape ≡ s
-    → Matches (IsRight texts) typ (of_ground 1 false)
-pub all_sized : (texts : Texts) (s : Shape) (typ : FirType) → ((w : Option ℕ) × (s ≡ shape.Unsigned w)) ⊎ ((w : Option ℕ) × (s ≡ shape.Signed w)) ⊎ (s ≡ shape.AsyncReset) → typ.shape ≡ s
-    → Matches (IsRight texts) typ (of_ground 1 false)
+    → Matches (IsRight texts) typ (of_ground 1 false false)
 all_sized texts s typ (inl (w, e)) is = unsigned_matches texts typ w (is ∙ e)
 all_sized texts s typ (inr (inl (w, e))) is = signed_matches texts typ w (is ∙ e)
 all_sized texts s typ (inr (inr e)) is = reset_matches texts typ (is ∙ e)
@@ -261,5 +280,6 @@ mutual
   weaker_fields k (one_field m r) = one_field (weaker k m) (weaker_fields k r)
 
 pub nothing_gathered : (texts : Texts) (gathered : Gathered) → gathered.parts ≡ [] → gathered.ways.leaves ≡ 0 → gathered.ways.bytes ≡ 0 → gathered.passive ≡ true
-    → gathered.clocked ≡ false → gathered.places ≡ 0 → Gathers texts [] gathered
-nothing_gathered texts gathered p l b v c z = record { parts = subst (FieldsMatch (IsRight texts) []) (sym p) no_fields; leaves = l; bytes = b; passive = v; clocked = c; places = z }
+    → gathered.clocked ≡ false → gathered.signals ≡ false → gathered.places ≡ 0 → Gathers texts [] gathered
+nothing_gathered texts gathered p l b v c s z =
+    record { parts = subst (FieldsMatch (IsRight texts) []) (sym p) no_fields; leaves = l; bytes = b; passive = v; clocked = c; signals = s; places = z }

@@ -14,7 +14,7 @@ use Rattle.fir_types.specs.declared.fir_type.Shape.TheVariants.{outs-Bundle, out
 use Rattle.fir_types.specs.declared.fir_type.Shape.TheViews.{out-Shape}
 use Rattle.fir_types.specs.declared.fir_type.FirType.{the_lemmas as type_lemmas}
 use Rattle.fir_types.specs.declared.fir_type.Field.{Field}
-use Rattle.fir_types.specs.Leaves.{count, has_clock}
+use Rattle.fir_types.specs.Leaves.{count, has_clock, has_signal}
 use Rattle.fir_types.specs.Passivity.{has_flip}
 use Rattle.leaf_names.specs.LeafNames.{Texts}
 use Rattle.name_sizes.specs.Caps.{cap}
@@ -268,6 +268,9 @@ flipless_known typ index k = ∥∥₁_elim k (Bool-set index.passive (not (has_
 
 pub clocked_known : (typ : FirType) (index : TypeIndex) → Knows typ index → index.clocked ≡ has_clock typ
 clocked_known typ index k = ∥∥₁_elim k (Bool-set index.clocked (has_clock typ)) (λ m. (self m).clocked)
+
+pub signals_known : (typ : FirType) (index : TypeIndex) → Knows typ index → index.signals ≡ has_signal typ
+signals_known typ index k = ∥∥₁_elim k (Bool-set index.signals (has_signal typ)) (λ m. (self m).signals)
 
 pub placed_known : (typ : FirType) (index : TypeIndex) → Knows typ index → index.places ≡ min (size typ) (2 ^ 64 - 1)
 placed_known typ index k = ∥∥₁_elim k (ℕ_set index.places (min (size typ) (2 ^ 64 - 1))) (λ m. (self m).places)

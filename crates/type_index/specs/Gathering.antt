@@ -2,7 +2,7 @@
 use Rattle.std.specs.Prelude.{◌≡◌, ◌-◌, ◌^◌, min, not, List, map, sum}
 use Rattle.std.specs.List.{list_any}
 use Rattle.fir_types.specs.declared.fir_type.Field.{Field}
-use Rattle.fir_types.specs.Leaves.{field_count, has_clock}
+use Rattle.fir_types.specs.Leaves.{field_count, has_clock, has_signal}
 use Rattle.fir_types.specs.Passivity.{field_has_flip}
 use Rattle.leaf_names.specs.LeafNames.{Texts}
 use Rattle.width_spots.specs.Spots.{field_size}
@@ -17,4 +17,5 @@ pub record Gathers (texts : Texts) (fields : List Field) (gathered : Gathered) :
   pub bytes : gathered.ways.bytes ≡ cap (sum (map (field_bytes texts) fields))
   pub passive : gathered.passive ≡ not (list_any field_has_flip fields)
   pub clocked : gathered.clocked ≡ list_any (λ field. has_clock field.typ) fields
+  pub signals : gathered.signals ≡ list_any (λ field. has_signal field.typ) fields
   pub places : gathered.places ≡ min (sum (map field_size fields)) (2 ^ 64 - 1)

@@ -6,7 +6,7 @@ use Rattle.fir_types.specs.declared.fir_type.Shape.TheOpen.{Shape-F}
 use Rattle.fir_types.specs.declared.fir_type.Shape.TheViews.{out-Shape}
 use Rattle.fir_types.specs.declared.fir_type.Shape.TheVariants as shape
 use Rattle.fir_types.specs.declared.fir_type.Field.{Field}
-use Rattle.fir_types.specs.Leaves.{count, has_clock}
+use Rattle.fir_types.specs.Leaves.{count, has_clock, has_signal}
 use Rattle.fir_types.specs.Passivity.{has_flip}
 use Rattle.field_index.specs.declared.index.FieldIndex.{FieldIndex}
 use Rattle.field_index.specs.declared.index.FieldPlace.{FieldPlace}
@@ -62,11 +62,12 @@ pub record IsKnown (typ : FirType) (index : TypeIndex) : Type 0 where
   pub leaves : index.leaves ≡ cap (count typ)
   pub passive : index.passive ≡ not (has_flip typ)
   pub clocked : index.clocked ≡ has_clock typ
+  pub signals : index.signals ≡ has_signal typ
   pub places : index.places ≡ min (size typ) (2 ^ 64 - 1)
   pub among : (fields : List Field) (among : Option FieldIndex) (inners : List TypeIndex) → typ.shape ≡ shape.Bundle fields → index.inside ≡ inside.Bundle among inners
       → IsAmong among fields
 
--- The leaves and the places of each part, whether a flip stands in it, whether a leaf of it is a Clock, and the fields of bundles by name.
+-- The leaves and the places of each part, whether a flip stands in it, whether a leaf of it is a Clock, or a signal, and the fields of bundles by name.
 abbrev pub Knows : FirType → TypeIndex → Type 0
 Knows typ index = ∥ Matches IsKnown typ index ∥₁
 

@@ -22,6 +22,7 @@ pub struct Gathered {
     ways: Ways,
     passive: bool,
     clocked: bool,
+    signals: bool,
     places: usize,
 }
 
@@ -40,6 +41,7 @@ impl Gathered {
             },
             passive: true,
             clocked: false,
+            signals: false,
             places: 0,
         }
     }
@@ -55,6 +57,7 @@ impl Gathered {
         self.ways = self.ways.and(ways.named(names, field.name.id));
         self.passive = still_passive(self.passive, part.passive, field.flip);
         self.clocked |= part.clocked;
+        self.signals |= part.signals;
         self.places = self.places.saturating_add(part.places);
         self.parts.push(part)?;
         Ok(())
@@ -69,6 +72,7 @@ impl Gathered {
             ways,
             passive,
             clocked,
+            signals,
             places,
         } = self;
         let weights = weights_of(alloc, parts.as_slice())?;
@@ -78,6 +82,7 @@ impl Gathered {
             bytes: ways.bytes,
             passive,
             clocked,
+            signals,
             places,
             inside: Inside::Bundle(among, Shared::new(alloc, parts)?),
         })

@@ -4,7 +4,7 @@ ghost use Rattle.std.specs.Prelude.{◌≡◌, ◌==◌, ◌-◌, ◌^◌, min, 
 ghost use Rattle.std.specs.Option.{option_copied};
 ghost use Rattle.field_index.specs.Indexes.{first_at};
 ghost use Rattle.fir_types.specs.declared.fir_type.Shape.TheViews.{out-Shape};
-ghost use Rattle.fir_types.specs.Leaves.{count, has_clock};
+ghost use Rattle.fir_types.specs.Leaves.{count, has_clock, has_signal};
 ghost use Rattle.fir_types.specs.Passivity.{has_flip};
 ghost use Rattle.name_sizes.specs.Caps.{cap};
 ghost use Rattle.leaf_names.specs.LeafNames.{Texts};
@@ -25,6 +25,7 @@ pub struct Known<'a> {
     ghost counted: { index.now.leaves ≡ cap (count typ.now) },
     ghost flipless: { index.now.passive ≡ not (has_flip typ.now) },
     ghost clocked: { index.now.clocked ≡ has_clock typ.now },
+    ghost signals: { index.now.signals ≡ has_signal typ.now },
     ghost placed: { index.now.places ≡ min (size typ.now) (2 ^ 64 - 1) },
 }
 

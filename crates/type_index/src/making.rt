@@ -31,7 +31,7 @@ impl TypeIndex {
     pub fn of_reset() -> TypeIndex
         ensures { (texts : Texts) (typ : AType) → typ.shape ≡ shape.Reset → Matches (IsRight texts) typ result }
     {
-        of_ground(1, false)
+        of_ground(1, false, false)
     }
 
     /// What is known of the bundle without fields, whatever the texts of names.
@@ -62,8 +62,9 @@ fn make_shape(alloc: Global, names: &Names, shape: &Shape) -> Result<TypeIndex, 
     ensures { IfOk result (λ index. (typ : AType) → typ.shape ≡ shape.now → Matches (IsRight names.now) typ index) }
 {
     match shape {
-        Shape::Unsigned(_) | Shape::Signed(_) | Shape::Reset => Ok(of_ground(1, false)),
-        Shape::Clock => Ok(of_ground(0, true)),
+        Shape::Unsigned(_) | Shape::Signed(_) | Shape::Reset => Ok(of_ground(1, false, false)),
+        Shape::Clock => Ok(of_ground(0, true, true)),
+        Shape::AsyncReset => Ok(of_ground(1, false, true)),
         Shape::Bundle(fields) => {
             let gathered = make_fields(alloc, names, fields.as_slice())?;
             gathered.finish(alloc, fields.as_slice())
@@ -87,15 +88,16 @@ fn make_fields(alloc: Global, names: &Names, fields: &[Field]) -> Result<Gathere
     Ok(gathered)
 }
 
-/// What is known of a type without parts that has so many places, and that is a `Clock` or not.
-fn of_ground(places: usize, clocked: bool) -> TypeIndex
-    ensures { result ≡ record { leaves = 1; bytes = 0; passive = true; clocked = clocked; places = places; inside = inside.Ground } }
+/// What is known of a type without parts that has so many places, and that is a `Clock` or not, and a signal or not.
+fn of_ground(places: usize, clocked: bool, signals: bool) -> TypeIndex
+    ensures { result ≡ record { leaves = 1; bytes = 0; passive = true; clocked = clocked; signals = signals; places = places; inside = inside.Ground } }
 {
     TypeIndex {
         leaves: 1,
         bytes: 0,
         passive: true,
         clocked,
+        signals,
         places,
         inside: Inside::Ground,
     }
@@ -115,6 +117,7 @@ fn put_one(alloc: Global, inner: TypeIndex, length: u128) -> Result<TypeIndex, A
         bytes: ways.bytes,
         passive: inner.passive,
         clocked: length != 0 && inner.clocked,
+        signals: length != 0 && inner.signals,
         places: inner.places,
         inside: Inside::Vector(Shared::new(alloc, inner)?),
     })

@@ -18,6 +18,8 @@ pub struct TypeIndex {
     pub passive: bool,
     /// Whether one of its leaves is a `Clock`.
     pub clocked: bool,
+    /// Whether one of its leaves is a `Clock` or an `AsyncReset`.
+    pub signals: bool,
     /// The number of its places that have widths, or 2^64 - 1 where there are more.
     pub places: usize,
     pub inside: Inside,
@@ -45,6 +47,7 @@ impl TypeIndex {
             bytes: self.bytes,
             passive: self.passive,
             clocked: self.clocked,
+            signals: self.signals,
             places: self.places,
             inside: self.inside.share()?,
         })

@@ -2,7 +2,7 @@ use Rattle.std.proofs.Common.{◌∙◌, refl, subst, take}
 use Rattle.std.proofs.lemmas.Result.{IfOk-weaker}
 use Rattle.fir_types.proofs.Runs.{further_in, element_falls}
 use Rattle.type_index.specs.Knowing.{Matches, IsRight}
-use Rattle.type_index.proofs.Built.{gathers_taken, all_sized, clock_matches}
+use Rattle.type_index.proofs.Built.{gathers_taken, all_sized, clock_matches, async_matches}
 use Rattle.type_index.proofs.making.+make.Goals as goal
 
 pub make-loop-inside-preserved : goal.make-loop-inside-preserved
@@ -32,3 +32,6 @@ make_shape-returns-in-Unsigned t c = rw c.of_ground-in-Unsigned.ensures (λ typ 
 
 pub make_shape-returns-in-Clock : goal.make_shape-returns-in-Clock
 make_shape-returns-in-Clock t c = rw c.of_ground.ensures (λ typ is. clock_matches c.args.names.now typ (is ∙ c.in-Clock.is))
+
+pub make_shape-returns-in-AsyncReset : goal.make_shape-returns-in-AsyncReset
+make_shape-returns-in-AsyncReset t c = rw c.of_ground-in-AsyncReset.ensures (λ typ is. async_matches c.args.names.now typ (is ∙ c.in-AsyncReset.is))
