@@ -46,7 +46,7 @@ fn repeat_on_one(prim: Prim, first: Value, count: u64) -> Option<u64> {
     let width = u128::from(first.width);
     match prim {
         Prim::Pad | Prim::Head => repeat_one(prim, first, &[width], count),
-        Prim::Shl | Prim::Shr => repeat_one(prim, first, &[1], count),
+        Prim::Shl | Prim::Shr | Prim::ShrFour => repeat_one(prim, first, &[1], count),
         Prim::Tail => repeat_one(prim, first, &[0], count),
         Prim::Bits => repeat_one(prim, first, &[width.saturating_sub(1), 0], count),
         _ => repeat_one(prim, first, &[], count),

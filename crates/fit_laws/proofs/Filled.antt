@@ -1,23 +1,22 @@
 -- The places of a filled type have the widths that fill it, but for an AsyncReset, whose place has width 1; and a node of a type has as
 -- many places.
-use Rattle.std.proofs.Common.{◌≡◌, ◌⊎◌, ℕ, zero, suc, ◌+◌, ◌-◌, ◌≤◌, Bool, true, ◌&&◌, List, [], ◌∷◌, ◌++◌, map, length, drop, Option, Some, refl, sym, ap, ap₂, ◌∙◌, subst, inl, inr, arith, length-append, ⊎_elim}
+use Rattle.std.proofs.Common.{◌≡◌, ◌⊎◌, ℕ, ◌+◌, ◌-◌, ◌≤◌, Bool, true, false, ◌&&◌, List, [], ◌∷◌, ◌++◌, map, length, drop, Option, Some, refl, sym, ap, ap₂, ◌∙◌, subst, inl, inr, arith, length-append, ⊎_elim}
 use Rattle.std.specs.Prelude.{⊤}
 use Rattle.std.specs.List.{AllZip, flat_map, list_all}
 use Rattle.std.proofs.lemmas.Grind.{common_steps}
 use Rattle.std.proofs.lemmas.List.{length-map, length-drop}
-use Rattle.std.proofs.lemmas.List.Folds.{flat_map-map}
 use Rattle.place_text.specs.declared.place.Place.{Place}
 use Rattle.fir_types.specs.declared.fir_type.FirType.{FirType, ind-FirType, the_lemmas}
-use Rattle.fir_types.specs.declared.fir_type.Shape.{Shape, fold-Shape}
-use Rattle.fir_types.specs.declared.fir_type.Shape.TheOpen.{Shape-F, Field-F, FirType-F}
-use Rattle.fir_types.specs.declared.fir_type.Shape.TheFolds.{map-Shape, map-Field, map-FirType}
+use Rattle.fir_types.specs.declared.fir_type.Shape.{Shape}
+use Rattle.fir_types.specs.declared.fir_type.Shape.TheOpen.{Shape-F}
+use Rattle.fir_types.specs.declared.fir_type.Shape.TheFolds.{map-Shape}
 use Rattle.fir_types.specs.declared.fir_type.Shape.TheViews.{roll-Shape, roll-Field, roll-FirType}
 use Rattle.fir_types.specs.declared.fir_type.Shape.TheVariants as shape
 use Rattle.fir_types.specs.declared.fir_type.Shape.TheVariants.{rolls-Unsigned, rolls-Signed, rolls-Clock, rolls-Reset, rolls-AsyncReset, rolls-Bundle, rolls-Vector}
 use Rattle.fir_types.specs.declared.fir_type.Field.{Field}
 use Rattle.prim_ops.specs.declared.widths.Width.{Width}
-use Rattle.width_rules.specs.Places.{Spot, one_spot, spots, size, turned, of_shape, of_field, node_shape, node_spots}
-use Rattle.width_rules.specs.Layers.{field_spots, node_field_spots}
+use Rattle.width_rules.specs.Places.{Spot, one_spot, spots, size, turned, node_spots}
+use Rattle.width_rules.specs.Layers.{field_spots}
 use Rattle.width_rules.proofs.Spots.{spots-bundle, spots-vector, spots-field}
 use Rattle.type_filling.specs.Filling.{filled, number, first_number}
 use Rattle.type_filling.specs.Layers.{field_taking, fields_taking}
@@ -26,56 +25,9 @@ use Rattle.width_fit.specs.Written.{place_widths}
 use Rattle.fit_laws.specs.Declared.{KeepsWidth}
 use Rattle.fit_laws.specs.Numbered.{is_number}
 
--- Nodes
-
-abbrev shape_spots : Shape → List Spot
-shape_spots = fold-Shape (List Spot) (List Spot) (List Spot) of_shape of_field (λ t. t.shape)
-
-abbrev shape_nodes : Shape → List Spot
-shape_nodes = fold-Shape (List Spot) (List Spot) (List Spot) node_shape of_field (λ t. t.shape)
-
-abbrev ShapeCounted : Shape → Type 0
-ShapeCounted s = length (shape_nodes s) ≡ length (shape_spots s)
-
-abbrev FieldCounted : Field → Type 0
-FieldCounted f = length (node_field_spots f) ≡ length (field_spots f)
-
-abbrev TypeCounted : FirType → Type 0
-TypeCounted t = length (node_spots t) ≡ size t
-
-fields_counted : (ps : List ((f : Field) × FieldCounted f)) → length (flat_map node_field_spots (map (λ e. e.0) ps)) ≡ length (flat_map field_spots (map (λ e. e.0) ps))
-fields_counted [] = refl
-fields_counted (p ∷ ps) =
-    let fs : List Field = map (λ e. e.0) ps in
-    length-append (node_field_spots p.0) (flat_map node_field_spots fs) ∙ ap₂ (λ n m. n + m) p.1 (fields_counted ps) ∙ sym (length-append (field_spots p.0) (flat_map field_spots fs))
-
-field_counted : (y : Field-F ((s : Shape) × ShapeCounted s) ((f : Field) × FieldCounted f) ((t : FirType) × TypeCounted t))
-    → FieldCounted (roll-Field (map-Field _ _ _ Shape Field FirType (λ e. e.0) (λ e. e.0) (λ e. e.0) y))
-field_counted y =
-    let a : length (map (turned y.flip) (node_spots y.typ.0)) ≡ length (node_spots y.typ.0) = length-map (node_spots y.typ.0) (turned y.flip) in
-    let b : length (map (turned y.flip) (spots y.typ.0)) ≡ length (spots y.typ.0) = length-map (spots y.typ.0) (turned y.flip) in
-    grind (arith, common_steps, the_lemmas, y.typ.1, a, b)
-
-type_counted : (y : FirType-F ((s : Shape) × ShapeCounted s) ((f : Field) × FieldCounted f) ((t : FirType) × TypeCounted t))
-    → TypeCounted (roll-FirType (map-FirType _ _ _ Shape Field FirType (λ e. e.0) (λ e. e.0) (λ e. e.0) y))
-type_counted y = grind (arith, common_steps, the_lemmas, y.shape.1)
-
-shape_counted : (y : Shape-F ((s : Shape) × ShapeCounted s) ((f : Field) × FieldCounted f) ((t : FirType) × TypeCounted t))
-    → ShapeCounted (roll-Shape (map-Shape _ _ _ Shape Field FirType (λ e. e.0) (λ e. e.0) (λ e. e.0) y))
-shape_counted (Shape-F.Unsigned w) = grind (arith, common_steps, the_lemmas)
-shape_counted (Shape-F.Signed w) = grind (arith, common_steps, the_lemmas)
-shape_counted Shape-F.Clock = grind (arith, common_steps, the_lemmas)
-shape_counted Shape-F.Reset = grind (arith, common_steps, the_lemmas)
-shape_counted Shape-F.AsyncReset = grind (arith, common_steps, the_lemmas)
-shape_counted (Shape-F.Bundle fields) = grind (arith, common_steps, the_lemmas, flat_map-map, fields_counted fields)
-shape_counted (Shape-F.Vector element n) = grind (arith, common_steps, the_lemmas, element.1)
-
 -- a node of a type has a place for each of the type's
 pub node_counted : (t : FirType) → length (node_spots t) ≡ size t
-node_counted = ind-FirType ShapeCounted FieldCounted TypeCounted
-    (λ x y is. subst (λ z. ShapeCounted (roll-Shape z)) is (shape_counted y))
-    (λ x y is. subst (λ z. FieldCounted (roll-Field z)) is (field_counted y))
-    (λ x y is. subst (λ z. TypeCounted (roll-FirType z)) is (type_counted y))
+node_counted t = (fills t).as_many
 
 -- Filled places
 
@@ -257,13 +209,13 @@ numbers_fill [] ws (x ∷ xs) e h k = absurd h
 numbers_fill (o ∷ os) [] xs e h k = absurd h
 numbers_fill (o ∷ os) (w ∷ ws) [] e h k = absurd h
 numbers_fill (o ∷ os) (w ∷ ws) (x ∷ xs) e h k =
-    ap₂ (λ a b. a && b) (⊎_elim (λ is. ap is_number is ∙ first (is_number (number w)) k) (λ is. ap is_number is.1) h.0)
-    (numbers_fill os ws xs (omega (arith, e)) h.1 (others (is_number (number w)) k))
+    ap₂ (λ a b. a && b) (⊎_elim (λ is. ap is_number is ∙ first (is_number (number w)) _ k) (λ is. ap is_number is.1) h.0)
+    (numbers_fill os ws xs (omega (arith, e)) h.1 (others (is_number (number w)) _ k))
   where
-    first : (b : Bool) {c : Bool} → (b && c) ≡ true → b ≡ true
-    first true q = refl
-    first false q = cc
+    first : (b c : Bool) → (b && c) ≡ true → b ≡ true
+    first true c q = refl
+    first false c q = cc
 
-    others : (b : Bool) {c : Bool} → (b && c) ≡ true → c ≡ true
-    others true q = q
-    others false q = cc
+    others : (b c : Bool) → (b && c) ≡ true → c ≡ true
+    others true c q = q
+    others false c q = cc

@@ -161,13 +161,16 @@ node_counted t = spots_counted (node_spots t) (spots t) (one_spots t)
 
 -- Slots
 
+capped_one : capped 1 ≡ 1
+capped_one = omega arith
+
 one_slot : (n : ℕ) (given own : Option ℕ) → OneSpot given own → OneSlot given (slot_of n own)
 one_slot n None own h = tt
-one_slot n (Some w) own h = ap (slot_of n) h.1
+one_slot n (Some w) own h = ap (slot_of n) h.1 ∙ ap slot.Fixed capped_one
 
 given_slot : (n : ℕ) (given own : Option ℕ) → OneSpot given own → OneSlot given (slot_of n given)
 given_slot n None own h = tt
-given_slot n (Some w) own h = ap (λ k. slot.Fixed (capped k)) h.0
+given_slot n (Some w) own h = ap (λ k. slot.Fixed (capped k)) h.0 ∙ ap slot.Fixed capped_one
 
 from_spots : (n : ℕ) (ss xs : List Spot) → OneSpots ss xs → OneSlots ss (slots_from n xs)
 from_spots n [] [] h = tt

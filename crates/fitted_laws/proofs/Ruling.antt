@@ -122,22 +122,25 @@ pub node_marked : (ms : Marks) (n : ℕ) (ss : List Spot) (fs : List Formula) �
     → Each (RuleMarked ms) (node_rules (slots_from n ss) fs)
 node_marked ms n [] fs h = tt
 node_marked ms n (s ∷ ss) [] h = tt
-node_marked ms n (s ∷ ss) (f ∷ fs) h = by s.width h where
-  by : (o : Option ℕ) → Takes ms n (opened o f (open_formulas ss fs)) → Each (RuleMarked ms) (node_rules (slot_of n o ∷ slots_from (n + is_open o) ss) (f ∷ fs))
-  by None h = (inr (takes_first ms n f (open_formulas ss fs) h), node_marked ms (n + 1) ss fs (takes_later ms n f (open_formulas ss fs) h))
-  by (Some w) h = node_marked ms (n + 0) ss fs (takes_same ms n (open_formulas ss fs) h)
+node_marked ms n (s ∷ ss) (f ∷ fs) h = by s.width h (λ m. node_marked ms m ss fs) where
+  by : (o : Option ℕ) → Takes ms n (opened o f (open_formulas ss fs)) → ((m : ℕ) → Takes ms m (open_formulas ss fs) → Each (RuleMarked ms) (node_rules (slots_from m ss) fs))
+      → Each (RuleMarked ms) (node_rules (slot_of n o ∷ slots_from (n + is_open o) ss) (f ∷ fs))
+  by None h rest = (inr (takes_first ms n f (open_formulas ss fs) h), rest (n + 1) (takes_later ms n f (open_formulas ss fs) h))
+  by (Some w) h rest = rest (n + 0) (takes_same ms n (open_formulas ss fs) h)
 
 pub node_ruled : (n : ℕ) (ss : List Spot) (fs : List Formula) (k : ℕ) (f : Formula) → slice_get (open_formulas ss fs) k ≡ Some f → Contains (node_rules (slots_from n ss) fs) (rule_of (n + k) f)
 node_ruled n [] fs k f g = cc
 node_ruled n (s ∷ ss) [] k f g = cc
-node_ruled n (s ∷ ss) (x ∷ fs) k f g = by s.width k g where
-  by : (o : Option ℕ) (k : ℕ) → slice_get (opened o x (open_formulas ss fs)) k ≡ Some f → Contains (node_rules (slot_of n o ∷ slots_from (n + is_open o) ss) (x ∷ fs)) (rule_of (n + k) f)
-  by None zero g =
+node_ruled n (s ∷ ss) (x ∷ fs) k f g = by s.width k g (λ m j. node_ruled m ss fs j f) where
+  by : (o : Option ℕ) (k : ℕ) → slice_get (opened o x (open_formulas ss fs)) k ≡ Some f
+      → ((m j : ℕ) → slice_get (open_formulas ss fs) j ≡ Some f → Contains (node_rules (slots_from m ss) fs) (rule_of (m + j) f))
+      → Contains (node_rules (slot_of n o ∷ slots_from (n + is_open o) ss) (x ∷ fs)) (rule_of (n + k) f)
+  by None zero g rest =
       subst (λ r. Contains (rule_of n x ∷ node_rules (slots_from (n + 1) ss) fs) r) (ap₂ rule_of (let m : n ≡ n + 0 = omega arith in m) (some_same g)) (Contains-first (node_rules (slots_from (n + 1) ss) fs))
-  by None (suc k) g =
+  by None (suc k) g rest =
       Contains-later (rule_of n x) (node_rules (slots_from (n + 1) ss) fs)
-      (subst (λ m. Contains (node_rules (slots_from (n + 1) ss) fs) (rule_of m f)) (let m : (n + 1) + k ≡ n + suc k = omega arith in m) (node_ruled (n + 1) ss fs k f g))
-  by (Some w) k g = subst (λ m. Contains (node_rules (slots_from (n + 0) ss) fs) (rule_of m f)) (let m : (n + 0) + k ≡ n + k = omega arith in m) (node_ruled (n + 0) ss fs k f g)
+      (subst (λ m. Contains (node_rules (slots_from (n + 1) ss) fs) (rule_of m f)) (let m : (n + 1) + k ≡ n + suc k = omega arith in m) (rest (n + 1) k g))
+  by (Some w) k g rest = subst (λ m. Contains (node_rules (slots_from (n + 0) ss) fs) (rule_of m f)) (let m : (n + 0) + k ≡ n + k = omega arith in m) (rest (n + 0) k g)
 
 pub node_widths : (ws : List Width) (ms : Marks) → Solves ws ms → (n : ℕ) (ss : List Spot) (fs : List Formula) → length ss ≡ length fs
     → OneSlots ss (slots_from n ss) → OneWidths ss (map (λ f. width_under f ws) fs)
@@ -145,13 +148,12 @@ pub node_widths : (ws : List Width) (ms : Marks) → Solves ws ms → (n : ℕ) 
 node_widths ws ms s n [] [] e o v h = refl
 node_widths ws ms s n [] (f ∷ fs) e o v h = absurd (omega (arith, e))
 node_widths ws ms s n (x ∷ ss) [] e o v h = absurd (omega (arith, e))
-node_widths ws ms s n (x ∷ ss) (f ∷ fs) e o v h = by x.width o.0 v.0 o.1 h where
+node_widths ws ms s n (x ∷ ss) (f ∷ fs) e o v h = by x.width o.0 v.0 o.1 h (λ m a b. node_widths ws ms s m ss fs (omega (arith, e)) a v.1 b) where
   by : (w : Option ℕ) → OneSlot w (slot_of n w) → OneWidth w (width_under f ws) → OneSlots ss (slots_from (n + is_open w) ss) → Takes ms n (opened w f (open_formulas ss fs))
+      → ((m : ℕ) → OneSlots ss (slots_from m ss) → Takes ms m (open_formulas ss fs) → map (slot_width ws) (slots_from m ss) ≡ map (λ f. width_under f ws) fs)
       → slot_width ws (slot_of n w) ∷ map (slot_width ws) (slots_from (n + is_open w) ss) ≡ width_under f ws ∷ map (λ f. width_under f ws) fs
-  by None a b o h =
-      ap₂ (λ a b. a ∷ b) (s n f (takes_first ms n f (open_formulas ss fs) h)) (node_widths ws ms s (n + 1) ss fs (omega (arith, e)) o v.1 (takes_later ms n f (open_formulas ss fs) h))
-  by (Some w) a b o h =
-      ap₂ (λ a b. a ∷ b) (ap (slot_width ws) a ∙ width-Fixed 1 ws ∙ sym b) (node_widths ws ms s (n + 0) ss fs (omega (arith, e)) o v.1 (takes_same ms n (open_formulas ss fs) h))
+  by None a b o h rest = ap₂ (λ a b. a ∷ b) (s n f (takes_first ms n f (open_formulas ss fs) h)) (rest (n + 1) o (takes_later ms n f (open_formulas ss fs) h))
+  by (Some w) a b o h rest = ap₂ (λ a b. a ∷ b) (ap (slot_width ws) a ∙ width-Fixed 1 ws ∙ sym b) (rest (n + 0) o (takes_same ms n (open_formulas ss fs) h))
 
 -- Connects
 

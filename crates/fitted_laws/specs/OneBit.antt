@@ -1,5 +1,5 @@
 -- Conditions of one bit (FIRRTL specification 3.0, "Conditionals" and "Registers"): each condition of a conditional and each reset of a
--- register is one UInt of at most one bit.
+-- register is one UInt of at most one bit. So is the value of a reset that is an AsyncReset.
 use Rattle.std.specs.Prelude.{◌&&◌, nat_le, Bool, true, false, List, [], ◌∷◌, map, Option, Some}
 use Rattle.std.specs.List.{list_all}
 use Rattle.fir_tree.specs.declared.expr.Expr.{Expr}

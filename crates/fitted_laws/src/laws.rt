@@ -29,7 +29,8 @@ pub fn accepted_modules_are_well_typed()
     ensures typed { (fitted : FittedCircuit) → IsAccepted fitted → (k : ℕ) (holder : AModule) (m : TypedModule) → slice_get fitted.checked.resolved.modules k ≡ Some holder → slice_get (modules_of fitted) k ≡ Some m → slice_get fitted.checked.scope.reached k ≡ Some true → HasTypes holder m }
 {}
 
-/// In the modules of an accepted circuit that main reaches, each condition of a conditional and each reset is one UInt of at most one bit.
+/// In the modules of an accepted circuit that main reaches, each condition of a conditional and each reset is one UInt of at most one
+/// bit, where an AsyncReset counts as a UInt of one bit.
 pub fn accepted_conditions_have_one_bit()
     ensures { (fitted : FittedCircuit) → IsAccepted fitted → (k : ℕ) (holder : AModule) (m : TypedModule) → slice_get fitted.checked.resolved.modules k ≡ Some holder → slice_get (modules_of fitted) k ≡ Some m → slice_get fitted.checked.scope.reached k ≡ Some true → ask_one_bit (known_in m) holder.body ≡ true }
 {}

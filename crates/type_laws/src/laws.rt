@@ -14,7 +14,7 @@ ghost use Rattle.type_laws.specs.DoubledFields.{HasNoDoubledField};
 ghost use Rattle.type_laws.specs.Paths.{HaveDifferentPaths};
 
 /// Equivalent types have, place by place, leaves with the same paths and orientations and of the same kinds, where a `Reset` is a
-/// `UInt`. Each leaf has a kind.
+/// `UInt` and an `AsyncReset` has a kind of its own. Each leaf has a kind.
 pub fn equivalent_types_have_the_same_ways()
     ensures ways { (left right : TheType) → Equivalent left right → map way_of (leaves left) ≡ map way_of (leaves right) }
     ensures kinds { (left right : TheType) → Equivalent left right → map ground_kind (leaves left) ≡ map ground_kind (leaves right) }
