@@ -51,9 +51,7 @@ fn push_inside(
     match &typ.shape {
         Shape::Unsigned(width) => push_width(text, front.as_slice(), "UInt", *width),
         Shape::Signed(width) => push_width(text, front.as_slice(), "SInt", *width),
-        Shape::Reset | Shape::AsyncReset => {
-            push_width(text, front.as_slice(), "UInt", Some(1))
-        }
+        Shape::Reset | Shape::AsyncReset => push_width(text, front.as_slice(), "UInt", Some(1)),
         Shape::Clock => Ok(()),
         Shape::Bundle(fields) => {
             let before = front.len();
