@@ -90,7 +90,7 @@ state() {
 # Sets `program` to the path of the one that stands for the sources, or `why` to the reason why none does. Where out/ can't be written it
 # unpacks into a folder of its own, `room`, which the caller removes.
 choose() {
-  local kept=$top/out/$1.choice folders seen
+  local kept=$top/out/$1.choice folders= seen
   program= why= room=
   [ -r "$kept" ] && { read -r program && read -r folders; } < "$kept"
   if [ -n "$program" ] && [ -x "$top/$program" ] && state "$1" "$program" "$folders" | cmp -s - "$kept"; then
@@ -124,9 +124,13 @@ choose_or_build() {
     echo "firsim: $why, and the Rattle kit, whose command rt builds it from source, isn't on this machine's PATH" >&2
     exit 70
   fi
-  echo "firsim: $why, so ./build makes it from source" >&2
-  "$top/build" >&2 < /dev/null || exit 70
-  choose "$1" && return 0
-  echo "firsim: $why, and none was built" >&2
-  exit 70
+  # of several calls at once one builds, and the others wait for it
+  mkdir -p "$top/out" && exec 9> "$top/out/build.lock" || exit 70
+  command -v flock > /dev/null && flock 9
+  if ! choose "$1"; then
+    echo "firsim: $why, so ./build makes it from source" >&2
+    "$top/build" >&2 < /dev/null || exit 70
+    choose "$1" || { echo "firsim: $why, and none was built" >&2; exit 70; }
+  fi
+  exec 9>&-
 }

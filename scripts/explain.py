@@ -159,7 +159,8 @@ def main():
     elif status in (2, 3):
         lines = fault(program, status, words)
     else:
-        lines = told(status)
+        # (5 is what a reader that has enough, as head, leaves)
+        lines = told(status) if status in (4, 6) else []
         if status == 4:
             lines += [f"  {name}: there is no such file" for name in texts_of(words) if name not in (None, "-") and not os.path.exists(name)]
         if status == 6:

@@ -16,7 +16,7 @@ from pathlib import Path
 
 TOP = Path(__file__).resolve().parent.parent
 TOOLS = (
-    "bash env sh awk sed find sort xargs sha256sum cut paste gzip cmp readlink mktemp mkdir mv rm cat chmod cp grep date wc ls dirname tr head tail sleep"
+    "bash env sh awk sed find sort xargs sha256sum cut paste gzip cmp readlink mktemp mkdir mv rm cat chmod cp grep date wc ls dirname tr head tail sleep flock"
 ).split()
 STAND_IN = '#!/bin/sh\necho "{}$*"\nexit ${{STATUS:-0}}\n'
 FRONT = "FIRRTL version 3.0.0\ncircuit M :\n  module M :\n    input clock : Clock\n    input a : UInt<1>\n    output o : UInt<1>\n"
@@ -26,7 +26,7 @@ class Checkout:
     """A repository of small crates with the scripts of this one."""
 
     def __init__(self, room):
-        self.top, self.bin, self.home = room / "checkout", room / "bin", room / "home"
+        self.top, self.bin, self.home = room / "check out", room / "bin", room / "home"
         for folder in (self.top / "docs", self.top / "prebuilt", self.bin, self.home):
             folder.mkdir(parents=True)
         for name in TOOLS:
@@ -240,8 +240,20 @@ def builds(checkout, program):
             has(done.stderr, b"build: 3 of 3 crates proved, 100% of the lines")
             same((checkout.home / "called").read_text(), "ci firsim\nci plain_trace\n" if named else "ci\n")
             answers(checkout.firsim("y"), b"built y\n")
+            has(checkout.run("build").stdout, b"build: both programs are built of the sources as they are\n")
 
         yield f"a changed source is built, with a kit that has rt ci{' NAME' * named}, and the reason said", built
+
+
+    def two_at_once():
+        (checkout.home / "called").unlink()
+        checkout.write("crates/low/src/lib.rt", "//! low, changed again\n")
+        env = {"PATH": str(checkout.bin), "HOME": str(checkout.home)}
+        calls = [subprocess.Popen([checkout.top / "firsim", "x"], stdout=subprocess.PIPE, stderr=subprocess.PIPE, env=env) for _ in range(2)]
+        same([call.communicate()[0] for call in calls], [b"built x\n"] * 2)
+        same((checkout.home / "called").read_text(), "ci firsim\nci plain_trace\n")
+
+    yield "of two calls at once one builds", two_at_once
 
 
 def comparisons(checkout, program):
@@ -440,7 +452,7 @@ def explanations(checkout, program):
         same((done.stdout, done.returncode), (b"part run c.fir\n", 6))
         has(done.stderr, b"firsim: status 6: out of memory; a prefix may be there\n")
         has(done.stderr, b"  leaves of a run; of the main module's ports; flat size; state words  ")
-        has(checkout.explained("x", STATUS="5").stderr, b"firsim: status 5: standard output could not be written")
+        answers(checkout.explained("x", STATUS="5"), b"part x\n", 5)
 
     yield "out of memory is told with the limits", no_memory
 
