@@ -55,7 +55,11 @@ pub fn tell(
         fits: IndexMap::new(alloc),
         choices: Choices::new(alloc),
     };
-    let modules = with_ports(alloc, &mut walk.places, checked.resolved.get().modules.as_slice())?;
+    let modules = with_ports(
+        alloc,
+        &mut walk.places,
+        checked.resolved.get().modules.as_slice(),
+    )?;
     let names = &checked.resolved.get().names;
     let components = instances_of(alloc, names, modules.as_slice())?;
     let fits = fits_of_instances(alloc, widths.as_slice(), &components, modules.as_slice())?;

@@ -31,7 +31,11 @@ pub fn rules_of(alloc: Global, checked: &Checked) -> Result<Rules, AllocError>
         places: Vec::new(alloc),
         rules: FoundRules::new(alloc),
     };
-    let modules = with_ports(alloc, &mut found.places, checked.resolved.get().modules.as_slice())?;
+    let modules = with_ports(
+        alloc,
+        &mut found.places,
+        checked.resolved.get().modules.as_slice(),
+    )?;
     let instances = instances_of(alloc, names, modules.as_slice())?;
     walk_bodies(alloc, &instances, &mut found, modules)?;
     Ok(Rules {

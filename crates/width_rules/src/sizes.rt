@@ -162,11 +162,8 @@ pub fn push_mask(slots: &mut List<Slot>, typ: &FirType) -> Result<(), AllocError
 {
     let inside = inside_lengths(typ);
     match &inside.shape {
-        Shape::Unsigned(_)
-        | Shape::Signed(_)
-        | Shape::Reset
-        | Shape::AsyncReset
-        | Shape::Clock => slots.push(Slot::Fixed(1)),
+        Shape::Unsigned(_) | Shape::Signed(_) | Shape::Reset | Shape::AsyncReset | Shape::Clock =>
+            slots.push(Slot::Fixed(1)),
         Shape::Bundle(fields) => push_field_masks(slots, fields.as_slice()),
         Shape::Vector(_, _) => unreachable!(),
     }
