@@ -12,7 +12,7 @@ use Rattle.ground_net.specs.declared.ground.Ground.{Ground}
 use Rattle.ground_net.specs.declared.net.Leaf.{Leaf}
 use Rattle.ground_net.specs.declared.net.Net.{Net}
 use Rattle.ground_net.specs.Reads.{lone_driver}
-use Rattle.net_meaning.specs.Cycles.{sight_of}
+use Rattle.net_meaning.specs.Cycles.{instant_of}
 use Rattle.net_meaning.specs.Nets.{IsNet}
 use Rattle.net_of_circuit.specs.FlatOrder.{Standing, all_leaves}
 use Rattle.net_of_circuit.specs.NetOf.{IsLeafOfNet, IsNetWith, IsNetOf, valuation_of}
@@ -53,16 +53,16 @@ module _ (z : Setting) (net : Net) (is : IsPlaced z.flat net) where
       ports = ports_are z net is;
       leaves_are = leaf_is;
       driven = λ path m c leaf x y driver s t rho stands set there same drives seen.
-          let sight = sight_of net t rho in
+          let instant = instant_of net t rho in
           let own = flat_has z net is x y driver there (not_driven z path m c leaf stands set x y there same) drives in
           let o = driver_at z x y there in
-          left_in_leaf z.fitted z.well z.lowered z.is z.driven z.expanded (spots z) (placed z) (match z) (lists z) sight (nets.fits_seen z net is sight seen.shapes) path m c leaf stands set
-          (some path m c leaf stands (must c.declaration.sort leaf.flip (driven_source c leaf set) (driven_register c leaf set)) (valuation_of (all_leaves (placed z)) sight)) x y there same o.0 driver o.2 (has x o.0 driver o.1 own);
+          left_in_leaf z.fitted z.well z.lowered z.is z.driven z.expanded (spots z) (placed z) (match z) (lists z) instant (nets.fits_seen z net is instant seen.shapes) path m c leaf stands set
+          (some path m c leaf stands (must c.declaration.sort leaf.flip (driven_source c leaf set) (driven_register c leaf set)) (valuation_of (all_leaves (placed z)) instant)) x y there same o.0 driver o.2 (has x o.0 driver o.1 own);
       nodes = λ x y e k driver s t rho there sort clock kth drives seen.
-          let sight = sight_of net t rho in
+          let instant = instant_of net t rho in
           let own = flat_has z net is x y driver there (not_node z y e sort) drives in
           let o = driver_at z x y there in
-          node_in_leaf z.fitted z.well z.lowered z.is z.driven z.expanded (spots z) (placed z) (match z) (lists z) sight (nets.fits_seen z net is sight seen.shapes) x y e k o.0 driver there sort clock kth o.2 (has x o.0 driver o.1 own);
+          node_in_leaf z.fitted z.well z.lowered z.is z.driven z.expanded (spots z) (placed z) (match z) (lists z) instant (nets.fits_seen z net is instant seen.shapes) x y e k o.0 driver there sort clock kth o.2 (has x o.0 driver o.1 own);
       port_reads = λ x y memory port field way driver s t rho there sort latency turned path has seen. port_reads z net is s t rho seen loaded x y memory port field way driver there sort latency turned path has;
       reads = λ x k y w there w_there h. clauses.reads z net is x y there (shows z x y there) k w w_there h;
       all_reads = λ x y f there r. clauses.all_reads z net is x y there (shows z x y there) f r;

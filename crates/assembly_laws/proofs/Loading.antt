@@ -27,9 +27,9 @@ use Rattle.ground_net.specs.declared.net.NetMemory.{NetMemory}
 use Rattle.ground_net.specs.declared.net.NetPort.{NetPort}
 use Rattle.ground_net.specs.declared.net.NetRead.{NetRead}
 use Rattle.ground_net.specs.declared.net.ElementLeaf.{ElementLeaf}
-use Rattle.ground_net.specs.Grounds.{Sight, value}
+use Rattle.ground_net.specs.Grounds.{Instant, value}
 use Rattle.ground_net.specs.Reads.{driver_of}
-use Rattle.net_meaning.specs.Cycles.{NetState, sight_of, is_set, where_it_reads}
+use Rattle.net_meaning.specs.Cycles.{NetState, instant_of, is_set, where_it_reads}
 use Rattle.net_meaning.specs.Cycles as cycle
 use Rattle.net_meaning.specs.Nets.{IsWithin}
 use Rattle.net_of_circuit.specs.FlatOrder.{Placed, Standing, all_memories}
@@ -52,7 +52,7 @@ use Rattle.assembly_laws.proofs.Showing.{ReadOf, ShowsData, nothing, what_is_rea
 -- what loads are
 abbrev pub Loaded : Type 0
 Loaded = (net : Net) (s : NetState) (rho : cycle.Valuation) (m k : ℕ) (memory : NetMemory) (port : NetPort) (read : NetRead) (element : ElementLeaf) → slice_get net.memories m ≡ Some memory → port.read ≡ Some read → slice_get memory.elements k ≡ Some element
-    → IsWithin net s → integer_of (value (load_of m k port) (sight_of net s rho)) ≡ read_by_port memory.depth (s.contents m) (cycle.shown (sight_of net s rho) port) k
+    → IsWithin net s → integer_of (value (load_of m k port) (instant_of net s rho)) ≡ read_by_port memory.depth (s.contents m) (cycle.shown (instant_of net s rho) port) k
 
 first_step : {a b c d : ℕ} {v w : List PathStep} → step.Field a ∷ step.Field b ∷ v ≡ step.Field c ∷ step.Field d ∷ w → a ≡ c
 first_step e = cc
@@ -88,8 +88,8 @@ module _ (z : Setting) (net : Net) (is : IsPlaced z.flat net) where
     abbrev tree_rho : Valuation
     tree_rho = seen_valuation (placed z) net t rho
 
-    abbrev sight : Sight
-    sight = sight_of net t rho
+    abbrev instant : Instant
+    instant = instant_of net t rho
 
     -- A port of a memory of the run
     module _ (p : Placed) (memory : Memory) (sort : p.c.declaration.sort ≡ A_memory memory) (declared : component_named p.m p.c.declaration.name ≡ Some p.c) (element : FirType) (port : MemoryPort) (np : NetPort) (of : IsPortOf (all z) p memory element port np) where
@@ -103,48 +103,48 @@ module _ (z : Setting) (net : Net) (is : IsPlaced z.flat net) where
       named way x n =
           local_at p.m p.path tree_rho (record { component = p.c.declaration.name; way = way })
           ∙ (ap (at tree_rho) (ap (λ o. flat_through p.path p.c.declaration.name o way) none ∙ flat_none p.path p.c.declaration.name way)
-          ∙ (ap (tree_rho p.path p.c.declaration.name) (sym n.is) ∙ valuation_at (design z) (placed z) (lists z) sight x (p, n.leaf) n.there))
+          ∙ (ap (tree_rho p.path p.c.declaration.name) (sym n.is) ∙ valuation_at (design z) (placed z) (lists z) instant x (p, n.leaf) n.there))
 
-      set_at : (way : List PathStep) (x : ℕ) → Names (all z) p way x → int_eq (integers way) (pos 1) ≡ is_set sight x
+      set_at : (way : List PathStep) (x : ℕ) → Names (all z) p way x → int_eq (integers way) (pos 1) ≡ is_set instant x
       set_at way x n = ap (λ i. int_eq i (pos 1)) (named way x n)
 
-      address_same : tree_ports.address integers port ≡ unsigned_abs (integer_of (sight.leaf np.addr))
+      address_same : tree_ports.address integers port ≡ unsigned_abs (integer_of (instant.leaf np.addr))
       address_same = ap unsigned_abs (named (step.Field port.name ∷ step.Field addr_name ∷ []) np.addr of.addr)
 
-      en_same : tree_ports.is_set integers port en_name ≡ is_set sight np.en
+      en_same : tree_ports.is_set integers port en_name ≡ is_set instant np.en
       en_same = set_at (step.Field port.name ∷ step.Field en_name ∷ []) np.en of.en
 
-      reads_same : (md : PortMode) → port.mode ≡ md → asks_to_read integers port md ≡ where_it_reads np.read (set_to_read (is_set sight np.en) (option_map (is_set sight) np.mode))
-      reads_same mode.Writer e = sym (ap (λ o. where_it_reads o (set_to_read (is_set sight np.en) (option_map (is_set sight) np.mode))) (of.no_read (ap may_read e)))
+      reads_same : (md : PortMode) → port.mode ≡ md → asks_to_read integers port md ≡ where_it_reads np.read (set_to_read (is_set instant np.en) (option_map (is_set instant) np.mode))
+      reads_same mode.Writer e = sym (ap (λ o. where_it_reads o (set_to_read (is_set instant np.en) (option_map (is_set instant) np.mode))) (of.no_read (ap may_read e)))
       reads_same mode.Reader e =
           let r = of.read (ap may_read e) in
-          en_same ∙ sym (ap₂ (λ o m. where_it_reads o (set_to_read (is_set sight np.en) (option_map (is_set sight) m))) r.1 (of.no_mode (ap has_mode e)))
+          en_same ∙ sym (ap₂ (λ o m. where_it_reads o (set_to_read (is_set instant np.en) (option_map (is_set instant) m))) r.1 (of.no_mode (ap has_mode e)))
       reads_same mode.ReadWriter e =
           let r = of.read (ap may_read e) in
           let m = of.mode (ap has_mode e) in
           ap₂ (λ a b. a && not b) en_same (set_at (step.Field port.name ∷ step.Field wmode_name ∷ []) m.0 m.2)
-          ∙ sym (ap₂ (λ o m. where_it_reads o (set_to_read (is_set sight np.en) (option_map (is_set sight) m))) r.1 m.1)
+          ∙ sym (ap₂ (λ o m. where_it_reads o (set_to_read (is_set instant np.en) (option_map (is_set instant) m))) r.1 m.1)
 
     -- What the circuit's port reads is what the net's does.
     read_there : (loaded : Loaded) (x : ℕ) (y : Standing) → slice_get (all z) x ≡ Some y → (shown : ReadData) (r : ReadOf z y shown)
-        → read_of r.memory (local y.0.m y.0.path tree_rho y.0.c.declaration.name) (s.contents y.0.path y.0.c.declaration.name) (Some r.port) r.leaf.path ≡ integer_of (value (load_of r.m r.k r.np) sight)
+        → read_of r.memory (local y.0.m y.0.path tree_rho y.0.c.declaration.name) (s.contents y.0.path y.0.c.declaration.name) (Some r.port) r.leaf.path ≡ integer_of (value (load_of r.m r.k r.np) instant)
     read_there loaded x y there shown r =
         let L = lists z in
         let stands = (L.stands x y there).0 in
         let nm = item net.memories r.m (subst (λ n. r.m < n) (sym net_memories_counted) (below_length (all_memories (placed z)) r.m (y.0, r.memory) r.at_memory)) in
         let of = memory_there r.m y.0 r.memory r.element nm.0 r.at_memory r.at_element nm.1 in
         let kept = item nm.0.elements r.k (subst (λ n. r.k < n) (sym of.counted) (below_length (leaves r.element) r.k r.leaf r.at_leaf)) in
-        read_same (depth_of r.memory) r.leaf.path r.k (tree_ports.shown (local y.0.m y.0.path tree_rho y.0.c.declaration.name) r.port) (cycle.shown sight r.np) (s.contents y.0.path y.0.c.declaration.name) (t.contents r.m)
+        read_same (depth_of r.memory) r.leaf.path r.k (tree_ports.shown (local y.0.m y.0.path tree_rho y.0.c.declaration.name) r.port) (cycle.shown instant r.np) (s.contents y.0.path y.0.c.declaration.name) (t.contents r.m)
         (reads_same y.0 r.memory r.sort stands.declared r.element r.port r.np r.of r.port.mode refl) (address_same y.0 r.memory r.sort stands.declared r.element r.port r.np r.of)
         (λ i. seen_is.states.contents r.m i r.k y.0 r.memory r.element r.leaf r.at_memory r.at_element r.at_leaf)
-        ∙ (ap (λ d. read_by_port d (t.contents r.m) (cycle.shown sight r.np) r.k) (sym of.depth)
+        ∙ (ap (λ d. read_by_port d (t.contents r.m) (cycle.shown instant r.np) r.k) (sym of.depth)
         ∙ sym (loaded net t rho r.m r.k nm.0 r.np r.read kept.0 nm.1 r.reads kept.1 seen_is.within))
 
     pub port_reads : (loaded : Loaded) (x : ℕ) (y : Standing) (memory : Memory) (port field : ℕ) (way : List PathStep) (driver : Ground) → slice_get (all z) x ≡ Some y → y.0.c.declaration.sort ≡ A_memory memory → read_latency_of memory ≡ 0
         → y.1.flip ≡ false → y.1.path ≡ step.Field port ∷ step.Field field ∷ way → driver_of net x ≡ Some driver
-        → read_by memory ((scene_of y.0.m y.0.path tree_rho).integers y.0.c.declaration.name) (s.contents y.0.path y.0.c.declaration.name) port way ≡ integer_of (value driver sight)
+        → read_by memory ((scene_of y.0.m y.0.path tree_rho).integers y.0.c.declaration.name) (s.contents y.0.path y.0.c.declaration.name) port way ≡ integer_of (value driver instant)
     port_reads loaded x y memory port field way driver there sort latency turned path has = by (shows_data z x y there) where
-      by : ShowsData z x y → read_by memory ((scene_of y.0.m y.0.path tree_rho).integers y.0.c.declaration.name) (s.contents y.0.path y.0.c.declaration.name) port way ≡ integer_of (value driver sight)
+      by : ShowsData z x y → read_by memory ((scene_of y.0.m y.0.path tree_rho).integers y.0.c.declaration.name) (s.contents y.0.path y.0.c.declaration.name) port way ≡ integer_of (value driver instant)
       by (nothing e no_data) = absurd (no_data memory sort turned)
       by (what_is_read shown e r) =
           let same : memory ≡ r.memory = memory_same memory r.memory (sym sort ∙ r.sort) in
@@ -158,4 +158,4 @@ module _ (z : Setting) (net : Net) (is : IsPlaced z.flat net) where
           let shows = local y.0.m y.0.path tree_rho y.0.c.declaration.name in
           ap (λ m. read_by m shows held port way) same
           ∙ (ap₂ (λ i w. read_by r.memory shows held i w) (first_step steps) (behind_steps steps)
-          ∙ (ap (λ o. read_of r.memory shows held o r.leaf.path) r.named ∙ (read_there loaded x y there shown r ∙ ap (λ g. integer_of (value g sight)) driver_is)))
+          ∙ (ap (λ o. read_of r.memory shows held o r.leaf.path) r.named ∙ (read_there loaded x y there shown r ∙ ap (λ g. integer_of (value g instant)) driver_is)))

@@ -20,7 +20,7 @@ use fir_meaning::laws::initialized_leaves_are_driven;
 use memory_ports::laws::loads_are_what_ports_read;
 
 /// The net that the passes make of an initialized circuit is the circuit's, where it is well formed: its leaves in flat order, each with
-/// its name, kind, width, place and part in a cycle; at every sight the drivers have what the circuit's statements, nodes and ports
+/// its name, kind, width, place and part in a cycle; at every instant the drivers have what the circuit's statements, nodes and ports
 /// leave in the leaves, and read what they read; and the registers and memories are the circuit's.
 pub fn passes_make_the_net()
     ensures { (fitted : FittedCircuit) → IsWellFormed fitted → IsInitialized (design_of fitted) → (lowered : TheGroundCircuit) → IsGroundOf fitted lowered → (driven : TheDrivenCircuit) → IsExpanded lowered driven → (flat : TheFlatCircuit) → IsFlat driven flat → (net : TheNet) → IsPlaced flat net → IsNet net → IsNetOf fitted.checked.resolved.names (design_of fitted) net }

@@ -8,7 +8,7 @@ use Rattle.ground_net.specs.declared.net.Net.{Net}
 use Rattle.ground_net.specs.declared.net.PortLeaf.{PortLeaf}
 use Rattle.ground_net.specs.Reads.{IsOrder}
 use Rattle.ground_net.specs.Watching.{watched}
-use Rattle.net_meaning.specs.Cycles.{NetState, Inputs, Valuation, Settled, sight_of, next, first_state}
+use Rattle.net_meaning.specs.Cycles.{NetState, Inputs, Valuation, Settled, instant_of, next, first_state}
 use Rattle.net_meaning.specs.Nets.{IsNet}
 use Rattle.net_meaning.proofs.Mentioning.{one_of_net}
 use Rattle.net_laws.specs.Runs.{Run, ended, cycle}
@@ -23,7 +23,7 @@ pub run_on : (net : Net) (sequence : List ℕ) → IsNet net → IsOrder net seq
 run_on net sequence well order t [] = ([], ended)
 run_on net sequence well order t (g ∷ given) =
     let one = (one_of_net net sequence well order t g).one in
-    let rest = run_on net sequence well order (next net t (sight_of net t one.0)) given in
+    let rest = run_on net sequence well order (next net t (instant_of net t one.0)) given in
     (map one.0 (watch net) ∷ rest.0, cycle one.0 one.1 rest.1)
 
 pub given_split : (stimulus : Stimulus) (first n m : ℕ) → given_from stimulus first (n + m) ≡ given_from stimulus first n ++ given_from stimulus (first + n) m
@@ -51,9 +51,9 @@ module _ (net : Net) (stimulus : Stimulus) where
 
   -- One cycle.
   pub one_cycle : (P : NetState → Type 0) (s : NetState) (first : ℕ) (rho : Valuation) (row : List Value) (line : List ℕ) → Settled net s (given_in stimulus first) rho → row ≡ map rho (watch net) → line ≡ trace_line_of first row
-      → P (next net s (sight_of net s rho)) → LeadsTo net stimulus P s first 1 line
+      → P (next net s (instant_of net s rho)) → LeadsTo net stimulus P s first 1 line
   one_cycle P s first rho row line settled row_is line_is k = record {
-    state = next net s (sight_of net s rho);
+    state = next net s (instant_of net s rho);
     rows = map rho (watch net) ∷ [];
     leads = λ later more r. cycle rho settled r;
     counted = refl;

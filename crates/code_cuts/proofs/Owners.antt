@@ -6,9 +6,9 @@ use Rattle.bit_words.specs.declared.value.Value.{Value}
 use Rattle.phase_core.specs.declared.model.Publication.{Publication}
 use Rattle.ground_net.specs.declared.net.Net.{Net}
 use Rattle.ground_net.specs.declared.net.CutPart.{CutPart}
-use Rattle.ground_net.specs.Grounds.{Sight}
+use Rattle.ground_net.specs.Grounds.{Instant}
 use Rattle.ground_net.specs.Cones.{Sink, sinks}
-use Rattle.net_meaning.specs.Cycles.{NetState, Valuation, sight_of}
+use Rattle.net_meaning.specs.Cycles.{NetState, Valuation, instant_of}
 use Rattle.net_meaning.specs.Words.{state_words, state_of}
 use Rattle.flat_code.specs.declared.code.Code.{Code}
 use Rattle.flat_code.specs.Codes.{published_by}
@@ -101,10 +101,10 @@ module _ (codes : List Code) (cut : AreOfOneCut codes) where
     pub own : owner_in codes p.word ≡ k
     pub plain : p.value < 2 ^ 64
 
-  told : (k : ℕ) (part : CutPart) → slice_get cut.parts k ≡ Some part → (st : NetState) (sight : Sight) → Each (IsOwn k) (sinks_told TheNet st sight (sinks_of_part TheNet cut.watch part))
-  told k part e st sight = each_flat (IsOwn k) (sink_told TheNet st sight) (sinks_of_part TheNet cut.watch part)
+  told : (k : ℕ) (part : CutPart) → slice_get cut.parts k ≡ Some part → (st : NetState) (instant : Instant) → Each (IsOwn k) (sinks_told TheNet st instant (sinks_of_part TheNet cut.watch part))
+  told k part e st instant = each_flat (IsOwn k) (sink_told TheNet st instant) (sinks_of_part TheNet cut.watch part)
       (λ n s at j p f.
-      let h = told_own TheNet st sight s j p f in
+      let h = told_own TheNet st instant s j p f in
       record {
         there = word_below TheNet s p.word h.has;
         own = owner_of_sink p.word k part e (record { sink = s; there = among (sinks_of_part TheNet cut.watch part) n s at; has = h.has });
@@ -115,4 +115,4 @@ module _ (codes : List Code) (cut : AreOfOneCut codes) where
   publications k code e words inputs rho cycle =
       let part = beside codes cut.parts k code (sym cut.codes_of.counted) e in
       let it = cut.codes_of.each k part.0 code part.1 e in
-      subst (Each (IsOwn k)) (sym (it.publications words inputs rho cycle)) (told k part.0 part.1 (state_of TheNet words) (sight_of TheNet (state_of TheNet words) rho))
+      subst (Each (IsOwn k)) (sym (it.publications words inputs rho cycle)) (told k part.0 part.1 (state_of TheNet words) (instant_of TheNet (state_of TheNet words) rho))

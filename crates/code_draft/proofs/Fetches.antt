@@ -1,4 +1,4 @@
--- Instructions that read no slot: what they leave at a spot.
+-- Instructions that read no slot: what they leave at a location.
 use Rattle.std.proofs.Common.{◌≡◌, ℕ, ◌+◌, ◌-◌, ◌*◌, ◌/◌, ◌%◌, ◌^◌, ◌<◌, ◌≤◌, true, false, nat_lt, if◌then◌else◌, List, [], ◌∷◌, length, slice_index, slice_set, pos, bit_and, slice_get, Option, Some, None, refl, sym, subst, ap, ◌∙◌, arith, pow_pos, mod-lt}
 use Rattle.std.proofs.lemmas.Bool.{lt-ltb, le-ltb}
 use Rattle.std.proofs.lemmas.List.{get_or-set_same}
@@ -11,13 +11,13 @@ use Rattle.net_meaning.proofs.Shaping.{fitted_shape}
 use Rattle.flat_code.specs.declared.instr.Op.{Op}
 use Rattle.flat_code.specs.declared.instr.Op.TheVariants as op
 use Rattle.flat_code.specs.declared.instr.Instr.{Instr}
-use Rattle.flat_code.specs.declared.instr.Spot.{Spot}
+use Rattle.flat_code.specs.declared.instr.Location.{Location}
 use Rattle.flat_code.specs.declared.instr.Wide.{Wide}
 use Rattle.flat_code.specs.Meaning.{acted, acted_on, pushed_on, input_word, input_high, low_of}
-use Rattle.flat_code.specs.Fine.{FineOn, AreKnown, among, reads_on, writes_on, writes_of, spot_slots, further_words}
+use Rattle.flat_code.specs.Fine.{FineOn, AreKnown, among, reads_on, writes_on, writes_of, location_slots, further_words}
 use Rattle.flat_code.specs.Orders.{Solves, AreNew}
 use Rattle.code_draft.specs.declared.draft.Draft.{Draft}
-use Rattle.code_draft.specs.Drafts.{IsDraft, Solved, Makes, Wanted, written_in, with_instr, with_slots, spot_from, IsConstant, IsWord, IsInput}
+use Rattle.code_draft.specs.Drafts.{IsDraft, Solved, Makes, Wanted, written_in, with_instr, with_slots, location_from, IsConstant, IsWord, IsInput}
 use Rattle.code_draft.proofs.Growing.{Follows, grows_instr, grows_slots, grows_then, all_last, one_new, one_known, two_known, one_among, unwritten, written_here, among_first, other, still}
 use Rattle.code_draft.proofs.Cuts.{fitted_bits, low_cut, low_whole, low_wide, high_wide, masked}
 
@@ -83,7 +83,7 @@ last_word d i W words inputs F f lt s =
     put_there F i.target (W words inputs) (omega (arith, lt, long)) (ap (λ G. slice_index G i.target) (sym (f.gives d.wides words inputs F)) ∙ last.same i.target)
 
 -- one word
-pub fetched_narrow : (d : Draft) (s : Spot) (kind : Kind) (width : ℕ) (i : Instr) (W : Word) (V : Wanted) → IsDraft d → spot_from d.slots kind width s → i.target ≡ s.low → width ≤ 64 → Fetches d.words i W
+pub fetched_narrow : (d : Draft) (s : Location) (kind : Kind) (width : ℕ) (i : Instr) (W : Word) (V : Wanted) → IsDraft d → location_from d.slots kind width s → i.target ≡ s.low → width ≤ 64 → Fetches d.words i W
     → ((words : List ℕ) (inputs : List Value) (F : List ℕ) (v : Value) → V words inputs F v → (shape_of_value v ≡ shaped kind width) × (W words inputs ≡ v.bits % 2 ^ 64))
     → Makes d (with_instr (with_slots d (further_words width + 1)) i) s V
 fetched_narrow d s kind width i W V is at to few f value =
@@ -97,7 +97,7 @@ fetched_narrow d s kind width i W V is at to few f value =
     let g1 = grows_slots d (further_words width + 1) is in
     let new : written_in d i.target ≡ false = unwritten d i.target is (omega (arith, to, low)) in
     let g2 = grows_instr d1 i g1.is (f.follows d1 refl lt new) in
-    let slots : spot_slots s ≡ s.low ∷ [] = ap (λ b. if b then s.low ∷ s.high ∷ [] else s.low ∷ []) (ap (nat_lt 64) w ∙ narrow) in
+    let slots : location_slots s ≡ s.low ∷ [] = ap (λ b. if b then s.low ∷ s.high ∷ [] else s.low ∷ []) (ap (nat_lt 64) w ∙ narrow) in
     record {
       grows = grows_then d d1 (with_instr d1 i) g1 g2;
       stands = record {
@@ -115,7 +115,7 @@ fetched_narrow d s kind width i W V is at to few f value =
     }
 
 -- two words
-pub fetched_wide : (d : Draft) (s : Spot) (kind : Kind) (width : ℕ) (i j : Instr) (W U : Word) (V : Wanted) → IsDraft d → spot_from d.slots kind width s → i.target ≡ s.low → j.target ≡ s.high → 64 < width
+pub fetched_wide : (d : Draft) (s : Location) (kind : Kind) (width : ℕ) (i j : Instr) (W U : Word) (V : Wanted) → IsDraft d → location_from d.slots kind width s → i.target ≡ s.low → j.target ≡ s.high → 64 < width
     → Fetches d.words i W → Fetches d.words j U
     → ((words : List ℕ) (inputs : List Value) (F : List ℕ) (v : Value) → ((k : ℕ) → slice_index words k < 2 ^ 64) → V words inputs F v
     → (shape_of_value v ≡ shaped kind width) × (W words inputs ≡ v.bits % 2 ^ 64) × (U words inputs ≡ v.bits / 2 ^ 64))
@@ -135,7 +135,7 @@ fetched_wide d s kind width i j W U V is at to up many f g value =
     let g2 = grows_instr d1 i g1.is (f.follows d1 refl lt (unwritten d i.target is (omega (arith, to, low)))) in
     let apart : among (writes_of d.wides i) j.target ≡ false = ap (λ ks. among ks j.target) (f.writes d.wides) ∙ other j.target i.target (λ e. omega (arith, e, to, up, low, high)) in
     let g3 = grows_instr d2 j g2.is (g.follows d2 refl lu (still d1 i j.target apart (unwritten d j.target is (omega (arith, up, high))))) in
-    let slots : spot_slots s ≡ s.low ∷ s.high ∷ [] = ap (λ b. if b then s.low ∷ s.high ∷ [] else s.low ∷ []) (ap (nat_lt 64) w ∙ wide) in
+    let slots : location_slots s ≡ s.low ∷ s.high ∷ [] = ap (λ b. if b then s.low ∷ s.high ∷ [] else s.low ∷ []) (ap (nat_lt 64) w ∙ wide) in
     record {
       grows = grows_then d d1 d3 g1 (grows_then d1 d2 d3 g2 g3);
       stands = record {
@@ -186,7 +186,7 @@ cut_wide kind width x y mask upper v many most small m u e =
 word_value : (kind : Kind) (width at : ℕ) (words : List ℕ) → 64 < width → value_at (shaped kind width) words at ≡ fitted kind width (pos (slice_index words at + slice_index words (at + 1) * 2 ^ 64))
 word_value kind width at words many = ap (λ b. fitted kind width (pos (slice_index words at + (if b then slice_index words (at + 1) else 0) * 2 ^ 64))) (lt-ltb 64 width many)
 
-module _ (d : Draft) (s : Spot) (kind : Kind) (width : ℕ) (is : IsDraft d) (at : spot_from d.slots kind width s) (most : width ≤ 128) where
+module _ (d : Draft) (s : Location) (kind : Kind) (width : ℕ) (is : IsDraft d) (at : location_from d.slots kind width s) (most : width ≤ 128) where
   abbrev One : Instr → Draft
   One i = with_instr (with_slots d (further_words width + 1)) i
 
@@ -231,12 +231,12 @@ module _ (d : Draft) (s : Spot) (kind : Kind) (width : ℕ) (is : IsDraft d) (at
       input_small (Some v) = mod-lt v.bits (pow_pos 64)
       input_small None = pow_pos 64
 
-pub constant_narrow : (d : Draft) (s : Spot) (c : Value) (i : Instr) → IsDraft d → spot_from d.slots c.kind c.width s → c.width ≤ 64 → i.op ≡ op.Constant → i.target ≡ s.low → i.mask ≡ c.bits % 2 ^ 64
+pub constant_narrow : (d : Draft) (s : Location) (c : Value) (i : Instr) → IsDraft d → location_from d.slots c.kind c.width s → c.width ≤ 64 → i.op ≡ op.Constant → i.target ≡ s.low → i.mask ≡ c.bits % 2 ^ 64
     → Makes d (with_instr (with_slots d (further_words c.width + 1)) i) s (IsConstant c)
 constant_narrow d s c i is at few o to m =
     fetched_narrow d s c.kind c.width i (λ words inputs. i.mask) (IsConstant c) is at to few (constant_fetches d.words i o) (λ words inputs F v wanted. constant_value c v i.mask m wanted)
 
-pub constant_wide : (d : Draft) (s : Spot) (c : Value) (i j : Instr) → IsDraft d → spot_from d.slots c.kind c.width s → 64 < c.width → i.op ≡ op.Constant → j.op ≡ op.Constant → i.target ≡ s.low → j.target ≡ s.high
+pub constant_wide : (d : Draft) (s : Location) (c : Value) (i j : Instr) → IsDraft d → location_from d.slots c.kind c.width s → 64 < c.width → i.op ≡ op.Constant → j.op ≡ op.Constant → i.target ≡ s.low → j.target ≡ s.high
     → i.mask ≡ c.bits % 2 ^ 64 → j.mask ≡ c.bits / 2 ^ 64 → Makes d (with_instr (with_instr (with_slots d (further_words c.width + 1)) i) j) s (IsConstant c)
 constant_wide d s c i j is at many o p to up m n =
     fetched_wide d s c.kind c.width i j (λ words inputs. i.mask) (λ words inputs. j.mask) (IsConstant c) is at to up many (constant_fetches d.words i o) (constant_fetches d.words j p)

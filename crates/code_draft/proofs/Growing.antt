@@ -7,12 +7,12 @@ use Rattle.phase_core.specs.declared.model.Publication.{Publication}
 use Rattle.flat_code.specs.declared.instr.Op.{Op}
 use Rattle.flat_code.specs.declared.instr.Instr.{Instr}
 use Rattle.flat_code.specs.declared.instr.Port.{Port}
-use Rattle.flat_code.specs.declared.instr.Spot.{Spot}
+use Rattle.flat_code.specs.declared.instr.Location.{Location}
 use Rattle.flat_code.specs.declared.instr.Wide.{Wide}
 use Rattle.flat_code.specs.Meaning.{pushed, pushed_on}
-use Rattle.flat_code.specs.Fine.{FineOn, IsFine, IsWide, IsPort, IsSpot, Known, nothing, more, among, written, AreKnown, reads_on, reads_of, writes_on, writes_of, spot_slots}
+use Rattle.flat_code.specs.Fine.{FineOn, IsFine, IsWide, IsPort, IsLocation, Known, nothing, more, among, written, AreKnown, reads_on, reads_of, writes_on, writes_of, location_slots}
 use Rattle.flat_code.specs.Orders.{AreNew, Single, Solves, pushed_all}
-use Rattle.flat_code.proofs.Frames.{fine_more, spot_more}
+use Rattle.flat_code.proofs.Frames.{fine_more, location_more}
 use Rattle.code_draft.specs.declared.draft.Draft.{Draft}
 use Rattle.code_draft.specs.Drafts.{IsDraft, Grows, Stands, written_in, with_instr, with_slots}
 
@@ -71,14 +71,14 @@ grows_instr d i is f = record {
 
 -- More slots
 
-spots_more : (n m : ℕ) (ss : List Spot) → n ≤ m → All (IsSpot n) ss → All (IsSpot m) ss
-spots_more n m ss le a = λ k s lt. spot_more n m (get_or ss k s) le (a k s lt)
+locations_more : (n m : ℕ) (ss : List Location) → n ≤ m → All (IsLocation n) ss → All (IsLocation m) ss
+locations_more n m ss le a = λ k s lt. location_more n m (get_or ss k s) le (a k s lt)
 
 wide_more : (n m words : ℕ) (w : Wide) → n ≤ m → IsWide n words w → IsWide m words w
-wide_more n m words w le h = record { operands = spots_more n m w.operands le h.operands; target = spot_more n m w.target le h.target; shaped = h.shaped; region = h.region }
+wide_more n m words w le h = record { operands = locations_more n m w.operands le h.operands; target = location_more n m w.target le h.target; shaped = h.shaped; region = h.region }
 
 port_more : (n m words : ℕ) (p : Port) → n ≤ m → IsPort n words p → IsPort m words p
-port_more n m words p le h = record { conditions = spots_more n m p.conditions le h.conditions; address = spot_more n m p.address le h.address; source = spot_more n m p.source le h.source; region = h.region }
+port_more n m words p le h = record { conditions = locations_more n m p.conditions le h.conditions; address = location_more n m p.address le h.address; source = location_more n m p.source le h.source; region = h.region }
 
 pub grows_slots : (d : Draft) (n : ℕ) → IsDraft d → Grows d (with_slots d n)
 grows_slots d n is =
@@ -116,10 +116,10 @@ grows_then a b c g h =
 pub grows_not : (a : Draft) → IsDraft a → Grows a a
 grows_not a is = record { is = is; words = refl; slots = omega arith; stays = λ k e. e; back = λ words inputs F s. s; quiet = λ F. refl }
 
-pub stands_on : (a b : Draft) (s : Spot) → Grows a b → Stands a s → Stands b s
-stands_on a b s g h = record { within = spot_more a.slots b.slots s g.slots h.within; written = λ k d lt. g.stays (get_or (spot_slots s) k d) (h.written k d lt) }
+pub stands_on : (a b : Draft) (s : Location) → Grows a b → Stands a s → Stands b s
+stands_on a b s g h = record { within = location_more a.slots b.slots s g.slots h.within; written = λ k d lt. g.stays (get_or (location_slots s) k d) (h.written k d lt) }
 
-pub all_stand_on : (a b : Draft) (ss : List Spot) → Grows a b → All (Stands a) ss → All (Stands b) ss
+pub all_stand_on : (a b : Draft) (ss : List Location) → Grows a b → All (Stands a) ss → All (Stands b) ss
 all_stand_on a b ss g h = λ k s lt. stands_on a b (get_or ss k s) g (h k s lt)
 
 -- a slot that isn't there yet is not written

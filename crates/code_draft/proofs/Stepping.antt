@@ -10,35 +10,35 @@ use Rattle.flat_code.specs.declared.instr.Op.TheVariants as op
 use Rattle.flat_code.specs.declared.instr.Instr.{Instr}
 use Rattle.flat_code.specs.declared.instr.Form.{Form}
 use Rattle.flat_code.specs.declared.instr.Port.{Port}
-use Rattle.flat_code.specs.declared.instr.Spot.{Spot}
+use Rattle.flat_code.specs.declared.instr.Location.{Location}
 use Rattle.flat_code.specs.declared.instr.Wide.{Wide}
-use Rattle.flat_code.specs.Fine.{among, reads_on, reads_of, writes_on, writes_of, wide_reads, wide_writes, slots_of, spot_slots, further_words}
+use Rattle.flat_code.specs.Fine.{among, reads_on, reads_of, writes_on, writes_of, wide_reads, wide_writes, slots_of, location_slots, further_words}
 use Rattle.code_draft.specs.declared.draft.Draft.{Draft}
-use Rattle.code_draft.specs.Drafts.{with_instr, with_wide, with_slots, spot_from, computes, at_slot}
+use Rattle.code_draft.specs.Drafts.{with_instr, with_wide, with_slots, location_from, computes, at_slot}
 use Rattle.code_draft.specs.Segments.{GoesOn, Step}
 use Rattle.code_draft.proofs.Growing.{two_among, one_among, among_first, among_second}
 use Rattle.code_draft.proofs.Worked.{not_so, writes_one, same_reads}
 use Rattle.code_draft.proofs.Segmenting.{either, left_so, none_among}
 use Rattle.code_draft.proofs.Joining.{goes_same, small_step}
 
--- Slots of spots
+-- Slots of locations
 
-pub spot_few : (s : Spot) → length (spot_slots s) ≤ 2
-spot_few s = by_width (nat_lt 64 s.width)
+pub location_few : (s : Location) → length (location_slots s) ≤ 2
+location_few s = by_width (nat_lt 64 s.width)
   where
     by_width : (b : Bool) → length (if b then s.low ∷ s.high ∷ [] else s.low ∷ []) ≤ 2
     by_width true = omega arith
     by_width false = omega arith
 
-pub spot_both : (s : Spot) (k : ℕ) → among (spot_slots s) k ≡ true → among (s.low ∷ s.high ∷ []) k ≡ true
-spot_both s k = by_width (nat_lt 64 s.width)
+pub location_both : (s : Location) (k : ℕ) → among (location_slots s) k ≡ true → among (s.low ∷ s.high ∷ []) k ≡ true
+location_both s k = by_width (nat_lt 64 s.width)
   where
     by_width : (b : Bool) → among (if b then s.low ∷ s.high ∷ [] else s.low ∷ []) k ≡ true → among (s.low ∷ s.high ∷ []) k ≡ true
     by_width true e = e
     by_width false e = ⊎_elim (λ h. left_so (k == s.low) (among (s.high ∷ []) k) h) (λ h. absurd (true≢false (sym h))) (either (k == s.low) false e)
 
-spot_range : (d : Draft) (s : Spot) (kind : Kind) (width : ℕ) → spot_from d.slots kind width s → (k : ℕ) → among (s.low ∷ s.high ∷ []) k ≡ true → (d.slots ≤ k) × (k < d.slots + (further_words width + 1))
-spot_range d s kind width at k e =
+location_range : (d : Draft) (s : Location) (kind : Kind) (width : ℕ) → location_from d.slots kind width s → (k : ℕ) → among (s.low ∷ s.high ∷ []) k ≡ true → (d.slots ≤ k) × (k < d.slots + (further_words width + 1))
+location_range d s kind width at k e =
     let low = at.1 in
     let high = at.2 in
     ⊎_elim (λ h. (omega (arith, h, low), omega (arith, h, low))) (λ h. (omega (arith, h, high), omega (arith, h, high))) (two_among k s.low s.high e)
@@ -67,28 +67,28 @@ quiet_target : (i : Instr) (wides : List Wide) (own : List ℕ) → Quiet i → 
 quiet_target i wides own q at k e = subst (λ j. among own j ≡ true) (sym (one_among k i.target (subst (λ xs. among xs k ≡ true) (q.writes wides) e))) at
 
 -- Fetches of one word and of two.
-module _ (d : Draft) (s : Spot) (kind : Kind) (width : ℕ) (at : spot_from d.slots kind width s) where
+module _ (d : Draft) (s : Location) (kind : Kind) (width : ℕ) (at : location_from d.slots kind width s) where
   abbrev One : Instr → Draft
   One i = with_instr (with_slots d (further_words width + 1)) i
 
-  pub one_fetched : (i : Instr) → Quiet i → i.target ≡ s.low → Step d (One i) [] (spot_slots s) 2
+  pub one_fetched : (i : Instr) → Quiet i → i.target ≡ s.low → Step d (One i) [] (location_slots s) 2
   one_fetched i q to =
       let own = s.low ∷ s.high ∷ [] in
       let target : among own i.target ≡ true = ap (among own) to ∙ among_first s.low (s.high ∷ []) in
-      small_step d (One i) [] (spot_slots s) own 2 (i ∷ []) refl (goes_same d) (omega arith) (spot_range d s kind width at) (omega arith) (spot_both s) (spot_few s)
+      small_step d (One i) [] (location_slots s) own 2 (i ∷ []) refl (goes_same d) (omega arith) (location_range d s kind width at) (omega arith) (location_both s) (location_few s)
       (λ ports wides on. All-cons (λ j. (k : ℕ) → k < d.slots → among (reads_of ports wides j) k ≡ true → among [] k ≡ true) i [] (λ k lt e. quiet_among i ports wides q k e)
       (All-nil (λ j. (k : ℕ) → k < d.slots → among (reads_of ports wides j) k ≡ true → among [] k ≡ true)))
       (λ ports wides on. All-nil (λ j. (k : ℕ) → among (reads_of ports wides j) k ≡ true → d.slots ≤ k))
       (λ ports wides on. All-cons (λ j. (k : ℕ) → among (writes_of wides j) k ≡ true → among own k ≡ true) i [] (quiet_target i wides own q target)
       (All-nil (λ j. (k : ℕ) → among (writes_of wides j) k ≡ true → among own k ≡ true)))
 
-  pub two_fetched : (i j : Instr) → Quiet i → Quiet j → i.target ≡ s.low → j.target ≡ s.high → Step d (with_instr (One i) j) [] (spot_slots s) 2
+  pub two_fetched : (i j : Instr) → Quiet i → Quiet j → i.target ≡ s.low → j.target ≡ s.high → Step d (with_instr (One i) j) [] (location_slots s) 2
   two_fetched i j q r to up =
       let own = s.low ∷ s.high ∷ [] in
       let low : among own i.target ≡ true = ap (among own) to ∙ among_first s.low (s.high ∷ []) in
       let high : among own j.target ≡ true = ap (among own) up ∙ among_second s.low s.high in
-      small_step d (with_instr (One i) j) [] (spot_slots s) own 2 (i ∷ j ∷ []) (append_assoc d.instrs (i ∷ []) (j ∷ [])) (goes_same d) (omega arith) (spot_range d s kind width at) (omega arith) (spot_both s)
-      (spot_few s)
+      small_step d (with_instr (One i) j) [] (location_slots s) own 2 (i ∷ j ∷ []) (append_assoc d.instrs (i ∷ []) (j ∷ [])) (goes_same d) (omega arith) (location_range d s kind width at) (omega arith) (location_both s)
+      (location_few s)
       (λ ports wides on. All-cons (λ x. (k : ℕ) → k < d.slots → among (reads_of ports wides x) k ≡ true → among [] k ≡ true) i (j ∷ []) (λ k lt e. quiet_among i ports wides q k e)
       (All-cons (λ x. (k : ℕ) → k < d.slots → among (reads_of ports wides x) k ≡ true → among [] k ≡ true) j [] (λ k lt e. quiet_among j ports wides r k e)
       (All-nil (λ x. (k : ℕ) → k < d.slots → among (reads_of ports wides x) k ≡ true → among [] k ≡ true))))
@@ -99,20 +99,20 @@ module _ (d : Draft) (s : Spot) (kind : Kind) (width : ℕ) (at : spot_from d.sl
       (All-nil (λ x. (k : ℕ) → among (writes_of wides x) k ≡ true → among own k ≡ true))))
 
   -- A wide value.
-  pub wide_step : (form : Form) (operands : List Spot) (i : Instr) → i.op ≡ op.Wide → i.first ≡ length d.wides
-      → Step d (with_instr (with_wide (with_slots d (further_words width + 1)) (record { form = form; operands = operands; target = s })) i) (slots_of operands) (spot_slots s) 2
+  pub wide_step : (form : Form) (operands : List Location) (i : Instr) → i.op ≡ op.Wide → i.first ≡ length d.wides
+      → Step d (with_instr (with_wide (with_slots d (further_words width + 1)) (record { form = form; operands = operands; target = s })) i) (slots_of operands) (location_slots s) 2
   wide_step form operands i e first =
       let w : Wide = record { form = form; operands = operands; target = s } in
       let new = with_instr (with_wide (with_slots d (further_words width + 1)) w) i in
       let own = s.low ∷ s.high ∷ [] in
-      small_step d new (slots_of operands) (spot_slots s) own 2 (i ∷ []) refl (record { further_ports = []; further_wides = w ∷ []; ports_on = sym (append-nil d.ports); wides_on = refl }) (omega arith)
-      (spot_range d s kind width at) (omega arith) (spot_both s) (spot_few s)
+      small_step d new (slots_of operands) (location_slots s) own 2 (i ∷ []) refl (record { further_ports = []; further_wides = w ∷ []; ports_on = sym (append-nil d.ports); wides_on = refl }) (omega arith)
+      (location_range d s kind width at) (omega arith) (location_both s) (location_few s)
       (λ ports wides on. All-cons (λ j. (k : ℕ) → k < d.slots → among (reads_of ports wides j) k ≡ true → among (slots_of operands) k ≡ true) i []
       (λ k lt r. subst (λ xs. among xs k ≡ true) (ap (λ o. reads_on o ports wides i) e ∙ ap wide_reads (entry w new wides ports on)) r)
       (All-nil (λ j. (k : ℕ) → k < d.slots → among (reads_of ports wides j) k ≡ true → among (slots_of operands) k ≡ true)))
       (λ ports wides on. All-nil (λ j. (k : ℕ) → among (reads_of ports wides j) k ≡ true → d.slots ≤ k))
       (λ ports wides on. All-cons (λ j. (k : ℕ) → among (writes_of wides j) k ≡ true → among own k ≡ true) i []
-      (λ k r. spot_both s k (subst (λ xs. among xs k ≡ true) (ap (λ o. writes_on o wides i) e ∙ ap wide_writes (entry w new wides ports on)) r))
+      (λ k r. location_both s k (subst (λ xs. among xs k ≡ true) (ap (λ o. writes_on o wides i) e ∙ ap wide_writes (entry w new wides ports on)) r))
       (All-nil (λ j. (k : ℕ) → among (writes_of wides j) k ≡ true → among own k ≡ true)))
     where
       last_of : (ws zs : List Wide) (w : Wide) → slice_get (ws ++ w ∷ zs) (length ws) ≡ Some w

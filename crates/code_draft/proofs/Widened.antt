@@ -13,14 +13,14 @@ use Rattle.flat_code.specs.declared.instr.Op.TheVariants as op
 use Rattle.flat_code.specs.declared.instr.Instr.{Instr}
 use Rattle.flat_code.specs.declared.instr.Form.{Form}
 use Rattle.flat_code.specs.declared.instr.Port.{Port}
-use Rattle.flat_code.specs.declared.instr.Spot.{Spot}
+use Rattle.flat_code.specs.declared.instr.Location.{Location}
 use Rattle.flat_code.specs.declared.instr.Wide.{Wide}
 use Rattle.flat_code.specs.Meaning.{acted, acted_on, wide_acted, put_value, wide_value}
-use Rattle.flat_code.specs.Fine.{FineOn, AreFine, IsWide, IsSpot, InRegion, region_of, form_shape, spot_shapes, Known, nothing, more, among, written, AreKnown, reads_on, writes_on, writes_of, wide_reads, wide_writes, slots_of, spot_slots, further_words}
+use Rattle.flat_code.specs.Fine.{FineOn, AreFine, IsWide, IsLocation, InRegion, region_of, form_shape, location_shapes, Known, nothing, more, among, written, AreKnown, reads_on, writes_on, writes_of, wide_reads, wide_writes, slots_of, location_slots, further_words}
 use Rattle.flat_code.specs.Orders.{Solves, Single, AreNew}
 use Rattle.flat_code.proofs.Frames.{fine_more}
 use Rattle.code_draft.specs.declared.draft.Draft.{Draft}
-use Rattle.code_draft.specs.Drafts.{IsDraft, Grows, Stands, Makes, written_in, with_instr, with_wide, with_slots, spot_from, IsForm}
+use Rattle.code_draft.specs.Drafts.{IsDraft, Grows, Stands, Makes, written_in, with_instr, with_wide, with_slots, location_from, IsForm}
 use Rattle.code_draft.proofs.Growing.{Follows, grows_instr, grows_slots, grows_then, all_last, all_stand_on, two_new, two_known, one_new, one_known, one_among, two_among, unwritten, written_here, among_first, among_second}
 use Rattle.code_draft.proofs.Fetches.{put_there}
 
@@ -93,7 +93,7 @@ grows_wide d w is h =
     }
 
 -- what stands where a value is put
-put_low : (F : List ℕ) (t : Spot) (v : Value) → t.low < length F → (64 < t.width → t.high ≢ t.low) → ((k : ℕ) → slice_index (put_value t v F) k ≡ slice_index F k) → slice_index F t.low ≡ v.bits % 2 ^ 64
+put_low : (F : List ℕ) (t : Location) (v : Value) → t.low < length F → (64 < t.width → t.high ≢ t.low) → ((k : ℕ) → slice_index (put_value t v F) k ≡ slice_index F k) → slice_index F t.low ≡ v.bits % 2 ^ 64
 put_low F t v lt apart same = ⊎_elim
     (λ many. put_two (lt-ltb 64 t.width many) (apart many))
     (λ few. put_one (le-ltb 64 t.width few))
@@ -108,20 +108,20 @@ put_low F t v lt apart same = ⊎_elim
         (sym (get_or-set_other (slice_set F t.low (v.bits % 2 ^ 64)) t.high t.low (v.bits / 2 ^ 64) 0 (λ e. ne (sym e)))
         ∙ (ap (λ c. slice_index (if c then slice_set (slice_set F t.low (v.bits % 2 ^ 64)) t.high (v.bits / 2 ^ 64) else slice_set F t.low (v.bits % 2 ^ 64)) t.low) (sym b) ∙ same t.low))
 
-put_high : (F : List ℕ) (t : Spot) (v : Value) → t.high < length F → ((k : ℕ) → slice_index (put_value t v F) k ≡ slice_index F k) → 64 < t.width → slice_index F t.high ≡ v.bits / 2 ^ 64
+put_high : (F : List ℕ) (t : Location) (v : Value) → t.high < length F → ((k : ℕ) → slice_index (put_value t v F) k ≡ slice_index F k) → 64 < t.width → slice_index F t.high ≡ v.bits / 2 ^ 64
 put_high F t v lt same many =
     let b = lt-ltb 64 t.width many in
     let long = length-set F t.low (v.bits % 2 ^ 64) in
     sym (same t.high) ∙ (ap (λ c. slice_index (if c then slice_set (slice_set F t.low (v.bits % 2 ^ 64)) t.high (v.bits / 2 ^ 64) else slice_set F t.low (v.bits % 2 ^ 64)) t.high) b
     ∙ get_or-set_same (slice_set F t.low (v.bits % 2 ^ 64)) t.high (v.bits / 2 ^ 64) 0 (omega (arith, long, lt)))
 
-slots_known : (d : Draft) (ss : List Spot) → All (Stands d) ss → AreKnown (written_in d) (slots_of ss)
+slots_known : (d : Draft) (ss : List Location) → All (Stands d) ss → AreKnown (written_in d) (slots_of ss)
 slots_known d [] a = λ k x lt. absurd (omega (arith, lt))
-slots_known d (s ∷ ss) a = All-append (λ k. written_in d k ≡ true) (spot_slots s) (slots_of ss) ((a 0 s (omega arith)).written) (slots_known d ss (λ k x lt. a (suc k) x (omega (arith, lt))))
+slots_known d (s ∷ ss) a = All-append (λ k. written_in d k ≡ true) (location_slots s) (slots_of ss) ((a 0 s (omega arith)).written) (slots_known d ss (λ k x lt. a (suc k) x (omega (arith, lt))))
 
 -- Slots, the wide value, and its instruction.
-pub evaluated : (d : Draft) (t : Spot) (kind : Kind) (width : ℕ) (form : Form) (operands : List Spot) (i : Instr) → IsDraft d → spot_from d.slots kind width t → All (Stands d) operands
-    → form_shape form t (spot_shapes operands) ≡ Some (shaped kind width) → InRegion d.words width (region_of form) → i.op ≡ op.Wide → i.first ≡ length d.wides
+pub evaluated : (d : Draft) (t : Location) (kind : Kind) (width : ℕ) (form : Form) (operands : List Location) (i : Instr) → IsDraft d → location_from d.slots kind width t → All (Stands d) operands
+    → form_shape form t (location_shapes operands) ≡ Some (shaped kind width) → InRegion d.words width (region_of form) → i.op ≡ op.Wide → i.first ≡ length d.wides
     → Makes d (with_instr (with_wide (with_slots d (further_words width + 1)) (record { form = form; operands = operands; target = t })) i) t (IsForm form t operands (shaped kind width))
 evaluated d t kind width form operands i is at there shaped_so region e first =
     let w : Wide = record { form = form; operands = operands; target = t } in
@@ -132,7 +132,7 @@ evaluated d t kind width form operands i is at there shaped_so region e first =
     let high = at.2 in
     let g1 = grows_slots d (further_words width + 1) is in
     let there1 = all_stand_on d d1 operands g1 there in
-    let within : IsSpot d1.slots t = record { low = omega (arith, low); high = omega (arith, high) } in
+    let within : IsLocation d1.slots t = record { low = omega (arith, low); high = omega (arith, high) } in
     let wide : IsWide d1.slots d1.words w = record {
       operands = λ k s lt. (there1 k s lt).within;
       target = within;
@@ -143,7 +143,7 @@ evaluated d t kind width form operands i is at there shaped_so region e first =
     let there2 = all_stand_on d1 d2 operands g2 there1 in
     let entry : slice_get d2.wides i.first ≡ Some w = ap (slice_get d2.wides) first ∙ last_there d.wides w in
     let long = length-append d.wides (w ∷ []) in
-    let writes : writes_on op.Wide d2.wides i ≡ spot_slots t = ap wide_writes entry in
+    let writes : writes_on op.Wide d2.wides i ≡ location_slots t = ap wide_writes entry in
     let fresh : (k : ℕ) → d.slots ≤ k → written_in d2 k ≡ false = λ k le.
     written_wider d.ports d.wides d2.wides d1.slots d.words (length d.ports) (same_before d.wides w) nothing d.instrs k g1.is.fine ∙ unwritten d k is le in
     let follows : Follows d2 op.Wide i = record {
@@ -154,7 +154,7 @@ evaluated d t kind width form operands i is at there shaped_so region e first =
       quiet = λ F. refl;
     } in
     let g3 = grows_instr d2 i g2.is (subst (λ o. Follows d2 o i) (sym e) follows) in
-    let is_written : (k : ℕ) → among (spot_slots t) k ≡ true → written_in d3 k ≡ true = λ k h.
+    let is_written : (k : ℕ) → among (location_slots t) k ≡ true → written_in d3 k ≡ true = λ k h.
     written_here d2 i k (subst (λ ks. among ks k ≡ true) (sym (ap (λ o. writes_on o d2.wides i) e ∙ writes)) h) in
     record {
       grows = grows_then d d1 d3 g1 (grows_then d1 d2 d3 g2 g3);
@@ -175,14 +175,14 @@ evaluated d t kind width form operands i is at there shaped_so region e first =
           };
     }
   where
-    new_slots : (known : Known) (t : Spot) → known t.low ≡ false → known t.high ≡ false → AreNew known (spot_slots t)
+    new_slots : (known : Known) (t : Location) → known t.low ≡ false → known t.high ≡ false → AreNew known (location_slots t)
     new_slots known t a b = by_width (nat_lt 64 t.width)
       where
         by_width : (c : Bool) → AreNew known (if c then t.low ∷ t.high ∷ [] else t.low ∷ [])
         by_width true = two_new known t.low t.high a b
         by_width false = one_new known t.low a
 
-    slots_below : (t : Spot) (n k : ℕ) → IsSpot n t → among (spot_slots t) k ≡ true → k < n
+    slots_below : (t : Location) (n k : ℕ) → IsLocation n t → among (location_slots t) k ≡ true → k < n
     slots_below t n k within = by_width (nat_lt 64 t.width)
       where
         by_width : (c : Bool) → among (if c then t.low ∷ t.high ∷ [] else t.low ∷ []) k ≡ true → k < n
@@ -192,7 +192,7 @@ evaluated d t kind width form operands i is at there shaped_so region e first =
             ⊎_elim (λ e. omega (arith, e, a)) (λ e. omega (arith, e, b)) (two_among k t.low t.high h)
         by_width false h = let a = within.low in let e = one_among k t.low h in omega (arith, e, a)
 
-    slots_written : (known : Known) (t : Spot) → ((k : ℕ) → among (spot_slots t) k ≡ true → known k ≡ true) → AreKnown known (spot_slots t)
+    slots_written : (known : Known) (t : Location) → ((k : ℕ) → among (location_slots t) k ≡ true → known k ≡ true) → AreKnown known (location_slots t)
     slots_written known t h = by_width (nat_lt 64 t.width) h
       where
         by_width : (c : Bool) → ((k : ℕ) → among (if c then t.low ∷ t.high ∷ [] else t.low ∷ []) k ≡ true → known k ≡ true) → AreKnown known (if c then t.low ∷ t.high ∷ [] else t.low ∷ [])

@@ -9,11 +9,11 @@ use Rattle.net_meaning.specs.Words.{value_at}
 use Rattle.flat_code.specs.declared.instr.Op.{Op}
 use Rattle.flat_code.specs.declared.instr.Op.TheVariants as op
 use Rattle.flat_code.specs.declared.instr.Instr.{Instr}
-use Rattle.flat_code.specs.declared.instr.Spot.{Spot}
+use Rattle.flat_code.specs.declared.instr.Location.{Location}
 use Rattle.flat_code.specs.declared.instr.Wide.{Wide}
 use Rattle.flat_code.specs.declared.instr.Form.{Form}
-use Rattle.flat_code.specs.Meaning.{spot_shape, spot_values, form_value, word_on, input_word, input_high}
-use Rattle.flat_code.specs.Fine.{AreFine, IsSpot, IsWide, IsPort, Known, nothing, written, AreKnown, reads_on, spot_slots, further_words}
+use Rattle.flat_code.specs.Meaning.{location_shape, location_values, form_value, word_on, input_word, input_high}
+use Rattle.flat_code.specs.Fine.{AreFine, IsLocation, IsWide, IsPort, Known, nothing, written, AreKnown, reads_on, location_slots, further_words}
 use Rattle.flat_code.specs.Orders.{Single, Solves, pushed_all}
 use Rattle.code_draft.specs.declared.draft.Draft.{Draft}
 
@@ -48,23 +48,23 @@ pub record Grows (old new : Draft) : Type 0 where
   pub back : (words : List ℕ) (inputs : List Value) (F : List ℕ) → Solved new words inputs F → Solved old words inputs F
   pub quiet : (F : List ℕ) → pushed_in new F ≡ pushed_in old F
 
--- The words of a value stand at a spot of its kind and width.
-pub record Holds (F : List ℕ) (s : Spot) (v : Value) : Type 0 where
-  pub shape : shape_of_value v ≡ spot_shape s
+-- The words of a value stand at a location of its kind and width.
+pub record Holds (F : List ℕ) (s : Location) (v : Value) : Type 0 where
+  pub shape : shape_of_value v ≡ location_shape s
   pub low : slice_index F s.low ≡ v.bits % 2 ^ 64
   pub high : 64 < s.width → slice_index F s.high ≡ v.bits / 2 ^ 64
 
--- A spot whose slots are written.
-pub record Stands (d : Draft) (s : Spot) : Type 0 where
-  pub within : IsSpot d.slots s
-  pub written : AreKnown (written_in d) (spot_slots s)
+-- A location whose slots are written.
+pub record Stands (d : Draft) (s : Location) : Type 0 where
+  pub within : IsLocation d.slots s
+  pub written : AreKnown (written_in d) (location_slots s)
 
--- What is wanted at a spot, of the shared words, the inputs and the frame.
+-- What is wanted at a location, of the shared words, the inputs and the frame.
 abbrev pub Wanted : Type 1
 Wanted = List ℕ → List Value → List ℕ → Value → Type 0
 
--- Code that goes on, with a spot where the wanted value stands.
-pub record Makes (old new : Draft) (s : Spot) (V : Wanted) : Type 0 where
+-- Code that goes on, with a location where the wanted value stands.
+pub record Makes (old new : Draft) (s : Location) (V : Wanted) : Type 0 where
   pub grows : Grows old new
   pub stands : Stands new s
   pub holds : (words : List ℕ) (inputs : List Value) (F : List ℕ) (v : Value) → Solved new words inputs F → V words inputs F v → Holds F s v
@@ -80,9 +80,9 @@ with_wide d w = record { instrs = d.instrs; ports = d.ports; wides = d.wides ++ 
 abbrev pub with_slots : Draft → ℕ → Draft
 with_slots d n = record { instrs = d.instrs; ports = d.ports; wides = d.wides; slots = d.slots + n; words = d.words }
 
--- the spot of a kind and a width from a slot on
-abbrev pub spot_from : ℕ → Kind → ℕ → Spot → Type 0
-spot_from slot kind width s = (spot_shape s ≡ shaped kind width) × (s.low ≡ slot) × (s.high ≡ slot + further_words width)
+-- the location of a kind and a width from a slot on
+abbrev pub location_from : ℕ → Kind → ℕ → Location → Type 0
+location_from slot kind width s = (location_shape s ≡ shaped kind width) × (s.low ≡ slot) × (s.high ≡ slot + further_words width)
 
 -- What can be fetched
 
@@ -99,9 +99,9 @@ IsWord s at words inputs F v = v ≡ value_at s words at
 abbrev pub IsInput : Shape → ℕ → Wanted
 IsInput s n words inputs F v = v ≡ input_value s inputs n
 
--- the value of a form on what stands at spots, where it has this shape
-abbrev pub IsForm : Form → Spot → List Spot → Shape → Wanted
-IsForm form t operands s words inputs F v = (v ≡ form_value form t words (spot_values F operands)) × (shape_of_value v ≡ s)
+-- the value of a form on what stands at locations, where it has this shape
+abbrev pub IsForm : Form → Location → List Location → Shape → Wanted
+IsForm form t operands s words inputs F v = (v ≡ form_value form t words (location_values F operands)) × (shape_of_value v ≡ s)
 
 -- What can be computed
 

@@ -1,5 +1,5 @@
 //! Code that grows: instructions that fetch constants, shared words and inputs or compute words, and wide values, each with slots of their own. Keeps
-//! the contract that every frame that solves the code has the wanted value at the spot, and that a run leaves such a frame.
+//! the contract that every frame that solves the code has the wanted value at the location, and that a run leaves such a frame.
 #![tactic(auto)]
 
 pub mod computing;

@@ -2,11 +2,11 @@
 
 ghost use Rattle.std.specs.Prelude.{◌≡◌, ◌≤◌, ◌<◌, ◌+◌, ◌++◌, [], ◌∷◌, ◌^◌, length, IfOk, OnOk};
 ghost use Rattle.flat_code.specs.Fine.{further_words};
-ghost use Rattle.code_draft.specs.Drafts.{with_instr, with_wide, with_slots, spot_from};
+ghost use Rattle.code_draft.specs.Drafts.{with_instr, with_wide, with_slots, location_from};
 
 use crate::draft::Draft;
 use bit_words::{Kind, List};
-use flat_code::{Instr, Op, Spot, Wide};
+use flat_code::{Instr, Op, Location, Wide};
 use std::alloc::{AllocError, Global};
 
 /// No code yet, over this many shared words.
@@ -67,10 +67,10 @@ pub(crate) fn add_wide(draft: &mut Draft, wide: Wide) -> Result<u32, AllocError>
 }
 
 /// Takes the next slots for a value of this kind and width. Where slots have no more numbers of 32 bits it is want of memory.
-pub(crate) fn new_spot(draft: &mut Draft, kind: Kind, width: u8) -> Result<Spot, AllocError>
+pub(crate) fn new_location(draft: &mut Draft, kind: Kind, width: u8) -> Result<Location, AllocError>
     requires { width ≤ 128 }
     ensures draft { OnOk result (draft.new ≡ with_slots draft.old (further_words width + 1)) }
-    ensures spot { IfOk result (λ s. spot_from draft.old.slots kind width s) }
+    ensures location { IfOk result (λ s. location_from draft.old.slots kind width s) }
 {
     let further = if width > 64 { 1 } else { 0 };
     let low = draft.slots;
@@ -81,7 +81,7 @@ pub(crate) fn new_spot(draft: &mut Draft, kind: Kind, width: u8) -> Result<Spot,
         return Err(AllocError);
     };
     draft.slots = slots;
-    Ok(Spot {
+    Ok(Location {
         kind,
         width,
         low,

@@ -1,4 +1,4 @@
--- What the variants of expressions give, on spots of their parts.
+-- What the variants of expressions give, on locations of their parts.
 use Rattle.std.proofs.Common.{◌≡◌, ℕ, ◌≤◌, true, List, [], ◌∷◌, ◌++◌, Option, Some, None, option_and_then, option_map, refl, sym, subst, ap, ap₂, ◌∙◌, if◌then◌else◌, true≢false}
 use Rattle.std.specs.Prelude.{IsSome, Result, Ok, Err, IfOk}
 use Rattle.std.proofs.lemmas.List.{map-append}
@@ -8,40 +8,40 @@ use Rattle.ground_net.specs.declared.ground.Ground.{Ground}
 use Rattle.ground_net.specs.declared.ground.Ground.TheVariants.{Leaf, Op, Mux, Select, Load, Fit}
 use Rattle.net_meaning.specs.Shapes.{Shape, shaped, Table, shape, all_of, shape_of_row, shape_of_choice, shape_of_items, is_index, shape_of_load, shape_of_fit}
 use Rattle.net_meaning.proofs.Shaping.{and_then, shape-Leaf}
-use Rattle.flat_code.specs.declared.instr.Spot.{Spot}
-use Rattle.flat_code.specs.Meaning.{spot_shape}
-use Rattle.flat_code.specs.Fine.{spot_shapes, shape_of_picked}
+use Rattle.flat_code.specs.declared.instr.Location.{Location}
+use Rattle.flat_code.specs.Meaning.{location_shape}
+use Rattle.flat_code.specs.Fine.{location_shapes, shape_of_picked}
 use Rattle.code_emit.specs.declared.sources.Source.{Source}
 use Rattle.code_emit.specs.declared.sources.Elements.{Elements}
 use Rattle.code_emit.specs.declared.sources.Sources.{Sources}
 use Rattle.code_emit.specs.Emits.{AreShaped, shapes_in, sources_table, leaf_source, element_source, source_shape, elements_shape}
 use Rattle.code_emit.proofs.Rowing.{some_of}
-use Rattle.code_emit.proofs.Shaped.{some_same, all_of_push, all_shaped, op_parts, mux_parts, select_parts, load_parts, fit_parts, spots_are, load_shape, fit_shape_is}
+use Rattle.code_emit.proofs.Shaped.{some_same, all_of_push, all_shaped, op_parts, mux_parts, select_parts, load_parts, fit_parts, locations_are, load_shape, fit_shape_is}
 
 pub ok_both : {A E : Type 0} (P Q : A → Type 0) (r : Result A E) → IfOk r P → IfOk r Q → IfOk r (λ s. P s × Q s)
 ok_both P Q (Ok s) h k = (h, k)
 ok_both P Q (Err e) h k = tt
 
-pub one_more_shape : (table : Table) (gs : List Ground) (g : Ground) (ss : List Spot) (s : Spot) → all_of (shapes_in table gs) ≡ Some (spot_shapes ss) → shape g table ≡ Some (spot_shape s)
-    → all_of (shapes_in table (gs ++ g ∷ [])) ≡ Some (spot_shapes (ss ++ s ∷ []))
+pub one_more_shape : (table : Table) (gs : List Ground) (g : Ground) (ss : List Location) (s : Location) → all_of (shapes_in table gs) ≡ Some (location_shapes ss) → shape g table ≡ Some (location_shape s)
+    → all_of (shapes_in table (gs ++ g ∷ [])) ≡ Some (location_shapes (ss ++ s ∷ []))
 one_more_shape table gs g ss s all one =
-    ap all_of (map-append (λ h. shape h table) gs (g ∷ [])) ∙ (all_of_push (shapes_in table gs) (spot_shapes ss) (shape g table) (spot_shape s) all one ∙ ap Some (sym (map-append spot_shape ss (s ∷ []))))
+    ap all_of (map-append (λ h. shape h table) gs (g ∷ [])) ∙ (all_of_push (shapes_in table gs) (location_shapes ss) (shape g table) (location_shape s) all one ∙ ap Some (sym (map-append location_shape ss (s ∷ []))))
 
-pub spot_shape_by : (s : Spot) (kind : Kind) (width : ℕ) → s.kind ≡ kind → s.width ≡ width → spot_shape s ≡ shaped kind width
-spot_shape_by s kind width e f = ap₂ (λ k w. shaped k w) e f
+pub location_shape_by : (s : Location) (kind : Kind) (width : ℕ) → s.kind ≡ kind → s.width ≡ width → location_shape s ≡ shaped kind width
+location_shape_by s kind width e f = ap₂ (λ k w. shaped k w) e f
 
 module _ (table : Table) (g : Ground) (some : IsSome (shape g table)) where
   pub op_shaped : (prim : PrimOp) (gs : List Ground) (params : List ℕ) → g ≡ Op prim gs params → AreShaped table gs
   op_shaped prim gs params e = let p = op_parts table g some prim gs params e in all_shaped table gs p.0 p.1
 
-  pub op_row : (prim : PrimOp) (gs : List Ground) (params : List ℕ) (ss : List Spot) → g ≡ Op prim gs params → all_of (shapes_in table gs) ≡ Some (spot_shapes ss) → shape_of_row prim params (spot_shapes ss) ≡ shape g table
-  op_row prim gs params ss e all = let p = op_parts table g some prim gs params e in ap (shape_of_row prim params) (spots_are (shapes_in table gs) (spot_shapes ss) p.0 all p.1) ∙ p.2
+  pub op_row : (prim : PrimOp) (gs : List Ground) (params : List ℕ) (ss : List Location) → g ≡ Op prim gs params → all_of (shapes_in table gs) ≡ Some (location_shapes ss) → shape_of_row prim params (location_shapes ss) ≡ shape g table
+  op_row prim gs params ss e all = let p = op_parts table g some prim gs params e in ap (shape_of_row prim params) (locations_are (shapes_in table gs) (location_shapes ss) p.0 all p.1) ∙ p.2
 
   pub mux_shaped : (gs : List Ground) → g ≡ Mux gs → AreShaped table gs
   mux_shaped gs e = let p = mux_parts table g some gs e in all_shaped table gs p.0 p.1
 
-  pub mux_row : (gs : List Ground) (ss : List Spot) → g ≡ Mux gs → all_of (shapes_in table gs) ≡ Some (spot_shapes ss) → shape_of_choice (spot_shapes ss) ≡ shape g table
-  mux_row gs ss e all = let p = mux_parts table g some gs e in ap shape_of_choice (spots_are (shapes_in table gs) (spot_shapes ss) p.0 all p.1) ∙ p.2
+  pub mux_row : (gs : List Ground) (ss : List Location) → g ≡ Mux gs → all_of (shapes_in table gs) ≡ Some (location_shapes ss) → shape_of_choice (location_shapes ss) ≡ shape g table
+  mux_row gs ss e all = let p = mux_parts table g some gs e in ap shape_of_choice (locations_are (shapes_in table gs) (location_shapes ss) p.0 all p.1) ∙ p.2
 
   pub index_shaped : (is gs : List Ground) → g ≡ Select is gs → AreShaped table is
   index_shaped is gs e = let p = select_parts table g some is gs e in all_shaped table is p.0 p.2
@@ -49,17 +49,17 @@ module _ (table : Table) (g : Ground) (some : IsSome (shape g table)) where
   pub items_shaped : (is gs : List Ground) → g ≡ Select is gs → AreShaped table gs
   items_shaped is gs e = let p = select_parts table g some is gs e in all_shaped table gs p.1 p.3
 
-  pub items_row : (is gs : List Ground) (ss : List Spot) → g ≡ Select is gs → all_of (shapes_in table gs) ≡ Some (spot_shapes ss) → shape_of_items (spot_shapes ss) ≡ shape g table
-  items_row is gs ss e all = let p = select_parts table g some is gs e in ap shape_of_items (spots_are (shapes_in table gs) (spot_shapes ss) p.1 all p.3) ∙ p.5
+  pub items_row : (is gs : List Ground) (ss : List Location) → g ≡ Select is gs → all_of (shapes_in table gs) ≡ Some (location_shapes ss) → shape_of_items (location_shapes ss) ≡ shape g table
+  items_row is gs ss e all = let p = select_parts table g some is gs e in ap shape_of_items (locations_are (shapes_in table gs) (location_shapes ss) p.1 all p.3) ∙ p.5
 
-  pub index_row : (is gs : List Ground) (ss : List Spot) → g ≡ Select is gs → all_of (shapes_in table is) ≡ Some (spot_shapes ss) → is_index (spot_shapes ss) ≡ true
-  index_row is gs ss e all = let p = select_parts table g some is gs e in ap is_index (spots_are (shapes_in table is) (spot_shapes ss) p.0 all p.2) ∙ p.4
+  pub index_row : (is gs : List Ground) (ss : List Location) → g ≡ Select is gs → all_of (shapes_in table is) ≡ Some (location_shapes ss) → is_index (location_shapes ss) ≡ true
+  index_row is gs ss e all = let p = select_parts table g some is gs e in ap is_index (locations_are (shapes_in table is) (location_shapes ss) p.0 all p.2) ∙ p.4
 
   pub load_shaped : (m k : ℕ) (gs : List Ground) → g ≡ Load m k gs → AreShaped table gs
   load_shaped m k gs e = let p = load_parts table g some m k gs e in all_shaped table gs p.0 p.1
 
-  pub load_row : (m k : ℕ) (gs : List Ground) (ss : List Spot) → g ≡ Load m k gs → all_of (shapes_in table gs) ≡ Some (spot_shapes ss) → shape_of_load (table.element m k) (spot_shapes ss) ≡ shape g table
-  load_row m k gs ss e all = let p = load_parts table g some m k gs e in ap (shape_of_load (table.element m k)) (spots_are (shapes_in table gs) (spot_shapes ss) p.0 all p.1) ∙ p.2
+  pub load_row : (m k : ℕ) (gs : List Ground) (ss : List Location) → g ≡ Load m k gs → all_of (shapes_in table gs) ≡ Some (location_shapes ss) → shape_of_load (table.element m k) (location_shapes ss) ≡ shape g table
+  load_row m k gs ss e all = let p = load_parts table g some m k gs e in ap (shape_of_load (table.element m k)) (locations_are (shapes_in table gs) (location_shapes ss) p.0 all p.1) ∙ p.2
 
   pub load_element : (m k : ℕ) (gs : List Ground) → g ≡ Load m k gs → table.element m k ≡ shape g table
   load_element m k gs e =
@@ -69,8 +69,8 @@ module _ (table : Table) (g : Ground) (some : IsSome (shape g table)) where
   pub fit_shaped : (kind : Kind) (width : ℕ) (gs : List Ground) → g ≡ Fit kind width gs → AreShaped table gs
   fit_shaped kind width gs e = let p = fit_parts table g some kind width gs e in all_shaped table gs p.0 p.1
 
-  pub fit_row : (kind : Kind) (width : ℕ) (gs : List Ground) (ss : List Spot) → g ≡ Fit kind width gs → all_of (shapes_in table gs) ≡ Some (spot_shapes ss) → shape_of_fit kind width (spot_shapes ss) ≡ shape g table
-  fit_row kind width gs ss e all = let p = fit_parts table g some kind width gs e in ap (shape_of_fit kind width) (spots_are (shapes_in table gs) (spot_shapes ss) p.0 all p.1) ∙ p.2
+  pub fit_row : (kind : Kind) (width : ℕ) (gs : List Ground) (ss : List Location) → g ≡ Fit kind width gs → all_of (shapes_in table gs) ≡ Some (location_shapes ss) → shape_of_fit kind width (location_shapes ss) ≡ shape g table
+  fit_row kind width gs ss e all = let p = fit_parts table g some kind width gs e in ap (shape_of_fit kind width) (locations_are (shapes_in table gs) (location_shapes ss) p.0 all p.1) ∙ p.2
 
   pub fit_is : (kind : Kind) (width : ℕ) (gs : List Ground) → g ≡ Fit kind width gs → (width ≤ 128) × (shape g table ≡ Some (shaped kind width))
   fit_is kind width gs e =
@@ -79,10 +79,10 @@ module _ (table : Table) (g : Ground) (some : IsSome (shape g table)) where
       let is = fit_shape_is kind width p.0 whole.0 (p.2 ∙ whole.1) in
       (is.0, whole.1 ∙ ap Some is.1)
 
--- a selection's spots
-pub picked_shape : (front back : List Spot) → is_index (spot_shapes front) ≡ true → shape_of_picked (spot_shapes (front ++ back)) ≡ shape_of_items (spot_shapes back)
+-- a selection's locations
+pub picked_shape : (front back : List Location) → is_index (location_shapes front) ≡ true → shape_of_picked (location_shapes (front ++ back)) ≡ shape_of_items (location_shapes back)
 picked_shape [] back e = absurd (true≢false (sym e))
-picked_shape (i ∷ []) back e = ap (λ b. if b then shape_of_items (spot_shapes back) else None) e
+picked_shape (i ∷ []) back e = ap (λ b. if b then shape_of_items (location_shapes back) else None) e
 picked_shape (i ∷ j ∷ is) back e = absurd (true≢false (sym e))
 
 pub one_ground : (table : Table) (is : List Ground) (ss : List Shape) → all_of (shapes_in table is) ≡ Some ss → is_index ss ≡ true → (i : Ground) × (is ≡ i ∷ [])

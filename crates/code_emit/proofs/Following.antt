@@ -12,14 +12,14 @@ use Rattle.ground_net.specs.Grounds.{mentions}
 use Rattle.ground_net.proofs.Layers.{all_mentions, mentions-Op, mentions-Mux}
 use Rattle.net_meaning.specs.Shapes.{Shape, Table, shape, all_of, shape_of_choice, shape_of_row, is_row, width_of_row}
 use Rattle.net_meaning.proofs.Shaping.{and_then}
-use Rattle.flat_code.specs.declared.instr.Spot.{Spot}
-use Rattle.flat_code.specs.Fine.{among, spot_slots, slots_of, spot_shapes}
-use Rattle.flat_code.specs.Meaning.{spot_shape}
+use Rattle.flat_code.specs.declared.instr.Location.{Location}
+use Rattle.flat_code.specs.Fine.{among, location_slots, slots_of, location_shapes}
+use Rattle.flat_code.specs.Meaning.{location_shape}
 use Rattle.code_draft.specs.declared.draft.Draft.{Draft}
 use Rattle.code_draft.specs.Segments.{Segment, Step}
 use Rattle.code_draft.proofs.Segmenting.{among_left, among_right, among_either, none_among, both_so}
 use Rattle.code_draft.proofs.Joining.{segment_then, segment_weaker, step_then}
-use Rattle.code_draft.proofs.Stepping.{spot_few}
+use Rattle.code_draft.proofs.Stepping.{location_few}
 use Rattle.code_words.specs.Ways.{Reckons}
 use Rattle.code_words.proofs.Behind.{then_step}
 use Rattle.code_emit.specs.declared.sources.Sources.{Sources}
@@ -32,18 +32,18 @@ use Rattle.code_emit.proofs.Spanning.{grounds_before, slots_each}
 
 -- Choices one behind the other
 
-pub chain_segment : (old d e : Draft) (rest : List Spot) (c v last s : Spot) → (ComeBefore old.slots (slots_of rest) → Segment old d (slots_of rest) (spot_slots last) 2)
-    → Step d e (slots_of (c ∷ v ∷ last ∷ [])) (spot_slots s) 2 → ComeBefore old.slots (slots_of (c ∷ v ∷ rest)) → Segment old e (slots_of (c ∷ v ∷ rest)) (spot_slots s) 2
+pub chain_segment : (old d e : Draft) (rest : List Location) (c v last s : Location) → (ComeBefore old.slots (slots_of rest) → Segment old d (slots_of rest) (location_slots last) 2)
+    → Step d e (slots_of (c ∷ v ∷ last ∷ [])) (location_slots s) 2 → ComeBefore old.slots (slots_of (c ∷ v ∷ rest)) → Segment old e (slots_of (c ∷ v ∷ rest)) (location_slots s) 2
 chain_segment old d e rest c v last s before next come =
     let O = slots_of rest in
-    let C = spot_slots c in
-    let V = spot_slots v in
-    let L = spot_slots last in
+    let C = location_slots c in
+    let V = location_slots v in
+    let L = location_slots last in
     let W = slots_of (c ∷ v ∷ rest) in
     let from_c : (k : ℕ) → among C k ≡ true → among W k ≡ true = λ k h. among_left C (V ++ O) k h in
     let from_v : (k : ℕ) → among V k ≡ true → among W k ≡ true = λ k h. among_right C (V ++ O) k (among_left V O k h) in
     let from_rest : (k : ℕ) → among O k ≡ true → among W k ≡ true = λ k h. among_right C (V ++ O) k (among_right V O k h) in
-    then_step old d e O L (slots_of (c ∷ v ∷ last ∷ [])) (spot_slots s) W 2 2 2 (before (λ k h. come k (from_rest k h))) next
+    then_step old d e O L (slots_of (c ∷ v ∷ last ∷ [])) (location_slots s) W 2 2 2 (before (λ k h. come k (from_rest k h))) next
     (λ k h. ⊎_elim
     (λ first. inr (come k (from_c k first), from_c k first))
     (λ more. ⊎_elim
@@ -53,32 +53,32 @@ chain_segment old d e rest c v last s before next come =
     (among_either C (V ++ (L ++ [])) k h))
     from_rest (omega arith) (omega arith)
 
-words_long : (ss : List Spot) → are_words ss ≡ true → length (slots_of ss) ≡ length ss
+words_long : (ss : List Location) → are_words ss ≡ true → length (slots_of ss) ≡ length ss
 words_long [] e = refl
 words_long (s ∷ ss) e =
     let both = both_so (nat_le s.width 64) (are_words ss) e in
-    let one : spot_slots s ≡ s.low ∷ [] = ap (λ b. if b then s.low ∷ s.high ∷ [] else s.low ∷ []) (le-ltb 64 s.width (at_most s.width both.0)) in
+    let one : location_slots s ≡ s.low ∷ [] = ap (λ b. if b then s.low ∷ s.high ∷ [] else s.low ∷ []) (le-ltb 64 s.width (at_most s.width both.0)) in
     ap (λ xs. length (xs ++ slots_of ss)) one ∙ ap suc (words_long ss both.1)
   where
     at_most : (w : ℕ) → nat_le w 64 ≡ true → w ≤ 64
     at_most w h = grind (arith, nat_tests)
 
-pub choice_some : (ss : List Spot) → IsSome (shape_of_choice (spot_shapes ss)) → 1 ≤ length ss
+pub choice_some : (ss : List Location) → IsSome (shape_of_choice (location_shapes ss)) → 1 ≤ length ss
 choice_some [] h = absurd (true≢false (sym h))
 choice_some (s ∷ ss) h = omega arith
 
-pub step_follows : (ss : List Spot) (old new : Draft) (s : Spot) → 1 ≤ length ss → Step old new (slots_of ss) (spot_slots s) 2 → Follows ss old new s
-step_follows ss old new s some st start outer n before room seg = step_then start old new outer (slots_of ss) (spot_slots s) n 2 n seg st (omega arith) (omega (arith, some, room))
+pub step_follows : (ss : List Location) (old new : Draft) (s : Location) → 1 ≤ length ss → Step old new (slots_of ss) (location_slots s) 2 → Follows ss old new s
+step_follows ss old new s some st start outer n before room seg = step_then start old new outer (slots_of ss) (location_slots s) n 2 n seg st (omega arith) (omega (arith, some, room))
 
 -- code of which two slots are live at once, beside the slots of the operands
-pub segment_follows : (ss : List Spot) (old new : Draft) (s : Spot) → length (slots_of ss) + 2 ≤ 2 * length ss → (ComeBefore old.slots (slots_of ss) → Segment old new (slots_of ss) (spot_slots s) 2) → Follows ss old new s
+pub segment_follows : (ss : List Location) (old new : Draft) (s : Location) → length (slots_of ss) + 2 ≤ 2 * length ss → (ComeBefore old.slots (slots_of ss) → Segment old new (slots_of ss) (location_slots s) 2) → Follows ss old new s
 segment_follows ss old new s fits h start outer n before room seg =
     let K = slots_of ss in
-    let Q = spot_slots s in
+    let Q = location_slots s in
     let lower = seg.slots in
     let g = h (λ k e. ⊎_elim (λ own. own.1) (λ out. let lt = before k out in omega (arith, lt, lower)) (seg.there k e)) in
     let upper = g.slots in
-    let few = spot_few s in
+    let few = location_few s in
     segment_then start old new outer K K Q outer Q n 2 n seg g (record {
       lower = lower;
       upper = upper;
@@ -94,7 +94,7 @@ segment_follows ss old new s fits h start outer n before room seg =
     (g.there k e))
     (omega arith) (omega (arith, fits, room)) (omega (arith, few, fits, room))
 
-pub chain_follows : (ss : List Spot) (old new : Draft) (s : Spot) → are_words ss ≡ true → 3 < length ss → (ComeBefore old.slots (slots_of ss) → Segment old new (slots_of ss) (spot_slots s) 2) → Follows ss old new s
+pub chain_follows : (ss : List Location) (old new : Draft) (s : Location) → are_words ss ≡ true → 3 < length ss → (ComeBefore old.slots (slots_of ss) → Segment old new (slots_of ss) (location_slots s) 2) → Follows ss old new s
 chain_follows ss old new s words many h = let long = words_long ss words in segment_follows ss old new s (omega (arith, long, many)) h
 
 -- Operations
@@ -106,20 +106,20 @@ none_there : {A : Type 0} (b : Bool) → shape_there (if b then None else None) 
 none_there true h = absurd (true≢false (sym h))
 none_there false h = absurd (true≢false (sym h))
 
-pub row_some : (prim : PrimOp) (params : List ℕ) (ss : List Spot) → IsSome (shape_of_row prim params (spot_shapes ss)) → 1 ≤ length ss
+pub row_some : (prim : PrimOp) (params : List ℕ) (ss : List Location) → IsSome (shape_of_row prim params (location_shapes ss)) → 1 ≤ length ss
 row_some prim params [] h = none_there (is_row prim [] params (width_of_row prim [] params)) h
 row_some prim params (s ∷ ss) h = omega arith
 
-pub reckons_follow : (ss : List Spot) (old new : Draft) (s : Spot) → 1 ≤ length ss → Reckons ss old new s → Follows ss old new s
+pub reckons_follow : (ss : List Location) (old new : Draft) (s : Location) → 1 ≤ length ss → Reckons ss old new s → Follows ss old new s
 reckons_follow ss old new s some r = ⊎_elim
     (λ st. step_follows ss old new s some st)
     (λ both. let two = both.0.two in let each = both.0.one_each in segment_follows ss old new s (omega (arith, two, each)) (λ come. both.1))
     r
 
 -- a value of one that follows
-pub follows_then : (ss : List Spot) (a b c : Draft) (m s : Spot) → 1 ≤ length ss → Follows ss a b m → Follows (m ∷ []) b c s → Follows ss a c s
+pub follows_then : (ss : List Location) (a b c : Draft) (m s : Location) → 1 ≤ length ss → Follows ss a b m → Follows (m ∷ []) b c s → Follows ss a c s
 follows_then ss a b c m s some first next start outer n before room seg =
-    next start outer n before (omega (arith, some, room)) (subst (λ xs. Segment start b outer xs n) (sym (append-nil (spot_slots m))) (first start outer n before room seg))
+    next start outer n before (omega (arith, some, room)) (subst (λ xs. Segment start b outer xs n) (sym (append-nil (location_slots m))) (first start outer n before room seg))
 
 -- Expressions
 
@@ -130,8 +130,8 @@ all_long (o ∷ os) ss e =
     let rest = and_then (λ more. Some (first.0 ∷ more)) (all_of os) ss first.2 in
     ap suc (all_long os rest.0 rest.1) ∙ ap length (some_same rest.2)
 
-spots_long : (table : Table) (gs : List Ground) (ss : List Spot) → all_of (shapes_in table gs) ≡ Some (spot_shapes ss) → length gs ≡ length ss
-spots_long table gs ss e = sym (length-map gs (λ g. shape g table)) ∙ (all_long (shapes_in table gs) (spot_shapes ss) e ∙ length-map ss spot_shape)
+locations_long : (table : Table) (gs : List Ground) (ss : List Location) → all_of (shapes_in table gs) ≡ Some (location_shapes ss) → length gs ≡ length ss
+locations_long table gs ss e = sym (length-map gs (λ g. shape g table)) ∙ (all_long (shapes_in table gs) (location_shapes ss) e ∙ length-map ss location_shape)
 
 tips_each : (gs : List Ground) → length gs ≤ sum_by tips gs
 tips_each [] = omega arith
@@ -142,16 +142,16 @@ tips_each (g ∷ gs) =
     omega (arith, one, rest, both)
 
 -- an expression whose operation follows the code of its parts
-module _ (S : Sources) (table : Table) (g : Ground) (gs : List Ground) (a b c : Draft) (ss : List Spot) (s : Spot) (shapes : all_of (shapes_in table gs) ≡ Some (spot_shapes ss)) (all : SpansAll S gs a b ss)
+module _ (S : Sources) (table : Table) (g : Ground) (gs : List Ground) (a b c : Draft) (ss : List Location) (s : Location) (shapes : all_of (shapes_in table gs) ≡ Some (location_shapes ss)) (all : SpansAll S gs a b ss)
     (last : Follows ss b c s) where
   followed_spans : sum_by tips gs ≤ tips g → mentions g ≡ all_mentions gs → Spans S g a c s
   followed_spans le told before =
       let O = flat_map (ground_slots S) gs in
-      let Q = spot_slots s in
+      let Q = location_slots s in
       let some = tips_some g in
-      let few = spot_few s in
+      let few = location_few s in
       let each = tips_each gs in
-      let same = spots_long table gs ss shapes in
+      let same = locations_long table gs ss shapes in
       subst (λ xs. Segment a c xs Q (2 * tips g)) (slots_each S gs ∙ ap (flat_map (leaf_slots S)) (sym told))
       (segment_weaker a c O Q O Q (2 * sum_by tips gs) (2 * tips g) (last a O (2 * sum_by tips gs) (grounds_before S a.slots gs before) (omega (arith, each, same)) (all before))
       (λ k h. h) (λ k h. h) (omega (arith, le)) (omega (arith, few, some)))

@@ -9,7 +9,7 @@ use Rattle.ground_net.specs.declared.ground.Ground.{Ground, fold-Ground, the_lem
 use Rattle.ground_net.specs.declared.ground.Ground.TheOpen.{Ground-F}
 use Rattle.ground_net.specs.declared.ground.Ground.TheVariants.{Const, Leaf, Op, Mux, Select, Load, Fit}
 use Rattle.ground_net.proofs.Layers.{maps}
-use Rattle.flat_code.specs.declared.instr.Spot.{Spot}
+use Rattle.flat_code.specs.declared.instr.Location.{Location}
 use Rattle.code_draft.specs.declared.draft.Draft.{Draft}
 use Rattle.code_emit.specs.declared.sources.Source.{Source}
 use Rattle.code_emit.specs.declared.sources.Source.TheVariants as source
@@ -70,15 +70,15 @@ pub leaf-Fit : (kind : Kind) (width : ℕ) (gs : List Ground) → is_leaf (Fit k
 leaf-Fit kind width gs = grind (arith, common_steps, the_lemmas, maps)
 
 -- of an expression that is no leaf nothing is said
-pub no_leaf : {E : Type 0} (S : Sources) (g h : Ground) (old new : Draft) (r : Result Spot E) → g ≡ h → is_leaf h ≡ false → IfOk r (λ s. StandsThere S g old new s)
+pub no_leaf : {E : Type 0} (S : Sources) (g h : Ground) (old new : Draft) (r : Result Location E) → g ≡ h → is_leaf h ≡ false → IfOk r (λ s. StandsThere S g old new s)
 no_leaf S g h old new (Ok s) e none = λ x t at found. absurd (true≢false (sym (leaf-Leaf x) ∙ (ap is_leaf (sym at ∙ e) ∙ none)))
 no_leaf S g h old new (Err e) f none = tt
 
 -- a source in the frame
-abbrev pub StandsAt : Source → Draft → Draft → Spot → Type 0
-StandsAt src old new s = (t : Spot) → src ≡ source.Frame t → (s ≡ t) × (new ≡ old)
+abbrev pub StandsAt : Source → Draft → Draft → Location → Type 0
+StandsAt src old new s = (t : Location) → src ≡ source.Frame t → (s ≡ t) × (new ≡ old)
 
-pub leaf_stands : (S : Sources) (g : Ground) (y : ℕ) (src : Source) (old new : Draft) (s : Spot) → g ≡ Leaf y → leaf_source S y ≡ Some src → StandsAt src old new s → StandsThere S g old new s
+pub leaf_stands : (S : Sources) (g : Ground) (y : ℕ) (src : Source) (old new : Draft) (s : Location) → g ≡ Leaf y → leaf_source S y ≡ Some src → StandsAt src old new s → StandsThere S g old new s
 leaf_stands S g y src old new s e there stands = λ x t at found.
     let same : y ≡ x = same_leaf y x (sym e ∙ at) in
     stands t (some_same (sym there ∙ (ap (leaf_source S) same ∙ found)))

@@ -15,19 +15,19 @@ use Rattle.prim_ops.proofs.Formulas.{in_bits}
 use Rattle.ground_net.proofs.Layers.{maps}
 use Rattle.net_meaning.specs.Shapes.{Shape, shaped, params_fit, is_row, width_of_row, shape_of_row}
 use Rattle.net_meaning.proofs.Shaping.{and_then, if_some, both_true}
-use Rattle.flat_code.specs.declared.instr.Spot.{Spot}
-use Rattle.flat_code.specs.Meaning.{spot_shape}
-use Rattle.flat_code.specs.Fine.{spot_shapes}
+use Rattle.flat_code.specs.declared.instr.Location.{Location}
+use Rattle.flat_code.specs.Meaning.{location_shape}
+use Rattle.flat_code.specs.Fine.{location_shapes}
 use Rattle.code_emit.specs.Rows.{IsRow}
 
-abbrev pub kinds_at : List Spot → List Kind
-kinds_at ss = map (λ (s : Spot). s.kind) ss
+abbrev pub kinds_at : List Location → List Kind
+kinds_at ss = map (λ (s : Location). s.kind) ss
 
-abbrev pub widths_at : List Spot → List ℕ
-widths_at ss = map (λ (s : Spot). s.width) ss
+abbrev pub widths_at : List Location → List ℕ
+widths_at ss = map (λ (s : Location). s.width) ss
 
-abbrev pub bits_at : List Spot → List Width
-bits_at ss = map (λ (s : Spot). Bits s.width) ss
+abbrev pub bits_at : List Location → List Width
+bits_at ss = map (λ (s : Location). Bits s.width) ss
 
 pub some_of : {A : Type 0} (o : Option A) → IsSome o → (x : A) × (o ≡ Some x)
 some_of (Some x) h = (x, refl)
@@ -42,44 +42,44 @@ small w h = grind (arith, common_steps, nat_tests, h)
 le_true : (w : ℕ) → w ≤ 128 → nat_le w 128 ≡ true
 le_true w h = grind (arith, common_steps, nat_tests, h)
 
--- what the table says of spots
-pub record Row (prim : PrimOp) (params : List ℕ) (ss : List Spot) : Type 0 where
+-- what the table says of locations
+pub record Row (prim : PrimOp) (params : List ℕ) (ss : List Location) : Type 0 where
   pub is_row : IsRow prim (kinds_at ss) (bits_at ss) params
   pub shape : (kind : Kind) (width : ℕ) → row_kind prim (kinds_at ss) ≡ Some kind → row_width prim (kinds_at ss) (bits_at ss) params ≡ Bits width
-      → shape_of_row prim params (spot_shapes ss) ≡ Some (shaped kind width)
+      → shape_of_row prim params (location_shapes ss) ≡ Some (shaped kind width)
 
-pub row_of : (prim : PrimOp) (params : List ℕ) (spots : List Spot) → IsSome (shape_of_row prim params (spot_shapes spots)) → Row prim params spots
-row_of prim params spots h =
-    let ss : List Shape = spot_shapes spots in
+pub row_of : (prim : PrimOp) (params : List ℕ) (locations : List Location) → IsSome (shape_of_row prim params (location_shapes locations)) → Row prim params locations
+row_of prim params locations h =
+    let ss : List Shape = location_shapes locations in
     let found = some_of (shape_of_row prim params ss) h in
     let test = if_some (is_row prim ss params (width_of_row prim ss params)) (option_and_then (λ kind. Some (shaped kind (width_of_row prim ss params))) (row_kind prim (map (λ s. s.kind) ss))) found.0 found.1 in
     let parts = both_true ((length ss == (arity_of prim).0) && (length params == (arity_of prim).1)) (params_fit prim ss params && nat_le (width_of_row prim ss params) 128) test.0 in
     let counts = both_true (length ss == (arity_of prim).0) (length params == (arity_of prim).1) parts.0 in
     let fits = both_true (params_fit prim ss params) (nat_le (width_of_row prim ss params) 128) parts.1 in
     let kind = and_then (λ kind. Some (shaped kind (width_of_row prim ss params))) (row_kind prim (map (λ s. s.kind) ss)) found.0 test.1 in
-    let ks : map (λ s. s.kind) ss ≡ kinds_at spots = maps (λ (s : Shape). s.kind) spot_shape spots in
-    let ws : map (λ s. s.width) ss ≡ widths_at spots = maps (λ (s : Shape). s.width) spot_shape spots in
-    let width : width_of_row prim ss params ≡ width_number prim (kinds_at spots) (widths_at spots) params = ap₂ (λ a b. width_number prim a b params) ks ws in
-    let narrow : width_number prim (kinds_at spots) (widths_at spots) params ≤ 128 = subst (λ w. w ≤ 128) width (small (width_of_row prim ss params) fits.1) in
+    let ks : map (λ s. s.kind) ss ≡ kinds_at locations = maps (λ (s : Shape). s.kind) location_shape locations in
+    let ws : map (λ s. s.width) ss ≡ widths_at locations = maps (λ (s : Shape). s.width) location_shape locations in
+    let width : width_of_row prim ss params ≡ width_number prim (kinds_at locations) (widths_at locations) params = ap₂ (λ a b. width_number prim a b params) ks ws in
+    let narrow : width_number prim (kinds_at locations) (widths_at locations) params ≤ 128 = subst (λ w. w ≤ 128) width (small (width_of_row prim ss params) fits.1) in
     let counted : length ss ≡ (arity_of prim).0 = number_same (length ss) (arity_of prim).0 counts.0 in
-    let bits : row_width prim (kinds_at spots) (bits_at spots) params ≡ Bits (width_number prim (kinds_at spots) (widths_at spots) params)
-    = ap (λ ws. row_width prim (kinds_at spots) ws params) (sym (maps (λ w. Bits w) (λ (s : Spot). s.width) spots))
-    ∙ (in_bits prim (kinds_at spots) (widths_at spots) params
-    ∙ ap (λ b. if b then Bits (width_number prim (kinds_at spots) (widths_at spots) params) else Over) (le_true (width_number prim (kinds_at spots) (widths_at spots) params) narrow)) in
-    let is_kind : row_kind prim (kinds_at spots) ≡ Some kind.0 = ap (row_kind prim) (sym ks) ∙ kind.1 in
+    let bits : row_width prim (kinds_at locations) (bits_at locations) params ≡ Bits (width_number prim (kinds_at locations) (widths_at locations) params)
+    = ap (λ ws. row_width prim (kinds_at locations) ws params) (sym (maps (λ w. Bits w) (λ (s : Location). s.width) locations))
+    ∙ (in_bits prim (kinds_at locations) (widths_at locations) params
+    ∙ ap (λ b. if b then Bits (width_number prim (kinds_at locations) (widths_at locations) params) else Over) (le_true (width_number prim (kinds_at locations) (widths_at locations) params) narrow)) in
+    let is_kind : row_kind prim (kinds_at locations) ≡ Some kind.0 = ap (row_kind prim) (sym ks) ∙ kind.1 in
     record {
       is_row = record {
-        operands = length-map spots (λ (s : Spot). s.kind) ∙ (sym (length-map spots spot_shape) ∙ counted);
-        widths_too = length-map spots (λ (s : Spot). Bits s.width) ∙ (sym (length-map spots spot_shape) ∙ counted);
+        operands = length-map locations (λ (s : Location). s.kind) ∙ (sym (length-map locations location_shape) ∙ counted);
+        widths_too = length-map locations (λ (s : Location). Bits s.width) ∙ (sym (length-map locations location_shape) ∙ counted);
         parameters = number_same (length params) (arity_of prim).1 counts.1;
-        kind = is_some (row_kind prim (kinds_at spots)) kind.0 is_kind;
-        width = width_number prim (kinds_at spots) (widths_at spots) params;
+        kind = is_some (row_kind prim (kinds_at locations)) kind.0 is_kind;
+        width = width_number prim (kinds_at locations) (widths_at locations) params;
         narrow = narrow;
         is_width = bits;
       };
       shape = λ k w e f.
           let same_kind : kind.0 ≡ k = cc in
-          let same_width : width_number prim (kinds_at spots) (widths_at spots) params ≡ w = bits_same (sym bits ∙ f) in
+          let same_width : width_number prim (kinds_at locations) (widths_at locations) params ≡ w = bits_same (sym bits ∙ f) in
           found.1 ∙ (sym kind.2 ∙ ap₂ (λ a b. Some (shaped a b)) same_kind (width ∙ same_width));
     }
   where
@@ -90,7 +90,7 @@ row_of prim params spots h =
     bits_same e = cc
 
 -- operations take one operand or two
-pub few_operands : (prim : PrimOp) (params : List ℕ) (ss : List Spot) → IsSome (shape_of_row prim params (spot_shapes ss)) → ((x : Spot) → ss ≡ x ∷ [] → ⊥) → ((x y : Spot) → ss ≡ x ∷ y ∷ [] → ⊥) → ⊥
+pub few_operands : (prim : PrimOp) (params : List ℕ) (ss : List Location) → IsSome (shape_of_row prim params (location_shapes ss)) → ((x : Location) → ss ≡ x ∷ [] → ⊥) → ((x y : Location) → ss ≡ x ∷ y ∷ [] → ⊥) → ⊥
 few_operands prim params [] h one two = none_fit prim [] (row_of prim params [] h).is_row.kind
   where
     none_fit : (prim : PrimOp) (ks : List Kind) → IsSome (row_kind prim []) → ⊥

@@ -1,4 +1,4 @@
--- Kinds and widths of spots and of expressions.
+-- Kinds and widths of locations and of expressions.
 use Rattle.std.proofs.Common.{◌≡◌, ℕ, zero, suc, ◌-◌, ◌≤◌, Bool, true, false, ◌&&◌, nat_le, List, [], ◌∷◌, ◌++◌, length, get_or, Option, Some, None, option_and_then, refl, sym, subst, ap, ap₂, ◌∙◌, arith, if◌then◌else◌, true≢false}
 use Rattle.std.specs.Prelude.{IsSome, Result, Ok, Err, IfOk}
 use Rattle.std.proofs.lemmas.List.{length-map}
@@ -9,9 +9,9 @@ use Rattle.ground_net.specs.declared.ground.Ground.{Ground}
 use Rattle.ground_net.specs.declared.ground.Ground.TheVariants.{Op, Mux, Select, Load, Fit}
 use Rattle.net_meaning.specs.Shapes.{Shape, shaped, Table, shape, all_of, shape_of_row, shape_of_choice, shape_of_items, shape_of_selection, is_index, shape_of_load, shape_of_fit, is_unsigned, same_shape}
 use Rattle.net_meaning.proofs.Shaping.{and_then, if_some, shape-Op, shape-Mux, shape-Select, shape-Load, shape-Fit}
-use Rattle.flat_code.specs.declared.instr.Spot.{Spot}
-use Rattle.flat_code.specs.Meaning.{spot_shape}
-use Rattle.flat_code.specs.Fine.{spot_shapes}
+use Rattle.flat_code.specs.declared.instr.Location.{Location}
+use Rattle.flat_code.specs.Meaning.{location_shape}
+use Rattle.flat_code.specs.Fine.{location_shapes}
 use Rattle.code_emit.specs.Emits.{AreShaped, shapes_in}
 use Rattle.code_emit.proofs.Rowing.{some_of}
 
@@ -87,9 +87,9 @@ module _ (table : Table) (g : Ground) (some : IsSome (shape g table)) where
       let parts = and_then (shape_of_fit kind width) (all_of (shapes_in table gs)) whole.0 (sym is ∙ whole.1) in
       (parts.0, parts.1, parts.2 ∙ sym whole.1)
 
--- where all have kinds and widths, these are those of the spots
-pub spots_are : (os : List (Option Shape)) (ss ts : List Shape) → all_of os ≡ Some ss → all_of os ≡ Some ts → ss ≡ ts
-spots_are os ss ts e f = some_same (sym e ∙ f)
+-- where all have kinds and widths, these are those of the locations
+pub locations_are : (os : List (Option Shape)) (ss ts : List Shape) → all_of os ≡ Some ss → all_of os ≡ Some ts → ss ≡ ts
+locations_are os ss ts e f = some_same (sym e ∙ f)
 
 -- a load's parts and its element
 pub load_shape : (o : Option Shape) (ss : List Shape) → IsSome (shape_of_load o ss) → shape_of_load o ss ≡ o
@@ -112,7 +112,7 @@ fit_shape_is kind width (t ∷ []) s e =
     at_most w h = grind (arith, nat_tests)
 fit_shape_is kind width (t ∷ u ∷ ss) s e = absurd (none_some e)
 
--- the last spot has a choice's kind and width
+-- the last location has a choice's kind and width
 pub choice_last : (ss : List Shape) (d : Shape) → IsSome (shape_of_choice ss) → shape_of_choice ss ≡ Some (get_or ss (length ss - 1) d)
 choice_last [] d h = absurd (true≢false (sym h))
 choice_last (s ∷ []) d h = refl
@@ -127,18 +127,18 @@ choice_last (c ∷ v ∷ w ∷ ss) d h =
     let same : get_or (c ∷ v ∷ w ∷ ss) (length (c ∷ v ∷ w ∷ ss) - 1) d ≡ get_or (w ∷ ss) (length (w ∷ ss) - 1) d = ap (λ n. get_or (c ∷ v ∷ w ∷ ss) n d) long ∙ ap (λ n. get_or (w ∷ ss) n d) short in
     whole.1 ∙ (sym test.1 ∙ (sym more.1 ∙ (rest ∙ ap Some (sym same))))
 
-pub index_one : (is : List Spot) → is_index (spot_shapes is) ≡ true → (i : Spot) × (is ≡ i ∷ [])
+pub index_one : (is : List Location) → is_index (location_shapes is) ≡ true → (i : Location) × (is ≡ i ∷ [])
 index_one [] e = absurd (true≢false (sym e))
 index_one (i ∷ []) e = (i, refl)
 index_one (i ∷ j ∷ is) e = absurd (true≢false (sym e))
 
--- the last spot has a choice's kind and width
-pub last_spot : (ss : List Spot) (x : Spot) → IsSome (shape_of_choice (spot_shapes ss)) → x ≡ get_or ss (length ss - 1) x → shape_of_choice (spot_shapes ss) ≡ Some (spot_shape x)
-last_spot ss x h e =
-    let long = length-map ss spot_shape in
-    choice_last (spot_shapes ss) (spot_shape x) h ∙ ap Some (ap (λ n. get_or (spot_shapes ss) (n - 1) (spot_shape x)) long ∙ (mapped ss (length ss - 1) ∙ ap spot_shape (sym e)))
+-- the last location has a choice's kind and width
+pub last_location : (ss : List Location) (x : Location) → IsSome (shape_of_choice (location_shapes ss)) → x ≡ get_or ss (length ss - 1) x → shape_of_choice (location_shapes ss) ≡ Some (location_shape x)
+last_location ss x h e =
+    let long = length-map ss location_shape in
+    choice_last (location_shapes ss) (location_shape x) h ∙ ap Some (ap (λ n. get_or (location_shapes ss) (n - 1) (location_shape x)) long ∙ (mapped ss (length ss - 1) ∙ ap location_shape (sym e)))
   where
-    mapped : (ts : List Spot) (n : ℕ) → get_or (spot_shapes ts) n (spot_shape x) ≡ spot_shape (get_or ts n x)
+    mapped : (ts : List Location) (n : ℕ) → get_or (location_shapes ts) n (location_shape x) ≡ location_shape (get_or ts n x)
     mapped [] n = refl
     mapped (t ∷ ts) zero = refl
     mapped (t ∷ ts) (suc n) = mapped ts n

@@ -10,13 +10,13 @@ use Rattle.ground_net.specs.declared.ground.Ground.{Ground}
 use Rattle.ground_net.specs.declared.ground.Ground.TheVariants.{Leaf, Select, Load, Fit}
 use Rattle.ground_net.specs.Grounds.{mentions}
 use Rattle.ground_net.proofs.Layers.{all_mentions, mentions-Leaf, mentions-Select, mentions-Load, mentions-Fit}
-use Rattle.flat_code.specs.declared.instr.Spot.{Spot}
-use Rattle.flat_code.specs.Fine.{among, spot_slots, slots_of}
+use Rattle.flat_code.specs.declared.instr.Location.{Location}
+use Rattle.flat_code.specs.Fine.{among, location_slots, slots_of}
 use Rattle.code_draft.specs.declared.draft.Draft.{Draft}
 use Rattle.code_draft.specs.Segments.{Segment, Step}
 use Rattle.code_draft.proofs.Segmenting.{among_left, among_either, none_among}
 use Rattle.code_draft.proofs.Joining.{AreBefore, step_then, both_then, segment_weaker, segment_not, segment_then}
-use Rattle.code_draft.proofs.Stepping.{spot_few}
+use Rattle.code_draft.proofs.Stepping.{location_few}
 use Rattle.code_emit.specs.declared.sources.Source.{Source}
 use Rattle.code_emit.specs.declared.sources.Sources.{Sources}
 use Rattle.code_emit.specs.Emits.{leaf_source}
@@ -49,7 +49,7 @@ slots_each S (g ∷ gs) = ap (λ xs. ground_slots S g ++ xs) (slots_each S gs)
 pub none_spans : (S : Sources) (d : Draft) → SpansAll S [] d d []
 none_spans S d before = segment_not d [] 0
 
-pub both_span : (S : Sources) (gs hs : List Ground) (a b c : Draft) (ss ts : List Spot) → SpansAll S gs a b ss → SpansAll S hs b c ts → SpansAll S (gs ++ hs) a c (ss ++ ts)
+pub both_span : (S : Sources) (gs hs : List Ground) (a b c : Draft) (ss ts : List Location) → SpansAll S gs a b ss → SpansAll S hs b c ts → SpansAll S (gs ++ hs) a c (ss ++ ts)
 both_span S gs hs a b c ss ts front back before =
     let f = front before in
     let g = back (found_later S a.slots b.slots f.slots before) in
@@ -58,46 +58,46 @@ both_span S gs hs a b c ss ts front back before =
     let all = both_then a b c O (slots_of ss) P (slots_of ts) (2 * sum_by tips gs) (2 * sum_by tips hs) f g (grounds_before S a.slots gs before) (grounds_before S a.slots hs before) in
     let count : 2 * sum_by tips gs + 2 * sum_by tips hs ≡ 2 * sum_by tips (gs ++ hs) = let sums = sum_by-append tips gs hs in omega (arith, sums) in
     subst (λ xs. Segment a c xs (slots_of (ss ++ ts)) (2 * sum_by tips (gs ++ hs))) (sym (flat_map-append (ground_slots S) gs hs))
-    (subst (λ xs. Segment a c (O ++ P) xs (2 * sum_by tips (gs ++ hs))) (sym (flat_map-append spot_slots ss ts))
+    (subst (λ xs. Segment a c (O ++ P) xs (2 * sum_by tips (gs ++ hs))) (sym (flat_map-append location_slots ss ts))
     (subst (Segment a c (O ++ P) (slots_of ss ++ slots_of ts)) count all))
 
-pub single_spans : (S : Sources) (g : Ground) (a b : Draft) (s : Spot) → Spans S g a b s → SpansAll S (g ∷ []) a b (s ∷ [])
+pub single_spans : (S : Sources) (g : Ground) (a b : Draft) (s : Location) → Spans S g a b s → SpansAll S (g ∷ []) a b (s ∷ [])
 single_spans S g a b s h before =
     let f = h before in
     let few = f.few in
-    let long = length-append (spot_slots s) [] in
-    segment_weaker a b (ground_slots S g) (spot_slots s) (ground_slots S g ++ []) (spot_slots s ++ []) (2 * tips g) (2 * sum_by tips (g ∷ [])) f
+    let long = length-append (location_slots s) [] in
+    segment_weaker a b (ground_slots S g) (location_slots s) (ground_slots S g ++ []) (location_slots s ++ []) (2 * tips g) (2 * sum_by tips (g ∷ [])) f
     (λ k e. among_left (ground_slots S g) [] k e)
-    (λ k e. ⊎_elim (λ here. here) (λ none. none_among k none) (among_either (spot_slots s) [] k e))
+    (λ k e. ⊎_elim (λ here. here) (λ none. none_among k none) (among_either (location_slots s) [] k e))
     (omega arith) (omega (arith, few, long))
 
-pub one_more_spans : (S : Sources) (gs : List Ground) (g : Ground) (a b c : Draft) (ss : List Spot) (s : Spot) → SpansAll S gs a b ss → Spans S g b c s → SpansAll S (gs ++ g ∷ []) a c (ss ++ s ∷ [])
+pub one_more_spans : (S : Sources) (gs : List Ground) (g : Ground) (a b c : Draft) (ss : List Location) (s : Location) → SpansAll S gs a b ss → Spans S g b c s → SpansAll S (gs ++ g ∷ []) a c (ss ++ s ∷ [])
 one_more_spans S gs g a b c ss s all one = both_span S gs (g ∷ []) a b c ss (s ∷ []) all (single_spans S g b c s one)
 
 -- Expressions
 
 -- a step that reads nothing but a leaf's slots
-pub step_spans : (S : Sources) (g : Ground) (a b : Draft) (s : Spot) (outer : List ℕ) → ((k : ℕ) → among outer k ≡ true → among (ground_slots S g) k ≡ true) → Step a b outer (spot_slots s) 2 → Spans S g a b s
+pub step_spans : (S : Sources) (g : Ground) (a b : Draft) (s : Location) (outer : List ℕ) → ((k : ℕ) → among outer k ≡ true → among (ground_slots S g) k ≡ true) → Step a b outer (location_slots s) 2 → Spans S g a b s
 step_spans S g a b s outer out st before =
     let some = tips_some g in
-    let few = spot_few s in
-    segment_weaker a b outer (spot_slots s) (ground_slots S g) (spot_slots s) 2 (2 * tips g) st.segment out (λ k e. e) (omega (arith, some)) (omega (arith, few, some))
+    let few = location_few s in
+    segment_weaker a b outer (location_slots s) (ground_slots S g) (location_slots s) 2 (2 * tips g) st.segment out (λ k e. e) (omega (arith, some)) (omega (arith, few, some))
 
-pub fetched_spans : (S : Sources) (g : Ground) (a b : Draft) (s : Spot) → Step a b [] (spot_slots s) 2 → Spans S g a b s
+pub fetched_spans : (S : Sources) (g : Ground) (a b : Draft) (s : Location) → Step a b [] (location_slots s) 2 → Spans S g a b s
 fetched_spans S g a b s st = step_spans S g a b s [] (λ k e. none_among k e) st
 
-pub leaf_spans : (S : Sources) (g : Ground) (x : ℕ) (src : Source) (a b : Draft) (s : Spot) → g ≡ Leaf x → leaf_source S x ≡ Some src → Step a b (source_slots src) (spot_slots s) 2 → Spans S g a b s
+pub leaf_spans : (S : Sources) (g : Ground) (x : ℕ) (src : Source) (a b : Draft) (s : Location) → g ≡ Leaf x → leaf_source S x ≡ Some src → Step a b (source_slots src) (location_slots s) 2 → Spans S g a b s
 leaf_spans S g x src a b s e at st = step_spans S g a b s (source_slots src) (λ k h.
     subst (λ xs. among (flat_map (leaf_slots S) xs) k ≡ true) (sym (ap mentions e ∙ mentions-Leaf x))
     (among_left (leaf_slots S x) [] k (subst (λ o. among (found_slots o) k ≡ true) (sym at) h))) st
 
 -- a step on what was emitted
-module _ (S : Sources) (g : Ground) (gs : List Ground) (a b c : Draft) (ss : List Spot) (s : Spot) (all : SpansAll S gs a b ss) (last : Step b c (slots_of ss) (spot_slots s) 2) where
+module _ (S : Sources) (g : Ground) (gs : List Ground) (a b c : Draft) (ss : List Location) (s : Location) (all : SpansAll S gs a b ss) (last : Step b c (slots_of ss) (location_slots s) 2) where
   pub parts_span : sum_by tips gs ≤ tips g → mentions g ≡ all_mentions gs → Spans S g a c s
   parts_span le same before =
       let some = tips_some g in
-      subst (λ xs. Segment a c xs (spot_slots s) (2 * tips g)) (slots_each S gs ∙ ap (flat_map (leaf_slots S)) (sym same))
-      (step_then a b c (flat_map (ground_slots S) gs) (slots_of ss) (spot_slots s) (2 * sum_by tips gs) 2 (2 * tips g) (all before) last (omega (arith, le)) (omega (arith, some)))
+      subst (λ xs. Segment a c xs (location_slots s) (2 * tips g)) (slots_each S gs ∙ ap (flat_map (leaf_slots S)) (sym same))
+      (step_then a b c (flat_map (ground_slots S) gs) (slots_of ss) (location_slots s) (2 * sum_by tips gs) 2 (2 * tips g) (all before) last (omega (arith, le)) (omega (arith, some)))
 
   counted : tips g ≡ max 1 (sum (map tips gs)) → sum_by tips gs ≤ tips g
   counted e = let sums = sum-map tips gs in omega (arith, e, sums)
@@ -115,7 +115,7 @@ mentions_both is gs = ap (flat_map (λ l. l)) (maps_both is gs) ∙ flat_map-app
     maps_both [] gs = refl
     maps_both (i ∷ is) gs = ap (λ xs. mentions i ∷ xs) (maps_both is gs)
 
-pub select_spans : (S : Sources) (g : Ground) (is gs : List Ground) (a b c : Draft) (ss : List Spot) (s : Spot) → g ≡ Select is gs → SpansAll S (is ++ gs) a b ss → Step b c (slots_of ss) (spot_slots s) 2 → Spans S g a c s
+pub select_spans : (S : Sources) (g : Ground) (is gs : List Ground) (a b c : Draft) (ss : List Location) (s : Location) → g ≡ Select is gs → SpansAll S (is ++ gs) a b ss → Step b c (slots_of ss) (location_slots s) 2 → Spans S g a c s
 select_spans S g is gs a b c ss s e all last =
     parts_span S g (is ++ gs) a b c ss s all last
     (let count = ap tips e ∙ tips-Select is gs in
@@ -145,12 +145,12 @@ told_segment a b c O K m f g =
       kept_second = λ k low up e. none_among k e;
     }) (λ k e. none_among k e) (omega arith) (omega (arith, few)) (omega arith)
 
-pub group_told : (S : Sources) (gs : List Ground) (a b c : Draft) (ss : List Spot) → SpansAll S gs a b ss → Segment b c (slots_of ss) [] 0 → EvaluatesAll S (gs ∷ []) a c
+pub group_told : (S : Sources) (gs : List Ground) (a b c : Draft) (ss : List Location) → SpansAll S gs a b ss → Segment b c (slots_of ss) [] 0 → EvaluatesAll S (gs ∷ []) a c
 group_told S gs a b c ss all told before = (c, told_segment a b c (flat_map (ground_slots S) gs) (slots_of ss) (2 * sum_by tips gs) (all before) told, refl)
 
-pub one_told : (S : Sources) (g : Ground) (a b c : Draft) (s : Spot) → Spans S g a b s → Segment b c (spot_slots s) [] 0 → EvaluatesAll S ((g ∷ []) ∷ []) a c
+pub one_told : (S : Sources) (g : Ground) (a b c : Draft) (s : Location) → Spans S g a b s → Segment b c (location_slots s) [] 0 → EvaluatesAll S ((g ∷ []) ∷ []) a c
 one_told S g a b c s spans told = group_told S (g ∷ []) a b c (s ∷ []) (single_spans S g a b s spans)
-    (segment_weaker b c (spot_slots s) [] (spot_slots s ++ []) [] 0 0 told (λ k e. among_left (spot_slots s) [] k e) (λ k e. e) (omega arith) (omega arith))
+    (segment_weaker b c (location_slots s) [] (location_slots s ++ []) [] 0 0 told (λ k e. among_left (location_slots s) [] k e) (λ k e. e) (omega arith) (omega arith))
 
 pub evaluates_then : (S : Sources) (gs hs : List (List Ground)) (a b c : Draft) → Evaluates S gs a b → Evaluates S hs b c → Evaluates S (gs ++ hs) a c
 evaluates_then S [] hs a b c f g = subst (λ d. Evaluates S hs d c) f g

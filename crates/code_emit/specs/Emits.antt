@@ -4,11 +4,11 @@ use Rattle.bit_words.specs.declared.value.Kind.TheVariants.{Unsigned}
 use Rattle.bit_words.specs.declared.value.Value.{Value}
 use Rattle.cycle_values.specs.Values.{fitted}
 use Rattle.ground_net.specs.declared.ground.Ground.{Ground}
-use Rattle.ground_net.specs.Grounds.{Sight, value}
+use Rattle.ground_net.specs.Grounds.{Instant, value}
 use Rattle.net_meaning.specs.Shapes.{Shape, shaped, shape_of_value, Table, shape}
 use Rattle.net_meaning.specs.Words.{value_at}
-use Rattle.flat_code.specs.declared.instr.Spot.{Spot}
-use Rattle.flat_code.specs.Meaning.{spot_shape, spot_values}
+use Rattle.flat_code.specs.declared.instr.Location.{Location}
+use Rattle.flat_code.specs.Meaning.{location_shape, location_values}
 use Rattle.flat_code.specs.Fine.{InRegion, further_words}
 use Rattle.code_draft.specs.declared.draft.Draft.{Draft}
 use Rattle.code_draft.specs.Drafts.{IsDraft, Solved, Grows, Stands, Makes, Wanted, Holds, input_value}
@@ -33,7 +33,7 @@ kept_shape k = shaped k.kind k.width
 abbrev pub source_shape : Source → Shape
 source_shape (source.Word k) = kept_shape k
 source_shape (source.Input k) = kept_shape k
-source_shape (source.Frame s) = spot_shape s
+source_shape (source.Frame s) = location_shape s
 source_shape (source.Constant c) = shape_of_value c
 
 abbrev pub elements_shape : Elements → Shape
@@ -54,11 +54,11 @@ abbrev pub element_value : Elements → List ℕ → Value → Value
 element_value e words address =
     if nat_lt address.bits e.region.depth then value_at (elements_shape e) words (e.region.base + address.bits * e.region.stride) else fitted e.kind e.width (pos 0)
 
--- A sight shows what the sources show.
-pub record Sees (S : Sources) (words : List ℕ) (inputs : List Value) (F : List ℕ) (sight : Sight) : Type 0 where
-  pub leaf : (x : ℕ) (src : Source) → leaf_source S x ≡ Some src → IsOf src words inputs F (sight.leaf x)
-  pub load : (m k : ℕ) (e : Elements) (address : Value) → element_source S m k ≡ Some e → address.kind ≡ Unsigned → sight.load m k address ≡ element_value e words address
-  pub shapes : (m k : ℕ) (e : Elements) (address : Value) → element_source S m k ≡ Some e → shape_of_value (sight.load m k address) ≡ elements_shape e
+-- An instant shows what the sources show.
+pub record Sees (S : Sources) (words : List ℕ) (inputs : List Value) (F : List ℕ) (instant : Instant) : Type 0 where
+  pub leaf : (x : ℕ) (src : Source) → leaf_source S x ≡ Some src → IsOf src words inputs F (instant.leaf x)
+  pub load : (m k : ℕ) (e : Elements) (address : Value) → element_source S m k ≡ Some e → address.kind ≡ Unsigned → instant.load m k address ≡ element_value e words address
+  pub shapes : (m k : ℕ) (e : Elements) (address : Value) → element_source S m k ≡ Some e → shape_of_value (instant.load m k address) ≡ elements_shape e
 
 -- The words and the slots of the sources are there.
 abbrev pub Fits : Draft → Source → Type 0
@@ -71,22 +71,22 @@ pub record AreSources (S : Sources) (d : Draft) : Type 0 where
   pub leaves : (x : ℕ) (src : Source) → leaf_source S x ≡ Some src → Fits d src
   pub regions : (m k : ℕ) (e : Elements) → element_source S m k ≡ Some e → InRegion d.words e.width e.region
 
--- The value of an expression at a sight.
+-- The value of an expression at an instant.
 abbrev pub ValueOf : Sources → Ground → Wanted
-ValueOf S g words inputs F v = (sight : Sight) × Sees S words inputs F sight × (v ≡ value g sight)
+ValueOf S g words inputs F v = (instant : Instant) × Sees S words inputs F instant × (v ≡ value g instant)
 
 -- Code that goes on to the value of an expression.
-abbrev pub Emits : Sources → Ground → Draft → Draft → Spot → Type 0
+abbrev pub Emits : Sources → Ground → Draft → Draft → Location → Type 0
 Emits S g old new s = IsDraft old → AreSources S old → Makes old new s (ValueOf S g)
 
 -- Code that goes on to the values of expressions, in order.
-pub record MakesAll (S : Sources) (gs : List Ground) (old new : Draft) (ss : List Spot) : Type 0 where
+pub record MakesAll (S : Sources) (gs : List Ground) (old new : Draft) (ss : List Location) : Type 0 where
   pub grows : Grows old new
   pub stand : All (Stands new) ss
-  pub holds : (words : List ℕ) (inputs : List Value) (F : List ℕ) (sight : Sight) → Solved new words inputs F → Sees S words inputs F sight → spot_values F ss ≡ map (λ g. value g sight) gs
-  pub cut : (words : List ℕ) (inputs : List Value) (F : List ℕ) (sight : Sight) → Solved new words inputs F → Sees S words inputs F sight → All (Cut F) ss
+  pub holds : (words : List ℕ) (inputs : List Value) (F : List ℕ) (instant : Instant) → Solved new words inputs F → Sees S words inputs F instant → location_values F ss ≡ map (λ g. value g instant) gs
+  pub cut : (words : List ℕ) (inputs : List Value) (F : List ℕ) (instant : Instant) → Solved new words inputs F → Sees S words inputs F instant → All (Cut F) ss
 
-abbrev pub EmitsAll : Sources → List Ground → Draft → Draft → List Spot → Type 0
+abbrev pub EmitsAll : Sources → List Ground → Draft → Draft → List Location → Type 0
 EmitsAll S gs old new ss = IsDraft old → AreSources S old → MakesAll S gs old new ss
 
 -- expressions that are in order

@@ -1,8 +1,8 @@
-//! Forms on spots: which kind and width they have, and their values.
+//! Forms on locations: which kind and width they have, and their values.
 
 ghost use Rattle.std.specs.Prelude.{◌≡◌, ◌≤◌, ◌++◌, [], ◌∷◌, Some, IsSome, IfOk, All, length};
-ghost use Rattle.flat_code.specs.Meaning.{spot_shape};
-ghost use Rattle.flat_code.specs.Fine.{spot_shapes};
+ghost use Rattle.flat_code.specs.Meaning.{location_shape};
+ghost use Rattle.flat_code.specs.Fine.{location_shapes};
 ghost use Rattle.net_meaning.specs.Shapes.{shaped, shape_of_row, shape_of_choice, shape_of_items};
 ghost use Rattle.prim_ops.specs.declared.widths.Width.TheVariants.{Bits};
 ghost use Rattle.prim_ops.specs.Kinds.{row_kind};
@@ -11,14 +11,14 @@ ghost use Rattle.code_emit.specs.Rows.{IsRow};
 
 use bit_words::{Kind, List};
 use code_words::Measure;
-use flat_code::Spot;
+use flat_code::Location;
 use prim_ops::{Prim, Width, kind_of, width_of};
 use std::alloc::AllocError;
 
 /// The kind and the width of an operation.
-pub(crate) fn row_measure(prim: Prim, operands: &[Spot], params: &[u128]) -> Measure
-    requires { IsSome (shape_of_row prim params.now (spot_shapes operands.now)) }
-    ensures { shape_of_row prim params.now (spot_shapes operands.now) ≡ Some (shaped result.kind result.width) }
+pub(crate) fn row_measure(prim: Prim, operands: &[Location], params: &[u128]) -> Measure
+    requires { IsSome (shape_of_row prim params.now (location_shapes operands.now)) }
+    ensures { shape_of_row prim params.now (location_shapes operands.now) ≡ Some (shaped result.kind result.width) }
 {
     match operands {
         [first] => measured(prim, &[first.kind], &[Width::Bits(first.width)], params),
@@ -47,10 +47,10 @@ fn measured(prim: Prim, kinds: &[Kind], widths: &[Width], params: &[u128]) -> Me
     Measure { kind, width }
 }
 
-/// The kind and the width of the last spot.
-pub(crate) fn choice_measure(operands: &[Spot]) -> Measure
-    requires { IsSome (shape_of_choice (spot_shapes operands.now)) }
-    ensures { shape_of_choice (spot_shapes operands.now) ≡ Some (shaped result.kind result.width) }
+/// The kind and the width of the last location.
+pub(crate) fn choice_measure(operands: &[Location]) -> Measure
+    requires { IsSome (shape_of_choice (location_shapes operands.now)) }
+    ensures { shape_of_choice (location_shapes operands.now) ≡ Some (shaped result.kind result.width) }
 {
     if operands.is_empty() {
         unreachable!();
@@ -62,10 +62,10 @@ pub(crate) fn choice_measure(operands: &[Spot]) -> Measure
     }
 }
 
-/// The kind and the width of the first spot, and of no bits where there is none.
-pub(crate) fn items_measure(items: &[Spot]) -> Measure
-    requires { IsSome (shape_of_items (spot_shapes items.now)) }
-    ensures { shape_of_items (spot_shapes items.now) ≡ Some (shaped result.kind result.width) }
+/// The kind and the width of the first location, and of no bits where there is none.
+pub(crate) fn items_measure(items: &[Location]) -> Measure
+    requires { IsSome (shape_of_items (location_shapes items.now)) }
+    ensures { shape_of_items (location_shapes items.now) ≡ Some (shaped result.kind result.width) }
 {
     if items.is_empty() {
         return Measure {
@@ -80,13 +80,13 @@ pub(crate) fn items_measure(items: &[Spot]) -> Measure
     }
 }
 
-/// The spots of a list and those of a slice behind them.
-pub(crate) fn joined(front: List<Spot>, back: &[Spot]) -> Result<List<Spot>, AllocError>
+/// The locations of a list and those of a slice behind them.
+pub(crate) fn joined(front: List<Location>, back: &[Location]) -> Result<List<Location>, AllocError>
     ensures { IfOk result (λ all. all ≡ front ++ back.now) }
 {
     let mut all = front;
-    for spot in back {
-        all.push(*spot)?;
+    for location in back {
+        all.push(*location)?;
     }
     Ok(all)
 }

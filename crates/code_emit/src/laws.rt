@@ -3,15 +3,15 @@
 ghost use Rattle.std.specs.Prelude.{◌≡◌, ℕ, ◌<◌, ◌≤◌, ◌^◌, List, length, slice_index};
 ghost use Rattle.bit_words.specs.declared.value.Value.{Value as TheValue};
 ghost use Rattle.ground_net.specs.declared.ground.Ground.{Ground as TheGround};
-ghost use Rattle.ground_net.specs.Grounds.{Sight, value};
-ghost use Rattle.flat_code.specs.declared.instr.Spot.{Spot as TheSpot};
-ghost use Rattle.flat_code.specs.Meaning.{ran, spot_value};
+ghost use Rattle.ground_net.specs.Grounds.{Instant, value};
+ghost use Rattle.flat_code.specs.declared.instr.Location.{Location as TheLocation};
+ghost use Rattle.flat_code.specs.Meaning.{ran, location_value};
 ghost use Rattle.code_draft.specs.declared.draft.Draft.{Draft as TheDraft};
 ghost use Rattle.code_draft.specs.Drafts.{Makes};
 ghost use Rattle.code_emit.specs.declared.sources.Sources.{Sources as TheSources};
 ghost use Rattle.code_emit.specs.Emits.{Sees, ValueOf};
 
-/// After a run from any frame the spot of an emitted expression has its value at each sight that shows what the sources show.
+/// After a run from any frame the location of an emitted expression has its value at each instant that shows what the sources show.
 pub fn runs_give_values()
-    ensures { (S : TheSources) (g : TheGround) (old new : TheDraft) (s : TheSpot) (words : List ℕ) (inputs : List TheValue) (frame : List ℕ) (sight : Sight) → Makes old new s (ValueOf S g) → new.slots ≤ length frame → ((k : ℕ) → slice_index words k < 2 ^ 64) → Sees S words inputs (ran new.wides new.instrs words inputs frame) sight → spot_value (ran new.wides new.instrs words inputs frame) s ≡ value g sight }
+    ensures { (S : TheSources) (g : TheGround) (old new : TheDraft) (s : TheLocation) (words : List ℕ) (inputs : List TheValue) (frame : List ℕ) (instant : Instant) → Makes old new s (ValueOf S g) → new.slots ≤ length frame → ((k : ℕ) → slice_index words k < 2 ^ 64) → Sees S words inputs (ran new.wides new.instrs words inputs frame) instant → location_value (ran new.wides new.instrs words inputs frame) s ≡ value g instant }
 {}

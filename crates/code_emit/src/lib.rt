@@ -1,5 +1,5 @@
 //! The code of expressions: flat instructions for the value of an expression, with slots of its own for each value on the way.
-//! Keeps the contract that in every frame that solves the code the spot has the value of the expression at every sight that shows
+//! Keeps the contract that in every frame that solves the code the location has the value of the expression at every instant that shows
 //! what the sources show (FIRRTL specification 3.0, "Expressions" and "Primitive Operations").
 #![tactic(auto)]
 

@@ -4,8 +4,8 @@ ghost use Rattle.std.specs.Prelude.{◌≡◌, ◌∷◌, [], ◌⊎◌, true, S
 ghost use Rattle.prim_ops.specs.declared.operation.PrimOp.TheVariants.{Tail, Bits as BitsOp};
 ghost use Rattle.ground_net.specs.declared.ground.Ground.TheVariants.{Op as Op_of};
 ghost use Rattle.net_meaning.specs.Shapes.{shaped, shape_of_row};
-ghost use Rattle.flat_code.specs.Meaning.{spot_shape};
-ghost use Rattle.flat_code.specs.Fine.{spot_shapes, spot_slots, slots_of};
+ghost use Rattle.flat_code.specs.Meaning.{location_shape};
+ghost use Rattle.flat_code.specs.Fine.{location_shapes, location_slots, slots_of};
 ghost use Rattle.code_draft.specs.Drafts.{IsDraft, Stands, Makes};
 ghost use Rattle.code_draft.specs.Segments.{Step};
 ghost use Rattle.code_words.specs.Ways.{IsMade};
@@ -17,7 +17,7 @@ use crate::values::emit_operation;
 use bit_words::List;
 use code_draft::Draft;
 use code_words::{Measure, lowest_word};
-use flat_code::Spot;
+use flat_code::Location;
 use ground_net::Ground;
 use prim_ops::Prim;
 use std::alloc::{AllocError, Global};
@@ -55,24 +55,24 @@ pub(crate) fn inner_of<'a>(operands: &'a [Ground]) -> Option<Inner<'a>>
     }
 }
 
-/// The value of the outer operation on the value of the inner one on what stands at spots. Lowest bits of a sum need only the lowest
+/// The value of the outer operation on the value of the inner one on what stands at locations. Lowest bits of a sum need only the lowest
 /// bits of what is added.
 pub(crate) fn emit_nested(
     alloc: Global,
     draft: &mut Draft,
-    spots: List<Spot>,
+    locations: List<Location>,
     inner: Row<'_>,
     outer: Row<'_>,
-) -> Result<Spot, AllocError>
-    requires { IsSome (nested_shape inner.prim inner.params.now outer.prim outer.params.now (spot_shapes spots)) }
-    ensures shape { IfOk result (λ s. nested_shape inner.entry.prim inner.entry.params.now outer.entry.prim outer.entry.params.now (spot_shapes spots) ≡ Some (spot_shape s)) }
-    ensures makes { IfOk result (λ s. IsDraft draft.old → All (Stands draft.old) spots → Makes draft.old draft.new s (IsMade (nested_value inner.entry.prim inner.entry.params.now outer.entry.prim outer.entry.params.now) spots (spot_shape s))) }
-    ensures follows { IfOk result (λ s. Follows spots draft.old draft.new s) }
+) -> Result<Location, AllocError>
+    requires { IsSome (nested_shape inner.prim inner.params.now outer.prim outer.params.now (location_shapes locations)) }
+    ensures shape { IfOk result (λ s. nested_shape inner.entry.prim inner.entry.params.now outer.entry.prim outer.entry.params.now (location_shapes locations) ≡ Some (location_shape s)) }
+    ensures makes { IfOk result (λ s. IsDraft draft.old → All (Stands draft.old) locations → Makes draft.old draft.new s (IsMade (nested_value inner.entry.prim inner.entry.params.now outer.entry.prim outer.entry.params.now) locations (location_shape s))) }
+    ensures follows { IfOk result (λ s. Follows locations draft.old draft.new s) }
 {
-    if let Some(spot) = lowest(draft, spots.as_slice(), inner, outer)? {
-        return Ok(spot);
+    if let Some(location) = lowest(draft, locations.as_slice(), inner, outer)? {
+        return Ok(location);
     }
-    let between = emit_operation(alloc, draft, inner.prim, spots, inner.params)?;
+    let between = emit_operation(alloc, draft, inner.prim, locations, inner.params)?;
     let mut one = List::new(alloc);
     one.push(between)?;
     emit_operation(alloc, draft, outer.prim, one, outer.params)
@@ -81,37 +81,37 @@ pub(crate) fn emit_nested(
 /// The same, where the outer operation takes lowest bits and words suffice for it; else none, and the code stays as it is.
 fn lowest(
     draft: &mut Draft,
-    spots: &[Spot],
+    locations: &[Location],
     inner: Row<'_>,
     outer: Row<'_>,
-) -> Result<Option<Spot>, AllocError>
-    requires { IsSome (nested_shape inner.prim inner.params.now outer.prim outer.params.now (spot_shapes spots.now)) }
-    ensures shape { IfOk result (λ o. IfSome o (λ s. nested_shape inner.entry.prim inner.entry.params.now outer.entry.prim outer.entry.params.now (spot_shapes spots.now) ≡ Some (spot_shape s))) }
-    ensures makes { IfOk result (λ o. IfSome o (λ s. IsDraft draft.old → All (Stands draft.old) spots.now → Makes draft.old draft.new s (IsMade (nested_value inner.entry.prim inner.entry.params.now outer.entry.prim outer.entry.params.now) spots.now (spot_shape s)))) }
+) -> Result<Option<Location>, AllocError>
+    requires { IsSome (nested_shape inner.prim inner.params.now outer.prim outer.params.now (location_shapes locations.now)) }
+    ensures shape { IfOk result (λ o. IfSome o (λ s. nested_shape inner.entry.prim inner.entry.params.now outer.entry.prim outer.entry.params.now (location_shapes locations.now) ≡ Some (location_shape s))) }
+    ensures makes { IfOk result (λ o. IfSome o (λ s. IsDraft draft.old → All (Stands draft.old) locations.now → Makes draft.old draft.new s (IsMade (nested_value inner.entry.prim inner.entry.params.now outer.entry.prim outer.entry.params.now) locations.now (location_shape s)))) }
     ensures none { result ≡ Ok None → draft.new ≡ draft.old }
-    ensures step { IfOk result (λ o. IfSome o (λ s. Step draft.old draft.new (slots_of spots.now) (spot_slots s) 2)) }
+    ensures step { IfOk result (λ o. IfSome o (λ s. Step draft.old draft.new (slots_of locations.now) (location_slots s) 2)) }
 {
     if !takes_lowest(outer) {
         return Ok(None);
     }
-    let measure = nested_measure(spots, inner, outer);
-    lowest_word(draft, inner.prim, spots, measure)
+    let measure = nested_measure(locations, inner, outer);
+    lowest_word(draft, inner.prim, locations, measure)
 }
 
 /// The kind and the width of the outer operation on the inner one.
-fn nested_measure(spots: &[Spot], inner: Row<'_>, outer: Row<'_>) -> Measure
-    requires { IsSome (nested_shape inner.prim inner.params.now outer.prim outer.params.now (spot_shapes spots.now)) }
-    ensures { nested_shape inner.entry.prim inner.entry.params.now outer.entry.prim outer.entry.params.now (spot_shapes spots.now) ≡ Some (shaped result.kind result.width) }
+fn nested_measure(locations: &[Location], inner: Row<'_>, outer: Row<'_>) -> Measure
+    requires { IsSome (nested_shape inner.prim inner.params.now outer.prim outer.params.now (location_shapes locations.now)) }
+    ensures { nested_shape inner.entry.prim inner.entry.params.now outer.entry.prim outer.entry.params.now (location_shapes locations.now) ≡ Some (shaped result.kind result.width) }
 {
-    let between = row_measure(inner.prim, spots, inner.params);
+    let between = row_measure(inner.prim, locations, inner.params);
     row_measure(outer.prim, &[somewhere(between)], outer.params)
 }
 
-/// A spot of this kind and width.
-fn somewhere(measure: Measure) -> Spot
-    ensures { spot_shape result ≡ shaped measure.kind measure.width }
+/// A location of this kind and width.
+fn somewhere(measure: Measure) -> Location
+    ensures { location_shape result ≡ shaped measure.kind measure.width }
 {
-    Spot {
+    Location {
         kind: measure.kind,
         width: measure.width,
         low: 0,

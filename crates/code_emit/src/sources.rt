@@ -3,7 +3,7 @@
 ghost use Rattle.std.specs.Prelude.{◌≤◌};
 
 use bit_words::{Kind, List, Value};
-use flat_code::{Region, Spot};
+use flat_code::{Region, Location};
 
 /// A value that is kept outside the frame, under a number.
 ///
@@ -24,7 +24,7 @@ pub enum Source {
     /// It is the input of this number.
     Input(Kept),
     /// In the frame.
-    Frame(Spot),
+    Frame(Location),
     /// It is always this.
     Constant(Value),
 }

@@ -3,8 +3,8 @@ use Rattle.std.proofs.Common.{◌≡◌, ℕ, ◌^◌, ◌<◌, ◌≤◌, List,
 use lib.ListN.{length-replicate}
 use Rattle.bit_words.specs.declared.value.Value.{Value}
 use Rattle.flat_code.specs.declared.code.Code.{Code}
-use Rattle.flat_code.specs.declared.instr.Spot.{Spot}
-use Rattle.flat_code.specs.Meaning.{ran, published, spot_values}
+use Rattle.flat_code.specs.declared.instr.Location.{Location}
+use Rattle.flat_code.specs.Meaning.{ran, published, location_values}
 use Rattle.flat_code.specs.Codes.{zeros}
 use Rattle.flat_code.specs.Fine.{nothing}
 use Rattle.flat_code.proofs.Solving.{late}
@@ -13,8 +13,8 @@ use Rattle.code_draft.specs.Drafts.{IsDraft, Solved, pushed_in}
 use Rattle.code_draft.proofs.Running.{run_solves}
 use Rattle.code_finish.specs.Finishing.{HasEffects, IsCodeOf}
 
-pub has_effects : (code : Code) (d : Draft) (shown : List Spot) → IsDraft d → code.instrs ≡ d.instrs → code.ports ≡ d.ports → code.wides ≡ d.wides → code.shown ≡ shown → code.slots ≡ d.slots → IsCodeOf code d shown
-has_effects code d shown is instrs ports wides spots slots = λ words inputs plain.
+pub has_effects : (code : Code) (d : Draft) (shown : List Location) → IsDraft d → code.instrs ≡ d.instrs → code.ports ≡ d.ports → code.wides ≡ d.wides → code.shown ≡ shown → code.slots ≡ d.slots → IsCodeOf code d shown
+has_effects code d shown is instrs ports wides locations slots = λ words inputs plain.
     let f = replicate d.slots 0 in
     let F = ran d.wides d.instrs words inputs f in
     let long : length {A = ℕ} f ≡ d.slots = length-replicate d.slots 0 in
@@ -27,5 +27,5 @@ has_effects code d shown is instrs ports wides spots slots = λ words inputs pla
       frame = F;
       solved = run_solves d words inputs f is (omega (arith, long)) plain;
       publications = told ∙ late d.ports d.wides words inputs d.slots d.words (length d.ports) (length d.wides) is.wides d.instrs nothing f is.single;
-      outputs = ap₂ (λ G ss. spot_values G ss) same_frame spots;
+      outputs = ap₂ (λ G ss. location_values G ss) same_frame locations;
     }

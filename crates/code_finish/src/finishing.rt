@@ -9,14 +9,14 @@ ghost use Rattle.code_finish.specs.Finishing.{IsCodeOf};
 
 use bit_words::List;
 use code_draft::Draft;
-use flat_code::{Code, Instr, Op, Span, Spot};
+use flat_code::{Code, Instr, Op, Span, Location};
 use std::alloc::AllocError;
 
-/// The code of a draft, which puts out what stands at these spots, as the outputs at these positions of the watch list, and owns the
+/// The code of a draft, which puts out what stands at these locations, as the outputs at these positions of the watch list, and owns the
 /// shared words of these spans.
 pub fn finish(
     draft: Draft,
-    shown: List<Spot>,
+    shown: List<Location>,
     positions: List<u32>,
     owned: List<Span>,
 ) -> Result<Code, AllocError>

@@ -17,8 +17,8 @@ use Rattle.ground_net.specs.declared.net.NetRegister.{NetRegister}
 use Rattle.ground_net.specs.declared.net.NetMemory.{NetMemory}
 use Rattle.ground_net.specs.declared.net.ElementLeaf.{ElementLeaf}
 use Rattle.ground_net.specs.declared.net.NetPort.{NetPort}
-use Rattle.ground_net.specs.Grounds.{Sight, value}
-use Rattle.net_meaning.specs.Cycles.{NetState, Inputs, Valuation, Settled, sight_of, fitted_to, fitted_to_element, depth_of, next_of_register, next_of_memory, next_of_capture, shown, taken, Capture, captures}
+use Rattle.ground_net.specs.Grounds.{Instant, value}
+use Rattle.net_meaning.specs.Cycles.{NetState, Inputs, Valuation, Settled, instant_of, fitted_to, fitted_to_element, depth_of, next_of_register, next_of_memory, next_of_capture, shown, taken, Capture, captures}
 use Rattle.net_meaning.specs.Nets.{IsNet, IsWithin, element_shape, shape_or_none, element_shapes}
 use Rattle.net_meaning.specs.Words.{words_of, state_of}
 use Rattle.net_meaning.proofs.Placing.{registers_back, contents_back, captured_back}
@@ -97,8 +97,8 @@ module _ (net : Net) (s : NetState) (inside : IsWithin net s) where
       where_same (nat_lt a memory.depth) ((again net s).contents m a k) (s.contents m a k) (λ lt.
       contents_again m a k memory leaf e f (ltb-true a memory.depth lt)))
 
-  pub sight_again : (rho : Valuation) → sight_of net (again net s) rho ≡ sight_of net s rho
-  sight_again rho = ap (λ (l : ℕ → ℕ → Value → Value). record { leaf = rho; load = l })
+  pub instant_again : (rho : Valuation) → instant_of net (again net s) rho ≡ instant_of net s rho
+  instant_again rho = ap (λ (l : ℕ → ℕ → Value → Value). record { leaf = rho; load = l })
       (fun_ext (λ m. fun_ext (λ k. fun_ext (λ address. held_again m k (unsigned_abs (integer_of address)) (slice_get net.memories m) refl))))
 
   module _ (w : IsNet net) where
@@ -113,13 +113,13 @@ module _ (net : Net) (s : NetState) (inside : IsWithin net s) where
       captured = λ x n leaf there is.
           let c = w.captured x n (record { leaf = leaf; there = there; is = is }) in
           p.captured x n leaf there is ∙ ap (fitted_to leaf) (sym (captured_again n c.0 c.1));
-      assigned = λ x leaf driver there is d. p.assigned x leaf driver there is d ∙ ap (value driver) (sym (sight_again rho));
+      assigned = λ x leaf driver there is d. p.assigned x leaf driver there is d ∙ ap (value driver) (sym (instant_again rho));
     }
 
     -- what a register and a captured read have next
-    pub next_register_again : (sight : Sight) (n : ℕ) (register : NetRegister) → slice_get net.registers n ≡ Some register
-        → next_of_register net sight (slice_get net.registers n) ((again net s).registers n) ≡ next_of_register net sight (slice_get net.registers n) (s.registers n)
-    next_register_again sight n register e = ap (next_of_register net sight (slice_get net.registers n)) (register_again n register e)
+    pub next_register_again : (instant : Instant) (n : ℕ) (register : NetRegister) → slice_get net.registers n ≡ Some register
+        → next_of_register net instant (slice_get net.registers n) ((again net s).registers n) ≡ next_of_register net instant (slice_get net.registers n) (s.registers n)
+    next_register_again instant n register e = ap (next_of_register net instant (slice_get net.registers n)) (register_again n register e)
 
     capture_leaf : (n : ℕ) (c : Capture) → slice_get (captures net) n ≡ Some c → (leaf : ElementLeaf) × (slice_get c.memory.elements c.element ≡ Some leaf)
     capture_leaf n c e =
@@ -127,18 +127,18 @@ module _ (net : Net) (s : NetState) (inside : IsWithin net s) where
         let counted = ((w.memories c.number from.place c.memory c.port from.there from.listed).read from.read from.reads).counted in
         get_there c.memory.elements c.element (subst (λ l. c.element < l) counted (slice_get_within from.read.leaves c.element c.leaf from.leaf))
 
-    pub next_capture_again : (sight : Sight) (n : ℕ) (c : Capture) → slice_get (captures net) n ≡ Some c
-        → next_of_capture (again net s) sight (slice_get (captures net) n) ≡ next_of_capture s sight (slice_get (captures net) n)
-    next_capture_again sight n c e =
+    pub next_capture_again : (instant : Instant) (n : ℕ) (c : Capture) → slice_get (captures net) n ≡ Some c
+        → next_of_capture (again net s) instant (slice_get (captures net) n) ≡ next_of_capture s instant (slice_get (captures net) n)
+    next_capture_again instant n c e =
         let old = (again net s).contents c.number in
         let held = s.contents c.number in
-        let a = (shown sight c.port).address in
-        let reads = (shown sight c.port).reads in
+        let a = (shown instant c.port).address in
+        let reads = (shown instant c.port).reads in
         let leaf = capture_leaf n c e in
-        ap (next_of_capture (again net s) sight) e
-        ∙ (where_same (reads && nat_lt a c.memory.depth) (taken c.after old (next_of_memory sight (Some c.memory) old) a c.element) (taken c.after held (next_of_memory sight (Some c.memory) held) a c.element) (λ yes.
+        ap (next_of_capture (again net s) instant) e
+        ∙ (where_same (reads && nat_lt a c.memory.depth) (taken c.after old (next_of_memory instant (Some c.memory) old) a c.element) (taken c.after held (next_of_memory instant (Some c.memory) held) a c.element) (λ yes.
         let lt = ltb-true a c.memory.depth (and_parts reads (nat_lt a c.memory.depth) yes).1 in
         let same = contents_again c.number a c.element c.memory leaf.0 (capture_from net n c e).there leaf.1 lt in
-        taken_same c.after a c.element old (next_of_memory sight (Some c.memory) old) held (next_of_memory sight (Some c.memory) held) same
-        (ports_same c.memory.depth (shown sight) c.memory.ports old held a c.element same))
-        ∙ ap (next_of_capture s sight) (sym e))
+        taken_same c.after a c.element old (next_of_memory instant (Some c.memory) old) held (next_of_memory instant (Some c.memory) held) same
+        (ports_same c.memory.depth (shown instant) c.memory.ports old held a c.element same))
+        ∙ ap (next_of_capture s instant) (sym e))

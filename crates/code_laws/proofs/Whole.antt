@@ -5,8 +5,8 @@ use Rattle.phase_core.specs.declared.model.Publication.{Publication}
 use Rattle.phase_core.specs.Script.{published_all}
 use Rattle.phase_core.proofs.Values.{length-published_all}
 use Rattle.ground_net.specs.declared.net.Net.{Net}
-use Rattle.ground_net.specs.Grounds.{Sight}
-use Rattle.net_meaning.specs.Cycles.{NetState, Inputs, Valuation, Settled, sight_of, next}
+use Rattle.ground_net.specs.Grounds.{Instant}
+use Rattle.net_meaning.specs.Cycles.{NetState, Inputs, Valuation, Settled, instant_of, next}
 use Rattle.net_meaning.specs.Nets.{IsWithin}
 use Rattle.net_meaning.specs.Words.{words_of}
 use Rattle.flat_code.specs.declared.code.Code.{Code}
@@ -17,7 +17,7 @@ use Rattle.partition_code.specs.Codes.{sinks_of_part, AreOfOneCut}
 use Rattle.sink_words.proofs.Standing.{each_word}
 use Rattle.split_laws.proofs.Parts.{left_by_sink}
 use Rattle.split_laws.proofs.Publishing.{same_list}
-use Rattle.code_laws.proofs.Back.{again, sight_again}
+use Rattle.code_laws.proofs.Back.{again, instant_again}
 use Rattle.code_laws.proofs.Placed.{words_counted}
 use Rattle.code_laws.proofs.Cycles.{cycle_of}
 use Rattle.code_laws.proofs.Nexts.{word_next}
@@ -36,23 +36,23 @@ module _ (codes : List Code) (cut : AreOfOneCut codes) (s : NetState) (inside : 
   abbrev Words : List ℕ
   Words = words_of cut.ordered.net s
 
-  abbrev Told : Sight → List (List Publication)
-  Told sight = map (λ part. sinks_told cut.ordered.net (again cut.ordered.net s) sight (sinks_of_part cut.ordered.net cut.watch part)) cut.parts
+  abbrev Told : Instant → List (List Publication)
+  Told instant = map (λ part. sinks_told cut.ordered.net (again cut.ordered.net s) instant (sinks_of_part cut.ordered.net cut.watch part)) cut.parts
 
   -- what all parts leave
-  parts_next : (sight : Sight) → published_all (Told sight) Words ≡ words_of TheNet (next TheNet s sight)
-  parts_next sight =
-      let counted = length-published_all (Told sight) Words ∙ words_counted TheNet s in
-      same_list (published_all (Told sight) Words) (words_of TheNet (next TheNet s sight)) (counted ∙ sym (words_counted TheNet (next TheNet s sight))) (λ i lt.
+  parts_next : (instant : Instant) → published_all (Told instant) Words ≡ words_of TheNet (next TheNet s instant)
+  parts_next instant =
+      let counted = length-published_all (Told instant) Words ∙ words_counted TheNet s in
+      same_list (published_all (Told instant) Words) (words_of TheNet (next TheNet s instant)) (counted ∙ sym (words_counted TheNet (next TheNet s instant))) (λ i lt.
       let h = each_word TheNet cut.net cut.watch i (subst (λ n. i < n) counted lt) in
-      left_by_sink cut.ordered cut.net cut.watch cut.parts cut.split (again TheNet s) sight i h.0 h.2 Words ∙ word_next TheNet cut.net s inside sight h.0 i h.2)
+      left_by_sink cut.ordered cut.net cut.watch cut.parts cut.split (again TheNet s) instant i h.0 h.2 Words ∙ word_next TheNet cut.net s inside instant h.0 i h.2)
 
   pub next_words : (inputs : List Value) (given : Inputs) → MatchInputs cut.ordered.net inputs given → (rho : Valuation) → Settled cut.ordered.net s given rho
-      → published_all (map (λ code. published_by code (words_of cut.ordered.net s) inputs) codes) (words_of cut.ordered.net s) ≡ words_of cut.ordered.net (next cut.ordered.net s (sight_of cut.ordered.net s rho))
+      → published_all (map (λ code. published_by code (words_of cut.ordered.net s) inputs) codes) (words_of cut.ordered.net s) ≡ words_of cut.ordered.net (next cut.ordered.net s (instant_of cut.ordered.net s rho))
   next_words inputs given matched rho settled =
       let cycle = cycle_of TheNet s cut.net inside inputs given matched rho settled in
       ap (λ rounds. published_all rounds Words)
-      (same_maps (λ code. published_by code Words inputs) (λ part. sinks_told TheNet (again TheNet s) (sight_of TheNet s rho) (sinks_of_part TheNet cut.watch part)) codes cut.parts cut.codes_of.counted
+      (same_maps (λ code. published_by code Words inputs) (λ part. sinks_told TheNet (again TheNet s) (instant_of TheNet s rho) (sinks_of_part TheNet cut.watch part)) codes cut.parts cut.codes_of.counted
       (λ k part code e f. (cut.codes_of.each k part code e f).publications Words inputs rho cycle
-      ∙ ap (λ sight. sinks_told TheNet (again TheNet s) sight (sinks_of_part TheNet cut.watch part)) (sight_again TheNet s inside rho)))
-      ∙ parts_next (sight_of TheNet s rho)
+      ∙ ap (λ instant. sinks_told TheNet (again TheNet s) instant (sinks_of_part TheNet cut.watch part)) (instant_again TheNet s inside rho)))
+      ∙ parts_next (instant_of TheNet s rho)

@@ -10,7 +10,7 @@ use Rattle.cycle_values.specs.Ports.{Held, Shown, after_port, after_ports}
 use Rattle.ground_net.specs.declared.net.Net.{Net}
 use Rattle.ground_net.specs.declared.net.NetMemory.{NetMemory}
 use Rattle.ground_net.specs.declared.net.NetPort.{NetPort}
-use Rattle.ground_net.specs.Grounds.{Sight}
+use Rattle.ground_net.specs.Grounds.{Instant}
 use Rattle.ground_net.specs.Cones.{numbered}
 use Rattle.net_meaning.specs.Shapes.{Shape}
 use Rattle.net_meaning.specs.Cycles.{shown}
@@ -117,11 +117,11 @@ module _ (net : Net) (m : ℕ) (memory : NetMemory) (there : slice_get net.memor
           eqb-false q.address b f (place_is q.address b k k t t x j e e within fits same).0))
           ∙ old j inside
 
-  module _ (sight : Sight) where
+  module _ (instant : Instant) where
     port_left : (port : NetPort) (held : Held ℕ) (words : List ℕ) → length words ≡ state_words net → Contain words held
-        → Contain (published (port_told net sight m memory port) words) (after_port memory.depth held (shown sight port))
+        → Contain (published (port_told net instant m memory port) words) (after_port memory.depth held (shown instant port))
     port_left port held words counted old b k t lt e j inside =
-        let q = shown sight port in
+        let q = shown instant port in
         let fits : j < word_count t = subst (λ c. j < c) (kept_length t (after_port memory.depth held q b k)) inside in
         only_one (leaf_told net m memory q) (element_word net m memory b k + j) (numbered (element_shapes memory)) k (k, t) (numbered_is (element_shapes memory) k t e)
         (λ i both f n.
@@ -134,11 +134,11 @@ module _ (net : Net) (m : ℕ) (memory : NetMemory) (there : slice_get net.memor
 
     -- all writes leave what the memory holds next
     pub writes_left : (ports : List NetPort) (held : Held ℕ) (words : List ℕ) → length words ≡ state_words net → Contain words held
-        → Contain (published (flat_map (port_told net sight m memory) ports) words) (after_ports memory.depth (shown sight) ports held)
+        → Contain (published (flat_map (port_told net instant m memory) ports) words) (after_ports memory.depth (shown instant) ports held)
     writes_left [] held words counted old = old
     writes_left (port ∷ ports) held words counted old =
-        subst (λ l. Contain l (after_ports memory.depth (shown sight) ports (after_port memory.depth held (shown sight port)))) (sym (in_two (port_told net sight m memory) port ports words))
-        (writes_left ports (after_port memory.depth held (shown sight port)) (published (port_told net sight m memory port) words) (length-published (port_told net sight m memory port) words ∙ counted)
+        subst (λ l. Contain l (after_ports memory.depth (shown instant) ports (after_port memory.depth held (shown instant port)))) (sym (in_two (port_told net instant m memory) port ports words))
+        (writes_left ports (after_port memory.depth held (shown instant port)) (published (port_told net instant m memory port) words) (length-published (port_told net instant m memory port) words ∙ counted)
         (port_left port held words counted old))
 
   -- each word of the memory is of a leaf of an element

@@ -4,7 +4,7 @@ ghost use Rattle.std.specs.Prelude.{◌≡◌, ℕ, List, Some, map, length, sli
 ghost use Rattle.bit_words.specs.declared.value.Value.{Value as TheValue};
 ghost use Rattle.phase_core.specs.Script.{published_all};
 ghost use Rattle.ground_net.specs.declared.net.Net.{Net as TheNet};
-ghost use Rattle.net_meaning.specs.Cycles.{NetState, Inputs, Valuation, Settled, sight_of, next};
+ghost use Rattle.net_meaning.specs.Cycles.{NetState, Inputs, Valuation, Settled, instant_of, next};
 ghost use Rattle.net_meaning.specs.Nets.{IsNet, IsWithin};
 ghost use Rattle.net_meaning.specs.Words.{state_words, words_of};
 ghost use Rattle.flat_code.specs.declared.code.Code.{Code as TheCode};
@@ -14,7 +14,7 @@ ghost use Rattle.partition_code.specs.Codes.{AreWords, IsCycle, AreOfOneCut};
 
 /// The words of a state with the publications of all codes of a cut applied are the words of the next state.
 pub fn codes_lead_to_the_next_words()
-    ensures { (codes : List TheCode) (cut : AreOfOneCut codes) (s : NetState) → IsWithin cut.ordered.net s → (inputs : List TheValue) (given : Inputs) → MatchInputs cut.ordered.net inputs given → (rho : Valuation) → Settled cut.ordered.net s given rho → published_all (map (λ code. published_by code (words_of cut.ordered.net s) inputs) codes) (words_of cut.ordered.net s) ≡ words_of cut.ordered.net (next cut.ordered.net s (sight_of cut.ordered.net s rho)) }
+    ensures { (codes : List TheCode) (cut : AreOfOneCut codes) (s : NetState) → IsWithin cut.ordered.net s → (inputs : List TheValue) (given : Inputs) → MatchInputs cut.ordered.net inputs given → (rho : Valuation) → Settled cut.ordered.net s given rho → published_all (map (λ code. published_by code (words_of cut.ordered.net s) inputs) codes) (words_of cut.ordered.net s) ≡ words_of cut.ordered.net (next cut.ordered.net s (instant_of cut.ordered.net s rho)) }
 {}
 
 /// The words of a state are as many as the net counts, and numbers of 64 bits.

@@ -30,7 +30,7 @@ pub(crate) fn publish_captures(
     requires net { IsNet at.net.now }
     requires few { state_words at.net.now < 2 ^ 32 }
     requires memory { HasMemory at.net.now at.sources.now at.number }
-    ensures left { OnOk result ((memory : TheMemory) → slice_get at.entry.net.now.memories at.entry.number ≡ Some memory → PublishesLeft at.entry.net.now at.entry.sources.now (λ st sight. flat_map (λ port. flat_map (capture_left at.entry.net.now at.entry.sources.now st sight at.entry.number) (captured_by at.entry.number memory port port.read)) memory.ports) draft.old draft.new) }
+    ensures left { OnOk result ((memory : TheMemory) → slice_get at.entry.net.now.memories at.entry.number ≡ Some memory → PublishesLeft at.entry.net.now at.entry.sources.now (λ st instant. flat_map (λ port. flat_map (capture_left at.entry.net.now at.entry.sources.now st instant at.entry.number) (captured_by at.entry.number memory port port.read)) memory.ports) draft.old draft.new) }
     ensures evaluates { OnOk result (EvaluatesOnly at.entry.sources.now (IsCaptureGroup at.entry.net.now at.entry.number) draft.old draft.new) }
 {
     for port in 0..memory_of(at).ports.len() {
@@ -45,7 +45,7 @@ fn publish_reads(alloc: Global, draft: &mut Draft, at: PortAt<'_>) -> Result<(),
     requires few { state_words at.memory.net.now < 2 ^ 32 }
     requires memory { HasMemory at.memory.net.now at.memory.sources.now at.memory.number }
     requires there { IsPortAt at.memory.net.now at.memory.number at.port }
-    ensures left { OnOk result ((memory : TheMemory) (port : ThePort) → slice_get at.entry.memory.net.now.memories at.entry.memory.number ≡ Some memory → slice_get memory.ports at.entry.port ≡ Some port → PublishesLeft at.entry.memory.net.now at.entry.memory.sources.now (λ st sight. flat_map (capture_left at.entry.memory.net.now at.entry.memory.sources.now st sight at.entry.memory.number) (captured_by at.entry.memory.number memory port port.read)) draft.old draft.new) }
+    ensures left { OnOk result ((memory : TheMemory) (port : ThePort) → slice_get at.entry.memory.net.now.memories at.entry.memory.number ≡ Some memory → slice_get memory.ports at.entry.port ≡ Some port → PublishesLeft at.entry.memory.net.now at.entry.memory.sources.now (λ st instant. flat_map (capture_left at.entry.memory.net.now at.entry.memory.sources.now st instant at.entry.memory.number) (captured_by at.entry.memory.number memory port port.read)) draft.old draft.new) }
     ensures evaluates { OnOk result (EvaluatesOnly at.entry.memory.sources.now (IsCaptureGroup at.entry.memory.net.now at.entry.memory.number) draft.old draft.new) }
 {
     let Some(read) = &port_of(memory_of(at.memory), at.port).read else {
@@ -71,7 +71,7 @@ fn publish_capture(alloc: Global, draft: &mut Draft, at: PortLeaf<'_>) -> Result
     requires few { state_words at.memory.net.now < 2 ^ 32 }
     requires memory { HasMemory at.memory.net.now at.memory.sources.now at.memory.number }
     requires there { ReadsAt at.memory.net.now at.memory.number at.port at.leaf }
-    ensures left { OnOk result ((memory : TheMemory) (port : ThePort) (read : TheRead) (shown : ℕ) → slice_get at.entry.memory.net.now.memories at.entry.memory.number ≡ Some memory → slice_get memory.ports at.entry.port ≡ Some port → port.read ≡ Some read → slice_get read.leaves at.entry.leaf ≡ Some shown → PublishesLeft at.entry.memory.net.now at.entry.memory.sources.now (λ st sight. capture_left at.entry.memory.net.now at.entry.memory.sources.now st sight at.entry.memory.number (capture_of at.entry.memory.number memory port read (at.entry.leaf, shown))) draft.old draft.new) }
+    ensures left { OnOk result ((memory : TheMemory) (port : ThePort) (read : TheRead) (shown : ℕ) → slice_get at.entry.memory.net.now.memories at.entry.memory.number ≡ Some memory → slice_get memory.ports at.entry.port ≡ Some port → port.read ≡ Some read → slice_get read.leaves at.entry.leaf ≡ Some shown → PublishesLeft at.entry.memory.net.now at.entry.memory.sources.now (λ st instant. capture_left at.entry.memory.net.now at.entry.memory.sources.now st instant at.entry.memory.number (capture_of at.entry.memory.number memory port read (at.entry.leaf, shown))) draft.old draft.new) }
     ensures evaluates { OnOk result (EvaluatesOnly at.entry.memory.sources.now (IsCaptureGroup at.entry.memory.net.now at.entry.memory.number) draft.old draft.new) }
 {
     let memory = memory_of(at.memory);
@@ -93,8 +93,8 @@ fn publish_capture(alloc: Global, draft: &mut Draft, at: PortLeaf<'_>) -> Result
     };
     let word = word_of(at.memory.sources, *shown);
     let next = captured_ground(alloc, memory, port, of, read.after)?;
-    let spot = emit(alloc, draft, at.memory.sources, &next)?;
-    publish(draft, spot, word)
+    let location = emit(alloc, draft, at.memory.sources, &next)?;
+    publish(draft, location, word)
 }
 
 /// The word from which on a leaf stands.

@@ -51,9 +51,9 @@ goes_one a b outer kept n s = record {
   ends = refl;
 }
 
-is_piece : (spots : ℕ → List ℕ) (earlier read : List ℕ) (count : ℕ) (a b : Draft) (outer kept : List ℕ) (n : ℕ) (s : Segment a b outer kept n) → ((k : ℕ) → among outer k ≡ true → StandsIn spots earlier read k)
-    → n ≤ 2 * count → (ports : List Port) (wides : List Wide) → GoesOn b ports wides → IsPiece ports wides spots earlier read kept count (piece_of a b outer kept n s)
-is_piece spots earlier read count a b outer kept n s outside le ports wides on =
+is_piece : (locations : ℕ → List ℕ) (earlier read : List ℕ) (count : ℕ) (a b : Draft) (outer kept : List ℕ) (n : ℕ) (s : Segment a b outer kept n) → ((k : ℕ) → among outer k ≡ true → StandsIn locations earlier read k)
+    → n ≤ 2 * count → (ports : List Port) (wides : List Wide) → GoesOn b ports wides → IsPiece ports wides locations earlier read kept count (piece_of a b outer kept n s)
+is_piece locations earlier read count a b outer kept n s outside le ports wides on =
     record { outer = outer; outside = outside; there = s.there; most = n; few = le; stretch = s.each ports wides on }
 
 -- Pieces that keep nothing
@@ -65,11 +65,11 @@ only_one q p (suc k, lt, e) = absurd (omega (arith, lt))
 none_there : (p : Piece) → Contains [] p → ⊥
 none_there p c = omega (arith, c.1)
 
-module _ (spots : ℕ → List ℕ) (earlier read counts : List ℕ) where
-  pub adds_not : (d : Draft) → AddsPieces spots earlier read counts d d
+module _ (locations : ℕ → List ℕ) (earlier read counts : List ℕ) where
+  pub adds_not : (d : Draft) → AddsPieces locations earlier read counts d d
   adds_not d = record { pieces = []; goes = goes_not d; each = λ ports wides on p c. absurd (none_there p c) }
 
-  pub adds_then : (a b c : Draft) → AddsPieces spots earlier read counts a b → AddsPieces spots earlier read counts b c → AddsPieces spots earlier read counts a c
+  pub adds_then : (a b c : Draft) → AddsPieces locations earlier read counts a b → AddsPieces locations earlier read counts b c → AddsPieces locations earlier read counts a c
   adds_then a b c f g = record {
     pieces = f.pieces ++ g.pieces;
     goes = goes_further a b c f.pieces g.pieces f.goes g.goes;
@@ -79,21 +79,21 @@ module _ (spots : ℕ → List ℕ) (earlier read counts : List ℕ) where
         (Contains-append_cases f.pieces g.pieces p there);
   }
 
-  pub adds_segment : (outer : List ℕ) (count n : ℕ) (a b : Draft) → Contains counts count → Segment a b outer [] n → ((k : ℕ) → among outer k ≡ true → StandsIn spots earlier read k) → n ≤ 2 * count
-      → AddsPieces spots earlier read counts a b
+  pub adds_segment : (outer : List ℕ) (count n : ℕ) (a b : Draft) → Contains counts count → Segment a b outer [] n → ((k : ℕ) → among outer k ≡ true → StandsIn locations earlier read k) → n ≤ 2 * count
+      → AddsPieces locations earlier read counts a b
   adds_segment outer count n a b counted s outside le = record {
     pieces = piece_of a b outer [] n s ∷ [];
     goes = goes_one a b outer [] n s;
     each = λ ports wides on p c. record {
       count = count;
       counted = counted;
-      piece = subst (IsPiece ports wides spots earlier read [] count) (only_one (piece_of a b outer [] n s) p c) (is_piece spots earlier read count a b outer [] n s outside le ports wides on);
+      piece = subst (IsPiece ports wides locations earlier read [] count) (only_one (piece_of a b outer [] n s) p c) (is_piece locations earlier read count a b outer [] n s outside le ports wides on);
     };
   }
 
   -- more may be read, and have more numbers of nodes
-  pub adds_so : (all more_counts : List ℕ) (a b : Draft) → ((x : ℕ) → Contains read x → Contains all x) → ((n : ℕ) → Contains counts n → Contains more_counts n) → AddsPieces spots earlier read counts a b
-      → AddsPieces spots earlier all more_counts a b
+  pub adds_so : (all more_counts : List ℕ) (a b : Draft) → ((x : ℕ) → Contains read x → Contains all x) → ((n : ℕ) → Contains counts n → Contains more_counts n) → AddsPieces locations earlier read counts a b
+      → AddsPieces locations earlier all more_counts a b
   adds_so all more_counts a b f g adds = record {
     pieces = adds.pieces;
     goes = adds.goes;
@@ -102,7 +102,7 @@ module _ (spots : ℕ → List ℕ) (earlier read counts : List ℕ) where
         record { count = it.count; counted = g it.count it.counted; piece = read_more it.count ports wides p it.piece };
   }
     where
-      read_more : (count : ℕ) (ports : List Port) (wides : List Wide) (p : Piece) → IsPiece ports wides spots earlier read [] count p → IsPiece ports wides spots earlier all [] count p
+      read_more : (count : ℕ) (ports : List Port) (wides : List Wide) (p : Piece) → IsPiece ports wides locations earlier read [] count p → IsPiece ports wides locations earlier all [] count p
       read_more count ports wides p it = record {
         outer = it.outer;
         outside = λ k o. let s = it.outside k o in record { leaf = s.leaf; before = s.before; wanted = f s.leaf s.wanted; there = s.there };
@@ -114,9 +114,9 @@ module _ (spots : ℕ → List ℕ) (earlier read counts : List ℕ) where
 
 -- Pieces of leaves in turn
 
-module _ (ports : List Port) (wides : List Wide) (spots reads : ℕ → List ℕ) (counts : ℕ → ℕ) where
+module _ (ports : List Port) (wides : List Wide) (locations reads : ℕ → List ℕ) (counts : ℕ → ℕ) where
   abbrev Assigns : List ℕ → ℕ → Piece → Type 0
-  Assigns earlier x p = IsPiece ports wides spots earlier (reads x) (spots x) (counts x) p
+  Assigns earlier x p = IsPiece ports wides locations earlier (reads x) (locations x) (counts x) p
 
   push_at : (x : ℕ) (p : Piece) (done leaves : List ℕ) (pieces : List Piece) → length pieces ≡ length leaves
       → ((k y : ℕ) (q : Piece) → slice_get leaves k ≡ Some y → slice_get pieces k ≡ Some q → Assigns (done ++ take k leaves) y q)
@@ -135,7 +135,7 @@ module _ (ports : List Port) (wides : List Wide) (spots reads : ℕ → List ℕ
       k y q at there)
 
   -- in other slots, where those of these leaves are the same
-  same_piece : (others : ℕ → List ℕ) (leaves : List ℕ) (x : ℕ) (p : Piece) → ((y : ℕ) → Contains leaves y → others y ≡ spots y) → others x ≡ spots x → Assigns leaves x p
+  same_piece : (others : ℕ → List ℕ) (leaves : List ℕ) (x : ℕ) (p : Piece) → ((y : ℕ) → Contains leaves y → others y ≡ locations y) → others x ≡ locations x → Assigns leaves x p
       → IsPiece ports wides others leaves (reads x) (others x) (counts x) p
   same_piece others leaves x p same here it = record {
     outer = it.outer;
@@ -155,30 +155,30 @@ contains_take [] (suc k) y c = c
 contains_take (x ∷ xs) (suc k) y (zero, lt, e) = (zero, omega arith, e)
 contains_take (x ∷ xs) (suc k) y (suc j, lt, e) = let later = contains_take xs k y (j, omega (arith, lt), e) in (suc later.0, omega (arith, later.1), later.2)
 
-module _ (spots reads : ℕ → List ℕ) (counts : ℕ → ℕ) where
-  pub assigns_not : (d : Draft) → AssignsPieces spots reads counts [] d d
+module _ (locations reads : ℕ → List ℕ) (counts : ℕ → ℕ) where
+  pub assigns_not : (d : Draft) → AssignsPieces locations reads counts [] d d
   assigns_not d = record { pieces = []; goes = goes_not d; counted = refl; each = λ ports wides on k x p at there. absurd (none_some at) }
 
-  pub assigns_push : (leaves outer : List ℕ) (x n : ℕ) (a b c : Draft) → AssignsPieces spots reads counts leaves a b → Segment b c outer (spots x) n → ((k : ℕ) → among outer k ≡ true → StandsIn spots leaves (reads x) k)
-      → n ≤ 2 * counts x → AssignsPieces spots reads counts (leaves ++ x ∷ []) a c
+  pub assigns_push : (leaves outer : List ℕ) (x n : ℕ) (a b c : Draft) → AssignsPieces locations reads counts leaves a b → Segment b c outer (locations x) n → ((k : ℕ) → among outer k ≡ true → StandsIn locations leaves (reads x) k)
+      → n ≤ 2 * counts x → AssignsPieces locations reads counts (leaves ++ x ∷ []) a c
   assigns_push leaves outer x n a b c f s outside le =
-      let p = piece_of b c outer (spots x) n s in
+      let p = piece_of b c outer (locations x) n s in
       let counted = f.counted in
       let one = length-append f.pieces (p ∷ []) in
       let more = length-append leaves (x ∷ []) in
       record {
         pieces = f.pieces ++ p ∷ [];
-        goes = goes_further a b c f.pieces (p ∷ []) f.goes (goes_one b c outer (spots x) n s);
+        goes = goes_further a b c f.pieces (p ∷ []) f.goes (goes_one b c outer (locations x) n s);
         counted = omega (arith, counted, one, more);
-        each = λ ports wides on. push_at ports wides spots reads counts x p [] leaves f.pieces f.counted
+        each = λ ports wides on. push_at ports wides locations reads counts x p [] leaves f.pieces f.counted
             (f.each ports wides (goes_then b c ports wides s.tables on))
-            (is_piece spots leaves (reads x) (counts x) b c outer (spots x) n s outside le ports wides on);
+            (is_piece locations leaves (reads x) (counts x) b c outer (locations x) n s outside le ports wides on);
       }
 
-  pub assigns_same : (others : ℕ → List ℕ) (leaves : List ℕ) (a b : Draft) → AssignsPieces spots reads counts leaves a b → ((y : ℕ) → Contains leaves y → others y ≡ spots y) → AssignsPieces others reads counts leaves a b
+  pub assigns_same : (others : ℕ → List ℕ) (leaves : List ℕ) (a b : Draft) → AssignsPieces locations reads counts leaves a b → ((y : ℕ) → Contains leaves y → others y ≡ locations y) → AssignsPieces others reads counts leaves a b
   assigns_same others leaves a b f same = record {
     pieces = f.pieces;
     goes = f.goes;
     counted = f.counted;
-    each = λ ports wides on k x p at there. same_piece ports wides spots reads counts others (take k leaves) x p (λ y c. same y (contains_take leaves k y c)) (same x (contains_at leaves k x at)) (f.each ports wides on k x p at there);
+    each = λ ports wides on k x p at there. same_piece ports wides locations reads counts others (take k leaves) x p (λ y c. same y (contains_take leaves k y c)) (same x (contains_at leaves k x at)) (f.each ports wides on k x p at there);
   }

@@ -27,17 +27,17 @@ end_of from [] = from
 end_of from (p ∷ further) = end_of p.last further
 
 -- A slot in which the value of an earlier leaf stands that may be read.
-pub record StandsIn (spots : ℕ → List ℕ) (earlier read : List ℕ) (k : ℕ) : Type 0 where
+pub record StandsIn (locations : ℕ → List ℕ) (earlier read : List ℕ) (k : ℕ) : Type 0 where
   pub leaf : ℕ
   pub before : Contains earlier leaf
   pub wanted : Contains read leaf
-  pub there : among (spots leaf) k ≡ true
+  pub there : among (locations leaf) k ≡ true
 
 -- A piece reads the slots of those earlier leaves that it may read. What is kept of it stands in own slots, or in such ones. Of its own slots two for
 -- each of so many nodes suffice, where behind it only what is kept is read.
-pub record IsPiece (ports : List Port) (wides : List Wide) (spots : ℕ → List ℕ) (earlier read kept : List ℕ) (count : ℕ) (p : Piece) : Type 0 where
+pub record IsPiece (ports : List Port) (wides : List Wide) (locations : ℕ → List ℕ) (earlier read kept : List ℕ) (count : ℕ) (p : Piece) : Type 0 where
   pub outer : List ℕ
-  pub outside : (k : ℕ) → among outer k ≡ true → StandsIn spots earlier read k
+  pub outside : (k : ℕ) → among outer k ≡ true → StandsIn locations earlier read k
   pub there : (k : ℕ) → among kept k ≡ true → ((p.first ≤ k) × (k < p.last)) ⊎ (among outer k ≡ true)
   pub most : ℕ
   pub few : most ≤ 2 * count
@@ -51,24 +51,24 @@ pub record GoesBy (old new : Draft) (pieces : List Piece) : Type 0 where
   pub ends : end_of old.slots pieces ≡ new.slots
 
 -- A piece with one of these numbers of nodes, which keeps nothing.
-pub record IsAside (ports : List Port) (wides : List Wide) (spots : ℕ → List ℕ) (earlier read counts : List ℕ) (p : Piece) : Type 0 where
+pub record IsAside (ports : List Port) (wides : List Wide) (locations : ℕ → List ℕ) (earlier read counts : List ℕ) (p : Piece) : Type 0 where
   pub count : ℕ
   pub counted : Contains counts count
-  pub piece : IsPiece ports wides spots earlier read [] count p
+  pub piece : IsPiece ports wides locations earlier read [] count p
 
 -- Code that goes on by such pieces, whatever comes into the tables behind.
-pub record AddsPieces (spots : ℕ → List ℕ) (earlier read counts : List ℕ) (old new : Draft) : Type 0 where
+pub record AddsPieces (locations : ℕ → List ℕ) (earlier read counts : List ℕ) (old new : Draft) : Type 0 where
   pub pieces : List Piece
   pub goes : GoesBy old new pieces
-  pub each : (ports : List Port) (wides : List Wide) → GoesOn new ports wides → (p : Piece) → Contains pieces p → IsAside ports wides spots earlier read counts p
+  pub each : (ports : List Port) (wides : List Wide) → GoesOn new ports wides → (p : Piece) → Contains pieces p → IsAside ports wides locations earlier read counts p
 
 -- Code that goes on by a piece for each leaf in turn: it reads the slots of some of the leaves before it, and keeps the leaf's.
-pub record AssignsPieces (spots reads : ℕ → List ℕ) (counts : ℕ → ℕ) (leaves : List ℕ) (old new : Draft) : Type 0 where
+pub record AssignsPieces (locations reads : ℕ → List ℕ) (counts : ℕ → ℕ) (leaves : List ℕ) (old new : Draft) : Type 0 where
   pub pieces : List Piece
   pub goes : GoesBy old new pieces
   pub counted : length pieces ≡ length leaves
   pub each : (ports : List Port) (wides : List Wide) → GoesOn new ports wides → (k x : ℕ) (p : Piece) → slice_get leaves k ≡ Some x → slice_get pieces k ≡ Some p
-      → IsPiece ports wides spots (take k leaves) (reads x) (spots x) (counts x) p
+      → IsPiece ports wides locations (take k leaves) (reads x) (locations x) (counts x) p
 
 -- An instruction that writes nothing, and reads no other slots than these.
 pub record IsReader (ports : List Port) (wides : List Wide) (slots : List ℕ) (i : Instr) : Type 0 where

@@ -9,10 +9,10 @@ use Rattle.flat_code.specs.declared.instr.Op.{Op}
 use Rattle.flat_code.specs.declared.instr.Op.TheVariants as op
 use Rattle.flat_code.specs.declared.instr.Instr.{Instr}
 use Rattle.flat_code.specs.declared.instr.Port.{Port}
-use Rattle.flat_code.specs.declared.instr.Spot.{Spot}
+use Rattle.flat_code.specs.declared.instr.Location.{Location}
 use Rattle.flat_code.specs.declared.instr.Wide.{Wide}
 use Rattle.flat_code.specs.Meaning.{pushed, pushed_on, at_some_port}
-use Rattle.flat_code.specs.Fine.{FineOn, IsFine, AreFine, IsPort, Known, nothing, more, among, AreKnown, reads_on, writes_on, writes_of, port_reads, spot_slots, slots_of}
+use Rattle.flat_code.specs.Fine.{FineOn, IsFine, AreFine, IsPort, Known, nothing, more, among, AreKnown, reads_on, writes_on, writes_of, port_reads, location_slots, slots_of}
 use Rattle.flat_code.specs.Orders.{Solves, Single, AreNew, pushed_all}
 use Rattle.flat_code.proofs.Frames.{fine_more}
 use Rattle.code_draft.specs.declared.draft.Draft.{Draft}
@@ -77,11 +77,11 @@ grows_port d p is h =
       quiet = λ F. all_longer d.ports longer d.wides d.slots d.words w same d.instrs F is.fine;
     }
 
-slots_known : (d : Draft) (ss : List Spot) → All (Stands d) ss → AreKnown (written_in d) (slots_of ss)
+slots_known : (d : Draft) (ss : List Location) → All (Stands d) ss → AreKnown (written_in d) (slots_of ss)
 slots_known d [] a = λ k x lt. absurd (omega (arith, lt))
-slots_known d (s ∷ ss) a = All-append (λ k. written_in d k ≡ true) (spot_slots s) (slots_of ss) ((a 0 s (omega arith)).written) (slots_known d ss (λ k x lt. a (suc k) x (omega (arith, lt))))
+slots_known d (s ∷ ss) a = All-append (λ k. written_in d k ≡ true) (location_slots s) (slots_of ss) ((a 0 s (omega arith)).written) (slots_known d ss (λ k x lt. a (suc k) x (omega (arith, lt))))
 
-all_cons : (d : Draft) (s : Spot) (ss : List Spot) → Stands d s → All (Stands d) ss → All (Stands d) (s ∷ ss)
+all_cons : (d : Draft) (s : Location) (ss : List Location) → Stands d s → All (Stands d) ss → All (Stands d) (s ∷ ss)
 all_cons d s ss h a zero x lt = h
 all_cons d s ss h a (suc k) x lt = a k x (omega (arith, lt))
 

@@ -10,9 +10,9 @@ use Rattle.net_meaning.specs.Shapes.{Shape}
 use Rattle.flat_code.specs.declared.instr.Op.TheVariants as op
 use Rattle.flat_code.specs.declared.instr.Instr.{Instr}
 use Rattle.flat_code.specs.declared.instr.Port.{Port}
-use Rattle.flat_code.specs.declared.instr.Spot.{Spot}
+use Rattle.flat_code.specs.declared.instr.Location.{Location}
 use Rattle.flat_code.specs.Meaning.{pushed, pushed_on}
-use Rattle.flat_code.specs.Fine.{FineOn, IsFine, AreKnown, nothing, reads_on, writes_on, writes_of, spot_slots, further_words, among}
+use Rattle.flat_code.specs.Fine.{FineOn, IsFine, AreKnown, nothing, reads_on, writes_on, writes_of, location_slots, further_words, among}
 use Rattle.flat_code.specs.Orders.{Solves, AreNew, pushed_all}
 use Rattle.code_draft.specs.declared.draft.Draft.{Draft}
 use Rattle.code_draft.specs.Drafts.{IsDraft, Solved, written_in, pushed_in, with_instr}
@@ -52,10 +52,10 @@ loud d i is e slot there word =
     }
 
 -- a value of one word
-pub tells_one : (d : Draft) (s : Spot) (i : Instr) (word : ℕ) → s.width ≤ 64 → i.op ≡ op.Publish → i.first ≡ s.low → i.second ≡ word → Publishes d (with_instr d i) word s
+pub tells_one : (d : Draft) (s : Location) (i : Instr) (word : ℕ) → s.width ≤ 64 → i.op ≡ op.Publish → i.first ≡ s.low → i.second ≡ word → Publishes d (with_instr d i) word s
 tells_one d s i word few e first second is there room =
     let narrow = le-ltb 64 s.width few in
-    let slots : spot_slots s ≡ s.low ∷ [] = ap (λ b. if b then s.low ∷ s.high ∷ [] else s.low ∷ []) narrow in
+    let slots : location_slots s ≡ s.low ∷ [] = ap (λ b. if b then s.low ∷ s.high ∷ [] else s.low ∷ []) narrow in
     let known : written_in d s.low ≡ true = subst (AreKnown (written_in d)) slots there.written 0 0 (omega arith) in
     let below = there.within.low in
     let l = loud d i is e (omega (arith, first, below)) (ap (written_in d) first ∙ known) (omega (arith, second, room)) in
@@ -73,12 +73,12 @@ tells_one d s i word few e first second is there room =
     }
 
 -- a value of two words
-pub tells_two : (d : Draft) (s : Spot) (i j : Instr) (word : ℕ) → 64 < s.width → i.op ≡ op.Publish → j.op ≡ op.Publish → i.first ≡ s.low → j.first ≡ s.high → i.second ≡ word → j.second ≡ word + 1
+pub tells_two : (d : Draft) (s : Location) (i j : Instr) (word : ℕ) → 64 < s.width → i.op ≡ op.Publish → j.op ≡ op.Publish → i.first ≡ s.low → j.first ≡ s.high → i.second ≡ word → j.second ≡ word + 1
     → Publishes d (with_instr (with_instr d i) j) word s
 tells_two d s i j word many e f first next second third is there room =
     let wide = lt-ltb 64 s.width many in
     let one : further_words s.width ≡ 1 = ap (λ b. if b then 1 else 0) wide in
-    let slots : spot_slots s ≡ s.low ∷ s.high ∷ [] = ap (λ b. if b then s.low ∷ s.high ∷ [] else s.low ∷ []) wide in
+    let slots : location_slots s ≡ s.low ∷ s.high ∷ [] = ap (λ b. if b then s.low ∷ s.high ∷ [] else s.low ∷ []) wide in
     let known = subst (AreKnown (written_in d)) slots there.written in
     let low : written_in d s.low ≡ true = known 0 0 (omega arith) in
     let high : written_in d s.high ≡ true = known 1 0 (omega arith) in

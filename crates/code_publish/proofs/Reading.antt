@@ -5,9 +5,9 @@ use Rattle.std.proofs.lemmas.List.Elements.{All-cons, All-nil}
 use Rattle.flat_code.specs.declared.instr.Op.TheVariants as op
 use Rattle.flat_code.specs.declared.instr.Instr.{Instr}
 use Rattle.flat_code.specs.declared.instr.Port.{Port}
-use Rattle.flat_code.specs.declared.instr.Spot.{Spot}
+use Rattle.flat_code.specs.declared.instr.Location.{Location}
 use Rattle.flat_code.specs.declared.instr.Wide.{Wide}
-use Rattle.flat_code.specs.Fine.{among, nothing, reads_on, reads_of, writes_on, writes_of, spot_slots}
+use Rattle.flat_code.specs.Fine.{among, nothing, reads_on, reads_of, writes_on, writes_of, location_slots}
 use Rattle.code_draft.specs.declared.draft.Draft.{Draft}
 use Rattle.code_draft.specs.Drafts.{with_instr}
 use Rattle.code_draft.specs.Segments.{GoesOn, Segment}
@@ -46,27 +46,27 @@ publish_silent outer i e at = record {
   writes = λ wides. ap (λ o. writes_on o wides i) e;
 }
 
-low_there : (s : Spot) → among (spot_slots s) s.low ≡ true
+low_there : (s : Location) → among (location_slots s) s.low ≡ true
 low_there s = by_width (nat_lt 64 s.width)
   where
     by_width : (b : Bool) → among (if b then s.low ∷ s.high ∷ [] else s.low ∷ []) s.low ≡ true
     by_width true = among_first s.low (s.high ∷ [])
     by_width false = among_first s.low []
 
-high_there : (s : Spot) → 64 < s.width → among (spot_slots s) s.high ≡ true
+high_there : (s : Location) → 64 < s.width → among (location_slots s) s.high ≡ true
 high_there s many = ap (λ b. among (if b then s.low ∷ s.high ∷ [] else s.low ∷ []) s.high) (lt-ltb 64 s.width many) ∙ among_second s.low s.high
 
 -- one word, and two
-pub one_published : (d new : Draft) (s : Spot) (i : Instr) → new ≡ with_instr d i → i.op ≡ op.Publish → i.first ≡ s.low → Segment d new (spot_slots s) [] 0
+pub one_published : (d new : Draft) (s : Location) (i : Instr) → new ≡ with_instr d i → i.op ≡ op.Publish → i.first ≡ s.low → Segment d new (location_slots s) [] 0
 one_published d new s i code e first =
-    subst (λ x. Segment d x (spot_slots s) [] 0) (sym code)
-    (silent_segment d (with_instr d i) (spot_slots s) (i ∷ []) refl (goes_same d) (omega arith)
-    (All-cons (Silent (spot_slots s)) i [] (publish_silent (spot_slots s) i e (ap (among (spot_slots s)) first ∙ low_there s)) (All-nil (Silent (spot_slots s)))))
+    subst (λ x. Segment d x (location_slots s) [] 0) (sym code)
+    (silent_segment d (with_instr d i) (location_slots s) (i ∷ []) refl (goes_same d) (omega arith)
+    (All-cons (Silent (location_slots s)) i [] (publish_silent (location_slots s) i e (ap (among (location_slots s)) first ∙ low_there s)) (All-nil (Silent (location_slots s)))))
 
-pub two_published : (d new : Draft) (s : Spot) (i j : Instr) → 64 < s.width → new ≡ with_instr (with_instr d i) j → i.op ≡ op.Publish → j.op ≡ op.Publish → i.first ≡ s.low → j.first ≡ s.high
-    → Segment d new (spot_slots s) [] 0
+pub two_published : (d new : Draft) (s : Location) (i j : Instr) → 64 < s.width → new ≡ with_instr (with_instr d i) j → i.op ≡ op.Publish → j.op ≡ op.Publish → i.first ≡ s.low → j.first ≡ s.high
+    → Segment d new (location_slots s) [] 0
 two_published d new s i j many code e f first next =
-    subst (λ x. Segment d x (spot_slots s) [] 0) (sym code)
-    (silent_segment d (with_instr (with_instr d i) j) (spot_slots s) (i ∷ j ∷ []) (append_assoc d.instrs (i ∷ []) (j ∷ [])) (goes_same d) (omega arith)
-    (All-cons (Silent (spot_slots s)) i (j ∷ []) (publish_silent (spot_slots s) i e (ap (among (spot_slots s)) first ∙ low_there s))
-    (All-cons (Silent (spot_slots s)) j [] (publish_silent (spot_slots s) j f (ap (among (spot_slots s)) next ∙ high_there s many)) (All-nil (Silent (spot_slots s))))))
+    subst (λ x. Segment d x (location_slots s) [] 0) (sym code)
+    (silent_segment d (with_instr (with_instr d i) j) (location_slots s) (i ∷ j ∷ []) (append_assoc d.instrs (i ∷ []) (j ∷ [])) (goes_same d) (omega arith)
+    (All-cons (Silent (location_slots s)) i (j ∷ []) (publish_silent (location_slots s) i e (ap (among (location_slots s)) first ∙ low_there s))
+    (All-cons (Silent (location_slots s)) j [] (publish_silent (location_slots s) j f (ap (among (location_slots s)) next ∙ high_there s many)) (All-nil (Silent (location_slots s))))))

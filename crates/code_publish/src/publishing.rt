@@ -1,28 +1,28 @@
 //! Publishing.
 
 ghost use Rattle.std.specs.Prelude.{◌≡◌, [], OnOk};
-ghost use Rattle.flat_code.specs.Fine.{spot_slots};
+ghost use Rattle.flat_code.specs.Fine.{location_slots};
 ghost use Rattle.flat_code.specs.declared.instr.Op.TheVariants.{Publish};
 ghost use Rattle.code_draft.specs.Segments.{Segment};
 ghost use Rattle.code_publish.specs.Publishing.{Publishes};
 
 use code_draft::{Draft, add_instr, instr_of};
-use flat_code::{Instr, Op, Spot};
+use flat_code::{Instr, Op, Location};
 use std::alloc::AllocError;
 
-/// Publishes the words of the value at a spot from this shared word on, the low one first.
-pub fn publish(draft: &mut Draft, spot: Spot, word: u32) -> Result<(), AllocError>
-    ensures publishes { OnOk result (Publishes draft.old draft.new word spot) }
-    ensures segment { OnOk result (Segment draft.old draft.new (spot_slots spot) [] 0) }
+/// Publishes the words of the value at a location from this shared word on, the low one first.
+pub fn publish(draft: &mut Draft, location: Location, word: u32) -> Result<(), AllocError>
+    ensures publishes { OnOk result (Publishes draft.old draft.new word location) }
+    ensures segment { OnOk result (Segment draft.old draft.new (location_slots location) [] 0) }
 {
-    let low = publication(spot.low, word);
-    if spot.width <= 64 {
+    let low = publication(location.low, word);
+    if location.width <= 64 {
         return add_instr(draft, low);
     }
     let Some(next) = word.checked_add(1) else {
         return Err(AllocError);
     };
-    let high = publication(spot.high, next);
+    let high = publication(location.high, next);
     add_instr(draft, low)?;
     add_instr(draft, high)
 }

@@ -8,8 +8,8 @@ use Rattle.ground_net.specs.declared.net.Net.{Net}
 use Rattle.ground_net.specs.declared.net.NetRegister.{NetRegister}
 use Rattle.ground_net.specs.Reads.{driver_of}
 use Rattle.next_grounds.specs.Nexts.{next_ground}
-use Rattle.flat_code.specs.declared.instr.Spot.{Spot}
-use Rattle.flat_code.specs.Fine.{spot_slots}
+use Rattle.flat_code.specs.declared.instr.Location.{Location}
+use Rattle.flat_code.specs.Fine.{location_slots}
 use Rattle.code_draft.specs.declared.draft.Draft.{Draft}
 use Rattle.code_draft.specs.Segments.{Segment}
 use Rattle.code_emit.specs.declared.sources.Sources.{Sources}
@@ -20,8 +20,8 @@ use Rattle.code_emit.proofs.Counting.{tips-Mux, tips_few, tips_some}
 use Rattle.code_emit.proofs.Spanning.{found_later, one_told, evaluates_then, evaluated_slots, none_evaluated, more_evaluated}
 use Rattle.code_registers.specs.Groups.{found_groups, register_groups, EvaluatesOnly}
 
-pub register_evaluated : (net : Net) (S : Sources) (n : ℕ) (register : NetRegister) (g : Ground) (old mid new : Draft) (s : Spot) → slice_get net.registers n ≡ Some register
-    → g ≡ next_ground register (driver_of net register.leaf) → Spans S g old mid s → Segment mid new (spot_slots s) [] 0 → EvaluatesAll S (register_groups net n) old new
+pub register_evaluated : (net : Net) (S : Sources) (n : ℕ) (register : NetRegister) (g : Ground) (old mid new : Draft) (s : Location) → slice_get net.registers n ≡ Some register
+    → g ≡ next_ground register (driver_of net register.leaf) → Spans S g old mid s → Segment mid new (location_slots s) [] 0 → EvaluatesAll S (register_groups net n) old new
 register_evaluated net S n register g old mid new s there same spans told =
     subst (λ gs. EvaluatesAll S gs old new) (ap (λ h. (h ∷ []) ∷ []) same ∙ sym (ap (found_groups net) there)) (one_told S g old mid new s spans told)
 

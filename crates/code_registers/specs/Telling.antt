@@ -8,7 +8,7 @@ use Rattle.ground_net.specs.declared.net.Net.{Net}
 use Rattle.ground_net.specs.declared.net.NetRegister.{NetRegister}
 use Rattle.ground_net.specs.declared.net.NetMemory.{NetMemory}
 use Rattle.ground_net.specs.declared.net.ElementLeaf.{ElementLeaf}
-use Rattle.ground_net.specs.Grounds.{Sight}
+use Rattle.ground_net.specs.Grounds.{Instant}
 use Rattle.ground_net.specs.Reads.{driver_of}
 use Rattle.ground_net.specs.Cones.{Sink}
 use Rattle.net_meaning.specs.Shapes.{shape}
@@ -24,18 +24,18 @@ use Rattle.code_emit.specs.Emits.{sources_table, Sees, AreSources}
 abbrev pub contents_at : Held ℕ → ℕ → ℕ → ℕ → ℤ
 contents_at held depth k a = if nat_lt a depth then held a k else pos 0
 
--- A sight shows a state: the leaf of a register shows what the register holds, and a leaf of a memory, at an address, what the element
+-- An instant shows a state: the leaf of a register shows what the register holds, and a leaf of a memory, at an address, what the element
 -- holds, and 0 past the depth. (The leaves of captured reads aren't asked: what they show next is no matter of what they show.)
-pub record ShowsState (net : Net) (st : NetState) (sight : Sight) : Type 0 where
-  pub registers : (n : ℕ) (register : NetRegister) → slice_get net.registers n ≡ Some register → integer_of (sight.leaf register.leaf) ≡ st.registers n
+pub record ShowsState (net : Net) (st : NetState) (instant : Instant) : Type 0 where
+  pub registers : (n : ℕ) (register : NetRegister) → slice_get net.registers n ≡ Some register → integer_of (instant.leaf register.leaf) ≡ st.registers n
   pub contents : (m k : ℕ) (memory : NetMemory) (leaf : ElementLeaf) (address : Value) → slice_get net.memories m ≡ Some memory → slice_get memory.elements k ≡ Some leaf
-      → integer_of (sight.load m k address) ≡ contents_at (st.contents m) memory.depth k (unsigned_abs (integer_of address))
+      → integer_of (instant.load m k address) ≡ contents_at (st.contents m) memory.depth k (unsigned_abs (integer_of address))
 
 -- What a cycle leaves, of the state that it begins with and of what is seen in it.
 abbrev pub Left : Type 0
-Left = NetState → Sight → List Publication
+Left = NetState → Instant → List Publication
 
--- Code that goes on from other code, and publishes besides what a cycle leaves, at every sight that the sources show and that shows
+-- Code that goes on from other code, and publishes besides what a cycle leaves, at every instant that the sources show and that shows
 -- the cycle's state.
 pub record TellsLeft (net : Net) (S : Sources) (left : Left) (old new : Draft) : Type 0 where
   pub is : IsDraft new
@@ -44,12 +44,12 @@ pub record TellsLeft (net : Net) (S : Sources) (left : Left) (old new : Draft) :
   pub slots : old.slots ≤ new.slots
   pub stays : (k : ℕ) → written_in old k ≡ true → written_in new k ≡ true
   pub back : (words : List ℕ) (inputs : List Value) (F : List ℕ) → Solved new words inputs F → Solved old words inputs F
-  pub tells : (words : List ℕ) (inputs : List Value) (F : List ℕ) (sight : Sight) (st : NetState) → Solved new words inputs F → Sees S words inputs F sight → ShowsState net st sight
-      → pushed_in new F ≡ pushed_in old F ++ left st sight
+  pub tells : (words : List ℕ) (inputs : List Value) (F : List ℕ) (instant : Instant) (st : NetState) → Solved new words inputs F → Sees S words inputs F instant → ShowsState net st instant
+      → pushed_in new F ≡ pushed_in old F ++ left st instant
 
 -- what it publishes besides is what these sinks leave, in order
 abbrev pub TellsSinks : Net → Sources → List Sink → Draft → Draft → Type 0
-TellsSinks net S these old new = TellsLeft net S (λ st sight. sinks_told net st sight these) old new
+TellsSinks net S these old new = TellsLeft net S (λ st instant. sinks_told net st instant these) old new
 
 -- the words of these sinks are among the shared words
 abbrev pub HaveWords : Net → ℕ → List Sink → Type 0

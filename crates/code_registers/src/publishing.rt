@@ -51,6 +51,6 @@ fn publish_register(
         unreachable!();
     };
     let next = next_ground(alloc, net, register)?;
-    let spot = emit(alloc, draft, sources, &next)?;
-    publish(draft, spot, word)
+    let location = emit(alloc, draft, sources, &next)?;
+    publish(draft, location, word)
 }

@@ -4,8 +4,8 @@ use Rattle.std.specs.Prelude.{Contains}
 use Rattle.std.proofs.lemmas.List.Elements.{Contains-append_left, Contains-append_right}
 use Rattle.std.proofs.lemmas.Bool.{cases_eq}
 use Rattle.ground_net.specs.declared.ground.Ground.{Ground}
-use Rattle.flat_code.specs.declared.instr.Spot.{Spot}
-use Rattle.flat_code.specs.Fine.{among, spot_slots}
+use Rattle.flat_code.specs.declared.instr.Location.{Location}
+use Rattle.flat_code.specs.Fine.{among, location_slots}
 use Rattle.code_draft.specs.declared.draft.Draft.{Draft}
 use Rattle.code_emit.specs.declared.sources.Sources.{Sources}
 use Rattle.code_emit.specs.Spans.{found_slots, leaf_slots, Spans}
@@ -14,15 +14,15 @@ use Rattle.code_sequence.specs.Sequences.{driver_in}
 use Rattle.code_sequence.specs.Segmented.{with_frame, InSegments, AreSegments}
 use Rattle.code_sequence.proofs.Turns.{contains_one, set_source, other_source}
 
--- where a leaf is found once one is found at a spot
-pub leaf_there : (S : Sources) (x : ℕ) (s : Spot) → x < length S.leaves → leaf_slots (with_frame S x s) x ≡ spot_slots s
+-- where a leaf is found once one is found at a location
+pub leaf_there : (S : Sources) (x : ℕ) (s : Location) → x < length S.leaves → leaf_slots (with_frame S x s) x ≡ location_slots s
 leaf_there S x s lt = ap found_slots (set_source S x s lt)
 
-pub leaf_elsewhere : (S : Sources) (x y : ℕ) (s : Spot) → (y ≡ x → ⊥) → leaf_slots (with_frame S x s) y ≡ leaf_slots S y
+pub leaf_elsewhere : (S : Sources) (x y : ℕ) (s : Location) → (y ≡ x → ⊥) → leaf_slots (with_frame S x s) y ≡ leaf_slots S y
 leaf_elsewhere S x y s ne = ap found_slots (other_source S x y s ne)
 
 -- one assignment
-pub one_segment : (drivers : List (Option Ground)) (x : ℕ) (S : Sources) (old new : Draft) (s : Spot) (g : Ground) → x < length S.leaves → driver_in drivers x ≡ Some g → Spans S g old new s
+pub one_segment : (drivers : List (Option Ground)) (x : ℕ) (S : Sources) (old new : Draft) (s : Location) (g : Ground) → x < length S.leaves → driver_in drivers x ≡ Some g → Spans S g old new s
     → AreSegments drivers (x ∷ []) S old (with_frame S x s) new
 one_segment drivers x S old new s g lt at spans before =
     let f = spans before in

@@ -8,8 +8,8 @@ use Rattle.std.proofs.lemmas.List.Elements.{Contains-append_left, Contains-appen
 use Rattle.std.proofs.lemmas.Option.{slice_get-get_or, slice_get_past, get_or_from_slice_get}
 use Rattle.ground_net.specs.declared.ground.Ground.{Ground}
 use Rattle.net_meaning.specs.Shapes.{Shape, Table, shape}
-use Rattle.flat_code.specs.declared.instr.Spot.{Spot}
-use Rattle.flat_code.specs.Meaning.{spot_shape}
+use Rattle.flat_code.specs.declared.instr.Location.{Location}
+use Rattle.flat_code.specs.Meaning.{location_shape}
 use Rattle.code_draft.specs.declared.draft.Draft.{Draft}
 use Rattle.code_draft.proofs.Growing.{grows_then, grows_not}
 use Rattle.code_emit.specs.declared.sources.Source.TheVariants as source
@@ -36,10 +36,10 @@ slice_get-set_other xs k j x ne = ⊎_elim
     (λ le. let long = length-set xs k x in slice_get_past (slice_set xs k x) j (omega (arith, long, le)) ∙ sym (slice_get_past xs j le))
     (cases_lt j (length xs))
 
-pub set_source : (S : Sources) (x : ℕ) (s : Spot) → x < length S.leaves → leaf_source (with_frame S x s) x ≡ Some (source.Frame s)
+pub set_source : (S : Sources) (x : ℕ) (s : Location) → x < length S.leaves → leaf_source (with_frame S x s) x ≡ Some (source.Frame s)
 set_source S x s lt = ap (option_and_then (λ o. o)) (slice_get-set_same S.leaves x (Some (source.Frame s)) lt)
 
-pub other_source : (S : Sources) (x y : ℕ) (s : Spot) → y ≢ x → leaf_source (with_frame S x s) y ≡ leaf_source S y
+pub other_source : (S : Sources) (x y : ℕ) (s : Location) → y ≢ x → leaf_source (with_frame S x s) y ≡ leaf_source S y
 other_source S x y s ne = ap (option_and_then (λ o. o)) (slice_get-set_other S.leaves x y (Some (source.Frame s)) ne)
 
 test_same : (x y : ℕ) → y ≡ x → (y == x) ≡ true
@@ -52,14 +52,14 @@ test_other x y ne = grind (arith, common_steps, ne)
 leaves_same : (a b : ℕ → Option Shape) (e : ℕ → ℕ → Option Shape) → ((y : ℕ) → a y ≡ b y) → Path Table (record { leaf = a; element = e }) (record { leaf = b; element = e })
 leaves_same a b e h = λ j. record { leaf = λ y. h y j; element = e }
 
-pub turned : (drivers : List (Option Ground)) (x : ℕ) (S : Sources) (s : Spot) (g : Ground) → x < length S.leaves → driver_in drivers x ≡ Some g → shape g (sources_table S) ≡ Some (spot_shape s)
+pub turned : (drivers : List (Option Ground)) (x : ℕ) (S : Sources) (s : Location) (g : Ground) → x < length S.leaves → driver_in drivers x ≡ Some g → shape g (sources_table S) ≡ Some (location_shape s)
     → Turned drivers x S (with_frame S x s)
-turned drivers x S s g lt at of_spot h t e f =
+turned drivers x S s g lt at of_location h t e f =
     let same : h ≡ g = some_same (sym e ∙ at) in
-    let shapes : t ≡ spot_shape s = some_same (sym f ∙ (ap (λ k. shape k (sources_table S)) same ∙ of_spot)) in
+    let shapes : t ≡ location_shape s = some_same (sym f ∙ (ap (λ k. shape k (sources_table S)) same ∙ of_location)) in
     leaves_same (λ y. option_map source_shape (leaf_source (with_frame S x s) y)) (λ y. if y == x then Some t else option_map source_shape (leaf_source S y)) (sources_table S).element
     (λ y. ⊎_elim
-    (λ q. subst (λ z. option_map source_shape (leaf_source (with_frame S x s) z) ≡ Some (spot_shape s)) (sym q) (ap (option_map source_shape) (set_source S x s lt))
+    (λ q. subst (λ z. option_map source_shape (leaf_source (with_frame S x s) z) ≡ Some (location_shape s)) (sym q) (ap (option_map source_shape) (set_source S x s lt))
     ∙ (ap Some (sym shapes) ∙ sym (ap (λ b. if b then Some t else option_map source_shape (leaf_source S y)) (test_same x y q))))
     (λ ne. ap (option_map source_shape) (other_source S x y s ne) ∙ sym (ap (λ b. if b then Some t else option_map source_shape (leaf_source S y)) (test_other x y ne)))
     (cases_eq y x))
@@ -68,7 +68,7 @@ pub contains_one : (x : ℕ) → Contains (x ∷ []) x
 contains_one x = (0, omega arith, refl)
 
 -- one assignment
-pub assigned : (drivers : List (Option Ground)) (x : ℕ) (S : Sources) (old new : Draft) (s : Spot) (g : Ground) → x < length S.leaves → driver_in drivers x ≡ Some g → Emits S g old new s
+pub assigned : (drivers : List (Option Ground)) (x : ℕ) (S : Sources) (old new : Draft) (s : Location) (g : Ground) → x < length S.leaves → driver_in drivers x ≡ Some g → Emits S g old new s
     → Assigns drivers (x ∷ []) S old (with_frame S x s) new
 assigned drivers x S old new s g lt at emits is srcs =
     let m = emits is srcs in
@@ -82,10 +82,10 @@ assigned drivers x S old new s g lt at emits is srcs =
             (cases_eq y x);
         regions = on.regions;
       };
-      sees = λ words inputs F sight sol sees all. record {
+      sees = λ words inputs F instant sol sees all. record {
         leaf = λ y src e. ⊎_elim
-            (λ q. subst (λ r. IsOf r words inputs F (sight.leaf y)) (some_same (sym (set_source S x s lt) ∙ (ap (leaf_source (with_frame S x s)) (sym q) ∙ e)))
-            (m.holds words inputs F (sight.leaf y) sol (sight, sees, ap sight.leaf q ∙ all x g (contains_one x) at)))
+            (λ q. subst (λ r. IsOf r words inputs F (instant.leaf y)) (some_same (sym (set_source S x s lt) ∙ (ap (leaf_source (with_frame S x s)) (sym q) ∙ e)))
+            (m.holds words inputs F (instant.leaf y) sol (instant, sees, ap instant.leaf q ∙ all x g (contains_one x) at)))
             (λ ne. sees.leaf y src (sym (other_source S x y s ne) ∙ e))
             (cases_eq y x);
         load = sees.load;
@@ -94,7 +94,7 @@ assigned drivers x S old new s g lt at emits is srcs =
     }
 
 pub none_assigned : (drivers : List (Option Ground)) (S : Sources) (d : Draft) → Assigns drivers [] S d S d
-none_assigned drivers S d is srcs = record { grows = grows_not d is; are = srcs; sees = λ words inputs F sight sol sees all. sees }
+none_assigned drivers S d is srcs = record { grows = grows_not d is; are = srcs; sees = λ words inputs F instant sol sees all. sees }
 
 -- one assignment more
 pub one_more_assigned : (drivers : List (Option Ground)) (xs : List ℕ) (x : ℕ) (S T U : Sources) (a b c : Draft) → Assigns drivers xs S a T b → Assigns drivers (x ∷ []) T b U c → Assigns drivers (xs ++ x ∷ []) S a U c
@@ -104,9 +104,9 @@ one_more_assigned drivers xs x S T U a b c first next is srcs =
     record {
       grows = grows_then a b c f.grows n.grows;
       are = n.are;
-      sees = λ words inputs F sight sol sees all.
-          let mid = f.sees words inputs F sight (n.grows.back words inputs F sol) sees (λ y g there e. all y g (Contains-append_left xs (x ∷ []) y there) e) in
-          n.sees words inputs F sight sol mid (λ y g there e. all y g (Contains-append_right xs (x ∷ []) y there) e);
+      sees = λ words inputs F instant sol sees all.
+          let mid = f.sees words inputs F instant (n.grows.back words inputs F sol) sees (λ y g there e. all y g (Contains-append_left xs (x ∷ []) y there) e) in
+          n.sees words inputs F instant sol mid (λ y g there e. all y g (Contains-append_right xs (x ∷ []) y there) e);
     }
 
 -- what stands in turn stands so behind its first
@@ -133,7 +133,7 @@ driver_is drivers x o g table at turn = by_option (slice_get drivers x) refl tur
     by_option None e f = absurd (none_some f)
 
 -- what stands elsewhere stays there
-pub elsewhere : (x : ℕ) (S : Sources) (s : Spot) → StandElsewhere (x ∷ []) S (with_frame S x s)
+pub elsewhere : (x : ℕ) (S : Sources) (s : Location) → StandElsewhere (x ∷ []) S (with_frame S x s)
 elsewhere x S s = record { leaves = λ y out. other_source S x y s (λ e. out (subst (Contains (x ∷ [])) (sym e) (contains_one x))); memories = refl }
 
 pub none_elsewhere : (S : Sources) → StandElsewhere [] S S

@@ -2,7 +2,7 @@
 use Rattle.std.specs.Prelude.{◌≡◌, ℕ, ◌==◌, List, [], ◌∷◌, slice_get, Option, Some, option_and_then, if◌then◌else◌, Contains}
 use Rattle.bit_words.specs.declared.value.Value.{Value}
 use Rattle.ground_net.specs.declared.ground.Ground.{Ground}
-use Rattle.ground_net.specs.Grounds.{Sight, value}
+use Rattle.ground_net.specs.Grounds.{Instant, value}
 use Rattle.net_meaning.specs.Shapes.{Shape, Table, shape}
 use Rattle.code_draft.specs.declared.draft.Draft.{Draft}
 use Rattle.code_draft.specs.Drafts.{IsDraft, Solved, Grows}
@@ -32,19 +32,19 @@ InTurn table drivers [] = Unit {0}
 InTurn table drivers (x ∷ xs) = (g : Ground) × (driver_in drivers x ≡ Some g) × (s : Shape) × (shape g table ≡ Some s) × InTurn (with_leaf table x s) drivers xs
 
 -- Each of these leaves has its driver's value.
-abbrev pub AreAssigned : List (Option Ground) → List ℕ → Sight → Type 0
-AreAssigned drivers xs sight = (x : ℕ) (g : Ground) → Contains xs x → driver_in drivers x ≡ Some g → sight.leaf x ≡ value g sight
+abbrev pub AreAssigned : List (Option Ground) → List ℕ → Instant → Type 0
+AreAssigned drivers xs instant = (x : ℕ) (g : Ground) → Contains xs x → driver_in drivers x ≡ Some g → instant.leaf x ≡ value g instant
 
 -- The kinds and widths that are known once the leaf has its driver's.
 abbrev pub Turned : List (Option Ground) → ℕ → Sources → Sources → Type 0
 Turned drivers x S T = (g : Ground) (s : Shape) → driver_in drivers x ≡ Some g → shape g (sources_table S) ≡ Some s → sources_table T ≡ with_leaf (sources_table S) x s
 
--- Code that goes on from sources to more sources: a sight that shows what the old ones show, and in which these leaves have their
+-- Code that goes on from sources to more sources: an instant that shows what the old ones show, and in which these leaves have their
 -- drivers' values, shows what the new ones show.
 pub record Goes (drivers : List (Option Ground)) (xs : List ℕ) (S : Sources) (old : Draft) (T : Sources) (new : Draft) : Type 0 where
   pub grows : Grows old new
   pub are : AreSources T new
-  pub sees : (words : List ℕ) (inputs : List Value) (F : List ℕ) (sight : Sight) → Solved new words inputs F → Sees S words inputs F sight → AreAssigned drivers xs sight → Sees T words inputs F sight
+  pub sees : (words : List ℕ) (inputs : List Value) (F : List ℕ) (instant : Instant) → Solved new words inputs F → Sees S words inputs F instant → AreAssigned drivers xs instant → Sees T words inputs F instant
 
 abbrev pub Assigns : List (Option Ground) → List ℕ → Sources → Draft → Sources → Draft → Type 0
 Assigns drivers xs S old T new = IsDraft old → AreSources S old → Goes drivers xs S old T new

@@ -10,7 +10,7 @@ use code_emit::{Source, Sources, emit};
 use ground_net::Ground;
 use std::alloc::{AllocError, Global};
 
-/// Adds the code of assignments, in order, and keeps the spots of their values as the sources of their leaves.
+/// Adds the code of assignments, in order, and keeps the locations of their values as the sources of their leaves.
 pub fn assign_all(
     alloc: Global,
     draft: &mut Draft,
@@ -51,7 +51,7 @@ fn assign(
     let Some(Some(driver)) = drivers.get(leaf as usize) else {
         unreachable!();
     };
-    let spot = emit(alloc, draft, sources, driver)?;
-    sources.leaves.set(leaf as usize, Some(Source::Frame(spot)));
+    let location = emit(alloc, draft, sources, driver)?;
+    sources.leaves.set(leaf as usize, Some(Source::Frame(location)));
     Ok(())
 }

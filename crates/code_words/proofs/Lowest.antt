@@ -11,8 +11,8 @@ use Rattle.prim_ops.specs.Results.{integer_result}
 use Rattle.prim_ops.proofs.Residues.{same_low, Level-lower, Level-times, Level-add, Level-neg, Level-cut, word_level}
 use Rattle.cycle_values.specs.Values.{fitted}
 use Rattle.flat_code.specs.declared.instr.Op.TheVariants as op
-use Rattle.flat_code.specs.declared.instr.Spot.{Spot}
-use Rattle.flat_code.specs.Meaning.{spot_value, spot_values, minus}
+use Rattle.flat_code.specs.declared.instr.Location.{Location}
+use Rattle.flat_code.specs.Meaning.{location_value, location_values, minus}
 use Rattle.code_draft.specs.Drafts.{Stands}
 use Rattle.code_draft.proofs.Cuts.{masked}
 use Rattle.code_words.specs.Working.{working}
@@ -48,13 +48,13 @@ low_raised w a by n few l =
     let all = a * 2 ^ by in
     same_low w (pos (all % 2 ^ 64)) (n *ℤ pos (2 ^ by)) (Level-trans w (pos (all % 2 ^ 64)) (pos all) (n *ℤ pos (2 ^ by)) (Level-lower w 64 _ _ few (Level-cut 64 all)) (Level-times w (pos a) n (pos (2 ^ by)) l))
 
--- the word at a spot
+-- the word at a location
 level_same : (w : ℕ) (n m : ℤ) → n ≡ m → Level w n m
 level_same w n m e = record { left = 0; right = 0; same = ap (λ k. k +ℤ pos (0 * 2 ^ w)) e }
 
-pub level_at : (F : List ℕ) (x : Spot) (width : ℕ) → KeepsLowest x width → Cut F x → Level width (pos (slice_index F x.low)) (integer_of (spot_value F x))
+pub level_at : (F : List ℕ) (x : Location) (width : ℕ) → KeepsLowest x width → Cut F x → Level width (pos (slice_index F x.low)) (integer_of (location_value F x))
 level_at F x width k cut =
-    let v = spot_value F x in
+    let v = location_value F x in
     let here = bits_at F x k.few cut in
     subst (λ n. Level width (pos n) (integer_of v)) here
     (⊎_elim
@@ -62,11 +62,11 @@ level_at F x width k cut =
     (λ le. let e = width_at F x in Level-lower width v.width (pos v.bits) (integer_of v) (omega (arith, e, le)) (word_level v.width v.bits (integer_of v) (own_bits x k.few v)))
     k.low)
 
-module _ (x y : Spot) (width : ℕ) (few : width ≤ 64) (a : KeepsLowest x width) (b : KeepsLowest y width) (R : Given) (params : List ℕ) where
-  first_level : (F : List ℕ) → All (Cut F) (x ∷ y ∷ []) → Level width (pos (slice_index F x.low)) (integer_of (spot_value F x))
+module _ (x y : Location) (width : ℕ) (few : width ≤ 64) (a : KeepsLowest x width) (b : KeepsLowest y width) (R : Given) (params : List ℕ) where
+  first_level : (F : List ℕ) → All (Cut F) (x ∷ y ∷ []) → Level width (pos (slice_index F x.low)) (integer_of (location_value F x))
   first_level F cut = level_at F x width a (first_there (Cut F) x (y ∷ []) cut)
 
-  second_level : (F : List ℕ) → All (Cut F) (x ∷ y ∷ []) → Level width (pos (slice_index F y.low)) (integer_of (spot_value F y))
+  second_level : (F : List ℕ) → All (Cut F) (x ∷ y ∷ []) → Level width (pos (slice_index F y.low)) (integer_of (location_value F y))
   second_level F cut = level_at F y width b (second_there (Cut F) x y [] cut)
 
   pub sum_operates : (mask : ℕ) → IsLowest prim.Add params width (x ∷ y ∷ []) R → mask ≡ 2 ^ width - 1 → Operates (working op.Add 0 x.low y.low 0 mask) (x ∷ y ∷ []) R
@@ -74,7 +74,7 @@ module _ (x y : Spot) (width : ℕ) (few : width ≤ 64) (a : KeepsLowest x widt
     computes = λ d s. two_computes op.Add 0 mask x y d refl (λ ports wides i. refl) (omega arith) (first_there (Stands d) x (y ∷ []) s) (second_there (Stands d) x y [] s);
     gives = λ words inputs F cut.
         masked ((slice_index F x.low + slice_index F y.low) % 2 ^ 64) width mask m
-        ∙ (low_sum width (slice_index F x.low) (slice_index F y.low) (integer_of (spot_value F x)) (integer_of (spot_value F y)) few (first_level F cut) (second_level F cut) ∙ sym (lowest F));
+        ∙ (low_sum width (slice_index F x.low) (slice_index F y.low) (integer_of (location_value F x)) (integer_of (location_value F y)) few (first_level F cut) (second_level F cut) ∙ sym (lowest F));
   }
 
   pub difference_operates : (mask : ℕ) → IsLowest prim.Sub params width (x ∷ y ∷ []) R → mask ≡ 2 ^ width - 1 → Operates (working op.Sub 0 x.low y.low 0 mask) (x ∷ y ∷ []) R
@@ -84,7 +84,7 @@ module _ (x y : Spot) (width : ℕ) (few : width ≤ 64) (a : KeepsLowest x widt
         let within : slice_index F y.low < 2 ^ y.width = second_there (Cut F) x y [] cut in
         let most : 2 ^ y.width ≤ 2 ^ 64 = pow_mono b.few in
         masked (minus (slice_index F x.low) (slice_index F y.low)) width mask m
-        ∙ (low_difference width (slice_index F x.low) (slice_index F y.low) (integer_of (spot_value F x)) (integer_of (spot_value F y)) few (omega (arith, within, most)) (first_level F cut) (second_level F cut)
+        ∙ (low_difference width (slice_index F x.low) (slice_index F y.low) (integer_of (location_value F x)) (integer_of (location_value F y)) few (omega (arith, within, most)) (first_level F cut) (second_level F cut)
         ∙ sym (lowest F));
   }
 
@@ -93,7 +93,7 @@ module _ (x y : Spot) (width : ℕ) (few : width ≤ 64) (a : KeepsLowest x widt
     computes = λ d s. two_computes op.Mul 0 mask x y d refl (λ ports wides i. refl) (omega arith) (first_there (Stands d) x (y ∷ []) s) (second_there (Stands d) x y [] s);
     gives = λ words inputs F cut.
         masked ((slice_index F x.low * slice_index F y.low) % 2 ^ 64) width mask m
-        ∙ (low_product width (slice_index F x.low) (slice_index F y.low) (integer_of (spot_value F x)) (integer_of (spot_value F y)) few (first_level F cut) (second_level F cut) ∙ sym (lowest F));
+        ∙ (low_product width (slice_index F x.low) (slice_index F y.low) (integer_of (location_value F x)) (integer_of (location_value F y)) few (first_level F cut) (second_level F cut) ∙ sym (lowest F));
   }
 
   pub raised_operates : (mask : ℕ) → IsLowest prim.Dshl params width (x ∷ y ∷ []) R → mask ≡ 2 ^ width - 1 → Operates (working op.LeftBy 0 x.low y.low 0 mask) (x ∷ y ∷ []) R
@@ -103,9 +103,9 @@ module _ (x y : Spot) (width : ℕ) (few : width ≤ 64) (a : KeepsLowest x widt
         let by = bits_at F y b.few (second_there (Cut F) x y [] cut) in
         masked ((slice_index F x.low * 2 ^ slice_index F y.low) % 2 ^ 64) width mask m
         ∙ (ap (λ k. (slice_index F x.low * 2 ^ k) % 2 ^ 64 % 2 ^ width) (sym by)
-        ∙ (low_raised width (slice_index F x.low) (spot_value F y).bits (integer_of (spot_value F x)) few (first_level F cut) ∙ sym (lowest F)));
+        ∙ (low_raised width (slice_index F x.low) (location_value F y).bits (integer_of (location_value F x)) few (first_level F cut) ∙ sym (lowest F)));
   }
 
 -- what an operation's integer is fitted to has its lowest bits
-pub fitted_lowest : (p : PrimOp) (params : List ℕ) (kind : Kind) (width : ℕ) (spots : List Spot) → width ≤ 64 → IsLowest p params width spots (λ vs. fitted kind width (integer_result p vs params))
-fitted_lowest p params kind width spots le F = let e : min width 128 ≡ width = omega (arith, le) in ap (λ w. bits_of w (integer_result p (spot_values F spots) params)) e
+pub fitted_lowest : (p : PrimOp) (params : List ℕ) (kind : Kind) (width : ℕ) (locations : List Location) → width ≤ 64 → IsLowest p params width locations (λ vs. fitted kind width (integer_result p vs params))
+fitted_lowest p params kind width locations le F = let e : min width 128 ≡ width = omega (arith, le) in ap (λ w. bits_of w (integer_result p (location_values F locations) params)) e

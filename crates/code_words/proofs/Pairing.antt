@@ -3,7 +3,7 @@ use Rattle.std.proofs.Common.{◌≡◌, ℕ, ◌+◌, ◌<◌, true, List, [], 
 use Rattle.std.proofs.lemmas.List.Elements.{All-cons, All-nil}
 use Rattle.flat_code.specs.declared.instr.Op.TheVariants as op
 use Rattle.flat_code.specs.declared.instr.Instr.{Instr}
-use Rattle.flat_code.specs.declared.instr.Spot.{Spot}
+use Rattle.flat_code.specs.declared.instr.Location.{Location}
 use Rattle.flat_code.specs.Fine.{among, reads_of, writes_of, slots_of}
 use Rattle.code_draft.specs.declared.draft.Draft.{Draft}
 use Rattle.code_draft.specs.Drafts.{with_instr, with_slots, at_slot}
@@ -22,17 +22,17 @@ use Rattle.code_words.proofs.Behind.{then_step, small_segment}
 abbrev pub next_of : Draft → Instr → Draft
 next_of d i = with_instr (with_slots d 1) (at_slot d.slots i)
 
-module _ (spots : List Spot) (R : Given) (p : Pair) (pair : IsPair p spots R) where
+module _ (locations : List Location) (R : Given) (p : Pair) (pair : IsPair p locations R) where
   -- both words
-  two_words : (d : Draft) → Segment d (next_of (next_of d p.first) p.second) (slots_of spots) (d.slots ∷ (d.slots + 1) ∷ []) 2
+  two_words : (d : Draft) → Segment d (next_of (next_of d p.first) p.second) (slots_of locations) (d.slots ∷ (d.slots + 1) ∷ []) 2
   two_words d =
       let n = d.slots in
       let x = at_slot n p.first in
       let y = at_slot (n + 1) p.second in
       let own = n ∷ (n + 1) ∷ [] in
-      let outer = slots_of spots in
-      let f = given_reads spots R p.first pair.first_computes in
-      let g = given_reads spots R p.second pair.second_computes in
+      let outer = slots_of locations in
+      let f = given_reads locations R p.first pair.first_computes in
+      let g = given_reads locations R p.second pair.second_computes in
       small_segment d (next_of (next_of d p.first) p.second) outer own own 2 (x ∷ y ∷ []) (append_assoc d.instrs (x ∷ []) (y ∷ [])) (goes_same d) (omega arith)
       (λ k e. ⊎_elim (λ is. (omega (arith, is), omega (arith, is))) (λ is. (omega (arith, is), omega (arith, is))) (two_among k n (n + 1) e))
       (omega arith) (λ k e. e) (omega arith)
@@ -46,18 +46,18 @@ module _ (spots : List Spot) (R : Given) (p : Pair) (pair : IsPair p spots R) wh
       (All-nil (λ z. (k : ℕ) → among (writes_of wides z) k ≡ true → among own k ≡ true))))
 
   -- and what is computed of them
-  third_word : (d : Draft) → Segment d (next_of (next_of (next_of d p.first) p.second) (from_slots d.slots (d.slots + 1) p.last)) (slots_of spots) ((d.slots + 1 + 1) ∷ []) 2
+  third_word : (d : Draft) → Segment d (next_of (next_of (next_of d p.first) p.second) (from_slots d.slots (d.slots + 1) p.last)) (slots_of locations) ((d.slots + 1 + 1) ∷ []) 2
   third_word d =
       let n = d.slots in
       let own = n ∷ (n + 1) ∷ [] in
       let between = next_of (next_of d p.first) p.second in
       let last = from_slots n (n + 1) p.last in
       let h = last_reads p.last n (n + 1) pair.last_computes in
-      then_step d between (next_of between last) (slots_of spots) own own ((n + 1 + 1) ∷ []) (slots_of spots) 2 2 2 (two_words d) (computed_step between last own h.0 h.1) (λ k e. inl e) (λ k e. e)
+      then_step d between (next_of between last) (slots_of locations) own own ((n + 1 + 1) ∷ []) (slots_of locations) 2 2 2 (two_words d) (computed_step between last own h.0 h.1) (λ k e. inl e) (λ k e. e)
       (omega arith) (omega arith)
 
   pub pair_segment : (d e f g : Draft) (j k slot : ℕ) → e ≡ next_of d p.first → j ≡ d.slots → f ≡ next_of e p.second → k ≡ e.slots → g ≡ next_of f (from_slots j k p.last) → slot ≡ f.slots
-      → Segment d g (slots_of spots) (slot ∷ []) 2
+      → Segment d g (slots_of locations) (slot ∷ []) 2
   pair_segment d e f g j k slot first at_first second at_second third at_third =
       let one = next_of d p.first in
       let two = next_of one p.second in
@@ -66,7 +66,7 @@ module _ (spots : List Spot) (R : Given) (p : Pair) (pair : IsPair p spots R) wh
       let up : k ≡ d.slots + 1 = at_second ∙ ap (λ (x : Draft). x.slots) first in
       let all : g ≡ three = third ∙ (ap (λ x. next_of x (from_slots j k p.last)) both ∙ ap₂ (λ m n. next_of two (from_slots m n p.last)) at_first up) in
       let place : slot ≡ d.slots + 1 + 1 = at_third ∙ ap (λ (x : Draft). x.slots) both in
-      subst (λ x. Segment d x (slots_of spots) (slot ∷ []) 2) (sym all) (subst (λ n. Segment d three (slots_of spots) (n ∷ []) 2) (sym place) (third_word d))
+      subst (λ x. Segment d x (slots_of locations) (slot ∷ []) 2) (sym all) (subst (λ n. Segment d three (slots_of locations) (n ∷ []) 2) (sym place) (third_word d))
 
 -- the other bit
 pub turned_segment : (d g h : Draft) (outer : List ℕ) (third slot : ℕ) → Segment d g outer (third ∷ []) 2 → h ≡ next_of g (working op.Not 0 third 0 0 1) → slot ≡ g.slots → Segment d h outer (slot ∷ []) 2

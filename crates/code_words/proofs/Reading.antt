@@ -7,16 +7,16 @@ use Rattle.bit_words.specs.declared.value.Kind.{Kind}
 use Rattle.net_meaning.specs.Shapes.{Shape}
 use Rattle.flat_code.specs.declared.instr.Op.TheVariants as op
 use Rattle.flat_code.specs.declared.instr.Instr.{Instr}
-use Rattle.flat_code.specs.declared.instr.Spot.{Spot}
-use Rattle.flat_code.specs.Fine.{Known, AreKnown, IsSpot, among, more, nothing, written, reads_of, writes_of, slots_of, spot_slots}
-use Rattle.flat_code.proofs.Frames.{spot_more}
+use Rattle.flat_code.specs.declared.instr.Location.{Location}
+use Rattle.flat_code.specs.Fine.{Known, AreKnown, IsLocation, among, more, nothing, written, reads_of, writes_of, slots_of, location_slots}
+use Rattle.flat_code.proofs.Frames.{location_more}
 use Rattle.code_draft.specs.declared.draft.Draft.{Draft}
 use Rattle.code_draft.specs.Drafts.{Stands, Computes, written_in, computes, with_instr, with_slots, at_slot}
 use Rattle.code_draft.specs.Segments.{Step}
 use Rattle.code_draft.proofs.Growing.{one_among, among_first, among_second}
 use Rattle.code_draft.proofs.Segmenting.{either, left_so, right_so, among_left, among_right, none_among, head_all, tail_all}
 use Rattle.code_draft.proofs.Joining.{goes_same, step_not, small_step}
-use Rattle.code_draft.proofs.Stepping.{spot_few, computed_reads, computed_writes, computed_step}
+use Rattle.code_draft.proofs.Stepping.{location_few, computed_reads, computed_writes, computed_step}
 use Rattle.code_words.specs.Working.{from_slot, from_slots, at_one_slot}
 use Rattle.code_words.specs.Ways.{Given, Rests, Operates, Follow}
 
@@ -69,22 +69,22 @@ only_these : (n : ℕ) (xs : List ℕ) (k : ℕ) → written_in (holding n xs) k
 only_these n xs k e = ⊎_elim (λ h. h) (λ h. absurd (true≢false (sym h))) (writes_only xs nothing k e)
 
 -- so many slots that all of these are there
-room_for : (ss : List Spot) → (n : ℕ) × All (IsSpot n) ss
-room_for [] = (0, All-nil (IsSpot 0))
+room_for : (ss : List Location) → (n : ℕ) × All (IsLocation n) ss
+room_for [] = (0, All-nil (IsLocation 0))
 room_for (s ∷ ss) =
     let rest = room_for ss in
     let m : ℕ = rest.0 in
     let n : ℕ = m + (s.low + s.high + 1) in
-    (n, All-cons (IsSpot n) s ss (record { low = omega arith; high = omega arith }) (λ k t lt. spot_more m n (get_or ss k t) (omega arith) (rest.1 k t lt)))
+    (n, All-cons (IsLocation n) s ss (record { low = omega arith; high = omega arith }) (λ k t lt. location_more m n (get_or ss k t) (omega arith) (rest.1 k t lt)))
 
-all_stand : (n : ℕ) (xs : List ℕ) (ss : List Spot) → All (IsSpot n) ss → ((k : ℕ) → among (slots_of ss) k ≡ true → among xs k ≡ true) → All (Stands (holding n xs)) ss
+all_stand : (n : ℕ) (xs : List ℕ) (ss : List Location) → All (IsLocation n) ss → ((k : ℕ) → among (slots_of ss) k ≡ true → among xs k ≡ true) → All (Stands (holding n xs)) ss
 all_stand n xs [] a h = All-nil (Stands (holding n xs))
 all_stand n xs (s ∷ ss) a h = All-cons (Stands (holding n xs)) s ss
     (record {
-      within = head_all (IsSpot n) s ss a;
-      written = among_known (written_in (holding n xs)) (spot_slots s) (λ k e. writes_these xs nothing k (inl (h k (among_left (spot_slots s) (slots_of ss) k e))));
+      within = head_all (IsLocation n) s ss a;
+      written = among_known (written_in (holding n xs)) (location_slots s) (λ k e. writes_these xs nothing k (inl (h k (among_left (location_slots s) (slots_of ss) k e))));
     })
-    (all_stand n xs ss (tail_all (IsSpot n) s ss a) (λ k e. h k (among_right (spot_slots s) (slots_of ss) k e)))
+    (all_stand n xs ss (tail_all (IsLocation n) s ss a) (λ k e. h k (among_right (location_slots s) (slots_of ss) k e)))
 
 -- the last of three instructions reads the slots of the two before it only
 pub last_reads : (i : Instr) (k l : ℕ) → ((d : Draft) (k l : ℕ) → written_in d k ≡ true → written_in d l ≡ true → Computes d (from_slots k l i))
@@ -95,76 +95,76 @@ last_reads i k l on =
     let c = on d k l (writes_these xs nothing k (inl (among_first k (l ∷ [])))) (writes_these xs nothing l (inl (among_second k l))) in
     (c.plain, λ m e. only_these 0 xs m (known_among (written_in d) (reads_of [] [] (from_slots k l i)) m c.known e))
 
-module _ (spots : List Spot) (R : Given) where
+module _ (locations : List Location) (R : Given) where
   abbrev own_room : ℕ
-  own_room = (room_for spots).0
+  own_room = (room_for locations).0
 
   abbrev lone : Draft
-  lone = holding own_room (slots_of spots)
+  lone = holding own_room (slots_of locations)
 
-  they_stand : All (Stands lone) spots
-  they_stand = all_stand own_room (slots_of spots) spots (room_for spots).1 (λ k e. e)
+  they_stand : All (Stands lone) locations
+  they_stand = all_stand own_room (slots_of locations) locations (room_for locations).1 (λ k e. e)
 
   -- the slot of a word that is there is one of the operands' slots
-  pub rests_there : (slot : ℕ) → Rests slot spots R → among (slots_of spots) slot ≡ true
-  rests_there slot r = only_these own_room (slots_of spots) slot (r.written lone they_stand)
+  pub rests_there : (slot : ℕ) → Rests slot locations R → among (slots_of locations) slot ≡ true
+  rests_there slot r = only_these own_room (slots_of locations) slot (r.written lone they_stand)
 
   -- an instruction reads the operands' slots only
-  pub given_reads : (i : Instr) → ((d : Draft) → All (Stands d) spots → Computes d i) → (computes i.op ≡ true) × ((k : ℕ) → among (reads_of [] [] i) k ≡ true → among (slots_of spots) k ≡ true)
+  pub given_reads : (i : Instr) → ((d : Draft) → All (Stands d) locations → Computes d i) → (computes i.op ≡ true) × ((k : ℕ) → among (reads_of [] [] i) k ≡ true → among (slots_of locations) k ≡ true)
   given_reads i on =
       let c = on lone they_stand in
-      (c.plain, λ k e. only_these own_room (slots_of spots) k (known_among (written_in lone) (reads_of [] [] i) k c.known e))
+      (c.plain, λ k e. only_these own_room (slots_of locations) k (known_among (written_in lone) (reads_of [] [] i) k c.known e))
 
-  pub operates_reads : (i : Instr) → Operates i spots R → (computes i.op ≡ true) × ((k : ℕ) → among (reads_of [] [] i) k ≡ true → among (slots_of spots) k ≡ true)
+  pub operates_reads : (i : Instr) → Operates i locations R → (computes i.op ≡ true) × ((k : ℕ) → among (reads_of [] [] i) k ≡ true → among (slots_of locations) k ≡ true)
   operates_reads i o = given_reads i o.computes
 
   -- and so does the first one of two, while the second one reads the slot of the first one only
-  pub first_reads : (i next : Instr) → Follow i next spots R → (computes i.op ≡ true) × ((k : ℕ) → among (reads_of [] [] i) k ≡ true → among (slots_of spots) k ≡ true)
+  pub first_reads : (i next : Instr) → Follow i next locations R → (computes i.op ≡ true) × ((k : ℕ) → among (reads_of [] [] i) k ≡ true → among (slots_of locations) k ≡ true)
   first_reads i next f = given_reads i f.computes
 
-  pub second_reads : (i next : Instr) (slot : ℕ) → Follow i next spots R → (computes next.op ≡ true) × ((k : ℕ) → among (reads_of [] [] (from_slot slot next)) k ≡ true → among (slot ∷ []) k ≡ true)
+  pub second_reads : (i next : Instr) (slot : ℕ) → Follow i next locations R → (computes next.op ≡ true) × ((k : ℕ) → among (reads_of [] [] (from_slot slot next)) k ≡ true → among (slot ∷ []) k ≡ true)
   second_reads i next slot f =
       let d = holding 0 (slot ∷ []) in
       let c = f.then_computes d slot (writes_these (slot ∷ []) nothing slot (inl (among_first slot []))) in
       (c.plain, λ k e. only_these 0 (slot ∷ []) k (known_among (written_in d) (reads_of [] [] (from_slot slot next)) k c.known e))
 
-  module _ (kind : Kind) (width slot : ℕ) (s : Spot) (few : width ≤ 64) (at : at_one_slot kind width slot s) where
-    pub one_slot : spot_slots s ≡ slot ∷ []
+  module _ (kind : Kind) (width slot : ℕ) (s : Location) (few : width ≤ 64) (at : at_one_slot kind width slot s) where
+    pub one_slot : location_slots s ≡ slot ∷ []
     one_slot =
         let narrow : nat_lt 64 s.width ≡ false = ap (nat_lt 64) (ap (λ (t : Shape). t.width) at.0) ∙ le-ltb 64 width few in
         ap (λ b. if b then s.low ∷ s.high ∷ [] else s.low ∷ []) narrow ∙ ap (λ k. k ∷ []) at.1
 
     -- The steps of the three ways
-    pub rests_step : (d : Draft) → Rests slot spots R → Step d d (slots_of spots) (spot_slots s) 2
-    rests_step d r = step_not d (slots_of spots) (spot_slots s) 2
-        (λ k e. ap (among (slots_of spots)) (one_among k slot (subst (λ xs. among xs k ≡ true) one_slot e)) ∙ rests_there slot r)
-        (spot_few s)
+    pub rests_step : (d : Draft) → Rests slot locations R → Step d d (slots_of locations) (location_slots s) 2
+    rests_step d r = step_not d (slots_of locations) (location_slots s) 2
+        (λ k e. ap (among (slots_of locations)) (one_among k slot (subst (λ xs. among xs k ≡ true) one_slot e)) ∙ rests_there slot r)
+        (location_few s)
 
-    pub word_step : (d new : Draft) (i : Instr) → Operates i spots R → new ≡ with_instr (with_slots d 1) (at_slot d.slots i) → slot ≡ d.slots → Step d new (slots_of spots) (spot_slots s) 2
+    pub word_step : (d new : Draft) (i : Instr) → Operates i locations R → new ≡ with_instr (with_slots d 1) (at_slot d.slots i) → slot ≡ d.slots → Step d new (slots_of locations) (location_slots s) 2
     word_step d new i o code place =
         let h = operates_reads i o in
-        subst (λ x. Step d x (slots_of spots) (spot_slots s) 2) (sym code)
-        (subst (λ xs. Step d (with_instr (with_slots d 1) (at_slot d.slots i)) (slots_of spots) xs 2) (sym (one_slot ∙ ap (λ k. k ∷ []) place))
-        (computed_step d i (slots_of spots) h.0 h.1))
+        subst (λ x. Step d x (slots_of locations) (location_slots s) 2) (sym code)
+        (subst (λ xs. Step d (with_instr (with_slots d 1) (at_slot d.slots i)) (slots_of locations) xs 2) (sym (one_slot ∙ ap (λ k. k ∷ []) place))
+        (computed_step d i (slots_of locations) h.0 h.1))
 
-    pub twice_step : (d between new : Draft) (i next : Instr) (k : ℕ) → Follow i next spots R → between ≡ with_instr (with_slots d 1) (at_slot d.slots i) → k ≡ d.slots
-        → new ≡ with_instr (with_slots between 1) (at_slot between.slots (from_slot k next)) → slot ≡ between.slots → Step d new (slots_of spots) (spot_slots s) 2
+    pub twice_step : (d between new : Draft) (i next : Instr) (k : ℕ) → Follow i next locations R → between ≡ with_instr (with_slots d 1) (at_slot d.slots i) → k ≡ d.slots
+        → new ≡ with_instr (with_slots between 1) (at_slot between.slots (from_slot k next)) → slot ≡ between.slots → Step d new (slots_of locations) (location_slots s) 2
     twice_step d between new i next k f first here second there =
         let mid = with_instr (with_slots d 1) (at_slot d.slots i) in
         let last = with_instr (with_slots mid 1) (at_slot (d.slots + 1) (from_slot d.slots next)) in
         let code : new ≡ last = second ∙ (ap (λ b. with_instr (with_slots b 1) (at_slot b.slots (from_slot k next))) first ∙ ap (λ j. with_instr (with_slots mid 1) (at_slot (d.slots + 1) (from_slot j next))) here) in
         let place : slot ≡ d.slots + 1 = there ∙ ap (λ b. b.slots) first in
-        subst (λ x. Step d x (slots_of spots) (spot_slots s) 2) (sym code)
-        (subst (λ xs. Step d last (slots_of spots) xs 2) (sym (one_slot ∙ ap (λ j. j ∷ []) place)) (two_words d i next f))
+        subst (λ x. Step d x (slots_of locations) (location_slots s) 2) (sym code)
+        (subst (λ xs. Step d last (slots_of locations) xs 2) (sym (one_slot ∙ ap (λ j. j ∷ []) place)) (two_words d i next f))
       where
-        two_words : (d : Draft) (i next : Instr) → Follow i next spots R
-            → Step d (with_instr (with_slots (with_instr (with_slots d 1) (at_slot d.slots i)) 1) (at_slot (d.slots + 1) (from_slot d.slots next))) (slots_of spots) ((d.slots + 1) ∷ []) 2
+        two_words : (d : Draft) (i next : Instr) → Follow i next locations R
+            → Step d (with_instr (with_slots (with_instr (with_slots d 1) (at_slot d.slots i)) 1) (at_slot (d.slots + 1) (from_slot d.slots next))) (slots_of locations) ((d.slots + 1) ∷ []) 2
         two_words d i next f =
             let n = d.slots in
             let x = at_slot n i in
             let y = at_slot (n + 1) (from_slot n next) in
             let own = n ∷ (n + 1) ∷ [] in
-            let outer = slots_of spots in
+            let outer = slots_of locations in
             let h = first_reads i next f in
             let g = second_reads i next n f in
             small_step d (with_instr (with_slots (with_instr (with_slots d 1) x) 1) y) outer ((n + 1) ∷ []) own 2 (x ∷ y ∷ []) (append_assoc d.instrs (x ∷ []) (y ∷ [])) (goes_same d) (omega arith)

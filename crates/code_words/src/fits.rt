@@ -2,8 +2,8 @@
 
 ghost use Rattle.std.specs.Prelude.{◌≡◌, ◌<◌, ◌≤◌, ◌+◌, ◌-◌, ◌^◌, ◌∷◌, [], Some, None, Ok, IfOk, OnOk, IfSome, All};
 ghost use Rattle.bit_words.specs.declared.value.Kind.TheVariants.{Signed};
-ghost use Rattle.flat_code.specs.Meaning.{spot_shape};
-ghost use Rattle.flat_code.specs.Fine.{spot_slots, slots_of};
+ghost use Rattle.flat_code.specs.Meaning.{location_shape};
+ghost use Rattle.flat_code.specs.Fine.{location_slots, slots_of};
 ghost use Rattle.net_meaning.specs.Shapes.{shaped};
 ghost use Rattle.code_draft.specs.Drafts.{IsDraft, Stands, Makes};
 ghost use Rattle.code_draft.specs.Segments.{Step};
@@ -12,20 +12,20 @@ ghost use Rattle.code_words.specs.Ways.{Given, IsMade, IsWay, Refits, fit_of_one
 use crate::ways::{Measure, Way, made, of_one};
 use bit_words::Kind;
 use code_draft::{Draft, low_mask};
-use flat_code::{Op, Spot};
+use flat_code::{Op, Location};
 use std::alloc::AllocError;
 
-/// The value of one spot, fitted to a kind and a width, where words suffice for it; else none, and the code stays as it is.
+/// The value of one location, fitted to a kind and a width, where words suffice for it; else none, and the code stays as it is.
 pub fn fit_word(
     draft: &mut Draft,
-    operands: &[Spot],
+    operands: &[Location],
     measure: Measure,
-) -> Result<Option<Spot>, AllocError>
-    ensures shape { IfOk result (λ o. IfSome o (λ s. spot_shape s ≡ shaped measure.kind measure.width)) }
+) -> Result<Option<Location>, AllocError>
+    ensures shape { IfOk result (λ o. IfSome o (λ s. location_shape s ≡ shaped measure.kind measure.width)) }
     ensures makes { IfOk result (λ o. IfSome o (λ s. IsDraft draft.old → All (Stands draft.old) operands.now → Makes draft.old draft.new s (IsMade (fit_of_one measure.kind measure.width) operands.now (shaped measure.kind measure.width)))) }
     ensures none { result ≡ Ok None → draft.new ≡ draft.old }
     ensures slots { OnOk result (draft.new.slots ≤ draft.old.slots + 2) }
-    ensures step { IfOk result (λ o. IfSome o (λ s. Step draft.old draft.new (slots_of operands.now) (spot_slots s) 2)) }
+    ensures step { IfOk result (λ o. IfSome o (λ s. Step draft.old draft.new (slots_of operands.now) (location_slots s) 2)) }
 {
     if measure.width > 64 {
         return Ok(None);
@@ -45,7 +45,7 @@ pub fn fit_word(
 }
 
 /// The way of a value of at most 64 bits to another width of at most 64.
-pub(crate) fn fit_way(x: Spot, width: u8) -> Option<Way>
+pub(crate) fn fit_way(x: Location, width: u8) -> Option<Way>
     requires operand { x.width ≤ 64 }
     requires result { width ≤ 64 }
     ensures { IfSome result (λ way. (R : Given) → Refits x width R → IsWay way (x ∷ []) R) }
@@ -63,7 +63,7 @@ pub(crate) fn fit_way(x: Spot, width: u8) -> Option<Way>
 }
 
 /// The way of a value with a sign to a greater width.
-fn signed_way(x: Spot, width: u8) -> Option<Way>
+fn signed_way(x: Location, width: u8) -> Option<Way>
     requires operand { x.width ≤ 64 }
     requires result { width ≤ 64 }
     requires kind { x.kind ≡ Signed }

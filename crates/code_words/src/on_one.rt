@@ -5,7 +5,7 @@ ghost use Rattle.bit_words.specs.declared.value.Kind.{Kind as TheKind};
 ghost use Rattle.bit_words.specs.declared.value.Kind.TheVariants.{Unsigned, Signed};
 ghost use Rattle.prim_ops.specs.declared.operation.PrimOp.TheVariants.{Shl as ShlOf};
 ghost use Rattle.cycle_values.specs.Values.{operation};
-ghost use Rattle.flat_code.specs.Meaning.{spot_shape};
+ghost use Rattle.flat_code.specs.Meaning.{location_shape};
 ghost use Rattle.net_meaning.specs.Shapes.{shaped, shape_of_row};
 ghost use Rattle.code_words.specs.Ways.{Given, IsWay, Shifts, GivesRow};
 
@@ -13,11 +13,11 @@ use crate::fits::{fit_way, sign_of};
 use crate::ways::{Way, of_one};
 use bit_words::Kind;
 use code_draft::low_mask;
-use flat_code::{Op, Spot};
+use flat_code::{Op, Location};
 use prim_ops::Prim;
 
 /// The way of an operation on an operand of at most 64 bits to a result of at most 64 bits.
-pub(crate) fn way_on_one(prim: Prim, x: Spot, params: &[u128], width: u8) -> Option<Way>
+pub(crate) fn way_on_one(prim: Prim, x: Location, params: &[u128], width: u8) -> Option<Way>
     requires operand { x.width ≤ 64 }
     requires result { width ≤ 64 }
     ensures { IfSome result (λ way. GivesRow way prim params.now (x ∷ []) width) }
@@ -47,7 +47,7 @@ pub(crate) fn way_on_one(prim: Prim, x: Spot, params: &[u128], width: u8) -> Opt
 }
 
 /// The way of the value moved up by a number of bits.
-fn raised(x: Spot, shift: u128, width: u8) -> Option<Way>
+fn raised(x: Location, shift: u128, width: u8) -> Option<Way>
     requires operand { x.width ≤ 64 }
     requires result { width ≤ 64 }
     ensures { IfSome result (λ way. (params : List ℕ) → shift ≡ slice_index params 0 → GivesRow way ShlOf params (x ∷ []) width) }
@@ -62,7 +62,7 @@ fn raised(x: Spot, shift: u128, width: u8) -> Option<Way>
 }
 
 /// The same of a value with a sign.
-fn raised_signed(x: Spot, shift: u8, width: u8) -> Option<Way>
+fn raised_signed(x: Location, shift: u8, width: u8) -> Option<Way>
     requires operand { x.width ≤ 64 }
     requires result { width ≤ 64 }
     requires kind { x.kind ≡ Signed }
@@ -79,7 +79,7 @@ fn raised_signed(x: Spot, shift: u8, width: u8) -> Option<Way>
 }
 
 /// The way of the bits from this one on.
-fn from_bit(x: Spot, low: u128, width: u8) -> Option<Way>
+fn from_bit(x: Location, low: u128, width: u8) -> Option<Way>
     requires operand { x.width ≤ 64 }
     requires result { width ≤ 64 }
     ensures { IfSome result (λ way. (R : Given) → Shifts x low width R → IsWay way (x ∷ []) R) }
@@ -91,7 +91,7 @@ fn from_bit(x: Spot, low: u128, width: u8) -> Option<Way>
 }
 
 /// The way of the bits from this one on, and of the sign of an SInt where there are no more.
-fn shifted(x: Spot, low: u128, width: u8) -> Option<Way>
+fn shifted(x: Location, low: u128, width: u8) -> Option<Way>
     requires operand { x.width ≤ 64 }
     requires result { width ≤ 64 }
     ensures { IfSome result (λ way. (R : Given) → (x.kind ≡ Unsigned → Shifts x low width R) → (x.kind ≡ Signed → 0 < x.width → Shifts x (min low (x.width - 1)) width R) → IsWay way (x ∷ []) R) }

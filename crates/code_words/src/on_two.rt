@@ -10,11 +10,11 @@ ghost use Rattle.code_words.specs.Ways.{IsPlain, GivesRow};
 use crate::ways::{Way, of_one, of_two};
 use bit_words::Kind;
 use code_draft::low_mask;
-use flat_code::{Instr, Op, Spot};
+use flat_code::{Instr, Op, Location};
 use prim_ops::Prim;
 
 /// The way of an operation on two operands of at most 64 bits to a result of at most 64 bits.
-pub(crate) fn way_on_words(prim: Prim, x: Spot, y: Spot, width: u8) -> Option<Way>
+pub(crate) fn way_on_words(prim: Prim, x: Location, y: Location, width: u8) -> Option<Way>
     requires first { x.width ≤ 64 }
     requires second { y.width ≤ 64 }
     requires result { width ≤ 64 }
@@ -33,7 +33,7 @@ pub(crate) fn way_on_words(prim: Prim, x: Spot, y: Spot, width: u8) -> Option<Wa
 }
 
 /// Whether a UInt of at most 64 bits stands there.
-fn is_plain(x: Spot) -> bool
+fn is_plain(x: Location) -> bool
     requires { x.width ≤ 64 }
     ensures { result ≡ true → IsPlain x }
 {
@@ -44,7 +44,7 @@ fn is_plain(x: Spot) -> bool
 }
 
 /// The way of an operation on two UInts of at most 64 bits to a result of at most 64 bits.
-fn way_on_two(prim: Prim, x: Spot, y: Spot, width: u8) -> Option<Way>
+fn way_on_two(prim: Prim, x: Location, y: Location, width: u8) -> Option<Way>
     requires first { IsPlain x }
     requires second { IsPlain y }
     requires result { width ≤ 64 }
@@ -72,14 +72,14 @@ fn way_on_two(prim: Prim, x: Spot, y: Spot, width: u8) -> Option<Way>
 }
 
 /// 1 where the test gives 0, and else 0.
-fn turned(test: Instr, x: Spot) -> Way
+fn turned(test: Instr, x: Location) -> Way
     ensures { result ≡ Twice test (working Not 0 x.low 0 0 1) }
 {
     Way::Twice(test, of_one(Op::Not, x, 0, 1))
 }
 
 /// The way of one number above another.
-fn above(x: Spot, y: Spot) -> Option<Way>
+fn above(x: Location, y: Location) -> Option<Way>
     requires first { x.width ≤ 64 }
     requires second { y.width ≤ 64 }
     ensures { IfSome result (λ way. (params : List ℕ) (width : ℕ) → width ≤ 64 → GivesRow way Cat params (x ∷ y ∷ []) width) }

@@ -2,8 +2,8 @@
 
 ghost use Rattle.std.specs.Prelude.{◌≡◌, ℕ, ◌≤◌, ◌+◌, List, Some, None, Ok, IfOk, OnOk, IfSome, All};
 ghost use Rattle.cycle_values.specs.Values.{operation};
-ghost use Rattle.flat_code.specs.Meaning.{spot_shape};
-ghost use Rattle.flat_code.specs.Fine.{spot_shapes};
+ghost use Rattle.flat_code.specs.Meaning.{location_shape};
+ghost use Rattle.flat_code.specs.Fine.{location_shapes};
 ghost use Rattle.net_meaning.specs.Shapes.{shaped, shape_of_row};
 ghost use Rattle.code_draft.specs.Drafts.{IsDraft, Stands, Makes};
 ghost use Rattle.code_words.specs.Ways.{IsMade, GivesRow, PairsRow, AreTwo, Reckons, row_value};
@@ -15,20 +15,20 @@ use crate::signed::pair_on_two;
 use crate::ways::{Measure, Way, made};
 use bit_words::Kind;
 use code_draft::Draft;
-use flat_code::Spot;
+use flat_code::Location;
 use prim_ops::Prim;
 use std::alloc::AllocError;
 
-/// The value of an operation on what stands at spots, where words suffice for it; else none, and the code stays as it is.
+/// The value of an operation on what stands at locations, where words suffice for it; else none, and the code stays as it is.
 pub fn operation_word(
     draft: &mut Draft,
     prim: Prim,
-    operands: &[Spot],
+    operands: &[Location],
     params: &[u128],
     measure: Measure,
-) -> Result<Option<Spot>, AllocError>
-    requires { shape_of_row prim params.now (spot_shapes operands.now) ≡ Some (shaped measure.kind measure.width) }
-    ensures shape { IfOk result (λ o. IfSome o (λ s. spot_shape s ≡ shaped measure.kind measure.width)) }
+) -> Result<Option<Location>, AllocError>
+    requires { shape_of_row prim params.now (location_shapes operands.now) ≡ Some (shaped measure.kind measure.width) }
+    ensures shape { IfOk result (λ o. IfSome o (λ s. location_shape s ≡ shaped measure.kind measure.width)) }
     ensures makes { IfOk result (λ o. IfSome o (λ s. IsDraft draft.old → All (Stands draft.old) operands.now → Makes draft.old draft.new s (IsMade (row_value prim params.now) operands.now (shaped measure.kind measure.width)))) }
     ensures none { result ≡ Ok None → draft.new ≡ draft.old }
     ensures slots { OnOk result (draft.new.slots ≤ draft.old.slots + 4) }
@@ -47,7 +47,7 @@ pub fn operation_word(
 }
 
 /// The way of an operation to a result of at most 64 bits.
-fn operation_way(prim: Prim, operands: &[Spot], params: &[u128], width: u8) -> Option<Way>
+fn operation_way(prim: Prim, operands: &[Location], params: &[u128], width: u8) -> Option<Way>
     requires { width ≤ 64 }
     ensures { IfSome result (λ way. GivesRow way prim params.now operands.now width) }
 {
@@ -69,7 +69,7 @@ fn operation_way(prim: Prim, operands: &[Spot], params: &[u128], width: u8) -> O
 }
 
 /// The pair of an operation to a result of at most 64 bits.
-fn operation_pair(prim: Prim, operands: &[Spot], width: u8) -> Option<Pair>
+fn operation_pair(prim: Prim, operands: &[Location], width: u8) -> Option<Pair>
     requires { width ≤ 64 }
     ensures two { IfSome result (λ p. AreTwo operands.now) }
     ensures pair { IfSome result (λ p. (params : List ℕ) → PairsRow p prim params operands.now width) }

@@ -2,9 +2,9 @@
 
 ghost use Rattle.std.specs.Prelude.{◌≡◌, ◌≤◌, ◌+◌, List as TheList, All, IfOk, OnOk};
 ghost use Rattle.flat_code.specs.declared.instr.Op.TheVariants.{Not};
-ghost use Rattle.flat_code.specs.declared.instr.Spot.{Spot as TheSpot};
-ghost use Rattle.flat_code.specs.Meaning.{spot_shape};
-ghost use Rattle.flat_code.specs.Fine.{spot_slots, slots_of};
+ghost use Rattle.flat_code.specs.declared.instr.Location.{Location as TheLocation};
+ghost use Rattle.flat_code.specs.Meaning.{location_shape};
+ghost use Rattle.flat_code.specs.Fine.{location_slots, slots_of};
 ghost use Rattle.net_meaning.specs.Shapes.{shaped};
 ghost use Rattle.code_draft.specs.Drafts.{IsDraft, Stands, Makes};
 ghost use Rattle.code_draft.specs.Segments.{Segment};
@@ -13,7 +13,7 @@ ghost use Rattle.code_words.specs.Ways.{Given, IsMade, IsPair};
 
 use crate::ways::{Measure, at_slot};
 use code_draft::{Draft, computed};
-use flat_code::{Instr, Op, Spot};
+use flat_code::{Instr, Op, Location};
 use std::alloc::AllocError;
 
 /// How a word is made of two others.
@@ -30,12 +30,12 @@ pub(crate) struct Pair {
 }
 
 /// The value of a kind and a width of at most 64 bits, whose word is made so.
-pub(crate) fn paired(draft: &mut Draft, pair: Pair, measure: Measure) -> Result<Spot, AllocError>
+pub(crate) fn paired(draft: &mut Draft, pair: Pair, measure: Measure) -> Result<Location, AllocError>
     requires { measure.width ≤ 64 }
-    ensures shape { IfOk result (λ s. spot_shape s ≡ shaped measure.kind measure.width) }
-    ensures makes { IfOk result (λ s. (spots : TheList TheSpot) (R : Given) → IsPair pair spots R → IsDraft draft.old → All (Stands draft.old) spots → Makes draft.old draft.new s (IsMade R spots (shaped measure.kind measure.width))) }
+    ensures shape { IfOk result (λ s. location_shape s ≡ shaped measure.kind measure.width) }
+    ensures makes { IfOk result (λ s. (locations : TheList TheLocation) (R : Given) → IsPair pair locations R → IsDraft draft.old → All (Stands draft.old) locations → Makes draft.old draft.new s (IsMade R locations (shaped measure.kind measure.width))) }
     ensures slots { OnOk result (draft.new.slots ≤ draft.old.slots + 4) }
-    ensures segment { IfOk result (λ s. (spots : TheList TheSpot) (R : Given) → IsPair pair spots R → Segment draft.old draft.new (slots_of spots) (spot_slots s) 2) }
+    ensures segment { IfOk result (λ s. (locations : TheList TheLocation) (R : Given) → IsPair pair locations R → Segment draft.old draft.new (slots_of locations) (location_slots s) 2) }
 {
     let one = computed(draft, pair.first)?;
     let other = computed(draft, pair.second)?;

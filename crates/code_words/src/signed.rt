@@ -11,11 +11,11 @@ use crate::pairs::Pair;
 use crate::ways::of_one;
 use bit_words::Kind;
 use code_draft::low_mask;
-use flat_code::{Instr, Op, Spot};
+use flat_code::{Instr, Op, Location};
 use prim_ops::Prim;
 
 /// The pair of an operation on two operands of at most 64 bits, of which the first has a sign, to a result of at most 64 bits.
-pub(crate) fn pair_on_two(prim: Prim, x: Spot, y: Spot, width: u8) -> Option<Pair>
+pub(crate) fn pair_on_two(prim: Prim, x: Location, y: Location, width: u8) -> Option<Pair>
     requires first { x.width ≤ 64 }
     requires second { y.width ≤ 64 }
     requires kind { x.kind ≡ Signed }
@@ -40,7 +40,7 @@ pub(crate) fn pair_on_two(prim: Prim, x: Spot, y: Spot, width: u8) -> Option<Pai
 }
 
 /// The pair of a value with a sign that is moved by a number of bits.
-fn pair_by(prim: Prim, x: Spot, y: Spot, width: u8) -> Option<Pair>
+fn pair_by(prim: Prim, x: Location, y: Location, width: u8) -> Option<Pair>
     requires first { x.width ≤ 64 }
     requires second { y.width ≤ 64 }
     requires kind { x.kind ≡ Signed }
@@ -58,7 +58,7 @@ fn pair_by(prim: Prim, x: Spot, y: Spot, width: u8) -> Option<Pair>
 }
 
 /// An operation on the words of two values.
-fn both(x: Spot, y: Spot, last: Instr, turned: bool) -> Pair
+fn both(x: Location, y: Location, last: Instr, turned: bool) -> Pair
     requires first { x.width ≤ 64 }
     requires second { y.width ≤ 64 }
     ensures { (o : TheOp) (mask : ℕ) → last ≡ working o 0 0 0 0 mask → IsBoth result x y o mask turned }
@@ -87,7 +87,7 @@ fn last(op: Op, mask: u64) -> Instr
 }
 
 /// Gives the lowest 64 bits of the integer that stands there.
-fn word_of(x: Spot) -> Instr
+fn word_of(x: Location) -> Instr
     requires { x.width ≤ 64 }
     ensures { GivesWord result x }
 {
@@ -98,7 +98,7 @@ fn word_of(x: Spot) -> Instr
 }
 
 /// The same of a value with a sign.
-fn extended(x: Spot) -> Instr
+fn extended(x: Location) -> Instr
     requires few { x.width ≤ 64 }
     requires kind { x.kind ≡ Signed }
     ensures { GivesWord result x }

@@ -1,8 +1,8 @@
 //! Lowest bits of sums, differences and products, and of bits that are moved up.
 
 ghost use Rattle.std.specs.Prelude.{◌≡◌, ℕ, ◌≤◌, ◌+◌, ◌∷◌, [], true, Some, None, Ok, IfOk, OnOk, IfSome, All, List as TheList};
-ghost use Rattle.flat_code.specs.Meaning.{spot_shape};
-ghost use Rattle.flat_code.specs.Fine.{spot_slots, slots_of};
+ghost use Rattle.flat_code.specs.Meaning.{location_shape};
+ghost use Rattle.flat_code.specs.Fine.{location_slots, slots_of};
 ghost use Rattle.net_meaning.specs.Shapes.{shaped};
 ghost use Rattle.code_draft.specs.Drafts.{IsDraft, Stands, Makes};
 ghost use Rattle.code_draft.specs.Segments.{Step};
@@ -11,23 +11,23 @@ ghost use Rattle.code_words.specs.Ways.{Given, IsMade, IsWay, IsLowest, KeepsLow
 use crate::ways::{Measure, Way, made, of_two};
 use bit_words::Kind;
 use code_draft::{Draft, low_mask};
-use flat_code::{Op, Spot};
+use flat_code::{Op, Location};
 use prim_ops::Prim;
 use std::alloc::AllocError;
 
-/// The lowest bits of a sum, a difference or a product of what stands at two spots, or of the first moved up by the second, where words
+/// The lowest bits of a sum, a difference or a product of what stands at two locations, or of the first moved up by the second, where words
 /// suffice for it, however wide that itself is; else none, and the code stays as it is.
 pub fn lowest_word(
     draft: &mut Draft,
     prim: Prim,
-    operands: &[Spot],
+    operands: &[Location],
     measure: Measure,
-) -> Result<Option<Spot>, AllocError>
-    ensures shape { IfOk result (λ o. IfSome o (λ s. spot_shape s ≡ shaped measure.kind measure.width)) }
+) -> Result<Option<Location>, AllocError>
+    ensures shape { IfOk result (λ o. IfSome o (λ s. location_shape s ≡ shaped measure.kind measure.width)) }
     ensures makes { IfOk result (λ o. IfSome o (λ s. (R : Given) (params : TheList ℕ) → IsLowest prim params measure.width operands.now R → IsDraft draft.old → All (Stands draft.old) operands.now → Makes draft.old draft.new s (IsMade R operands.now (shaped measure.kind measure.width)))) }
     ensures none { result ≡ Ok None → draft.new ≡ draft.old }
     ensures slots { OnOk result (draft.new.slots ≤ draft.old.slots + 2) }
-    ensures step { IfOk result (λ o. IfSome o (λ s. Step draft.old draft.new (slots_of operands.now) (spot_slots s) 2)) }
+    ensures step { IfOk result (λ o. IfSome o (λ s. Step draft.old draft.new (slots_of operands.now) (location_slots s) 2)) }
 {
     if measure.width > 64 {
         return Ok(None);
@@ -44,7 +44,7 @@ pub fn lowest_word(
 }
 
 /// The way of such lowest bits.
-fn lowest_way(prim: Prim, x: Spot, y: Spot, width: u8) -> Option<Way>
+fn lowest_way(prim: Prim, x: Location, y: Location, width: u8) -> Option<Way>
     requires { width ≤ 64 }
     ensures { IfSome result (λ way. (R : Given) (params : TheList ℕ) → IsLowest prim params width (x ∷ y ∷ []) R → IsWay way (x ∷ y ∷ []) R) }
 {
@@ -61,7 +61,7 @@ fn lowest_way(prim: Prim, x: Spot, y: Spot, width: u8) -> Option<Way>
 }
 
 /// Whether the word that stands there has the lowest bits of its integer, so many of them.
-fn keeps_lowest(x: Spot, width: u8) -> bool
+fn keeps_lowest(x: Location, width: u8) -> bool
     ensures { result ≡ true → KeepsLowest x width }
 {
     if x.width > 64 {

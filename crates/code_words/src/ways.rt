@@ -1,9 +1,9 @@
 //! Ways in which a word is made of words in slots.
 
 ghost use Rattle.std.specs.Prelude.{◌≡◌, ◌≤◌, ◌+◌, List as TheList, All, IfOk, OnOk};
-ghost use Rattle.flat_code.specs.declared.instr.Spot.{Spot as TheSpot};
-ghost use Rattle.flat_code.specs.Meaning.{spot_shape};
-ghost use Rattle.flat_code.specs.Fine.{spot_slots, slots_of};
+ghost use Rattle.flat_code.specs.declared.instr.Location.{Location as TheLocation};
+ghost use Rattle.flat_code.specs.Meaning.{location_shape};
+ghost use Rattle.flat_code.specs.Fine.{location_slots, slots_of};
 ghost use Rattle.net_meaning.specs.Shapes.{shaped};
 ghost use Rattle.code_draft.specs.Drafts.{IsDraft, Stands, Makes};
 ghost use Rattle.code_draft.specs.Segments.{Step};
@@ -12,7 +12,7 @@ ghost use Rattle.code_words.specs.Ways.{Given, IsMade, IsWay};
 
 use bit_words::Kind;
 use code_draft::{Draft, computed};
-use flat_code::{Instr, Op, Spot};
+use flat_code::{Instr, Op, Location};
 use std::alloc::AllocError;
 
 /// A kind and a width of at most 128.
@@ -35,12 +35,12 @@ pub(crate) enum Way {
 }
 
 /// The value of a kind and a width of at most 64 bits, whose word is made in this way.
-pub(crate) fn made(draft: &mut Draft, way: Way, measure: Measure) -> Result<Spot, AllocError>
+pub(crate) fn made(draft: &mut Draft, way: Way, measure: Measure) -> Result<Location, AllocError>
     requires { measure.width ≤ 64 }
-    ensures shape { IfOk result (λ s. spot_shape s ≡ shaped measure.kind measure.width) }
-    ensures makes { IfOk result (λ s. (spots : TheList TheSpot) (R : Given) → IsWay way spots R → IsDraft draft.old → All (Stands draft.old) spots → Makes draft.old draft.new s (IsMade R spots (shaped measure.kind measure.width))) }
+    ensures shape { IfOk result (λ s. location_shape s ≡ shaped measure.kind measure.width) }
+    ensures makes { IfOk result (λ s. (locations : TheList TheLocation) (R : Given) → IsWay way locations R → IsDraft draft.old → All (Stands draft.old) locations → Makes draft.old draft.new s (IsMade R locations (shaped measure.kind measure.width))) }
     ensures slots { OnOk result (draft.new.slots ≤ draft.old.slots + 2) }
-    ensures step { IfOk result (λ s. (spots : TheList TheSpot) (R : Given) → IsWay way spots R → Step draft.old draft.new (slots_of spots) (spot_slots s) 2) }
+    ensures step { IfOk result (λ s. (locations : TheList TheLocation) (R : Given) → IsWay way locations R → Step draft.old draft.new (slots_of locations) (location_slots s) 2) }
 {
     match way {
         Way::Same(slot) => Ok(at_slot(slot, measure)),
@@ -56,11 +56,11 @@ pub(crate) fn made(draft: &mut Draft, way: Way, measure: Measure) -> Result<Spot
     }
 }
 
-/// The spot of one slot.
-pub(crate) fn at_slot(slot: u32, measure: Measure) -> Spot
+/// The location of one slot.
+pub(crate) fn at_slot(slot: u32, measure: Measure) -> Location
     ensures { at_one_slot measure.kind measure.width slot result }
 {
-    Spot {
+    Location {
         kind: measure.kind,
         width: measure.width,
         low: slot,
@@ -84,7 +84,7 @@ fn after(next: Instr, slot: u32) -> Instr
 }
 
 /// An instruction on the word of one operand.
-pub(crate) fn of_one(op: Op, x: Spot, shift: u8, mask: u64) -> Instr
+pub(crate) fn of_one(op: Op, x: Location, shift: u8, mask: u64) -> Instr
     ensures { result ≡ working op shift x.low 0 0 mask }
 {
     Instr {
@@ -99,7 +99,7 @@ pub(crate) fn of_one(op: Op, x: Spot, shift: u8, mask: u64) -> Instr
 }
 
 /// An instruction on the words of two operands.
-pub(crate) fn of_two(op: Op, x: Spot, y: Spot, mask: u64) -> Instr
+pub(crate) fn of_two(op: Op, x: Location, y: Location, mask: u64) -> Instr
     ensures { result ≡ working op 0 x.low y.low 0 mask }
 {
     Instr {

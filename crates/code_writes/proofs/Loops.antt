@@ -58,60 +58,60 @@ module _ (net : Net) (S : Sources) (m : ℕ) (memory : NetMemory) (there : slice
     pub leaf_done : (w : IsNet net) (h : HasMemory net S m) (k : ℕ) (write : NetWrite) (mask datum : ℕ) → port.write ≡ Some write → slice_get write.masks k ≡ Some mask → slice_get write.leaves k ≡ Some datum
         → (target : Target) (conditions : List ℕ) (a b : Draft) → target.address ≡ port.addr → target.source ≡ datum → IfSome (element_source S m k) (λ e. target.region ≡ e.region) → conditions ≡ conditions_of port mask
         → TellsTarget net S target conditions a b → (other : NetMemory) (its : NetPort) (leaf : ElementLeaf) → slice_get net.memories m ≡ Some other → slice_get other.ports p ≡ Some its → slice_get other.elements k ≡ Some leaf
-        → PublishesLeft net S (λ st sight. leaf_told net m other (shown sight its) (k, element_shape leaf)) a b
+        → PublishesLeft net S (λ st instant. leaf_told net m other (shown instant its) (k, element_shape leaf)) a b
     leaf_done w h k write mask datum writes masked sourced target conditions a b ta ts tr tc told other its leaf e f g =
         let same : h.memory ≡ other = some_same (sym h.there ∙ e) in
         let port_is : port ≡ its = same_port other its e f in
         let listed0 : slice_get h.memory.ports p ≡ Some its = ap (λ (y : NetMemory). slice_get y.ports p) same ∙ f in
         let at0 : slice_get h.memory.elements k ≡ Some leaf = ap (λ (y : NetMemory). slice_get y.elements k) same ∙ g in
-        subst (λ (y : NetMemory). PublishesLeft net S (λ st sight. leaf_told net m y (shown sight its) (k, element_shape leaf)) a b) same
+        subst (λ (y : NetMemory). PublishesLeft net S (λ st instant. leaf_told net m y (shown instant its) (k, element_shape leaf)) a b) same
         (leaf_written net S m w h p k its listed0 write (sym (ap (λ (q : NetPort). q.write) port_is) ∙ writes) mask datum masked sourced leaf at0 target conditions a b (ta ∙ ap (λ (q : NetPort). q.addr) port_is) ts tr
         (tc ∙ ap (λ (q : NetPort). conditions_of q mask) port_is) told)
 
     -- what a port leaves is what the port at this place leaves
-    port_here : (a b : Draft) → PublishesLeft net S (λ st sight. port_told net sight m memory port) a b → (other : NetMemory) (its : NetPort) → slice_get net.memories m ≡ Some other → slice_get other.ports p ≡ Some its
-        → PublishesLeft net S (λ st sight. port_told net sight m other its) a b
+    port_here : (a b : Draft) → PublishesLeft net S (λ st instant. port_told net instant m memory port) a b → (other : NetMemory) (its : NetPort) → slice_get net.memories m ≡ Some other → slice_get other.ports p ≡ Some its
+        → PublishesLeft net S (λ st instant. port_told net instant m other its) a b
     port_here a b t other its e f =
-        subst (λ (y : NetMemory). PublishesLeft net S (λ st sight. port_told net sight m y its) a b) (same_memory other e)
-        (subst (λ (q : NetPort). PublishesLeft net S (λ st sight. port_told net sight m memory q) a b) (same_port other its e f) t)
+        subst (λ (y : NetMemory). PublishesLeft net S (λ st instant. port_told net instant m y its) a b) (same_memory other e)
+        (subst (λ (q : NetPort). PublishesLeft net S (λ st instant. port_told net instant m memory q) a b) (same_port other its e f) t)
 
-    pub port_done : (n : ℕ) (a b : Draft) → length memory.elements ≤ n → PublishesLeft net S (λ st sight. flat_map (leaf_told net m memory (shown sight port)) (take n (numbered (element_shapes memory)))) a b
-        → (other : NetMemory) (its : NetPort) → slice_get net.memories m ≡ Some other → slice_get other.ports p ≡ Some its → PublishesLeft net S (λ st sight. port_told net sight m other its) a b
+    pub port_done : (n : ℕ) (a b : Draft) → length memory.elements ≤ n → PublishesLeft net S (λ st instant. flat_map (leaf_told net m memory (shown instant port)) (take n (numbered (element_shapes memory)))) a b
+        → (other : NetMemory) (its : NetPort) → slice_get net.memories m ≡ Some other → slice_get other.ports p ≡ Some its → PublishesLeft net S (λ st instant. port_told net instant m other its) a b
     port_done n a b long inv =
         let one = numbered_long (element_shapes memory) in
         let two = length-map memory.elements element_shape in
-        port_here a b (subst (λ xs. PublishesLeft net S (λ st sight. flat_map (leaf_told net m memory (shown sight port)) xs) a b) (take_all n (numbered (element_shapes memory)) (omega (arith, one, two, long))) inv)
+        port_here a b (subst (λ xs. PublishesLeft net S (λ st instant. flat_map (leaf_told net m memory (shown instant port)) xs) a b) (take_all n (numbered (element_shapes memory)) (omega (arith, one, two, long))) inv)
 
-    pub idle_done : (a : Draft) → port.write ≡ None → (other : NetMemory) (its : NetPort) → slice_get net.memories m ≡ Some other → slice_get other.ports p ≡ Some its → PublishesLeft net S (λ st sight. port_told net sight m other its) a a
+    pub idle_done : (a : Draft) → port.write ≡ None → (other : NetMemory) (its : NetPort) → slice_get net.memories m ≡ Some other → slice_get other.ports p ≡ Some its → PublishesLeft net S (λ st instant. port_told net instant m other its) a a
     idle_done a none =
-        port_here a a (left_as net S (λ st sight. []) (λ st sight. port_told net sight m memory port) a a (λ words inputs F sight st sees shows. sym (idle_port net m memory port sight none)) (nothing_left_yet net S a))
+        port_here a a (left_as net S (λ st instant. []) (λ st instant. port_told net instant m memory port) a a (λ words inputs F instant st sees shows. sym (idle_port net m memory port instant none)) (nothing_left_yet net S a))
 
-    pub leaf_step : (k : ℕ) (a b c : Draft) → k < length memory.elements → PublishesLeft net S (λ st sight. flat_map (leaf_told net m memory (shown sight port)) (take k (numbered (element_shapes memory)))) a b
+    pub leaf_step : (k : ℕ) (a b c : Draft) → k < length memory.elements → PublishesLeft net S (λ st instant. flat_map (leaf_told net m memory (shown instant port)) (take k (numbered (element_shapes memory)))) a b
         → ((other : NetMemory) (its : NetPort) (leaf : ElementLeaf) → slice_get net.memories m ≡ Some other → slice_get other.ports p ≡ Some its → slice_get other.elements k ≡ Some leaf
-        → PublishesLeft net S (λ st sight. leaf_told net m other (shown sight its) (k, element_shape leaf)) b c)
-        → PublishesLeft net S (λ st sight. flat_map (leaf_told net m memory (shown sight port)) (take (k + 1) (numbered (element_shapes memory)))) a c
+        → PublishesLeft net S (λ st instant. leaf_told net m other (shown instant its) (k, element_shape leaf)) b c)
+        → PublishesLeft net S (λ st instant. flat_map (leaf_told net m memory (shown instant port)) (take (k + 1) (numbered (element_shapes memory)))) a c
     leaf_step k a b c lt inv called =
         let leaf = some_there memory.elements k lt in
-        left_as net S (λ st sight. flat_map (leaf_told net m memory (shown sight port)) (take k (numbered (element_shapes memory))) ++ leaf_told net m memory (shown sight port) (k, element_shape leaf.0))
-        (λ st sight. flat_map (leaf_told net m memory (shown sight port)) (take (k + 1) (numbered (element_shapes memory)))) a c
-        (λ words inputs F sight st sees shows. leaf_more net m k memory port leaf.0 sight leaf.1)
-        (left_then net S (λ st sight. flat_map (leaf_told net m memory (shown sight port)) (take k (numbered (element_shapes memory)))) (λ st sight. leaf_told net m memory (shown sight port) (k, element_shape leaf.0)) a b c inv
+        left_as net S (λ st instant. flat_map (leaf_told net m memory (shown instant port)) (take k (numbered (element_shapes memory))) ++ leaf_told net m memory (shown instant port) (k, element_shape leaf.0))
+        (λ st instant. flat_map (leaf_told net m memory (shown instant port)) (take (k + 1) (numbered (element_shapes memory)))) a c
+        (λ words inputs F instant st sees shows. leaf_more net m k memory port leaf.0 instant leaf.1)
+        (left_then net S (λ st instant. flat_map (leaf_told net m memory (shown instant port)) (take k (numbered (element_shapes memory)))) (λ st instant. leaf_told net m memory (shown instant port) (k, element_shape leaf.0)) a b c inv
         (called memory port leaf.0 there listed leaf.1))
 
-  pub port_step : (p : ℕ) (a b c : Draft) → p < length memory.ports → PublishesLeft net S (λ st sight. flat_map (port_told net sight m memory) (take p memory.ports)) a b
-      → ((other : NetMemory) (its : NetPort) → slice_get net.memories m ≡ Some other → slice_get other.ports p ≡ Some its → PublishesLeft net S (λ st sight. port_told net sight m other its) b c)
-      → PublishesLeft net S (λ st sight. flat_map (port_told net sight m memory) (take (p + 1) memory.ports)) a c
+  pub port_step : (p : ℕ) (a b c : Draft) → p < length memory.ports → PublishesLeft net S (λ st instant. flat_map (port_told net instant m memory) (take p memory.ports)) a b
+      → ((other : NetMemory) (its : NetPort) → slice_get net.memories m ≡ Some other → slice_get other.ports p ≡ Some its → PublishesLeft net S (λ st instant. port_told net instant m other its) b c)
+      → PublishesLeft net S (λ st instant. flat_map (port_told net instant m memory) (take (p + 1) memory.ports)) a c
   port_step p a b c lt inv called =
       let port = some_there memory.ports p lt in
-      left_as net S (λ st sight. flat_map (port_told net sight m memory) (take p memory.ports) ++ port_told net sight m memory port.0) (λ st sight. flat_map (port_told net sight m memory) (take (p + 1) memory.ports)) a c
-      (λ words inputs F sight st sees shows. flat_more (port_told net sight m memory) (take p memory.ports) port.0 ∙ ap (flat_map (port_told net sight m memory)) (sym (one_more memory.ports p port.0 port.1 lt)))
-      (left_then net S (λ st sight. flat_map (port_told net sight m memory) (take p memory.ports)) (λ st sight. port_told net sight m memory port.0) a b c inv (called memory port.0 there port.1))
+      left_as net S (λ st instant. flat_map (port_told net instant m memory) (take p memory.ports) ++ port_told net instant m memory port.0) (λ st instant. flat_map (port_told net instant m memory) (take (p + 1) memory.ports)) a c
+      (λ words inputs F instant st sees shows. flat_more (port_told net instant m memory) (take p memory.ports) port.0 ∙ ap (flat_map (port_told net instant m memory)) (sym (one_more memory.ports p port.0 port.1 lt)))
+      (left_then net S (λ st instant. flat_map (port_told net instant m memory) (take p memory.ports)) (λ st instant. port_told net instant m memory port.0) a b c inv (called memory port.0 there port.1))
     where
       one_more : (xs : List NetPort) (k : ℕ) (x : NetPort) → slice_get xs k ≡ Some x → k < length xs → take (k + 1) xs ≡ take k xs ++ x ∷ []
       one_more xs k x e lt = take_more xs k x lt ∙ ap (λ y. take k xs ++ y ∷ []) (some_same (sym (slice_get-get_or xs k x lt) ∙ e))
 
-  pub writes_done : (n : ℕ) (a b : Draft) → length memory.ports ≤ n → PublishesLeft net S (λ st sight. flat_map (port_told net sight m memory) (take n memory.ports)) a b
-      → (other : NetMemory) → slice_get net.memories m ≡ Some other → PublishesLeft net S (λ st sight. writes_told net sight m other) a b
+  pub writes_done : (n : ℕ) (a b : Draft) → length memory.ports ≤ n → PublishesLeft net S (λ st instant. flat_map (port_told net instant m memory) (take n memory.ports)) a b
+      → (other : NetMemory) → slice_get net.memories m ≡ Some other → PublishesLeft net S (λ st instant. writes_told net instant m other) a b
   writes_done n a b long inv other e =
-      subst (λ (y : NetMemory). PublishesLeft net S (λ st sight. writes_told net sight m y) a b) (same_memory other e)
-      (subst (λ xs. PublishesLeft net S (λ st sight. flat_map (port_told net sight m memory) xs) a b) (take_all n memory.ports (omega (arith, long))) inv)
+      subst (λ (y : NetMemory). PublishesLeft net S (λ st instant. writes_told net instant m y) a b) (same_memory other e)
+      (subst (λ xs. PublishesLeft net S (λ st instant. flat_map (port_told net instant m memory) xs) a b) (take_all n memory.ports (omega (arith, long))) inv)

@@ -18,7 +18,7 @@ use Rattle.ground_net.specs.declared.net.NetPort.{NetPort}
 use Rattle.ground_net.specs.declared.net.NetWrite.{NetWrite}
 use Rattle.ground_net.specs.declared.net.ElementLeaf.{ElementLeaf}
 use Rattle.ground_net.specs.declared.ground.Ground.TheVariants.{Leaf}
-use Rattle.ground_net.specs.Grounds.{Sight}
+use Rattle.ground_net.specs.Grounds.{Instant}
 use Rattle.ground_net.specs.Cones.{numbered, or_no_leaf}
 use Rattle.net_meaning.specs.Shapes.{Shape, shaped, shape, HasShapes}
 use Rattle.net_meaning.specs.Cycles.{NetState, is_set, is_set_at, integer_at, where_it_writes, written_leaf, mask_leaf, shown}
@@ -132,79 +132,79 @@ module _ (net : Net) (S : Sources) (m : ℕ) (w : IsNet net) (h : HasMemory net 
   element_is : elements_shape stands.source ≡ element_shape leaf
   element_is = stands.has.shape ∙ ap element_shape same_leaf
 
-  module _ (sight : Sight) (shapes : HasShapes (sources_table S) sight) where
-    address_bits : unsigned_abs (integer_of (sight.leaf port.addr)) ≡ (sight.leaf port.addr).bits
+  module _ (instant : Instant) (shapes : HasShapes (sources_table S) instant) where
+    address_bits : unsigned_abs (integer_of (instant.leaf port.addr)) ≡ (instant.leaf port.addr).bits
     address_bits =
         let e = ap (λ (t : Shape). t.kind) (shapes.leaf port.addr (shaped Unsigned its.reader.addr.width) its.reader.addr.there) in
-        ap (λ q. unsigned_abs (integer q (sight.leaf port.addr).width (sight.leaf port.addr).bits)) e
+        ap (λ q. unsigned_abs (integer q (instant.leaf port.addr).width (instant.leaf port.addr).bits)) e
 
-    datum_is : sight.leaf datum ≡ fitted leaf.kind leaf.width (integer_of (sight.leaf datum))
-    datum_is = sym (refitted (sight.leaf datum)) ∙ ap (λ (t : Shape). fitted t.kind t.width (integer_of (sight.leaf datum))) (shapes.leaf datum (element_shape leaf) (its.source datum sourced))
+    datum_is : instant.leaf datum ≡ fitted leaf.kind leaf.width (integer_of (instant.leaf datum))
+    datum_is = sym (refitted (instant.leaf datum)) ∙ ap (λ (t : Shape). fitted t.kind t.width (integer_of (instant.leaf datum))) (shapes.leaf datum (element_shape leaf) (its.source datum sourced))
 
     abbrev set : Bool
-    set = set_to_write (is_set sight port.en) (option_map (is_set sight) port.mode)
+    set = set_to_write (is_set instant port.en) (option_map (is_set instant) port.mode)
 
     abbrev bits : ℕ
-    bits = (sight.leaf port.addr).bits
+    bits = (instant.leaf port.addr).bits
 
     conditions_are : (o : Option ℕ) (b : Bool)
-        → (list_all is_one (map (λ x. sight.leaf x) (port.en ∷ (or_no_leaf o ++ (mask ∷ [])))) && b) ≡ ((set_to_write (is_set sight port.en) (option_map (is_set sight) o) && b) && is_set sight mask)
-    conditions_are None b = without_mode (is_set sight port.en) (is_set sight mask) b
-    conditions_are (Some x) b = with_mode (is_set sight port.en) (is_set sight x) (is_set sight mask) b
+        → (list_all is_one (map (λ x. instant.leaf x) (port.en ∷ (or_no_leaf o ++ (mask ∷ [])))) && b) ≡ ((set_to_write (is_set instant port.en) (option_map (is_set instant) o) && b) && is_set instant mask)
+    conditions_are None b = without_mode (is_set instant port.en) (is_set instant mask) b
+    conditions_are (Some x) b = with_mode (is_set instant port.en) (is_set instant x) (is_set instant mask) b
 
     abbrev told_if : Bool → ℕ → List Publication
-    told_if b word = if b then stored word (fitted leaf.kind leaf.width (integer_of (sight.leaf datum))) else []
+    told_if b word = if b then stored word (fitted leaf.kind leaf.width (integer_of (instant.leaf datum))) else []
 
-    leaf_is : (st : NetState) → target_left (record { address = port.addr; source = datum; region = stands.source.region }) (conditions_of port mask) st sight
-        ≡ leaf_told net m h.memory (shown sight port) (k, element_shape leaf)
+    leaf_is : (st : NetState) → target_left (record { address = port.addr; source = datum; region = stands.source.region }) (conditions_of port mask) st instant
+        ≡ leaf_told net m h.memory (shown instant port) (k, element_shape leaf)
     leaf_is st =
         let region = stands.source.region in
         let word : region.base + bits * region.stride ≡ element_word net m h.memory bits k = word_is net m k stands.source stands.has bits ∙ ap (λ y. element_word net m y bits k) same_memory in
         let depth : region.depth ≡ h.memory.depth = stands.has.depth ∙ ap (λ (y : NetMemory). y.depth) same_memory in
-        let all : List Value = map (λ x. sight.leaf x) (conditions_of port mask) in
+        let all : List Value = map (λ x. instant.leaf x) (conditions_of port mask) in
         ap (λ v. if list_all is_one all && nat_lt bits region.depth then stored (region.base + bits * region.stride) v else []) datum_is
         ∙ (ap₂ (λ n at. told_if (list_all is_one all && nat_lt bits n) at) depth word
         ∙ (ap (λ b. told_if b (element_word net m h.memory bits k)) (conditions_are port.mode (nat_lt bits h.memory.depth))
-        ∙ (ap (λ n. told_if ((set && nat_lt n h.memory.depth) && is_set sight mask) (element_word net m h.memory n k)) (sym address_bits)
+        ∙ (ap (λ n. told_if ((set && nat_lt n h.memory.depth) && is_set instant mask) (element_word net m h.memory n k)) (sym address_bits)
         ∙ (ap₂ (λ (q : Option ℕ) (d : Option ℕ).
-        if (set && nat_lt (unsigned_abs (integer_of (sight.leaf port.addr))) h.memory.depth) && is_set_at sight q
-        then stored (element_word net m h.memory (unsigned_abs (integer_of (sight.leaf port.addr))) k) (fitted leaf.kind leaf.width (integer_at sight d)) else []) (sym masked) (sym sourced)
+        if (set && nat_lt (unsigned_abs (integer_of (instant.leaf port.addr))) h.memory.depth) && is_set_at instant q
+        then stored (element_word net m h.memory (unsigned_abs (integer_of (instant.leaf port.addr))) k) (fitted leaf.kind leaf.width (integer_at instant d)) else []) (sym masked) (sym sourced)
         ∙ ap (λ (o : Option NetWrite).
-        if (where_it_writes o set && nat_lt (unsigned_abs (integer_of (sight.leaf port.addr))) h.memory.depth) && is_set_at sight (mask_leaf o k)
-        then stored (element_word net m h.memory (unsigned_abs (integer_of (sight.leaf port.addr))) k) (fitted leaf.kind leaf.width (integer_at sight (written_leaf o k))) else []) (sym writes)))))
+        if (where_it_writes o set && nat_lt (unsigned_abs (integer_of (instant.leaf port.addr))) h.memory.depth) && is_set_at instant (mask_leaf o k)
+        then stored (element_word net m h.memory (unsigned_abs (integer_of (instant.leaf port.addr))) k) (fitted leaf.kind leaf.width (integer_at instant (written_leaf o k))) else []) (sym writes)))))
 
   pub leaf_written : (target : Target) (conditions : List ℕ) (a b : Draft) → target.address ≡ port.addr → target.source ≡ datum → IfSome (element_source S m k) (λ e. target.region ≡ e.region) → conditions ≡ conditions_of port mask
-      → TellsTarget net S target conditions a b → PublishesLeft net S (λ st sight. leaf_told net m h.memory (shown sight port) (k, element_shape leaf)) a b
+      → TellsTarget net S target conditions a b → PublishesLeft net S (λ st instant. leaf_told net m h.memory (shown instant port) (k, element_shape leaf)) a b
   leaf_written target conditions a b ta ts tr tc told is srcs =
       let region : target.region ≡ stands.source.region = subst (λ (o : Option Elements). IfSome o (λ e. target.region ≡ e.region)) stands.there tr in
       let fits : FitsTarget S a target = λ s e.
       let width : s ≡ elements_shape stands.source = some_same (sym e ∙ (ap (sources_table S).leaf ts ∙ its.source datum sourced)) ∙ sym element_is in
       subst (λ (u : Shape). InRegion a.words u.width target.region) (sym width) (subst (InRegion a.words stands.source.width) (sym region) (srcs.regions m k stands.source stands.there)) in
-      left_as net S (target_left target conditions) (λ st sight. leaf_told net m h.memory (shown sight port) (k, element_shape leaf)) a b
-      (λ words inputs F sight st sees shows.
-      ap₂ (λ x y. stored_where target.region (sight.leaf x) (sight.leaf y) (map (λ x. sight.leaf x) conditions)) ta ts
-      ∙ (ap₂ (λ r cs. stored_where r (sight.leaf port.addr) (sight.leaf datum) (map (λ x. sight.leaf x) cs)) region tc
-      ∙ leaf_is sight (seen_shapes S words inputs F sight sees) st))
+      left_as net S (target_left target conditions) (λ st instant. leaf_told net m h.memory (shown instant port) (k, element_shape leaf)) a b
+      (λ words inputs F instant st sees shows.
+      ap₂ (λ x y. stored_where target.region (instant.leaf x) (instant.leaf y) (map (λ x. instant.leaf x) conditions)) ta ts
+      ∙ (ap₂ (λ r cs. stored_where r (instant.leaf port.addr) (instant.leaf datum) (map (λ x. instant.leaf x) cs)) region tc
+      ∙ leaf_is instant (seen_shapes S words inputs F instant sees) st))
       (told fits) is srcs
 
 -- a port that doesn't write
-pub idle_port : (net : Net) (m : ℕ) (memory : NetMemory) (port : NetPort) (sight : Sight) → port.write ≡ None → port_told net sight m memory port ≡ []
-idle_port net m memory port sight e =
-    let set = set_to_write (is_set sight port.en) (option_map (is_set sight) port.mode) in
-    let at = unsigned_abs (integer_of (sight.leaf port.addr)) in
-    nothing_left (leaf_told net m memory (shown sight port)) (numbered (element_shapes memory)) (λ both. ap (λ (o : Option NetWrite).
-    if (where_it_writes o set && nat_lt at memory.depth) && is_set_at sight (mask_leaf o both.0)
-    then stored (element_word net m memory at both.0) (fitted both.1.kind both.1.width (integer_at sight (written_leaf o both.0))) else []) e)
+pub idle_port : (net : Net) (m : ℕ) (memory : NetMemory) (port : NetPort) (instant : Instant) → port.write ≡ None → port_told net instant m memory port ≡ []
+idle_port net m memory port instant e =
+    let set = set_to_write (is_set instant port.en) (option_map (is_set instant) port.mode) in
+    let at = unsigned_abs (integer_of (instant.leaf port.addr)) in
+    nothing_left (leaf_told net m memory (shown instant port)) (numbered (element_shapes memory)) (λ both. ap (λ (o : Option NetWrite).
+    if (where_it_writes o set && nat_lt at memory.depth) && is_set_at instant (mask_leaf o both.0)
+    then stored (element_word net m memory at both.0) (fitted both.1.kind both.1.width (integer_at instant (written_leaf o both.0))) else []) e)
 
 pub flat_more : {A B : Type 0} (f : A → List B) (xs : List A) (x : A) → flat_map f xs ++ f x ≡ flat_map f (xs ++ x ∷ [])
 flat_more f xs x = ap (λ l. flat_map f xs ++ l) (sym (append-nil (f x))) ∙ sym (flat_map-append f xs (x ∷ []))
 
 -- one leaf more
-pub leaf_more : (net : Net) (m k : ℕ) (memory : NetMemory) (port : NetPort) (leaf : ElementLeaf) (sight : Sight) → slice_get memory.elements k ≡ Some leaf
-    → flat_map (leaf_told net m memory (shown sight port)) (take k (numbered (element_shapes memory))) ++ leaf_told net m memory (shown sight port) (k, element_shape leaf)
-    ≡ flat_map (leaf_told net m memory (shown sight port)) (take (k + 1) (numbered (element_shapes memory)))
-leaf_more net m k memory port leaf sight e =
-    let f = leaf_told net m memory (shown sight port) in
+pub leaf_more : (net : Net) (m k : ℕ) (memory : NetMemory) (port : NetPort) (leaf : ElementLeaf) (instant : Instant) → slice_get memory.elements k ≡ Some leaf
+    → flat_map (leaf_told net m memory (shown instant port)) (take k (numbered (element_shapes memory))) ++ leaf_told net m memory (shown instant port) (k, element_shape leaf)
+    ≡ flat_map (leaf_told net m memory (shown instant port)) (take (k + 1) (numbered (element_shapes memory)))
+leaf_more net m k memory port leaf instant e =
+    let f = leaf_told net m memory (shown instant port) in
     flat_more f (take k (numbered (element_shapes memory))) (k, element_shape leaf) ∙ ap (flat_map f) (sym (numbered_more (element_shapes memory) k (element_shape leaf) (at_map element_shape memory.elements k leaf e)))
 
 -- the leaf of a memory's port is there

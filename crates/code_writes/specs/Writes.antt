@@ -21,7 +21,7 @@ PublishesLeft net S left old new = IsDraft old → AreSources S old → TellsLef
 
 -- what a target gets, where these leaves are 1
 abbrev pub target_left : Target → List ℕ → Left
-target_left target conditions st sight = stored_where target.region (sight.leaf target.address) (sight.leaf target.source) (map (λ x. sight.leaf x) conditions)
+target_left target conditions st instant = stored_where target.region (instant.leaf target.address) (instant.leaf target.source) (map (λ x. instant.leaf x) conditions)
 
 -- the leaves that are conditions of a write: the enable, the mode of a readwriter, and the mask
 abbrev pub conditions_of : NetPort → ℕ → List ℕ

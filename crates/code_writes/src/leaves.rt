@@ -4,7 +4,7 @@ ghost use Rattle.std.specs.Prelude.{◌≡◌, [], ◌∷◌, Some, IsSome, IfOk
 ghost use Rattle.ground_net.specs.declared.ground.Ground.TheVariants.{Leaf as A_leaf};
 ghost use Rattle.ground_net.specs.declared.net.Net.{Net as TheNet};
 ghost use Rattle.net_meaning.specs.Shapes.{shape};
-ghost use Rattle.flat_code.specs.Meaning.{spot_shape};
+ghost use Rattle.flat_code.specs.Meaning.{location_shape};
 ghost use Rattle.code_emit.specs.Emits.{sources_table, Emits, EmitsAll};
 ghost use Rattle.code_emit.specs.Spans.{Spans, SpansAll, EvaluatesAll};
 ghost use Rattle.code_writes.specs.Writes.{TellsTarget};
@@ -14,7 +14,7 @@ use bit_words::List;
 use code_draft::Draft;
 use code_emit::{Sources, emit};
 use code_ports::publish_by;
-use flat_code::{Port, Spot};
+use flat_code::{Port, Location};
 use ground_net::Ground;
 use std::alloc::{AllocError, Global};
 
@@ -50,9 +50,9 @@ fn emit_leaf(
     draft: &mut Draft,
     sources: &Sources,
     leaf: u32,
-) -> Result<Spot, AllocError>
+) -> Result<Location, AllocError>
     requires { IsSome (shape (A_leaf leaf) (sources_table sources.now)) }
-    ensures shape { IfOk result (λ s. shape (A_leaf leaf) (sources_table sources.now) ≡ Some (spot_shape s)) }
+    ensures shape { IfOk result (λ s. shape (A_leaf leaf) (sources_table sources.now) ≡ Some (location_shape s)) }
     ensures emits { IfOk result (λ s. Emits sources.now (A_leaf leaf) draft.old draft.new s) }
     ensures spans { IfOk result (λ s. Spans sources.now (A_leaf leaf) draft.old draft.new s) }
 {
@@ -66,15 +66,15 @@ fn emit_leaves(
     draft: &mut Draft,
     sources: &Sources,
     leaves: &[u32],
-) -> Result<List<Spot>, AllocError>
+) -> Result<List<Location>, AllocError>
     requires { All (λ x. IsSome (shape (A_leaf x) (sources_table sources.now))) leaves.now }
     ensures emits { IfOk result (λ ss. EmitsAll sources.now (map (λ x. A_leaf x) leaves.now) draft.old draft.new ss) }
     ensures spans { IfOk result (λ ss. SpansAll sources.now (map (λ x. A_leaf x) leaves.now) draft.old draft.new ss) }
 {
-    let mut spots = List::new(alloc);
+    let mut locations = List::new(alloc);
     for leaf in leaves {
-        let spot = emit_leaf(alloc, draft, sources, *leaf)?;
-        spots.push(spot)?;
+        let location = emit_leaf(alloc, draft, sources, *leaf)?;
+        locations.push(location)?;
     }
-    Ok(spots)
+    Ok(locations)
 }

@@ -1,4 +1,4 @@
-//! What the ports of a memory write: each leaf of an element is published by a port of the code. Keeps the contract that at every sight
+//! What the ports of a memory write: each leaf of an element is published by a port of the code. Keeps the contract that at every instant
 //! that the sources show exactly the writes of the cycle are published, port by port in declared order (FIRRTL specification 3.0,
 //! "Memories").
 #![tactic(auto)]

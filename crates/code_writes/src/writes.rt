@@ -25,7 +25,7 @@ use std::alloc::{AllocError, Global};
 pub fn publish_writes(alloc: Global, draft: &mut Draft, at: MemoryAt<'_>) -> Result<(), AllocError>
     requires net { IsNet at.net.now }
     requires memory { HasMemory at.net.now at.sources.now at.number }
-    ensures left { OnOk result ((memory : TheMemory) → slice_get at.entry.net.now.memories at.entry.number ≡ Some memory → PublishesLeft at.entry.net.now at.entry.sources.now (λ st sight. writes_told at.entry.net.now sight at.entry.number memory) draft.old draft.new) }
+    ensures left { OnOk result ((memory : TheMemory) → slice_get at.entry.net.now.memories at.entry.number ≡ Some memory → PublishesLeft at.entry.net.now at.entry.sources.now (λ st instant. writes_told at.entry.net.now instant at.entry.number memory) draft.old draft.new) }
     ensures evaluates { OnOk result (EvaluatesOnly at.entry.sources.now (IsWriteGroup at.entry.net.now at.entry.number) draft.old draft.new) }
 {
     for port in 0..memory_of(at).ports.len() {
@@ -39,7 +39,7 @@ fn publish_port(alloc: Global, draft: &mut Draft, at: PortAt<'_>) -> Result<(), 
     requires net { IsNet at.memory.net.now }
     requires memory { HasMemory at.memory.net.now at.memory.sources.now at.memory.number }
     requires there { IsPortAt at.memory.net.now at.memory.number at.port }
-    ensures left { OnOk result ((memory : TheMemory) (port : ThePort) → slice_get at.entry.memory.net.now.memories at.entry.memory.number ≡ Some memory → slice_get memory.ports at.entry.port ≡ Some port → PublishesLeft at.entry.memory.net.now at.entry.memory.sources.now (λ st sight. port_told at.entry.memory.net.now sight at.entry.memory.number memory port) draft.old draft.new) }
+    ensures left { OnOk result ((memory : TheMemory) (port : ThePort) → slice_get at.entry.memory.net.now.memories at.entry.memory.number ≡ Some memory → slice_get memory.ports at.entry.port ≡ Some port → PublishesLeft at.entry.memory.net.now at.entry.memory.sources.now (λ st instant. port_told at.entry.memory.net.now instant at.entry.memory.number memory port) draft.old draft.new) }
     ensures evaluates { OnOk result (EvaluatesOnly at.entry.memory.sources.now (IsWriteGroup at.entry.memory.net.now at.entry.memory.number) draft.old draft.new) }
 {
     let memory = memory_of(at.memory);
@@ -63,7 +63,7 @@ fn publish_leaf(alloc: Global, draft: &mut Draft, at: PortLeaf<'_>) -> Result<()
     requires net { IsNet at.memory.net.now }
     requires memory { HasMemory at.memory.net.now at.memory.sources.now at.memory.number }
     requires there { WritesAt at.memory.net.now at.memory.number at.port at.leaf }
-    ensures left { OnOk result ((memory : TheMemory) (port : ThePort) (leaf : TheLeaf) → slice_get at.entry.memory.net.now.memories at.entry.memory.number ≡ Some memory → slice_get memory.ports at.entry.port ≡ Some port → slice_get memory.elements at.entry.leaf ≡ Some leaf → PublishesLeft at.entry.memory.net.now at.entry.memory.sources.now (λ st sight. leaf_told at.entry.memory.net.now at.entry.memory.number memory (shown sight port) (at.entry.leaf, element_shape leaf)) draft.old draft.new) }
+    ensures left { OnOk result ((memory : TheMemory) (port : ThePort) (leaf : TheLeaf) → slice_get at.entry.memory.net.now.memories at.entry.memory.number ≡ Some memory → slice_get memory.ports at.entry.port ≡ Some port → slice_get memory.elements at.entry.leaf ≡ Some leaf → PublishesLeft at.entry.memory.net.now at.entry.memory.sources.now (λ st instant. leaf_told at.entry.memory.net.now at.entry.memory.number memory (shown instant port) (at.entry.leaf, element_shape leaf)) draft.old draft.new) }
     ensures evaluates { OnOk result (EvaluatesOnly at.entry.memory.sources.now (IsWriteGroup at.entry.memory.net.now at.entry.memory.number) draft.old draft.new) }
 {
     let port = port_of(memory_of(at.memory), at.port);

@@ -9,7 +9,7 @@ use Rattle.ground_net.specs.declared.net.Ordered.{Ordered}
 use Rattle.ground_net.specs.declared.net.Ports.{Ports}
 use Rattle.ground_net.specs.declared.net.Cut.{Cut}
 use Rattle.ground_net.specs.Reads.{IsOrder}
-use Rattle.net_meaning.specs.Cycles.{NetState, Inputs, Valuation, Settled, sight_of, next, first_state}
+use Rattle.net_meaning.specs.Cycles.{NetState, Inputs, Valuation, Settled, instant_of, next, first_state}
 use Rattle.net_meaning.specs.Nets.{IsNet, IsWithin}
 use Rattle.net_meaning.specs.Words.{words_of}
 use Rattle.net_meaning.proofs.Mentioning.{one_of_net}
@@ -35,22 +35,22 @@ use Rattle.crew_run.proofs.Crews.{one_cut}
 use Rattle.crew_run.proofs.Rows.{lines_next, row_watched}
 
 -- one cycle more
-pub reach_on : (net : Net) (s t : NetState) (before : List Inputs) (given : Inputs) (rho : Valuation) → Reaches net s before t → Settled net t given rho → Reaches net s (before ++ given ∷ []) (next net t (sight_of net t rho))
+pub reach_on : (net : Net) (s t : NetState) (before : List Inputs) (given : Inputs) (rho : Valuation) → Reaches net s before t → Settled net t given rho → Reaches net s (before ++ given ∷ []) (next net t (instant_of net t rho))
 reach_on net s t [] given rho there settled = onward rho settled there
-reach_on net s t (g ∷ before) given rho (onward first cycle rest) settled = onward first cycle (reach_on net (next net s (sight_of net s first)) t before given rho rest settled)
+reach_on net s t (g ∷ before) given rho (onward first cycle rest) settled = onward first cycle (reach_on net (next net s (instant_of net s first)) t before given rho rest settled)
 
 -- a state that is reached from one in its leaves' ranges is in them too
 pub reached_within : (net : Net) (sequence : List ℕ) → IsNet net → IsOrder net sequence → (s t : NetState) (given : List Inputs) → IsWithin net s → Reaches net s given t → IsWithin net t
 reached_within net sequence well order s t [] inside there = inside
 reached_within net sequence well order s t (g ∷ given) inside (onward rho cycle rest) =
-    reached_within net sequence well order (next net s (sight_of net s rho)) t given
-    (next_within net well s (sight_of net s rho) (settled_has net well sequence order s g rho cycle) inside) rest
+    reached_within net sequence well order (next net s (instant_of net s rho)) t given
+    (next_within net well s (instant_of net s rho) (settled_has net well sequence order s g rho cycle) inside) rest
 
 pub reached_next : (net : Net) (stimulus : Stimulus) (n : ℕ) (t : NetState) (rho : Valuation) → Reaches net first_state (given_from stimulus 0 n) t → Settled net t (given_in stimulus n) rho
-    → Reaches net first_state (given_from stimulus 0 (n + 1)) (next net t (sight_of net t rho))
+    → Reaches net first_state (given_from stimulus 0 (n + 1)) (next net t (instant_of net t rho))
 reached_next net stimulus n t rho r settled =
     let z : 0 + n ≡ n = omega arith in
-    subst (λ given. Reaches net first_state given (next net t (sight_of net t rho))) (ap (λ m. given_from stimulus 0 n ++ given_in stimulus m ∷ []) (sym z) ∙ sym (given_split stimulus 0 n 1))
+    subst (λ given. Reaches net first_state given (next net t (instant_of net t rho))) (ap (λ m. given_from stimulus 0 n ++ given_in stimulus m ∷ []) (sym z) ∙ sym (given_split stimulus 0 n 1))
     (reach_on net first_state t (given_from stimulus 0 n) (given_in stimulus n) rho r settled)
 
 module _ (ordered : Ordered) (ports : Ports) (stimulus : Stimulus) (planned : IsPlanned ordered ports stimulus) (workers : ℕ) (some : 1 ≤ workers) (few : workers ≤ 64) (codes : List Code) (it : Cut) (of : AreCodesOfCut ordered workers codes it)
@@ -75,7 +75,7 @@ module _ (ordered : Ordered) (ports : Ports) (stimulus : Stimulus) (planned : Is
     rho : Valuation
     settled : Settled net t (given_in stimulus (first + c)) rho
     put : (k : ℕ) (code : Code) → slice_get codes k ≡ Some code → outputs_by code (values s c) (row_at rows c) ≡ map (λ n. rho (slice_index (watch net) n)) code.positions
-    after : At (suc c) (next net t (sight_of net t rho))
+    after : At (suc c) (next net t (instant_of net t rho))
 
   goes : (c : ℕ) → c < count → (t : NetState) → At c t → Goes c t
   goes c lt t at =
@@ -87,7 +87,7 @@ module _ (ordered : Ordered) (ports : Ports) (stimulus : Stimulus) (planned : Is
       let within : c < length rows = subst (λ n. c < n) (sym (rows_long ports stimulus first count)) lt in
       let z : first + c + 1 ≡ first + suc c = omega arith in
       let y : c + 1 ≡ suc c = omega arith in
-      let behind = next net t (sight_of net t one.0) in
+      let behind = next net t (instant_of net t one.0) in
       let next_is : values s (suc c) ≡ words_of net behind =
       ap (values s) (sym y) ∙ (values_next codes words rows c within ∙ (ap₂ (λ ws r. published_all (round_by codes ws r) ws) at.are row ∙ next_words codes cut t inside x (given_in stimulus (first + c)) matched one.0 one.1)) in
       record {
@@ -110,7 +110,7 @@ module _ (ordered : Ordered) (ports : Ports) (stimulus : Stimulus) (planned : Is
     state_at (suc c) le =
         let before = state_at c (omega (arith, le)) in
         let step = goes c (omega (arith, le)) before.0 before.1 in
-        (next net before.0 (sight_of net before.0 step.rho), step.after)
+        (next net before.0 (instant_of net before.0 step.rho), step.after)
 
     -- and the rows of the first cycles are those of the run
     pub leads_at : (outputs : List (List Value)) → Outputs s codes rows outputs count → (c : ℕ) → c ≤ count → LeadsTo net stimulus (At c) t first c (lines_from first (take c outputs))

@@ -8,7 +8,7 @@ use Rattle.ground_net.specs.declared.net.Net.{Net}
 use Rattle.ground_net.specs.declared.net.Ordered.{Ordered}
 use Rattle.ground_net.specs.declared.net.Cut.{Cut}
 use Rattle.ground_net.specs.declared.net.CutPart.{CutPart}
-use Rattle.net_meaning.specs.Cycles.{NetState, Inputs, Valuation, Settled, sight_of, next, first_state}
+use Rattle.net_meaning.specs.Cycles.{NetState, Inputs, Valuation, Settled, instant_of, next, first_state}
 use Rattle.net_meaning.specs.Words.{words_of}
 use Rattle.cone_cutter.specs.Cuts.{IsCut}
 use Rattle.partition_code.specs.Codes.{HasWordAmong, sinks_of_part}
@@ -18,7 +18,7 @@ use Rattle.circuit_run.specs.NetRuns.{watch, given_from}
 -- A state leads to another one in cycles of these inputs: each cycle goes on from the state after the settled values of the one before.
 pub data Reaches (net : Net) : NetState → List Inputs → NetState → Type 0 where
   there : {t : NetState} → Reaches net t [] t
-  onward : {s t : NetState} {given : Inputs} {later : List Inputs} (rho : Valuation) → Settled net s given rho → Reaches net (next net s (sight_of net s rho)) later t → Reaches net s (given ∷ later) t
+  onward : {s t : NetState} {given : Inputs} {later : List Inputs} (rho : Valuation) → Settled net s given rho → Reaches net (next net s (instant_of net s rho)) later t → Reaches net s (given ∷ later) t
 
 -- The words are those of this state, which the run has after so many cycles.
 pub record IsAfter (net : Net) (stimulus : Stimulus) (n : ℕ) (words : List ℕ) (t : NetState) : Type 0 where

@@ -9,7 +9,7 @@ use Rattle.phase_core.specs.declared.model.Script.{Script}
 use Rattle.phase_core.specs.Script.{values}
 use Rattle.flat_code.specs.declared.code.Code.{Code}
 use Rattle.flat_code.specs.declared.running.Effects.{Effects}
-use Rattle.flat_code.specs.Meaning.{spot_value, ran}
+use Rattle.flat_code.specs.Meaning.{location_value, ran}
 use Rattle.flat_code.specs.Codes.{published_by, outputs_by, most_publications, most_outputs, zeros}
 use Rattle.crew_workers.specs.Codes.{row_at}
 use Rattle.crew_turns.specs.Lists.{Apart, AreBelow, Placed}
@@ -20,7 +20,7 @@ use Rattle.crew_turns.proofs.Lists.{some_of, pair_next, first_of, last_of, lengt
 
 -- each code has an output for each of its positions
 pub outputs_many : (codes : List Code) (k : ℕ) (d : Code) (ws : List ℕ) (x : List Value) → length (outputs_by (get_or codes k d) ws x) ≡ length (get_or codes k d).positions
-outputs_many codes k d ws x = let code = get_or codes k d in length-map code.shown (spot_value (ran code.wides code.instrs ws x (zeros code))) ∙ sym code.each_shown
+outputs_many codes k d ws x = let code = get_or codes k d in length-map code.shown (location_value (ran code.wides code.instrs ws x (zeros code))) ∙ sym code.each_shown
 
 -- the positions of one code
 pub own_apart : (codes : List Code) → OwnPlaces codes → (k : ℕ) (x : Code) → k < length codes → x ≡ get_or codes k x → (ps : List ℕ) → ps ≡ x.positions → Apart ps

@@ -8,7 +8,7 @@ use Rattle.bit_words.specs.declared.value.Value.{Value}
 use Rattle.ground_net.specs.declared.circuit.GroundStmt.{GroundStmt}
 use Rattle.ground_net.specs.declared.circuit.GroundStmt.TheVariants.{When}
 use Rattle.ground_net.specs.declared.circuit.GroundArm.{GroundArm}
-use Rattle.ground_net.specs.Grounds.{Sight, value, mentions, joined}
+use Rattle.ground_net.specs.Grounds.{Instant, value, mentions, joined}
 use Rattle.cycle_values.specs.Values.{is_one}
 use Rattle.ground_net.specs.Statements.{Effect, first_holding, all_arms, DrivingArm, live, is_certain, crossing, through_arms}
 use Rattle.expand_whens.specs.declared.guard.Asked.{Asked}
@@ -22,20 +22,20 @@ use Rattle.expand_whens.proofs.Guards.{crossed_push, crossed_mentions_push}
 use Rattle.expand_whens.proofs.Making.{joined_crossing-append}
 
 -- a walk, told in other words
-pub walks_told : (asked : List Asked) (does other : Sight → ℕ → Effect) (lives others : ℕ → List (List ℕ)) (surely certain : ℕ → Bool)
+pub walks_told : (asked : List Asked) (does other : Instant → ℕ → Effect) (lives others : ℕ → List (List ℕ)) (surely certain : ℕ → Bool)
     (covered : List Bool) (old new : List (Vec Way)) (newly : List ℕ)
-    → ((sight : Sight) (leaf : ℕ) (last : Option Value) → does sight leaf last ≡ other sight leaf last) → ((leaf : ℕ) → lives leaf ≡ others leaf) → ((leaf : ℕ) → surely leaf ≡ certain leaf)
+    → ((instant : Instant) (leaf : ℕ) (last : Option Value) → does instant leaf last ≡ other instant leaf last) → ((leaf : ℕ) → lives leaf ≡ others leaf) → ((leaf : ℕ) → surely leaf ≡ certain leaf)
     → Walks asked does lives surely covered old new newly → Walks asked other others certain covered old new newly
 walks_told asked does other lives others surely certain covered old new newly d l s w = record {
   counted = w.counted;
   made = λ leaf u.
       let m = w.made leaf u in record {
-        leaves = λ sight last. m.leaves sight last ∙ ap (λ x. outcome sight (ways_at old leaf) (if crossed sight leaf asked then x else last)) (d sight leaf last);
+        leaves = λ instant last. m.leaves instant last ∙ ap (λ x. outcome instant (ways_at old leaf) (if crossed instant leaf asked then x else last)) (d instant leaf last);
         reads = subst (λ ls. Same (ways_mentions (ways_at new leaf)) (ways_mentions (ways_at old leaf) ++ joined (crossing (crossed_mentions leaf asked) ls))) (l leaf) m.reads;
       };
   stays = w.stays;
   listed = λ leaf. w.listed leaf ∙ ap (λ b. not (is_covered covered leaf) && b) (s leaf);
-  settles = λ leaf h sight last before. sym (d sight leaf last) ∙ (w.settles leaf h sight last before ∙ d sight leaf before);
+  settles = λ leaf h instant last before. sym (d instant leaf last) ∙ (w.settles leaf h instant last before ∙ d instant leaf before);
 }
 
 pub crossing_none : (ls : List (List ℕ)) → crossing [] ls ≡ ls
@@ -100,7 +100,7 @@ settle_step false q body arms other b r x y = r (body x) (body y)
 pub arms_none : (asked : List Asked) (first : ℕ) (other : List GroundStmt) (covered : List Bool) (old new : List (Vec Way)) (newly : List ℕ)
     → BlockWalks asked other covered old new newly → ArmsWalk asked first [] other covered old new newly
 arms_none asked first other covered old new newly = walks_told _ _ _ _ _ _ _ _ _ _ _
-    (λ sight leaf last. sym (do_none (nat_lt leaf first) (block_effect sight leaf other) last))
+    (λ instant leaf last. sym (do_none (nat_lt leaf first) (block_effect instant leaf other) last))
     (λ leaf. sym (lives_none (nat_lt leaf first) (live leaf other)))
     (λ leaf. refl)
 
@@ -118,14 +118,14 @@ module _ (asked : List Asked) (first : ℕ) (arm : GroundArm) (rest : List Groun
     (no : Asked) (is_first : no.first ≡ first) (is_condition : no.condition ≡ arm.condition) (is_refused : no.holds ≡ false)
     (late : ArmsWalk (asked ++ no ∷ []) first rest other covered old mid late_ones) (early : BlockWalks (asked ++ accepted no ∷ []) arm.body covered mid new early_ones)
     (is_both : (leaf : ℕ) → has all leaf ≡ (has late_ones leaf && has early_ones leaf)) where
-  test_no : (sight : Sight) (leaf : ℕ) → crossed sight leaf (asked ++ no ∷ []) ≡ (crossed sight leaf asked && (if nat_lt leaf first then not (is_one (value arm.condition sight)) else true))
-  test_no sight leaf = crossed_push sight leaf asked no ∙ (ap (λ f. crossed sight leaf asked && (if nat_lt leaf f then (if no.holds then is_one (value no.condition sight) else not (is_one (value no.condition sight))) else true)) is_first
-      ∙ (ap (λ g. crossed sight leaf asked && (if nat_lt leaf first then (if no.holds then is_one (value g sight) else not (is_one (value g sight))) else true)) is_condition
-      ∙ ap (λ b. crossed sight leaf asked && (if nat_lt leaf first then (if b then is_one (value arm.condition sight) else not (is_one (value arm.condition sight))) else true)) is_refused))
+  test_no : (instant : Instant) (leaf : ℕ) → crossed instant leaf (asked ++ no ∷ []) ≡ (crossed instant leaf asked && (if nat_lt leaf first then not (is_one (value arm.condition instant)) else true))
+  test_no instant leaf = crossed_push instant leaf asked no ∙ (ap (λ f. crossed instant leaf asked && (if nat_lt leaf f then (if no.holds then is_one (value no.condition instant) else not (is_one (value no.condition instant))) else true)) is_first
+      ∙ (ap (λ g. crossed instant leaf asked && (if nat_lt leaf first then (if no.holds then is_one (value g instant) else not (is_one (value g instant))) else true)) is_condition
+      ∙ ap (λ b. crossed instant leaf asked && (if nat_lt leaf first then (if b then is_one (value arm.condition instant) else not (is_one (value arm.condition instant))) else true)) is_refused))
 
-  test_yes : (sight : Sight) (leaf : ℕ) → crossed sight leaf (asked ++ accepted no ∷ []) ≡ (crossed sight leaf asked && (if nat_lt leaf first then is_one (value arm.condition sight) else true))
-  test_yes sight leaf = crossed_push sight leaf asked (accepted no) ∙ (ap (λ f. crossed sight leaf asked && (if nat_lt leaf f then is_one (value no.condition sight) else true)) is_first
-      ∙ ap (λ g. crossed sight leaf asked && (if nat_lt leaf first then is_one (value g sight) else true)) is_condition)
+  test_yes : (instant : Instant) (leaf : ℕ) → crossed instant leaf (asked ++ accepted no ∷ []) ≡ (crossed instant leaf asked && (if nat_lt leaf first then is_one (value arm.condition instant) else true))
+  test_yes instant leaf = crossed_push instant leaf asked (accepted no) ∙ (ap (λ f. crossed instant leaf asked && (if nat_lt leaf f then is_one (value no.condition instant) else true)) is_first
+      ∙ ap (λ g. crossed instant leaf asked && (if nat_lt leaf first then is_one (value g instant) else true)) is_condition)
 
   mentions_no : (leaf : ℕ) → crossed_mentions leaf (asked ++ no ∷ []) ≡ crossed_mentions leaf asked ++ (if nat_lt leaf first then mentions arm.condition else [])
   mentions_no leaf = crossed_mentions_push leaf asked no ∙ (ap (λ f. crossed_mentions leaf asked ++ (if nat_lt leaf f then mentions no.condition else [])) is_first
@@ -135,19 +135,19 @@ module _ (asked : List Asked) (first : ℕ) (arm : GroundArm) (rest : List Groun
   mentions_yes leaf = crossed_mentions_push leaf asked (accepted no) ∙ (ap (λ f. crossed_mentions leaf asked ++ (if nat_lt leaf f then mentions no.condition else [])) is_first
       ∙ ap (λ g. crossed_mentions leaf asked ++ (if nat_lt leaf first then mentions g else [])) is_condition)
 
-  step_leaves : (leaf : ℕ) → is_covered covered leaf ≡ false → (sight : Sight) (last : Option Value)
-      → outcome sight (ways_at new leaf) last ≡ outcome sight (ways_at old leaf) (if crossed sight leaf asked then arms_effect sight leaf first (arm ∷ rest) other last else last)
-  step_leaves leaf u sight last =
-      let body = block_effect sight leaf arm.body in
-      let others = λ (x : Option Value). arms_effect sight leaf first rest other x in
-      let after = if crossed sight leaf (asked ++ accepted no ∷ []) then body last else last in
-      (early.made leaf u).leaves sight last ∙ ((late.made leaf u).leaves sight after
-      ∙ ap (outcome sight (ways_at old leaf))
-      (ap (λ b. if crossed sight leaf (asked ++ no ∷ []) then others (if b then body last else last) else (if b then body last else last)) (test_yes sight leaf)
-      ∙ (ap (λ b. if b then others (if crossed sight leaf asked && (if nat_lt leaf first then is_one (value arm.condition sight) else true) then body last else last)
-      else (if crossed sight leaf asked && (if nat_lt leaf first then is_one (value arm.condition sight) else true) then body last else last)) (test_no sight leaf)
-      ∙ (do_step (nat_lt leaf first) (crossed sight leaf asked) (is_one (value arm.condition sight)) body (map (arm_effect sight leaf) rest) (block_effect sight leaf other) last
-      ∙ ap (λ e. if crossed sight leaf asked then arms_do (nat_lt leaf first) (e ∷ map (arm_effect sight leaf) rest) (block_effect sight leaf other) last else last) (sym (arm_effect-is sight leaf arm))))))
+  step_leaves : (leaf : ℕ) → is_covered covered leaf ≡ false → (instant : Instant) (last : Option Value)
+      → outcome instant (ways_at new leaf) last ≡ outcome instant (ways_at old leaf) (if crossed instant leaf asked then arms_effect instant leaf first (arm ∷ rest) other last else last)
+  step_leaves leaf u instant last =
+      let body = block_effect instant leaf arm.body in
+      let others = λ (x : Option Value). arms_effect instant leaf first rest other x in
+      let after = if crossed instant leaf (asked ++ accepted no ∷ []) then body last else last in
+      (early.made leaf u).leaves instant last ∙ ((late.made leaf u).leaves instant after
+      ∙ ap (outcome instant (ways_at old leaf))
+      (ap (λ b. if crossed instant leaf (asked ++ no ∷ []) then others (if b then body last else last) else (if b then body last else last)) (test_yes instant leaf)
+      ∙ (ap (λ b. if b then others (if crossed instant leaf asked && (if nat_lt leaf first then is_one (value arm.condition instant) else true) then body last else last)
+      else (if crossed instant leaf asked && (if nat_lt leaf first then is_one (value arm.condition instant) else true) then body last else last)) (test_no instant leaf)
+      ∙ (do_step (nat_lt leaf first) (crossed instant leaf asked) (is_one (value arm.condition instant)) body (map (arm_effect instant leaf) rest) (block_effect instant leaf other) last
+      ∙ ap (λ e. if crossed instant leaf asked then arms_do (nat_lt leaf first) (e ∷ map (arm_effect instant leaf) rest) (block_effect instant leaf other) last else last) (sym (arm_effect-is instant leaf arm))))))
 
   step_reads : (leaf : ℕ) → is_covered covered leaf ≡ false
       → Same (ways_mentions (ways_at new leaf)) (ways_mentions (ways_at old leaf) ++ joined (crossing (crossed_mentions leaf asked) (arms_live leaf first (arm ∷ rest) other)))
@@ -173,13 +173,13 @@ module _ (asked : List Asked) (first : ℕ) (arm : GroundArm) (rest : List Groun
       ∙ (all_certain (is_covered covered leaf) (is_certain leaf arm.body) (list_all (λ a. a.certain) (map (driving_arm leaf) rest)) (is_certain leaf other)
       ∙ ap (λ b. not (is_covered covered leaf) && ((b && list_all (λ a. a.certain) (map (driving_arm leaf) rest)) && is_certain leaf other)) (sym (driving_arm-certain leaf arm)))))
 
-  step_settles : (leaf : ℕ) → has all leaf ≡ true → (sight : Sight) (last before : Option Value) → arms_effect sight leaf first (arm ∷ rest) other last ≡ arms_effect sight leaf first (arm ∷ rest) other before
-  step_settles leaf h sight last before =
+  step_settles : (leaf : ℕ) → has all leaf ≡ true → (instant : Instant) (last before : Option Value) → arms_effect instant leaf first (arm ∷ rest) other last ≡ arms_effect instant leaf first (arm ∷ rest) other before
+  step_settles leaf h instant last before =
       let in_both = sym (is_both leaf) ∙ h in
-      subst (λ e. arms_do (nat_lt leaf first) (e ∷ map (arm_effect sight leaf) rest) (block_effect sight leaf other) last ≡ arms_do (nat_lt leaf first) (e ∷ map (arm_effect sight leaf) rest) (block_effect sight leaf other) before)
-      (sym (arm_effect-is sight leaf arm))
-      (settle_step (nat_lt leaf first) (is_one (value arm.condition sight)) (block_effect sight leaf arm.body) (map (arm_effect sight leaf) rest) (block_effect sight leaf other)
-      (early.settles leaf (right_true (has late_ones leaf) (has early_ones leaf) in_both) sight) (late.settles leaf (left_true (has late_ones leaf) (has early_ones leaf) in_both) sight) last before)
+      subst (λ e. arms_do (nat_lt leaf first) (e ∷ map (arm_effect instant leaf) rest) (block_effect instant leaf other) last ≡ arms_do (nat_lt leaf first) (e ∷ map (arm_effect instant leaf) rest) (block_effect instant leaf other) before)
+      (sym (arm_effect-is instant leaf arm))
+      (settle_step (nat_lt leaf first) (is_one (value arm.condition instant)) (block_effect instant leaf arm.body) (map (arm_effect instant leaf) rest) (block_effect instant leaf other)
+      (early.settles leaf (right_true (has late_ones leaf) (has early_ones leaf) in_both) instant) (late.settles leaf (left_true (has late_ones leaf) (has early_ones leaf) in_both) instant) last before)
 
   stays_on : (leaf : ℕ) → is_covered covered leaf ≡ true → ways_at new leaf ≡ ways_at old leaf
   stays_on leaf c = early.stays leaf c ∙ late.stays leaf c
@@ -201,7 +201,7 @@ or_false false = refl
 pub walks_when : (asked : List Asked) (first : ℕ) (arms : List GroundArm) (other : List GroundStmt) (covered : List Bool) (old new : List (Vec Way)) (newly : List ℕ)
     → ArmsWalk asked first arms other covered old new newly → BlockWalks asked (When first arms other ∷ []) covered old new newly
 walks_when asked first arms other covered old new newly = walks_told _ _ _ _ _ _ _ _ _ _ _
-    (λ sight leaf last. sym (effect-When sight leaf first arms other last))
+    (λ instant leaf last. sym (effect-When instant leaf first arms other last))
     (λ leaf. sym (append-nil _ ∙ live-When leaf first arms other))
     (λ leaf. sym (certain-When leaf first arms other) ∙ or_false _)
 

@@ -13,7 +13,7 @@ use Rattle.ground_net.specs.declared.ground.Ground.{Ground}
 use Rattle.ground_net.specs.declared.ground.Ground.TheVariants.{Mux}
 use Rattle.ground_net.specs.declared.circuit.GroundLeaf.{GroundLeaf}
 use Rattle.ground_net.specs.declared.circuit.GroundStmt.{GroundStmt}
-use Rattle.ground_net.specs.Grounds.{Sight, value, mentions, joined, chosen}
+use Rattle.ground_net.specs.Grounds.{Instant, value, mentions, joined, chosen}
 use Rattle.ground_net.specs.Statements.{drives, live}
 use Rattle.ground_net.proofs.Layers.{value-Mux, mentions-Mux}
 use Rattle.net_meaning.specs.Shapes.{Shape, Table, shaped, shape as shape_in, same_shape, same_kind}
@@ -59,8 +59,8 @@ shape_itself s = all_true (same_kind s.kind s.kind) (s.width == s.width) (kind_i
 pub choice_begin : (leaf : GroundLeaf) (x : ℕ) (rest : Ground) → IsRest leaf x rest → IsChoice leaf x [] (Mux (reverse (rest ∷ [])))
 choice_begin leaf x rest r = record {
   rest = value rest;
-  has = λ sight. value-Mux (rest ∷ []) sight;
-  keeps = λ k sight e. r.keeps k sight;
+  has = λ instant. value-Mux (rest ∷ []) instant;
+  keeps = λ k instant e. r.keeps k instant;
   reads = λ y c. inr (r.reads y (subst (λ xs. Contains xs y) (mentions-Mux (rest ∷ []) ∙ append-nil (mentions rest)) c));
   all = λ y c. subst (λ xs. Contains xs y) (sym (mentions-Mux (rest ∷ []))) (Contains-append_right (mentions rest) [] y c);
   shape = λ table _ e. mux_one table rest (leaf_shape leaf) (r.shape table e);
@@ -70,32 +70,32 @@ choice_begin leaf x rest r = record {
 pub choice_alone : (leaf : GroundLeaf) (x : ℕ) (way : Way) → way.guard ≡ None → IsChoice leaf x (way ∷ []) (Mux (reverse (way.source ∷ [])))
 choice_alone leaf x way e = record {
   rest = value way.source;
-  has = λ sight. value-Mux (way.source ∷ []) sight ∙ sym (ap (λ o. unwrap_or o (value way.source sight)) (told sight));
-  keeps = λ k sight n. absurd (some_none (value way.source sight) (sym (told sight) ∙ n));
+  has = λ instant. value-Mux (way.source ∷ []) instant ∙ sym (ap (λ o. unwrap_or o (value way.source instant)) (told instant));
+  keeps = λ k instant n. absurd (some_none (value way.source instant) (sym (told instant) ∙ n));
   reads = λ y c. inl (subst (λ xs. Contains xs y) (mentions-Mux (way.source ∷ []) ∙ sym all_of) c);
   all = λ y c. subst (λ xs. Contains xs y) (all_of ∙ sym (mentions-Mux (way.source ∷ []))) c;
   shape = λ table a e. mux_one table way.source (leaf_shape leaf) (source_shape table leaf x way e (left_true (way_fits table x way) true a));
 }
   where
-    told : (sight : Sight) → outcome sight (way ∷ []) None ≡ Some (value way.source sight)
-    told sight = ap (λ g. if guard_holds sight g then Some (value way.source sight) else None) e
+    told : (instant : Instant) → outcome instant (way ∷ []) None ≡ Some (value way.source instant)
+    told instant = ap (λ g. if guard_holds instant g then Some (value way.source instant) else None) e
 
     all_of : ways_mentions (way ∷ []) ≡ mentions way.source ++ []
     all_of = ap (λ g. (guard_mentions g ++ mentions way.source) ++ []) e
 
 -- a way before the others
 pub choice_more : (leaf : GroundLeaf) (x : ℕ) (way : Way) (ways : List Way) (item : Ground) (items after : List Ground)
-    → ((sight : Sight) → is_one (value item sight) ≡ guard_holds sight way.guard) → mentions item ≡ guard_mentions way.guard
+    → ((instant : Instant) → is_one (value item instant) ≡ guard_holds instant way.guard) → mentions item ≡ guard_mentions way.guard
     → ((table : Table) → guard_fits table way.guard ≡ true → is_condition table item ≡ true)
     → reverse after ≡ item ∷ way.source ∷ reverse items
     → IsChoice leaf x ways (Mux (reverse items)) → IsChoice leaf x (way ∷ ways) (Mux (reverse after))
 choice_more leaf x way ways item items after h m f e c = subst (λ xs. IsChoice leaf x (way ∷ ways) (Mux xs)) (sym e) (record {
   rest = c.rest;
-  has = λ sight. value-Mux (item ∷ way.source ∷ reverse items) sight
-      ∙ (ap (λ b. if b then value way.source sight else chosen (map (λ g. value g sight) (reverse items))) (h sight)
-      ∙ (ap (λ v. if guard_holds sight way.guard then value way.source sight else v) (sym (value-Mux (reverse items) sight) ∙ c.has sight)
-      ∙ chosen_first (guard_holds sight way.guard) (value way.source sight) (c.rest sight) (outcome sight ways None)));
-  keeps = λ k sight n. c.keeps k sight (left (guard_holds sight way.guard) (value way.source sight) (outcome sight ways None) n);
+  has = λ instant. value-Mux (item ∷ way.source ∷ reverse items) instant
+      ∙ (ap (λ b. if b then value way.source instant else chosen (map (λ g. value g instant) (reverse items))) (h instant)
+      ∙ (ap (λ v. if guard_holds instant way.guard then value way.source instant else v) (sym (value-Mux (reverse items) instant) ∙ c.has instant)
+      ∙ chosen_first (guard_holds instant way.guard) (value way.source instant) (c.rest instant) (outcome instant ways None)));
+  keeps = λ k instant n. c.keeps k instant (left (guard_holds instant way.guard) (value way.source instant) (outcome instant ways None) n);
   reads = λ y d. ⊎_elim (λ first. inl (Contains-append_left (way_mentions way) (ways_mentions ways) y first))
       (λ others. ⊎_elim (λ l. inl (Contains-append_right (way_mentions way) (ways_mentions ways) y l)) (λ own. inr own) (c.reads y others))
       (Contains-append_cases (way_mentions way) (mentions (Mux (reverse items))) y (subst (λ xs. Contains xs y) leaves d));
@@ -128,16 +128,16 @@ choice_more leaf x way ways item items after h m f e c = subst (λ xs. IsChoice 
 pub choice_guarded : (leaf : GroundLeaf) (x : ℕ) (way : Way) (guard rest : Ground) (items after : List Ground) → way.guard ≡ Some guard → IsRest leaf x rest → items ≡ rest ∷ []
     → reverse after ≡ guard ∷ way.source ∷ reverse items → IsChoice leaf x (way ∷ []) (Mux (reverse after))
 choice_guarded leaf x way guard rest items after e r i a =
-    choice_more leaf x way [] guard items after (λ sight. sym (ap (guard_holds sight) e)) (sym (ap guard_mentions e)) (λ table p. sym (ap (guard_fits table) e) ∙ p) a
+    choice_more leaf x way [] guard items after (λ instant. sym (ap (guard_holds instant) e)) (sym (ap guard_mentions e)) (λ table p. sym (ap (guard_fits table) e) ∙ p) a
     (subst (λ xs. IsChoice leaf x [] (Mux (reverse xs))) (sym i) (choice_begin leaf x rest r))
 
 -- the same driver in other words
-pub choice_told : (leaf : GroundLeaf) (x : ℕ) (ways : List Way) (driver other : Ground) → ((sight : Sight) → value other sight ≡ value driver sight) → mentions other ≡ mentions driver
+pub choice_told : (leaf : GroundLeaf) (x : ℕ) (ways : List Way) (driver other : Ground) → ((instant : Instant) → value other instant ≡ value driver instant) → mentions other ≡ mentions driver
     → ((table : Table) → shape_in other table ≡ shape_in driver table)
     → IsChoice leaf x ways driver → IsChoice leaf x ways other
 choice_told leaf x ways driver other v m s c = record {
   rest = c.rest;
-  has = λ sight. v sight ∙ c.has sight;
+  has = λ instant. v instant ∙ c.has instant;
   keeps = c.keeps;
   reads = λ y d. c.reads y (subst (λ xs. Contains xs y) m d);
   all = λ y d. subst (λ xs. Contains xs y) (sym m) (c.all y d);
@@ -155,8 +155,8 @@ pub driven : (leaf : GroundLeaf) (x : ℕ) (body : List GroundStmt) (covered : L
     → Chooses leaf x (ways_at new x) driver → Drives leaf x body driver
 driven leaf x body covered old new newly driver w s u none c = told driver c
   where
-    outcome_is : (sight : Sight) → outcome sight (ways_at new x) None ≡ drives sight x body
-    outcome_is sight = (w.made x u).leaves sight None ∙ ap (λ ws. outcome sight ws (drives sight x body)) none
+    outcome_is : (instant : Instant) → outcome instant (ways_at new x) None ≡ drives instant x body
+    outcome_is instant = (w.made x u).leaves instant None ∙ ap (λ ws. outcome instant ws (drives instant x body)) none
 
     reads_is : Same (ways_mentions (ways_at new x)) (joined (live x body))
     reads_is = subst (λ ls. Same (ways_mentions (ways_at new x)) (joined ls)) (crossing_none (live x body)) (subst (λ ws. Same (ways_mentions (ways_at new x)) (ways_mentions ws ++ joined (map (λ leaves. [] ++ leaves) (live x body)))) none (w.made x u).reads)
@@ -166,15 +166,15 @@ driven leaf x body covered old new newly driver w s u none c = told driver c
 
     told : (driver : Option Ground) → Chooses leaf x (ways_at new x) driver → Drives leaf x body driver
     told None c = record {
-      never = λ sight. sym (outcome_is sight) ∙ ap (λ ws. outcome sight ws None) c;
+      never = λ instant. sym (outcome_is instant) ∙ ap (λ ws. outcome instant ws None) c;
       all = λ y m. in_none y (subst (λ ws. Contains (ways_mentions ws) y) c (reads_is.back y m));
     }
       where
         in_none : (y : ℕ) → Contains {X = ℕ} [] y → ⊥
         in_none y (k, lt, e) = omega arith
     told (Some d) c = record {
-      has = λ sight v e. c.has sight ∙ ap (λ o. unwrap_or o (c.rest sight)) (outcome_is sight ∙ e);
-      keeps = λ k sight e. c.has sight ∙ (ap (λ o. unwrap_or o (c.rest sight)) (outcome_is sight ∙ e) ∙ c.keeps k sight (outcome_is sight ∙ e));
+      has = λ instant v e. c.has instant ∙ ap (λ o. unwrap_or o (c.rest instant)) (outcome_is instant ∙ e);
+      keeps = λ k instant e. c.has instant ∙ (ap (λ o. unwrap_or o (c.rest instant)) (outcome_is instant ∙ e) ∙ c.keeps k instant (outcome_is instant ∙ e));
       reads = λ y m. ⊎_elim (λ l. inl (reads_is.forth y l)) (λ k. inr k) (c.reads y m);
       all = λ y m. c.all y (reads_is.back y m);
       shape = λ table a e. c.shape table (ways_fit table a) e;

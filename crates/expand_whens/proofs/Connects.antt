@@ -6,7 +6,7 @@ use Rattle.std.proofs.lemmas.Grind.{flat_map-append}
 use Rattle.bit_words.specs.declared.value.Value.{Value}
 use Rattle.ground_net.specs.declared.ground.Ground.{Ground}
 use Rattle.ground_net.specs.declared.circuit.GroundStmt.TheVariants.{Connect}
-use Rattle.ground_net.specs.Grounds.{Sight, value, mentions, joined}
+use Rattle.ground_net.specs.Grounds.{Instant, value, mentions, joined}
 use Rattle.ground_net.specs.Statements.{Effect, effect, driving, live, crossing, all_hold}
 use Rattle.expand_whens.specs.declared.guard.Asked.{Asked}
 use Rattle.expand_whens.specs.declared.guard.Way.{Way}
@@ -27,27 +27,27 @@ same_itself n = grind (arith, nat_tests)
 pub other_number : (m n : ℕ) → (m == n) ≡ false → n ≢ m
 other_number m n h = grind (arith, nat_tests)
 
-pub outcome-push : (sight : Sight) (ways : List Way) (way : Way) (last : Option Value)
-    → outcome sight (ways ++ way ∷ []) last ≡ outcome sight ways (if guard_holds sight way.guard then Some (value way.source sight) else last)
-outcome-push sight [] way last = refl
-outcome-push sight (w ∷ ws) way last = ap (λ o. if guard_holds sight w.guard then Some (value w.source sight) else o) (outcome-push sight ws way last)
+pub outcome-push : (instant : Instant) (ways : List Way) (way : Way) (last : Option Value)
+    → outcome instant (ways ++ way ∷ []) last ≡ outcome instant ways (if guard_holds instant way.guard then Some (value way.source instant) else last)
+outcome-push instant [] way last = refl
+outcome-push instant (w ∷ ws) way last = ap (λ o. if guard_holds instant w.guard then Some (value w.source instant) else o) (outcome-push instant ws way last)
 
-pub made_told : (leaf : ℕ) (asked : List Asked) (does other : Sight → Effect) (lives others : List (List ℕ)) (old new : List Way)
-    → ((sight : Sight) (last : Option Value) → does sight last ≡ other sight last) → lives ≡ others → Made leaf asked does lives old new → Made leaf asked other others old new
+pub made_told : (leaf : ℕ) (asked : List Asked) (does other : Instant → Effect) (lives others : List (List ℕ)) (old new : List Way)
+    → ((instant : Instant) (last : Option Value) → does instant last ≡ other instant last) → lives ≡ others → Made leaf asked does lives old new → Made leaf asked other others old new
 made_told leaf asked does other lives others old new d l m = record {
-  leaves = λ sight last. m.leaves sight last ∙ ap (λ x. outcome sight old (if crossed sight leaf asked then x else last)) (d sight last);
+  leaves = λ instant last. m.leaves instant last ∙ ap (λ x. outcome instant old (if crossed instant leaf asked then x else last)) (d instant last);
   reads = subst (λ ls. Same (ways_mentions new) (ways_mentions old ++ joined (crossing (crossed_mentions leaf asked) ls))) l m.reads;
 }
 
 -- a way more
 made_way : (leaf : ℕ) (asked : List Asked) (conditions : List Ground) (source : Ground) (old : List Way) (way : Way)
-    → IsGuard (λ sight. crossed sight leaf asked && all_hold sight conditions) (crossed_mentions leaf asked ++ joined (map mentions conditions)) way.guard → way.source ≡ source
-    → Made leaf asked (λ sight last. if all_hold sight conditions then Some (value source sight) else last) ((joined (map mentions conditions) ++ mentions source) ∷ []) old (old ++ way ∷ [])
+    → IsGuard (λ instant. crossed instant leaf asked && all_hold instant conditions) (crossed_mentions leaf asked ++ joined (map mentions conditions)) way.guard → way.source ≡ source
+    → Made leaf asked (λ instant last. if all_hold instant conditions then Some (value source instant) else last) ((joined (map mentions conditions) ++ mentions source) ∷ []) old (old ++ way ∷ [])
 made_way leaf asked conditions source old way g s = record {
-  leaves = λ sight last. outcome-push sight old way last ∙ ap (outcome sight old)
-      (ap (λ b. if b then Some (value way.source sight) else last) (g.holds sight)
-      ∙ (nested (crossed sight leaf asked) (all_hold sight conditions) (Some (value way.source sight)) last
-      ∙ ap (λ x. if crossed sight leaf asked then (if all_hold sight conditions then Some (value x sight) else last) else last) s));
+  leaves = λ instant last. outcome-push instant old way last ∙ ap (outcome instant old)
+      (ap (λ b. if b then Some (value way.source instant) else last) (g.holds instant)
+      ∙ (nested (crossed instant leaf asked) (all_hold instant conditions) (Some (value way.source instant)) last
+      ∙ ap (λ x. if crossed instant leaf asked then (if all_hold instant conditions then Some (value x instant) else last) else last) s));
   reads = same_through (same_of (flat_map-append way_mentions old (way ∷ [])))
       (same_append (same (ways_mentions old)) (same_through (same_of (append-nil (way_mentions way)))
       (same_through (same_append g.mentions (same_of (ap mentions s))) (same_of (regrouped (crossed_mentions leaf asked) (joined (map mentions conditions)) (mentions source))))));
@@ -73,25 +73,25 @@ surely x target (c ∷ cs) source = ap (λ b. b || false) (uncertain-Connect x t
     none false = refl
 
 -- a connect of another leaf does nothing
-other_effect : (sight : Sight) (leaf target : ℕ) (conditions : List Ground) (source : Ground) → (target == leaf) ≡ false → (last : Option Value)
-    → last ≡ effect sight leaf (Connect target conditions source) last
-other_effect sight leaf target conditions source n last =
-    sym (effect-Connect sight leaf target conditions source last ∙ ap (λ b. if b && all_hold sight conditions then Some (value source sight) else last) n)
+other_effect : (instant : Instant) (leaf target : ℕ) (conditions : List Ground) (source : Ground) → (target == leaf) ≡ false → (last : Option Value)
+    → last ≡ effect instant leaf (Connect target conditions source) last
+other_effect instant leaf target conditions source n last =
+    sym (effect-Connect instant leaf target conditions source last ∙ ap (λ b. if b && all_hold instant conditions then Some (value source instant) else last) n)
 
 other_live : (leaf target : ℕ) (conditions : List Ground) (source : Ground) → (target == leaf) ≡ false → [] ≡ live leaf (Connect target conditions source ∷ [])
 other_live leaf target conditions source n =
     sym (append-nil _ ∙ (live-Connect leaf target conditions source ∙ ap (λ b. if b then (joined (map mentions conditions) ++ mentions source) ∷ [] else []) n))
 
 made_other : (leaf target : ℕ) (asked : List Asked) (conditions : List Ground) (source : Ground) (ways : List Way) → (target == leaf) ≡ false
-    → Made leaf asked (λ sight. block_effect sight leaf (Connect target conditions source ∷ [])) (live leaf (Connect target conditions source ∷ [])) ways ways
+    → Made leaf asked (λ instant. block_effect instant leaf (Connect target conditions source ∷ [])) (live leaf (Connect target conditions source ∷ [])) ways ways
 made_other leaf target asked conditions source ways n = made_told leaf asked _ _ _ _ ways ways
-    (λ sight last. other_effect sight leaf target conditions source n last) (other_live leaf target conditions source n) (made_none leaf asked ways)
+    (λ instant last. other_effect instant leaf target conditions source n last) (other_live leaf target conditions source n) (made_none leaf asked ways)
 
 made_target : (target : ℕ) (asked : List Asked) (conditions : List Ground) (source : Ground) (old : List Way) (way : Way)
-    → IsGuard (λ sight. crossed sight target asked && all_hold sight conditions) (crossed_mentions target asked ++ joined (map mentions conditions)) way.guard → way.source ≡ source
-    → Made target asked (λ sight. block_effect sight target (Connect target conditions source ∷ [])) (live target (Connect target conditions source ∷ [])) old (old ++ way ∷ [])
+    → IsGuard (λ instant. crossed instant target asked && all_hold instant conditions) (crossed_mentions target asked ++ joined (map mentions conditions)) way.guard → way.source ≡ source
+    → Made target asked (λ instant. block_effect instant target (Connect target conditions source ∷ [])) (live target (Connect target conditions source ∷ [])) old (old ++ way ∷ [])
 made_target target asked conditions source old way g s = made_told target asked _ _ _ _ old (old ++ way ∷ [])
-    (λ sight last. sym (effect-Connect sight target target conditions source last ∙ ap (λ b. if b && all_hold sight conditions then Some (value source sight) else last) (same_itself target)))
+    (λ instant last. sym (effect-Connect instant target target conditions source last ∙ ap (λ b. if b && all_hold instant conditions then Some (value source instant) else last) (same_itself target)))
     (sym (append-nil _ ∙ (live-Connect target target conditions source ∙ ap (λ b. if b then (joined (map mentions conditions) ++ mentions source) ∷ [] else []) (same_itself target))))
     (made_way target asked conditions source old way g s)
 
@@ -122,24 +122,24 @@ connect_skips asked target conditions source covered ways newly c e = record {
 -- a way is added
 pub connect_makes : (asked : List Asked) (target : ℕ) (conditions : List Ground) (source : Ground) (covered : List Bool) (old new : List (Vec Way)) (newly : List ℕ) (way : Way)
     → is_covered covered target ≡ false
-    → IsGuard (λ sight. crossed sight target asked && all_hold sight conditions) (crossed_mentions target asked ++ joined (map mentions conditions)) way.guard → way.source ≡ source
+    → IsGuard (λ instant. crossed instant target asked && all_hold instant conditions) (crossed_mentions target asked ++ joined (map mentions conditions)) way.guard → way.source ≡ source
     → length new ≡ length old → ways_at new target ≡ ways_at old target ++ way ∷ [] → ((x : ℕ) → x ≢ target → ways_at new x ≡ ways_at old x)
     → ((x : ℕ) → has newly x ≡ ((target == x) && is_alone conditions))
     → BlockWalks asked (Connect target conditions source ∷ []) covered old new newly
 connect_makes asked target conditions source covered old new newly way u g s n added others l = record {
   counted = n;
   made = λ leaf v. ⊎_elim
-      (λ y. subst (λ x. Made x asked (λ sight. block_effect sight x (Connect target conditions source ∷ [])) (live x (Connect target conditions source ∷ [])) (ways_at old x) (ways_at new x)) (same_number target leaf y)
-      (subst (λ ws. Made target asked (λ sight. block_effect sight target (Connect target conditions source ∷ [])) (live target (Connect target conditions source ∷ [])) (ways_at old target) ws) (sym added)
+      (λ y. subst (λ x. Made x asked (λ instant. block_effect instant x (Connect target conditions source ∷ [])) (live x (Connect target conditions source ∷ [])) (ways_at old x) (ways_at new x)) (same_number target leaf y)
+      (subst (λ ws. Made target asked (λ instant. block_effect instant target (Connect target conditions source ∷ [])) (live target (Connect target conditions source ∷ [])) (ways_at old target) ws) (sym added)
       (made_target target asked conditions source (ways_at old target) way g s)))
-      (λ d. subst (λ ws. Made leaf asked (λ sight. block_effect sight leaf (Connect target conditions source ∷ [])) (live leaf (Connect target conditions source ∷ [])) (ways_at old leaf) ws)
+      (λ d. subst (λ ws. Made leaf asked (λ instant. block_effect instant leaf (Connect target conditions source ∷ [])) (live leaf (Connect target conditions source ∷ [])) (ways_at old leaf) ws)
       (sym (others leaf (other_number target leaf d))) (made_other leaf target asked conditions source (ways_at old leaf) d))
       (true_or_false (target == leaf));
   stays = λ leaf c. others leaf (λ e. true≢false (sym c ∙ (ap (is_covered covered) e ∙ u)));
   listed = λ leaf. l leaf ∙ (open_ones leaf (target == leaf) refl ∙ sym (ap (λ b. not (is_covered covered leaf) && b) (surely leaf target conditions source)));
-  settles = λ leaf h sight last other.
+  settles = λ leaf h instant last other.
       let both = sym (l leaf) ∙ h in
-      effect-Connect sight leaf target conditions source last ∙ (alone_same conditions (target == leaf) both sight last other ∙ sym (effect-Connect sight leaf target conditions source other));
+      effect-Connect instant leaf target conditions source last ∙ (alone_same conditions (target == leaf) both instant last other ∙ sym (effect-Connect instant leaf target conditions source other));
 }
   where
     open_ones : (leaf : ℕ) (b : Bool) → (target == leaf) ≡ b → (b && is_alone conditions) ≡ (not (is_covered covered leaf) && (b && is_alone conditions))
@@ -150,12 +150,12 @@ connect_makes asked target conditions source covered old new newly way u g s n a
         and_false true = refl
         and_false false = refl
 
-    alone_same : (cs : List Ground) (b : Bool) → (b && is_alone cs) ≡ true → (sight : Sight) (last other : Option Value)
-        → (if b && all_hold sight cs then Some (value source sight) else last) ≡ if b && all_hold sight cs then Some (value source sight) else other
-    alone_same [] true h sight last other = refl
-    alone_same [] false h sight last other = absurd (true≢false (sym h))
-    alone_same (c ∷ cs) true h sight last other = absurd (true≢false (sym h))
-    alone_same (c ∷ cs) false h sight last other = absurd (true≢false (sym h))
+    alone_same : (cs : List Ground) (b : Bool) → (b && is_alone cs) ≡ true → (instant : Instant) (last other : Option Value)
+        → (if b && all_hold instant cs then Some (value source instant) else last) ≡ if b && all_hold instant cs then Some (value source instant) else other
+    alone_same [] true h instant last other = refl
+    alone_same [] false h instant last other = absurd (true≢false (sym h))
+    alone_same (c ∷ cs) true h instant last other = absurd (true≢false (sym h))
+    alone_same (c ∷ cs) false h instant last other = absurd (true≢false (sym h))
 
 -- a leaf that is marked is pushed
 pub pushed_yes : (old : List ℕ) (leaf : ℕ) (covered : List Bool) → is_marked covered leaf ≡ true → (x : ℕ) → has (old ++ leaf ∷ []) x ≡ (has old x || ((leaf == x) && is_marked covered x))

@@ -13,7 +13,7 @@ use Rattle.bit_words.specs.declared.value.Value.{Value}
 use Rattle.cycle_values.specs.Values.{is_one}
 use Rattle.ground_net.specs.declared.ground.Ground.{Ground}
 use Rattle.ground_net.specs.declared.ground.Ground.TheVariants.{Mux}
-use Rattle.ground_net.specs.Grounds.{Sight, value, mentions, joined}
+use Rattle.ground_net.specs.Grounds.{Instant, value, mentions, joined}
 use Rattle.ground_net.specs.Statements.{all_hold}
 use Rattle.ground_net.proofs.Layers.{value-Mux, mentions-Mux}
 use Rattle.net_meaning.specs.Shapes.{Shape, Table, shaped, shape as shape_in, same_shape, is_unsigned, shape_of_choice, all_of}
@@ -94,33 +94,33 @@ pub mux_one : (table : Table) (item : Ground) (s : Shape) → shape_in item tabl
 mux_one table item s e = shape-Mux (item ∷ []) table ∙ ap (λ o. option_and_then shape_of_choice (option_and_then (λ t. option_and_then (λ more. Some (t ∷ more)) (Some [])) o)) e
 
 -- that no condition holds, of none
-pub refusing_none : (item : Ground) → ((sight : Sight) → is_one (value item sight) ≡ true) → mentions item ≡ [] → ((table : Table) → shape_in item table ≡ Some (shaped Unsigned 1))
-    → IsBit (λ sight. none_hold sight []) (joined (map mentions [])) (λ table. list_all (is_condition table) []) (Mux (reverse (item ∷ [])))
+pub refusing_none : (item : Ground) → ((instant : Instant) → is_one (value item instant) ≡ true) → mentions item ≡ [] → ((table : Table) → shape_in item table ≡ Some (shaped Unsigned 1))
+    → IsBit (λ instant. none_hold instant []) (joined (map mentions [])) (λ table. list_all (is_condition table) []) (Mux (reverse (item ∷ [])))
 refusing_none item h m s = record {
-  holds = λ sight. ap is_one (value-Mux (item ∷ []) sight) ∙ h sight;
+  holds = λ instant. ap is_one (value-Mux (item ∷ []) instant) ∙ h instant;
   mentions = same_of (mentions-Mux (item ∷ []) ∙ (append-nil (mentions item) ∙ m));
   shape = λ table a. mux_one table item (shaped Unsigned 1) (s table);
 }
 
-pub refusing_nothing : (item : Ground) (refused : List Ground) → refused ≡ [] → ((sight : Sight) → is_one (value item sight) ≡ true) → mentions item ≡ [] → ((table : Table) → shape_in item table ≡ Some (shaped Unsigned 1))
-    → IsBit (λ sight. none_hold sight refused) (joined (map mentions refused)) (λ table. list_all (is_condition table) refused) item
+pub refusing_nothing : (item : Ground) (refused : List Ground) → refused ≡ [] → ((instant : Instant) → is_one (value item instant) ≡ true) → mentions item ≡ [] → ((table : Table) → shape_in item table ≡ Some (shaped Unsigned 1))
+    → IsBit (λ instant. none_hold instant refused) (joined (map mentions refused)) (λ table. list_all (is_condition table) refused) item
 refusing_nothing item refused e h m s = record {
-  holds = λ sight. h sight ∙ ap (none_hold sight) (sym e);
+  holds = λ instant. h instant ∙ ap (none_hold instant) (sym e);
   mentions = same_of (m ∙ ap (λ xs. joined (map mentions xs)) (sym e));
   shape = λ table a. s table;
 }
 
 -- a condition that is not to hold, before the others
 pub refusing_more : (done items : List Ground) (condition zero_bit : Ground) (after : List Ground)
-    → ((sight : Sight) → is_one (value zero_bit sight) ≡ false) → mentions zero_bit ≡ [] → ((table : Table) → shape_in zero_bit table ≡ Some (shaped Unsigned 1))
+    → ((instant : Instant) → is_one (value zero_bit instant) ≡ false) → mentions zero_bit ≡ [] → ((table : Table) → shape_in zero_bit table ≡ Some (shaped Unsigned 1))
     → reverse after ≡ condition ∷ zero_bit ∷ reverse items
-    → IsBit (λ sight. none_hold sight done) (joined (map mentions done)) (λ table. list_all (is_condition table) done) (Mux (reverse items))
-    → IsBit (λ sight. none_hold sight (condition ∷ done)) (joined (map mentions (condition ∷ done))) (λ table. list_all (is_condition table) (condition ∷ done)) (Mux (reverse after))
+    → IsBit (λ instant. none_hold instant done) (joined (map mentions done)) (λ table. list_all (is_condition table) done) (Mux (reverse items))
+    → IsBit (λ instant. none_hold instant (condition ∷ done)) (joined (map mentions (condition ∷ done))) (λ table. list_all (is_condition table) (condition ∷ done)) (Mux (reverse after))
 refusing_more done items condition zero_bit after z m s e g =
-    subst (λ xs. IsBit (λ sight. none_hold sight (condition ∷ done)) (joined (map mentions (condition ∷ done))) (λ table. list_all (is_condition table) (condition ∷ done)) (Mux xs)) (sym e) (record {
-      holds = λ sight. ap is_one (value-Mux (condition ∷ zero_bit ∷ reverse items) sight)
-          ∙ (ap (λ v. is_one (if is_one (value condition sight) then value zero_bit sight else v)) (sym (value-Mux (reverse items) sight))
-          ∙ chosen_one (is_one (value condition sight)) (value zero_bit sight) (value (Mux (reverse items)) sight) _ (z sight) (g.holds sight));
+    subst (λ xs. IsBit (λ instant. none_hold instant (condition ∷ done)) (joined (map mentions (condition ∷ done))) (λ table. list_all (is_condition table) (condition ∷ done)) (Mux xs)) (sym e) (record {
+      holds = λ instant. ap is_one (value-Mux (condition ∷ zero_bit ∷ reverse items) instant)
+          ∙ (ap (λ v. is_one (if is_one (value condition instant) then value zero_bit instant else v)) (sym (value-Mux (reverse items) instant))
+          ∙ chosen_one (is_one (value condition instant)) (value zero_bit instant) (value (Mux (reverse items)) instant) _ (z instant) (g.holds instant));
       mentions = same_through (same_of (mentions-Mux (condition ∷ zero_bit ∷ reverse items)
           ∙ (ap (λ xs. mentions condition ++ (xs ++ joined (map mentions (reverse items)))) m ∙ ap (λ xs. mentions condition ++ xs) (sym (mentions-Mux (reverse items))))))
           (same_append (same (mentions condition)) g.mentions);
@@ -132,13 +132,13 @@ refusing_more done items condition zero_bit after z m s e g =
     chosen_one false u v n hu hv = hv
 
 -- a choice of a bit and 0
-module _ (condition bit zero_bit : Ground) (z : (sight : Sight) → is_one (value zero_bit sight) ≡ false) (m : mentions zero_bit ≡ []) (s : (table : Table) → shape_in zero_bit table ≡ Some (shaped Unsigned 1)) where
-  pub choice_value : (sight : Sight) → is_one (value (Mux (condition ∷ bit ∷ zero_bit ∷ [])) sight) ≡ (is_one (value condition sight) && is_one (value bit sight))
-  choice_value sight = ap is_one (value-Mux (condition ∷ bit ∷ zero_bit ∷ []) sight) ∙ inside (is_one (value condition sight))
+module _ (condition bit zero_bit : Ground) (z : (instant : Instant) → is_one (value zero_bit instant) ≡ false) (m : mentions zero_bit ≡ []) (s : (table : Table) → shape_in zero_bit table ≡ Some (shaped Unsigned 1)) where
+  pub choice_value : (instant : Instant) → is_one (value (Mux (condition ∷ bit ∷ zero_bit ∷ [])) instant) ≡ (is_one (value condition instant) && is_one (value bit instant))
+  choice_value instant = ap is_one (value-Mux (condition ∷ bit ∷ zero_bit ∷ []) instant) ∙ inside (is_one (value condition instant))
     where
-      inside : (b : Bool) → is_one (if b then value bit sight else value zero_bit sight) ≡ (b && is_one (value bit sight))
+      inside : (b : Bool) → is_one (if b then value bit instant else value zero_bit instant) ≡ (b && is_one (value bit instant))
       inside true = refl
-      inside false = z sight
+      inside false = z instant
 
   pub choice_mentions : mentions (Mux (condition ∷ bit ∷ zero_bit ∷ [])) ≡ mentions condition ++ mentions bit
   choice_mentions = mentions-Mux (condition ∷ bit ∷ zero_bit ∷ []) ∙ (ap (λ xs. mentions condition ++ (mentions bit ++ (xs ++ []))) m ∙ ap (λ xs. mentions condition ++ xs) (append-nil (mentions bit)))
@@ -147,23 +147,23 @@ module _ (condition bit zero_bit : Ground) (z : (sight : Sight) → is_one (valu
   choice_shape table c b = mux_more table condition bit (zero_bit ∷ []) (shaped Unsigned 1) c b refl (mux_one table zero_bit (shaped Unsigned 1) (s table))
 
 -- that no condition holds, and conditions that are to hold, of none
-pub closing_none : (refused : List Ground) (bit : Ground) → IsBit (λ sight. none_hold sight refused) (joined (map mentions refused)) (λ table. list_all (is_condition table) refused) bit
-    → IsBit (λ sight. none_hold sight refused && all_hold sight []) (joined (map mentions refused) ++ joined (map mentions [])) (λ table. list_all (is_condition table) refused && list_all (is_condition table) []) bit
+pub closing_none : (refused : List Ground) (bit : Ground) → IsBit (λ instant. none_hold instant refused) (joined (map mentions refused)) (λ table. list_all (is_condition table) refused) bit
+    → IsBit (λ instant. none_hold instant refused && all_hold instant []) (joined (map mentions refused) ++ joined (map mentions [])) (λ table. list_all (is_condition table) refused && list_all (is_condition table) []) bit
 closing_none refused bit g = record {
-  holds = λ sight. g.holds sight ∙ and_true (none_hold sight refused);
+  holds = λ instant. g.holds instant ∙ and_true (none_hold instant refused);
   mentions = same_through g.mentions (same_of (sym (append-nil (joined (map mentions refused)))));
   shape = λ table a. g.shape table (left_true _ _ a);
 }
 
 -- one more of them
 pub closing_more : (refused done : List Ground) (condition bit choice : Ground)
-    → ((sight : Sight) → is_one (value choice sight) ≡ (is_one (value condition sight) && is_one (value bit sight))) → mentions choice ≡ mentions condition ++ mentions bit
+    → ((instant : Instant) → is_one (value choice instant) ≡ (is_one (value condition instant) && is_one (value bit instant))) → mentions choice ≡ mentions condition ++ mentions bit
     → ((table : Table) → is_condition table condition ≡ true → shape_in bit table ≡ Some (shaped Unsigned 1) → shape_in choice table ≡ Some (shaped Unsigned 1))
-    → IsBit (λ sight. none_hold sight refused && all_hold sight done) (joined (map mentions refused) ++ joined (map mentions done)) (λ table. list_all (is_condition table) refused && list_all (is_condition table) done) bit
-    → IsBit (λ sight. none_hold sight refused && all_hold sight (condition ∷ done)) (joined (map mentions refused) ++ joined (map mentions (condition ∷ done)))
+    → IsBit (λ instant. none_hold instant refused && all_hold instant done) (joined (map mentions refused) ++ joined (map mentions done)) (λ table. list_all (is_condition table) refused && list_all (is_condition table) done) bit
+    → IsBit (λ instant. none_hold instant refused && all_hold instant (condition ∷ done)) (joined (map mentions refused) ++ joined (map mentions (condition ∷ done)))
     (λ table. list_all (is_condition table) refused && list_all (is_condition table) (condition ∷ done)) choice
 closing_more refused done condition bit choice v m s g = record {
-  holds = λ sight. v sight ∙ (ap (λ b. is_one (value condition sight) && b) (g.holds sight) ∙ and_first (is_one (value condition sight)) (none_hold sight refused) (all_hold sight done));
+  holds = λ instant. v instant ∙ (ap (λ b. is_one (value condition instant) && b) (g.holds instant) ∙ and_first (is_one (value condition instant)) (none_hold instant refused) (all_hold instant done));
   mentions = same_through (same_of m) (same_through (same_append (same (mentions condition)) g.mentions)
       (same_through (same_of (sym (append_assoc (mentions condition) (joined (map mentions refused)) (joined (map mentions done)))))
       (same_through (same_append (swapped (mentions condition) (joined (map mentions refused))) (same (joined (map mentions done))))
@@ -176,10 +176,10 @@ closing_more refused done condition bit choice v m s g = record {
 
 -- all of them
 pub closing_all : (part : Part) (left done : List Ground) (bit : Ground) → part.accepted.items ≡ left ++ done → length left ≡ 0
-    → IsBit (λ sight. none_hold sight part.refused.items && all_hold sight done) (joined (map mentions part.refused.items) ++ joined (map mentions done))
+    → IsBit (λ instant. none_hold instant part.refused.items && all_hold instant done) (joined (map mentions part.refused.items) ++ joined (map mentions done))
     (λ table. list_all (is_condition table) part.refused.items && list_all (is_condition table) done) bit
-    → IsBit (λ sight. part_holds sight part) (part_mentions part) (λ table. part_fits table part) bit
-closing_all part left done bit e n g = subst (λ xs. IsBit (λ sight. none_hold sight part.refused.items && all_hold sight xs) (joined (map mentions part.refused.items) ++ joined (map mentions xs))
+    → IsBit (λ instant. part_holds instant part) (part_mentions part) (λ table. part_fits table part) bit
+closing_all part left done bit e n g = subst (λ xs. IsBit (λ instant. none_hold instant part.refused.items && all_hold instant xs) (joined (map mentions part.refused.items) ++ joined (map mentions xs))
     (λ table. list_all (is_condition table) part.refused.items && list_all (is_condition table) xs) bit) (sym (none_left left e n)) g
   where
     none_left : (left : List Ground) → part.accepted.items ≡ left ++ done → length left ≡ 0 → part.accepted.items ≡ done
@@ -187,16 +187,16 @@ closing_all part left done bit e n g = subst (λ xs. IsBit (λ sight. none_hold 
     none_left (x ∷ xs) e n = absurd (omega (arith, n))
 
 -- a bit is a guard
-pub bit_guards : (part : Part) (bit : Ground) → IsBit (λ sight. part_holds sight part) (part_mentions part) (λ table. part_fits table part) bit → IsGuard (λ sight. part_holds sight part) (part_mentions part) (Some bit)
+pub bit_guards : (part : Part) (bit : Ground) → IsBit (λ instant. part_holds instant part) (part_mentions part) (λ table. part_fits table part) bit → IsGuard (λ instant. part_holds instant part) (part_mentions part) (Some bit)
 bit_guards part bit g = record { holds = g.holds; mentions = g.mentions }
 
-pub bit_fits : (part : Part) (bit : Ground) → IsBit (λ sight. part_holds sight part) (part_mentions part) (λ table. part_fits table part) bit → (table : Table) → part_fits table part ≡ true → is_condition table bit ≡ true
+pub bit_fits : (part : Part) (bit : Ground) → IsBit (λ instant. part_holds instant part) (part_mentions part) (λ table. part_fits table part) bit → (table : Table) → part_fits table part ≡ true → is_condition table bit ≡ true
 bit_fits part bit g table a = ap some_unsigned (g.shape table a)
 
 -- no condition
-pub closed_none : (part : Part) → part.refused.items ≡ [] → part.accepted.items ≡ [] → IsGuard (λ sight. part_holds sight part) (part_mentions part) None
+pub closed_none : (part : Part) → part.refused.items ≡ [] → part.accepted.items ≡ [] → IsGuard (λ instant. part_holds instant part) (part_mentions part) None
 closed_none part r a = record {
-  holds = λ sight. ap₂ (λ xs ys. true) r a ∙ sym (ap₂ (λ xs ys. none_hold sight xs && all_hold sight ys) r a);
+  holds = λ instant. ap₂ (λ xs ys. true) r a ∙ sym (ap₂ (λ xs ys. none_hold instant xs && all_hold instant ys) r a);
   mentions = same_of (sym (ap₂ (λ xs ys. joined (map mentions xs) ++ joined (map mentions ys)) r a));
 }
 
@@ -213,14 +213,14 @@ only_one all left None e n v = absurd (true≢false (sym v))
 
 pub closed_one : (part : Part) (left : List Ground) (o : Option Ground) → part.refused.items ≡ [] → part.accepted.items ≡ left ++ option_to_list o → length part.accepted.items ≡ 1
     → IsSome o
-    → IsGuard (λ sight. part_holds sight part) (part_mentions part) o × ((table : Table) → part_fits table part ≡ true → guard_fits table o ≡ true)
+    → IsGuard (λ instant. part_holds instant part) (part_mentions part) o × ((table : Table) → part_fits table part ≡ true → guard_fits table o ≡ true)
 closed_one part left o r e n v = told (only_one part.accepted.items left o e n v)
   where
     told : (g : Ground) × (o ≡ Some g) × (part.accepted.items ≡ g ∷ [])
-        → IsGuard (λ sight. part_holds sight part) (part_mentions part) o × ((table : Table) → part_fits table part ≡ true → guard_fits table o ≡ true)
+        → IsGuard (λ instant. part_holds instant part) (part_mentions part) o × ((table : Table) → part_fits table part ≡ true → guard_fits table o ≡ true)
     told (g, is, one) = (
       record {
-        holds = λ sight. ap (guard_holds sight) is ∙ (and_true (is_one (value g sight)) ∙ sym (ap₂ (λ xs ys. none_hold sight xs && all_hold sight ys) r one));
+        holds = λ instant. ap (guard_holds instant) is ∙ (and_true (is_one (value g instant)) ∙ sym (ap₂ (λ xs ys. none_hold instant xs && all_hold instant ys) r one));
         mentions = same_of (ap guard_mentions is ∙ (sym (append-nil (mentions g)) ∙ sym (ap₂ (λ xs ys. joined (map mentions xs) ++ joined (map mentions ys)) r one)));
       },
       λ table a. ap (guard_fits table) is ∙ left_true (is_condition table g) _ (sym (ap₂ (λ xs ys. list_all (is_condition table) xs && list_all (is_condition table) ys) r one) ∙ a),
@@ -232,11 +232,11 @@ taken_from_end all left now done one e a = a ∙ (ap (λ xs. xs ++ done) e ∙ a
 
 -- a condition more that is not to hold
 pub part_refused : (old new : Part) (condition : Ground) → new.refused.items ≡ old.refused.items ++ condition ∷ [] → new.accepted.items ≡ old.accepted.items
-    → IsPart (λ sight. part_holds sight old && meets sight false condition) (part_mentions old ++ mentions condition) new
+    → IsPart (λ instant. part_holds instant old && meets instant false condition) (part_mentions old ++ mentions condition) new
 part_refused old new condition e r = record {
-  holds = λ sight. ap₂ (λ xs ys. none_hold sight xs && all_hold sight ys) e r
-      ∙ (ap (λ b. b && all_hold sight old.accepted.items) (list_all-append (λ g. not (is_one (value g sight))) old.refused.items (condition ∷ []))
-      ∙ and_swap (none_hold sight old.refused.items) (not (is_one (value condition sight))) (all_hold sight old.accepted.items));
+  holds = λ instant. ap₂ (λ xs ys. none_hold instant xs && all_hold instant ys) e r
+      ∙ (ap (λ b. b && all_hold instant old.accepted.items) (list_all-append (λ g. not (is_one (value g instant))) old.refused.items (condition ∷ []))
+      ∙ and_swap (none_hold instant old.refused.items) (not (is_one (value condition instant))) (all_hold instant old.accepted.items));
   mentions = same_through (same_of (ap₂ (λ xs ys. joined (map mentions xs) ++ joined (map mentions ys)) e r
       ∙ (ap (λ xs. xs ++ joined (map mentions old.accepted.items)) (joined-push old.refused.items condition)
       ∙ append_assoc (joined (map mentions old.refused.items)) (mentions condition) (joined (map mentions old.accepted.items)))))
@@ -246,11 +246,11 @@ part_refused old new condition e r = record {
 
 -- a condition more that is to hold
 pub part_accepted : (old new : Part) (condition : Ground) → new.refused.items ≡ old.refused.items → new.accepted.items ≡ old.accepted.items ++ condition ∷ []
-    → IsPart (λ sight. part_holds sight old && meets sight true condition) (part_mentions old ++ mentions condition) new
+    → IsPart (λ instant. part_holds instant old && meets instant true condition) (part_mentions old ++ mentions condition) new
 part_accepted old new condition r e = record {
-  holds = λ sight. ap₂ (λ xs ys. none_hold sight xs && all_hold sight ys) r e
-      ∙ (ap (λ b. none_hold sight old.refused.items && b) (list_all-append (λ g. is_one (value g sight)) old.accepted.items (condition ∷ []))
-      ∙ and_last (none_hold sight old.refused.items) (is_one (value condition sight)) (all_hold sight old.accepted.items));
+  holds = λ instant. ap₂ (λ xs ys. none_hold instant xs && all_hold instant ys) r e
+      ∙ (ap (λ b. none_hold instant old.refused.items && b) (list_all-append (λ g. is_one (value g instant)) old.accepted.items (condition ∷ []))
+      ∙ and_last (none_hold instant old.refused.items) (is_one (value condition instant)) (all_hold instant old.accepted.items));
   mentions = same_of (ap₂ (λ xs ys. joined (map mentions xs) ++ joined (map mentions ys)) r e
       ∙ (ap (λ xs. joined (map mentions old.refused.items) ++ xs) (joined-push old.accepted.items condition)
       ∙ sym (append_assoc (joined (map mentions old.refused.items)) (joined (map mentions old.accepted.items)) (mentions condition))));
@@ -270,52 +270,52 @@ accepted_fits table old new condition r e a c = ap₂ (λ xs ys. list_all (is_co
 
 -- what is asked of the leaf, and what isn't
 pub asked_yes : (leaf : ℕ) (part next : Part) (one : Asked) → leaf < one.first
-    → IsPart (λ sight. part_holds sight part && meets sight one.holds one.condition) (part_mentions part ++ mentions one.condition) next
-    → IsPart (λ sight. part_holds sight part && is_met sight leaf one) (part_mentions part ++ asked_mentions leaf one) next
+    → IsPart (λ instant. part_holds instant part && meets instant one.holds one.condition) (part_mentions part ++ mentions one.condition) next
+    → IsPart (λ instant. part_holds instant part && is_met instant leaf one) (part_mentions part ++ asked_mentions leaf one) next
 asked_yes leaf part next one below h =
-    subst (λ b. IsPart (λ sight. part_holds sight part && (if b then meets sight one.holds one.condition else true)) (part_mentions part ++ (if b then mentions one.condition else [])) next)
+    subst (λ b. IsPart (λ instant. part_holds instant part && (if b then meets instant one.holds one.condition else true)) (part_mentions part ++ (if b then mentions one.condition else [])) next)
     (sym (lt_test leaf one.first below)) h
 
 pub asked_no : (leaf : ℕ) (part : Part) (one : Asked) → one.first ≤ leaf
-    → IsPart (λ sight. part_holds sight part && is_met sight leaf one) (part_mentions part ++ asked_mentions leaf one) part
+    → IsPart (λ instant. part_holds instant part && is_met instant leaf one) (part_mentions part ++ asked_mentions leaf one) part
 asked_no leaf part one above =
-    subst (λ b. IsPart (λ sight. part_holds sight part && (if b then meets sight one.holds one.condition else true)) (part_mentions part ++ (if b then mentions one.condition else [])) part)
-    (sym (ge_test leaf one.first above)) (record { holds = λ sight. and_true (part_holds sight part); mentions = same_of (sym (append-nil (part_mentions part))) })
+    subst (λ b. IsPart (λ instant. part_holds instant part && (if b then meets instant one.holds one.condition else true)) (part_mentions part ++ (if b then mentions one.condition else [])) part)
+    (sym (ge_test leaf one.first above)) (record { holds = λ instant. and_true (part_holds instant part); mentions = same_of (sym (append-nil (part_mentions part))) })
 
 -- a guard with one thing more
-pub part_more : (when more : Sight → Bool) (leaves others : List ℕ) (part next : Part) → IsPart when leaves part
-    → IsPart (λ sight. part_holds sight part && more sight) (part_mentions part ++ others) next → IsPart (λ sight. when sight && more sight) (leaves ++ others) next
+pub part_more : (when more : Instant → Bool) (leaves others : List ℕ) (part next : Part) → IsPart when leaves part
+    → IsPart (λ instant. part_holds instant part && more instant) (part_mentions part ++ others) next → IsPart (λ instant. when instant && more instant) (leaves ++ others) next
 part_more when more leaves others part next g n = record {
-  holds = λ sight. n.holds sight ∙ ap (λ b. b && more sight) (g.holds sight);
+  holds = λ instant. n.holds instant ∙ ap (λ b. b && more instant) (g.holds instant);
   mentions = same_through n.mentions (same_append g.mentions (same others));
 }
 
 -- the guard of what a part holds
-pub guard_told : (when : Sight → Bool) (leaves : List ℕ) (part : Part) (guard : Option Ground) → IsPart when leaves part
-    → IsGuard (λ sight. part_holds sight part) (part_mentions part) guard → IsGuard when leaves guard
+pub guard_told : (when : Instant → Bool) (leaves : List ℕ) (part : Part) (guard : Option Ground) → IsPart when leaves part
+    → IsGuard (λ instant. part_holds instant part) (part_mentions part) guard → IsGuard when leaves guard
 guard_told when leaves part guard p g = record {
-  holds = λ sight. g.holds sight ∙ p.holds sight;
+  holds = λ instant. g.holds instant ∙ p.holds instant;
   mentions = same_through g.mentions p.mentions;
 }
 
-pub crossed_push : (sight : Sight) (leaf : ℕ) (asked : List Asked) (one : Asked) → crossed sight leaf (asked ++ one ∷ []) ≡ (crossed sight leaf asked && is_met sight leaf one)
-crossed_push sight leaf asked one = list_all-append (is_met sight leaf) asked (one ∷ []) ∙ ap (λ b. crossed sight leaf asked && b) (sym (and_true (is_met sight leaf one)))
+pub crossed_push : (instant : Instant) (leaf : ℕ) (asked : List Asked) (one : Asked) → crossed instant leaf (asked ++ one ∷ []) ≡ (crossed instant leaf asked && is_met instant leaf one)
+crossed_push instant leaf asked one = list_all-append (is_met instant leaf) asked (one ∷ []) ∙ ap (λ b. crossed instant leaf asked && b) (sym (and_true (is_met instant leaf one)))
 
 pub crossed_mentions_push : (leaf : ℕ) (asked : List Asked) (one : Asked) → crossed_mentions leaf (asked ++ one ∷ []) ≡ crossed_mentions leaf asked ++ asked_mentions leaf one
 crossed_mentions_push leaf asked one = flat_map-append (asked_mentions leaf) asked (one ∷ []) ∙ ap (λ xs. crossed_mentions leaf asked ++ xs) (append-nil (asked_mentions leaf one))
 
 pub asked_more : (leaf : ℕ) (part next : Part) (asked : List Asked) (k : ℕ) (one : Asked) → k < length asked → one ≡ get_or asked k one
-    → IsPart (λ sight. crossed sight leaf (take k asked)) (crossed_mentions leaf (take k asked)) part
-    → IsPart (λ sight. part_holds sight part && is_met sight leaf one) (part_mentions part ++ asked_mentions leaf one) next
-    → IsPart (λ sight. crossed sight leaf (take (k + 1) asked)) (crossed_mentions leaf (take (k + 1) asked)) next
+    → IsPart (λ instant. crossed instant leaf (take k asked)) (crossed_mentions leaf (take k asked)) part
+    → IsPart (λ instant. part_holds instant part && is_met instant leaf one) (part_mentions part ++ asked_mentions leaf one) next
+    → IsPart (λ instant. crossed instant leaf (take (k + 1) asked)) (crossed_mentions leaf (take (k + 1) asked)) next
 asked_more leaf part next asked k one below is g n =
     let grown : take (k + 1) asked ≡ take k asked ++ one ∷ [] = take_more asked k one below ∙ ap (λ x. take k asked ++ x ∷ []) (sym is) in
-    let both = part_more (λ sight. crossed sight leaf (take k asked)) (λ sight. is_met sight leaf one) (crossed_mentions leaf (take k asked)) (asked_mentions leaf one) part next g n in
-    let pushed : IsPart (λ sight. crossed sight leaf (take k asked ++ one ∷ [])) (crossed_mentions leaf (take k asked ++ one ∷ [])) next = record {
-      holds = λ sight. both.holds sight ∙ sym (crossed_push sight leaf (take k asked) one);
+    let both = part_more (λ instant. crossed instant leaf (take k asked)) (λ instant. is_met instant leaf one) (crossed_mentions leaf (take k asked)) (asked_mentions leaf one) part next g n in
+    let pushed : IsPart (λ instant. crossed instant leaf (take k asked ++ one ∷ [])) (crossed_mentions leaf (take k asked ++ one ∷ [])) next = record {
+      holds = λ instant. both.holds instant ∙ sym (crossed_push instant leaf (take k asked) one);
       mentions = same_through both.mentions (same_of (sym (crossed_mentions_push leaf (take k asked) one)));
     } in
-    subst (λ xs. IsPart (λ sight. crossed sight leaf xs) (crossed_mentions leaf xs) next) (sym grown) pushed
+    subst (λ xs. IsPart (λ instant. crossed instant leaf xs) (crossed_mentions leaf xs) next) (sym grown) pushed
 
 -- a list's test, one item longer
 pub tests_more : {A : Type 0} (test : A → Bool) (xs : List A) (k : ℕ) (x : A) → k < length xs → x ≡ get_or xs k x → list_all test (take (k + 1) xs) ≡ true
@@ -330,36 +330,36 @@ all_taken xs k h = sym (append-nil (take k xs)) ∙ (ap (λ d. take k xs ++ d) (
 
 -- the guard before any condition of the connect's own
 pub conditions_none : (leaf : ℕ) (asked : List Asked) (k : ℕ) (part : Part) → length asked ≤ k
-    → IsPart (λ sight. crossed sight leaf (take k asked)) (crossed_mentions leaf (take k asked)) part
-    → IsPart (λ sight. crossed sight leaf asked && all_hold sight []) (crossed_mentions leaf asked ++ joined (map mentions [])) part
+    → IsPart (λ instant. crossed instant leaf (take k asked)) (crossed_mentions leaf (take k asked)) part
+    → IsPart (λ instant. crossed instant leaf asked && all_hold instant []) (crossed_mentions leaf asked ++ joined (map mentions [])) part
 conditions_none leaf asked k part h p =
-    let told = subst (λ xs. IsPart (λ sight. crossed sight leaf xs) (crossed_mentions leaf xs) part) (all_taken asked k h) p in record {
-      holds = λ sight. told.holds sight ∙ and_true (crossed sight leaf asked);
+    let told = subst (λ xs. IsPart (λ instant. crossed instant leaf xs) (crossed_mentions leaf xs) part) (all_taken asked k h) p in record {
+      holds = λ instant. told.holds instant ∙ and_true (crossed instant leaf asked);
       mentions = same_through told.mentions (same_of (sym (append-nil (crossed_mentions leaf asked))));
     }
 
 -- and behind them all
 pub conditions_all : (leaf : ℕ) (asked : List Asked) (conditions : List Ground) (k : ℕ) (part : Part) (guard : Option Ground) → length conditions ≤ k
-    → IsPart (λ sight. crossed sight leaf asked && all_hold sight (take k conditions)) (crossed_mentions leaf asked ++ joined (map mentions (take k conditions))) part
-    → IsGuard (λ sight. part_holds sight part) (part_mentions part) guard
-    → IsGuard (λ sight. crossed sight leaf asked && all_hold sight conditions) (crossed_mentions leaf asked ++ joined (map mentions conditions)) guard
+    → IsPart (λ instant. crossed instant leaf asked && all_hold instant (take k conditions)) (crossed_mentions leaf asked ++ joined (map mentions (take k conditions))) part
+    → IsGuard (λ instant. part_holds instant part) (part_mentions part) guard
+    → IsGuard (λ instant. crossed instant leaf asked && all_hold instant conditions) (crossed_mentions leaf asked ++ joined (map mentions conditions)) guard
 conditions_all leaf asked conditions k part guard h p g =
-    guard_told _ _ part guard (subst (λ xs. IsPart (λ sight. crossed sight leaf asked && all_hold sight xs) (crossed_mentions leaf asked ++ joined (map mentions xs)) part) (all_taken conditions k h) p) g
+    guard_told _ _ part guard (subst (λ xs. IsPart (λ instant. crossed instant leaf asked && all_hold instant xs) (crossed_mentions leaf asked ++ joined (map mentions xs)) part) (all_taken conditions k h) p) g
 
-pub condition_more : (when : Sight → Bool) (leaves : List ℕ) (part next : Part) (conditions : List Ground) (k : ℕ) (one : Ground) → k < length conditions → one ≡ get_or conditions k one
-    → IsPart (λ sight. when sight && all_hold sight (take k conditions)) (leaves ++ joined (map mentions (take k conditions))) part
-    → IsPart (λ sight. part_holds sight part && meets sight true one) (part_mentions part ++ mentions one) next
-    → IsPart (λ sight. when sight && all_hold sight (take (k + 1) conditions)) (leaves ++ joined (map mentions (take (k + 1) conditions))) next
+pub condition_more : (when : Instant → Bool) (leaves : List ℕ) (part next : Part) (conditions : List Ground) (k : ℕ) (one : Ground) → k < length conditions → one ≡ get_or conditions k one
+    → IsPart (λ instant. when instant && all_hold instant (take k conditions)) (leaves ++ joined (map mentions (take k conditions))) part
+    → IsPart (λ instant. part_holds instant part && meets instant true one) (part_mentions part ++ mentions one) next
+    → IsPart (λ instant. when instant && all_hold instant (take (k + 1) conditions)) (leaves ++ joined (map mentions (take (k + 1) conditions))) next
 condition_more when leaves part next conditions k one below is g n =
     let grown : take (k + 1) conditions ≡ take k conditions ++ one ∷ [] = take_more conditions k one below ∙ ap (λ x. take k conditions ++ x ∷ []) (sym is) in
-    let both = part_more (λ sight. when sight && all_hold sight (take k conditions)) (λ sight. meets sight true one) (leaves ++ joined (map mentions (take k conditions))) (mentions one) part next g n in
-    let pushed : IsPart (λ sight. when sight && all_hold sight (take k conditions ++ one ∷ [])) (leaves ++ joined (map mentions (take k conditions ++ one ∷ []))) next = record {
-      holds = λ sight. both.holds sight ∙ (regroup (when sight) (all_hold sight (take k conditions)) (is_one (value one sight))
-          ∙ ap (λ b. when sight && b) (sym (list_all-append (λ g. is_one (value g sight)) (take k conditions) (one ∷ []))));
+    let both = part_more (λ instant. when instant && all_hold instant (take k conditions)) (λ instant. meets instant true one) (leaves ++ joined (map mentions (take k conditions))) (mentions one) part next g n in
+    let pushed : IsPart (λ instant. when instant && all_hold instant (take k conditions ++ one ∷ [])) (leaves ++ joined (map mentions (take k conditions ++ one ∷ []))) next = record {
+      holds = λ instant. both.holds instant ∙ (regroup (when instant) (all_hold instant (take k conditions)) (is_one (value one instant))
+          ∙ ap (λ b. when instant && b) (sym (list_all-append (λ g. is_one (value g instant)) (take k conditions) (one ∷ []))));
       mentions = same_through both.mentions (same_of (append_assoc leaves (joined (map mentions (take k conditions))) (mentions one)
           ∙ ap (λ xs. leaves ++ xs) (sym (joined-push (take k conditions) one))));
     } in
-    subst (λ xs. IsPart (λ sight. when sight && all_hold sight xs) (leaves ++ joined (map mentions xs)) next) (sym grown) pushed
+    subst (λ xs. IsPart (λ instant. when instant && all_hold instant xs) (leaves ++ joined (map mentions xs)) next) (sym grown) pushed
   where
     regroup : (a b c : Bool) → ((a && b) && c) ≡ (a && (b && (c && true)))
     regroup true true true = refl

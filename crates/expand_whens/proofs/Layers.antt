@@ -9,23 +9,23 @@ use Rattle.ground_net.specs.declared.ground.Ground.TheVariants.{Mux, Leaf, Const
 use Rattle.ground_net.specs.declared.circuit.GroundStmt.{GroundStmt, the_lemmas}
 use Rattle.ground_net.specs.declared.circuit.GroundStmt.TheVariants.{Connect, When}
 use Rattle.ground_net.specs.declared.circuit.GroundArm.{GroundArm}
-use Rattle.ground_net.specs.Grounds.{Sight, value, mentions, joined}
+use Rattle.ground_net.specs.Grounds.{Instant, value, mentions, joined}
 use Rattle.ground_net.specs.Statements.{all_hold, effect, driving, live, is_certain}
 use Rattle.ground_net.proofs.Layers.{maps}
 use Rattle.net_meaning.specs.Shapes.{Shape, Table, shape, shape_of_value, shape_of_choice, all_of}
 use Rattle.net_meaning.specs.StatementShapes.{is_condition, is_source, is_shaped_stmt, is_shaped_arm, is_shaped, are_shaped}
 use Rattle.expand_whens.specs.Walking.{block_effect, arm_effect, arms_effect, driving_arm, arms_live, arms_certain}
 
-pub effect-Connect : (sight : Sight) (leaf target : ℕ) (conditions : List Ground) (source : Ground) (last : Option Value)
-    → effect sight leaf (Connect target conditions source) last ≡ if (target == leaf) && all_hold sight conditions then Some (value source sight) else last
-effect-Connect sight leaf target conditions source last = grind (arith, common_steps, the_lemmas)
+pub effect-Connect : (instant : Instant) (leaf target : ℕ) (conditions : List Ground) (source : Ground) (last : Option Value)
+    → effect instant leaf (Connect target conditions source) last ≡ if (target == leaf) && all_hold instant conditions then Some (value source instant) else last
+effect-Connect instant leaf target conditions source last = grind (arith, common_steps, the_lemmas)
 
-pub effect-When : (sight : Sight) (leaf first : ℕ) (arms : List GroundArm) (other : List GroundStmt) (last : Option Value)
-    → effect sight leaf (When first arms other) last ≡ arms_effect sight leaf first arms other last
-effect-When sight leaf first arms other last = grind (arith, common_steps, the_lemmas)
+pub effect-When : (instant : Instant) (leaf first : ℕ) (arms : List GroundArm) (other : List GroundStmt) (last : Option Value)
+    → effect instant leaf (When first arms other) last ≡ arms_effect instant leaf first arms other last
+effect-When instant leaf first arms other last = grind (arith, common_steps, the_lemmas)
 
-pub arm_effect-is : (sight : Sight) (leaf : ℕ) (arm : GroundArm) → arm_effect sight leaf arm ≡ (is_one (value arm.condition sight), block_effect sight leaf arm.body)
-arm_effect-is sight leaf arm = grind (arith, common_steps, the_lemmas)
+pub arm_effect-is : (instant : Instant) (leaf : ℕ) (arm : GroundArm) → arm_effect instant leaf arm ≡ (is_one (value arm.condition instant), block_effect instant leaf arm.body)
+arm_effect-is instant leaf arm = grind (arith, common_steps, the_lemmas)
 
 pub certain-When : (leaf first : ℕ) (arms : List GroundArm) (other : List GroundStmt) → (driving leaf (When first arms other)).certain ≡ arms_certain leaf arms other
 certain-When leaf first arms other = grind (arith, common_steps, the_lemmas)

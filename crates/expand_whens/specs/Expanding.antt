@@ -10,7 +10,7 @@ use Rattle.ground_net.specs.declared.circuit.GroundModule.{GroundModule}
 use Rattle.ground_net.specs.declared.circuit.GroundCircuit.{GroundCircuit}
 use Rattle.ground_net.specs.declared.circuit.DrivenModule.{DrivenModule}
 use Rattle.ground_net.specs.declared.circuit.DrivenCircuit.{DrivenCircuit}
-use Rattle.ground_net.specs.Grounds.{Sight, value, mentions, joined}
+use Rattle.ground_net.specs.Grounds.{Instant, value, mentions, joined}
 use Rattle.ground_net.specs.Statements.{drives, live}
 use Rattle.expand_whens.specs.declared.guard.Way.{Way}
 use Rattle.net_meaning.specs.Shapes.{Table, Shape, shaped, shape as shape_in}
@@ -25,15 +25,15 @@ leaf_shape leaf = shaped leaf.kind leaf.width
 -- has its own value. It mentions what the leaf's live connects do, and a register may mention itself besides. It has the
 -- leaf's kind and width, where the sources of the statements have those of the leaves that they set and conditions are UInts.
 pub record IsDriver (leaf : GroundLeaf) (x : ℕ) (body : List GroundStmt) (driver : Ground) : Type 0 where
-  pub has : (sight : Sight) (v : Value) → drives sight x body ≡ Some v → value driver sight ≡ v
-  pub keeps : leaf.role ≡ Register → (sight : Sight) → drives sight x body ≡ None → value driver sight ≡ sight.leaf x
+  pub has : (instant : Instant) (v : Value) → drives instant x body ≡ Some v → value driver instant ≡ v
+  pub keeps : leaf.role ≡ Register → (instant : Instant) → drives instant x body ≡ None → value driver instant ≡ instant.leaf x
   pub reads : (y : ℕ) → Contains (mentions driver) y → Contains (joined (live x body)) y ⊎ ((leaf.role ≡ Register) × (y ≡ x))
   pub all : (y : ℕ) → Contains (joined (live x body)) y → Contains (mentions driver) y
   pub shape : (table : Table) → is_shaped table body ≡ true → table.leaf x ≡ Some (leaf_shape leaf) → shape_in driver table ≡ Some (leaf_shape leaf)
 
 -- A leaf without a driver is never left anything, and its live connects mention nothing.
 pub record IsUndriven (x : ℕ) (body : List GroundStmt) : Type 0 where
-  pub never : (sight : Sight) → drives sight x body ≡ None
+  pub never : (instant : Instant) → drives instant x body ≡ None
   pub all : (y : ℕ) → Contains (joined (live x body)) y → ⊥
 
 abbrev pub Drives : GroundLeaf → ℕ → List GroundStmt → Option Ground → Type 0
@@ -62,16 +62,16 @@ pub record IsExpanded (ground : GroundCircuit) (driven : DrivenCircuit) : Type 0
 
 -- What a leaf has where nothing is driven: a register has its own value.
 pub record IsRest (leaf : GroundLeaf) (x : ℕ) (rest : Ground) : Type 0 where
-  pub keeps : leaf.role ≡ Register → (sight : Sight) → value rest sight ≡ sight.leaf x
+  pub keeps : leaf.role ≡ Register → (instant : Instant) → value rest instant ≡ instant.leaf x
   pub reads : (y : ℕ) → Contains (mentions rest) y → (leaf.role ≡ Register) × (y ≡ x)
   pub shape : (table : Table) → table.leaf x ≡ Some (leaf_shape leaf) → shape_in rest table ≡ Some (leaf_shape leaf)
 
 -- The driver has what the first way has whose guard holds, or else what the leaf has where nothing is driven, and mentions what
 -- the ways do.
 pub record IsChoice (leaf : GroundLeaf) (x : ℕ) (ways : List Way) (driver : Ground) : Type 0 where
-  pub rest : Sight → Value
-  pub has : (sight : Sight) → value driver sight ≡ unwrap_or (outcome sight ways None) (rest sight)
-  pub keeps : leaf.role ≡ Register → (sight : Sight) → outcome sight ways None ≡ None → rest sight ≡ sight.leaf x
+  pub rest : Instant → Value
+  pub has : (instant : Instant) → value driver instant ≡ unwrap_or (outcome instant ways None) (rest instant)
+  pub keeps : leaf.role ≡ Register → (instant : Instant) → outcome instant ways None ≡ None → rest instant ≡ instant.leaf x
   pub reads : (y : ℕ) → Contains (mentions driver) y → Contains (ways_mentions ways) y ⊎ ((leaf.role ≡ Register) × (y ≡ x))
   pub all : (y : ℕ) → Contains (ways_mentions ways) y → Contains (mentions driver) y
   pub shape : (table : Table) → list_all (way_fits table x) ways ≡ true → table.leaf x ≡ Some (leaf_shape leaf) → shape_in driver table ≡ Some (leaf_shape leaf)

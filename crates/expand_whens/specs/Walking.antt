@@ -6,7 +6,7 @@ use Rattle.bit_words.specs.declared.value.Value.{Value}
 use Rattle.ground_net.specs.declared.ground.Ground.{Ground}
 use Rattle.ground_net.specs.declared.circuit.GroundStmt.{GroundStmt}
 use Rattle.ground_net.specs.declared.circuit.GroundArm.{GroundArm, fold-GroundArm}
-use Rattle.ground_net.specs.Grounds.{Sight, joined}
+use Rattle.ground_net.specs.Grounds.{Instant, joined}
 use Rattle.ground_net.specs.Statements.{Effect, in_turn, first_holding, all_arms, effect, of_stmt, of_arm, Driving, DrivingArm, driving_of, driving_arm_of, crossing, through_arms, live, is_certain}
 use Rattle.expand_whens.specs.declared.guard.Asked.{Asked}
 use Rattle.expand_whens.specs.declared.guard.Way.{Way}
@@ -15,17 +15,17 @@ use Rattle.net_meaning.specs.StatementShapes.{is_shaped, are_shaped}
 use Rattle.expand_whens.specs.Ways.{asked_fits, way_fits, Same, crossed, crossed_mentions, outcome, ways_mentions}
 
 -- what statements make of the value that was set before them
-abbrev pub block_effect : Sight → ℕ → List GroundStmt → Effect
-block_effect sight leaf block = in_turn (map (effect sight leaf) block)
+abbrev pub block_effect : Instant → ℕ → List GroundStmt → Effect
+block_effect instant leaf block = in_turn (map (effect instant leaf) block)
 
-abbrev pub arm_effect : Sight → ℕ → GroundArm → Bool × Effect
-arm_effect sight leaf = fold-GroundArm Effect (Bool × Effect) (of_stmt sight leaf) (of_arm sight leaf)
+abbrev pub arm_effect : Instant → ℕ → GroundArm → Bool × Effect
+arm_effect instant leaf = fold-GroundArm Effect (Bool × Effect) (of_stmt instant leaf) (of_arm instant leaf)
 
 -- what arms and the others do, where so many leaves are declared before them
-abbrev pub arms_effect : Sight → ℕ → ℕ → List GroundArm → List GroundStmt → Effect
-arms_effect sight leaf first arms other last =
-    if nat_lt leaf first then first_holding (map (arm_effect sight leaf) arms) (block_effect sight leaf other) last
-    else all_arms (map (arm_effect sight leaf) arms) (block_effect sight leaf other) last
+abbrev pub arms_effect : Instant → ℕ → ℕ → List GroundArm → List GroundStmt → Effect
+arms_effect instant leaf first arms other last =
+    if nat_lt leaf first then first_holding (map (arm_effect instant leaf) arms) (block_effect instant leaf other) last
+    else all_arms (map (arm_effect instant leaf) arms) (block_effect instant leaf other) last
 
 abbrev pub driving_arm : ℕ → GroundArm → DrivingArm
 driving_arm leaf = fold-GroundArm Driving DrivingArm (driving_of leaf) (driving_arm_of leaf)
@@ -40,8 +40,8 @@ arms_certain leaf arms other = list_all (λ arm. arm.certain) (map (driving_arm 
 
 -- The ways after the walk are those before it and the connects of statements with this effect and these live connects, which
 -- stand under the conditions that are asked.
-pub record Made (leaf : ℕ) (asked : List Asked) (does : Sight → Effect) (lives : List (List ℕ)) (old new : List Way) : Type 0 where
-  pub leaves : (sight : Sight) (last : Option Value) → outcome sight new last ≡ outcome sight old (if crossed sight leaf asked then does sight last else last)
+pub record Made (leaf : ℕ) (asked : List Asked) (does : Instant → Effect) (lives : List (List ℕ)) (old new : List Way) : Type 0 where
+  pub leaves : (instant : Instant) (last : Option Value) → outcome instant new last ≡ outcome instant old (if crossed instant leaf asked then does instant last else last)
   pub reads : Same (ways_mentions new) (ways_mentions old ++ joined (crossing (crossed_mentions leaf asked) lives))
 
 -- whether a list has a leaf
@@ -70,22 +70,22 @@ ways_at ways leaf = items_of (slice_get ways leaf)
 
 -- What is known of a walk through statements: of each leaf that isn't covered its ways have grown by them, and the leaves are listed
 -- for which they are certain; the ways of the others stay.
-pub record Walks (asked : List Asked) (does : Sight → ℕ → Effect) (lives : ℕ → List (List ℕ)) (surely : ℕ → Bool)
+pub record Walks (asked : List Asked) (does : Instant → ℕ → Effect) (lives : ℕ → List (List ℕ)) (surely : ℕ → Bool)
     (covered : List Bool) (old new : List (Vec Way)) (newly : List ℕ) : Type 0 where
   pub counted : length new ≡ length old
-  pub made : (leaf : ℕ) → is_covered covered leaf ≡ false → Made leaf asked (λ sight. does sight leaf) (lives leaf) (ways_at old leaf) (ways_at new leaf)
+  pub made : (leaf : ℕ) → is_covered covered leaf ≡ false → Made leaf asked (λ instant. does instant leaf) (lives leaf) (ways_at old leaf) (ways_at new leaf)
   pub stays : (leaf : ℕ) → is_covered covered leaf ≡ true → ways_at new leaf ≡ ways_at old leaf
   pub listed : (leaf : ℕ) → has newly leaf ≡ (not (is_covered covered leaf) && surely leaf)
   -- what was before doesn't matter where they are certain
-  pub settles : (leaf : ℕ) → has newly leaf ≡ true → (sight : Sight) (last other : Option Value) → does sight leaf last ≡ does sight leaf other
+  pub settles : (leaf : ℕ) → has newly leaf ≡ true → (instant : Instant) (last other : Option Value) → does instant leaf last ≡ does instant leaf other
 
 abbrev pub BlockWalks : List Asked → List GroundStmt → List Bool → List (Vec Way) → List (Vec Way) → List ℕ → Type 0
 BlockWalks asked block covered old new newly =
-    Walks asked (λ sight leaf. block_effect sight leaf block) (λ leaf. live leaf block) (λ leaf. is_certain leaf block) covered old new newly
+    Walks asked (λ instant leaf. block_effect instant leaf block) (λ leaf. live leaf block) (λ leaf. is_certain leaf block) covered old new newly
 
 abbrev pub ArmsWalk : List Asked → ℕ → List GroundArm → List GroundStmt → List Bool → List (Vec Way) → List (Vec Way) → List ℕ → Type 0
 ArmsWalk asked first arms other covered old new newly =
-    Walks asked (λ sight leaf. arms_effect sight leaf first arms other) (λ leaf. arms_live leaf first arms other) (λ leaf. arms_certain leaf arms other) covered old new newly
+    Walks asked (λ instant leaf. arms_effect instant leaf first arms other) (λ leaf. arms_live leaf first arms other) (λ leaf. arms_certain leaf arms other) covered old new newly
 
 -- The ways after a walk through statements that are shaped are shaped, where those before it are and what is asked are UInts.
 pub record Shapes (asked : List Asked) (passes : Table → Bool) (old new : List (Vec Way)) : Type 0 where

@@ -4,7 +4,7 @@ use Rattle.std.specs.List.{list_all}
 use Rattle.bit_words.specs.declared.value.Value.{Value}
 use Rattle.ground_net.specs.declared.ground.Ground.{Ground}
 use Rattle.ground_net.specs.declared.circuit.GroundArm.{GroundArm}
-use Rattle.ground_net.specs.Grounds.{Sight, value, mentions, joined}
+use Rattle.ground_net.specs.Grounds.{Instant, value, mentions, joined}
 use Rattle.cycle_values.specs.Values.{is_one}
 use Rattle.ground_net.specs.Statements.{all_hold}
 use Rattle.bit_words.specs.declared.value.Kind.TheVariants.{Unsigned}
@@ -20,15 +20,15 @@ pub record Same (xs ys : List ℕ) : Type 0 where
   pub back : (y : ℕ) → Contains ys y → Contains xs y
 
 -- whether a condition has what is asked of it
-abbrev pub meets : Sight → Bool → Ground → Bool
-meets sight holds condition = if holds then is_one (value condition sight) else not (is_one (value condition sight))
+abbrev pub meets : Instant → Bool → Ground → Bool
+meets instant holds condition = if holds then is_one (value condition instant) else not (is_one (value condition instant))
 
 -- a condition is asked of the leaves alone that are declared before its `when`
-abbrev pub is_met : Sight → ℕ → Asked → Bool
-is_met sight leaf a = if nat_lt leaf a.first then meets sight a.holds a.condition else true
+abbrev pub is_met : Instant → ℕ → Asked → Bool
+is_met instant leaf a = if nat_lt leaf a.first then meets instant a.holds a.condition else true
 
-abbrev pub crossed : Sight → ℕ → List Asked → Bool
-crossed sight leaf = list_all (is_met sight leaf)
+abbrev pub crossed : Instant → ℕ → List Asked → Bool
+crossed instant leaf = list_all (is_met instant leaf)
 
 abbrev pub asked_mentions : ℕ → Asked → List ℕ
 asked_mentions leaf a = if nat_lt leaf a.first then mentions a.condition else []
@@ -49,25 +49,25 @@ abbrev pub accepted : Asked → Asked
 accepted a = record a { holds = true }
 
 -- no guard always holds
-abbrev pub guard_holds : Sight → Option Ground → Bool
-guard_holds sight None = true
-guard_holds sight (Some g) = is_one (value g sight)
+abbrev pub guard_holds : Instant → Option Ground → Bool
+guard_holds instant None = true
+guard_holds instant (Some g) = is_one (value g instant)
 
 abbrev pub guard_mentions : Option Ground → List ℕ
 guard_mentions None = []
 guard_mentions (Some g) = mentions g
 
 -- The condition under which a connect is made.
-pub record IsGuard (when : Sight → Bool) (mentioned : List ℕ) (guard : Option Ground) : Type 0 where
-  pub holds : (sight : Sight) → guard_holds sight guard ≡ when sight
+pub record IsGuard (when : Instant → Bool) (mentioned : List ℕ) (guard : Option Ground) : Type 0 where
+  pub holds : (instant : Instant) → guard_holds instant guard ≡ when instant
   pub mentions : Same (guard_mentions guard) mentioned
 
 -- none of the conditions holds
-abbrev pub none_hold : Sight → List Ground → Bool
-none_hold sight = list_all (λ g. not (is_one (value g sight)))
+abbrev pub none_hold : Instant → List Ground → Bool
+none_hold instant = list_all (λ g. not (is_one (value g instant)))
 
-abbrev pub part_holds : Sight → Part → Bool
-part_holds sight p = none_hold sight p.refused.items && all_hold sight p.accepted.items
+abbrev pub part_holds : Instant → Part → Bool
+part_holds instant p = none_hold instant p.refused.items && all_hold instant p.accepted.items
 
 abbrev pub part_mentions : Part → List ℕ
 part_mentions p = joined (map mentions p.refused.items) ++ joined (map mentions p.accepted.items)
@@ -89,20 +89,20 @@ abbrev pub way_fits : Table → ℕ → Way → Bool
 way_fits table leaf w = guard_fits table w.guard && is_source table leaf w.source
 
 -- A bit that is 1 where this holds.
-pub record IsBit (when : Sight → Bool) (mentioned : List ℕ) (passes : Table → Bool) (bit : Ground) : Type 0 where
-  pub holds : (sight : Sight) → is_one (value bit sight) ≡ when sight
+pub record IsBit (when : Instant → Bool) (mentioned : List ℕ) (passes : Table → Bool) (bit : Ground) : Type 0 where
+  pub holds : (instant : Instant) → is_one (value bit instant) ≡ when instant
   pub mentions : Same (mentions bit) mentioned
   pub shape : (table : Table) → passes table ≡ true → shape_in bit table ≡ Some (shaped Unsigned 1)
 
 -- A guard that is being put together.
-pub record IsPart (when : Sight → Bool) (mentioned : List ℕ) (part : Part) : Type 0 where
-  pub holds : (sight : Sight) → part_holds sight part ≡ when sight
+pub record IsPart (when : Instant → Bool) (mentioned : List ℕ) (part : Part) : Type 0 where
+  pub holds : (instant : Instant) → part_holds instant part ≡ when instant
   pub mentions : Same (part_mentions part) mentioned
 
 -- The first way whose guard holds, or else what was there before.
-abbrev pub outcome : Sight → List Way → Option Value → Option Value
-outcome sight [] last = last
-outcome sight (w ∷ ws) last = if guard_holds sight w.guard then Some (value w.source sight) else outcome sight ws last
+abbrev pub outcome : Instant → List Way → Option Value → Option Value
+outcome instant [] last = last
+outcome instant (w ∷ ws) last = if guard_holds instant w.guard then Some (value w.source instant) else outcome instant ws last
 
 abbrev pub way_mentions : Way → List ℕ
 way_mentions w = guard_mentions w.guard ++ mentions w.source

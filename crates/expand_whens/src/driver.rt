@@ -5,7 +5,7 @@ ghost use Rattle.ground_net.specs.declared.ground.Ground.{Ground as TheGround};
 ghost use Rattle.ground_net.specs.declared.ground.Ground.TheVariants.{Mux};
 ghost use Rattle.ground_net.specs.declared.circuit.GroundLeaf.{GroundLeaf as TheLeaf};
 ghost use Rattle.ground_net.specs.declared.circuit.GroundRole.TheVariants.{Register};
-ghost use Rattle.ground_net.specs.Grounds.{Sight, value, mentions};
+ghost use Rattle.ground_net.specs.Grounds.{Instant, value, mentions};
 ghost use Rattle.net_meaning.specs.Shapes.{Table, shape as shape_in};
 ghost use Rattle.expand_whens.specs.Walking.{ways_at};
 ghost use Rattle.expand_whens.specs.Expanding.{HasDrivers, Chooses, IsChoice, IsRest};
@@ -114,7 +114,7 @@ fn first_items(
 
 /// The choice of items that are listed from the last one. One item alone is itself.
 fn chosen_of(mut items: Vec<Ground>) -> Ground
-    ensures value { (sight : Sight) → value result sight ≡ value (Mux (reverse items.items)) sight }
+    ensures value { (instant : Instant) → value result instant ≡ value (Mux (reverse items.items)) instant }
     ensures mentions { mentions result ≡ mentions (Mux (reverse items.items)) }
     ensures shape { (table : Table) → shape_in result table ≡ shape_in (Mux (reverse items.items)) table }
 {

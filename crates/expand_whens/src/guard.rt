@@ -4,7 +4,7 @@ ghost use Rattle.std.specs.Prelude.{◌≡◌, ◌<◌, ◌==◌, [], Some, ◌&
 ghost use Rattle.std.specs.List.{list_all};
 ghost use Rattle.bit_words.specs.declared.value.Kind.TheVariants.{Unsigned};
 ghost use Rattle.cycle_values.specs.Values.{is_one};
-ghost use Rattle.ground_net.specs.Grounds.{Sight, value, mentions, joined};
+ghost use Rattle.ground_net.specs.Grounds.{Instant, value, mentions, joined};
 ghost use Rattle.ground_net.specs.Statements.{all_hold};
 ghost use Rattle.net_meaning.specs.Shapes.{Table, shaped, shape as shape_in};
 ghost use Rattle.net_meaning.specs.StatementShapes.{is_condition};
@@ -44,7 +44,7 @@ pub fn guard_of(
     asked: &[Asked],
     conditions: &[Ground],
 ) -> Result<Option<Ground>, AllocError>
-    ensures guard { IfOk result (λ guard. IsGuard (λ sight. crossed sight leaf asked.now && all_hold sight conditions.now)
+    ensures guard { IfOk result (λ guard. IsGuard (λ instant. crossed instant leaf asked.now && all_hold instant conditions.now)
         (crossed_mentions leaf asked.now ++ joined (map mentions conditions.now)) guard) }
     ensures fits { IfOk result (λ guard. (table : Table) → list_all (asked_fits table) asked.now ≡ true → list_all (is_condition table) conditions.now ≡ true → guard_fits table guard ≡ true) }
 {
@@ -64,7 +64,7 @@ pub fn guard_of(
 
 /// The guard so far, and what is asked of the leaf.
 fn with_asked(alloc: Global, part: Part, leaf: u32, one: &Asked) -> Result<Part, AllocError>
-    ensures part { IfOk result (λ next. IsPart (λ sight. part_holds sight part && is_met sight leaf one.now) (part_mentions part ++ asked_mentions leaf one.now) next) }
+    ensures part { IfOk result (λ next. IsPart (λ instant. part_holds instant part && is_met instant leaf one.now) (part_mentions part ++ asked_mentions leaf one.now) next) }
     ensures fits { IfOk result (λ next. (table : Table) → part_fits table part ≡ true → asked_fits table one.now ≡ true → part_fits table next ≡ true) }
 {
     if leaf < one.first {
@@ -77,7 +77,7 @@ fn with_asked(alloc: Global, part: Part, leaf: u32, one: &Asked) -> Result<Part,
 
 /// The guard so far, and that the condition holds, or doesn't.
 fn with_one(mut part: Part, condition: Ground, holds: bool) -> Result<Part, AllocError>
-    ensures part { IfOk result (λ next. IsPart (λ sight. part_holds sight part && meets sight holds condition) (part_mentions part ++ mentions condition) next) }
+    ensures part { IfOk result (λ next. IsPart (λ instant. part_holds instant part && meets instant holds condition) (part_mentions part ++ mentions condition) next) }
     ensures fits { IfOk result (λ next. (table : Table) → part_fits table part ≡ true → is_condition table condition ≡ true → part_fits table next ≡ true) }
 {
     if holds {
@@ -90,7 +90,7 @@ fn with_one(mut part: Part, condition: Ground, holds: bool) -> Result<Part, Allo
 
 /// The guard so far as one: nothing, the only condition, or a bit.
 fn closed(alloc: Global, part: Part) -> Result<Option<Ground>, AllocError>
-    ensures guard { IfOk result (λ guard. IsGuard (λ sight. part_holds sight part) (part_mentions part) guard) }
+    ensures guard { IfOk result (λ guard. IsGuard (λ instant. part_holds instant part) (part_mentions part) guard) }
     ensures fits { IfOk result (λ guard. (table : Table) → part_fits table part ≡ true → guard_fits table guard ≡ true) }
 {
     let Part {
@@ -114,7 +114,7 @@ fn closed(alloc: Global, part: Part) -> Result<Option<Ground>, AllocError>
 
 /// That none of the conditions holds: a choice of 0 behind each of them, and of 1.
 fn none_of(alloc: Global, mut refused: Vec<Ground>) -> Result<Ground, AllocError>
-    ensures { IfOk result (λ guard. IsBit (λ sight. none_hold sight refused.items) (joined (map mentions refused.items)) (λ table. list_all (is_condition table) refused.items) guard) }
+    ensures { IfOk result (λ guard. IsBit (λ instant. none_hold instant refused.items) (joined (map mentions refused.items)) (λ table. list_all (is_condition table) refused.items) guard) }
 {
     if refused.is_empty() {
         return Ok(bit(1));
@@ -129,7 +129,7 @@ fn none_of(alloc: Global, mut refused: Vec<Ground>) -> Result<Ground, AllocError
 
 /// A condition that holds where the guard does.
 pub fn guard_item(guard: Option<Ground>) -> Ground
-    ensures holds { (sight : Sight) → is_one (value result sight) ≡ guard_holds sight guard }
+    ensures holds { (instant : Instant) → is_one (value result instant) ≡ guard_holds instant guard }
     ensures mentions { mentions result ≡ guard_mentions guard }
     ensures fits { (table : Table) → guard_fits table guard ≡ true → is_condition table result ≡ true }
 {
@@ -154,7 +154,7 @@ pub fn push_pair(
 
 /// That the condition holds, and the guard.
 fn choice(alloc: Global, condition: Ground, guard: Ground) -> Result<Ground, AllocError>
-    ensures value { IfOk result (λ choice. (sight : Sight) → is_one (value choice sight) ≡ (is_one (value condition sight) && is_one (value guard sight))) }
+    ensures value { IfOk result (λ choice. (instant : Instant) → is_one (value choice instant) ≡ (is_one (value condition instant) && is_one (value guard instant))) }
     ensures mentions { IfOk result (λ choice. mentions choice ≡ mentions condition ++ mentions guard) }
     ensures shape { IfOk result (λ choice. (table : Table) → is_condition table condition ≡ true → shape_in guard table ≡ Some (shaped Unsigned 1) → shape_in choice table ≡ Some (shaped Unsigned 1)) }
 {
@@ -165,7 +165,7 @@ fn choice(alloc: Global, condition: Ground, guard: Ground) -> Result<Ground, All
 /// A bit.
 pub fn bit(bits: u128) -> Ground
     requires { bits < 2 }
-    ensures value { (sight : Sight) → is_one (value result sight) ≡ (bits == 1) }
+    ensures value { (instant : Instant) → is_one (value result instant) ≡ (bits == 1) }
     ensures mentions { mentions result ≡ [] }
     ensures shape { (table : Table) → shape_in result table ≡ Some (shaped Unsigned 1) }
 {

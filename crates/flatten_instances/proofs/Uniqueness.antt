@@ -5,7 +5,7 @@ use Rattle.ground_net.specs.declared.circuit.DrivenCircuit.{DrivenCircuit}
 use Rattle.ground_net.specs.declared.circuit.DrivenModule.{DrivenModule}
 use Rattle.ground_net.specs.declared.circuit.GroundInstance.{GroundInstance}
 use Rattle.ground_net.specs.declared.ground.Ground.{Ground}
-use Rattle.ground_net.specs.Grounds.{Sight, value, mentions}
+use Rattle.ground_net.specs.Grounds.{Instant, value, mentions}
 use Rattle.ground_net.specs.Renumbering.{with_numbers, seen_by}
 use Rattle.ground_net.proofs.Layers.{renumbered_value, renumbered_mentions}
 use Rattle.flatten_instances.specs.FlatOrder.{Spot, spot, Item, A_leaf, A_memory, InFlatOrder, no_more, an_instance, a_memory, a_leaf, leaf_spots}
@@ -142,8 +142,8 @@ number_below driven spots path n numbers y x h e = let a = h.each y x e in slice
 
 -- Drivers
 
-pub value_of_flat : (numbers : List ℕ) (g flat : Ground) (sight : Sight) → Some (with_numbers (slice_index numbers) g) ≡ Some flat → value flat sight ≡ value g (seen_by (slice_index numbers) sight)
-value_of_flat numbers g flat sight e = ap (λ h. value h sight) (sym (some_same e)) ∙ renumbered_value (slice_index numbers) sight g
+pub value_of_flat : (numbers : List ℕ) (g flat : Ground) (instant : Instant) → Some (with_numbers (slice_index numbers) g) ≡ Some flat → value flat instant ≡ value g (seen_by (slice_index numbers) instant)
+value_of_flat numbers g flat instant e = ap (λ h. value h instant) (sym (some_same e)) ∙ renumbered_value (slice_index numbers) instant g
 
 pub mentions_of_flat : (numbers : List ℕ) (g flat : Ground) → Some (with_numbers (slice_index numbers) g) ≡ Some flat → mentions flat ≡ map (slice_index numbers) (mentions g)
 mentions_of_flat numbers g flat e = ap mentions (sym (some_same e)) ∙ renumbered_mentions (slice_index numbers) g

@@ -6,7 +6,7 @@ ghost use Rattle.ground_net.specs.declared.circuit.DrivenModule.{DrivenModule};
 ghost use Rattle.ground_net.specs.declared.circuit.GroundInstance.{GroundInstance};
 ghost use Rattle.ground_net.specs.declared.circuit.GroundLeaf.{GroundLeaf};
 ghost use Rattle.ground_net.specs.declared.ground.Ground.{Ground};
-ghost use Rattle.ground_net.specs.Grounds.{Sight, value, mentions};
+ghost use Rattle.ground_net.specs.Grounds.{Instant, value, mentions};
 ghost use Rattle.ground_net.specs.Renumbering.{seen_by};
 ghost use Rattle.flatten_instances.specs.Instances.{HasInstances, IsInTurn, prefix_of};
 ghost use Rattle.flatten_instances.specs.Examples.{two_instances, outer, four_items};
@@ -42,7 +42,7 @@ pub fn instances_leaves_stand_inside()
 /// A driver with flat numbers has the value that the module's driver has where each leaf is seen under its flat number, and
 /// mentions the flat numbers of the leaves that the module's driver mentions.
 pub fn drivers_follow_their_modules()
-    ensures value { (numbers : List ℕ) (g flat : Ground) (sight : Sight) → driver_with numbers (Some g) ≡ Some flat → value flat sight ≡ value g (seen_by (slice_index numbers) sight) }
+    ensures value { (numbers : List ℕ) (g flat : Ground) (instant : Instant) → driver_with numbers (Some g) ≡ Some flat → value flat instant ≡ value g (seen_by (slice_index numbers) instant) }
     ensures mentions { (numbers : List ℕ) (g flat : Ground) → driver_with numbers (Some g) ≡ Some flat → mentions flat ≡ map (slice_index numbers) (mentions g) }
 {}
 

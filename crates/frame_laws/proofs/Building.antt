@@ -18,16 +18,16 @@ end_on : (ps qs : List Piece) (from : ℕ) → end_of from (ps ++ qs) ≡ end_of
 end_on [] qs from = refl
 end_on (p ∷ ps) qs from = end_on ps qs p.last
 
-pub in_pieces : (net : Net) (watch : List ℕ) (part : CutPart) (code : Code) (spots : ℕ → List ℕ) (start mid last : Draft) → ((x : ℕ) → length (spots x) ≤ 2) → start.instrs ≡ [] → start.slots ≡ 0
-    → AssignsPieces spots (direct_reads net) (assignment_nodes net) part.assignments start mid → AddsPieces spots part.assignments (sinks_read net watch part) (sinks_nodes net watch part) mid last
+pub in_pieces : (net : Net) (watch : List ℕ) (part : CutPart) (code : Code) (locations : ℕ → List ℕ) (start mid last : Draft) → ((x : ℕ) → length (locations x) ≤ 2) → start.instrs ≡ [] → start.slots ≡ 0
+    → AssignsPieces locations (direct_reads net) (assignment_nodes net) part.assignments start mid → AddsPieces locations part.assignments (sinks_read net watch part) (sinks_nodes net watch part) mid last
     → code.instrs ≡ last.instrs → code.ports ≡ last.ports → code.wides ≡ last.wides → code.slots ≡ last.slots
-    → ((k : ℕ) → among (slots_of code.shown) k ≡ true → StandsIn spots part.assignments (sinks_read net watch part) k) → InPieces net watch part code
-in_pieces net watch part code spots start mid last two none zero_slots f g instrs ports wides slots shown =
+    → ((k : ℕ) → among (slots_of code.shown) k ≡ true → StandsIn locations part.assignments (sinks_read net watch part) k) → InPieces net watch part code
+in_pieces net watch part code locations start mid last two none zero_slots f g instrs ports wides slots shown =
     let on_last : GoesOn last code.ports code.wides = subst (λ ps. GoesOn last ps code.wides) (sym ports) (subst (GoesOn last last.ports) (sym wides) (goes_same last)) in
     let on_mid : GoesOn mid code.ports code.wides = goes_then mid last code.ports code.wides g.goes.tables on_last in
     let ends : end_of 0 f.pieces ≡ mid.slots = ap (λ n. end_of n f.pieces) (sym zero_slots) ∙ f.goes.ends in
     record {
-      spots = spots;
+      locations = locations;
       two = two;
       assigning = f.pieces;
       telling = g.pieces;

@@ -54,19 +54,19 @@ many_among n (x ∷ xs) =
 -- Slots of some of these leaves
 
 -- they are at most two for each leaf
-pub flat_two : (spots : ℕ → List ℕ) → ((x : ℕ) → length (spots x) ≤ 2) → (xs : List ℕ) → length (flat_map spots xs) ≤ 2 * length xs
-flat_two spots two [] = omega arith
-flat_two spots two (x ∷ xs) =
+pub flat_two : (locations : ℕ → List ℕ) → ((x : ℕ) → length (locations x) ≤ 2) → (xs : List ℕ) → length (flat_map locations xs) ≤ 2 * length xs
+flat_two locations two [] = omega arith
+flat_two locations two (x ∷ xs) =
     let first = two x in
-    let rest = flat_two spots two xs in
-    let all = length-append (spots x) (flat_map spots xs) in
+    let rest = flat_two locations two xs in
+    let all = length-append (locations x) (flat_map locations xs) in
     omega (arith, first, rest, all)
 
-pub among_spots : (spots : ℕ → List ℕ) (xs : List ℕ) (x k : ℕ) → Contains xs x → among (spots x) k ≡ true → among (flat_map spots xs) k ≡ true
-among_spots spots [] x k c e = absurd (none_in x c)
-among_spots spots (y ∷ xs) x k c e = among_append (spots y) (flat_map spots xs) k ∙ ⊎_elim
-    (λ s. left (among (spots y) k) (among (flat_map spots xs) k) (ap (λ z. among (spots z) k) s ∙ e))
-    (λ d. right (among (spots y) k) (among (flat_map spots xs) k) (among_spots spots xs x k d e))
+pub among_locations : (locations : ℕ → List ℕ) (xs : List ℕ) (x k : ℕ) → Contains xs x → among (locations x) k ≡ true → among (flat_map locations xs) k ≡ true
+among_locations locations [] x k c e = absurd (none_in x c)
+among_locations locations (y ∷ xs) x k c e = among_append (locations y) (flat_map locations xs) k ∙ ⊎_elim
+    (λ s. left (among (locations y) k) (among (flat_map locations xs) k) (ap (λ z. among (locations z) k) s ∙ e))
+    (λ d. right (among (locations y) k) (among (flat_map locations xs) k) (among_locations locations xs x k d e))
     (cons_cases y xs x c)
 
 pub among_contained : (xs : List ℕ) (x : ℕ) → Contains xs x → among xs x ≡ true

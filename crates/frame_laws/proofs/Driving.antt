@@ -114,12 +114,12 @@ module _ (net : Net) (watch : List ℕ) (part : CutPart) (drivers : HasDrivers n
       in
       omega (arith, some, most)
 
-  slots_some : (spots : ℕ → List ℕ) (xs : List ℕ) (assigning telling : List Piece) → xs ≡ part.assignments → length assigning ≡ length xs → end_of 0 (assigning ++ telling) ≡ code.slots
-      → ((p : Piece) → Contains telling p → IsTelling net watch part code spots p) → (code.slots ≡ 0) ⊎ (1 ≤ most_nodes net watch part)
-  slots_some spots [] [] [] all counted ends told = inl (sym ends)
-  slots_some spots [] [] (p ∷ telling) all counted ends told = let it = told p (contains_first p telling) in inr (counted_some it.count it.counted)
-  slots_some spots [] (p ∷ assigning) telling all counted ends told = absurd (omega (arith, counted))
-  slots_some spots (x ∷ xs) assigning telling all counted ends told =
+  slots_some : (locations : ℕ → List ℕ) (xs : List ℕ) (assigning telling : List Piece) → xs ≡ part.assignments → length assigning ≡ length xs → end_of 0 (assigning ++ telling) ≡ code.slots
+      → ((p : Piece) → Contains telling p → IsTelling net watch part code locations p) → (code.slots ≡ 0) ⊎ (1 ≤ most_nodes net watch part)
+  slots_some locations [] [] [] all counted ends told = inl (sym ends)
+  slots_some locations [] [] (p ∷ telling) all counted ends told = let it = told p (contains_first p telling) in inr (counted_some it.count it.counted)
+  slots_some locations [] (p ∷ assigning) telling all counted ends told = absurd (omega (arith, counted))
+  slots_some locations (x ∷ xs) assigning telling all counted ends told =
       let c : Contains part.assignments x = subst (λ ys. Contains ys x) all (contains_first x xs) in
       let driver = drivers x c in
       inr (assignment_some net watch part x driver.0 c driver.1)
@@ -128,4 +128,4 @@ module _ (net : Net) (watch : List ℕ) (part : CutPart) (drivers : HasDrivers n
   placed_few placed most it room few fewer = ⊎_elim
       (λ none. omega (arith, fewer, none))
       (λ some. let bound = few_live_slots net watch part code it in omega (arith, few, room, bound, some))
-      (slots_some it.spots part.assignments it.assigning it.telling refl it.counted it.ends it.told)
+      (slots_some it.locations part.assignments it.assigning it.telling refl it.counted it.ends it.told)

@@ -30,9 +30,9 @@ pub contains_flat : {A B : Type 0} (f : A → List B) (xs : List A) (x : A) (y :
 contains_flat f xs x y c d = flat_at f xs x y c.0 c.1 c.2 d
 
 -- more is read, of more leaves
-stands_so : (spots : ℕ → List ℕ) (earlier further read all : List ℕ) (k : ℕ) → ((x : ℕ) → Contains earlier x → Contains further x) → ((x : ℕ) → Contains read x → Contains all x)
-    → StandsIn spots earlier read k → StandsIn spots further all k
-stands_so spots earlier further read all k f g s = record { leaf = s.leaf; before = f s.leaf s.before; wanted = g s.leaf s.wanted; there = s.there }
+stands_so : (locations : ℕ → List ℕ) (earlier further read all : List ℕ) (k : ℕ) → ((x : ℕ) → Contains earlier x → Contains further x) → ((x : ℕ) → Contains read x → Contains all x)
+    → StandsIn locations earlier read k → StandsIn locations further all k
+stands_so locations earlier further read all k f g s = record { leaf = s.leaf; before = f s.leaf s.before; wanted = g s.leaf s.wanted; there = s.there }
 
 -- whether a slot is read by these pieces or shown
 abbrev pub is_later : Code → List Piece → Known
@@ -47,33 +47,33 @@ first_or_later : (code : Code) (p : Piece) (further : List Piece) (k : ℕ) → 
 first_or_later code p further k e = sym (read_behind code.ports code.wides code.shown p.instrs (instrs_of further) k) ∙ e
 
 -- Assignments that have no code yet in the order, and others before them that have.
-pub record Rest (net : Net) (part : CutPart) (code : Code) (spots : ℕ → List ℕ) (telling : List Piece) (rest : List ℕ) (pieces : List Piece) (done : List ℕ) (from : ℕ) : Type 0 where
+pub record Rest (net : Net) (part : CutPart) (code : Code) (locations : ℕ → List ℕ) (telling : List Piece) (rest : List ℕ) (pieces : List Piece) (done : List ℕ) (from : ℕ) : Type 0 where
   pub follow : Follow from (pieces ++ telling)
   pub counted : length pieces ≡ length rest
-  pub each : (k x : ℕ) (p : Piece) → slice_get rest k ≡ Some x → slice_get pieces k ≡ Some p → IsAssigning net code spots (done ++ take k rest) x p
+  pub each : (k x : ℕ) (p : Piece) → slice_get rest k ≡ Some x → slice_get pieces k ≡ Some p → IsAssigning net code locations (done ++ take k rest) x p
   pub all : done ++ rest ≡ part.assignments
 
-module _ (net : Net) (part : CutPart) (code : Code) (spots : ℕ → List ℕ) (telling : List Piece) (x : ℕ) (rest : List ℕ) (p : Piece) (pieces : List Piece) (done : List ℕ) (from : ℕ)
-    (r : Rest net part code spots telling (x ∷ rest) (p ∷ pieces) done from) where
-  pub first_of_rest : IsAssigning net code spots done x p
-  first_of_rest = subst (λ earlier. IsAssigning net code spots earlier x p) (append-nil done) (r.each 0 x p refl refl)
+module _ (net : Net) (part : CutPart) (code : Code) (locations : ℕ → List ℕ) (telling : List Piece) (x : ℕ) (rest : List ℕ) (p : Piece) (pieces : List Piece) (done : List ℕ) (from : ℕ)
+    (r : Rest net part code locations telling (x ∷ rest) (p ∷ pieces) done from) where
+  pub first_of_rest : IsAssigning net code locations done x p
+  first_of_rest = subst (λ earlier. IsAssigning net code locations earlier x p) (append-nil done) (r.each 0 x p refl refl)
 
-  pub later_rest : Rest net part code spots telling rest pieces (done ++ x ∷ []) p.last
+  pub later_rest : Rest net part code locations telling rest pieces (done ++ x ∷ []) p.last
   later_rest =
       let counted = r.counted in
       record {
         follow = r.follow.2;
         counted = omega (arith, counted);
-        each = λ k y q at there. subst (λ earlier. IsAssigning net code spots earlier y q) (sym (append_assoc done (x ∷ []) (take k rest))) (r.each (suc k) y q at there);
+        each = λ k y q at there. subst (λ earlier. IsAssigning net code locations earlier y q) (sym (append_assoc done (x ∷ []) (take k rest))) (r.each (suc k) y q at there);
         all = append_assoc done (x ∷ []) rest ∙ r.all;
       }
 
-module _ (net : Net) (watch : List ℕ) (part : CutPart) (code : Code) (spots : ℕ → List ℕ) (telling : List Piece) (told : (p : Piece) → Contains telling p → IsTelling net watch part code spots p)
-    (shown : (k : ℕ) → among (slots_of code.shown) k ≡ true → StandsIn spots part.assignments (sinks_read net watch part) k) where
+module _ (net : Net) (watch : List ℕ) (part : CutPart) (code : Code) (locations : ℕ → List ℕ) (telling : List Piece) (told : (p : Piece) → Contains telling p → IsTelling net watch part code locations p)
+    (shown : (k : ℕ) → among (slots_of code.shown) k ≡ true → StandsIn locations part.assignments (sinks_read net watch part) k) where
   -- What the code of sinks reads, and what is shown
 
   pub told_stands : (pieces : List Piece) (from k : ℕ) → Follow from pieces → ((p : Piece) → Contains pieces p → Contains telling p) → k < from → is_later code pieces k ≡ true
-      → StandsIn spots part.assignments (sinks_read net watch part) k
+      → StandsIn locations part.assignments (sinks_read net watch part) k
   told_stands [] from k follow these lt e = shown k e
   told_stands (p ∷ further) from k follow these lt e =
       let it = told p (these p (contains_first p further)) in
@@ -96,27 +96,27 @@ module _ (net : Net) (watch : List ℕ) (part : CutPart) (code : Code) (spots : 
       (Contains-append_cases (sinks_read net watch part) (flat_map (direct_reads net) rest) y c)
 
   -- What is needed of the slots before: they are those of assignments that have their code, and that the sinks or the others read.
-  pub stands : (rest : List ℕ) (pieces : List Piece) (done : List ℕ) (from k : ℕ) → Rest net part code spots telling rest pieces done from → k < from → is_later code (pieces ++ telling) k ≡ true
-      → StandsIn spots done (read_by net watch part rest) k
+  pub stands : (rest : List ℕ) (pieces : List Piece) (done : List ℕ) (from k : ℕ) → Rest net part code locations telling rest pieces done from → k < from → is_later code (pieces ++ telling) k ≡ true
+      → StandsIn locations done (read_by net watch part rest) k
   stands [] [] done from k r lt e =
-      stands_so spots part.assignments done (sinks_read net watch part) (read_by net watch part []) k
+      stands_so locations part.assignments done (sinks_read net watch part) (read_by net watch part []) k
       (λ x c. subst (λ xs. Contains xs x) (sym (sym (append-nil done) ∙ r.all)) c)
       (λ x c. Contains-append_left (sinks_read net watch part) [] x c)
       (told_stands telling from k r.follow (λ p c. c) lt e)
   stands [] (p ∷ pieces) done from k r lt e = let counted = r.counted in absurd (omega (arith, counted))
   stands (x ∷ rest) [] done from k r lt e = let counted = r.counted in absurd (omega (arith, counted))
   stands (x ∷ rest) (p ∷ pieces) done from k r lt e =
-      let it = first_of_rest net part code spots telling x rest p pieces done from r in
+      let it = first_of_rest net part code locations telling x rest p pieces done from r in
       let first = r.follow.0 in
       let last = r.follow.1 in
-      let outside : among it.outer k ≡ true → StandsIn spots done (read_by net watch part (x ∷ rest)) k =
-      λ o. stands_so spots done done (direct_reads net x) (read_by net watch part (x ∷ rest)) k (λ y c. c) (read_first x rest) (it.outside k o)
+      let outside : among it.outer k ≡ true → StandsIn locations done (read_by net watch part (x ∷ rest)) k =
+      λ o. stands_so locations done done (direct_reads net x) (read_by net watch part (x ∷ rest)) k (λ y c. c) (read_first x rest) (it.outside k o)
       in
       ⊎_elim outside
       (λ l.
-      let s = stands rest pieces (done ++ x ∷ []) p.last k (later_rest net part code spots telling x rest p pieces done from r) (omega (arith, lt, first, last)) l in
+      let s = stands rest pieces (done ++ x ∷ []) p.last k (later_rest net part code locations telling x rest p pieces done from r) (omega (arith, lt, first, last)) l in
       ⊎_elim
       (λ c. record { leaf = s.leaf; before = c; wanted = read_later x rest s.leaf s.wanted; there = s.there })
-      (λ same. ⊎_elim (λ own. let mine = own.0 in absurd (omega (arith, lt, first, mine))) outside (it.there k (ap (λ y. among (spots y) k) same ∙ s.there)))
+      (λ same. ⊎_elim (λ own. let mine = own.0 in absurd (omega (arith, lt, first, mine))) outside (it.there k (ap (λ y. among (locations y) k) same ∙ s.there)))
       (Contains-push_cases done x s.leaf s.before))
       (read_cases code.ports code.wides p.first it.outer (is_later code (pieces ++ telling)) p.instrs k it.stretch.reads (omega (arith, lt, first)) (first_or_later code p (pieces ++ telling) k e))

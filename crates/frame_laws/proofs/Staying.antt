@@ -4,7 +4,7 @@ use Rattle.std.proofs.lemmas.Bool.{and_parts, and_from}
 use Rattle.std.proofs.lemmas.List.Elements.{All-head, All-tail}
 use Rattle.flat_code.specs.declared.instr.Instr.{Instr}
 use Rattle.flat_code.specs.declared.instr.Port.{Port}
-use Rattle.flat_code.specs.declared.instr.Spot.{Spot}
+use Rattle.flat_code.specs.declared.instr.Location.{Location}
 use Rattle.flat_code.specs.declared.instr.Wide.{Wide}
 use Rattle.flat_code.specs.Fine.{Known, among, more, reads_of, writes_of, written}
 use Rattle.code_place.specs.Live.{is_read as is_read_or_shown, is_live_behind, most_live}
@@ -36,13 +36,13 @@ module _ (ports : List Port) (wides : List Wide) where
       (either (among (reads_of ports wides i) k) (is_read ports wides after is k) e)
 
   -- two instructions lists, one behind the other
-  pub read_behind : (shown : List Spot) (xs ys : List Instr) (k : ℕ) → is_read_or_shown ports wides shown (xs ++ ys) k ≡ is_read ports wides (is_read_or_shown ports wides shown ys) xs k
+  pub read_behind : (shown : List Location) (xs ys : List Instr) (k : ℕ) → is_read_or_shown ports wides shown (xs ++ ys) k ≡ is_read ports wides (is_read_or_shown ports wides shown ys) xs k
   read_behind shown [] ys k = refl
   read_behind shown (i ∷ xs) ys k = ap (λ b. among (reads_of ports wides i) k || b) (read_behind shown xs ys k)
 
   -- Own slots, and further ones that were written before
 
-  module _ (n count first last : ℕ) (further : List ℕ) (shown : List Spot) (ys : List Instr) where
+  module _ (n count first last : ℕ) (further : List ℕ) (shown : List Location) (ys : List Instr) where
     abbrev after : Known
     after = is_read_or_shown ports wides shown ys
 

@@ -6,7 +6,7 @@ use Rattle.ground_net.specs.declared.ground.Ground.{Ground}
 use Rattle.ground_net.specs.Grounds.{mentions}
 use Rattle.flat_code.specs.declared.instr.Port.{Port}
 use Rattle.flat_code.specs.declared.instr.Wide.{Wide}
-use Rattle.flat_code.specs.Fine.{among, spot_slots}
+use Rattle.flat_code.specs.Fine.{among, location_slots}
 use Rattle.code_draft.specs.declared.draft.Draft.{Draft}
 use Rattle.code_draft.specs.Segments.{GoesOn}
 use Rattle.code_draft.proofs.Joining.{goes_then}
@@ -70,8 +70,8 @@ module _ (drivers : List (Option Ground)) (reads : ℕ → List ℕ) (counts : �
       let S' = with_frame S x s in
       let says = known x g h.3 in
       let lt = within x (contains_first x rest) in
-      let here : leaf_slots T x ≡ spot_slots s = stays drivers rest S' T mid new x h.5 once.0 ∙ leaf_there S x s lt in
-      let p : Piece = piece_of old mid (ground_slots S g) (spot_slots s) (2 * tips g) seg in
+      let here : leaf_slots T x ≡ location_slots s = stays drivers rest S' T mid new x h.5 once.0 ∙ leaf_there S x s lt in
+      let p : Piece = piece_of old mid (ground_slots S g) (location_slots s) (2 * tips g) seg in
       let later = turn rest (done ++ x ∷ []) S' mid h.5
       (λ y k e. ⊎_elim
       (λ q. Contains-append_right done (x ∷ []) y (subst (λ z. Contains (z ∷ []) y) q (contains_first y [])))
@@ -94,7 +94,7 @@ module _ (drivers : List (Option Ground)) (reads : ℕ → List ℕ) (counts : �
       let counted = later.counted in
       record {
         pieces = p ∷ later.pieces;
-        goes = goes_further old mid new (p ∷ []) later.pieces (goes_one old mid (ground_slots S g) (spot_slots s) (2 * tips g) seg) later.goes;
+        goes = goes_further old mid new (p ∷ []) later.pieces (goes_one old mid (ground_slots S g) (location_slots s) (2 * tips g) seg) later.goes;
         counted = omega (arith, counted);
         each = λ ports wides on. cases ports wides x rest done p later.pieces (piece ports wides on) (later.each ports wides on);
       }

@@ -32,23 +32,23 @@ HasDrivers net part = (x : ℕ) → Contains part.assignments x → (driver : Gr
 
 -- The code of an assignment evaluates its driver, and keeps the value.
 abbrev pub IsAssigning : Net → Code → (ℕ → List ℕ) → List ℕ → ℕ → Piece → Type 0
-IsAssigning net code spots earlier x p = IsPiece code.ports code.wides spots earlier (direct_reads net x) (spots x) (assignment_nodes net x) p
+IsAssigning net code locations earlier x p = IsPiece code.ports code.wides locations earlier (direct_reads net x) (locations x) (assignment_nodes net x) p
 
 -- A piece of the code of sinks evaluates something of a sink when all assignments have their code.
 abbrev pub IsTelling : Net → List ℕ → CutPart → Code → (ℕ → List ℕ) → Piece → Type 0
-IsTelling net watch part code spots p = IsAside code.ports code.wides spots part.assignments (sinks_read net watch part) (sinks_nodes net watch part) p
+IsTelling net watch part code locations p = IsAside code.ports code.wides locations part.assignments (sinks_read net watch part) (sinks_nodes net watch part) p
 
 -- The code of a part is one piece for each assignment, whose value stands in at most two slots, and then pieces for what its sinks evaluate. It has no
 -- slots but theirs, and shows what stands in the slots of assignments.
 pub record InPieces (net : Net) (watch : List ℕ) (part : CutPart) (code : Code) : Type 0 where
-  pub spots : ℕ → List ℕ
-  pub two : (x : ℕ) → length (spots x) ≤ 2
+  pub locations : ℕ → List ℕ
+  pub two : (x : ℕ) → length (locations x) ≤ 2
   pub assigning : List Piece
   pub telling : List Piece
   pub is : code.instrs ≡ instrs_of (assigning ++ telling)
   pub follow : Follow 0 (assigning ++ telling)
   pub ends : end_of 0 (assigning ++ telling) ≡ code.slots
   pub counted : length assigning ≡ length part.assignments
-  pub assigned : (k x : ℕ) (p : Piece) → slice_get part.assignments k ≡ Some x → slice_get assigning k ≡ Some p → IsAssigning net code spots (take k part.assignments) x p
-  pub told : (p : Piece) → Contains telling p → IsTelling net watch part code spots p
-  pub shown : (k : ℕ) → among (slots_of code.shown) k ≡ true → StandsIn spots part.assignments (sinks_read net watch part) k
+  pub assigned : (k x : ℕ) (p : Piece) → slice_get part.assignments k ≡ Some x → slice_get assigning k ≡ Some p → IsAssigning net code locations (take k part.assignments) x p
+  pub told : (p : Piece) → Contains telling p → IsTelling net watch part code locations p
+  pub shown : (k : ℕ) → among (slots_of code.shown) k ≡ true → StandsIn locations part.assignments (sinks_read net watch part) k

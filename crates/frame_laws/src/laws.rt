@@ -48,7 +48,7 @@ pub fn live_assignments_have_room()
 /// The code of a part is in pieces, where its assignments have one each in turn and its sinks add some behind, over slots in which the
 /// values of the assignments stand, and it has no slots but theirs and shows such slots.
 pub fn drafts_are_pieces()
-    ensures { (net : TheNet) (watch : List ℕ) (part : ThePart) (code : TheCode) (spots : ℕ → List ℕ) (start mid last : TheDraft) → ((x : ℕ) → length (spots x) ≤ 2) → start.instrs ≡ [] → start.slots ≡ 0 → AssignsPieces spots (direct_reads net) (assignment_nodes net) part.assignments start mid → AddsPieces spots part.assignments (sinks_read net watch part) (sinks_nodes net watch part) mid last → code.instrs ≡ last.instrs → code.ports ≡ last.ports → code.wides ≡ last.wides → code.slots ≡ last.slots → ((k : ℕ) → among (slots_of code.shown) k ≡ true → StandsIn spots part.assignments (sinks_read net watch part) k) → InPieces net watch part code }
+    ensures { (net : TheNet) (watch : List ℕ) (part : ThePart) (code : TheCode) (locations : ℕ → List ℕ) (start mid last : TheDraft) → ((x : ℕ) → length (locations x) ≤ 2) → start.instrs ≡ [] → start.slots ≡ 0 → AssignsPieces locations (direct_reads net) (assignment_nodes net) part.assignments start mid → AddsPieces locations part.assignments (sinks_read net watch part) (sinks_nodes net watch part) mid last → code.instrs ≡ last.instrs → code.ports ≡ last.ports → code.wides ≡ last.wides → code.slots ≡ last.slots → ((k : ℕ) → among (slots_of code.shown) k ≡ true → StandsIn locations part.assignments (sinks_read net watch part) k) → InPieces net watch part code }
 {}
 
 /// Assignments that have segments in turn have pieces in turn, where each stands once, no leaf is found in the frame before, and each

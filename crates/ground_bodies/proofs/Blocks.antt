@@ -46,7 +46,7 @@ body_none m table n = record {
   sets = λ k j c leaf st is.
       let N : Numbering = numbering m table in
       let x : ℕ = leaves_before m k + j in
-      record { effects = λ sight last h. refl; certain = refl; live = lives_none N };
+      record { effects = λ instant last h. refl; certain = refl; live = lives_none N };
   nodes = λ k j c leaf e st is clk. node_none m e j k (numbering m table) (leaves_before m k + j) n false [] (means_none (numbering m table) (leaves_before m k + j));
   shaped = refl;
 }
@@ -138,16 +138,16 @@ module _ (entries : Entries) (m : TypedModule) (table : Table) (knows : Knows (n
   condition_meant : (x : ℕ) (a : Arm) (g : GroundArm) (inner : Meant) → IsCondition entries a.condition g.condition → IsMeant (numbering m table) x inner g.body
       → IsMeantArm (numbering m table) x (text_arm m a inner) g
   condition_meant x a g inner c b =
-      let its : AreSources (numbering m table) (λ sight. tree.value a.condition (scene_at m sight)) (tree_reads.mentions a.condition (type_in m)) (c.source ∷ []) = c.lowered.are (numbering m table) (type_in m) knows in
+      let its : AreSources (numbering m table) (λ instant. tree.value a.condition (scene_at m instant)) (tree_reads.mentions a.condition (type_in m)) (c.source ∷ []) = c.lowered.are (numbering m table) (type_in m) knows in
       record {
-        holds = λ sight h. ap (λ e. is_one (value e sight)) (sym c.expr) ∙ ap tree.is_one (its.values sight h);
+        holds = λ instant h. ap (λ e. is_one (value e instant)) (sym c.expr) ∙ ap tree.is_one (its.values instant h);
         mentioned = subst (λ e. SameLeaves (numbering m table) (tree_reads.joined (tree_reads.mentions a.condition (type_in m))) (mentions e)) c.expr (joined_one (numbering m table) (tree_reads.mentions a.condition (type_in m)) c.source its.reads);
         inner = b;
       }
 
   condition_shaped : (e : Expr) (g : Ground) → IsCondition entries e g → is_condition table g ≡ true
   condition_shaped e g c =
-      let its : AreSources (numbering m table) (λ sight. tree.value e (scene_at m sight)) (tree_reads.mentions e (type_in m)) (c.source ∷ []) = c.lowered.are (numbering m table) (type_in m) knows in
+      let its : AreSources (numbering m table) (λ instant. tree.value e (scene_at m instant)) (tree_reads.mentions e (type_in m)) (c.source ∷ []) = c.lowered.are (numbering m table) (type_in m) knows in
       ap (λ e. some_unsigned (shape e table)) (sym c.expr) ∙ (ap some_unsigned (head_same its.shapes) ∙ (ap is_one_unsigned (sym c.lowered.typed) ∙ c.unsigned))
 
   arms_set : (k j : ℕ) (c : Component) (leaf : TypeLeaf) → Stands m k j c leaf → is_set (c, leaf) ≡ true → (n : ℕ) (arms : List Arm) (gs : List GroundArm) → ArmsDo entries m table n arms gs

@@ -31,7 +31,7 @@ use Rattle.circuit_laws.specs.OpenReads.{OpenDriving, OpenDrivingArm, open_drivi
 use Rattle.ground_net.specs.declared.circuit.GroundStmt.{GroundStmt, the_lemmas}
 use Rattle.ground_net.specs.declared.circuit.GroundStmt.TheVariants.{When}
 use Rattle.ground_net.specs.declared.circuit.GroundArm.{GroundArm, fold-GroundArm}
-use Rattle.ground_net.specs.Grounds.{Sight, value, mentions}
+use Rattle.ground_net.specs.Grounds.{Instant, value, mentions}
 use Rattle.ground_net.specs.Statements.{Effect, Driving, DrivingArm, in_turn, first_holding, all_arms, effect, of_stmt, of_arm, driving, driving_of, driving_arm_of, live, is_certain, through_arms}
 use Rattle.net_meaning.specs.Shapes.{Table}
 use Rattle.net_meaning.specs.StatementShapes as passing
@@ -41,23 +41,23 @@ use Rattle.ground_bodies.specs.Arms.{is_typed_arm, are_typed_arms}
 
 -- Ground statements
 
-abbrev pub block_effect : Sight → ℕ → List GroundStmt → Effect
-block_effect sight x block = in_turn (map (effect sight x) block)
+abbrev pub block_effect : Instant → ℕ → List GroundStmt → Effect
+block_effect instant x block = in_turn (map (effect instant x) block)
 
-abbrev pub arm_effect : Sight → ℕ → GroundArm → Bool × Effect
-arm_effect sight x = fold-GroundArm Effect (Bool × Effect) (of_stmt sight x) (of_arm sight x)
+abbrev pub arm_effect : Instant → ℕ → GroundArm → Bool × Effect
+arm_effect instant x = fold-GroundArm Effect (Bool × Effect) (of_stmt instant x) (of_arm instant x)
 
 abbrev pub driving_arm : ℕ → GroundArm → DrivingArm
 driving_arm x = fold-GroundArm Driving DrivingArm (driving_of x) (driving_arm_of x)
 
-pub effect-When : (sight : Sight) (x first : ℕ) (arms : List GroundArm) (other : List GroundStmt) (last : Option Value)
-    → effect sight x (When first arms other) last
-    ≡ (if nat_lt x first then first_holding (map (arm_effect sight x) arms) (block_effect sight x other) last
-    else all_arms (map (arm_effect sight x) arms) (block_effect sight x other) last)
-effect-When sight x first arms other last = grind (arith, common_steps, the_lemmas)
+pub effect-When : (instant : Instant) (x first : ℕ) (arms : List GroundArm) (other : List GroundStmt) (last : Option Value)
+    → effect instant x (When first arms other) last
+    ≡ (if nat_lt x first then first_holding (map (arm_effect instant x) arms) (block_effect instant x other) last
+    else all_arms (map (arm_effect instant x) arms) (block_effect instant x other) last)
+effect-When instant x first arms other last = grind (arith, common_steps, the_lemmas)
 
-pub arm_effect-is : (sight : Sight) (x : ℕ) (arm : GroundArm) → arm_effect sight x arm ≡ (is_one (value arm.condition sight), block_effect sight x arm.body)
-arm_effect-is sight x arm = grind (arith, common_steps, the_lemmas)
+pub arm_effect-is : (instant : Instant) (x : ℕ) (arm : GroundArm) → arm_effect instant x arm ≡ (is_one (value arm.condition instant), block_effect instant x arm.body)
+arm_effect-is instant x arm = grind (arith, common_steps, the_lemmas)
 
 pub certain-When : (x first : ℕ) (arms : List GroundArm) (other : List GroundStmt)
     → (driving x (When first arms other)).certain ≡ (list_all (λ arm. arm.certain) (map (driving_arm x) arms) && is_certain x other)

@@ -15,7 +15,7 @@ use Rattle.circuit_laws.specs.OpenReads as open_reads
 use Rattle.ground_net.specs.declared.circuit.GroundStmt.{GroundStmt}
 use Rattle.ground_net.specs.declared.circuit.GroundStmt.TheVariants.{When}
 use Rattle.ground_net.specs.declared.circuit.GroundArm.{GroundArm}
-use Rattle.ground_net.specs.Grounds.{Sight, value, mentions}
+use Rattle.ground_net.specs.Grounds.{Instant, value, mentions}
 use Rattle.ground_net.specs.Statements.{Effect, in_turn, first_holding, effect, driving, live_from, live, is_certain, through_arms}
 use Rattle.net_meaning.specs.Shapes.{HasShapes}
 use Rattle.ground_parts.specs.Numbers.{Numbering, SameLeaves}
@@ -26,10 +26,10 @@ use Rattle.ground_bodies.proofs.Layers.{block_effect, arm_effect, driving_arm, e
 use Rattle.ground_bodies.proofs.Lives.{certain_append, live_append, lives_none, lives_append, lives_unless, lives_crossing}
 
 -- the same in other words
-pub told : (n : Numbering) (x : ℕ) (a b : Meant) (made : List GroundStmt) → ((sight : Sight) (last : Option ℤ) → a.does sight last ≡ b.does sight last) → a.certain ≡ b.certain → a.lives ≡ b.lives
+pub told : (n : Numbering) (x : ℕ) (a b : Meant) (made : List GroundStmt) → ((instant : Instant) (last : Option ℤ) → a.does instant last ≡ b.does instant last) → a.certain ≡ b.certain → a.lives ≡ b.lives
     → IsMeant n x a made → IsMeant n x b made
 told n x a b made d c l p = record {
-  effects = λ sight last h. p.effects sight last h ∙ d sight (option_map integer_of last);
+  effects = λ instant last h. p.effects instant last h ∙ d instant (option_map integer_of last);
   certain = p.certain ∙ c;
   live = subst (λ ls. SameLives n ls (live x made)) l p.live;
 }
@@ -38,7 +38,7 @@ told n x a b made d c l p = record {
 
 abbrev pub seq : Meant → Meant → Meant
 seq a b = record {
-  does = λ sight last. b.does sight (a.does sight last);
+  does = λ instant last. b.does instant (a.does instant last);
   certain = a.certain || b.certain;
   lives = (if b.certain then [] else a.lives) ++ b.lives;
 }
@@ -48,13 +48,13 @@ turn_append [] bs last = refl
 turn_append (a ∷ fs) bs last = turn_append fs bs (a last)
 
 pub means_none : (n : Numbering) (x : ℕ) → IsMeant n x left_alone []
-means_none n x = record { effects = λ sight last h. refl; certain = refl; live = lives_none n }
+means_none n x = record { effects = λ instant last h. refl; certain = refl; live = lives_none n }
 
 pub means_seq : (n : Numbering) (x : ℕ) (a b : Meant) (made more : List GroundStmt) → IsMeant n x a made → IsMeant n x b more → IsMeant n x (seq a b) (made ++ more)
 means_seq n x a b made more p q = record {
-  effects = λ sight last h.
-      ap (option_map integer_of) (ap (λ es. in_turn es last) (map-append (effect sight x) made more) ∙ turn_append (map (effect sight x) made) (map (effect sight x) more) last)
-      ∙ q.effects sight (block_effect sight x made last) h ∙ ap (b.does sight) (p.effects sight last h);
+  effects = λ instant last h.
+      ap (option_map integer_of) (ap (λ es. in_turn es last) (map-append (effect instant x) made more) ∙ turn_append (map (effect instant x) made) (map (effect instant x) more) last)
+      ∙ q.effects instant (block_effect instant x made last) h ∙ ap (b.does instant) (p.effects instant last h);
   certain = ap (list_any (λ t. t.certain)) (map-append (driving x) made more) ∙ certain_append (map (driving x) made) (map (driving x) more) ∙ ap₂ (λ u v. u || v) p.certain q.certain;
   live = subst (SameLives n (seq a b).lives) (sym (ap live_from (map-append (driving x) made more) ∙ live_append (map (driving x) made) (map (driving x) more)))
       (lives_append n (if b.certain then [] else a.lives) b.lives (if is_certain x more then [] else live x made) (live x more)
@@ -65,12 +65,12 @@ means_seq n x a b made more p q = record {
 
 -- an arm: whether its condition holds, what that mentions, and its body
 pub record MeantArm : Type 0 where
-  pub holds : Sight → Bool
+  pub holds : Instant → Bool
   pub mentioned : List Leaf
   pub body : Meant
 
 pub record IsMeantArm (n : Numbering) (x : ℕ) (t : MeantArm) (g : GroundArm) : Type 0 where
-  pub holds : (sight : Sight) → HasShapes n.table sight → is_one (value g.condition sight) ≡ t.holds sight
+  pub holds : (instant : Instant) → HasShapes n.table instant → is_one (value g.condition instant) ≡ t.holds instant
   pub mentioned : SameLeaves n t.mentioned (mentions g.condition)
   pub inner : IsMeant n x t.body g.body
 
@@ -79,15 +79,15 @@ AreMeantArms n x [] [] = ⊤
 AreMeantArms n x (t ∷ ts) (g ∷ gs) = IsMeantArm n x t g × AreMeantArms n x ts gs
 AreMeantArms n x _ _ = ⊥
 
-abbrev pub effects_of : Sight → List MeantArm → List (Bool × tree_drives.Effect)
-effects_of sight ts = map (λ t. (t.holds sight, t.body.does sight)) ts
+abbrev pub effects_of : Instant → List MeantArm → List (Bool × tree_drives.Effect)
+effects_of instant ts = map (λ t. (t.holds instant, t.body.does instant)) ts
 
 abbrev pub drivings_of : List MeantArm → List tree_loops.DrivingArm
 drivings_of ts = map (λ t. record { condition = t.mentioned; certain = t.body.certain; live = t.body.lives }) ts
 
 abbrev pub when_meant : Bool → List MeantArm → Meant → Meant
 when_meant asked ts other = record {
-  does = λ sight last. if asked then tree_drives.first_holding (effects_of sight ts) (other.does sight) last else open_text.all_arms (effects_of sight ts) (other.does sight) last;
+  does = λ instant last. if asked then tree_drives.first_holding (effects_of instant ts) (other.does instant) last else open_text.all_arms (effects_of instant ts) (other.does instant) last;
   certain = list_all (λ arm. arm.certain) (drivings_of ts) && other.certain;
   lives = if asked then tree_loops.through_arms [] (drivings_of ts) other.lives else open_reads.arms_live (drivings_of ts) ++ other.lives;
 }
@@ -100,25 +100,25 @@ choose false true f g u v last e h k = cc
 choose false false f g u v last e h k = k
 
 module _ (n : Numbering) (x : ℕ) where
-  first_alike : (sight : Sight) → HasShapes n.table sight → (ts : List MeantArm) (gs : List GroundArm) → AreMeantArms n x ts gs → (to : tree_drives.Effect) (go : Effect)
+  first_alike : (instant : Instant) → HasShapes n.table instant → (ts : List MeantArm) (gs : List GroundArm) → AreMeantArms n x ts gs → (to : tree_drives.Effect) (go : Effect)
       → ((last : Option Value) → option_map integer_of (go last) ≡ to (option_map integer_of last)) → (last : Option Value)
-      → option_map integer_of (first_holding (map (arm_effect sight x) gs) go last) ≡ tree_drives.first_holding (effects_of sight ts) to (option_map integer_of last)
-  first_alike sight h [] [] a to go o last = o last
-  first_alike sight h [] (g ∷ gs) a to go o last = absurd a
-  first_alike sight h (t ∷ ts) [] a to go o last = absurd a
-  first_alike sight h (t ∷ ts) (g ∷ gs) a to go o last =
-      ap (λ (p : Bool × Effect). option_map integer_of ((if p.0 then p.1 else first_holding (map (arm_effect sight x) gs) go) last)) (arm_effect-is sight x g)
-      ∙ choose (is_one (value g.condition sight)) (t.holds sight) (block_effect sight x g.body) (first_holding (map (arm_effect sight x) gs) go) (t.body.does sight) (tree_drives.first_holding (effects_of sight ts) to) last
-      (a.0.holds sight h) (a.0.inner.effects sight last h) (first_alike sight h ts gs a.1 to go o last)
+      → option_map integer_of (first_holding (map (arm_effect instant x) gs) go last) ≡ tree_drives.first_holding (effects_of instant ts) to (option_map integer_of last)
+  first_alike instant h [] [] a to go o last = o last
+  first_alike instant h [] (g ∷ gs) a to go o last = absurd a
+  first_alike instant h (t ∷ ts) [] a to go o last = absurd a
+  first_alike instant h (t ∷ ts) (g ∷ gs) a to go o last =
+      ap (λ (p : Bool × Effect). option_map integer_of ((if p.0 then p.1 else first_holding (map (arm_effect instant x) gs) go) last)) (arm_effect-is instant x g)
+      ∙ choose (is_one (value g.condition instant)) (t.holds instant) (block_effect instant x g.body) (first_holding (map (arm_effect instant x) gs) go) (t.body.does instant) (tree_drives.first_holding (effects_of instant ts) to) last
+      (a.0.holds instant h) (a.0.inner.effects instant last h) (first_alike instant h ts gs a.1 to go o last)
 
-  turn_alike : (sight : Sight) → HasShapes n.table sight → (ts : List MeantArm) (gs : List GroundArm) → AreMeantArms n x ts gs → (last : Option Value)
-      → option_map integer_of (in_turn (map (λ arm. arm.1) (map (arm_effect sight x) gs)) last) ≡ tree_drives.in_turn (map (λ arm. arm.1) (effects_of sight ts)) (option_map integer_of last)
-  turn_alike sight h [] [] a last = refl
-  turn_alike sight h [] (g ∷ gs) a last = absurd a
-  turn_alike sight h (t ∷ ts) [] a last = absurd a
-  turn_alike sight h (t ∷ ts) (g ∷ gs) a last =
-      turn_alike sight h ts gs a.1 ((arm_effect sight x g).1 last)
-      ∙ ap (tree_drives.in_turn (map (λ arm. arm.1) (effects_of sight ts))) (ap (λ (p : Bool × Effect). option_map integer_of (p.1 last)) (arm_effect-is sight x g) ∙ a.0.inner.effects sight last h)
+  turn_alike : (instant : Instant) → HasShapes n.table instant → (ts : List MeantArm) (gs : List GroundArm) → AreMeantArms n x ts gs → (last : Option Value)
+      → option_map integer_of (in_turn (map (λ arm. arm.1) (map (arm_effect instant x) gs)) last) ≡ tree_drives.in_turn (map (λ arm. arm.1) (effects_of instant ts)) (option_map integer_of last)
+  turn_alike instant h [] [] a last = refl
+  turn_alike instant h [] (g ∷ gs) a last = absurd a
+  turn_alike instant h (t ∷ ts) [] a last = absurd a
+  turn_alike instant h (t ∷ ts) (g ∷ gs) a last =
+      turn_alike instant h ts gs a.1 ((arm_effect instant x g).1 last)
+      ∙ ap (tree_drives.in_turn (map (λ arm. arm.1) (effects_of instant ts))) (ap (λ (p : Bool × Effect). option_map integer_of (p.1 last)) (arm_effect-is instant x g) ∙ a.0.inner.effects instant last h)
 
   certain_alike : (ts : List MeantArm) (gs : List GroundArm) → AreMeantArms n x ts gs → list_all (λ arm. arm.certain) (map (driving_arm x) gs) ≡ list_all (λ arm. arm.certain) (drivings_of ts)
   certain_alike [] [] a = refl
@@ -160,10 +160,10 @@ module _ (n : Numbering) (x : ℕ) where
   pub means_when : (first : ℕ) (ts : List MeantArm) (gs : List GroundArm) (other : Meant) (made : List GroundStmt) → AreMeantArms n x ts gs → IsMeant n x other made
       → IsMeant n x (when_meant (nat_lt x first) ts other) (When first gs made ∷ [])
   means_when first ts gs other made a o = record {
-    effects = λ sight last h.
-        ap (option_map integer_of) (effect-When sight x first gs made last)
-        ∙ either_effect (nat_lt x first) _ _ _ _ (first_alike sight h ts gs a (other.does sight) (block_effect sight x made) (λ l. o.effects sight l h) last)
-        (o.effects sight (in_turn (map (λ arm. arm.1) (map (arm_effect sight x) gs)) last) h ∙ ap (other.does sight) (turn_alike sight h ts gs a last));
+    effects = λ instant last h.
+        ap (option_map integer_of) (effect-When instant x first gs made last)
+        ∙ either_effect (nat_lt x first) _ _ _ _ (first_alike instant h ts gs a (other.does instant) (block_effect instant x made) (λ l. o.effects instant l h) last)
+        (o.effects instant (in_turn (map (λ arm. arm.1) (map (arm_effect instant x) gs)) last) h ∙ ap (other.does instant) (turn_alike instant h ts gs a last));
     certain = or_false (driving x (When first gs made)).certain ∙ certain-When x first gs made ∙ ap₂ (λ u v. u && v) (certain_alike ts gs a) o.certain;
     live = subst (SameLives n (when_meant (nat_lt x first) ts other).lives) (sym (append-nil (driving x (When first gs made)).live ∙ live-When x first gs made))
         (either_lives (nat_lt x first) _ _ _ _ (through_alike ts gs a [] [] (same_none n) other.lives (live x made) o.live)

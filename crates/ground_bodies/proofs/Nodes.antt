@@ -11,7 +11,7 @@ use Rattle.circuit_laws.specs.OpenReads as open_reads
 use Rattle.circuit_laws.proofs.Opening.{below_true, not_below}
 use Rattle.ground_net.specs.declared.circuit.GroundStmt.{GroundStmt}
 use Rattle.ground_net.specs.declared.circuit.GroundArm.{GroundArm}
-use Rattle.ground_net.specs.Grounds.{Sight}
+use Rattle.ground_net.specs.Grounds.{Instant}
 use Rattle.ground_net.specs.Statements.{is_certain}
 use Rattle.net_meaning.specs.Shapes.{Table}
 use Rattle.ground_parts.specs.Numbers.{Numbering}
@@ -59,19 +59,19 @@ module _ (m : TypedModule) (e : Expr) (j k : ℕ) where
       by : Place n c k → Place (n + c) d k → IsMeant N x (node_meant m e j k n (c + d) (is_certain x made)) made
       by (is_before h) place =
           let q = two left_alone left_alone (node_alone n c s (among_before n c k h)) (node_alone (n + c) d t (among_before (n + c) d k (omega (arith, h)))) in
-          as_alone n (c + d) _ made (among_before n (c + d) k h) (told N x (seq left_alone left_alone) left_alone made (λ sight last. refl) refl refl q)
+          as_alone n (c + d) _ made (among_before n (c + d) k h) (told N x (seq left_alone left_alone) left_alone made (λ instant last. refl) refl refl q)
       by (is_inside h l) place =
           let q = two (set_to m e j s) left_alone (node_set n c s (among_inside n c k h l)) (node_alone (n + c) d t (among_before (n + c) d k l)) in
           as_set n (c + d) _ made (among_inside n (c + d) k h (omega (arith, l)))
-          (told N x (seq (set_to m e j s) left_alone) (set_to m e j (is_certain x made)) made (λ sight last. refl) (sym q.certain) refl q)
+          (told N x (seq (set_to m e j s) left_alone) (set_to m e j (is_certain x made)) made (λ instant last. refl) (sym q.certain) refl q)
       by (is_behind h) (is_before l) = absurd (omega (arith, h, l))
       by (is_behind h) (is_inside l l2) =
           let q = two left_alone (set_to m e j t) (node_alone n c s (among_behind n c k h)) (node_set (n + c) d t (among_inside (n + c) d k l l2)) in
           as_set n (c + d) _ made (among_inside n (c + d) k (omega (arith, h)) (omega (arith, l2)))
-          (told N x (seq left_alone (set_to m e j t)) (set_to m e j (is_certain x made)) made (λ sight last. refl) (sym q.certain) (either_none t _) q)
+          (told N x (seq left_alone (set_to m e j t)) (set_to m e j (is_certain x made)) made (λ instant last. refl) (sym q.certain) (either_none t _) q)
       by (is_behind h) (is_behind l) =
           let q = two left_alone left_alone (node_alone n c s (among_behind n c k h)) (node_alone (n + c) d t (among_behind (n + c) d k l)) in
-          as_alone n (c + d) _ made (among_behind n (c + d) k (omega (arith, l))) (told N x (seq left_alone left_alone) left_alone made (λ sight last. refl) refl refl q)
+          as_alone n (c + d) _ made (among_behind n (c + d) k (omega (arith, l))) (told N x (seq left_alone left_alone) left_alone made (λ instant last. refl) refl refl q)
 
 -- Arms
 
@@ -87,14 +87,14 @@ either_same : (b : Bool) (f g : tree_drives.Effect) (last : Option ℤ) → f la
 either_same true f g last h i = h
 either_same false f g last h i = i
 
-first_alone : (ts : List MeantArm) → AllAlone ts → (sight : Sight) (last : Option ℤ) → tree_drives.first_holding (effects_of sight ts) (λ l. l) last ≡ last
-first_alone [] a sight last = refl
-first_alone (t ∷ ts) a sight last =
-    either_same (t.holds sight) (t.body.does sight) (tree_drives.first_holding (effects_of sight ts) (λ l. l)) last (ap (λ (w : Meant). w.does sight last) a.0) (first_alone ts a.1 sight last)
+first_alone : (ts : List MeantArm) → AllAlone ts → (instant : Instant) (last : Option ℤ) → tree_drives.first_holding (effects_of instant ts) (λ l. l) last ≡ last
+first_alone [] an instant last = refl
+first_alone (t ∷ ts) an instant last =
+    either_same (t.holds instant) (t.body.does instant) (tree_drives.first_holding (effects_of instant ts) (λ l. l)) last (ap (λ (w : Meant). w.does instant last) a.0) (first_alone ts a.1 instant last)
 
-turn_alone : (ts : List MeantArm) → AllAlone ts → (sight : Sight) (last : Option ℤ) → tree_drives.in_turn (map (λ arm. arm.1) (effects_of sight ts)) last ≡ last
-turn_alone [] a sight last = refl
-turn_alone (t ∷ ts) a sight last = ap (tree_drives.in_turn (map (λ arm. arm.1) (effects_of sight ts))) (ap (λ (w : Meant). w.does sight last) a.0) ∙ turn_alone ts a.1 sight last
+turn_alone : (ts : List MeantArm) → AllAlone ts → (instant : Instant) (last : Option ℤ) → tree_drives.in_turn (map (λ arm. arm.1) (effects_of instant ts)) last ≡ last
+turn_alone [] an instant last = refl
+turn_alone (t ∷ ts) an instant last = ap (tree_drives.in_turn (map (λ arm. arm.1) (effects_of instant ts))) (ap (λ (w : Meant). w.does instant last) a.0) ∙ turn_alone ts a.1 instant last
 
 through_alone : (ts : List MeantArm) → AllAlone ts → (c : List Leaf) → tree_loops.through_arms c (drivings_of ts) [] ≡ []
 through_alone [] a c = refl
@@ -105,11 +105,11 @@ live_alone [] a = refl
 live_alone (t ∷ ts) a = ap₂ (λ u v. u ++ v) (ap (λ (w : Meant). w.lives) a.0) (live_alone ts a.1)
 
 module _ (m : TypedModule) (e : Expr) (j : ℕ) where
-  turn_one : (ts : List MeantArm) → OneSets m e j ts → (sight : Sight) (last : Option ℤ) → tree_drives.in_turn (map (λ arm. arm.1) (effects_of sight ts)) last ≡ (set_to m e j true).does sight last
-  turn_one [] o sight last = absurd o
-  turn_one (t ∷ ts) (inl o) sight last =
-      turn_alone ts o.2 sight (t.body.does sight last) ∙ ap (λ (w : Meant). w.does sight last) o.1
-  turn_one (t ∷ ts) (inr o) sight last = turn_one ts o.1 sight (t.body.does sight last)
+  turn_one : (ts : List MeantArm) → OneSets m e j ts → (instant : Instant) (last : Option ℤ) → tree_drives.in_turn (map (λ arm. arm.1) (effects_of instant ts)) last ≡ (set_to m e j true).does instant last
+  turn_one [] o instant last = absurd o
+  turn_one (t ∷ ts) (inl o) instant last =
+      turn_alone ts o.2 instant (t.body.does instant last) ∙ ap (λ (w : Meant). w.does instant last) o.1
+  turn_one (t ∷ ts) (inr o) instant last = turn_one ts o.1 instant (t.body.does instant last)
 
   live_one : (ts : List MeantArm) → OneSets m e j ts → open_reads.arms_live (drivings_of ts) ≡ (set_to m e j true).lives
   live_one [] o = absurd o
@@ -189,7 +189,7 @@ module _ (m : TypedModule) (e : Expr) (j k x : ℕ) where
         let alone = arms_behind n arms gs h in
         let q = when_is false (set_to m e j t) (not_below k n (omega (arith, h))) (node_set m e j k (n + a) o t (among_inside (n + a) o k l l2)) in
         as_set m e j k N x n (a + o) _ made (among_inside n (a + o) k (omega (arith, h)) (omega (arith, l2)))
-        (told N x (when_meant false ts (set_to m e j t)) (set_to m e j (is_certain x made)) made (λ sight last. refl) (sym q.certain) (ap (λ l. l ++ (set_to m e j t).lives) (live_alone ts alone)) q)
+        (told N x (when_meant false ts (set_to m e j t)) (set_to m e j (is_certain x made)) made (λ instant last. refl) (sym q.certain) (ap (λ l. l ++ (set_to m e j t).lives) (live_alone ts alone)) q)
     by (is_behind h) (is_behind l) =
         let alone = arms_behind n arms gs h in
         let q = when_is false left_alone (not_below k n (omega (arith, h))) (node_alone m e j k (n + a) o t (among_behind (n + a) o k l)) in

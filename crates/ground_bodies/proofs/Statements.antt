@@ -28,7 +28,7 @@ use Rattle.circuit_laws.specs.Open.{Opened, opened}
 use Rattle.circuit_laws.specs.OpenReads as open_reads
 use Rattle.circuit_laws.specs.OpenReads.{OpenDriving, open_driving}
 use Rattle.ground_net.specs.declared.circuit.GroundStmt.{GroundStmt}
-use Rattle.ground_net.specs.Grounds.{Sight, value, mentions}
+use Rattle.ground_net.specs.Grounds.{Instant, value, mentions}
 use Rattle.ground_net.specs.Statements.{is_certain}
 use Rattle.net_meaning.specs.Shapes.{Table, HasShapes, shape}
 use Rattle.ground_of_circuit.specs.Numbers.{is_set, scene_at, leaves_before}
@@ -56,7 +56,7 @@ or_false false = refl
 -- what leaves a leaf alone means nothing to it
 alone_means : (N : Numbering) (x : ℕ) (made : List GroundStmt) → LeavesAlone made x → IsMeant N x left_alone made
 alone_means N x made l = record {
-  effects = λ sight last h. ap (option_map integer_of) (l.effects sight last);
+  effects = λ instant last h. ap (option_map integer_of) (l.effects instant last);
   certain = l.certain;
   live = subst (SameLives N []) (sym l.live) (lives_none N);
 }
@@ -80,11 +80,11 @@ idles s o r = record {
 -- the meaning of one statement alone
 one_meant : (N : Numbering) (x : ℕ) (m : TypedModule) (s : Stmt) (does : Scene → Leaf → Option ℤ → Option ℤ) (surely : Scope → Leaf → Bool) (lives : Scope → Leaf → List (List Leaf)) → Acts s does surely lives
     → (leaf : Leaf) (k n : ℕ) (made : List GroundStmt)
-    → IsMeant N x (record { does = λ sight last. does (scene_at m sight) leaf last; certain = surely (type_in m) leaf; lives = lives (type_in m) leaf }) made
+    → IsMeant N x (record { does = λ instant last. does (scene_at m instant) leaf last; certain = surely (type_in m) leaf; lives = lives (type_in m) leaf }) made
     → IsMeant N x (meant_by m leaf k n (s ∷ [])) made
 one_meant N x m s does surely lives acts leaf k n made p =
-    told N x (record { does = λ sight last. does (scene_at m sight) leaf last; certain = surely (type_in m) leaf; lives = lives (type_in m) leaf }) (meant_by m leaf k n (s ∷ [])) made
-    (λ sight last. sym (acts.left (scene_at m sight) leaf k n last)) (sym (acts.certain (type_in m) leaf k) ∙ or_false (open_driving (type_in m) leaf k s).certain)
+    told N x (record { does = λ instant last. does (scene_at m instant) leaf last; certain = surely (type_in m) leaf; lives = lives (type_in m) leaf }) (meant_by m leaf k n (s ∷ [])) made
+    (λ instant last. sym (acts.left (scene_at m instant) leaf k n last)) (sym (acts.certain (type_in m) leaf k) ∙ or_false (open_driving (type_in m) leaf k s).certain)
     (sym (acts.live (type_in m) leaf k n) ∙ sym (append-nil ((open_driving (type_in m) leaf k s).live n))) p
 
 -- Declarations that set nothing
@@ -243,18 +243,18 @@ is_skip entries settable s place before e =
       live = λ types leaf k n. ap (λ (x : OpenDriving). x.live n) (layer.reads-Skip types leaf k place);
     }) (layer.labels-Skip place)
     (λ n types knows once. record {
-      sets = λ leaf x set is. record { effects = λ sight last h. refl; certain = refl; live = lives_none n };
-      others = λ x unset. record { effects = λ sight last. refl; certain = refl; live = refl };
+      sets = λ leaf x set is. record { effects = λ instant last h. refl; certain = refl; live = lives_none n };
+      others = λ x unset. record { effects = λ instant last. refl; certain = refl; live = refl };
       shaped = refl;
     }))
 
 -- Nodes
 
 -- the values and the mentions of sources at their places
-value_at : (sources : List Source) (sight : Sight) (j : ℕ) (s : Source) → slice_get sources j ≡ Some s → slice_get (map integer_of (source_values sources sight)) j ≡ Some (integer_of (value s.expr sight))
-value_at [] sight j s e = absurd (none_some e)
-value_at (t ∷ sources) sight zero s e = ap (λ (z : Source). Some (integer_of (value z.expr sight))) (some_same e)
-value_at (t ∷ sources) sight (suc j) s e = value_at sources sight j s e
+value_at : (sources : List Source) (instant : Instant) (j : ℕ) (s : Source) → slice_get sources j ≡ Some s → slice_get (map integer_of (source_values sources instant)) j ≡ Some (integer_of (value s.expr instant))
+value_at [] instant j s e = absurd (none_some e)
+value_at (t ∷ sources) instant zero s e = ap (λ (z : Source). Some (integer_of (value z.expr instant))) (some_same e)
+value_at (t ∷ sources) instant (suc j) s e = value_at sources instant j s e
 
 reads_at : (N : Numbering) (ms : List (List Leaf)) (sources : List Source) (j : ℕ) (s : Source) → ReadEach N ms sources → slice_get sources j ≡ Some s → SameLeaves N (get_or ms j []) (mentions s.expr)
 reads_at N [] [] j s r e = absurd (none_some e)
@@ -282,11 +282,11 @@ same_joined N l ns s = record { none = refl; leaves = subst (λ a. SameLeaves N 
 
 -- the source of a node's leaf
 set_means : (N : Numbering) (x : ℕ) (m : TypedModule) (e : Expr) (j : ℕ) (made : List GroundStmt) (sources : List Source) (s : Source) → slice_get sources j ≡ Some s
-    → ((sight : Sight) → HasShapes N.table sight → source_values sources sight ≡ tree.value e (scene_at m sight)) → ReadEach N (tree_reads.mentions e (type_in m)) sources → SetsTo made x s
+    → ((instant : Instant) → HasShapes N.table instant → source_values sources instant ≡ tree.value e (scene_at m instant)) → ReadEach N (tree_reads.mentions e (type_in m)) sources → SetsTo made x s
     → IsMeant N x (set_to m e j (is_certain x made)) made
 set_means N x m e j made sources s at values reads set = record {
-  effects = λ sight last h.
-      ap (option_map integer_of) (set.effects sight last) ∙ (sym (value_at sources sight j s at) ∙ ap (λ vs. slice_get (map integer_of vs) j) (values sight h));
+  effects = λ instant last h.
+      ap (option_map integer_of) (set.effects instant last) ∙ (sym (value_at sources instant j s at) ∙ ap (λ vs. slice_get (map integer_of vs) j) (values instant h));
   certain = refl;
   live = subst (SameLives N (set_to m e j true).lives) (sym set.live) (same_joined N (get_or (tree_reads.mentions e (type_in m)) j []) (mentions s.expr) (reads_at N (tree_reads.mentions e (type_in m)) sources j s reads at));
 }
@@ -317,7 +317,7 @@ module _ (entries : Entries) (settable : List Bool) (name : Name) (e : Expr) (so
       one : length (body_labels (stmt.Node name e ∷ [])) ≡ 1
       one = ap length (one_label (stmt.Node name e) (name.id, A_node e) (layer.labels-Node name e))
 
-      its : AreSources N (λ sight. tree.value e (scene_at m sight)) (tree_reads.mentions e (type_in m)) sources
+      its : AreSources N (λ instant. tree.value e (scene_at m instant)) (tree_reads.mentions e (type_in m)) sources
       its = low.are N (type_in m) (knows_view holder m entries settable table has view t)
 
       told_is : map said sources ≡ map leaf_shape (leaves d.typ)

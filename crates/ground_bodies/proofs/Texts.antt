@@ -19,7 +19,7 @@ use Rattle.circuit_laws.specs.OpenReads.{OpenDriving, OpenDrivingArm, open_drivi
 use Rattle.circuit_laws.proofs.Opening.{opens}
 use Rattle.circuit_laws.proofs.Reading.{reads_of}
 use Rattle.ground_net.specs.declared.circuit.GroundStmt.{GroundStmt}
-use Rattle.ground_net.specs.Grounds.{Sight}
+use Rattle.ground_net.specs.Grounds.{Instant}
 use Rattle.ground_of_circuit.specs.Numbers.{scene_at}
 use Rattle.ground_parts.specs.Numbers.{Numbering}
 use Rattle.ground_bodies.specs.Declares.{labels, body_labels}
@@ -118,13 +118,13 @@ pub text_seq : (N : Numbering) (x : ℕ) (m : TypedModule) (leaf : Leaf) (k n : 
     → IsMeant N x (seq (meant_by m leaf k n xs) (meant_by m leaf k (n + length (body_labels xs)) ys)) made → IsMeant N x (meant_by m leaf k n (xs ++ ys)) made
 text_seq N x m leaf k n xs ys made p =
     told N x (seq (meant_by m leaf k n xs) (meant_by m leaf k (n + length (body_labels xs)) ys)) (meant_by m leaf k n (xs ++ ys)) made
-    (λ sight last. sym (left_append (scene_at m sight) leaf k n xs ys last)) (sym (any_append (type_in m) leaf k xs ys)) (sym (live_append (type_in m) leaf k n xs ys)) p
+    (λ instant last. sym (left_append (scene_at m instant) leaf k n xs ys last)) (sym (any_append (type_in m) leaf k xs ys)) (sym (live_append (type_in m) leaf k n xs ys)) p
 
 -- A `when`
 
 abbrev pub text_arm : TypedModule → Arm → Meant → MeantArm
 text_arm m a inner = record {
-  holds = λ sight. tree.is_one (tree.value a.condition (scene_at m sight));
+  holds = λ instant. tree.is_one (tree.value a.condition (scene_at m instant));
   mentioned = tree_reads.joined (tree_reads.mentions a.condition (type_in m));
   body = inner;
 }
@@ -134,13 +134,13 @@ text_arms m leaf k n [] = []
 text_arms m leaf k n (a ∷ arms) = text_arm m a (meant_by m leaf k n a.body) ∷ text_arms m leaf k (n + length (body_labels a.body)) arms
 
 module _ (m : TypedModule) (leaf : Leaf) (k : ℕ) where
-  effects_text : (sight : Sight) (n : ℕ) (arms : List Arm) → arm_effects n (map (opened_arm (scene_at m sight) leaf k) arms) ≡ effects_of sight (text_arms m leaf k n arms)
-  effects_text sight n [] = refl
-  effects_text sight n (a ∷ arms) =
-      let rest : ℕ → List (Bool × tree_drives.Effect) = λ i. arm_effects (n + i) (map (opened_arm (scene_at m sight) leaf k) arms) in
-      ap (λ (o : OpenedArm). (o.holds, o.does n) ∷ rest (opened_arm (scene_at m sight) leaf k a).count) (open_arm-is (scene_at m sight) leaf k a)
-      ∙ ap (λ r. (tree.is_one (tree.value a.condition (scene_at m sight)), left_by (scene_at m sight) leaf k n a.body) ∷ r)
-      (ap rest (arm_count_is (scene_at m sight) leaf k a) ∙ effects_text sight (n + length (body_labels a.body)) arms)
+  effects_text : (instant : Instant) (n : ℕ) (arms : List Arm) → arm_effects n (map (opened_arm (scene_at m instant) leaf k) arms) ≡ effects_of instant (text_arms m leaf k n arms)
+  effects_text instant n [] = refl
+  effects_text instant n (a ∷ arms) =
+      let rest : ℕ → List (Bool × tree_drives.Effect) = λ i. arm_effects (n + i) (map (opened_arm (scene_at m instant) leaf k) arms) in
+      ap (λ (o : OpenedArm). (o.holds, o.does n) ∷ rest (opened_arm (scene_at m instant) leaf k a).count) (open_arm-is (scene_at m instant) leaf k a)
+      ∙ ap (λ r. (tree.is_one (tree.value a.condition (scene_at m instant)), left_by (scene_at m instant) leaf k n a.body) ∷ r)
+      (ap rest (arm_count_is (scene_at m instant) leaf k a) ∙ effects_text instant (n + length (body_labels a.body)) arms)
 
   drivings_text : (n : ℕ) (arms : List Arm) → arm_drivings n (map (the_arm (type_in m) leaf k) arms) ≡ drivings_of (text_arms m leaf k n arms)
   drivings_text n [] = refl
@@ -170,13 +170,13 @@ module _ (m : TypedModule) (leaf : Leaf) (k : ℕ) where
   or_false true = refl
   or_false false = refl
 
-  when_does : (n : ℕ) (arms : List Arm) (other : List Stmt) (sight : Sight) (last : Option ℤ)
-      → left_by (scene_at m sight) leaf k n (stmt.When arms other ∷ []) last ≡ (when_meant (nat_lt k n) (text_arms m leaf k n arms) (meant_by m leaf k (n + length (arms_labels arms)) other)).does sight last
-  when_does n arms other sight last =
-      let scene : Scene = scene_at m sight in
+  when_does : (n : ℕ) (arms : List Arm) (other : List Stmt) (instant : Instant) (last : Option ℤ)
+      → left_by (scene_at m instant) leaf k n (stmt.When arms other ∷ []) last ≡ (when_meant (nat_lt k n) (text_arms m leaf k n arms) (meant_by m leaf k (n + length (arms_labels arms)) other)).does instant last
+  when_does n arms other instant last =
+      let scene : Scene = scene_at m instant in
       let pick : List (Bool × tree_drives.Effect) → ℕ → Option ℤ = λ es i.
       if nat_lt k n then tree_drives.first_holding es (left_by scene leaf k (n + i) other) last else open_text.all_arms es (left_by scene leaf k (n + i) other) last in
-      ap (λ (f : tree_drives.Effect). f last) (open-When scene leaf k arms other n) ∙ applied (nat_lt k n) _ _ last ∙ ap₂ pick (effects_text sight n arms) (arms_counted_is scene leaf k arms)
+      ap (λ (f : tree_drives.Effect). f last) (open-When scene leaf k arms other n) ∙ applied (nat_lt k n) _ _ last ∙ ap₂ pick (effects_text instant n arms) (arms_counted_is scene leaf k arms)
 
   when_certain : (n : ℕ) (arms : List Arm) (other : List Stmt)
       → (meant_by m leaf k n (stmt.When arms other ∷ [])).certain ≡ (when_meant (nat_lt k n) (text_arms m leaf k n arms) (meant_by m leaf k (n + length (arms_labels arms)) other)).certain
@@ -197,4 +197,4 @@ pub text_when : (N : Numbering) (x : ℕ) (m : TypedModule) (leaf : Leaf) (k n :
     → IsMeant N x (meant_by m leaf k n (stmt.When arms other ∷ [])) made
 text_when N x m leaf k n arms other made p =
     told N x (when_meant (nat_lt k n) (text_arms m leaf k n arms) (meant_by m leaf k (n + length (arms_labels arms)) other)) (meant_by m leaf k n (stmt.When arms other ∷ [])) made
-    (λ sight last. sym (when_does m leaf k n arms other sight last)) (sym (when_certain m leaf k n arms other)) (sym (when_lives m leaf k n arms other)) p
+    (λ instant last. sym (when_does m leaf k n arms other instant last)) (sym (when_certain m leaf k n arms other)) (sym (when_lives m leaf k n arms other)) p

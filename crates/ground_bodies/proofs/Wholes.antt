@@ -92,12 +92,12 @@ module _ (circuit : Circuit) (scope : Scope) (scoped : IsScope circuit scope) (f
 
   pub whole_body : IsWholeBody m listed made
   whole_body = record {
-    values = λ x y sight there set h.
+    values = λ x y instant there set h.
         let p = leaf_place m x y there in
         let b = does.sets p.k p.j y.0 y.1 (stands x y p) set in
-        ap (λ z. option_map integer_of (drives sight z made)) p.number
-        ∙ (b.effects sight None h
-        ∙ whole.module_leaves circuit scope scoped fine holder within p.k y.0.declaration (declared p.k y.0 p.component) (leaf_of y.0 y.1) refl (scene_at m sight) None);
+        ap (λ z. option_map integer_of (drives instant z made)) p.number
+        ∙ (b.effects instant None h
+        ∙ whole.module_leaves circuit scope scoped fine holder within p.k y.0.declaration (declared p.k y.0 p.component) (leaf_of y.0 y.1) refl (scene_at m instant) None);
     reads = λ x y there set.
         let p = leaf_place m x y there in
         let b = does.sets p.k p.j y.0 y.1 (stands x y p) set in
@@ -105,7 +105,7 @@ module _ (circuit : Circuit) (scope : Scope) (scoped : IsScope circuit scope) (f
         (as_reads m (table_of listed) (tree_reads.joined (tree_loops.live (type_in m) (leaf_of y.0 y.1) y.0.declaration.block)) (joined (live (leaves_before m p.k + p.j) made))
         (subst (λ ls. SameLeaves N (tree_reads.joined ls) (joined (live (leaves_before m p.k + p.j) made)))
         (whole.module_reads circuit scope scoped fine holder within p.k y.0.declaration (declared p.k y.0 p.component) (leaf_of y.0 y.1) refl (type_in m)) b.live.leaves));
-    nodes = λ x y e k sight there sort clk here h. (node_of x y e k there sort clk here).effects sight None h;
+    nodes = λ x y e k instant there sort clk here h. (node_of x y e k there sort clk here).effects instant None h;
     node_reads = λ x y e k mentioned there sort clk here is.
         as_reads m (table_of listed) mentioned (joined (live x made))
         (subst (λ l. SameLeaves N l (joined (live x made))) (append-nil (get_or (tree_reads.mentions e (type_in m)) k []) ∙ got (tree_reads.mentions e (type_in m)) k [] mentioned is)

@@ -21,7 +21,7 @@ use Rattle.circuit_laws.specs.Open.{left_by}
 use Rattle.circuit_laws.specs.OpenReads.{open_driving, live_by}
 use Rattle.ground_net.specs.declared.circuit.GroundStmt.{GroundStmt}
 use Rattle.ground_net.specs.declared.circuit.GroundLeaf.{GroundLeaf}
-use Rattle.ground_net.specs.Grounds.{Sight, joined}
+use Rattle.ground_net.specs.Grounds.{Instant, joined}
 use Rattle.ground_net.specs.Statements.{in_turn, effect, is_certain, live, drives}
 use Rattle.net_meaning.specs.Shapes.{Table, HasShapes}
 use Rattle.net_meaning.specs.StatementShapes.{is_shaped}
@@ -51,33 +51,33 @@ pub record HasTable (m : TypedModule) (table : Table) : Type 0 where
 -- What statements are to a leaf: what they make of the integer that was set before them, whether they are certain for it, and its live
 -- connects.
 pub record Meant : Type 0 where
-  pub does : Sight → Option ℤ → Option ℤ
+  pub does : Instant → Option ℤ → Option ℤ
   pub certain : Bool
   pub lives : List (List Leaf)
 
 -- Ground statements are this to the leaf of a number.
 pub record IsMeant (n : Numbering) (x : ℕ) (meant : Meant) (made : List GroundStmt) : Type 0 where
-  pub effects : (sight : Sight) (last : Option Value) → HasShapes n.table sight
-      → option_map integer_of (in_turn (map (effect sight x) made) last) ≡ meant.does sight (option_map integer_of last)
+  pub effects : (instant : Instant) (last : Option Value) → HasShapes n.table instant
+      → option_map integer_of (in_turn (map (effect instant x) made) last) ≡ meant.does instant (option_map integer_of last)
   pub certain : is_certain x made ≡ meant.certain
   pub live : SameLives n meant.lives (live x made)
 
 -- a leaf of the component with this number, where so many declarations stand before the body
 abbrev pub meant_by : TypedModule → Leaf → ℕ → ℕ → List Stmt → Meant
 meant_by m leaf k n body = record {
-  does = λ sight. left_by (scene_at m sight) leaf k n body;
+  does = λ instant. left_by (scene_at m instant) leaf k n body;
   certain = list_any (λ s. s.certain) (map (open_driving (type_in m) leaf k) body);
   lives = live_by (type_in m) leaf k n body;
 }
 
 -- nothing is done to it
 abbrev pub left_alone : Meant
-left_alone = record { does = λ sight last. last; certain = false; lives = [] }
+left_alone = record { does = λ instant last. last; certain = false; lives = [] }
 
 -- the leaf of this place in what an expression has: it gets its value, whatever was before
 abbrev pub set_to : TypedModule → Expr → ℕ → Bool → Meant
 set_to m e j surely = record {
-  does = λ sight last. slice_get (map integer_of (tree.value e (scene_at m sight))) j;
+  does = λ instant last. slice_get (map integer_of (tree.value e (scene_at m instant))) j;
   certain = surely;
   lives = get_or (tree_reads.mentions e (type_in m)) j [] ∷ [];
 }
@@ -116,13 +116,13 @@ pub record IsBody (entries : Entries) (settable : List Bool) (body : List Stmt) 
 
 -- What it is for ground statements to be the body of a module with this table of leaves.
 pub record IsWholeBody (m : TypedModule) (listed : List GroundLeaf) (made : List GroundStmt) : Type 0 where
-  pub values : (x : ℕ) (y : ModuleLeaf) (sight : Sight) → slice_get (module_leaves m) x ≡ Some y → is_set y ≡ true → HasShapes (table_of listed) sight
-      → option_map integer_of (drives sight x made) ≡ tree_drives.drives (scene_at m sight) (leaf_of y.0 y.1) y.0.declaration.block
+  pub values : (x : ℕ) (y : ModuleLeaf) (instant : Instant) → slice_get (module_leaves m) x ≡ Some y → is_set y ≡ true → HasShapes (table_of listed) instant
+      → option_map integer_of (drives instant x made) ≡ tree_drives.drives (scene_at m instant) (leaf_of y.0 y.1) y.0.declaration.block
   pub reads : (x : ℕ) (y : ModuleLeaf) → slice_get (module_leaves m) x ≡ Some y → is_set y ≡ true
       → SameReads m (tree_reads.joined (tree_loops.live (type_in m) (leaf_of y.0 y.1) y.0.declaration.block)) (joined (live x made))
-  pub nodes : (x : ℕ) (y : ModuleLeaf) (e : Expr) (k : ℕ) (sight : Sight) → slice_get (module_leaves m) x ≡ Some y → y.0.declaration.sort ≡ A_node e → is_clock y.1 ≡ false
-      → slice_get (leaves y.0.typ) k ≡ Some y.1 → HasShapes (table_of listed) sight
-      → option_map integer_of (drives sight x made) ≡ slice_get (map integer_of (tree.value e (scene_at m sight))) k
+  pub nodes : (x : ℕ) (y : ModuleLeaf) (e : Expr) (k : ℕ) (instant : Instant) → slice_get (module_leaves m) x ≡ Some y → y.0.declaration.sort ≡ A_node e → is_clock y.1 ≡ false
+      → slice_get (leaves y.0.typ) k ≡ Some y.1 → HasShapes (table_of listed) instant
+      → option_map integer_of (drives instant x made) ≡ slice_get (map integer_of (tree.value e (scene_at m instant))) k
   pub node_reads : (x : ℕ) (y : ModuleLeaf) (e : Expr) (k : ℕ) (mentioned : List Leaf) → slice_get (module_leaves m) x ≡ Some y → y.0.declaration.sort ≡ A_node e → is_clock y.1 ≡ false
       → slice_get (leaves y.0.typ) k ≡ Some y.1 → slice_get (tree_reads.mentions e (type_in m)) k ≡ Some mentioned → SameReads m mentioned (joined (live x made))
   pub shaped : is_shaped (table_of listed) made ≡ true

@@ -22,7 +22,7 @@ use Rattle.fir_tree.specs.declared.expr.Form.TheViews.{out-Form}
 use Rattle.cycle_values.specs.Values.{fitted, lone}
 use Rattle.ground_net.specs.declared.circuit.GroundStmt.{GroundStmt}
 use Rattle.ground_net.specs.Grounds as net
-use Rattle.ground_net.specs.Grounds.{Sight, value, mentions}
+use Rattle.ground_net.specs.Grounds.{Instant, value, mentions}
 use Rattle.ground_net.specs.Statements.{in_turn, effect, is_certain, live}
 use Rattle.ground_net.proofs.Layers.{value-Const, mentions-Const}
 use Rattle.net_meaning.specs.Shapes.{shaped, HasShapes, shape}
@@ -67,24 +67,24 @@ lone_zero : integer_of (lone []) ≡ pos 0
 lone_zero = zero_fitted Unsigned 0
 
 module _ (n : Numbering) (flip : Bool) where
-  fit_zero : (leaf : TypeLeaf) (has : Sight → Value) (fit : Source) → thin leaf ≡ true → ((sight : Sight) → HasShapes n.table sight → has sight ≡ lone []) → IsFit flip leaf None fit → FitsAt n flip leaf has [] fit
+  fit_zero : (leaf : TypeLeaf) (has : Instant → Value) (fit : Source) → thin leaf ≡ true → ((instant : Instant) → HasShapes n.table instant → has instant ≡ lone []) → IsFit flip leaf None fit → FitsAt n flip leaf has [] fit
   fit_zero leaf has fit small nothing f = record {
     turned = f.turned;
-    value = λ sight h.
-        ap (λ g. integer_of (value g sight)) f.fits ∙ (ap integer_of (value-Const (fitted fit.kind fit.width (pos 0)) sight) ∙ (zero_fitted fit.kind fit.width
-        ∙ sym (ap (λ v. integer_of (fitted_to leaf (integer_of v))) (nothing sight h) ∙ (ap (λ i. integer_of (fitted_to leaf i)) lone_zero ∙ zero_fitted (kind_of_leaf leaf) (width_of_leaf leaf)))));
+    value = λ instant h.
+        ap (λ g. integer_of (value g instant)) f.fits ∙ (ap integer_of (value-Const (fitted fit.kind fit.width (pos 0)) instant) ∙ (zero_fitted fit.kind fit.width
+        ∙ sym (ap (λ v. integer_of (fitted_to leaf (integer_of v))) (nothing instant h) ∙ (ap (λ i. integer_of (fitted_to leaf i)) lone_zero ∙ zero_fitted (kind_of_leaf leaf) (width_of_leaf leaf)))));
     shape = ap (λ g. shape g n.table) f.fits ∙ (shape-Const (fitted fit.kind fit.width (pos 0)) n.table
         ∙ ap₂ (λ k w. Some (shaped k w)) f.kind (ap (λ w. min w 128) (f.width ∙ thin_is (width_of_leaf leaf) small) ∙ thin_is (width_of_leaf leaf) small));
     reads = subst (SameLeaves n []) (sym (ap mentions f.fits ∙ mentions-Const (fitted fit.kind fit.width (pos 0)))) (same_none n);
   }
 
-  fit_source_of : (leaf : TypeLeaf) (has : Sight → Value) (m : List Leaf) (s fit : Source) → thin leaf ≡ true → ((sight : Sight) → HasShapes n.table sight → value s.expr sight ≡ has sight)
+  fit_source_of : (leaf : TypeLeaf) (has : Instant → Value) (m : List Leaf) (s fit : Source) → thin leaf ≡ true → ((instant : Instant) → HasShapes n.table instant → value s.expr instant ≡ has instant)
       → shape s.expr n.table ≡ Some (told s) → SameLeaves n m (mentions s.expr) → IsFit flip leaf (Some s) fit → FitsAt n flip leaf has m fit
   fit_source_of leaf has m s fit small is shaped_is reads f = record {
     turned = f.turned;
-    value = λ sight h.
-        ap integer_of (f.fits.value n.table sight shaped_is h
-        ∙ (ap₂ (λ k w. fitted k w (integer_of (value s.expr sight))) f.kind (f.width ∙ thin_is (width_of_leaf leaf) small) ∙ ap (λ v. fitted_to leaf (integer_of v)) (is sight h)));
+    value = λ instant h.
+        ap integer_of (f.fits.value n.table instant shaped_is h
+        ∙ (ap₂ (λ k w. fitted k w (integer_of (value s.expr instant))) f.kind (f.width ∙ thin_is (width_of_leaf leaf) small) ∙ ap (λ v. fitted_to leaf (integer_of v)) (is instant h)));
     shape = f.fits.shape n.table shaped_is ∙ ap₂ (λ k w. Some (shaped k w)) f.kind (f.width ∙ thin_is (width_of_leaf leaf) small);
     reads = subst (SameLeaves n m) (sym f.fits.mentions) reads;
   }
@@ -95,35 +95,35 @@ module _ (n : Numbering) (flip : Bool) where
   tail_shape : {A : Type 0} {x y : A} {xs ys : List A} → (x ∷ xs) ≡ (y ∷ ys) → xs ≡ ys
   tail_shape e = cc
 
-  fits_none : (ls : List TypeLeaf) (has : Sight → List Value) (fits : List (Option Source)) → list_all thin ls ≡ true → ((sight : Sight) → HasShapes n.table sight → has sight ≡ [])
+  fits_none : (ls : List TypeLeaf) (has : Instant → List Value) (fits : List (Option Source)) → list_all thin ls ≡ true → ((instant : Instant) → HasShapes n.table instant → has instant ≡ [])
       → AreFits flip ls [] fits → FitsAll n flip ls has [] fits
   fits_none [] has [] small none all = tt
   fits_none [] has (f ∷ fs) small none all = absurd all
   fits_none (l ∷ ls) has [] small none all = absurd all
   fits_none (l ∷ ls) has (f ∷ fs) small none all =
       let parts = both_true (thin l) (list_all thin ls) small in
-      (here f all.0 parts.0, fits_none ls (λ sight. tail (has sight)) fs parts.1 (λ sight h. ap tail (none sight h)) all.1)
+      (here f all.0 parts.0, fits_none ls (λ instant. tail (has instant)) fs parts.1 (λ instant h. ap tail (none instant h)) all.1)
     where
-      here : (o : Option Source) → FitsLeaf flip l None o → thin l ≡ true → FitAt n flip l (λ sight. head_or (lone []) (has sight)) [] o
+      here : (o : Option Source) → FitsLeaf flip l None o → thin l ≡ true → FitAt n flip l (λ instant. head_or (lone []) (has instant)) [] o
       here None t s = t
-      here (Some fit) f s = fit_zero l (λ sight. head_or (lone []) (has sight)) fit s (λ sight h. ap (head_or (lone [])) (none sight h)) f
+      here (Some fit) f s = fit_zero l (λ instant. head_or (lone []) (has instant)) fit s (λ instant h. ap (head_or (lone [])) (none instant h)) f
 
-  pub fits_all : (ls : List TypeLeaf) (has : Sight → List Value) (ms : List (List Leaf)) (sources : List Source) (fits : List (Option Source)) → list_all thin ls ≡ true
-      → ((sight : Sight) → HasShapes n.table sight → source_values sources sight ≡ has sight) → map (λ (s : Source). shape s.expr n.table) sources ≡ map (λ s. Some (told s)) sources → ReadEach n ms sources
+  pub fits_all : (ls : List TypeLeaf) (has : Instant → List Value) (ms : List (List Leaf)) (sources : List Source) (fits : List (Option Source)) → list_all thin ls ≡ true
+      → ((instant : Instant) → HasShapes n.table instant → source_values sources instant ≡ has instant) → map (λ (s : Source). shape s.expr n.table) sources ≡ map (λ s. Some (told s)) sources → ReadEach n ms sources
       → AreFits flip ls sources fits → FitsAll n flip ls has ms fits
   fits_all [] has ms sources [] small values shapes reads all = tt
   fits_all [] has ms sources (f ∷ fs) small values shapes reads all = absurd all
   fits_all (l ∷ ls) has ms sources [] small values shapes reads all = absurd all
-  fits_all (l ∷ ls) has [] [] (f ∷ fs) small values shapes reads all = fits_none (l ∷ ls) has (f ∷ fs) small (λ sight h. sym (values sight h)) all
+  fits_all (l ∷ ls) has [] [] (f ∷ fs) small values shapes reads all = fits_none (l ∷ ls) has (f ∷ fs) small (λ instant h. sym (values instant h)) all
   fits_all (l ∷ ls) has (m ∷ ms) [] (f ∷ fs) small values shapes reads all = absurd reads
   fits_all (l ∷ ls) has [] (s ∷ ss) (f ∷ fs) small values shapes reads all = absurd reads
   fits_all (l ∷ ls) has (m ∷ ms) (s ∷ ss) (f ∷ fs) small values shapes reads all =
       let parts = both_true (thin l) (list_all thin ls) small in
-      (here f all.0 parts.0, fits_all ls (λ sight. tail (has sight)) ms ss fs parts.1 (λ sight h. ap tail (values sight h)) (tail_shape shapes) reads.1 all.1)
+      (here f all.0 parts.0, fits_all ls (λ instant. tail (has instant)) ms ss fs parts.1 (λ instant h. ap tail (values instant h)) (tail_shape shapes) reads.1 all.1)
     where
-      here : (o : Option Source) → FitsLeaf flip l (Some s) o → thin l ≡ true → FitAt n flip l (λ sight. head_or (lone []) (has sight)) m o
+      here : (o : Option Source) → FitsLeaf flip l (Some s) o → thin l ≡ true → FitAt n flip l (λ instant. head_or (lone []) (has instant)) m o
       here None t w = t
-      here (Some fit) f w = fit_source_of l (λ sight. head_or (lone []) (has sight)) m s fit w (λ sight h. ap (head_or (lone [])) (values sight h)) (head_shape shapes) reads.0 f
+      here (Some fit) f w = fit_source_of l (λ instant. head_or (lone []) (has instant)) m s fit w (λ instant h. ap (head_or (lone [])) (values instant h)) (head_shape shapes) reads.0 f
 
 -- One half
 
@@ -137,7 +137,7 @@ no_lives n = record { none = refl; leaves = same_none n }
 nothing_named : (n : Numbering) (types : Scope) (settable : List Bool) (flip : Bool) (has : Scene → List Value) (ms : List (List Leaf)) → Half n types settable flip (λ scene. None) None has ms []
 nothing_named n types settable flip has ms = record {
   does = record {
-    sets = λ leaf x may is_x. record { effects = λ sight last h. refl; certain = refl; live = no_lives n };
+    sets = λ leaf x may is_x. record { effects = λ instant last h. refl; certain = refl; live = no_lives n };
     others = λ x d. alone_none x;
     shaped = refl;
   };
@@ -163,14 +163,14 @@ none_plus k = omega arith
 half_named : (entries : Entries) (n : Numbering) (types : Scope) → Knows n types entries → IsOneToOne n → (settable : List Bool) (flip : Bool) (name : Name) (suffixes : List Suffix) (sources : List Source) (made : List GroundStmt)
     → (set : IsSet entries settable flip name suffixes sources made) → (steps : ℕ)
     → Followed types name.id set.typ steps (follow_all types name.id (map suffix_onward suffixes))
-    → (has : Scene → List Value) (ms : List (List Leaf)) → AreSources n (λ sight. has (scene_seen types n sight)) ms sources
+    → (has : Scene → List Value) (ms : List (List Leaf)) → AreSources n (λ instant. has (scene_seen types n instant)) ms sources
     → Half n types settable flip (λ scene. Some (follow scene name.id (map suffix_step suffixes))) (Some (follow_all types name.id (map suffix_onward suffixes))) has ms made
 half_named entries n types knows one settable flip name suffixes sources made set steps f has ms from = record {
   does = record {
     sets = λ leaf x may is_x.
         let allowed : is_allowed (slice_get settable x) ≡ true = ap is_allowed may in
         record {
-          effects = λ sight last h. effects_at leaf x allowed is_x sight last h;
+          effects = λ instant last h. effects_at leaf x allowed is_x instant last h;
           certain = ap (is_certain x) set.side.is ∙ certain_all n one region spot set.typ set.part p steps f.long flip settable x leaf allowed is_x hasS ms set.side.fits all;
           live = subst (λ m. SameLives n (driven_from flip leaf ms (Some region)) (live x m)) (sym set.side.is)
               (subst (λ t. SameLives n (Rattle.std.proofs.Common.filter_map (λ both. if may_be flip region leaf both.0 then Some (region.indices ++ both.1) else None) (beside [] (leaves t) ms))
@@ -196,13 +196,13 @@ half_named entries n types knows one settable flip name suffixes sources made se
     region : Region
     region = follow_all types name.id (map suffix_onward suffixes)
 
-    spot : Sight → Spot
-    spot sight = follow (scene_seen types n sight) name.id (map suffix_step suffixes)
+    spot : Instant → Spot
+    spot instant = follow (scene_seen types n instant) name.id (map suffix_step suffixes)
 
-    hasS : Sight → List Value
-    hasS sight = has (scene_seen types n sight)
+    hasS : Instant → List Value
+    hasS instant = has (scene_seen types n instant)
 
-    p : IsPart n (follow_all types name.id (map suffix_onward suffixes)) (λ sight. follow (scene_seen types n sight) name.id (map suffix_step suffixes)) set.typ set.part
+    p : IsPart n (follow_all types name.id (map suffix_onward suffixes)) (λ instant. follow (scene_seen types n instant) name.id (map suffix_step suffixes)) set.typ set.part
     p = set.leads.leads n types knows
 
     indices : are_indices n.table set.part.picks ≡ true
@@ -211,17 +211,17 @@ half_named entries n types knows one settable flip name suffixes sources made se
     all : FitsAll n flip (leaves set.typ) hasS ms set.side.fits
     all = fits_all n flip (leaves set.typ) hasS ms sources set.side.fits (narrow set.typ set.leads.narrow) from.values from.shapes from.reads set.side.fit
 
-    effects_at : (leaf : Leaf) (x : ℕ) → is_allowed (slice_get settable x) ≡ true → n.number leaf ≡ Some x → (sight : Sight) (last : Option Value) → HasShapes n.table sight
-        → option_map integer_of (in_turn (map (effect sight x) made) last) ≡ left_in leaf (option_map integer_of last) (set_along flip (spot sight) (spot sight).way (hasS sight))
-    effects_at leaf x allowed is_x sight last h =
-        ap (λ m. option_map integer_of (in_turn (map (effect sight x) m) last)) set.side.is ∙ by_way (spot sight).way (picked sight set.part.picks set.part.first) refl (p.reaches sight h)
+    effects_at : (leaf : Leaf) (x : ℕ) → is_allowed (slice_get settable x) ≡ true → n.number leaf ≡ Some x → (instant : Instant) (last : Option Value) → HasShapes n.table instant
+        → option_map integer_of (in_turn (map (effect instant x) made) last) ≡ left_in leaf (option_map integer_of last) (set_along flip (spot instant) (spot instant).way (hasS instant))
+    effects_at leaf x allowed is_x instant last h =
+        ap (λ m. option_map integer_of (in_turn (map (effect instant x) m) last)) set.side.is ∙ by_way (spot instant).way (picked instant set.part.picks set.part.first) refl (p.reaches instant h)
       where
-        by_way : (o : Option (List PathStep)) (q : Option ℕ) → picked sight set.part.picks set.part.first ≡ q → Reaches n region.component set.typ o q
-            → option_map integer_of (in_turn (map (effect sight x) (set_leaves settable set.part.picks set.part.first set.side.fits)) last) ≡ left_in leaf (option_map integer_of last) (set_along flip (spot sight) o (hasS sight))
+        by_way : (o : Option (List PathStep)) (q : Option ℕ) → picked instant set.part.picks set.part.first ≡ q → Reaches n region.component set.typ o q
+            → option_map integer_of (in_turn (map (effect instant x) (set_leaves settable set.part.picks set.part.first set.side.fits)) last) ≡ left_in leaf (option_map integer_of last) (set_along flip (spot instant) o (hasS instant))
         by_way (Some way) (Some first) e r =
-            effects_some n one flip settable set.part.picks set.side.numbered x leaf allowed is_x sight h region.component way (leaves set.typ) hasS ms set.side.fits set.part.first first all e (λ k l g. r.numbers k l g) last
-            ∙ ap₂ (λ c t. left_in leaf (option_map integer_of last) (map (setting c way) (of_orientation flip (beside (lone []) (leaves t) (hasS sight))))) (sym (p.component sight)) (sym (p.spot_type sight))
-        by_way None None e r = ap (option_map integer_of) (effects_none n one flip settable set.part.picks set.side.numbered x leaf allowed is_x sight set.side.fits set.part.first e last)
+            effects_some n one flip settable set.part.picks set.side.numbered x leaf allowed is_x instant h region.component way (leaves set.typ) hasS ms set.side.fits set.part.first first all e (λ k l g. r.numbers k l g) last
+            ∙ ap₂ (λ c t. left_in leaf (option_map integer_of last) (map (setting c way) (of_orientation flip (beside (lone []) (leaves t) (hasS instant))))) (sym (p.component instant)) (sym (p.spot_type instant))
+        by_way None None e r = ap (option_map integer_of) (effects_none n one flip settable set.part.picks set.side.numbered x leaf allowed is_x instant set.side.fits set.part.first e last)
         by_way (Some way) None e r = absurd r
         by_way None (Some first) e r = absurd r
 
@@ -249,11 +249,11 @@ two_halves n types settable spot other region beyond has shown ms ns first secon
       let one = a.does.sets leaf x may is_x in
       let two = b.does.sets leaf x may is_x in
       record {
-        effects = λ sight last h.
-            ap (option_map integer_of) (effects-append sight x first second last)
-            ∙ (two.effects sight (in_turn (map (effect sight x) first) last) h
-            ∙ (ap (λ l. left_in leaf l (set_at true (other (scene_seen types n sight)) (shown (scene_seen types n sight)))) (one.effects sight last h)
-            ∙ sym (left_in-append leaf (option_map integer_of last) (set_at false (spot (scene_seen types n sight)) (has (scene_seen types n sight))) (set_at true (other (scene_seen types n sight)) (shown (scene_seen types n sight))))));
+        effects = λ instant last h.
+            ap (option_map integer_of) (effects-append instant x first second last)
+            ∙ (two.effects instant (in_turn (map (effect instant x) first) last) h
+            ∙ (ap (λ l. left_in leaf l (set_at true (other (scene_seen types n instant)) (shown (scene_seen types n instant)))) (one.effects instant last h)
+            ∙ sym (left_in-append leaf (option_map integer_of last) (set_at false (spot (scene_seen types n instant)) (has (scene_seen types n instant))) (set_at true (other (scene_seen types n instant)) (shown (scene_seen types n instant))))));
         certain = certain-append x first second ∙ ap₂ (λ p q. p || q) one.certain two.certain;
         live = subst (SameLives n (driven_from false leaf ms region ++ driven_from true leaf ns beyond)) (sym (live-append x first second (apart leaf x may is_x (may_name true beyond leaf) refl (may_name false region leaf) refl)))
             (two_lives n (driven_from false leaf ms region) (driven_from true leaf ns beyond) (live x first) (live x second) one.live two.live);
@@ -410,8 +410,8 @@ known_there entries n types knows name suffixes typ e = by (lookup (nat_eq name)
         ∙ (ap (λ o. type_behind (known_of entries) (map typed_step suffixes) (option_map (λ (c : Component). c.typ) o)) (sym h) ∙ e)))
 
 module _ (entries : Entries) (settable : List Bool) (n : Numbering) (types : Scope) (knows : Knows n types entries) (one : IsOneToOne n) (sources others : List Source) (has shown : Scene → List Value) (ms ns : List (List Leaf))
-    (from : AreSources n (λ sight. has (scene_seen types n sight)) ms sources) (beside_it : AreSources n (λ sight. shown (scene_seen types n sight)) ns others) (first second made : List GroundStmt) (is : made ≡ first ++ second) where
-  half_form : (flip : Bool) (y : Form-F Form Suffix Expr) (sources : List Source) (has : Scene → List Value) (ms : List (List Leaf)) (made : List GroundStmt) → AreSources n (λ sight. has (scene_seen types n sight)) ms sources
+    (from : AreSources n (λ instant. has (scene_seen types n instant)) ms sources) (beside_it : AreSources n (λ instant. shown (scene_seen types n instant)) ns others) (first second made : List GroundStmt) (is : made ≡ first ++ second) where
+  half_form : (flip : Bool) (y : Form-F Form Suffix Expr) (sources : List Source) (has : Scene → List Value) (ms : List (List Leaf)) (made : List GroundStmt) → AreSources n (λ instant. has (scene_seen types n instant)) ms sources
       → SetsForm entries settable flip y sources made → Half n types settable flip (λ scene. spot_of_form scene y) (region_of_form types y) has ms made
   half_form flip (Form-F.Ref name suffixes) sources has ms made from set =
       half_named entries n types knows one settable flip name suffixes sources made set (0 + length suffixes) (known_there entries n types knows name.id suffixes set.typ set.leads.typed) has ms from
@@ -463,8 +463,8 @@ connect_is entries settable left right from_left from_right first second made lo
     both_forms entries settable n types knows one from_right from_left (tree.value right) (tree.value left) (tree_reads.mentions right types) (tree_reads.mentions left types) (high.are n types knows) (low.are n types knows)
     first second made is (out-Form left.form) (out-Form right.form) a b match
 
-no_sources : (n : Numbering) → AreSources n (λ sight. []) [] []
-no_sources n = record { values = λ sight h. refl; shapes = refl; reads = tt }
+no_sources : (n : Numbering) → AreSources n (λ instant. []) [] []
+no_sources n = record { values = λ instant h. refl; shapes = refl; reads = tt }
 
 match_itself : (o : Option FirType) → both_match o o ≡ true
 match_itself None = refl

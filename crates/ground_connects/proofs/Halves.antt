@@ -16,7 +16,7 @@ use Rattle.fir_types.specs.declared.leaf.PathStep.TheVariants as step
 use Rattle.fir_types.specs.Leaves.{leaves}
 use Rattle.cycle_values.specs.Values.{lone}
 use Rattle.ground_net.specs.Grounds as net
-use Rattle.ground_net.specs.Grounds.{Sight, value, mentions}
+use Rattle.ground_net.specs.Grounds.{Instant, value, mentions}
 use Rattle.ground_net.specs.Statements.{in_turn, effect, is_certain, live}
 use Rattle.net_meaning.specs.Shapes.{Shape, same_kind, same_shape, HasShapes, shape}
 use Rattle.net_meaning.specs.StatementShapes.{some_same as both_alike, is_shaped}
@@ -56,19 +56,19 @@ beside-cons d a rest [] = refl
 beside-cons d a rest (b ∷ bs) = refl
 
 -- What a leaf is set to, where it has this orientation: what has this value and these mentions in the text, fitted.
-pub record FitsAt (n : Numbering) (flip : Bool) (leaf : TypeLeaf) (has : Sight → Value) (mentioned : List Leaf) (s : Source) : Type 0 where
+pub record FitsAt (n : Numbering) (flip : Bool) (leaf : TypeLeaf) (has : Instant → Value) (mentioned : List Leaf) (s : Source) : Type 0 where
   pub turned : is_turned flip leaf ≡ true
-  pub value : (sight : Sight) → HasShapes n.table sight → integer_of (value s.expr sight) ≡ integer_of (fitted_to leaf (integer_of (has sight)))
+  pub value : (instant : Instant) → HasShapes n.table instant → integer_of (value s.expr instant) ≡ integer_of (fitted_to leaf (integer_of (has instant)))
   pub shape : shape s.expr n.table ≡ Some (leaf_shape leaf)
   pub reads : SameLeaves n mentioned (mentions s.expr)
 
-abbrev pub FitAt : Numbering → Bool → TypeLeaf → (Sight → Value) → List Leaf → Option Source → Type 0
+abbrev pub FitAt : Numbering → Bool → TypeLeaf → (Instant → Value) → List Leaf → Option Source → Type 0
 FitAt n flip leaf has mentioned (Some s) = FitsAt n flip leaf has mentioned s
 FitAt n flip leaf has mentioned None = is_turned flip leaf ≡ false
 
-abbrev pub FitsAll : Numbering → Bool → List TypeLeaf → (Sight → List Value) → List (List Leaf) → List (Option Source) → Type 0
+abbrev pub FitsAll : Numbering → Bool → List TypeLeaf → (Instant → List Value) → List (List Leaf) → List (Option Source) → Type 0
 FitsAll n flip [] has ms [] = Unit {0}
-FitsAll n flip (l ∷ ls) has ms (f ∷ fs) = FitAt n flip l (λ sight. head_or (lone []) (has sight)) (head_or [] ms) f × FitsAll n flip ls (λ sight. tail (has sight)) (tail ms) fs
+FitsAll n flip (l ∷ ls) has ms (f ∷ fs) = FitAt n flip l (λ instant. head_or (lone []) (has instant)) (head_or [] ms) f × FitsAll n flip ls (λ instant. tail (has instant)) (tail ms) fs
 FitsAll n flip _ has ms _ = ⊥
 
 -- Leaves
@@ -166,60 +166,60 @@ module _ (n : Numbering) (one : IsOneToOne n) (flip : Bool) (settable : List Boo
       let number : first ≡ x = some_same (sym e ∙ (ap n.number same ∙ is_x)) in ap (λ m. m == x) number ∙ same_number x)
       (λ s. leaf_itself (record { component = c; way = way }) z (one (record { component = c; way = way }) z x (e ∙ ap Some (numbers_equal first x s)) is_x))
 
-  one_effect : (sight : Sight) (number : ℕ) (s : Source) (last : Option Value)
-      → in_turn (map (effect sight x) (set_each settable s.expr (targets picks number))) last ≡ if picked_is x (picked sight picks number) then Some (value s.expr sight) else last
-  one_effect sight number s last =
-      each_effect settable s.expr x may sight (targets picks number) last ∙ ap (λ b. if b then Some (value s.expr sight) else last) (hits_targets sight x picks number small)
+  one_effect : (instant : Instant) (number : ℕ) (s : Source) (last : Option Value)
+      → in_turn (map (effect instant x) (set_each settable s.expr (targets picks number))) last ≡ if picked_is x (picked instant picks number) then Some (value s.expr instant) else last
+  one_effect instant number s last =
+      each_effect settable s.expr x may instant (targets picks number) last ∙ ap (λ b. if b then Some (value s.expr instant) else last) (hits_targets instant x picks number small)
 
-  next_picked : (sight : Sight) (number first : ℕ) → picked sight picks number ≡ Some first → picked sight picks (number + 1) ≡ Some (first + 1)
-  next_picked sight number first e = picked_moved sight picks number 1 ∙ ap (option_map (λ y. y + 1)) e
+  next_picked : (instant : Instant) (number first : ℕ) → picked instant picks number ≡ Some first → picked instant picks (number + 1) ≡ Some (first + 1)
+  next_picked instant number first e = picked_moved instant picks number 1 ∙ ap (option_map (λ y. y + 1)) e
 
   -- Where the indices lead to a way, the leaves behind it are set.
-  pub effects_some : (sight : Sight) → HasShapes n.table sight → (c : ℕ) (way : List PathStep) (ls : List TypeLeaf) (has : Sight → List Value) (ms : List (List Leaf)) (fits : List (Option Source)) (number first : ℕ)
-      → FitsAll n flip ls has ms fits → picked sight picks number ≡ Some first
+  pub effects_some : (instant : Instant) → HasShapes n.table instant → (c : ℕ) (way : List PathStep) (ls : List TypeLeaf) (has : Instant → List Value) (ms : List (List Leaf)) (fits : List (Option Source)) (number first : ℕ)
+      → FitsAll n flip ls has ms fits → picked instant picks number ≡ Some first
       → ((k : ℕ) (leaf : TypeLeaf) → slice_get ls k ≡ Some leaf → n.number (record { component = c; way = way ++ leaf.path }) ≡ Some (first + k)) → (last : Option Value)
-      → option_map integer_of (in_turn (map (effect sight x) (set_leaves settable picks number fits)) last)
-      ≡ left_in z (option_map integer_of last) (map (setting c way) (of_orientation flip (beside (lone []) ls (has sight))))
-  effects_some sight h c way [] has ms [] number first all e at last = refl
-  effects_some sight h c way [] has ms (f ∷ fs) number first all e at last = absurd all
-  effects_some sight h c way (l ∷ ls) has ms [] number first all e at last = absurd all
-  effects_some sight h c way (l ∷ ls) has ms (f ∷ fs) number first all e at last =
-      ap (option_map integer_of) (effects-append sight x (set_one settable picks number f) (set_leaves settable picks (number + 1) fs) last)
-      ∙ (effects_some sight h c way ls (λ sight. tail (has sight)) (tail ms) fs (number + 1) (first + 1) all.1 (next_picked sight number first e) later
-      (in_turn (map (effect sight x) (set_one settable picks number f)) last)
-      ∙ (step_of f all.0 ∙ ap (λ ps. left_in z (option_map integer_of last) (map (setting c way) (of_orientation flip ps))) (sym (beside-cons (lone []) l ls (has sight)))))
+      → option_map integer_of (in_turn (map (effect instant x) (set_leaves settable picks number fits)) last)
+      ≡ left_in z (option_map integer_of last) (map (setting c way) (of_orientation flip (beside (lone []) ls (has instant))))
+  effects_some instant h c way [] has ms [] number first all e at last = refl
+  effects_some instant h c way [] has ms (f ∷ fs) number first all e at last = absurd all
+  effects_some instant h c way (l ∷ ls) has ms [] number first all e at last = absurd all
+  effects_some instant h c way (l ∷ ls) has ms (f ∷ fs) number first all e at last =
+      ap (option_map integer_of) (effects-append instant x (set_one settable picks number f) (set_leaves settable picks (number + 1) fs) last)
+      ∙ (effects_some instant h c way ls (λ instant. tail (has instant)) (tail ms) fs (number + 1) (first + 1) all.1 (next_picked instant number first e) later
+      (in_turn (map (effect instant x) (set_one settable picks number f)) last)
+      ∙ (step_of f all.0 ∙ ap (λ ps. left_in z (option_map integer_of last) (map (setting c way) (of_orientation flip ps))) (sym (beside-cons (lone []) l ls (has instant)))))
     where
       later : (k : ℕ) (leaf : TypeLeaf) → slice_get ls k ≡ Some leaf → n.number (record { component = c; way = way ++ leaf.path }) ≡ Some (first + 1 + k)
       later k leaf g = at (suc k) leaf g ∙ ap Some (suc_plus first k)
 
       turned_case : (b : Bool) → is_turned flip l ≡ b → (last2 : Option ℤ)
-          → left_in z last2 (map (setting c way) (cond b ((l, head_or (lone []) (has sight)) ∷ of_orientation flip (beside (lone []) ls (tail (has sight)))) (of_orientation flip (beside (lone []) ls (tail (has sight))))))
-          ≡ left_in z last2 (map (setting c way) (of_orientation flip ((l, head_or (lone []) (has sight)) ∷ beside (lone []) ls (tail (has sight)))))
-      turned_case b t last2 = ap (λ b. left_in z last2 (map (setting c way) (cond b ((l, head_or (lone []) (has sight)) ∷ of_orientation flip (beside (lone []) ls (tail (has sight)))) (of_orientation flip (beside (lone []) ls (tail (has sight))))))) (sym t)
+          → left_in z last2 (map (setting c way) (cond b ((l, head_or (lone []) (has instant)) ∷ of_orientation flip (beside (lone []) ls (tail (has instant)))) (of_orientation flip (beside (lone []) ls (tail (has instant))))))
+          ≡ left_in z last2 (map (setting c way) (of_orientation flip ((l, head_or (lone []) (has instant)) ∷ beside (lone []) ls (tail (has instant)))))
+      turned_case b t last2 = ap (λ b. left_in z last2 (map (setting c way) (cond b ((l, head_or (lone []) (has instant)) ∷ of_orientation flip (beside (lone []) ls (tail (has instant)))) (of_orientation flip (beside (lone []) ls (tail (has instant))))))) (sym t)
 
-      step_of : (o : Option Source) → FitAt n flip l (λ sight. head_or (lone []) (has sight)) (head_or [] ms) o
-          → left_in z (option_map integer_of (in_turn (map (effect sight x) (set_one settable picks number o)) last)) (map (setting c way) (of_orientation flip (beside (lone []) ls (tail (has sight)))))
-          ≡ left_in z (option_map integer_of last) (map (setting c way) (of_orientation flip ((l, head_or (lone []) (has sight)) ∷ beside (lone []) ls (tail (has sight)))))
+      step_of : (o : Option Source) → FitAt n flip l (λ instant. head_or (lone []) (has instant)) (head_or [] ms) o
+          → left_in z (option_map integer_of (in_turn (map (effect instant x) (set_one settable picks number o)) last)) (map (setting c way) (of_orientation flip (beside (lone []) ls (tail (has instant)))))
+          ≡ left_in z (option_map integer_of last) (map (setting c way) (of_orientation flip ((l, head_or (lone []) (has instant)) ∷ beside (lone []) ls (tail (has instant)))))
       step_of None t = turned_case false t (option_map integer_of last)
       step_of (Some s) fit =
-          ap (λ v. left_in z v (map (setting c way) (of_orientation flip (beside (lone []) ls (tail (has sight))))))
-          (ap (option_map integer_of) (one_effect sight number s last ∙ ap (λ o. if picked_is x o then Some (value s.expr sight) else last) e)
-          ∙ (put_if (first == x) (value s.expr sight) last (integer_of (fitted_to l (integer_of (head_or (lone []) (has sight))))) (fit.value sight h)
-          ∙ ap (λ b. if b then Some (integer_of (fitted_to l (integer_of (head_or (lone []) (has sight))))) else option_map integer_of last)
+          ap (λ v. left_in z v (map (setting c way) (of_orientation flip (beside (lone []) ls (tail (has instant))))))
+          (ap (option_map integer_of) (one_effect instant number s last ∙ ap (λ o. if picked_is x o then Some (value s.expr instant) else last) e)
+          ∙ (put_if (first == x) (value s.expr instant) last (integer_of (fitted_to l (integer_of (head_or (lone []) (has instant))))) (fit.value instant h)
+          ∙ ap (λ b. if b then Some (integer_of (fitted_to l (integer_of (head_or (lone []) (has instant))))) else option_map integer_of last)
           (sym (number_same c first (way ++ l.path) (at 0 l refl ∙ ap Some (plus_none first))))))
           ∙ turned_case true fit.turned (option_map integer_of last)
 
   -- Where an index is out of its vector, nothing is set.
-  pub effects_none : (sight : Sight) (fits : List (Option Source)) (number : ℕ) → picked sight picks number ≡ None → (last : Option Value)
-      → in_turn (map (effect sight x) (set_leaves settable picks number fits)) last ≡ last
-  effects_none sight [] number e last = refl
-  effects_none sight (f ∷ fs) number e last =
-      effects-append sight x (set_one settable picks number f) (set_leaves settable picks (number + 1) fs) last
-      ∙ (effects_none sight fs (number + 1) (picked_moved sight picks number 1 ∙ ap (option_map (λ y. y + 1)) e) (in_turn (map (effect sight x) (set_one settable picks number f)) last) ∙ here f)
+  pub effects_none : (instant : Instant) (fits : List (Option Source)) (number : ℕ) → picked instant picks number ≡ None → (last : Option Value)
+      → in_turn (map (effect instant x) (set_leaves settable picks number fits)) last ≡ last
+  effects_none instant [] number e last = refl
+  effects_none instant (f ∷ fs) number e last =
+      effects-append instant x (set_one settable picks number f) (set_leaves settable picks (number + 1) fs) last
+      ∙ (effects_none instant fs (number + 1) (picked_moved instant picks number 1 ∙ ap (option_map (λ y. y + 1)) e) (in_turn (map (effect instant x) (set_one settable picks number f)) last) ∙ here f)
     where
-      here : (o : Option Source) → in_turn (map (effect sight x) (set_one settable picks number o)) last ≡ last
+      here : (o : Option Source) → in_turn (map (effect instant x) (set_one settable picks number o)) last ≡ last
       here None = refl
-      here (Some s) = one_effect sight number s last ∙ ap (λ o. if picked_is x o then Some (value s.expr sight) else last) e
+      here (Some s) = one_effect instant number s last ∙ ap (λ o. if picked_is x o then Some (value s.expr instant) else last) e
 
 -- Leaves that may not be set
 
@@ -245,7 +245,7 @@ same_itself s = both s.kind s.width
     both Signed w = same_number w
 
 module _ (n : Numbering) (flip : Bool) (settable : List Bool) (picks : List Pick) (indices : are_indices n.table picks ≡ true) where
-  pub all_shaped : (ls : List TypeLeaf) (has : Sight → List Value) (ms : List (List Leaf)) (fits : List (Option Source)) (number : ℕ) → FitsAll n flip ls has ms fits
+  pub all_shaped : (ls : List TypeLeaf) (has : Instant → List Value) (ms : List (List Leaf)) (fits : List (Option Source)) (number : ℕ) → FitsAll n flip ls has ms fits
       → ((k : ℕ) (leaf : TypeLeaf) (y : ℕ) → slice_get ls k ≡ Some leaf → Contains (choices picks (number + k)) y → n.table.leaf y ≡ Some (leaf_shape leaf)) → is_shaped n.table (set_leaves settable picks number fits) ≡ true
   all_shaped [] has ms [] number all at = refl
   all_shaped [] has ms (f ∷ fs) number all at = absurd all
@@ -253,9 +253,9 @@ module _ (n : Numbering) (flip : Bool) (settable : List Bool) (picks : List Pick
   all_shaped (l ∷ ls) has ms (f ∷ fs) number all at =
       shaped-append n.table (set_one settable picks number f) (set_leaves settable picks (number + 1) fs)
       ∙ ap₂ (λ a b. a && b) (here f all.0)
-      (all_shaped ls (λ sight. tail (has sight)) (tail ms) fs (number + 1) all.1 (λ k leaf y e c. at (suc k) leaf y e (subst (λ m. Contains (choices picks m) y) (sym (suc_plus number k)) c)))
+      (all_shaped ls (λ instant. tail (has instant)) (tail ms) fs (number + 1) all.1 (λ k leaf y e c. at (suc k) leaf y e (subst (λ m. Contains (choices picks m) y) (sym (suc_plus number k)) c)))
     where
-      here : (o : Option Source) → FitAt n flip l (λ sight. head_or (lone []) (has sight)) (head_or [] ms) o → is_shaped n.table (set_one settable picks number o) ≡ true
+      here : (o : Option Source) → FitAt n flip l (λ instant. head_or (lone []) (has instant)) (head_or [] ms) o → is_shaped n.table (set_one settable picks number o) ≡ true
       here None t = refl
       here (Some s) fit = each_shaped settable s.expr n.table (targets picks number) (λ t c. (
         target_shapes n.table picks number t indices c,
@@ -264,7 +264,7 @@ module _ (n : Numbering) (flip : Bool) (settable : List Bool) (picks : List Pick
 
 -- Certain, and live
 
-module _ (n : Numbering) (one : IsOneToOne n) (region : Region) (spot : Sight → Spot) (typ : FirType) (part : Part) (p : IsPart n region spot typ part) (steps : ℕ)
+module _ (n : Numbering) (one : IsOneToOne n) (region : Region) (spot : Instant → Spot) (typ : FirType) (part : Part) (p : IsPart n region spot typ part) (steps : ℕ)
     (long : (way : List PathStep) → Contains region.ways way → length way ≡ steps) (flip : Bool) (settable : List Bool) (x : ℕ) (z : Leaf)
     (may : is_allowed (slice_get settable x) ≡ true) (is_x : n.number z ≡ Some x) where
   -- Where the leaf is behind one of the part's ways.
@@ -330,7 +330,7 @@ module _ (n : Numbering) (one : IsOneToOne n) (region : Region) (spot : Sight �
       places a b j k e f = omega (arith, e, f)
 
   -- a leaf that is not behind it is left alone
-  quiet_one : (j : ℕ) (l : TypeLeaf) (has : Sight → Value) (m : List Leaf) (f : Option Source) → slice_get (leaves typ) j ≡ Some l → FitAt n flip l has m f → may_be flip region z l ≡ false
+  quiet_one : (j : ℕ) (l : TypeLeaf) (has : Instant → Value) (m : List Leaf) (f : Option Source) → slice_get (leaves typ) j ≡ Some l → FitAt n flip l has m f → may_be flip region z l ≡ false
       → LeavesAlone (set_one settable part.picks (part.first + j) f) x
   quiet_one j l has m None e fit nope = alone_none x
   quiet_one j l has m (Some s) e fit nope = each_alone settable s.expr x (targets part.picks (part.first + j)) (λ t c a. by t c (t.leaf == x) refl)
@@ -357,7 +357,7 @@ module _ (n : Numbering) (one : IsOneToOne n) (region : Region) (spot : Sight �
   mention_none l ls ms t = mention_next l ls ms ∙ ap (λ b. cons_option (if b then Some (region.indices ++ head_or [] ms) else None) (mention_list ls (tail ms))) t
 
   -- Where none of these leaves is it, it is left alone.
-  pub quiet : (ls : List TypeLeaf) (has : Sight → List Value) (ms : List (List Leaf)) (fits : List (Option Source)) (j : ℕ) → FitsAll n flip ls has ms fits
+  pub quiet : (ls : List TypeLeaf) (has : Instant → List Value) (ms : List (List Leaf)) (fits : List (Option Source)) (j : ℕ) → FitsAll n flip ls has ms fits
       → ((k : ℕ) (leaf : TypeLeaf) → slice_get ls k ≡ Some leaf → (slice_get (leaves typ) (j + k) ≡ Some leaf) × (may_be flip region z leaf ≡ false))
       → LeavesAlone (set_leaves settable part.picks (part.first + j) fits) x × (mention_list ls ms ≡ [])
   quiet [] has ms [] j all at = (alone_none x, refl)
@@ -365,9 +365,9 @@ module _ (n : Numbering) (one : IsOneToOne n) (region : Region) (spot : Sight �
   quiet (l ∷ ls) has ms [] j all at = absurd all
   quiet (l ∷ ls) has ms (f ∷ fs) j all at =
       let here = at 0 l refl in
-      let rest = quiet ls (λ sight. tail (has sight)) (tail ms) fs (j + 1) all.1 (λ k leaf e. (subst (λ m. slice_get (leaves typ) m ≡ Some leaf) (suc_plus j k) (at (suc k) leaf e).0, (at (suc k) leaf e).1)) in (
+      let rest = quiet ls (λ instant. tail (has instant)) (tail ms) fs (j + 1) all.1 (λ k leaf e. (subst (λ m. slice_get (leaves typ) m ≡ Some leaf) (suc_plus j k) (at (suc k) leaf e).0, (at (suc k) leaf e).1)) in (
         alone_append (set_one settable part.picks (part.first + j) f) (set_leaves settable part.picks (part.first + j + 1) fs) x
-            (quiet_one j l (λ sight. head_or (lone []) (has sight)) (head_or [] ms) f (subst (λ m. slice_get (leaves typ) m ≡ Some l) (plus_none j) here.0) all.0 here.1)
+            (quiet_one j l (λ instant. head_or (lone []) (has instant)) (head_or [] ms) f (subst (λ m. slice_get (leaves typ) m ≡ Some l) (plus_none j) here.0) all.0 here.1)
             (subst (λ m. LeavesAlone (set_leaves settable part.picks m fs) x) (plus_suc part.first j 0) rest.0),
         mention_none l ls ms here.1 ∙ rest.1,
       )
@@ -417,13 +417,13 @@ module _ (n : Numbering) (one : IsOneToOne n) (region : Region) (spot : Sight �
           (λ t k. dynamic_targets pick picks (part.first + j) t (subst (λ ps. Contains (targets ps (part.first + j)) t) e k))))
           (reads_told (targets part.picks (part.first + j)) (λ u k y. target_reads part.picks (part.first + j) u y k) (λ u k y. reads_target part.picks (part.first + j) u y k) chosen.0 chosen.1 chosen.2)
 
-  pub lives_all : (ls : List TypeLeaf) (has : Sight → List Value) (ms : List (List Leaf)) (fits : List (Option Source)) (j : ℕ) → FitsAll n flip ls has ms fits
+  pub lives_all : (ls : List TypeLeaf) (has : Instant → List Value) (ms : List (List Leaf)) (fits : List (Option Source)) (j : ℕ) → FitsAll n flip ls has ms fits
       → ((k : ℕ) (leaf : TypeLeaf) → slice_get ls k ≡ Some leaf → slice_get (leaves typ) (j + k) ≡ Some leaf)
       → SameLives n (mention_list ls ms) (live x (set_leaves settable part.picks (part.first + j) fits))
   lives_all [] has ms [] j all at = record { none = refl; leaves = record { only = λ y k. absurd (not_in_none y k); all = λ w k. absurd (not_in_none w k) } }
   lives_all [] has ms (f ∷ fs) j all at = absurd all
   lives_all (l ∷ ls) has ms [] j all at = absurd all
-  lives_all (l ∷ ls) has ms (f ∷ fs) j all at = by (lives_all ls (λ sight. tail (has sight)) (tail ms) fs (j + 1) all.1 (λ k leaf g. subst (λ m. slice_get (leaves typ) m ≡ Some leaf) (suc_plus j k) (at (suc k) leaf g))) (may_be flip region z l) refl f all.0
+  lives_all (l ∷ ls) has ms (f ∷ fs) j all at = by (lives_all ls (λ instant. tail (has instant)) (tail ms) fs (j + 1) all.1 (λ k leaf g. subst (λ m. slice_get (leaves typ) m ≡ Some leaf) (suc_plus j k) (at (suc k) leaf g))) (may_be flip region z l) refl f all.0
     where
       e : slice_get (leaves typ) j ≡ Some l
       e = subst (λ m. slice_get (leaves typ) m ≡ Some l) (plus_none j) (at 0 l refl)
@@ -431,10 +431,10 @@ module _ (n : Numbering) (one : IsOneToOne n) (region : Region) (spot : Sight �
       later : (k : ℕ) (leaf : TypeLeaf) → slice_get ls k ≡ Some leaf → slice_get (leaves typ) (j + 1 + k) ≡ Some leaf
       later k leaf g = subst (λ m. slice_get (leaves typ) m ≡ Some leaf) (suc_plus j k) (at (suc k) leaf g)
 
-      by : SameLives n (mention_list ls (tail ms)) (live x (set_leaves settable part.picks (part.first + (j + 1)) fs)) → (b : Bool) → may_be flip region z l ≡ b → (o : Option Source) → FitAt n flip l (λ sight. head_or (lone []) (has sight)) (head_or [] ms) o
+      by : SameLives n (mention_list ls (tail ms)) (live x (set_leaves settable part.picks (part.first + (j + 1)) fs)) → (b : Bool) → may_be flip region z l ≡ b → (o : Option Source) → FitAt n flip l (λ instant. head_or (lone []) (has instant)) (head_or [] ms) o
           → SameLives n (mention_list (l ∷ ls) ms) (live x (set_one settable part.picks (part.first + j) o ++ set_leaves settable part.picks (part.first + j + 1) fs))
       by rest false t o fit =
-          let alone = quiet_one j l (λ sight. head_or (lone []) (has sight)) (head_or [] ms) o e fit t in
+          let alone = quiet_one j l (λ instant. head_or (lone []) (has instant)) (head_or [] ms) o e fit t in
           subst (λ told. SameLives n told (live x (set_one settable part.picks (part.first + j) o ++ set_leaves settable part.picks (part.first + j + 1) fs))) (sym (mention_none l ls ms t))
           (subst (SameLives n (mention_list ls (tail ms)))
           (sym (live-append x (set_one settable part.picks (part.first + j) o) (set_leaves settable part.picks (part.first + j + 1) fs) (inr alone.live) ∙ ap (λ p. p ++ live x (set_leaves settable part.picks (part.first + j + 1) fs)) alone.live))
@@ -442,7 +442,7 @@ module _ (n : Numbering) (one : IsOneToOne n) (region : Region) (spot : Sight �
       by rest true t None fit = absurd (true≢false (sym (and_parts (is_turned flip l) (list_any (λ at. same_leaf at z) (leaves_at region l.path)) t).0 ∙ fit))
       by rest true t (Some s) fit =
           let here = named_behind j l e (and_parts (is_turned flip l) (list_any (λ at. same_leaf at z) (leaves_at region l.path)) t).1 in
-          let still = quiet ls (λ sight. tail (has sight)) (tail ms) fs (j + 1) all.1 (λ k leaf g. (later k leaf g, silent k leaf (later k leaf g) here (may_be flip region z leaf) refl)) in
+          let still = quiet ls (λ instant. tail (has instant)) (tail ms) fs (j + 1) all.1 (λ k leaf g. (later k leaf g, silent k leaf (later k leaf g) here (may_be flip region z leaf) refl)) in
           let alone = subst (λ m. LeavesAlone (set_leaves settable part.picks m fs) x) (plus_suc part.first j 0) still.0 in
           let head = set_each settable s.expr (targets part.picks (part.first + j)) in
           subst (λ told. SameLives n told (live x (head ++ set_leaves settable part.picks (part.first + j + 1) fs))) (sym (mention_here l ls ms t ∙ ap (λ q. (region.indices ++ head_or [] ms) ∷ q) still.1))
@@ -465,7 +465,7 @@ module _ (n : Numbering) (one : IsOneToOne n) (region : Region) (spot : Sight �
   or_nothing true = refl
   or_nothing false = refl
 
-  static_certain : part.picks ≡ [] → (ls : List TypeLeaf) (has : Sight → List Value) (ms : List (List Leaf)) (fits : List (Option Source)) (j : ℕ) → FitsAll n flip ls has ms fits
+  static_certain : part.picks ≡ [] → (ls : List TypeLeaf) (has : Instant → List Value) (ms : List (List Leaf)) (fits : List (Option Source)) (j : ℕ) → FitsAll n flip ls has ms fits
       → ((k : ℕ) (leaf : TypeLeaf) → slice_get ls k ≡ Some leaf → slice_get (leaves typ) (j + k) ≡ Some leaf)
       → is_certain x (set_leaves settable [] (part.first + j) fits) ≡ list_any (may_be flip region z) ls
   static_certain none [] has ms [] j all at = refl
@@ -475,12 +475,12 @@ module _ (n : Numbering) (one : IsOneToOne n) (region : Region) (spot : Sight �
       certain-append x (set_one settable [] (part.first + j) f) (set_leaves settable [] (part.first + j + 1) fs)
       ∙ ap₂ (λ a b. a || b) (here f all.0)
       (ap (λ m. is_certain x (set_leaves settable [] m fs)) (sym (plus_suc part.first j 0))
-      ∙ static_certain none ls (λ sight. tail (has sight)) (tail ms) fs (j + 1) all.1 (λ k leaf g. subst (λ m. slice_get (leaves typ) m ≡ Some leaf) (suc_plus j k) (at (suc k) leaf g)))
+      ∙ static_certain none ls (λ instant. tail (has instant)) (tail ms) fs (j + 1) all.1 (λ k leaf g. subst (λ m. slice_get (leaves typ) m ≡ Some leaf) (suc_plus j k) (at (suc k) leaf g)))
     where
       e : slice_get (leaves typ) j ≡ Some l
       e = subst (λ m. slice_get (leaves typ) m ≡ Some l) (plus_none j) (at 0 l refl)
 
-      here : (o : Option Source) → FitAt n flip l (λ sight. head_or (lone []) (has sight)) (head_or [] ms) o → is_certain x (set_one settable [] (part.first + j) o) ≡ may_be flip region z l
+      here : (o : Option Source) → FitAt n flip l (λ instant. head_or (lone []) (has instant)) (head_or [] ms) o → is_certain x (set_one settable [] (part.first + j) o) ≡ may_be flip region z l
       here None t = sym (ap (λ b. b && list_any (λ at. same_leaf at z) (leaves_at region l.path)) t)
       here (Some s) fit =
           one_certain settable s.expr x may (part.first + j)
@@ -498,7 +498,7 @@ module _ (n : Numbering) (one : IsOneToOne n) (region : Region) (spot : Sight �
       here None = refl
       here (Some s) = each_uncertain settable s.expr x (targets (pick ∷ picks) number) (λ t c. dynamic_targets pick picks number t c)
 
-  pub certain_all : (has : Sight → List Value) (ms : List (List Leaf)) (fits : List (Option Source)) → FitsAll n flip (leaves typ) has ms fits
+  pub certain_all : (has : Instant → List Value) (ms : List (List Leaf)) (fits : List (Option Source)) → FitsAll n flip (leaves typ) has ms fits
       → is_certain x (set_leaves settable part.picks part.first fits) ≡ surely_names flip (Some region) z
   certain_all has ms fits all = by part.picks refl
     where

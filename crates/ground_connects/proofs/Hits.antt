@@ -21,7 +21,7 @@ use Rattle.cycle_values.specs.Values.{fitted, is_one, kind_or_unsigned, operatio
 use Rattle.ground_net.specs.declared.ground.Ground.{Ground}
 use Rattle.ground_net.specs.declared.ground.Ground.TheVariants.{Const}
 use Rattle.ground_net.specs.declared.circuit.GroundStmt.TheVariants.{Connect}
-use Rattle.ground_net.specs.Grounds.{Sight, value, mentions, joined}
+use Rattle.ground_net.specs.Grounds.{Instant, value, mentions, joined}
 use Rattle.ground_net.specs.Statements.{in_turn, all_hold, effect, driving, is_certain, live}
 use Rattle.ground_net.proofs.Layers.{value-Op, value-Const, mentions-Op, mentions-Const}
 use Rattle.net_meaning.specs.Shapes.{Shape, shaped, same_kind, shape_of_row, Table, shape, all_of}
@@ -48,13 +48,13 @@ eq_is Unsigned Signed v w false = refl
 eq_is Signed Unsigned v w false = refl
 eq_is Signed Signed v w false = refl
 
-pub equals_holds : (sight : Sight) (index : Ground) (k : ℕ) → k < 2 ^ 32 → is_one (value (equals index k) sight) ≡ int_eq (integer_of (value index sight)) (pos k)
-equals_holds sight index k h =
+pub equals_holds : (instant : Instant) (index : Ground) (k : ℕ) → k < 2 ^ 32 → is_one (value (equals index k) instant) ≡ int_eq (integer_of (value index instant)) (pos k)
+equals_holds instant index k h =
     let v : Value = fitted Unsigned 32 (pos k) in
-    ap is_one (value-Op Eq (index ∷ Const v ∷ []) [] sight)
-    ∙ (ap (λ c. is_one (operation Eq (value index sight ∷ c ∷ []) [])) (value-Const v sight)
-    ∙ (eq_is (value index sight).kind Unsigned (value index sight).width 32 (int_eq (integer_of (value index sight)) (integer_of v))
-    ∙ ap (λ n. int_eq (integer_of (value index sight)) (pos n)) (mod-eq_of_lt h)))
+    ap is_one (value-Op Eq (index ∷ Const v ∷ []) [] instant)
+    ∙ (ap (λ c. is_one (operation Eq (value index instant ∷ c ∷ []) [])) (value-Const v instant)
+    ∙ (eq_is (value index instant).kind Unsigned (value index instant).width 32 (int_eq (integer_of (value index instant)) (integer_of v))
+    ∙ ap (λ n. int_eq (integer_of (value index instant)) (pos n)) (mod-eq_of_lt h)))
 
 pub equals_mentions : (index : Ground) (k : ℕ) → mentions (equals index k) ≡ mentions index
 equals_mentions index k =
@@ -78,8 +78,8 @@ equals_shape table index k i = by (shape index table) refl i
 
 -- Whether a leaf is set
 
-abbrev pub hits : Sight → ℕ → List Target → Bool
-hits sight x ts = list_any (λ (t : Target). (t.leaf == x) && all_hold sight t.conditions) ts
+abbrev pub hits : Instant → ℕ → List Target → Bool
+hits instant x ts = list_any (λ (t : Target). (t.leaf == x) && all_hold instant t.conditions) ts
 
 abbrev pub picked_is : ℕ → Option ℕ → Bool
 picked_is x (Some y) = y == x
@@ -92,11 +92,11 @@ shared true true h true = refl
 shared true true true false = refl
 shared true true false false = refl
 
-hits_under : (sight : Sight) (x : ℕ) (g : Ground) (ts : List Target) → hits sight x (map (under_condition g) ts) ≡ (hits sight x ts && is_one (value g sight))
-hits_under sight x g [] = refl
-hits_under sight x g (t ∷ ts) =
-    ap₂ (λ c h. ((t.leaf == x) && c) || h) (list_all-append (λ e. is_one (value e sight)) t.conditions (g ∷ [])) (hits_under sight x g ts)
-    ∙ shared (t.leaf == x) (all_hold sight t.conditions) (hits sight x ts) (is_one (value g sight))
+hits_under : (instant : Instant) (x : ℕ) (g : Ground) (ts : List Target) → hits instant x (map (under_condition g) ts) ≡ (hits instant x ts && is_one (value g instant))
+hits_under instant x g [] = refl
+hits_under instant x g (t ∷ ts) =
+    ap₂ (λ c h. ((t.leaf == x) && c) || h) (list_all-append (λ e. is_one (value e instant)) t.conditions (g ∷ [])) (hits_under instant x g ts)
+    ∙ shared (t.leaf == x) (all_hold instant t.conditions) (hits instant x ts) (is_one (value g instant))
 
 any_flat : {A : Type 0} (p : A → Bool) (f : ℕ → List A) (ks : List ℕ) → list_any p (flat_map f ks) ≡ list_any (λ k. list_any p (f k)) ks
 any_flat p f [] = refl
@@ -193,16 +193,16 @@ one_leaf true = refl
 one_leaf false = refl
 
 -- A leaf is set where the indices pick it.
-pub hits_targets : (sight : Sight) (x : ℕ) (picks : List Pick) (leaf : ℕ) → are_numbered picks ≡ true → hits sight x (targets picks leaf) ≡ picked_is x (picked sight picks leaf)
-hits_targets sight x [] leaf h = one_leaf (leaf == x)
-hits_targets sight x (pick ∷ picks) leaf h =
+pub hits_targets : (instant : Instant) (x : ℕ) (picks : List Pick) (leaf : ℕ) → are_numbered picks ≡ true → hits instant x (targets picks leaf) ≡ picked_is x (picked instant picks leaf)
+hits_targets instant x [] leaf h = one_leaf (leaf == x)
+hits_targets instant x (pick ∷ picks) leaf h =
     let split = both_true (nat_lt pick.length (2 ^ 32)) (are_numbered picks) h in
-    any_flat (λ (t : Target). (t.leaf == x) && all_hold sight t.conditions) (λ k. map (under_condition (equals pick.index k)) (targets picks (leaf + k * pick.stride))) (range_with_len 0 pick.length)
-    ∙ (any_same (λ k. hits sight x (map (under_condition (equals pick.index k)) (targets picks (leaf + k * pick.stride))))
-    (λ k. picked_is x (picked sight picks (leaf + k * pick.stride)) && int_eq (integer_of (value pick.index sight)) (pos k)) (range_with_len 0 pick.length)
-    (λ k c. hits_under sight x (equals pick.index k) (targets picks (leaf + k * pick.stride))
-    ∙ ap₂ (λ a b. a && b) (hits_targets sight x picks (leaf + k * pick.stride) split.1) (equals_holds sight pick.index k (small k pick.length split.0 (from_range 0 pick.length k c).1)))
-    ∙ picked_of x pick.length (λ k. picked sight picks (leaf + k * pick.stride)) (integer_of (value pick.index sight)))
+    any_flat (λ (t : Target). (t.leaf == x) && all_hold instant t.conditions) (λ k. map (under_condition (equals pick.index k)) (targets picks (leaf + k * pick.stride))) (range_with_len 0 pick.length)
+    ∙ (any_same (λ k. hits instant x (map (under_condition (equals pick.index k)) (targets picks (leaf + k * pick.stride))))
+    (λ k. picked_is x (picked instant picks (leaf + k * pick.stride)) && int_eq (integer_of (value pick.index instant)) (pos k)) (range_with_len 0 pick.length)
+    (λ k c. hits_under instant x (equals pick.index k) (targets picks (leaf + k * pick.stride))
+    ∙ ap₂ (λ a b. a && b) (hits_targets instant x picks (leaf + k * pick.stride) split.1) (equals_holds instant pick.index k (small k pick.length split.0 (from_range 0 pick.length k c).1)))
+    ∙ picked_of x pick.length (λ k. picked instant picks (leaf + k * pick.stride)) (integer_of (value pick.index instant)))
 
 -- Effects
 
@@ -223,24 +223,24 @@ either false true v last = refl
 either false false v last = refl
 
 module _ (settable : List Bool) (source : Ground) (x : ℕ) where
-  head_effect : is_allowed (slice_get settable x) ≡ true → (sight : Sight) (t : Target) (last : Option Value)
-      → in_turn (map (effect sight x) (if is_allowed (slice_get settable t.leaf) then Connect t.leaf t.conditions source ∷ [] else [])) last
-      ≡ if (t.leaf == x) && all_hold sight t.conditions then Some (value source sight) else last
-  head_effect a sight t last = by (is_allowed (slice_get settable t.leaf)) refl
+  head_effect : is_allowed (slice_get settable x) ≡ true → (instant : Instant) (t : Target) (last : Option Value)
+      → in_turn (map (effect instant x) (if is_allowed (slice_get settable t.leaf) then Connect t.leaf t.conditions source ∷ [] else [])) last
+      ≡ if (t.leaf == x) && all_hold instant t.conditions then Some (value source instant) else last
+  head_effect an instant t last = by (is_allowed (slice_get settable t.leaf)) refl
     where
-      by : (b : Bool) → is_allowed (slice_get settable t.leaf) ≡ b → in_turn (map (effect sight x) (if b then Connect t.leaf t.conditions source ∷ [] else [])) last
-          ≡ if (t.leaf == x) && all_hold sight t.conditions then Some (value source sight) else last
-      by true e = effect-Connect sight x t.leaf t.conditions source last
-      by false e = ap (λ b. if b && all_hold sight t.conditions then Some (value source sight) else last) (sym (not_it settable x t.leaf a e))
+      by : (b : Bool) → is_allowed (slice_get settable t.leaf) ≡ b → in_turn (map (effect instant x) (if b then Connect t.leaf t.conditions source ∷ [] else [])) last
+          ≡ if (t.leaf == x) && all_hold instant t.conditions then Some (value source instant) else last
+      by true e = effect-Connect instant x t.leaf t.conditions source last
+      by false e = ap (λ b. if b && all_hold instant t.conditions then Some (value source instant) else last) (sym (not_it settable x t.leaf a e))
 
-  pub each_effect : is_allowed (slice_get settable x) ≡ true → (sight : Sight) (ts : List Target) (last : Option Value)
-      → in_turn (map (effect sight x) (set_each settable source ts)) last ≡ if hits sight x ts then Some (value source sight) else last
-  each_effect a sight [] last = refl
-  each_effect a sight (t ∷ ts) last =
-      effects-append sight x (if is_allowed (slice_get settable t.leaf) then Connect t.leaf t.conditions source ∷ [] else []) (set_each settable source ts) last
-      ∙ (each_effect a sight ts (in_turn (map (effect sight x) (if is_allowed (slice_get settable t.leaf) then Connect t.leaf t.conditions source ∷ [] else [])) last)
-      ∙ (ap (λ l. if hits sight x ts then Some (value source sight) else l) (head_effect a sight t last)
-      ∙ either ((t.leaf == x) && all_hold sight t.conditions) (hits sight x ts) (Some (value source sight)) last))
+  pub each_effect : is_allowed (slice_get settable x) ≡ true → (instant : Instant) (ts : List Target) (last : Option Value)
+      → in_turn (map (effect instant x) (set_each settable source ts)) last ≡ if hits instant x ts then Some (value source instant) else last
+  each_effect an instant [] last = refl
+  each_effect an instant (t ∷ ts) last =
+      effects-append instant x (if is_allowed (slice_get settable t.leaf) then Connect t.leaf t.conditions source ∷ [] else []) (set_each settable source ts) last
+      ∙ (each_effect an instant ts (in_turn (map (effect instant x) (if is_allowed (slice_get settable t.leaf) then Connect t.leaf t.conditions source ∷ [] else [])) last)
+      ∙ (ap (λ l. if hits instant x ts then Some (value source instant) else l) (head_effect an instant t last)
+      ∙ either ((t.leaf == x) && all_hold instant t.conditions) (hits instant x ts) (Some (value source instant)) last))
 
   -- It is left alone where none of them is it, or it may not be set.
   pub each_alone : (ts : List Target) → ((t : Target) → Contains ts t → is_allowed (slice_get settable t.leaf) ≡ true → (t.leaf == x) ≡ false) → LeavesAlone (set_each settable source ts) x

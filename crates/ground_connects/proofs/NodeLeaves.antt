@@ -53,9 +53,9 @@ node_others (l ∷ ls) (s ∷ ss) first x h =
 
 sets_here : (first : ℕ) (s : Source) (k : List GroundStmt) → LeavesAlone k first → SetsTo (Connect first [] s.expr ∷ [] ++ k) first s
 sets_here first s k a = record {
-  effects = λ sight last.
-      effects-append sight first (Connect first [] s.expr ∷ []) k last ∙ (a.effects sight (in_turn (map (effect sight first) (Connect first [] s.expr ∷ [])) last)
-      ∙ (effect-Connect sight first first [] s.expr last ∙ ap (λ b. if b && true then Some (value s.expr sight) else last) (same_number first)));
+  effects = λ instant last.
+      effects-append instant first (Connect first [] s.expr ∷ []) k last ∙ (a.effects instant (in_turn (map (effect instant first) (Connect first [] s.expr ∷ [])) last)
+      ∙ (effect-Connect instant first first [] s.expr last ∙ ap (λ b. if b && true then Some (value s.expr instant) else last) (same_number first)));
   certain = certain-append first (Connect first [] s.expr ∷ []) k ∙ ap₂ (λ p q. (p || false) || q) (certain-Connect first first s.expr ∙ same_number first) a.certain;
   live = live-append first (Connect first [] s.expr ∷ []) k (inl a.certain)
       ∙ ap₂ (λ p q. (p ++ []) ++ q) (live-Connect first first [] s.expr ∙ ap (λ b. if b then mentions s.expr ∷ [] else []) (same_number first)) a.live;
@@ -63,7 +63,7 @@ sets_here first s k a = record {
 
 sets_later : (m k : List GroundStmt) (x : ℕ) (s : Source) → LeavesAlone m x → SetsTo k x s → SetsTo (m ++ k) x s
 sets_later m k x s a b = record {
-  effects = λ sight last. effects-append sight x m k last ∙ b.effects sight (in_turn (map (effect sight x) m) last);
+  effects = λ instant last. effects-append instant x m k last ∙ b.effects instant (in_turn (map (effect instant x) m) last);
   certain = certain-append x m k ∙ ap₂ (λ p q. p || q) a.certain b.certain;
   live = live-append x m k (inr a.live) ∙ ap₂ (λ p q. p ++ q) a.live b.live;
 }

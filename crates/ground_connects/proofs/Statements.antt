@@ -8,7 +8,7 @@ use Rattle.bit_words.specs.declared.value.Value.{Value}
 use Rattle.ground_net.specs.declared.ground.Ground.{Ground}
 use Rattle.ground_net.specs.declared.circuit.GroundStmt.{GroundStmt, the_lemmas}
 use Rattle.ground_net.specs.declared.circuit.GroundStmt.TheVariants.{Connect}
-use Rattle.ground_net.specs.Grounds.{Sight, value, mentions, joined}
+use Rattle.ground_net.specs.Grounds.{Instant, value, mentions, joined}
 use Rattle.ground_net.specs.Statements.{Effect, Driving, in_turn, all_hold, effect, driving, is_certain, live, live_from}
 use Rattle.net_meaning.specs.Shapes.{Table}
 use Rattle.net_meaning.specs.StatementShapes.{is_condition, is_source, is_shaped_stmt, is_shaped}
@@ -16,9 +16,9 @@ use Rattle.ground_connects.specs.Connects.{LeavesAlone}
 
 -- Connects
 
-pub effect-Connect : (sight : Sight) (x target : ℕ) (conditions : List Ground) (source : Ground) (last : Option Value)
-    → effect sight x (Connect target conditions source) last ≡ if (target == x) && all_hold sight conditions then Some (value source sight) else last
-effect-Connect sight x target conditions source last = grind (arith, common_steps, the_lemmas)
+pub effect-Connect : (instant : Instant) (x target : ℕ) (conditions : List Ground) (source : Ground) (last : Option Value)
+    → effect instant x (Connect target conditions source) last ≡ if (target == x) && all_hold instant conditions then Some (value source instant) else last
+effect-Connect instant x target conditions source last = grind (arith, common_steps, the_lemmas)
 
 pub live-Connect : (x target : ℕ) (conditions : List Ground) (source : Ground)
     → (driving x (Connect target conditions source)).live ≡ if target == x then (joined (map mentions conditions) ++ mentions source) ∷ [] else []
@@ -40,9 +40,9 @@ in_turn-append : (es fs : List Effect) (last : Option Value) → in_turn (es ++ 
 in_turn-append [] fs last = refl
 in_turn-append (e ∷ es) fs last = in_turn-append es fs (e last)
 
-pub effects-append : (sight : Sight) (x : ℕ) (m k : List GroundStmt) (last : Option Value)
-    → in_turn (map (effect sight x) (m ++ k)) last ≡ in_turn (map (effect sight x) k) (in_turn (map (effect sight x) m) last)
-effects-append sight x m k last = ap (λ es. in_turn es last) (map-append (effect sight x) m k) ∙ in_turn-append (map (effect sight x) m) (map (effect sight x) k) last
+pub effects-append : (instant : Instant) (x : ℕ) (m k : List GroundStmt) (last : Option Value)
+    → in_turn (map (effect instant x) (m ++ k)) last ≡ in_turn (map (effect instant x) k) (in_turn (map (effect instant x) m) last)
+effects-append instant x m k last = ap (λ es. in_turn es last) (map-append (effect instant x) m k) ∙ in_turn-append (map (effect instant x) m) (map (effect instant x) k) last
 
 pub certain-append : (x : ℕ) (m k : List GroundStmt) → is_certain x (m ++ k) ≡ (is_certain x m || is_certain x k)
 certain-append x m k = ap (list_any (λ (s : Driving). s.certain)) (map-append (driving x) m k) ∙ list_any-append (λ (s : Driving). s.certain) (map (driving x) m) (map (driving x) k)
@@ -80,18 +80,18 @@ live-append x m k h = ap live_from (map-append (driving x) m k) ∙ ⊎_elim (λ
 -- Statements that leave a leaf alone
 
 pub alone_none : (x : ℕ) → LeavesAlone [] x
-alone_none x = record { effects = λ sight last. refl; certain = refl; live = refl }
+alone_none x = record { effects = λ instant last. refl; certain = refl; live = refl }
 
 pub alone_append : (m k : List GroundStmt) (x : ℕ) → LeavesAlone m x → LeavesAlone k x → LeavesAlone (m ++ k) x
 alone_append m k x a b = record {
-  effects = λ sight last. effects-append sight x m k last ∙ (b.effects sight (in_turn (map (effect sight x) m) last) ∙ a.effects sight last);
+  effects = λ instant last. effects-append instant x m k last ∙ (b.effects instant (in_turn (map (effect instant x) m) last) ∙ a.effects instant last);
   certain = certain-append x m k ∙ ap₂ (λ p q. p || q) a.certain b.certain;
   live = live-append x m k (inl b.certain) ∙ ap₂ (λ p q. p ++ q) a.live b.live;
 }
 
 pub other_alone : (target x : ℕ) (conditions : List Ground) (source : Ground) → (target == x) ≡ false → LeavesAlone (Connect target conditions source ∷ []) x
 other_alone target x conditions source e = record {
-  effects = λ sight last. effect-Connect sight x target conditions source last ∙ ap (λ b. if b && all_hold sight conditions then Some (value source sight) else last) e;
+  effects = λ instant last. effect-Connect instant x target conditions source last ∙ ap (λ b. if b && all_hold instant conditions then Some (value source instant) else last) e;
   certain = by conditions;
   live = append-nil (driving x (Connect target conditions source)).live ∙ (live-Connect x target conditions source ∙ ap (λ b. if b then (joined (map mentions conditions) ++ mentions source) ∷ [] else []) e);
 }

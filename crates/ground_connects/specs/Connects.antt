@@ -9,7 +9,7 @@ use Rattle.fir_types.specs.Leaves.{leaves, is_clock}
 use Rattle.fir_tree.specs.declared.expr.Expr.{Expr}
 use Rattle.ground_net.specs.declared.circuit.GroundStmt.{GroundStmt}
 use Rattle.ground_net.specs.Grounds as net
-use Rattle.ground_net.specs.Grounds.{Sight, value, mentions}
+use Rattle.ground_net.specs.Grounds.{Instant, value, mentions}
 use Rattle.ground_net.specs.Statements.{in_turn, effect, is_certain, live}
 use Rattle.net_meaning.specs.Shapes.{Table, HasShapes, shape}
 use Rattle.net_meaning.specs.StatementShapes.{is_shaped}
@@ -44,18 +44,18 @@ pub record SameLives (n : Numbering) (told : List (List Leaf)) (lives : List (Li
   pub none : has_none lives ≡ has_none told
   pub leaves : SameLeaves n (tree_reads.joined told) (net.joined lives)
 
--- What ground statements are to a leaf that may be set, by its number: at every sight in range they make of what was set before what
+-- What ground statements are to a leaf that may be set, by its number: at every instant in range they make of what was set before what
 -- the text makes of it; they are certain for it where the text is; and they have the same live connects.
 pub record DoesTo (n : Numbering) (types : Scope) (does : Scene → Leaf → Option ℤ → Option ℤ) (surely : Leaf → Bool) (lives : Leaf → List (List Leaf))
     (made : List GroundStmt) (leaf : Leaf) (x : ℕ) : Type 0 where
-  pub effects : (sight : Sight) (last : Option Value) → HasShapes n.table sight
-      → option_map integer_of (in_turn (map (effect sight x) made) last) ≡ does (scene_seen types n sight) leaf (option_map integer_of last)
+  pub effects : (instant : Instant) (last : Option Value) → HasShapes n.table instant
+      → option_map integer_of (in_turn (map (effect instant x) made) last) ≡ does (scene_seen types n instant) leaf (option_map integer_of last)
   pub certain : is_certain x made ≡ surely leaf
   pub live : SameLives n (lives leaf) (live x made)
 
 -- The statements are nothing to the leaf of this number.
 pub record LeavesAlone (made : List GroundStmt) (x : ℕ) : Type 0 where
-  pub effects : (sight : Sight) (last : Option Value) → in_turn (map (effect sight x) made) last ≡ last
+  pub effects : (instant : Instant) (last : Option Value) → in_turn (map (effect instant x) made) last ≡ last
   pub certain : is_certain x made ≡ false
   pub live : live x made ≡ []
 
@@ -86,7 +86,7 @@ IsInvalidate entries settable target made = (n : Numbering) (types : Scope) → 
 
 -- The statement of a node sets this leaf to this source, whatever it held before.
 pub record SetsTo (made : List GroundStmt) (x : ℕ) (s : Source) : Type 0 where
-  pub effects : (sight : Sight) (last : Option Value) → in_turn (map (effect sight x) made) last ≡ Some (value s.expr sight)
+  pub effects : (instant : Instant) (last : Option Value) → in_turn (map (effect instant x) made) last ≡ Some (value s.expr instant)
   pub certain : is_certain x made ≡ true
   pub live : live x made ≡ mentions s.expr ∷ []
 

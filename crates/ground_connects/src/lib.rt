@@ -1,5 +1,5 @@
 //! Connects, invalidates and nodes as ground statements: a connect for each leaf that a statement may set. Keeps the contract that, at
-//! every sight in range, they leave in each leaf what the statement of the text leaves in it, and read the same leaves.
+//! every instant in range, they leave in each leaf what the statement of the text leaves in it, and read the same leaves.
 #![tactic(auto)]
 
 pub mod connects;

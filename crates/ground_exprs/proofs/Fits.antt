@@ -12,7 +12,7 @@ use Rattle.cycle_values.specs.Values.{fitted}
 use Rattle.cycle_values.proofs.Fittings.{refitted}
 use Rattle.ground_net.specs.declared.ground.Ground.{Ground}
 use Rattle.ground_net.specs.declared.ground.Ground.TheVariants.{Fit}
-use Rattle.ground_net.specs.Grounds.{Sight, value, mentions}
+use Rattle.ground_net.specs.Grounds.{Instant, value, mentions}
 use Rattle.ground_net.proofs.Layers.{value-Fit, mentions-Fit}
 use Rattle.net_meaning.specs.Shapes.{Shape, shaped, shape_of_value, Table, shape, all_of, shape_of_fit}
 use Rattle.net_meaning.proofs.Shaping.{shape-Fit, shapes_hold}
@@ -26,8 +26,8 @@ use Rattle.ground_exprs.specs.Sources.{told, IsFitted, IsOfLeaf}
 pub refit : (v : Value) (kind : Kind) (width : ℕ) → shape_of_value v ≡ shaped kind width → fitted kind width (integer_of v) ≡ v
 refit v kind width e = ap₂ (λ k w. fitted k w (integer_of v)) (sym (ap (λ (s : Shape). s.kind) e)) (sym (ap (λ (s : Shape). s.width) e)) ∙ refitted v
 
-fit_value : (kind : Kind) (width : ℕ) (g : Ground) (sight : Sight) → value (Fit kind width (g ∷ [])) sight ≡ fitted kind width (integer_of (value g sight))
-fit_value kind width g sight = value-Fit kind width (g ∷ []) sight
+fit_value : (kind : Kind) (width : ℕ) (g : Ground) (instant : Instant) → value (Fit kind width (g ∷ [])) instant ≡ fitted kind width (integer_of (value g instant))
+fit_value kind width g instant = value-Fit kind width (g ∷ []) instant
 
 fit_mentions : (kind : Kind) (width : ℕ) (g : Ground) → mentions (Fit kind width (g ∷ [])) ≡ mentions g
 fit_mentions kind width g = mentions-Fit kind width (g ∷ []) ∙ append-nil (mentions g)
@@ -39,14 +39,14 @@ fit_shape table kind width g s h e =
 
 pub fits_itself : (s : Source) → IsFitted s s
 fits_itself s = record {
-  value = λ table sight e h. sym (refit (value s.expr sight) s.kind s.width (shapes_hold table sight h s.expr (told s) e));
+  value = λ table instant e h. sym (refit (value s.expr instant) s.kind s.width (shapes_hold table instant h s.expr (told s) e));
   shape = λ table e. e;
   mentions = refl;
 }
 
 pub fits_anew : (source fit : Source) → fit.expr ≡ Fit fit.kind fit.width (source.expr ∷ []) → IsFitted source fit
 fits_anew source fit is = record {
-  value = λ table sight e h. ap (λ g. value g sight) is ∙ fit_value fit.kind fit.width source.expr sight;
+  value = λ table instant e h. ap (λ g. value g instant) is ∙ fit_value fit.kind fit.width source.expr instant;
   shape = λ table e. ap (λ g. shape g table) is ∙ fit_shape table fit.kind fit.width source.expr (told source) fit.narrow e;
   mentions = ap mentions is ∙ fit_mentions fit.kind fit.width source.expr;
 }
@@ -58,8 +58,8 @@ pub plain_leaf : (picks : List Pick) (number : ℕ) (leaf : TypeLeaf) (s : Sourc
 plain_leaf picks number leaf s none kind width r = record {
   kind = kind;
   width = width;
-  value = λ table sight h i leaves.
-      sym (refit (value s.expr sight) s.kind s.width (shapes_hold table sight h s.expr (told s) (has table i leaves))) ∙ ap (fitted s.kind s.width) (r.value sight);
+  value = λ table instant h i leaves.
+      sym (refit (value s.expr instant) s.kind s.width (shapes_hold table instant h s.expr (told s) (has table i leaves))) ∙ ap (fitted s.kind s.width) (r.value instant);
   shape = has;
   only = r.only;
   indices = r.indices;
@@ -74,7 +74,7 @@ pub fitted_leaf : (picks : List Pick) (number : ℕ) (leaf : TypeLeaf) (g : Grou
 fitted_leaf picks number leaf g s is kind width r = record {
   kind = kind;
   width = width;
-  value = λ table sight h i leaves. ap (λ x. value x sight) is ∙ (fit_value s.kind s.width g sight ∙ ap (fitted s.kind s.width) (r.value sight));
+  value = λ table instant h i leaves. ap (λ x. value x instant) is ∙ (fit_value s.kind s.width g instant ∙ ap (fitted s.kind s.width) (r.value instant));
   shape = λ table i leaves. ap (λ x. shape x table) is ∙ fit_shape table s.kind s.width g (if is_nowhere picks then shaped Unsigned 0 else told s) s.narrow (r.shape table (told s) i leaves);
   only = λ x c. r.only x (subst (λ l. Contains l x) same c);
   indices = λ x c. subst (λ l. Contains l x) (sym same) (r.indices x c);

@@ -20,7 +20,7 @@ use Rattle.fir_tree.specs.declared.expr.Suffix.{Suffix}
 use Rattle.fir_tree.specs.declared.expr.Suffix.TheVariants as suffix
 use Rattle.fir_tree.specs.declared.expr.Form.TheOpen.{Form-F}
 use Rattle.cycle_values.specs.Values.{lone}
-use Rattle.ground_net.specs.Grounds.{Sight, value, mentions}
+use Rattle.ground_net.specs.Grounds.{Instant, value, mentions}
 use Rattle.net_meaning.specs.Shapes.{Shape, shape, is_unsigned}
 use Rattle.fir_meaning.specs.Components.{Leaf}
 use Rattle.fir_meaning.specs.WellTyped as kinds
@@ -60,7 +60,7 @@ reference_lowers entries name ss typ part sources l all = record {
   typed = ap (option_map (λ t. map leaf_shape (leaves t))) l.typed ∙ ap Some (told_shapes typ part sources l.narrow all);
   are = λ n types k.
       let region : Region = follow_all types name.id (map suffix_onward ss) in
-      let spot : Sight → Spot = λ sight. follow (scene_seen types n sight) name.id (map suffix_step ss) in
+      let spot : Instant → Spot = λ instant. follow (scene_seen types n instant) name.id (map suffix_step ss) in
       let p : IsPart n region spot typ part = l.leads n types k in
       let i = l.indices n types k in
       record {
@@ -97,13 +97,13 @@ leads_more entries name ss k s typ inner part after h is l t = record {
   narrow = t.narrow l.narrow;
   leads = λ n types k2.
       let region : Region = follow_all types name (map suffix_onward (take k ss)) in
-      let spot : Sight → Spot = λ sight. follow (scene_seen types n sight) name (map suffix_step (take k ss)) in
-      let next : IsPart n (suffix_onward s types region) (λ sight. suffix_step s (scene_seen types n sight) (spot sight)) inner after = t.goes n types k2 region spot (l.leads n types k2) in
-      part_told n (suffix_onward s types region) (follow_all types name (map suffix_onward (take (k + 1) ss))) (λ sight. suffix_step s (scene_seen types n sight) (spot sight))
-      (λ sight. follow (scene_seen types n sight) name (map suffix_step (take (k + 1) ss))) inner after
+      let spot : Instant → Spot = λ instant. follow (scene_seen types n instant) name (map suffix_step (take k ss)) in
+      let next : IsPart n (suffix_onward s types region) (λ instant. suffix_step s (scene_seen types n instant) (spot instant)) inner after = t.goes n types k2 region spot (l.leads n types k2) in
+      part_told n (suffix_onward s types region) (follow_all types name (map suffix_onward (take (k + 1) ss))) (λ instant. suffix_step s (scene_seen types n instant) (spot instant))
+      (λ instant. follow (scene_seen types n instant) name (map suffix_step (take (k + 1) ss))) inner after
       (sym (ap (follow_all types name) (steps_more suffix_onward ss k s h is) ∙ fold-append (λ r go. go types r) (whole_region types name) (map suffix_onward (take k ss)) (suffix_onward s ∷ [])))
-      (λ sight. sym (ap (follow (scene_seen types n sight) name) (steps_more suffix_step ss k s h is)
-      ∙ fold-append (λ at go. go (scene_seen types n sight) at) (whole (scene_seen types n sight) name) (map suffix_step (take k ss)) (suffix_step s ∷ [])))
+      (λ instant. sym (ap (follow (scene_seen types n instant) name) (steps_more suffix_step ss k s h is)
+      ∙ fold-append (λ at go. go (scene_seen types n instant) at) (whole (scene_seen types n instant) name) (map suffix_step (take k ss)) (suffix_step s ∷ [])))
       next;
   indices = λ n types k2. t.indices n types k2 (l.indices n types k2);
 }
@@ -150,10 +150,10 @@ steps_field entries s name typ inner part after is found m = record {
   typed = ap (λ f. f (known_of entries) typ) (typed-Field s name is) ∙ found;
   narrow = m.inside.narrow;
   goes = λ n types k region spot p.
-      part_told n (record region { typ = inner; ways = behind_each region.ways (step.Field name.id) }) (suffix_onward s types region) (λ sight. part_of (spot sight) inner (Some (step.Field name.id)))
-      (λ sight. suffix_step s (scene_seen types n sight) (spot sight)) inner after
+      part_told n (record region { typ = inner; ways = behind_each region.ways (step.Field name.id) }) (suffix_onward s types region) (λ instant. part_of (spot instant) inner (Some (step.Field name.id)))
+      (λ instant. suffix_step s (scene_seen types n instant) (spot instant)) inner after
       (ap (λ t. record region { typ = t; ways = behind_each region.ways (step.Field name.id) }) (sym (field_is region.typ p.region_type)) ∙ ap (λ f. f types region) (sym (onward-Field s name is)))
-      (λ sight. ap (λ t. part_of (spot sight) t (Some (step.Field name.id))) (sym (field_is (spot sight).typ (p.spot_type sight))) ∙ ap (λ f. f (scene_seen types n sight) (spot sight)) (sym (value-Field s name is)))
+      (λ instant. ap (λ t. part_of (spot instant) t (Some (step.Field name.id))) (sym (field_is (spot instant).typ (p.spot_type instant))) ∙ ap (λ f. f (scene_seen types n instant) (spot instant)) (sym (value-Field s name is)))
       (part_inside n region spot typ part after (step.Field name.id) inner m.before p m.inside m.first m.picks);
   indices = λ n types k h. ap (are_indices n.table) m.picks ∙ h;
 }
@@ -167,10 +167,10 @@ steps_at entries s a b k typ inner part after is within found m = record {
   typed = ap (λ f. f (known_of entries) typ) (typed-At s a b k is) ∙ (ap (λ t. if t then element_of_shape (out-Shape typ.shape) else None) (below k (vector_length typ) within) ∙ found);
   narrow = m.inside.narrow;
   goes = λ n types known region spot p.
-      part_told n (record region { typ = inner; ways = behind_each region.ways (step.Element k) }) (suffix_onward s types region) (λ sight. part_of (spot sight) inner (Some (step.Element k)))
-      (λ sight. suffix_step s (scene_seen types n sight) (spot sight)) inner after
+      part_told n (record region { typ = inner; ways = behind_each region.ways (step.Element k) }) (suffix_onward s types region) (λ instant. part_of (spot instant) inner (Some (step.Element k)))
+      (λ instant. suffix_step s (scene_seen types n instant) (spot instant)) inner after
       (ap (λ t. record region { typ = t; ways = behind_each region.ways (step.Element k) }) (sym (element_is region.typ p.region_type)) ∙ ap (λ f. f types region) (sym (onward-At s a b k is)))
-      (λ sight. ap (λ t. part_of (spot sight) t (Some (step.Element k))) (sym (element_is (spot sight).typ (p.spot_type sight))) ∙ ap (λ f. f (scene_seen types n sight) (spot sight)) (sym (value-At s a b k is)))
+      (λ instant. ap (λ t. part_of (spot instant) t (Some (step.Element k))) (sym (element_is (spot instant).typ (p.spot_type instant))) ∙ ap (λ f. f (scene_seen types n instant) (spot instant)) (sym (value-At s a b k is)))
       (part_inside n region spot typ part after (step.Element k) inner m.before p m.inside m.first m.picks);
   indices = λ n types known h. ap (are_indices n.table) m.picks ∙ h;
 }
@@ -203,14 +203,14 @@ steps_index entries s a e typ inner part after source pick is one low found leng
   goes = λ n types k region spot p.
       let at = low.are n types k in
       part_told n (record region { typ = inner; ways = elements_behind region.ways pick.length; dynamic = true; indices = region.indices ++ joined (reads.mentions e types) }) (suffix_onward s types region)
-      (λ sight. part_of (spot sight) inner (element_step pick.length (integer_of (lone (tree.value e (scene_seen types n sight))))))
-      (λ sight. suffix_step s (scene_seen types n sight) (spot sight)) inner after
+      (λ instant. part_of (spot instant) inner (element_step pick.length (integer_of (lone (tree.value e (scene_seen types n instant))))))
+      (λ instant. suffix_step s (scene_seen types n instant) (spot instant)) inner after
       (ap₂ (λ t l. record region { typ = t; ways = elements_behind region.ways l; dynamic = true; indices = region.indices ++ joined (reads.mentions e types) })
       (sym (element_is region.typ p.region_type)) (length ∙ ap vector_length (sym p.region_type)) ∙ ap (λ f. f types region) (sym (onward-Index s a e is)))
-      (λ sight. ap₂ (λ t l. part_of (spot sight) t (element_step l (integer_of (lone (tree.value e (scene_seen types n sight))))))
-      (sym (element_is (spot sight).typ (p.spot_type sight))) (length ∙ ap vector_length (sym (p.spot_type sight))) ∙ ap (λ f. f (scene_seen types n sight) (spot sight)) (sym (value-Index s a e is)))
-      (part_indexed n region spot typ part after pick inner (λ sight. integer_of (lone (tree.value e (scene_seen types n sight)))) (joined (reads.mentions e types)) p inside (thin p.narrow)
-      (λ sight h. ap (λ g. integer_of (value g sight)) index ∙ ap (λ vs. integer_of (lone vs)) (at.values sight h))
+      (λ instant. ap₂ (λ t l. part_of (spot instant) t (element_step l (integer_of (lone (tree.value e (scene_seen types n instant))))))
+      (sym (element_is (spot instant).typ (p.spot_type instant))) (length ∙ ap vector_length (sym (p.spot_type instant))) ∙ ap (λ f. f (scene_seen types n instant) (spot instant)) (sym (value-Index s a e is)))
+      (part_indexed n region spot typ part after pick inner (λ instant. integer_of (lone (tree.value e (scene_seen types n instant)))) (joined (reads.mentions e types)) p inside (thin p.narrow)
+      (λ instant h. ap (λ g. integer_of (value g instant)) index ∙ ap (λ vs. integer_of (lone vs)) (at.values instant h))
       (subst (λ g. SameLeaves n (joined (reads.mentions e types)) (mentions g)) (sym index) (joined_one n (reads.mentions e types) source at.reads)) first picks);
   indices = λ n types k h.
       let at = low.are n types k in

@@ -10,7 +10,7 @@ use Rattle.fir_tree.specs.declared.expr.Expr.{Expr}
 use Rattle.fir_tree.specs.declared.expr.Form.TheOpen.{Form-F}
 use Rattle.cycle_values.specs.Values.{fitted, lone, is_one}
 use Rattle.ground_net.specs.declared.ground.Ground.{Ground}
-use Rattle.ground_net.specs.Grounds.{Sight, value, mentions, chosen}
+use Rattle.ground_net.specs.Grounds.{Instant, value, mentions, chosen}
 use Rattle.ground_net.proofs.Layers.{value-Mux, mentions-Mux}
 use Rattle.net_meaning.specs.Shapes.{Shape, shaped, Table, HasShapes, shape, same_kind, is_unsigned, all_of, shape_of_choice}
 use Rattle.net_meaning.proofs.Shaping.{shape-Mux, shapes_hold, and_then, if_some}
@@ -58,25 +58,25 @@ chosen_told condition (f ∷ fs) (t ∷ ts) (s ∷ ss) us c e =
 
 -- values
 
-chosen_value : (condition : Ground) (table : Table) (sight : Sight) (f t s : Source) → HasShapes table sight → shape f.expr table ≡ Some (told f) → shape t.expr table ≡ Some (told t) → IsChosen condition f t s
-    → value s.expr sight ≡ one_of_two (is_one (value condition sight)) (value f.expr sight) (value t.expr sight)
-chosen_value condition table sight f t s h a b c =
-    ap (λ g. value g sight) c.expr ∙ (value-Mux (condition ∷ c.one.expr ∷ c.other.expr ∷ []) sight ∙ (by (is_one (value condition sight))
-    ∙ ap₂ (λ k w. fitted k w (integer_of (if is_one (value condition sight) then value f.expr sight else value t.expr sight)))
+chosen_value : (condition : Ground) (table : Table) (instant : Instant) (f t s : Source) → HasShapes table instant → shape f.expr table ≡ Some (told f) → shape t.expr table ≡ Some (told t) → IsChosen condition f t s
+    → value s.expr instant ≡ one_of_two (is_one (value condition instant)) (value f.expr instant) (value t.expr instant)
+chosen_value condition table instant f t s h a b c =
+    ap (λ g. value g instant) c.expr ∙ (value-Mux (condition ∷ c.one.expr ∷ c.other.expr ∷ []) instant ∙ (by (is_one (value condition instant))
+    ∙ ap₂ (λ k w. fitted k w (integer_of (if is_one (value condition instant) then value f.expr instant else value t.expr instant)))
     (c.kind ∙ sym first_kind) (c.width ∙ ap₂ (λ p q. max p q) (sym first_width) (sym second_width))))
   where
-    first_kind : (value f.expr sight).kind ≡ f.kind
-    first_kind = ap (λ (x : Shape). x.kind) (shapes_hold table sight h f.expr (told f) a)
+    first_kind : (value f.expr instant).kind ≡ f.kind
+    first_kind = ap (λ (x : Shape). x.kind) (shapes_hold table instant h f.expr (told f) a)
 
-    first_width : (value f.expr sight).width ≡ f.width
-    first_width = ap (λ (x : Shape). x.width) (shapes_hold table sight h f.expr (told f) a)
+    first_width : (value f.expr instant).width ≡ f.width
+    first_width = ap (λ (x : Shape). x.width) (shapes_hold table instant h f.expr (told f) a)
 
-    second_width : (value t.expr sight).width ≡ t.width
-    second_width = ap (λ (x : Shape). x.width) (shapes_hold table sight h t.expr (told t) b)
+    second_width : (value t.expr instant).width ≡ t.width
+    second_width = ap (λ (x : Shape). x.width) (shapes_hold table instant h t.expr (told t) b)
 
-    by : (test : Bool) → (if test then value c.one.expr sight else value c.other.expr sight) ≡ fitted s.kind s.width (integer_of (if test then value f.expr sight else value t.expr sight))
-    by true = c.one_fits.value table sight a h ∙ ap₂ (λ k w. fitted k w (integer_of (value f.expr sight))) c.one_kind c.one_width
-    by false = c.other_fits.value table sight b h ∙ ap₂ (λ k w. fitted k w (integer_of (value t.expr sight))) c.other_kind c.other_width
+    by : (test : Bool) → (if test then value c.one.expr instant else value c.other.expr instant) ≡ fitted s.kind s.width (integer_of (if test then value f.expr instant else value t.expr instant))
+    by true = c.one_fits.value table instant a h ∙ ap₂ (λ k w. fitted k w (integer_of (value f.expr instant))) c.one_kind c.one_width
+    by false = c.other_fits.value table instant b h ∙ ap₂ (λ k w. fitted k w (integer_of (value t.expr instant))) c.other_kind c.other_width
 
 tail_same : {A : Type 0} {x y : A} {xs ys : List A} → (x ∷ xs) ≡ (y ∷ ys) → xs ≡ ys
 tail_same e = cc
@@ -84,15 +84,15 @@ tail_same e = cc
 abbrev Shaped_all : Table → List Source → Type 0
 Shaped_all table ss = map (λ (s : Source). shape s.expr table) ss ≡ map (λ (s : Source). Some (told s)) ss
 
-pub chosen_values : (condition : Ground) (table : Table) (sight : Sight) (firsts seconds sources : List Source) → HasShapes table sight → Shaped_all table firsts → Shaped_all table seconds → AreChosen condition firsts seconds sources
-    → source_values sources sight ≡ map (λ both. one_of_two (is_one (value condition sight)) both.0 both.1) (zip (source_values firsts sight) (source_values seconds sight))
-chosen_values condition table sight [] ts [] h a b c = refl
-chosen_values condition table sight [] ts (s ∷ ss) h a b c = absurd c
-chosen_values condition table sight (f ∷ fs) [] [] h a b c = refl
-chosen_values condition table sight (f ∷ fs) [] (s ∷ ss) h a b c = absurd c
-chosen_values condition table sight (f ∷ fs) (t ∷ ts) [] h a b c = absurd c
-chosen_values condition table sight (f ∷ fs) (t ∷ ts) (s ∷ ss) h a b c =
-    ap₂ (λ v vs. v ∷ vs) (chosen_value condition table sight f t s h (head_same a) (head_same b) c.0) (chosen_values condition table sight fs ts ss h (tail_same a) (tail_same b) c.1)
+pub chosen_values : (condition : Ground) (table : Table) (instant : Instant) (firsts seconds sources : List Source) → HasShapes table instant → Shaped_all table firsts → Shaped_all table seconds → AreChosen condition firsts seconds sources
+    → source_values sources instant ≡ map (λ both. one_of_two (is_one (value condition instant)) both.0 both.1) (zip (source_values firsts instant) (source_values seconds instant))
+chosen_values condition table instant [] ts [] h a b c = refl
+chosen_values condition table instant [] ts (s ∷ ss) h a b c = absurd c
+chosen_values condition table instant (f ∷ fs) [] [] h a b c = refl
+chosen_values condition table instant (f ∷ fs) [] (s ∷ ss) h a b c = absurd c
+chosen_values condition table instant (f ∷ fs) (t ∷ ts) [] h a b c = absurd c
+chosen_values condition table instant (f ∷ fs) (t ∷ ts) (s ∷ ss) h a b c =
+    ap₂ (λ v vs. v ∷ vs) (chosen_value condition table instant f t s h (head_same a) (head_same b) c.0) (chosen_values condition table instant fs ts ss h (tail_same a) (tail_same b) c.1)
 
 -- shapes
 
@@ -187,10 +187,10 @@ choice_lowers entries es a b c condition own firsts seconds sources is h one la0
           let wb = lb.are n types k in
           let wc = lc.are n types k in
           record {
-            values = λ sight s.
-                chosen_values condition.expr n.table sight firsts seconds sources s wb.shapes wc.shapes ch
-                ∙ (ap (λ t. map (λ both. one_of_two t both.0 both.1) (zip (source_values firsts sight) (source_values seconds sight))) (ap is_one (ap lone (wa.values sight s)))
-                ∙ ap₂ (λ p q. map (λ both. one_of_two (tree.is_one (tree.value a (scene_seen types n sight))) both.0 both.1) (zip p q)) (wb.values sight s) (wc.values sight s));
+            values = λ instant s.
+                chosen_values condition.expr n.table instant firsts seconds sources s wb.shapes wc.shapes ch
+                ∙ (ap (λ t. map (λ both. one_of_two t both.0 both.1) (zip (source_values firsts instant) (source_values seconds instant))) (ap is_one (ap lone (wa.values instant s)))
+                ∙ ap₂ (λ p q. map (λ both. one_of_two (tree.is_one (tree.value a (scene_seen types n instant))) both.0 both.1) (zip p q)) (wb.values instant s) (wc.values instant s));
             shapes = chosen_shapes_hold condition.expr (told condition) n.table firsts seconds sources (head_same wa.shapes) (ap is_one_unsigned (sym la.typed) ∙ asked.0) wb.shapes wc.shapes ch;
             reads = chosen_reads n condition.expr (joined (reads.mentions a types)) (reads.mentions b types) (reads.mentions c types) firsts seconds sources (joined_one n (reads.mentions a types) condition wa.reads) wb.reads wc.reads ch;
           };

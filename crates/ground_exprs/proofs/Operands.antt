@@ -11,7 +11,7 @@ use Rattle.fir_tree.specs.declared.expr.Form.TheVariants as form
 use Rattle.fir_tree.specs.declared.expr.Form.TheOpen.{Form-F}
 use Rattle.cycle_values.specs.Values.{lone, operation}
 use Rattle.ground_net.specs.declared.ground.Ground.TheVariants.{Op}
-use Rattle.ground_net.specs.Grounds.{Sight, value, mentions, chosen}
+use Rattle.ground_net.specs.Grounds.{Instant, value, mentions, chosen}
 use Rattle.ground_net.specs.Grounds as nets
 use Rattle.ground_net.proofs.Layers.{all_mentions, maps, value-Op, mentions-Op}
 use Rattle.net_meaning.specs.Shapes.{Shape, Table, HasShapes, shape, all_of, shape_of_row}
@@ -56,10 +56,10 @@ module _ (entries : Entries) (es : List Expr) (sources : List Source) (all : Are
   operand_kinds : map (λ e. lone_shape (typed e (known_of entries))) es ≡ map (λ s. Some (told s)) sources
   operand_kinds = maps_same (λ e. lone_shape (typed e (known_of entries))) (λ s. Some (told s)) es sources all.counted (λ j e s a b. ap lone_shape (all.each j e s a b).typed)
 
-  operand_values : (n : Numbering) (types : Scope) (sight : Sight) → Knows n types entries → HasShapes n.table sight
-      → map (λ e. lone (tree.value e (scene_seen types n sight))) es ≡ source_values sources sight
-  operand_values n types sight k h = maps_same (λ e. lone (tree.value e (scene_seen types n sight))) (λ (s : Source). value s.expr sight) es sources all.counted
-      (λ j e s a b. sym (ap lone (((all.each j e s a b).are n types k).values sight h)))
+  operand_values : (n : Numbering) (types : Scope) (instant : Instant) → Knows n types entries → HasShapes n.table instant
+      → map (λ e. lone (tree.value e (scene_seen types n instant))) es ≡ source_values sources instant
+  operand_values n types instant k h = maps_same (λ e. lone (tree.value e (scene_seen types n instant))) (λ (s : Source). value s.expr instant) es sources all.counted
+      (λ j e s a b. sym (ap lone (((all.each j e s a b).are n types k).values instant h)))
 
   operand_shapes : (n : Numbering) (types : Scope) → Knows n types entries → (j : ℕ) (s : Source) → slice_get sources j ≡ Some s → shape s.expr n.table ≡ Some (told s)
   operand_shapes n types k j s b =
@@ -112,10 +112,10 @@ operation_lowers entries e prim es params sources s is all expr row = lowers_as 
     (record {
       typed = ap (option_map (λ s. s ∷ [])) (row_asked entries prim es params sources all ∙ row);
       are = λ n types k. record {
-        values = λ sight h.
-            ap (λ v. v ∷ []) (ap (λ g. value g sight) expr ∙ (value-Op prim (map (λ (o : Source). o.expr) sources) params sight
-            ∙ ap (λ vs. operation prim vs params) (maps (λ g. value g sight) (λ (o : Source). o.expr) sources ∙ (sym (operand_values entries es sources all n types sight k h)
-            ∙ sym (maps (λ o. lone (o (scene_seen types n sight))) tree.value es)))));
+        values = λ instant h.
+            ap (λ v. v ∷ []) (ap (λ g. value g instant) expr ∙ (value-Op prim (map (λ (o : Source). o.expr) sources) params instant
+            ∙ ap (λ vs. operation prim vs params) (maps (λ g. value g instant) (λ (o : Source). o.expr) sources ∙ (sym (operand_values entries es sources all n types instant k h)
+            ∙ sym (maps (λ o. lone (o (scene_seen types n instant))) tree.value es)))));
         shapes = ap (λ o. o ∷ []) (ap (λ g. shape g n.table) expr ∙ (shape-Op prim (map (λ (o : Source). o.expr) sources) params n.table
             ∙ (ap (λ os. option_and_then (shape_of_row prim params) (all_of os)) (maps (λ g. shape g n.table) (λ (o : Source). o.expr) sources ∙ shapes_told n.table sources (operand_shapes entries es sources all n types k))
             ∙ (ap (option_and_then (shape_of_row prim params)) (all_told sources) ∙ row))));

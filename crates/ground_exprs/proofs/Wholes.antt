@@ -10,7 +10,7 @@ use Rattle.fir_types.specs.declared.leaf.TypeLeaf.{TypeLeaf}
 use Rattle.fir_types.specs.declared.leaf.PathStep.{PathStep}
 use Rattle.fir_types.specs.Leaves.{leaves}
 use Rattle.cycle_values.specs.Values.{fitted}
-use Rattle.ground_net.specs.Grounds.{Sight, value, mentions}
+use Rattle.ground_net.specs.Grounds.{Instant, value, mentions}
 use Rattle.net_meaning.specs.Shapes.{shaped, HasShapes, shape}
 use Rattle.net_meaning.specs.Cycles.{integer_at}
 use Rattle.net_meaning.proofs.Shaping.{both_true}
@@ -75,7 +75,7 @@ told_shapes typ part sources thin all = maps_same leaf_shape told (leaves typ) s
     let at = all.each j leaf s e f in
     sym (ap₂ (λ k w. shaped k w) at.kind (at.width ∙ min_is (width_of_leaf leaf) (narrow_leaf typ j leaf thin e))))
 
-module _ (n : Numbering) (types : ℕ → FirType) (region : Region) (spot : Sight → Spot) (typ : FirType) (part : Part) (sources : List Source)
+module _ (n : Numbering) (types : ℕ → FirType) (region : Region) (spot : Instant → Spot) (typ : FirType) (part : Part) (sources : List Source)
     (p : IsPart n region spot typ part) (i : are_indices n.table part.picks ≡ true) (all : AreOfPart typ part sources) where
   told_is : (j : ℕ) (leaf : TypeLeaf) (s : Source) → slice_get (leaves typ) j ≡ Some leaf → slice_get sources j ≡ Some s → told s ≡ leaf_shape leaf
   told_is j leaf s e f =
@@ -101,29 +101,29 @@ module _ (n : Numbering) (types : ℕ → FirType) (region : Region) (spot : Sig
       each [] h = refl
       each (s ∷ ss) h = ap₂ (λ a more. a ∷ more) (h 0 s refl) (each ss (λ j. h (suc j)))
 
-  pub part_values : (sight : Sight) → HasShapes n.table sight → source_values sources sight ≡ values_at (scene_seen types n sight) (spot sight) (spot sight).way
-  part_values sight h = by_way (spot sight).way (picked sight part.picks part.first) refl (p.reaches sight h)
+  pub part_values : (instant : Instant) → HasShapes n.table instant → source_values sources instant ≡ values_at (scene_seen types n instant) (spot instant) (spot instant).way
+  part_values instant h = by_way (spot instant).way (picked instant part.picks part.first) refl (p.reaches instant h)
     where
-      by_way : (o : Option (List PathStep)) (q : Option ℕ) → picked sight part.picks part.first ≡ q → Reaches n region.component typ o q
-          → source_values sources sight ≡ values_at (scene_seen types n sight) (spot sight) o
-      by_way None None e r = sym (maps_same (λ leaf. fitted_to leaf (Rattle.std.proofs.Common.pos 0)) (λ (s : Source). value s.expr sight) (leaves (spot sight).typ) sources
-          (all.counted ∙ ap (λ t. length (leaves t)) (sym (p.spot_type sight)))
+      by_way : (o : Option (List PathStep)) (q : Option ℕ) → picked instant part.picks part.first ≡ q → Reaches n region.component typ o q
+          → source_values sources instant ≡ values_at (scene_seen types n instant) (spot instant) o
+      by_way None None e r = sym (maps_same (λ leaf. fitted_to leaf (Rattle.std.proofs.Common.pos 0)) (λ (s : Source). value s.expr instant) (leaves (spot instant).typ) sources
+          (all.counted ∙ ap (λ t. length (leaves t)) (sym (p.spot_type instant)))
           (λ j leaf s f g.
-          let f2 = ap (λ t. slice_get (leaves t) j) (sym (p.spot_type sight)) ∙ f in
+          let f2 = ap (λ t. slice_get (leaves t) j) (sym (p.spot_type instant)) ∙ f in
           let at = all.each j leaf s f2 g in
-          let none : picked sight part.picks (part.first + j) ≡ None = picked_moved sight part.picks part.first j ∙ ap (option_map (λ x. x + j)) e in
-          sym (at.value n.table sight h i (in_table j leaf s f2 g) ∙ (ap (λ o. fitted s.kind s.width (integer_at sight o)) none
+          let none : picked instant part.picks (part.first + j) ≡ None = picked_moved instant part.picks part.first j ∙ ap (option_map (λ x. x + j)) e in
+          sym (at.value n.table instant h i (in_table j leaf s f2 g) ∙ (ap (λ o. fitted s.kind s.width (integer_at instant o)) none
           ∙ ap₂ (λ k w. fitted k w (Rattle.std.proofs.Common.pos 0)) at.kind (at.width ∙ min_is (width_of_leaf leaf) (narrow_leaf typ j leaf p.narrow f2))))))
-      by_way (Some way) (Some first) e r = sym (maps_same (λ leaf. fitted_to leaf ((scene_seen types n sight).integers (spot sight).component (way ++ leaf.path))) (λ (s : Source). value s.expr sight)
-          (leaves (spot sight).typ) sources (all.counted ∙ ap (λ t. length (leaves t)) (sym (p.spot_type sight)))
+      by_way (Some way) (Some first) e r = sym (maps_same (λ leaf. fitted_to leaf ((scene_seen types n instant).integers (spot instant).component (way ++ leaf.path))) (λ (s : Source). value s.expr instant)
+          (leaves (spot instant).typ) sources (all.counted ∙ ap (λ t. length (leaves t)) (sym (p.spot_type instant)))
           (λ j leaf s f g.
-          let f2 = ap (λ t. slice_get (leaves t) j) (sym (p.spot_type sight)) ∙ f in
+          let f2 = ap (λ t. slice_get (leaves t) j) (sym (p.spot_type instant)) ∙ f in
           let at = all.each j leaf s f2 g in
-          let some : picked sight part.picks (part.first + j) ≡ Some (first + j) = picked_moved sight part.picks part.first j ∙ ap (option_map (λ x. x + j)) e in
-          let seen : n.number (record { component = (spot sight).component; way = way ++ leaf.path }) ≡ Some (first + j)
-          = ap (λ c. n.number (record { component = c; way = way ++ leaf.path })) (p.component sight) ∙ r.numbers j leaf f2 in
-          sym (at.value n.table sight h i (in_table j leaf s f2 g) ∙ (ap (λ o. fitted s.kind s.width (integer_at sight o)) (some ∙ sym seen)
-          ∙ ap₂ (λ k w. fitted k w (integer_at sight (n.number (record { component = (spot sight).component; way = way ++ leaf.path })))) at.kind
+          let some : picked instant part.picks (part.first + j) ≡ Some (first + j) = picked_moved instant part.picks part.first j ∙ ap (option_map (λ x. x + j)) e in
+          let seen : n.number (record { component = (spot instant).component; way = way ++ leaf.path }) ≡ Some (first + j)
+          = ap (λ c. n.number (record { component = c; way = way ++ leaf.path })) (p.component instant) ∙ r.numbers j leaf f2 in
+          sym (at.value n.table instant h i (in_table j leaf s f2 g) ∙ (ap (λ o. fitted s.kind s.width (integer_at instant o)) (some ∙ sym seen)
+          ∙ ap₂ (λ k w. fitted k w (integer_at instant (n.number (record { component = (spot instant).component; way = way ++ leaf.path })))) at.kind
           (at.width ∙ min_is (width_of_leaf leaf) (narrow_leaf typ j leaf p.narrow f2))))))
       by_way (Some way) None e r = absurd r
       by_way None (Some first) e r = absurd r

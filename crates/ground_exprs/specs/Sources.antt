@@ -9,7 +9,7 @@ use Rattle.fir_types.specs.Leaves.{leaves}
 use Rattle.fir_tree.specs.declared.expr.Expr.{Expr}
 use Rattle.fir_tree.specs.declared.expr.Suffix.{Suffix}
 use Rattle.cycle_values.specs.Values.{fitted}
-use Rattle.ground_net.specs.Grounds.{Sight, value, mentions}
+use Rattle.ground_net.specs.Grounds.{Instant, value, mentions}
 use Rattle.net_meaning.specs.Shapes.{Shape, shaped, Table, HasShapes, shape}
 use Rattle.net_meaning.specs.Cycles.{integer_at}
 use Rattle.fir_meaning.specs.Components.{Leaf, kind_of_leaf, width_of_leaf}
@@ -48,8 +48,8 @@ pub record Knows (n : Numbering) (types : Scope) (entries : Entries) : Type 0 wh
   pub numbers : (name : ℕ) (c : Component) → lookup (nat_eq name) entries ≡ Some c → StandsAt n name c.typ [] c.first
 
 -- the values of sources
-abbrev pub source_values : List Source → Sight → List Value
-source_values sources sight = map (λ s. value s.expr sight) sources
+abbrev pub source_values : List Source → Instant → List Value
+source_values sources instant = map (λ s. value s.expr instant) sources
 
 -- Source by source, what is mentioned is the leaves of the list at its place, both ways.
 abbrev pub ReadEach : Numbering → List (List Leaf) → List Source → Type 0
@@ -57,16 +57,16 @@ ReadEach n [] [] = Unit {0}
 ReadEach n (m ∷ ms) (s ∷ ss) = SameLeaves n m (mentions s.expr) × ReadEach n ms ss
 ReadEach n _ _ = ⊥
 
--- The sources have these values at each sight that is in range, the kinds and widths that they say, and mention these leaves.
-pub record AreSources (n : Numbering) (has : Sight → List Value) (mentioned : List (List Leaf)) (sources : List Source) : Type 0 where
-  pub values : (sight : Sight) → HasShapes n.table sight → source_values sources sight ≡ has sight
+-- The sources have these values at each instant that is in range, the kinds and widths that they say, and mention these leaves.
+pub record AreSources (n : Numbering) (has : Instant → List Value) (mentioned : List (List Leaf)) (sources : List Source) : Type 0 where
+  pub values : (instant : Instant) → HasShapes n.table instant → source_values sources instant ≡ has instant
   pub shapes : map (λ s. shape s.expr n.table) sources ≡ map (λ s. Some (told s)) sources
   pub reads : ReadEach n mentioned sources
 
 -- The sources of what has these kinds and widths, these values in a scene and these mentions, wherever the components stand.
 pub record Lowers (entries : Entries) (kinds : Option (List Shape)) (has : tree.Scene → List Value) (mentioned : Scope → List (List Leaf)) (sources : List Source) : Type 0 where
   pub typed : kinds ≡ Some (map told sources)
-  pub are : (n : Numbering) (types : Scope) → Knows n types entries → AreSources n (λ sight. has (scene_seen types n sight)) (mentioned types) sources
+  pub are : (n : Numbering) (types : Scope) → Knows n types entries → AreSources n (λ instant. has (scene_seen types n instant)) (mentioned types) sources
 
 -- The sources of an expression, leaf by leaf.
 abbrev pub IsLowered : Entries → Expr → List Source → Type 0
@@ -85,8 +85,8 @@ pub record AreOperands (entries : Entries) (es : List Expr) (count : ℕ) (sourc
 pub record Steps (entries : Entries) (s : Suffix) (typ : FirType) (part : Part) (inner : FirType) (after : Part) : Type 0 where
   pub typed : typed_step s (known_of entries) typ ≡ Some inner
   pub narrow : is_narrow typ ≡ true → is_narrow inner ≡ true
-  pub goes : (n : Numbering) (types : Scope) → Knows n types entries → (region : tree_reads.Region) (spot : Sight → tree.Spot) → IsPart n region spot typ part
-      → IsPart n (tree_reads.suffix_onward s types region) (λ sight. tree.suffix_step s (scene_seen types n sight) (spot sight)) inner after
+  pub goes : (n : Numbering) (types : Scope) → Knows n types entries → (region : tree_reads.Region) (spot : Instant → tree.Spot) → IsPart n region spot typ part
+      → IsPart n (tree_reads.suffix_onward s types region) (λ instant. tree.suffix_step s (scene_seen types n instant) (spot instant)) inner after
   pub indices : (n : Numbering) (types : Scope) → Knows n types entries → are_indices n.table part.picks ≡ true → are_indices n.table after.picks ≡ true
 
 -- So many steps of a reference lead to a part.
@@ -94,13 +94,13 @@ pub record Leads (entries : Entries) (name : ℕ) (suffixes : List Suffix) (typ 
   pub typed : type_behind (known_of entries) (map typed_step suffixes) (known_of entries name) ≡ Some typ
   pub narrow : is_narrow typ ≡ true
   pub leads : (n : Numbering) (types : Scope) → Knows n types entries
-      → IsPart n (tree_reads.follow_all types name (map tree_reads.suffix_onward suffixes)) (λ sight. tree.follow (scene_seen types n sight) name (map tree.suffix_step suffixes)) typ part
+      → IsPart n (tree_reads.follow_all types name (map tree_reads.suffix_onward suffixes)) (λ instant. tree.follow (scene_seen types n instant) name (map tree.suffix_step suffixes)) typ part
   pub indices : (n : Numbering) (types : Scope) → Knows n types entries → are_indices n.table part.picks ≡ true
 
 -- A source fitted to a kind and a width.
 pub record IsFitted (source fit : Source) : Type 0 where
-  pub value : (table : Table) (sight : Sight) → shape source.expr table ≡ Some (told source) → HasShapes table sight
-      → value fit.expr sight ≡ fitted fit.kind fit.width (integer_of (value source.expr sight))
+  pub value : (table : Table) (instant : Instant) → shape source.expr table ≡ Some (told source) → HasShapes table instant
+      → value fit.expr instant ≡ fitted fit.kind fit.width (integer_of (value source.expr instant))
   pub shape : (table : Table) → shape source.expr table ≡ Some (told source) → shape fit.expr table ≡ Some (told fit)
   pub mentions : mentions fit.expr ≡ mentions source.expr
 
@@ -108,8 +108,8 @@ pub record IsFitted (source fit : Source) : Type 0 where
 pub record IsOfLeaf (picks : List Pick) (number : ℕ) (leaf : TypeLeaf) (s : Source) : Type 0 where
   pub kind : s.kind ≡ kind_of_leaf leaf
   pub width : s.width ≡ min (width_of_leaf leaf) 128
-  pub value : (table : Table) (sight : Sight) → HasShapes table sight → are_indices table picks ≡ true → ((x : ℕ) → Contains (choices picks number) x → table.leaf x ≡ Some (told s))
-      → value s.expr sight ≡ fitted s.kind s.width (integer_at sight (picked sight picks number))
+  pub value : (table : Table) (instant : Instant) → HasShapes table instant → are_indices table picks ≡ true → ((x : ℕ) → Contains (choices picks number) x → table.leaf x ≡ Some (told s))
+      → value s.expr instant ≡ fitted s.kind s.width (integer_at instant (picked instant picks number))
   pub shape : (table : Table) → are_indices table picks ≡ true → ((x : ℕ) → Contains (choices picks number) x → table.leaf x ≡ Some (told s)) → shape s.expr table ≡ Some (told s)
   pub only : (x : ℕ) → Contains (mentions s.expr) x → Contains (index_mentions picks) x ⊎ Contains (choices picks number) x
   pub indices : (x : ℕ) → Contains (index_mentions picks) x → Contains (mentions s.expr) x

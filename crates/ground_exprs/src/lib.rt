@@ -1,5 +1,5 @@
 //! Expressions over components, leaf by leaf, as expressions over numbered leaves. Keeps the contract that each leaf's expression has, at
-//! every sight in range, the value of that leaf, its kind and width, and mentions the same leaves.
+//! every instant in range, the value of that leaf, its kind and width, and mentions the same leaves.
 #![tactic(auto)]
 
 pub mod choice;

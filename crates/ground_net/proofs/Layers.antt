@@ -14,7 +14,7 @@ use Rattle.cycle_values.specs.Values.{fitted, lone, operation}
 use Rattle.ground_net.specs.declared.ground.Ground.{Ground, ind-Ground, roll-Ground, map-Ground, the_lemmas}
 use Rattle.ground_net.specs.declared.ground.Ground.TheVariants.{Const, Leaf, Op, Mux, Select, Load, Fit, rolls-Const, rolls-Leaf, rolls-Op, rolls-Mux, rolls-Select, rolls-Load, rolls-Fit}
 use Rattle.ground_net.specs.declared.ground.Ground.TheOpen.{Ground-F}
-use Rattle.ground_net.specs.Grounds.{Sight, value, mentions, joined, chosen, selected, loaded}
+use Rattle.ground_net.specs.Grounds.{Instant, value, mentions, joined, chosen, selected, loaded}
 use Rattle.ground_net.specs.Renumbering.{with_numbers, seen_by}
 
 module _ (P : Ground → Type 0) (constant : (v : Value) → P (Const v)) (leaf : (x : ℕ) → P (Leaf x))
@@ -44,29 +44,29 @@ maps g h [] = refl
 maps g h (x ∷ xs) = ap (λ zs. g (h x) ∷ zs) (maps g h xs)
 
 -- the values of some expressions
-abbrev pub values : List Ground → Sight → List Value
-values items sight = map (λ g. value g sight) items
+abbrev pub values : List Ground → Instant → List Value
+values items instant = map (λ g. value g instant) items
 
-pub value-Const : (v : Value) (sight : Sight) → value (Const v) sight ≡ v
-value-Const v sight = grind (arith, common_steps, the_lemmas)
+pub value-Const : (v : Value) (instant : Instant) → value (Const v) instant ≡ v
+value-Const v instant = grind (arith, common_steps, the_lemmas)
 
-pub value-Leaf : (x : ℕ) (sight : Sight) → value (Leaf x) sight ≡ sight.leaf x
-value-Leaf x sight = grind (arith, common_steps, the_lemmas)
+pub value-Leaf : (x : ℕ) (instant : Instant) → value (Leaf x) instant ≡ instant.leaf x
+value-Leaf x instant = grind (arith, common_steps, the_lemmas)
 
-pub value-Op : (prim : PrimOp) (operands : List Ground) (params : List ℕ) (sight : Sight) → value (Op prim operands params) sight ≡ operation prim (values operands sight) params
-value-Op prim operands params sight = grind (arith, common_steps, the_lemmas, maps)
+pub value-Op : (prim : PrimOp) (operands : List Ground) (params : List ℕ) (instant : Instant) → value (Op prim operands params) instant ≡ operation prim (values operands instant) params
+value-Op prim operands params instant = grind (arith, common_steps, the_lemmas, maps)
 
-pub value-Mux : (items : List Ground) (sight : Sight) → value (Mux items) sight ≡ chosen (values items sight)
-value-Mux items sight = grind (arith, common_steps, the_lemmas, maps)
+pub value-Mux : (items : List Ground) (instant : Instant) → value (Mux items) instant ≡ chosen (values items instant)
+value-Mux items instant = grind (arith, common_steps, the_lemmas, maps)
 
-pub value-Select : (index items : List Ground) (sight : Sight) → value (Select index items) sight ≡ selected (integer_of (lone (values index sight))) (values items sight)
-value-Select index items sight = grind (arith, common_steps, the_lemmas, maps)
+pub value-Select : (index items : List Ground) (instant : Instant) → value (Select index items) instant ≡ selected (integer_of (lone (values index instant))) (values items instant)
+value-Select index items instant = grind (arith, common_steps, the_lemmas, maps)
 
-pub value-Load : (m k : ℕ) (items : List Ground) (sight : Sight) → value (Load m k items) sight ≡ loaded (sight.load m k) (values items sight)
-value-Load m k items sight = grind (arith, common_steps, the_lemmas, maps)
+pub value-Load : (m k : ℕ) (items : List Ground) (instant : Instant) → value (Load m k items) instant ≡ loaded (instant.load m k) (values items instant)
+value-Load m k items instant = grind (arith, common_steps, the_lemmas, maps)
 
-pub value-Fit : (kind : Kind) (width : ℕ) (items : List Ground) (sight : Sight) → value (Fit kind width items) sight ≡ fitted kind width (integer_of (lone (values items sight)))
-value-Fit kind width items sight = grind (arith, common_steps, the_lemmas, maps)
+pub value-Fit : (kind : Kind) (width : ℕ) (items : List Ground) (instant : Instant) → value (Fit kind width items) instant ≡ fitted kind width (integer_of (lone (values items instant)))
+value-Fit kind width items instant = grind (arith, common_steps, the_lemmas, maps)
 
 -- what some expressions mention
 abbrev pub all_mentions : List Ground → List ℕ
@@ -119,29 +119,29 @@ renumbered-Load number m k items = grind (arith, common_steps, the_lemmas, maps)
 renumbered-Fit : (number : ℕ → ℕ) (kind : Kind) (width : ℕ) (items : List Ground) → with_numbers number (Fit kind width items) ≡ Fit kind width (all_renumbered number items)
 renumbered-Fit number kind width items = grind (arith, common_steps, the_lemmas, maps)
 
-module _ (number : ℕ → ℕ) (sight : Sight) where
+module _ (number : ℕ → ℕ) (instant : Instant) where
   abbrev Same : Ground → Type 0
-  Same g = value (with_numbers number g) sight ≡ value g (seen_by number sight)
+  Same g = value (with_numbers number g) instant ≡ value g (seen_by number instant)
 
-  values_same : (gs : List Ground) → AllByRecursion Same gs → values (all_renumbered number gs) sight ≡ values gs (seen_by number sight)
+  values_same : (gs : List Ground) → AllByRecursion Same gs → values (all_renumbered number gs) instant ≡ values gs (seen_by number instant)
   values_same [] h = refl
   values_same (g ∷ gs) h = ap₂ (λ v vs. v ∷ vs) h.0 (values_same gs h.1)
 
   -- an expression with other numbers has the value that is seen by them
-  pub renumbered_value : (g : Ground) → value (with_numbers number g) sight ≡ value g (seen_by number sight)
+  pub renumbered_value : (g : Ground) → value (with_numbers number g) instant ≡ value g (seen_by number instant)
   renumbered_value = ground_induction Same
-      (λ v. ap (λ g. value g sight) (renumbered-Const number v) ∙ value-Const v sight ∙ sym (value-Const v (seen_by number sight)))
-      (λ x. ap (λ g. value g sight) (renumbered-Leaf number x) ∙ value-Leaf (number x) sight ∙ sym (value-Leaf x (seen_by number sight)))
-      (λ prim gs params h. ap (λ g. value g sight) (renumbered-Op number prim gs params) ∙ (value-Op prim (all_renumbered number gs) params sight
-      ∙ (ap (λ vs. operation prim vs params) (values_same gs h) ∙ sym (value-Op prim gs params (seen_by number sight)))))
-      (λ gs h. ap (λ g. value g sight) (renumbered-Mux number gs) ∙ (value-Mux (all_renumbered number gs) sight
-      ∙ (ap chosen (values_same gs h) ∙ sym (value-Mux gs (seen_by number sight)))))
-      (λ is gs i h. ap (λ g. value g sight) (renumbered-Select number is gs) ∙ (value-Select (all_renumbered number is) (all_renumbered number gs) sight
-      ∙ (ap₂ (λ us vs. selected (integer_of (lone us)) vs) (values_same is i) (values_same gs h) ∙ sym (value-Select is gs (seen_by number sight)))))
-      (λ m k gs h. ap (λ g. value g sight) (renumbered-Load number m k gs) ∙ (value-Load m k (all_renumbered number gs) sight
-      ∙ (ap (loaded (sight.load m k)) (values_same gs h) ∙ sym (value-Load m k gs (seen_by number sight)))))
-      (λ kind width gs h. ap (λ g. value g sight) (renumbered-Fit number kind width gs) ∙ (value-Fit kind width (all_renumbered number gs) sight
-      ∙ (ap (λ vs. fitted kind width (integer_of (lone vs))) (values_same gs h) ∙ sym (value-Fit kind width gs (seen_by number sight)))))
+      (λ v. ap (λ g. value g instant) (renumbered-Const number v) ∙ value-Const v instant ∙ sym (value-Const v (seen_by number instant)))
+      (λ x. ap (λ g. value g instant) (renumbered-Leaf number x) ∙ value-Leaf (number x) instant ∙ sym (value-Leaf x (seen_by number instant)))
+      (λ prim gs params h. ap (λ g. value g instant) (renumbered-Op number prim gs params) ∙ (value-Op prim (all_renumbered number gs) params instant
+      ∙ (ap (λ vs. operation prim vs params) (values_same gs h) ∙ sym (value-Op prim gs params (seen_by number instant)))))
+      (λ gs h. ap (λ g. value g instant) (renumbered-Mux number gs) ∙ (value-Mux (all_renumbered number gs) instant
+      ∙ (ap chosen (values_same gs h) ∙ sym (value-Mux gs (seen_by number instant)))))
+      (λ is gs i h. ap (λ g. value g instant) (renumbered-Select number is gs) ∙ (value-Select (all_renumbered number is) (all_renumbered number gs) instant
+      ∙ (ap₂ (λ us vs. selected (integer_of (lone us)) vs) (values_same is i) (values_same gs h) ∙ sym (value-Select is gs (seen_by number instant)))))
+      (λ m k gs h. ap (λ g. value g instant) (renumbered-Load number m k gs) ∙ (value-Load m k (all_renumbered number gs) instant
+      ∙ (ap (loaded (instant.load m k)) (values_same gs h) ∙ sym (value-Load m k gs (seen_by number instant)))))
+      (λ kind width gs h. ap (λ g. value g instant) (renumbered-Fit number kind width gs) ∙ (value-Fit kind width (all_renumbered number gs) instant
+      ∙ (ap (λ vs. fitted kind width (integer_of (lone vs))) (values_same gs h) ∙ sym (value-Fit kind width gs (seen_by number instant)))))
 
 module _ (number : ℕ → ℕ) where
   abbrev Told : Ground → Type 0
@@ -166,20 +166,20 @@ module _ (number : ℕ → ℕ) where
 -- Agreement
 
 -- what a memory holds is seen alike
-abbrev pub SameLoads : Sight → Sight → Type 0
+abbrev pub SameLoads : Instant → Instant → Type 0
 SameLoads a b = (m k : ℕ) (address : Value) → a.load m k address ≡ b.load m k address
 
 -- these leaves are seen alike
-abbrev pub SameOn : Sight → Sight → List ℕ → Type 0
+abbrev pub SameOn : Instant → Instant → List ℕ → Type 0
 SameOn a b leaves = (y : ℕ) → Contains leaves y → a.leaf y ≡ b.leaf y
 
-same_left : (a b : Sight) (xs ys : List ℕ) → SameOn a b (xs ++ ys) → SameOn a b xs
+same_left : (a b : Instant) (xs ys : List ℕ) → SameOn a b (xs ++ ys) → SameOn a b xs
 same_left a b xs ys h = λ y c. h y (Contains-append_left xs ys y c)
 
-same_right : (a b : Sight) (xs ys : List ℕ) → SameOn a b (xs ++ ys) → SameOn a b ys
+same_right : (a b : Instant) (xs ys : List ℕ) → SameOn a b (xs ++ ys) → SameOn a b ys
 same_right a b xs ys h = λ y c. h y (Contains-append_right xs ys y c)
 
-module _ (a b : Sight) (loads : SameLoads a b) where
+module _ (a b : Instant) (loads : SameLoads a b) where
   abbrev Agrees : Ground → Type 0
   Agrees g = SameOn a b (mentions g) → value g a ≡ value g b
 

@@ -7,12 +7,12 @@ use Rattle.ground_net.specs.declared.ground.Ground.TheOpen.{Ground-F}
 use Rattle.cycle_values.specs.Values.{fitted, lone, is_one, operation}
 
 -- What is seen in a cycle: the value of each leaf, and of each leaf of each element of each memory, by its address.
-pub record Sight : Type 0 where
+pub record Instant : Type 0 where
   pub leaf : ℕ → Value
   pub load : ℕ → ℕ → Value → Value
 
-abbrev pub InSight : Type 0
-InSight = Sight → Value
+abbrev pub InInstant : Type 0
+InInstant = Instant → Value
 
 -- The value behind the first condition that is 1, else the last item.
 abbrev pub chosen : List Value → Value
@@ -35,18 +35,18 @@ abbrev pub loaded : (Value → Value) → List Value → Value
 loaded element (address ∷ condition ∷ rest) = if is_one condition then element address else fitted (element address).kind (element address).width (pos 0)
 loaded element _ = lone []
 
-abbrev pub of_layer : Ground-F InSight → InSight
-of_layer (Ground-F.Const v) sight = v
-of_layer (Ground-F.Leaf x) sight = sight.leaf x
-of_layer (Ground-F.Op prim operands params) sight = operation prim (map (λ g. g sight) operands) params
-of_layer (Ground-F.Mux items) sight = chosen (map (λ g. g sight) items)
-of_layer (Ground-F.Select index items) sight = selected (integer_of (lone (map (λ g. g sight) index))) (map (λ g. g sight) items)
-of_layer (Ground-F.Load memory leaf items) sight = loaded (sight.load memory leaf) (map (λ g. g sight) items)
-of_layer (Ground-F.Fit kind width items) sight = fitted kind width (integer_of (lone (map (λ g. g sight) items)))
+abbrev pub of_layer : Ground-F InInstant → InInstant
+of_layer (Ground-F.Const v) instant = v
+of_layer (Ground-F.Leaf x) instant = instant.leaf x
+of_layer (Ground-F.Op prim operands params) instant = operation prim (map (λ g. g instant) operands) params
+of_layer (Ground-F.Mux items) instant = chosen (map (λ g. g instant) items)
+of_layer (Ground-F.Select index items) instant = selected (integer_of (lone (map (λ g. g instant) index))) (map (λ g. g instant) items)
+of_layer (Ground-F.Load memory leaf items) instant = loaded (instant.load memory leaf) (map (λ g. g instant) items)
+of_layer (Ground-F.Fit kind width items) instant = fitted kind width (integer_of (lone (map (λ g. g instant) items)))
 
 -- The value of a ground expression.
-abbrev pub value : Ground → Sight → Value
-value = fold-Ground InSight of_layer
+abbrev pub value : Ground → Instant → Value
+value = fold-Ground InInstant of_layer
 
 -- all of the lists, one after the other
 abbrev pub joined : List (List ℕ) → List ℕ

@@ -3,7 +3,7 @@ use Rattle.std.specs.Prelude.{ℕ}
 use Rattle.ground_net.specs.declared.ground.Ground.{Ground, fold-Ground}
 use Rattle.ground_net.specs.declared.ground.Ground.TheOpen.{Ground-F}
 use Rattle.ground_net.specs.declared.ground.Ground.TheViews.{roll-Ground}
-use Rattle.ground_net.specs.Grounds.{Sight}
+use Rattle.ground_net.specs.Grounds.{Instant}
 
 -- A leaf gets its new number, and all else stays.
 abbrev pub renamed_layer : (ℕ → ℕ) → Ground-F Ground → Ground
@@ -15,5 +15,5 @@ abbrev pub with_numbers : (ℕ → ℕ) → Ground → Ground
 with_numbers number = fold-Ground Ground (renamed_layer number)
 
 -- What is seen of a cycle where each leaf is looked for under its new number.
-abbrev pub seen_by : (ℕ → ℕ) → Sight → Sight
-seen_by number sight = record { leaf = λ x. sight.leaf (number x); load = sight.load }
+abbrev pub seen_by : (ℕ → ℕ) → Instant → Instant
+seen_by number instant = record { leaf = λ x. instant.leaf (number x); load = instant.load }

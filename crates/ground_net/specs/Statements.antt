@@ -11,7 +11,7 @@ use Rattle.ground_net.specs.declared.ground.Ground.{Ground}
 use Rattle.ground_net.specs.declared.circuit.GroundStmt.{GroundStmt, fold-GroundStmt}
 use Rattle.ground_net.specs.declared.circuit.GroundStmt.TheOpen.{GroundStmt-F, GroundArm-F}
 use Rattle.cycle_values.specs.Values.{is_one}
-use Rattle.ground_net.specs.Grounds.{Sight, value, mentions, joined}
+use Rattle.ground_net.specs.Grounds.{Instant, value, mentions, joined}
 
 -- What a statement makes of the value that was set before it.
 abbrev pub Effect : Type 0
@@ -32,18 +32,18 @@ abbrev pub all_arms : List (Bool × Effect) → Effect → Effect
 all_arms arms other last = other (in_turn (map (λ arm. arm.1) arms) last)
 
 -- all of the conditions hold
-abbrev pub all_hold : Sight → List Ground → Bool
-all_hold sight = list_all (λ g. is_one (value g sight))
+abbrev pub all_hold : Instant → List Ground → Bool
+all_hold instant = list_all (λ g. is_one (value g instant))
 
-module _ (sight : Sight) (leaf : ℕ) where
+module _ (instant : Instant) (leaf : ℕ) where
   abbrev pub of_stmt : GroundStmt-F Effect (Bool × Effect) → Effect
   of_stmt (GroundStmt-F.Connect target conditions source) last =
-      if (target == leaf) && all_hold sight conditions then Some (value source sight) else last
+      if (target == leaf) && all_hold instant conditions then Some (value source instant) else last
   of_stmt (GroundStmt-F.When first arms other) last =
       if nat_lt leaf first then first_holding arms (in_turn other) last else all_arms arms (in_turn other) last
 
   abbrev pub of_arm : GroundArm-F Effect (Bool × Effect) → Bool × Effect
-  of_arm a = (is_one (value a.condition sight), in_turn a.body)
+  of_arm a = (is_one (value a.condition instant), in_turn a.body)
 
   -- What a statement leaves in the leaf.
   abbrev pub effect : GroundStmt → Effect

@@ -1,7 +1,7 @@
 //! Expressions with other numbers for their leaves.
 
 ghost use Rattle.std.specs.Prelude.{◌≡◌, map, slice_index, IfOk};
-ghost use Rattle.ground_net.specs.Grounds.{Sight, value, mentions};
+ghost use Rattle.ground_net.specs.Grounds.{Instant, value, mentions};
 ghost use Rattle.ground_net.specs.Renumbering.{with_numbers, seen_by};
 
 use crate::Ground;
@@ -11,7 +11,7 @@ use std::alloc::{AllocError, Global};
 /// The expression with the number that stands for each leaf in this list. A leaf without one gets the number 0.
 pub fn renumbered(alloc: Global, ground: &Ground, numbers: &[u32]) -> Result<Ground, AllocError>
     ensures itself { IfOk result (λ it. it ≡ with_numbers (slice_index numbers.now) ground.now) }
-    ensures value { IfOk result (λ it. (sight : Sight) → value it sight ≡ value ground.now (seen_by (slice_index numbers.now) sight)) }
+    ensures value { IfOk result (λ it. (instant : Instant) → value it instant ≡ value ground.now (seen_by (slice_index numbers.now) instant)) }
     ensures mentions { IfOk result (λ it. mentions it ≡ map (slice_index numbers.now) (mentions ground.now)) }
 {
     let it = renumber(alloc, ground, numbers)?;

@@ -1,6 +1,6 @@
 -- What it is to be the ground statements of a circuit.
 --
--- Of each leaf of a module, and at every sight in range, the ground statements leave what the statements of its component's block do,
+-- Of each leaf of a module, and at every instant in range, the ground statements leave what the statements of its component's block do,
 -- and they read the same leaves.
 use Rattle.std.specs.Prelude.{◌≡◌, ℕ, true, false, not, ◌==◌, List, [], ◌∷◌, map, length, slice_get, sum_by, take, Option, Some, None, option_map, if◌then◌else◌}
 use Rattle.bit_words.specs.declared.value.Kind.TheVariants.{Unsigned}
@@ -42,7 +42,7 @@ use Rattle.ground_net.specs.declared.net.NetPort.{NetPort}
 use Rattle.ground_net.specs.declared.net.NetWrite.{NetWrite}
 use Rattle.ground_net.specs.declared.net.NetRead.{NetRead}
 use Rattle.ground_net.specs.declared.net.ElementLeaf.{ElementLeaf}
-use Rattle.ground_net.specs.Grounds.{Sight, value, mentions, joined}
+use Rattle.ground_net.specs.Grounds.{Instant, value, mentions, joined}
 use Rattle.ground_net.specs.Statements.{drives, live}
 use Rattle.net_meaning.specs.Shapes.{Table, HasShapes, shape, shaped}
 use Rattle.net_meaning.specs.StatementShapes.{is_shaped}
@@ -59,12 +59,12 @@ pub record IsGroundLeaf (texts : Texts) (y : ModuleLeaf) (leaf : GroundLeaf) : T
 
 -- Registers
 
--- The reset and the `init` of a register's leaf: at every sight in range the reset holds where the register's does, and `init` is what a
+-- The reset and the `init` of a register's leaf: at every instant in range the reset holds where the register's does, and `init` is what a
 -- reset sets in the leaf; they read the same leaves.
 pub record IsReset (m : TypedModule) (table : Table) (y : ModuleLeaf) (reset init : Expr) (r : NetReset) : Type 0 where
-  pub holds : (sight : Sight) → HasShapes table sight → is_one_value (value r.reset sight) ≡ tree.is_one (tree.value reset (scene_at m sight))
-  pub taken : (sight : Sight) → HasShapes table sight
-      → left_in (leaf_of y.0 y.1) None (set_at false (Some (whole (scene_at m sight) y.0.declaration.name)) (tree.value init (scene_at m sight))) ≡ Some (integer_of (value r.init sight))
+  pub holds : (instant : Instant) → HasShapes table instant → is_one_value (value r.reset instant) ≡ tree.is_one (tree.value reset (scene_at m instant))
+  pub taken : (instant : Instant) → HasShapes table instant
+      → left_in (leaf_of y.0 y.1) None (set_at false (Some (whole (scene_at m instant) y.0.declaration.name)) (tree.value init (scene_at m instant))) ≡ Some (integer_of (value r.init instant))
   pub reset_reads : SameReads m (tree_reads.joined (tree_reads.mentions reset (type_in m))) (mentions r.reset)
   pub init_reads : SameReads m (tree_reads.joined (driven_from false (leaf_of y.0 y.1) (tree_reads.mentions init (type_in m)) (Some (whole_region (type_in m) y.0.declaration.name)))) (mentions r.init)
   pub reset_shape : (w : ℕ) × (shape r.reset table ≡ Some (shaped Unsigned w))
@@ -129,14 +129,14 @@ pub record IsGroundModule (texts : Texts) (circuit : Circuit) (m : TypedModule) 
   pub ports : g.ports ≡ sum_by (λ c. if is_port c.declaration.sort then length (leaves c.typ) else 0) m.components
   pub leaves_are : (x : ℕ) (y : ModuleLeaf) (leaf : GroundLeaf) → slice_get (module_leaves m) x ≡ Some y → slice_get g.leaves x ≡ Some leaf → IsGroundLeaf texts y leaf
   -- what the statements of a leaf's block leave in it, and what they read
-  pub values : (x : ℕ) (y : ModuleLeaf) (sight : Sight) → slice_get (module_leaves m) x ≡ Some y → is_set y ≡ true → HasShapes (table_of g.leaves) sight
-      → option_map integer_of (drives sight x g.body) ≡ tree_drives.drives (scene_at m sight) (leaf_of y.0 y.1) y.0.declaration.block
+  pub values : (x : ℕ) (y : ModuleLeaf) (instant : Instant) → slice_get (module_leaves m) x ≡ Some y → is_set y ≡ true → HasShapes (table_of g.leaves) instant
+      → option_map integer_of (drives instant x g.body) ≡ tree_drives.drives (scene_at m instant) (leaf_of y.0 y.1) y.0.declaration.block
   pub reads : (x : ℕ) (y : ModuleLeaf) → slice_get (module_leaves m) x ≡ Some y → is_set y ≡ true
       → SameReads m (tree_reads.joined (tree_loops.live (type_in m) (leaf_of y.0 y.1) y.0.declaration.block)) (joined (live x g.body))
   -- the value of a node's expression, and what it mentions
-  pub nodes : (x : ℕ) (y : ModuleLeaf) (e : Expr) (k : ℕ) (sight : Sight) → slice_get (module_leaves m) x ≡ Some y → y.0.declaration.sort ≡ A_node e → is_clock y.1 ≡ false
-      → slice_get (leaves y.0.typ) k ≡ Some y.1 → HasShapes (table_of g.leaves) sight
-      → option_map integer_of (drives sight x g.body) ≡ slice_get (map integer_of (tree.value e (scene_at m sight))) k
+  pub nodes : (x : ℕ) (y : ModuleLeaf) (e : Expr) (k : ℕ) (instant : Instant) → slice_get (module_leaves m) x ≡ Some y → y.0.declaration.sort ≡ A_node e → is_clock y.1 ≡ false
+      → slice_get (leaves y.0.typ) k ≡ Some y.1 → HasShapes (table_of g.leaves) instant
+      → option_map integer_of (drives instant x g.body) ≡ slice_get (map integer_of (tree.value e (scene_at m instant))) k
   pub node_reads : (x : ℕ) (y : ModuleLeaf) (e : Expr) (k : ℕ) (mentioned : List Leaf) → slice_get (module_leaves m) x ≡ Some y → y.0.declaration.sort ≡ A_node e → is_clock y.1 ≡ false
       → slice_get (leaves y.0.typ) k ≡ Some y.1 → slice_get (tree_reads.mentions e (type_in m)) k ≡ Some mentioned → SameReads m mentioned (joined (live x g.body))
   -- sources have the kinds and widths of what they set, and conditions are UInts

@@ -1,4 +1,4 @@
--- The leaves of a module numbered in text order, and what a sight of numbered leaves shows of the module.
+-- The leaves of a module numbered in text order, and what an instant of numbered leaves shows of the module.
 use Rattle.std.specs.Prelude.{◌≡◌, ℕ, ◌&&◌, not, Bool, List, map, filter_map, flat_map, take, length, position, slice_get, sum_by, Contains, Option, Some, None, option_map, if◌then◌else◌}
 use Rattle.fir_types.specs.declared.leaf.TypeLeaf.{TypeLeaf}
 use Rattle.fir_types.specs.declared.memory.Memory.{Memory}
@@ -10,7 +10,7 @@ use Rattle.fir_meaning.specs.States.{is_port, is_register, is_source, leaf_of}
 use Rattle.ground_net.specs.declared.circuit.GroundLeaf.{GroundLeaf}
 use Rattle.ground_net.specs.declared.circuit.GroundRole.{GroundRole}
 use Rattle.ground_net.specs.declared.circuit.GroundRole.TheVariants.{Input, Clock, Register, Plain}
-use Rattle.ground_net.specs.Grounds.{Sight}
+use Rattle.ground_net.specs.Grounds.{Instant}
 use Rattle.ground_net.specs.Cones.{numbered}
 use Rattle.net_meaning.specs.Shapes.{Shape, Table, shaped}
 use Rattle.net_meaning.specs.Cycles.{integer_at}
@@ -30,9 +30,9 @@ module_leaves m = flat_map leaves_of m.components
 abbrev pub number_of : TypedModule → Leaf → Option ℕ
 number_of m leaf = position (λ y. same_leaf (leaf_of y.0 y.1) leaf) (module_leaves m)
 
--- What a sight of numbered leaves shows of the module: 0 where there is no such leaf.
-abbrev pub scene_at : TypedModule → Sight → Scene
-scene_at m sight = scene_with (type_in m) (λ c way. integer_at sight (number_of m (record { component = c; way = way })))
+-- What an instant of numbered leaves shows of the module: 0 where there is no such leaf.
+abbrev pub scene_at : TypedModule → Instant → Scene
+scene_at m instant = scene_with (type_in m) (λ c way. integer_at instant (number_of m (record { component = c; way = way })))
 
 -- What a leaf of a module is.
 abbrev pub role_of : ModuleLeaf → GroundRole

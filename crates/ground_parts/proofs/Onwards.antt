@@ -10,7 +10,7 @@ use Rattle.fir_types.specs.declared.fir_type.FirType.{FirType}
 use Rattle.fir_types.specs.declared.leaf.PathStep.{PathStep}
 use Rattle.fir_types.specs.declared.leaf.PathStep.TheVariants as step
 use Rattle.fir_types.specs.Leaves.{under}
-use Rattle.ground_net.specs.Grounds.{Sight, value, mentions}
+use Rattle.ground_net.specs.Grounds.{Instant, value, mentions}
 use Rattle.net_meaning.specs.Shapes.{HasShapes}
 use Rattle.fir_meaning.specs.Components.{Leaf}
 use Rattle.fir_meaning.specs.Values.{Spot, part_of, further, element_step}
@@ -79,11 +79,11 @@ moved_from : (length before : ℕ) (f g : ℕ → Option ℕ) (i : ℤ) → ((k 
 moved_from length before f g (pos k) h = by_test (nat_lt k length) before (f k) (g k) (h k)
 moved_from length before f g (negsuc k) h = refl
 
-pub picked_moved : (sight : Sight) (picks : List Pick) (first before : ℕ) → picked sight picks (first + before) ≡ option_map (λ x. x + before) (picked sight picks first)
-picked_moved sight [] first before = refl
-picked_moved sight (pick ∷ picks) first before =
-    moved_from pick.length before (λ k. picked sight picks (first + before + k * pick.stride)) (λ k. picked sight picks (first + k * pick.stride)) (integer_of (value pick.index sight))
-    (λ k. ap (picked sight picks) (swap first before (k * pick.stride)) ∙ picked_moved sight picks (first + k * pick.stride) before)
+pub picked_moved : (instant : Instant) (picks : List Pick) (first before : ℕ) → picked instant picks (first + before) ≡ option_map (λ x. x + before) (picked instant picks first)
+picked_moved instant [] first before = refl
+picked_moved instant (pick ∷ picks) first before =
+    moved_from pick.length before (λ k. picked instant picks (first + before + k * pick.stride)) (λ k. picked instant picks (first + k * pick.stride)) (integer_of (value pick.index instant))
+    (λ k. ap (picked instant picks) (swap first before (k * pick.stride)) ∙ picked_moved instant picks (first + k * pick.stride) before)
 
 pub choice_moved : (picks : List Pick) (first before x : ℕ) → Contains (choices picks first) x → Contains (choices picks (first + before)) (x + before)
 choice_moved [] first before x c = subst (λ y. Contains ((first + before) ∷ []) (y + before)) (only_one first x c) (the_one (first + before))
@@ -101,17 +101,17 @@ choice_back (pick ∷ picks) first before y c =
 
 -- A part of a part
 
-pub part_inside : (n : Numbering) (region : Region) (spot : Sight → Spot) (typ : FirType) (part after : Part) (next : PathStep) (inner : FirType) (before : ℕ)
+pub part_inside : (n : Numbering) (region : Region) (spot : Instant → Spot) (typ : FirType) (part after : Part) (next : PathStep) (inner : FirType) (before : ℕ)
     → IsPart n region spot typ part → IsInside typ next inner before → after.first ≡ part.first + before → after.picks ≡ part.picks
-    → IsPart n (record region { typ = inner; ways = behind_each region.ways next }) (λ sight. part_of (spot sight) inner (Some next)) inner after
+    → IsPart n (record region { typ = inner; ways = behind_each region.ways next }) (λ instant. part_of (spot instant) inner (Some next)) inner after
 part_inside n region spot typ part after next inner before p i first picks = record {
   region_type = refl;
-  spot_type = λ sight. refl;
+  spot_type = λ instant. refl;
   component = p.component;
-  reaches = λ sight h.
-      subst (Reaches n region.component inner (further (spot sight).way (Some next)))
-      (sym (ap₂ (λ ps m. picked sight ps m) picks first ∙ picked_moved sight part.picks part.first before))
-      (reaches_inside n region.component typ next inner before (spot sight).way (picked sight part.picks part.first) i (p.reaches sight h));
+  reaches = λ instant h.
+      subst (Reaches n region.component inner (further (spot instant).way (Some next)))
+      (sym (ap₂ (λ ps m. picked instant ps m) picks first ∙ picked_moved instant part.picks part.first before))
+      (reaches_inside n region.component typ next inner before (spot instant).way (picked instant part.picks part.first) i (p.reaches instant h));
   each = λ x c.
       let back = choice_back part.picks part.first before x (subst (λ ps. Contains (choices ps (part.first + before)) x) picks (subst (λ m. Contains (choices after.picks m) x) first c)) in
       let way = p.each back.0 back.1 in (
@@ -144,12 +144,12 @@ chosen_then length f h g (pos k) e = both (nat_lt k length)
     both false = refl
 chosen_then length f h g (negsuc k) e = refl
 
-pub picked_more : (sight : Sight) (picks : List Pick) (pick : Pick) (first : ℕ)
-    → picked sight (picks ++ pick ∷ []) first ≡ option_and_then (λ x. elements_of pick x (integer_of (value pick.index sight))) (picked sight picks first)
-picked_more sight [] pick first = refl
-picked_more sight (p ∷ ps) pick first =
-    chosen_then p.length (λ k. picked sight (ps ++ pick ∷ []) (first + k * p.stride)) (λ x. elements_of pick x (integer_of (value pick.index sight))) (λ k. picked sight ps (first + k * p.stride))
-    (integer_of (value p.index sight)) (λ k. picked_more sight ps pick (first + k * p.stride))
+pub picked_more : (instant : Instant) (picks : List Pick) (pick : Pick) (first : ℕ)
+    → picked instant (picks ++ pick ∷ []) first ≡ option_and_then (λ x. elements_of pick x (integer_of (value pick.index instant))) (picked instant picks first)
+picked_more instant [] pick first = refl
+picked_more instant (p ∷ ps) pick first =
+    chosen_then p.length (λ k. picked instant (ps ++ pick ∷ []) (first + k * p.stride)) (λ x. elements_of pick x (integer_of (value pick.index instant))) (λ k. picked instant ps (first + k * p.stride))
+    (integer_of (value p.index instant)) (λ k. picked_more instant ps pick (first + k * p.stride))
 
 pub choice_more : (picks : List Pick) (pick : Pick) (first x k : ℕ) → Contains (choices picks first) x → k < pick.length → Contains (choices (picks ++ pick ∷ []) first) (x + k * pick.stride)
 choice_more [] pick first x k c h =
@@ -203,22 +203,22 @@ dynamic_more : (picks : List Pick) (pick : Pick) → true ≡ is_dynamic (picks 
 dynamic_more [] pick = refl
 dynamic_more (p ∷ ps) pick = refl
 
--- The index has this integer at each sight that is in range, and mentions these leaves.
-pub part_indexed : (n : Numbering) (region : Region) (spot : Sight → Spot) (typ : FirType) (part after : Part) (pick : Pick) (inner : FirType) (i : Sight → ℤ) (named : List Leaf)
+-- The index has this integer at each instant that is in range, and mentions these leaves.
+pub part_indexed : (n : Numbering) (region : Region) (spot : Instant → Spot) (typ : FirType) (part after : Part) (pick : Pick) (inner : FirType) (i : Instant → ℤ) (named : List Leaf)
     → IsPart n region spot typ part → ((k : ℕ) → k < pick.length → IsInside typ (step.Element k) inner (k * pick.stride))
-    → is_narrow inner ≡ true → ((sight : Sight) → HasShapes n.table sight → integer_of (value pick.index sight) ≡ i sight) → SameLeaves n named (mentions pick.index)
+    → is_narrow inner ≡ true → ((instant : Instant) → HasShapes n.table instant → integer_of (value pick.index instant) ≡ i instant) → SameLeaves n named (mentions pick.index)
     → after.first ≡ part.first → after.picks ≡ part.picks ++ pick ∷ []
     → IsPart n (record region { typ = inner; ways = elements_behind region.ways pick.length; dynamic = true; indices = region.indices ++ named })
-    (λ sight. part_of (spot sight) inner (element_step pick.length (i sight))) inner after
+    (λ instant. part_of (spot instant) inner (element_step pick.length (i instant))) inner after
 part_indexed n region spot typ part after pick inner i named p inside thin is reads first picks = record {
   region_type = refl;
-  spot_type = λ sight. refl;
+  spot_type = λ instant. refl;
   component = p.component;
-  reaches = λ sight h.
-      subst (Reaches n region.component inner (further (spot sight).way (element_step pick.length (i sight))))
-      (sym (ap₂ (λ ps m. picked sight ps m) picks first ∙ picked_more sight part.picks pick part.first
-      ∙ ap (λ z. option_and_then (λ x. elements_of pick x z) (picked sight part.picks part.first)) (is sight h)))
-      (reaches_element n region.component typ inner pick.length pick.stride (spot sight).way (picked sight part.picks part.first) (i sight) inside (p.reaches sight h));
+  reaches = λ instant h.
+      subst (Reaches n region.component inner (further (spot instant).way (element_step pick.length (i instant))))
+      (sym (ap₂ (λ ps m. picked instant ps m) picks first ∙ picked_more instant part.picks pick part.first
+      ∙ ap (λ z. option_and_then (λ x. elements_of pick x z) (picked instant part.picks part.first)) (is instant h)))
+      (reaches_element n region.component typ inner pick.length pick.stride (spot instant).way (picked instant part.picks part.first) (i instant) inside (p.reaches instant h));
   each = λ x c.
       let less = choice_less part.picks pick part.first x (subst (λ ps. Contains (choices ps part.first) x) picks (subst (λ m. Contains (choices after.picks m) x) first c)) in
       let way = p.each less.0 less.2 in (
@@ -252,12 +252,12 @@ part_indexed n region spot typ part after pick inner i named p inside thin is re
 -- The whole of a component
 
 pub part_whole : (n : Numbering) (types : ℕ → FirType) (c first : ℕ) (typ : FirType) → types c ≡ typ → is_narrow typ ≡ true → StandsAt n c typ [] first
-    → IsPart n (Rattle.fir_meaning.specs.Mentions.whole_region types c) (λ sight. record { component = c; typ = types c; way = Some [] }) typ (record { first = first; picks = [] })
+    → IsPart n (Rattle.fir_meaning.specs.Mentions.whole_region types c) (λ instant. record { component = c; typ = types c; way = Some [] }) typ (record { first = first; picks = [] })
 part_whole n types c first typ e thin s = record {
   region_type = e;
-  spot_type = λ sight. e;
-  component = λ sight. refl;
-  reaches = λ sight h. s;
+  spot_type = λ instant. e;
+  component = λ instant. refl;
+  reaches = λ instant h. s;
   each = λ x k. ([], the_one [], subst (StandsAt n c typ []) (only_one first x k) s);
   all = λ w k. (first, the_one first, subst (λ v. StandsAt n c typ v first) (only_one [] w k) s);
   indices = same_none n;
@@ -266,13 +266,13 @@ part_whole n types c first typ e thin s = record {
 }
 
 -- the same part, told in other words
-pub part_told : (n : Numbering) (region other : Region) (spot shown : Sight → Spot) (typ : FirType) (part : Part) → region ≡ other → ((sight : Sight) → spot sight ≡ shown sight)
+pub part_told : (n : Numbering) (region other : Region) (spot shown : Instant → Spot) (typ : FirType) (part : Part) → region ≡ other → ((instant : Instant) → spot instant ≡ shown instant)
     → IsPart n region spot typ part → IsPart n other shown typ part
 part_told n region other spot shown typ part r s p = subst (λ x. IsPart n x shown typ part) r (record {
   region_type = p.region_type;
-  spot_type = λ sight. ap (λ x. x.typ) (sym (s sight)) ∙ p.spot_type sight;
-  component = λ sight. ap (λ x. x.component) (sym (s sight)) ∙ p.component sight;
-  reaches = λ sight h. subst (λ x. Reaches n region.component typ x.way (picked sight part.picks part.first)) (s sight) (p.reaches sight h);
+  spot_type = λ instant. ap (λ x. x.typ) (sym (s instant)) ∙ p.spot_type instant;
+  component = λ instant. ap (λ x. x.component) (sym (s instant)) ∙ p.component instant;
+  reaches = λ instant h. subst (λ x. Reaches n region.component typ x.way (picked instant part.picks part.first)) (s instant) (p.reaches instant h);
   each = p.each;
   all = p.all;
   indices = p.indices;

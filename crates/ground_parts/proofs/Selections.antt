@@ -14,7 +14,7 @@ use Rattle.bit_words.specs.Values.{integer_of}
 use Rattle.cycle_values.specs.Values.{fitted, lone}
 use Rattle.ground_net.specs.declared.ground.Ground.{Ground}
 use Rattle.ground_net.specs.declared.ground.Ground.TheVariants.{Const, Leaf, Select}
-use Rattle.ground_net.specs.Grounds.{Sight, value, mentions, selected, or_zero}
+use Rattle.ground_net.specs.Grounds.{Instant, value, mentions, selected, or_zero}
 use Rattle.ground_net.proofs.Layers.{values, all_mentions, value-Const, value-Leaf, value-Select, mentions-Const, mentions-Leaf, mentions-Select}
 use Rattle.net_meaning.specs.Shapes.{Shape, shaped, Table, shape, same_shape, same_kind, is_index, all_of, shape_of_items, shape_of_selection}
 use Rattle.net_meaning.specs.Cycles.{integer_at}
@@ -31,7 +31,7 @@ zero_fitted Signed width = let more : 0 < 2 ^ min width 128 = pow_pos (min width
 
 pub read_leaf : (leaf : ℕ) → IsRead [] leaf (Leaf leaf)
 read_leaf leaf = record {
-  value = λ sight. ap integer_of (value-Leaf leaf sight);
+  value = λ instant. ap integer_of (value-Leaf leaf instant);
   only = λ x c. inr (subst (λ l. Contains l x) (mentions-Leaf leaf) c);
   indices = λ x c. absurd (not_in_none x c);
   leaves = λ x c. subst (λ l. Contains l x) (sym (mentions-Leaf leaf)) c;
@@ -126,29 +126,29 @@ integer_or : (vs : List Value) (o : Option Value) (n : ℤ) → ((v : Value) →
 integer_or vs (Some v) n some none = some v refl
 integer_or vs None n some none = zero_fitted (lone vs).kind (lone vs).width ∙ none refl
 
-value_at : (sight : Sight) (items : List Ground) (k : ℕ) (v : Value) → slice_get (values items sight) k ≡ Some v → (g : Ground) × (slice_get items k ≡ Some g) × (v ≡ value g sight)
-value_at sight [] k v e = absurd (none_some e)
-value_at sight (g ∷ gs) zero v e = (g, refl, sym (some_same e))
-value_at sight (g ∷ gs) (suc k) v e = value_at sight gs k v e
+value_at : (instant : Instant) (items : List Ground) (k : ℕ) (v : Value) → slice_get (values items instant) k ≡ Some v → (g : Ground) × (slice_get items k ≡ Some g) × (v ≡ value g instant)
+value_at instant [] k v e = absurd (none_some e)
+value_at instant (g ∷ gs) zero v e = (g, refl, sym (some_same e))
+value_at instant (g ∷ gs) (suc k) v e = value_at instant gs k v e
 
-no_value_at : (sight : Sight) (items : List Ground) (k : ℕ) → slice_get (values items sight) k ≡ None → length items ≤ k
-no_value_at sight [] k e = omega arith
-no_value_at sight (g ∷ gs) zero e = absurd (none_some (sym e))
-no_value_at sight (g ∷ gs) (suc k) e = let rest = no_value_at sight gs k e in omega arith
+no_value_at : (instant : Instant) (items : List Ground) (k : ℕ) → slice_get (values items instant) k ≡ None → length items ≤ k
+no_value_at instant [] k e = omega arith
+no_value_at instant (g ∷ gs) zero e = absurd (none_some (sym e))
+no_value_at instant (g ∷ gs) (suc k) e = let rest = no_value_at instant gs k e in omega arith
 
-module _ (sight : Sight) (rest : List Pick) (leaf stride count : ℕ) (items : List Ground) (reads : AreReads rest leaf stride count items) where
-  picked_item : (i : ℤ) → integer_of (selected i (values items sight)) ≡ integer_at sight (picked_from count (λ k. picked sight rest (leaf + k * stride)) i)
-  picked_item (negsuc n) = zero_fitted (lone (values items sight)).kind (lone (values items sight)).width
-  picked_item (pos n) = integer_or (values items sight) (slice_get (values items sight) n) (integer_at sight (if nat_lt n count then picked sight rest (leaf + n * stride) else None))
+module _ (instant : Instant) (rest : List Pick) (leaf stride count : ℕ) (items : List Ground) (reads : AreReads rest leaf stride count items) where
+  picked_item : (i : ℤ) → integer_of (selected i (values items instant)) ≡ integer_at instant (picked_from count (λ k. picked instant rest (leaf + k * stride)) i)
+  picked_item (negsuc n) = zero_fitted (lone (values items instant)).kind (lone (values items instant)).width
+  picked_item (pos n) = integer_or (values items instant) (slice_get (values items instant) n) (integer_at instant (if nat_lt n count then picked instant rest (leaf + n * stride) else None))
       (λ v e.
-      let at = value_at sight items n v e in
+      let at = value_at instant items n v e in
       let within : n < count = subst (λ c. n < c) reads.counted (place_within items n at.0 at.1) in
       let test : nat_lt n count ≡ true = grind (arith, common_steps, nat_tests, within) in
-      ap integer_of at.2 ∙ (reads.each n at.0 at.1).value sight ∙ ap (λ b. integer_at sight (if b then picked sight rest (leaf + n * stride) else None)) (sym test))
+      ap integer_of at.2 ∙ (reads.each n at.0 at.1).value instant ∙ ap (λ b. integer_at instant (if b then picked instant rest (leaf + n * stride) else None)) (sym test))
       (λ e.
-      let past : count ≤ n = subst (λ c. c ≤ n) reads.counted (no_value_at sight items n e) in
+      let past : count ≤ n = subst (λ c. c ≤ n) reads.counted (no_value_at instant items n e) in
       let test : nat_lt n count ≡ false = grind (arith, common_steps, nat_tests, past) in
-      ap (λ b. integer_at sight (if b then picked sight rest (leaf + n * stride) else None)) (sym test))
+      ap (λ b. integer_at instant (if b then picked instant rest (leaf + n * stride) else None)) (sym test))
 
 some_length : (n : ℕ) → (n ≡ 0 → ⊥) → 0 < n
 some_length zero h = absurd (h refl)
@@ -160,8 +160,8 @@ not_none n h = grind (arith, common_steps, nat_tests)
 pub read_elements : (pick : Pick) (rest : List Pick) (leaf : ℕ) (items : List Ground) → 0 < pick.length → AreReads rest leaf pick.stride pick.length items
     → IsRead (pick ∷ rest) leaf (Select (pick.index ∷ []) items)
 read_elements pick rest leaf items some reads = record {
-  value = λ sight.
-      ap integer_of (value-Select (pick.index ∷ []) items sight) ∙ picked_item sight rest leaf pick.stride pick.length items reads (integer_of (value pick.index sight));
+  value = λ instant.
+      ap integer_of (value-Select (pick.index ∷ []) items instant) ∙ picked_item instant rest leaf pick.stride pick.length items reads (integer_of (value pick.index instant));
   only = λ x c.
       ⊎_elim (λ l. inl (index_here pick rest x l)) (λ r.
       let from = mentions_from items x r in
@@ -196,7 +196,7 @@ read_elements pick rest leaf items some reads = record {
 
 pub nothing_none : (v : Value) → v.kind ≡ Unsigned → v.width ≡ 0 → v.bits ≡ 0 → IsNothing [] (Const v)
 nothing_none v kind width bits = record {
-  value = λ sight. ap integer_of (value-Const v sight) ∙ zero_is v.kind v.width v.bits kind bits;
+  value = λ instant. ap integer_of (value-Const v instant) ∙ zero_is v.kind v.width v.bits kind bits;
   only = λ x c. subst (λ l. Contains l x) (mentions-Const v) c;
   indices = λ x c. absurd (not_in_none x c);
   shape = λ table i. shape-Const v table ∙ ap₂ (λ k w. Some (shaped k w)) kind width;
@@ -212,7 +212,7 @@ lone_item (pos (suc n)) v h = zero_fitted v.kind v.width
 
 pub nothing_more : (pick : Pick) (rest : List Pick) (item : Ground) → IsNothing rest item → IsNothing (pick ∷ rest) (Select (pick.index ∷ []) (item ∷ []))
 nothing_more pick rest item n = record {
-  value = λ sight. ap integer_of (value-Select (pick.index ∷ []) (item ∷ []) sight) ∙ lone_item (integer_of (value pick.index sight)) (value item sight) (n.value sight);
+  value = λ instant. ap integer_of (value-Select (pick.index ∷ []) (item ∷ []) instant) ∙ lone_item (integer_of (value pick.index instant)) (value item instant) (n.value instant);
   only = λ x c.
       ⊎_elim (λ l. index_here pick rest x l) (λ r. index_later pick rest x (n.only x (selects_one item x r))) (select_from pick.index (item ∷ []) x c);
   indices = λ x c.
@@ -234,7 +234,7 @@ pub read_nowhere : (pick : Pick) (rest : List Pick) (leaf : ℕ) (item : Ground)
 read_nowhere pick rest leaf item none n =
     let all = nothing_more pick rest item n in
     record {
-      value = λ sight. all.value sight ∙ ap (integer_at sight) (sym (no_choice pick.length (λ k. picked sight rest (leaf + k * pick.stride)) (integer_of (value pick.index sight)) none));
+      value = λ instant. all.value instant ∙ ap (integer_at instant) (sym (no_choice pick.length (λ k. picked instant rest (leaf + k * pick.stride)) (integer_of (value pick.index instant)) none));
       only = λ x c. inl (all.only x c);
       indices = all.indices;
       leaves = λ x c.
@@ -263,11 +263,11 @@ nowhere_cases : (n : ℕ) (b : Bool) → ((n == 0) || b) ≡ true → (n ≡ 0) 
 nowhere_cases zero b e = inl refl
 nowhere_cases (suc n) b e = inr (ap (λ t. t || b) (sym (not_none (suc n) (omega arith))) ∙ e)
 
-nothing_picked : (sight : Sight) (picks : List Pick) (leaf : ℕ) → is_nowhere picks ≡ true → picked sight picks leaf ≡ None
-nothing_picked sight [] leaf h = absurd (true≢false (sym h))
-nothing_picked sight (pick ∷ rest) leaf h = ⊎_elim
-    (λ e. no_choice pick.length (λ k. picked sight rest (leaf + k * pick.stride)) (integer_of (value pick.index sight)) e)
-    (λ later. picked_nothing pick.length (λ k. picked sight rest (leaf + k * pick.stride)) (integer_of (value pick.index sight)) (λ k. nothing_picked sight rest (leaf + k * pick.stride) later))
+nothing_picked : (instant : Instant) (picks : List Pick) (leaf : ℕ) → is_nowhere picks ≡ true → picked instant picks leaf ≡ None
+nothing_picked instant [] leaf h = absurd (true≢false (sym h))
+nothing_picked instant (pick ∷ rest) leaf h = ⊎_elim
+    (λ e. no_choice pick.length (λ k. picked instant rest (leaf + k * pick.stride)) (integer_of (value pick.index instant)) e)
+    (λ later. picked_nothing pick.length (λ k. picked instant rest (leaf + k * pick.stride)) (integer_of (value pick.index instant)) (λ k. nothing_picked instant rest (leaf + k * pick.stride) later))
     (nowhere_cases pick.length (is_nowhere rest) h)
 
 nothing_chosen : (picks : List Pick) (leaf x : ℕ) → is_nowhere picks ≡ true → Contains (choices picks leaf) x → ⊥
@@ -281,7 +281,7 @@ nothing_chosen (pick ∷ rest) leaf x h c =
 
 pub read_past : (picks : List Pick) (leaf : ℕ) (g : Ground) → is_nowhere picks ≡ true → IsNothing picks g → IsRead picks leaf g
 read_past picks leaf g h n = record {
-  value = λ sight. n.value sight ∙ ap (integer_at sight) (sym (nothing_picked sight picks leaf h));
+  value = λ instant. n.value instant ∙ ap (integer_at instant) (sym (nothing_picked instant picks leaf h));
   only = λ x c. inl (n.only x c);
   indices = n.indices;
   leaves = λ x c. absurd (nothing_chosen picks leaf x h c);

@@ -5,7 +5,7 @@ use Rattle.fir_types.specs.declared.fir_type.Field.{Field, fold-Field}
 use Rattle.fir_types.specs.declared.leaf.TypeLeaf.{TypeLeaf}
 use Rattle.fir_types.specs.declared.leaf.PathStep.{PathStep}
 use Rattle.fir_types.specs.Leaves.{leaves, under}
-use Rattle.ground_net.specs.Grounds.{Sight}
+use Rattle.ground_net.specs.Grounds.{Instant}
 use Rattle.net_meaning.specs.Shapes.{Table, HasShapes}
 use Rattle.net_meaning.specs.Cycles.{integer_at}
 use Rattle.fir_meaning.specs.Components.{Leaf}
@@ -25,9 +25,9 @@ pub record Numbering : Type 0 where
   pub number : Leaf → Option ℕ
   pub table : Table
 
--- The scene that a sight shows: 0 where there is no such leaf.
-abbrev pub scene_seen : (ℕ → FirType) → Numbering → Sight → Scene
-scene_seen types n sight = scene_with types (λ c way. integer_at sight (n.number (record { component = c; way = way })))
+-- The scene that an instant shows: 0 where there is no such leaf.
+abbrev pub scene_seen : (ℕ → FirType) → Numbering → Instant → Scene
+scene_seen types n instant = scene_with types (λ c way. integer_at instant (n.number (record { component = c; way = way })))
 
 -- The leaves of the part of a component at a way have the numbers from this one on, in order.
 pub record StandsAt (n : Numbering) (c : ℕ) (typ : FirType) (way : List PathStep) (first : ℕ) : Type 0 where
@@ -50,12 +50,12 @@ abbrev pub is_dynamic : List Pick → Bool
 is_dynamic [] = false
 is_dynamic (pick ∷ picks) = true
 
--- The part is what a reference names at each sight, and may name whatever is seen; it has this type.
-pub record IsPart (n : Numbering) (region : Region) (spot : Sight → Spot) (typ : FirType) (part : Part) : Type 0 where
+-- The part is what a reference names at each instant, and may name whatever is seen; it has this type.
+pub record IsPart (n : Numbering) (region : Region) (spot : Instant → Spot) (typ : FirType) (part : Part) : Type 0 where
   pub region_type : region.typ ≡ typ
-  pub spot_type : (sight : Sight) → (spot sight).typ ≡ typ
-  pub component : (sight : Sight) → (spot sight).component ≡ region.component
-  pub reaches : (sight : Sight) → HasShapes n.table sight → Reaches n region.component typ (spot sight).way (picked sight part.picks part.first)
+  pub spot_type : (instant : Instant) → (spot instant).typ ≡ typ
+  pub component : (instant : Instant) → (spot instant).component ≡ region.component
+  pub reaches : (instant : Instant) → HasShapes n.table instant → Reaches n region.component typ (spot instant).way (picked instant part.picks part.first)
   pub each : (x : ℕ) → Contains (choices part.picks part.first) x → (way : List PathStep) × Contains region.ways way × StandsAt n region.component typ way x
   pub all : (way : List PathStep) → Contains region.ways way → (x : ℕ) × Contains (choices part.picks part.first) x × StandsAt n region.component typ way x
   pub indices : SameLeaves n region.indices (index_mentions part.picks)

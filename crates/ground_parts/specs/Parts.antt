@@ -4,7 +4,7 @@ use Rattle.std.specs.List.{list_any, list_all, range_with_len}
 use Rattle.bit_words.specs.declared.value.Kind.TheVariants.{Unsigned}
 use Rattle.bit_words.specs.Values.{integer_of}
 use Rattle.ground_net.specs.declared.ground.Ground.{Ground}
-use Rattle.ground_net.specs.Grounds.{Sight, value, mentions}
+use Rattle.ground_net.specs.Grounds.{Instant, value, mentions}
 use Rattle.net_meaning.specs.Shapes.{Shape, shaped, Table, shape, is_index}
 use Rattle.net_meaning.specs.Cycles.{integer_at}
 use Rattle.ground_parts.specs.declared.part.Pick.{Pick}
@@ -15,9 +15,9 @@ picked_from length element (pos k) = if nat_lt k length then element k else None
 picked_from length element (negsuc k) = None
 
 -- The number of a leaf of a part, from its number in the elements with the number 0; none where an index is out of its vector.
-abbrev pub picked : Sight → List Pick → ℕ → Option ℕ
-picked sight [] leaf = Some leaf
-picked sight (pick ∷ picks) leaf = picked_from pick.length (λ k. picked sight picks (leaf + k * pick.stride)) (integer_of (value pick.index sight))
+abbrev pub picked : Instant → List Pick → ℕ → Option ℕ
+picked instant [] leaf = Some leaf
+picked instant (pick ∷ picks) leaf = picked_from pick.length (λ k. picked instant picks (leaf + k * pick.stride)) (integer_of (value pick.index instant))
 
 -- The numbers that it may have, whatever the indices are.
 abbrev pub choices : List Pick → ℕ → List ℕ
@@ -44,7 +44,7 @@ are_indices table picks = list_all (λ pick. is_index_shape (shape pick.index ta
 -- The expression reads a leaf of a part: it has the leaf's integer, and 0 where an index is out of its vector. It mentions the indices
 -- and each leaf that it may be.
 pub record IsRead (picks : List Pick) (leaf : ℕ) (g : Ground) : Type 0 where
-  pub value : (sight : Sight) → integer_of (value g sight) ≡ integer_at sight (picked sight picks leaf)
+  pub value : (instant : Instant) → integer_of (value g instant) ≡ integer_at instant (picked instant picks leaf)
   pub only : (x : ℕ) → Contains (mentions g) x → Contains (index_mentions picks) x ⊎ Contains (choices picks leaf) x
   pub indices : (x : ℕ) → Contains (index_mentions picks) x → Contains (mentions g) x
   pub leaves : (x : ℕ) → Contains (choices picks leaf) x → Contains (mentions g) x
@@ -53,7 +53,7 @@ pub record IsRead (picks : List Pick) (leaf : ℕ) (g : Ground) : Type 0 where
 
 -- The expression is 0, and mentions the indices.
 pub record IsNothing (picks : List Pick) (g : Ground) : Type 0 where
-  pub value : (sight : Sight) → integer_of (value g sight) ≡ pos 0
+  pub value : (instant : Instant) → integer_of (value g instant) ≡ pos 0
   pub only : (x : ℕ) → Contains (mentions g) x → Contains (index_mentions picks) x
   pub indices : (x : ℕ) → Contains (index_mentions picks) x → Contains (mentions g) x
   pub shape : (table : Table) → are_indices table picks ≡ true → shape g table ≡ Some (shaped Unsigned 0)

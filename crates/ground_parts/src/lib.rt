@@ -1,5 +1,5 @@
 //! Parts of components as numbers of leaves: the way to a part of a type, dynamic indices, and reading and setting the leaves of a
-//! part. Keeps the contract that what is read and what is set is, at every sight, the leaf that the indices pick.
+//! part. Keeps the contract that what is read and what is set is, at every instant, the leaf that the indices pick.
 #![tactic(auto)]
 
 pub mod inside;

@@ -91,7 +91,7 @@ fitted_of : (own fit s : Source) → IsFitted own fit → own.expr ≡ s.expr �
 fitted_of own fit s f x k w =
     let told = ap₂ (λ a b. Some (shaped a b)) k w in
     record {
-      value = λ table sight sh has. f.value table sight (ap (λ e. shape e table) x ∙ sh ∙ sym told) has ∙ ap (λ e. fitted fit.kind fit.width (integer_of (value e sight))) x;
+      value = λ table instant sh has. f.value table instant (ap (λ e. shape e table) x ∙ sh ∙ sym told) has ∙ ap (λ e. fitted fit.kind fit.width (integer_of (value e instant))) x;
       shape = λ table sh. f.shape table (ap (λ e. shape e table) x ∙ sh ∙ sym told);
       mentions = f.mentions ∙ ap mentions x;
     }

@@ -24,7 +24,7 @@ use Rattle.fir_meaning.specs.Mentions.{whole_region}
 use Rattle.fir_meaning.specs.Loops.{driven_from}
 use Rattle.fir_meaning.specs.WellTyped.{HasTypes, leaf_shape, is_condition, is_one_unsigned}
 use Rattle.ground_net.specs.declared.net.NetReset.{NetReset}
-use Rattle.ground_net.specs.Grounds.{Sight, value, mentions}
+use Rattle.ground_net.specs.Grounds.{Instant, value, mentions}
 use Rattle.ground_net.proofs.Layers.{value-Const, mentions-Const}
 use Rattle.net_meaning.specs.Shapes.{shaped, Table, HasShapes, shape, shape_of_value, is_unsigned}
 use Rattle.net_meaning.proofs.Shaping.{shape-Const}
@@ -102,8 +102,8 @@ module _ (holder : Module) (m : TypedModule) (table : Table) (has : HasTypes hol
   only d xs i b e p = has.ways c i j b.0 leaf among (beside_leaf d (leaves c.typ) xs i b e) there p
 
   -- what is set in the leaf from the values of an expression
-  set_from : (sight : Sight) (vs : List Value) → left_in (leaf_of c leaf) None (set_at false (Some (whole (scene_at m sight) c.declaration.name)) vs) ≡ Some (integer_of (fitted_to leaf (integer_of (or_other (lone []) (slice_get vs j)))))
-  set_from sight vs =
+  set_from : (instant : Instant) (vs : List Value) → left_in (leaf_of c leaf) None (set_at false (Some (whole (scene_at m instant) c.declaration.name)) vs) ≡ Some (integer_of (fitted_to leaf (integer_of (or_other (lone []) (slice_get vs j)))))
+  set_from instant vs =
       ap (λ (t : FirType). left_in (leaf_of c leaf) None (map (setting c.declaration.name []) (of_orientation false (beside (lone []) (leaves t) vs)))) types
       ∙ one_set c.declaration.name (beside (lone []) (leaves c.typ) vs) j (leaf, or_other (lone []) (slice_get vs j)) None (beside_at (lone []) (leaves c.typ) vs j leaf there) plain (only (lone []) vs)
 
@@ -116,17 +116,17 @@ module _ (holder : Module) (m : TypedModule) (table : Table) (has : HasTypes hol
 
   module _ (reset init : Expr) (condition : is_condition (known_of entries) reset ≡ true) (s : Source) (inits : List Source) (low : IsLowered entries reset (s ∷ [])) (ini : IsLowered entries init inits)
       (made : NetReset) (is : made.reset ≡ s.expr) (set : IsInit (slice_get inits j) leaf made.init) where
-    of_reset : AreSources n (λ sight. tree.value reset (scene_at m sight)) (tree_reads.mentions reset (type_in m)) (s ∷ [])
+    of_reset : AreSources n (λ instant. tree.value reset (scene_at m instant)) (tree_reads.mentions reset (type_in m)) (s ∷ [])
     of_reset = low.are n (type_in m) knows
 
-    of_init : AreSources n (λ sight. tree.value init (scene_at m sight)) (tree_reads.mentions init (type_in m)) inits
+    of_init : AreSources n (λ instant. tree.value init (scene_at m instant)) (tree_reads.mentions init (type_in m)) inits
     of_init = ini.are n (type_in m) knows
 
     shape_at : (t : Source) → slice_get inits j ≡ Some t → shape t.expr table ≡ Some (told t)
     shape_at t e = some_same (sym (map_at (λ (x : Source). shape x.expr table) inits j t e) ∙ ap (λ l. slice_get l j) of_init.shapes ∙ map_at (λ (x : Source). Some (told x)) inits j t e)
 
-    holds_is : (sight : Sight) → HasShapes table sight → is_one_value (value made.reset sight) ≡ tree.is_one (tree.value reset (scene_at m sight))
-    holds_is sight h = ap (λ e. is_one_value (value e sight)) is ∙ ap tree.is_one (of_reset.values sight h)
+    holds_is : (instant : Instant) → HasShapes table instant → is_one_value (value made.reset instant) ≡ tree.is_one (tree.value reset (scene_at m instant))
+    holds_is instant h = ap (λ e. is_one_value (value e instant)) is ∙ ap tree.is_one (of_reset.values instant h)
 
     reads_is : SameReads m (tree_reads.joined (tree_reads.mentions reset (type_in m))) (mentions made.reset)
     reads_is = by (tree_reads.mentions reset (type_in m)) of_reset.reads
@@ -149,22 +149,22 @@ module _ (holder : Module) (m : TypedModule) (table : Table) (has : HasTypes hol
     zero_is : zero_value ≡ fitted_to leaf (pos 0)
     zero_is = ap (λ w. fitted (kind_of_leaf leaf) w (pos 0)) narrow
 
-    taken_is : (sight : Sight) → HasShapes table sight → (o : Option Source) → slice_get inits j ≡ o → IsInit o leaf made.init
-        → left_in (leaf_of c leaf) None (set_at false (Some (whole (scene_at m sight) c.declaration.name)) (tree.value init (scene_at m sight))) ≡ Some (integer_of (value made.init sight))
-    taken_is sight h (Some t) e (fit, i, k, w, fits) =
-        let vs = tree.value init (scene_at m sight) in
-        let at : slice_get vs j ≡ Some (value t.expr sight) = ap (λ l. slice_get l j) (sym (of_init.values sight h)) ∙ map_at (λ (x : Source). value x.expr sight) inits j t e in
-        set_from sight vs
+    taken_is : (instant : Instant) → HasShapes table instant → (o : Option Source) → slice_get inits j ≡ o → IsInit o leaf made.init
+        → left_in (leaf_of c leaf) None (set_at false (Some (whole (scene_at m instant) c.declaration.name)) (tree.value init (scene_at m instant))) ≡ Some (integer_of (value made.init instant))
+    taken_is instant h (Some t) e (fit, i, k, w, fits) =
+        let vs = tree.value init (scene_at m instant) in
+        let at : slice_get vs j ≡ Some (value t.expr instant) = ap (λ l. slice_get l j) (sym (of_init.values instant h)) ∙ map_at (λ (x : Source). value x.expr instant) inits j t e in
+        set_from instant vs
         ∙ ap (λ o. Some (integer_of (fitted_to leaf (integer_of (or_other (lone []) o))))) at
-        ∙ sym (ap (λ g. Some (integer_of (value g sight))) i ∙ ap (λ v. Some (integer_of v)) (fits.value table sight (shape_at t e) h
-        ∙ ap₂ (λ a b. fitted a b (integer_of (value t.expr sight))) k (w ∙ narrow)))
-    taken_is sight h None e i =
-        let vs = tree.value init (scene_at m sight) in
-        let at : slice_get vs j ≡ None = ap (λ l. slice_get l j) (sym (of_init.values sight h)) ∙ map_none (λ (x : Source). value x.expr sight) inits j e in
-        set_from sight vs
+        ∙ sym (ap (λ g. Some (integer_of (value g instant))) i ∙ ap (λ v. Some (integer_of v)) (fits.value table instant (shape_at t e) h
+        ∙ ap₂ (λ a b. fitted a b (integer_of (value t.expr instant))) k (w ∙ narrow)))
+    taken_is instant h None e i =
+        let vs = tree.value init (scene_at m instant) in
+        let at : slice_get vs j ≡ None = ap (λ l. slice_get l j) (sym (of_init.values instant h)) ∙ map_none (λ (x : Source). value x.expr instant) inits j e in
+        set_from instant vs
         ∙ ap (λ o. Some (integer_of (fitted_to leaf (integer_of (or_other (lone []) o))))) at
         ∙ ap (λ x. Some (integer_of (fitted_to leaf x))) lone_zero
-        ∙ sym (ap (λ g. Some (integer_of (value g sight))) i ∙ ap (λ v. Some (integer_of v)) (value-Const zero_value sight ∙ zero_is))
+        ∙ sym (ap (λ g. Some (integer_of (value g instant))) i ∙ ap (λ v. Some (integer_of v)) (value-Const zero_value instant ∙ zero_is))
 
     init_reads_is : (o : Option Source) → slice_get inits j ≡ o → IsInit o leaf made.init
         → SameReads m (tree_reads.joined (driven_from false (leaf_of c leaf) (tree_reads.mentions init (type_in m)) (Some (whole_region (type_in m) c.declaration.name)))) (mentions made.init)
@@ -187,7 +187,7 @@ module _ (holder : Module) (m : TypedModule) (table : Table) (has : HasTypes hol
     pub reset_is : IsReset m table (c, leaf) reset init made
     reset_is = record {
       holds = holds_is;
-      taken = λ sight h. taken_is sight h (slice_get inits j) refl set;
+      taken = λ instant h. taken_is instant h (slice_get inits j) refl set;
       reset_reads = reads_is;
       init_reads = init_reads_is (slice_get inits j) refl set;
       reset_shape = reset_shape_is;

@@ -36,7 +36,7 @@ use Rattle.ground_net.specs.declared.circuit.DrivenModule.{DrivenModule}
 use Rattle.ground_net.specs.declared.circuit.GroundInstance.{GroundInstance}
 use Rattle.ground_net.specs.declared.circuit.GroundLeaf.{GroundLeaf}
 use Rattle.ground_net.specs.declared.circuit.GroundRole.TheVariants.{Input, Clock, Register, Plain}
-use Rattle.ground_net.specs.Grounds.{Sight, value}
+use Rattle.ground_net.specs.Grounds.{Instant, value}
 use Rattle.ground_net.specs.Statements.{drives}
 use Rattle.ground_net.specs.Renumbering.{with_numbers, seen_by}
 use Rattle.ground_net.specs.Reads.{lone_driver}
@@ -205,15 +205,15 @@ module _ (fitted : Fitted) (well : IsWellFormed fitted) (lowered : GroundCircuit
       ∙ (ap (λ o. option_map (λ (g : GroundInstance). g.module) (option_and_then (λ (m : DrivenModule). slice_get m.instances i) o)) found
       ∙ ap (option_map (λ (g : GroundInstance). g.module)) there)
 
-  module _ (spots : List Spot) (placed : List Placed) (match : Two (IsAt fitted well lowered is driven expanded) spots (all_leaves placed)) (lists : ListsLeaves design placed) (sight : Sight) (fits : Fits fitted well lowered is driven expanded spots placed match lists sight) where
+  module _ (spots : List Spot) (placed : List Placed) (match : Two (IsAt fitted well lowered is driven expanded) spots (all_leaves placed)) (lists : ListsLeaves design placed) (instant : Instant) (fits : Fits fitted well lowered is driven expanded spots placed match lists instant) where
     abbrev run : Valuation
-    run = valuation_of (all_leaves placed) sight
+    run = valuation_of (all_leaves placed) instant
 
     -- One module
 
     module _ {path : List ℕ} {n : ℕ} {m : TypedModule} {d : DrivenModule} {names : List ℕ} (leads : Way path n m d names) (numbers : List ℕ) (are : AreNumbers driven spots path n numbers) where
-      abbrev inner : Sight
-      inner = seen_by (slice_index numbers) sight
+      abbrev inner : Instant
+      inner = seen_by (slice_index numbers) instant
 
       abbrev K : Known fitted well lowered is driven expanded n m d
       K = leads_known fitted well lowered is driven expanded leads
@@ -222,9 +222,9 @@ module _ (fitted : Fitted) (well : IsWellFormed fitted) (lowered : GroundCircuit
       left_same : (y : ℕ) (c : Component) (leaf : TypeLeaf) → slice_get (module_leaves m) y ≡ Some (c, leaf) → is_set (c, leaf) ≡ true
           → option_map integer_of (drives inner y K.g.body) ≡ tree_drives.drives (scene_of m names run) (leaf_of c leaf) c.declaration.block
       left_same y c leaf at set =
-          K.ground_is.values y (c, leaf) inner at set (inner_fits fitted well lowered is driven expanded spots placed match lists leads numbers are sight fits)
+          K.ground_is.values y (c, leaf) inner at set (inner_fits fitted well lowered is driven expanded spots placed match lists leads numbers are instant fits)
           ∙ drives_same (type_in m) (leaf_of c leaf) c.declaration.block (scene_at m inner).integers (local m names run)
-          (seen_agree fitted well lowered is driven expanded spots placed match lists leads numbers are sight (tree_reads.joined (tree_loops.live (type_in m) (leaf_of c leaf) c.declaration.block))
+          (seen_agree fitted well lowered is driven expanded spots placed match lists leads numbers are instant (tree_reads.joined (tree_loops.live (type_in m) (leaf_of c leaf) c.declaration.block))
           (λ z h. let r = (K.ground_is.reads y (c, leaf) at set).all z h in (r.0, r.1)))
 
       -- the driver of a leaf
@@ -241,14 +241,14 @@ module _ (fitted : Fitted) (well : IsWellFormed fitted) (lowered : GroundCircuit
             (leaf.0, leaf.1, of leaf.0 o h (K.driven_is.drivers.each y leaf.0 o leaf.1 q))
 
       -- where something is left, the renumbered driver has it
-      driver_has : (y : ℕ) (g : Ground) (v : Value) → driver_in d y ≡ Some g → drives inner y K.g.body ≡ Some v → integer_of v ≡ integer_of (value (with_numbers (slice_index numbers) g) sight)
-      driver_has y g v e left = ap integer_of (sym (renumbered_value (slice_index numbers) sight g ∙ (driver_is y g e).2.has inner v left))
+      driver_has : (y : ℕ) (g : Ground) (v : Value) → driver_in d y ≡ Some g → drives inner y K.g.body ≡ Some v → integer_of v ≡ integer_of (value (with_numbers (slice_index numbers) g) instant)
+      driver_has y g v e left = ap integer_of (sym (renumbered_value (slice_index numbers) instant g ∙ (driver_is y g e).2.has inner v left))
 
       pub driven_value : (y : ℕ) (c : Component) (leaf : TypeLeaf) (g : Ground) → slice_get (module_leaves m) y ≡ Some (c, leaf) → is_set (c, leaf) ≡ true → driver_in d y ≡ Some g
           → is_some (tree_drives.drives (scene_of m names run) (leaf_of c leaf) c.declaration.block) ≡ true
-          → tree_drives.drives (scene_of m names run) (leaf_of c leaf) c.declaration.block ≡ Some (integer_of (value (with_numbers (slice_index numbers) g) sight))
+          → tree_drives.drives (scene_of m names run) (leaf_of c leaf) c.declaration.block ≡ Some (integer_of (value (with_numbers (slice_index numbers) g) instant))
       driven_value y c leaf g at set e some = by (drives inner y K.g.body) refl where
-        by : (o : Option Value) → drives inner y K.g.body ≡ o → tree_drives.drives (scene_of m names run) (leaf_of c leaf) c.declaration.block ≡ Some (integer_of (value (with_numbers (slice_index numbers) g) sight))
+        by : (o : Option Value) → drives inner y K.g.body ≡ o → tree_drives.drives (scene_of m names run) (leaf_of c leaf) c.declaration.block ≡ Some (integer_of (value (with_numbers (slice_index numbers) g) instant))
         by None q = absurd (true≢false (sym some ∙ ap is_some (sym (left_same y c leaf at set) ∙ ap (option_map integer_of) q)))
         by (Some v) q = sym (left_same y c leaf at set) ∙ (ap (option_map integer_of) q ∙ ap Some (driver_has y g v e q))
 
@@ -326,19 +326,19 @@ module _ (fitted : Fitted) (well : IsWellFormed fitted) (lowered : GroundCircuit
           ap (slice_get (all_leaves placed)) (sym x_same) ∙ entry.1
 
       module _ (x : ℕ) (y : Standing) (e : slice_get (all_leaves placed) x ≡ Some y) (same : flat m path (leaf_of c leaf) ≡ flat_of y) (o : Option Ground) (driver : Ground) (of_spot : (s : Spot) → slice_get spots x ≡ Some s → IsFlatDriver driven spots s o) (has : o ≡ Some driver) where
-        own_left : target_in c.declaration.sort ≡ None → left m path c leaf ≡ Some (integer_of (value driver sight))
+        own_left : target_in c.declaration.sort ≡ None → left m path c leaf ≡ Some (integer_of (value driver instant))
         own_left none =
             let here = entry_here path m c leaf stands none x y e same in
             let back = two_back match x (record { path = path; m = m; c = c }, leaf) here in
             let s : Spot = back.0 in
             let it = back.2 in
             let r = own_driver s m it.d path it.leads c leaf it.number (set_not_input c leaf (driven_source c leaf is_set_here)) o driver (of_spot s back.1) has in
-            driven_value it.leads r.0 r.1 s.number c leaf r.2 it.number (driven_set c leaf is_set_here) r.3 left_some ∙ ap (λ z. Some (integer_of (value z sight))) r.4
+            driven_value it.leads r.0 r.1 s.number c leaf r.2 it.number (driven_set c leaf is_set_here) r.3 left_some ∙ ap (λ z. Some (integer_of (value z instant))) r.4
 
         module _ (target : ℕ) (at_target : target_in c.declaration.sort ≡ Some target) where
           from_behind : (s : Spot) → IsFlatDriver driven spots s o → (n : TypedModule) (p : Component) (part : TypeLeaf) → slice_get (module_leaves n) s.number ≡ Some (p, part) → is_port p.declaration.sort ≡ true
               → is_source (flow_of p.declaration.sort part.flip) ≡ true → is_clock part ≡ false → leaf.path ≡ step.Field p.declaration.name ∷ part.path
-              → (sp : List ℕ) (w : ℕ) (dd : DrivenModule) (nn : List ℕ) → Way sp w n dd nn → sp ≡ s.path → w ≡ s.within → nn ≡ path ++ c.declaration.name ∷ [] → left m path c leaf ≡ Some (integer_of (value driver sight))
+              → (sp : List ℕ) (w : ℕ) (dd : DrivenModule) (nn : List ℕ) → Way sp w n dd nn → sp ≡ s.path → w ≡ s.within → nn ≡ path ++ c.declaration.name ∷ [] → left m path c leaf ≡ Some (integer_of (value driver instant))
           from_behind s flat_driver n p part number port source clock way sp w dd nn (at_main main d at known) same_path same_within same_names = no_snoc path (c.declaration.name) same_names where
             no_snoc : {B : Type 0} (xs : List ℕ) (a : ℕ) → [] ≡ xs ++ a ∷ [] → B
             no_snoc [] a e = absurd cc
@@ -368,9 +368,9 @@ module _ (fitted : Fitted) (well : IsWellFormed fitted) (lowered : GroundCircuit
               let number_there : slice_get (module_leaves m') (gi.first + s.number) ≡ Some (ci, leaf) = ap (λ z. slice_get (module_leaves m') (z + s.number)) placed'.first ∙ leaf_there in
               let set' : is_set (ci, leaf) ≡ true = ap (λ (z : Component). is_set (z, leaf)) c_same ∙ driven_set c leaf is_set_here in
               let same_left = left_of leaf m m' path outer c ci m_same split.0 c_same in
-              sym same_left ∙ (driven_value leads' r.0 r.1 (gi.first + s.number) ci leaf r.2 number_there set' r.3 (ap is_some same_left ∙ left_some) ∙ ap (λ z. Some (integer_of (value z sight))) r.4)
+              sym same_left ∙ (driven_value leads' r.0 r.1 (gi.first + s.number) ci leaf r.2 number_there set' r.3 (ap is_some same_left ∙ left_some) ∙ ap (λ z. Some (integer_of (value z instant))) r.4)
 
-          instance_left : left m path c leaf ≡ Some (integer_of (value driver sight))
+          instance_left : left m path c leaf ≡ Some (integer_of (value driver instant))
           instance_left =
               let sort : c.declaration.sort ≡ An_instance target = instance_sort c.declaration.sort target at_target in
               let in_ = instance_inside design well.bundles path m c leaf target stands sort in
@@ -392,9 +392,9 @@ module _ (fitted : Fitted) (well : IsWellFormed fitted) (lowered : GroundCircuit
               turned_of false e = absurd (true≢false e)
 
         -- What the statements leave in a driven leaf is what its driver has.
-        pub left_in_leaf : left m path c leaf ≡ Some (integer_of (value driver sight))
+        pub left_in_leaf : left m path c leaf ≡ Some (integer_of (value driver instant))
         left_in_leaf = by (target_in c.declaration.sort) refl where
-          by : (t : Option ℕ) → target_in c.declaration.sort ≡ t → left m path c leaf ≡ Some (integer_of (value driver sight))
+          by : (t : Option ℕ) → target_in c.declaration.sort ≡ t → left m path c leaf ≡ Some (integer_of (value driver instant))
           by None q = own_left q
           by (Some target) q = instance_left target q
 
@@ -403,10 +403,10 @@ module _ (fitted : Fitted) (well : IsWellFormed fitted) (lowered : GroundCircuit
     module _ (x : ℕ) (y : Standing) (e : Expr) (k : ℕ) (o : Option Ground) (driver : Ground) (there : slice_get (all_leaves placed) x ≡ Some y) (sort : y.0.c.declaration.sort ≡ A_node e) (clock : is_clock y.1 ≡ false) (kth : slice_get (leaves y.0.c.typ) k ≡ Some y.1)
         (of_spot : (s : Spot) → slice_get spots x ≡ Some s → IsFlatDriver driven spots s o) (has : o ≡ Some driver) where
       module _ (s : Spot) (d : DrivenModule) (leads : Way s.path s.within y.0.m d y.0.path) (number : slice_get (module_leaves y.0.m) s.number ≡ Some (y.0.c, y.1)) (numbers : List ℕ) (are : AreNumbers driven spots s.path s.within numbers) (g : Ground) (driver_there : driver_in d s.number ≡ Some g) where
-        abbrev seen_inner : Sight
-        seen_inner = seen_by (slice_index numbers) sight
+        abbrev seen_inner : Instant
+        seen_inner = seen_by (slice_index numbers) instant
 
-        node_left : slice_get (map integer_of (tree.value e (scene_of y.0.m y.0.path run))) k ≡ Some (integer_of (value (with_numbers (slice_index numbers) g) sight))
+        node_left : slice_get (map integer_of (tree.value e (scene_of y.0.m y.0.path run))) k ≡ Some (integer_of (value (with_numbers (slice_index numbers) g) instant))
         node_left =
             let K = leads_known fitted well lowered is driven expanded leads in
             let at = leads_at fitted well lowered is driven expanded leads in
@@ -418,12 +418,12 @@ module _ (fitted : Fitted) (well : IsWellFormed fitted) (lowered : GroundCircuit
             let counted = module_counted it.holder y.0.m it.typed e _ typed in
             let shapes_k = map_at leaf_shape (leaves y.0.c.typ) k y.1 kth in
             let mentioned = item (tree_reads.mentions e (type_in y.0.m)) k (subst (λ z. k < z) (sym counted) (below_length (map leaf_shape (leaves y.0.c.typ)) k (leaf_shape y.1) shapes_k)) in
-            let agree = seen_agree fitted well lowered is driven expanded spots placed match lists leads numbers are sight mentioned.0
+            let agree = seen_agree fitted well lowered is driven expanded spots placed match lists leads numbers are instant mentioned.0
             (λ z c. let r = (K.ground_is.node_reads s.number (y.0.c, y.1) e k mentioned.0 number sort clock kth mentioned.1).all z c in (r.0, r.1)) in
             let same : slice_get (tree.value e (scene_with (type_in y.0.m) f)) k ≡ slice_get (tree.value e (scene_with (type_in y.0.m) h)) k = each_same (tracked e (type_in y.0.m) f h) k mentioned.0 mentioned.1 agree in
             let values = module_values it.holder y.0.m it.typed e _ typed h in
             let v = from_map_at shape_of_value (tree.value e (scene_with (type_in y.0.m) h)) k (leaf_shape y.1) (ap (λ l. slice_get l k) values ∙ shapes_k) in
-            let left_is = K.ground_is.nodes s.number (y.0.c, y.1) e k seen_inner number sort clock kth (inner_fits fitted well lowered is driven expanded spots placed match lists leads numbers are sight fits) in
+            let left_is = K.ground_is.nodes s.number (y.0.c, y.1) e k seen_inner number sort clock kth (inner_fits fitted well lowered is driven expanded spots placed match lists leads numbers are instant fits) in
             let w = mapped integer_of (drives seen_inner s.number K.g.body) (integer_of v.0) (left_is ∙ get-map' integer_of (tree.value e (scene_with (type_in y.0.m) f)) k v.0 (same ∙ v.1)) in
             get-map' integer_of (tree.value e (scene_with (type_in y.0.m) h)) k v.0 v.1 ∙ ap Some (sym w.2 ∙ driver_has leads numbers are s.number g w.0 driver_there w.1)
           where
@@ -437,10 +437,10 @@ module _ (fitted : Fitted) (well : IsWellFormed fitted) (lowered : GroundCircuit
                   (in_append (leaves_of b) (flat_map leaves_of cs) j (y.0.c, y.1) (subst (λ l. slice_get l j ≡ Some (y.0.c, y.1)) (flat_map-cons leaves_of b cs) e))
 
       -- The value of a node's expression is what its leaf's driver has.
-      pub node_in_leaf : slice_get (map integer_of (tree.value e (scene_of y.0.m y.0.path run))) k ≡ Some (integer_of (value driver sight))
+      pub node_in_leaf : slice_get (map integer_of (tree.value e (scene_of y.0.m y.0.path run))) k ≡ Some (integer_of (value driver instant))
       node_in_leaf =
           let back = two_back match x y there in
           let s : Spot = back.0 in
           let it = back.2 in
           let r = own_driver s y.0.m it.d y.0.path it.leads y.0.c y.1 it.number (plain_not_input y.0.c y.1 (ap is_port sort)) o driver (of_spot s back.1) has in
-          node_left s it.d it.leads it.number r.0 r.1 r.2 r.3 ∙ ap (λ z. Some (integer_of (value z sight))) r.4
+          node_left s it.d it.leads it.number r.0 r.1 r.2 r.3 ∙ ap (λ z. Some (integer_of (value z instant))) r.4

@@ -40,13 +40,13 @@ module _ (z : Setting) (some : (path : List ℕ) (m : TypedModule) (c : Componen
           width = ap (λ g. g.width) (sym same) ∙ l.width;
           place = ap (λ g. g.place) (sym same) ∙ l.place;
         };
-    driven = λ path m c leaf x y driver sight stands set e same own sees.
+    driven = λ path m c leaf x y driver instant stands set e same own sees.
         let o = driver_at z x y e in
-        left_in_leaf z.fitted z.well z.lowered z.is z.driven z.expanded (spots z) (placed z) (match z) (lists z) sight sees.each path m c leaf stands set
-        (some path m c leaf stands (must c.declaration.sort leaf.flip (driven_source c leaf set) (driven_register c leaf set)) (valuation_of (all_leaves (placed z)) sight)) x y e same o.0 driver o.2 (has x o.0 driver o.1 own);
-    nodes = λ x y e k driver sight there sort clock kth own sees.
+        left_in_leaf z.fitted z.well z.lowered z.is z.driven z.expanded (spots z) (placed z) (match z) (lists z) instant sees.each path m c leaf stands set
+        (some path m c leaf stands (must c.declaration.sort leaf.flip (driven_source c leaf set) (driven_register c leaf set)) (valuation_of (all_leaves (placed z)) instant)) x y e same o.0 driver o.2 (has x o.0 driver o.1 own);
+    nodes = λ x y e k driver instant there sort clock kth own sees.
         let o = driver_at z x y there in
-        node_in_leaf z.fitted z.well z.lowered z.is z.driven z.expanded (spots z) (placed z) (match z) (lists z) sight sees.each x y e k o.0 driver there sort clock kth o.2 (has x o.0 driver o.1 own);
+        node_in_leaf z.fitted z.well z.lowered z.is z.driven z.expanded (spots z) (placed z) (match z) (lists z) instant sees.each x y e k o.0 driver there sort clock kth o.2 (has x o.0 driver o.1 own);
     elements = elements z;
     all_memories_there = memories_counted z;
     all_elements_there = elements_counted z;

@@ -30,7 +30,7 @@ use Rattle.ground_net.specs.declared.circuit.DrivenCircuit.{DrivenCircuit}
 use Rattle.ground_net.specs.declared.circuit.DrivenModule.{DrivenModule}
 use Rattle.ground_net.specs.declared.circuit.GroundInstance.{GroundInstance}
 use Rattle.ground_net.specs.declared.circuit.GroundLeaf.{GroundLeaf}
-use Rattle.ground_net.specs.Grounds.{Sight}
+use Rattle.ground_net.specs.Grounds.{Instant}
 use Rattle.ground_net.specs.Renumbering.{seen_by}
 use Rattle.net_meaning.specs.Shapes.{HasShapes, shaped}
 use Rattle.net_meaning.specs.Cycles.{integer_at}
@@ -317,15 +317,15 @@ module _ (fitted : Fitted) (well : IsWellFormed fitted) (lowered : GroundCircuit
     -- Values
 
     -- Each leaf of the circuit is seen as a value of its kind and width.
-    abbrev pub Fits : Sight → Type 0
-    Fits sight = (x : ℕ) (e : Standing) → slice_get (all_leaves placed) x ≡ Some e → shape_of_value (sight.leaf x) ≡ leaf_shape e.1
+    abbrev pub Fits : Instant → Type 0
+    Fits instant = (x : ℕ) (e : Standing) → slice_get (all_leaves placed) x ≡ Some e → shape_of_value (instant.leaf x) ≡ leaf_shape e.1
 
-    module _ {path : List ℕ} {n : ℕ} {m : TypedModule} {d : DrivenModule} {names : List ℕ} (leads : Way path n m d names) (numbers : List ℕ) (are : AreNumbers driven spots path n numbers) (sight : Sight) where
-      abbrev pub inner_sight : Sight
-      inner_sight = seen_by (slice_index numbers) sight
+    module _ {path : List ℕ} {n : ℕ} {m : TypedModule} {d : DrivenModule} {names : List ℕ} (leads : Way path n m d names) (numbers : List ℕ) (are : AreNumbers driven spots path n numbers) (instant : Instant) where
+      abbrev pub inner_instant : Instant
+      inner_instant = seen_by (slice_index numbers) instant
 
       abbrev pub run_seen : Valuation
-      run_seen = valuation_of (all_leaves placed) sight
+      run_seen = valuation_of (all_leaves placed) instant
 
       abbrev pub known : Known fitted well lowered is driven expanded n m d
       known = leads_known fitted well lowered is driven expanded leads
@@ -345,32 +345,32 @@ module _ (fitted : Fitted) (well : IsWellFormed fitted) (lowered : GroundCircuit
           (x.0, x.1, index_is numbers y x.0 x.1, entry_of leads l.0 l.1 numbers are y x.0 x.1 e)
 
       -- what is seen of a leaf of the module
-      pub seen_same : (z : Leaf) (y : ℕ) → number_of m z ≡ Some y → (scene_at m inner_sight).integers z.component z.way ≡ local m names run_seen z.component z.way
+      pub seen_same : (z : Leaf) (y : ℕ) → number_of m z ≡ Some y → (scene_at m inner_instant).integers z.component z.way ≡ local m names run_seen z.component z.way
       seen_same z y e =
           let l = found_leaf m z y e in
           let x = number_at y l.0 l.1 in
           let entry = x.3 in
-          ap (integer_at inner_sight) e
-          ∙ (ap (λ k. integer_of (sight.leaf k)) x.2
-          ∙ (sym (valuation_at design placed lists sight x.0 entry.e entry.there)
+          ap (integer_at inner_instant) e
+          ∙ (ap (λ k. integer_of (instant.leaf k)) x.2
+          ∙ (sym (valuation_at design placed lists instant x.0 entry.e entry.there)
           ∙ (ap (at run_seen) (entry.is_flat ∙ ap (flat m names) l.2) ∙ sym (local_at m names run_seen z))))
 
       -- leaves that have numbers
-      pub seen_agree : (ys : List Leaf) → ((z : Leaf) → Contains ys z → (y : ℕ) × (number_of m z ≡ Some y)) → Agree (scene_at m inner_sight).integers (local m names run_seen) ys
+      pub seen_agree : (ys : List Leaf) → ((z : Leaf) → Contains ys z → (y : ℕ) × (number_of m z ≡ Some y)) → Agree (scene_at m inner_instant).integers (local m names run_seen) ys
       seen_agree ys all = record { agree = λ z h. let y = all z h in seen_same z y.0 y.1 }
 
       -- the module's leaves are seen in range
-      pub inner_fits : Fits sight → HasShapes (table_of known.g.leaves) inner_sight
+      pub inner_fits : Fits instant → HasShapes (table_of known.g.leaves) inner_instant
       inner_fits fits = record { leaf = leaf_fits; load = λ k j s a e. none_some e } where
-        leaf_fits : (y : ℕ) (s : _) → (table_of known.g.leaves).leaf y ≡ Some s → shape_of_value (inner_sight.leaf y) ≡ s
+        leaf_fits : (y : ℕ) (s : _) → (table_of known.g.leaves).leaf y ≡ Some s → shape_of_value (inner_instant.leaf y) ≡ s
         leaf_fits y s e = by (slice_get known.g.leaves y) refl e where
-          by : (o : Option GroundLeaf) → slice_get known.g.leaves y ≡ o → option_map ground_shape o ≡ Some s → shape_of_value (inner_sight.leaf y) ≡ s
+          by : (o : Option GroundLeaf) → slice_get known.g.leaves y ≡ o → option_map ground_shape o ≡ Some s → shape_of_value (inner_instant.leaf y) ≡ s
           by None q h = none_some h
           by (Some gl) q h =
               let l = item (module_leaves m) y (subst (λ k. y < k) known.ground_is.counted (below_length known.g.leaves y gl q)) in
               let x = number_at y l.0 l.1 in
               let entry = x.3 in
               let is_leaf = known.ground_is.leaves_are y l.0 gl l.1 q in
-              ap (λ k. shape_of_value (sight.leaf k)) x.2
+              ap (λ k. shape_of_value (instant.leaf k)) x.2
               ∙ (fits x.0 entry.e entry.there
               ∙ (same_leaf_shape entry.e.1 l.0.1 entry.typ ∙ (ap₂ shaped (sym is_leaf.kind) (sym is_leaf.width) ∙ some_same h)))

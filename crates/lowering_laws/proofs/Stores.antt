@@ -22,7 +22,7 @@ use Rattle.ground_net.specs.declared.circuit.DrivenModule.{DrivenModule}
 use Rattle.ground_net.specs.declared.circuit.GroundMemory.{GroundMemory}
 use Rattle.ground_net.specs.declared.net.NetMemory.{NetMemory}
 use Rattle.ground_net.specs.declared.net.NetPort.{NetPort}
-use Rattle.ground_net.specs.Grounds.{Sight}
+use Rattle.ground_net.specs.Grounds.{Instant}
 use Rattle.cycle_values.specs.Values.{lone}
 use Rattle.net_of_circuit.specs.FlatOrder.{Placed, all_leaves, all_memories, memory_in, flat_of}
 use Rattle.net_of_circuit.specs.NetOf.{Names, NameAll, IsPortOf, IsMemoryOf, path_text, read_field}
@@ -95,8 +95,8 @@ leaf_among (b ∷ cs) y c leaf e = ⊎_elim
     (λ there. let r = leaf_among cs there.0 c leaf there.2 in (later b cs c r.0, r.1))
     (in_append (leaves_of b) (flat_map leaves_of cs) y (c, leaf) (subst (λ l. slice_get l y ≡ Some (c, leaf)) (flat_map-cons leaves_of b cs) e))
 
-no_sight : Sight
-no_sight = record { leaf = λ x. lone []; load = λ m k a. lone [] }
+no_instant : Instant
+no_instant = record { leaf = λ x. lone []; load = λ m k a. lone [] }
 
 module _ (z : Setting) where
   -- A memory of the flat circuit is one of the circuit.
@@ -186,7 +186,7 @@ module _ (z : Setting) where
     named : (way : List PathStep) (y : ℕ) → number_of p.m (record { component = p.c.declaration.name; way = way }) ≡ Some y → Names (all_leaves (placed z)) p way (slice_index at.numbers y)
     named way y e =
         let l = found_leaf p.m (record { component = p.c.declaration.name; way = way }) y e in
-        let x = number_at z.fitted z.well z.lowered z.is z.driven z.expanded (spots z) (placed z) (match z) (lists z) at.leads at.numbers at.are no_sight y l.0 l.1 in
+        let x = number_at z.fitted z.well z.lowered z.is z.driven z.expanded (spots z) (placed z) (match z) (lists z) at.leads at.numbers at.are no_instant y l.0 l.1 in
         let among = leaf_among p.m.components y l.0.0 l.0.1 l.1 in
         let c_name : l.0.0.declaration.name ≡ p.c.declaration.name = ap (λ (f : Leaf). f.component) l.2 in
         let declared : component_named p.m l.0.0.declaration.name ≡ Some l.0.0 = z.well.bundles.names p.path p.m l.0.0 there_is.0 among.0 in

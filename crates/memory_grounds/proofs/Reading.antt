@@ -19,7 +19,7 @@ use Rattle.ground_net.specs.declared.net.NetMemory.{NetMemory}
 use Rattle.ground_net.specs.declared.net.NetPort.{NetPort}
 use Rattle.ground_net.specs.declared.net.NetWrite.{NetWrite}
 use Rattle.ground_net.specs.declared.net.NetRead.{NetRead}
-use Rattle.ground_net.specs.Grounds.{Sight, value, chosen, loaded}
+use Rattle.ground_net.specs.Grounds.{Instant, value, chosen, loaded}
 use Rattle.ground_net.proofs.Layers.{value-Const, value-Leaf, value-Op, value-Mux, value-Load}
 use Rattle.net_meaning.specs.Shapes.{Shape, shaped, Table, HasShapes}
 use Rattle.net_meaning.specs.Cycles.{is_set, is_set_at, integer_at, where_it_writes, where_it_reads, written_leaf, mask_leaf, shown, taken, next_of_memory}
@@ -81,48 +81,48 @@ and_both : (a b c : Bool) → (a && (b && c)) ≡ ((a && b) && c)
 and_both true b c = refl
 and_both false b c = refl
 
-module _ (sight : Sight) where
-  both_value : (x : ℕ) (rest : Ground) → is_one (value (both_ground x rest) sight) ≡ (is_set sight x && is_one (value rest sight))
+module _ (instant : Instant) where
+  both_value : (x : ℕ) (rest : Ground) → is_one (value (both_ground x rest) instant) ≡ (is_set instant x && is_one (value rest instant))
   both_value x rest =
-      ap is_one (value-Mux (Leaf x ∷ rest ∷ Const zero_bit ∷ []) sight ∙ ap₂ (λ v w. chosen (v ∷ value rest sight ∷ w ∷ [])) (value-Leaf x sight) (value-Const zero_bit sight))
-      ∙ by_test (is_set sight x) (value rest sight)
+      ap is_one (value-Mux (Leaf x ∷ rest ∷ Const zero_bit ∷ []) instant ∙ ap₂ (λ v w. chosen (v ∷ value rest instant ∷ w ∷ [])) (value-Leaf x instant) (value-Const zero_bit instant))
+      ∙ by_test (is_set instant x) (value rest instant)
     where
       by_test : (b : Bool) (v : Value) → is_one (if b then v else zero_bit) ≡ (b && is_one v)
       by_test true v = refl
       by_test false v = refl
 
-  unless_value : (x : ℕ) (rest : Ground) → is_one (value (unless_ground x rest) sight) ≡ (not (is_set sight x) && is_one (value rest sight))
+  unless_value : (x : ℕ) (rest : Ground) → is_one (value (unless_ground x rest) instant) ≡ (not (is_set instant x) && is_one (value rest instant))
   unless_value x rest =
-      ap is_one (value-Mux (Leaf x ∷ Const zero_bit ∷ rest ∷ []) sight ∙ ap₂ (λ v w. chosen (v ∷ w ∷ value rest sight ∷ [])) (value-Leaf x sight) (value-Const zero_bit sight))
-      ∙ by_test (is_set sight x) (value rest sight)
+      ap is_one (value-Mux (Leaf x ∷ Const zero_bit ∷ rest ∷ []) instant ∙ ap₂ (λ v w. chosen (v ∷ w ∷ value rest instant ∷ [])) (value-Leaf x instant) (value-Const zero_bit instant))
+      ∙ by_test (is_set instant x) (value rest instant)
     where
       by_test : (b : Bool) (v : Value) → is_one (if b then zero_bit else v) ≡ (not b && is_one v)
       by_test true v = refl
       by_test false v = refl
 
   writing_value : (en : ℕ) (mode : Option ℕ) (rest : Ground)
-      → is_one (value (writing_ground en mode rest) sight) ≡ (set_to_write (is_set sight en) (option_map (is_set sight) mode) && is_one (value rest sight))
+      → is_one (value (writing_ground en mode rest) instant) ≡ (set_to_write (is_set instant en) (option_map (is_set instant) mode) && is_one (value rest instant))
   writing_value en None rest = both_value en rest
   writing_value en (Some mode) rest =
-      both_value en (both_ground mode rest) ∙ (ap (λ b. is_set sight en && b) (both_value mode rest) ∙ and_both (is_set sight en) (is_set sight mode) (is_one (value rest sight)))
+      both_value en (both_ground mode rest) ∙ (ap (λ b. is_set instant en && b) (both_value mode rest) ∙ and_both (is_set instant en) (is_set instant mode) (is_one (value rest instant)))
 
   reading_value : (en : ℕ) (mode : Option ℕ) (rest : Ground)
-      → is_one (value (reading_ground en mode rest) sight) ≡ (set_to_read (is_set sight en) (option_map (is_set sight) mode) && is_one (value rest sight))
+      → is_one (value (reading_ground en mode rest) instant) ≡ (set_to_read (is_set instant en) (option_map (is_set instant) mode) && is_one (value rest instant))
   reading_value en None rest = both_value en rest
   reading_value en (Some mode) rest =
-      both_value en (unless_ground mode rest) ∙ (ap (λ b. is_set sight en && b) (unless_value mode rest) ∙ and_both (is_set sight en) (not (is_set sight mode)) (is_one (value rest sight)))
+      both_value en (unless_ground mode rest) ∙ (ap (λ b. is_set instant en && b) (unless_value mode rest) ∙ and_both (is_set instant en) (not (is_set instant mode)) (is_one (value rest instant)))
 
-  same_is : (x y : ℕ) → (sight.leaf x).kind ≡ Unsigned → (sight.leaf y).kind ≡ Unsigned
-      → is_one (value (same_ground x y) sight) ≡ (unsigned_abs (integer_of (sight.leaf x)) == unsigned_abs (integer_of (sight.leaf y)))
+  same_is : (x y : ℕ) → (instant.leaf x).kind ≡ Unsigned → (instant.leaf y).kind ≡ Unsigned
+      → is_one (value (same_ground x y) instant) ≡ (unsigned_abs (integer_of (instant.leaf x)) == unsigned_abs (integer_of (instant.leaf y)))
   same_is x y e f =
-      ap is_one (value-Op op.Eq (Leaf x ∷ Leaf y ∷ []) [] sight ∙ ap₂ (λ v w. operation op.Eq (v ∷ w ∷ []) []) (value-Leaf x sight) (value-Leaf y sight))
-      ∙ same_numbers (sight.leaf x) (sight.leaf y) e f
+      ap is_one (value-Op op.Eq (Leaf x ∷ Leaf y ∷ []) [] instant ∙ ap₂ (λ v w. operation op.Eq (v ∷ w ∷ []) []) (value-Leaf x instant) (value-Leaf y instant))
+      ∙ same_numbers (instant.leaf x) (instant.leaf y) e f
 
-  below_is : (x n : ℕ) → (sight.leaf x).kind ≡ Unsigned → n < 2 ^ 128 → is_one (value (below_ground x (fitted Unsigned 128 (pos n))) sight) ≡ nat_lt (unsigned_abs (integer_of (sight.leaf x))) n
+  below_is : (x n : ℕ) → (instant.leaf x).kind ≡ Unsigned → n < 2 ^ 128 → is_one (value (below_ground x (fitted Unsigned 128 (pos n))) instant) ≡ nat_lt (unsigned_abs (integer_of (instant.leaf x))) n
   below_is x n e lt =
-      ap is_one (value-Op op.Lt (Leaf x ∷ Const (fitted Unsigned 128 (pos n)) ∷ []) [] sight
-      ∙ ap₂ (λ v w. operation op.Lt (v ∷ w ∷ []) []) (value-Leaf x sight) (value-Const (fitted Unsigned 128 (pos n)) sight))
-      ∙ below_number (sight.leaf x) n e lt
+      ap is_one (value-Op op.Lt (Leaf x ∷ Const (fitted Unsigned 128 (pos n)) ∷ []) [] instant
+      ∙ ap₂ (λ v w. operation op.Lt (v ∷ w ∷ []) []) (value-Leaf x instant) (value-Const (fitted Unsigned 128 (pos n)) instant))
+      ∙ below_number (instant.leaf x) n e lt
 
 -- Writes
 
@@ -151,78 +151,78 @@ conditions true true false false h = refl
 conditions true false false true h = refl
 conditions true false false false h = refl
 
-module _ (sight : Sight) (table : Table) (k addr depth : ℕ) (s : Shape) (shapes : HasShapes table sight) (plain : (sight.leaf addr).kind ≡ Unsigned) where
+module _ (instant : Instant) (table : Table) (k addr depth : ℕ) (s : Shape) (shapes : HasShapes table instant) (plain : (instant.leaf addr).kind ≡ Unsigned) where
   abbrev at : ℕ
-  at = unsigned_abs (integer_of (sight.leaf addr))
+  at = unsigned_abs (integer_of (instant.leaf addr))
 
-  unsigned_there : (x : ℕ) → IsUInt table x → (sight.leaf x).kind ≡ Unsigned
+  unsigned_there : (x : ℕ) → IsUInt table x → (instant.leaf x).kind ≡ Unsigned
   unsigned_there x h = ap (λ (t : Shape). t.kind) (shapes.leaf x (shaped Unsigned h.width) h.there)
 
-  module _ (port : NetPort) (g : Ground) (held : Held ℕ) (within : nat_lt at depth ≡ true) (e : integer_of (value g sight) ≡ held at k) where
+  module _ (port : NetPort) (g : Ground) (held : Held ℕ) (within : nat_lt at depth ≡ true) (e : integer_of (value g instant) ≡ held at k) where
     abbrev its : ℕ
-    its = unsigned_abs (integer_of (sight.leaf port.addr))
+    its = unsigned_abs (integer_of (instant.leaf port.addr))
 
     abbrev set : Bool
-    set = set_to_write (is_set sight port.en) (option_map (is_set sight) port.mode)
+    set = set_to_write (is_set instant port.en) (option_map (is_set instant) port.mode)
 
-    by_leaf : (mask source : Option ℕ) → (port_reads : (sight.leaf port.addr).kind ≡ Unsigned) → ((q : ℕ) → mask ≡ Some q → (d : ℕ) × (source ≡ Some d))
-        → integer_of (value (over_leaf addr port mask source g) sight) ≡ (if (set && nat_lt its depth) && ((its == at) && is_set_at sight mask) then integer_at sight source else held at k)
-    by_leaf None source r h = e ∙ sym (not_masked (set && nat_lt its depth) (its == at) (integer_at sight source) (held at k))
+    by_leaf : (mask source : Option ℕ) → (port_reads : (instant.leaf port.addr).kind ≡ Unsigned) → ((q : ℕ) → mask ≡ Some q → (d : ℕ) × (source ≡ Some d))
+        → integer_of (value (over_leaf addr port mask source g) instant) ≡ (if (set && nat_lt its depth) && ((its == at) && is_set_at instant mask) then integer_at instant source else held at k)
+    by_leaf None source r h = e ∙ sym (not_masked (set && nat_lt its depth) (its == at) (integer_at instant source) (held at k))
     by_leaf (Some q) None r h = absurd (none_some (h q refl).1)
     by_leaf (Some q) (Some d) r h =
         let condition = writing_ground port.en port.mode (both_ground q (same_ground port.addr addr)) in
-        let test : is_one (value condition sight) ≡ ((set && nat_lt its depth) && ((its == at) && is_set sight q))
-        = writing_value sight port.en port.mode (both_ground q (same_ground port.addr addr))
-        ∙ (ap (λ b. set && b) (both_value sight q (same_ground port.addr addr) ∙ ap (λ b. is_set sight q && b) (same_is sight port.addr addr r plain))
-        ∙ conditions set (is_set sight q) (its == at) (nat_lt its depth) (λ t. ap (λ n. nat_lt n depth) (numbers_same its at t) ∙ within)) in
-        ap integer_of (value-Mux (condition ∷ Leaf d ∷ g ∷ []) sight ∙ ap (λ v. chosen (value condition sight ∷ v ∷ value g sight ∷ [])) (value-Leaf d sight))
-        ∙ (chosen_integer (is_one (value condition sight)) (sight.leaf d) (value g sight) ∙ ap₂ (λ b i. if b then integer_of (sight.leaf d) else i) test e)
+        let test : is_one (value condition instant) ≡ ((set && nat_lt its depth) && ((its == at) && is_set instant q))
+        = writing_value instant port.en port.mode (both_ground q (same_ground port.addr addr))
+        ∙ (ap (λ b. set && b) (both_value instant q (same_ground port.addr addr) ∙ ap (λ b. is_set instant q && b) (same_is instant port.addr addr r plain))
+        ∙ conditions set (is_set instant q) (its == at) (nat_lt its depth) (λ t. ap (λ n. nat_lt n depth) (numbers_same its at t) ∙ within)) in
+        ap integer_of (value-Mux (condition ∷ Leaf d ∷ g ∷ []) instant ∙ ap (λ v. chosen (value condition instant ∷ v ∷ value g instant ∷ [])) (value-Leaf d instant))
+        ∙ (chosen_integer (is_one (value condition instant)) (instant.leaf d) (value g instant) ∙ ap₂ (λ b i. if b then integer_of (instant.leaf d) else i) test e)
 
     by_write : (o : Option NetWrite) → ((write : NetWrite) → o ≡ Some write → HasWriter table k s port write)
-        → integer_of (value (over_leaf addr port (mask_leaf o k) (written_leaf o k) g) sight)
-        ≡ (if (where_it_writes o set && nat_lt its depth) && ((its == at) && is_set_at sight (mask_leaf o k)) then integer_at sight (written_leaf o k) else held at k)
+        → integer_of (value (over_leaf addr port (mask_leaf o k) (written_leaf o k) g) instant)
+        ≡ (if (where_it_writes o set && nat_lt its depth) && ((its == at) && is_set_at instant (mask_leaf o k)) then integer_at instant (written_leaf o k) else held at k)
     by_write None h = e
     by_write (Some write) h = let w = h write refl in by_leaf (slice_get write.masks k) (slice_get write.leaves k) (unsigned_there port.addr w.reader.addr) w.both
 
-    over_value : ((write : NetWrite) → port.write ≡ Some write → HasWriter table k s port write) → integer_of (value (over_ground addr k port g) sight) ≡ after_port depth held (shown sight port) at k
+    over_value : ((write : NetWrite) → port.write ≡ Some write → HasWriter table k s port write) → integer_of (value (over_ground addr k port g) instant) ≡ after_port depth held (shown instant port) at k
     over_value h = by_write port.write h
 
   -- what all ports leave, one after the other
   pub all_over : (ports : List NetPort) (g : Ground) (held : Held ℕ) → nat_lt at depth ≡ true → All (λ writer. (write : NetWrite) → writer.write ≡ Some write → HasWriter table k s writer write) ports
-      → integer_of (value g sight) ≡ held at k → integer_of (value (fold (λ h writer. over_ground addr k writer h) g ports) sight) ≡ after_ports depth (shown sight) ports held at k
+      → integer_of (value g instant) ≡ held at k → integer_of (value (fold (λ h writer. over_ground addr k writer h) g ports) instant) ≡ after_ports depth (shown instant) ports held at k
   all_over [] g held within each e = e
   all_over (port ∷ ports) g held within each e =
-      all_over ports (over_ground addr k port g) (after_port depth held (shown sight port)) within (λ j d lt. each (suc j) d (omega (arith, lt)))
+      all_over ports (over_ground addr k port g) (after_port depth held (shown instant port)) within (λ j d lt. each (suc j) d (omega (arith, lt)))
       (over_value port g held within e (each 0 port (omega arith)))
 
 -- Reads
 
-module _ (sight : Sight) (table : Table) (memory : NetMemory) (port : NetPort) (of : MemoryLeaf) (held : Held ℕ) (read : NetRead) (has : HasCapture table memory port of) (shapes : HasShapes table sight)
-    (shows : ShowsHeld sight memory of held) (reads : port.read ≡ Some read) where
+module _ (instant : Instant) (table : Table) (memory : NetMemory) (port : NetPort) (of : MemoryLeaf) (held : Held ℕ) (read : NetRead) (has : HasCapture table memory port of) (shapes : HasShapes table instant)
+    (shows : ShowsHeld instant memory of held) (reads : port.read ≡ Some read) where
   abbrev asked : Bool
-  asked = set_to_read (is_set sight port.en) (option_map (is_set sight) port.mode)
+  asked = set_to_read (is_set instant port.en) (option_map (is_set instant) port.mode)
 
   abbrev place : ℕ
-  place = unsigned_abs (integer_of (sight.leaf port.addr))
+  place = unsigned_abs (integer_of (instant.leaf port.addr))
 
-  addr_kind : (sight.leaf port.addr).kind ≡ Unsigned
+  addr_kind : (instant.leaf port.addr).kind ≡ Unsigned
   addr_kind = ap (λ (t : Shape). t.kind) (shapes.leaf port.addr (shaped Unsigned has.reader.addr.width) has.reader.addr.there)
 
-  it_reads : (shown sight port).reads ≡ asked
+  it_reads : (shown instant port).reads ≡ asked
   it_reads = ap (λ o. where_it_reads o asked) reads
 
   -- read from given contents
-  read_is : (now : Held ℕ) → (if asked && nat_lt place memory.depth then now place of.number else pos 0) ≡ read_by_port memory.depth now (shown sight port) of.number
+  read_is : (now : Held ℕ) → (if asked && nat_lt place memory.depth then now place of.number else pos 0) ≡ read_by_port memory.depth now (shown instant port) of.number
   read_is now = ap (λ b. if b && nat_lt place memory.depth then now place of.number else pos 0) (sym it_reads)
 
-  before_value : integer_of (value (before_ground port of) sight) ≡ read_by_port memory.depth held (shown sight port) of.number
+  before_value : integer_of (value (before_ground port of) instant) ≡ read_by_port memory.depth held (shown instant port) of.number
   before_value =
       let condition = reading_ground port.en port.mode (Const one_bit) in
-      let element = sight.load of.memory of.number (sight.leaf port.addr) in
-      let test : is_one (value condition sight) ≡ asked = reading_value sight port.en port.mode (Const one_bit) ∙ (ap (λ v. asked && is_one v) (value-Const one_bit sight) ∙ and_true asked) in
-      ap integer_of (value-Load of.memory of.number (Leaf port.addr ∷ condition ∷ []) sight ∙ ap (λ v. loaded (sight.load of.memory of.number) (v ∷ value condition sight ∷ [])) (value-Leaf port.addr sight))
-      ∙ (chosen_integer (is_one (value condition sight)) element (fitted element.kind element.width (pos 0))
-      ∙ (ap₂ (λ b i. if b then i else integer_of (fitted element.kind element.width (pos 0))) test (shows (sight.leaf port.addr))
+      let element = instant.load of.memory of.number (instant.leaf port.addr) in
+      let test : is_one (value condition instant) ≡ asked = reading_value instant port.en port.mode (Const one_bit) ∙ (ap (λ v. asked && is_one v) (value-Const one_bit instant) ∙ and_true asked) in
+      ap integer_of (value-Load of.memory of.number (Leaf port.addr ∷ condition ∷ []) instant ∙ ap (λ v. loaded (instant.load of.memory of.number) (v ∷ value condition instant ∷ [])) (value-Leaf port.addr instant))
+      ∙ (chosen_integer (is_one (value condition instant)) element (fitted element.kind element.width (pos 0))
+      ∙ (ap₂ (λ b i. if b then i else integer_of (fitted element.kind element.width (pos 0))) test (shows (instant.leaf port.addr))
       ∙ (ap (λ i. if asked then (if nat_lt place memory.depth then held place of.number else pos 0) else i) (zero_integer element.kind element.width)
       ∙ (by_tests asked (nat_lt place memory.depth) (held place of.number) ∙ read_is held))))
     where
@@ -234,27 +234,27 @@ module _ (sight : Sight) (table : Table) (memory : NetMemory) (port : NetPort) (
       by_tests true b i = refl
       by_tests false b i = refl
 
-  there_value : nat_lt place memory.depth ≡ true → integer_of (value (there_ground port.addr of) sight) ≡ held place of.number
+  there_value : nat_lt place memory.depth ≡ true → integer_of (value (there_ground port.addr of) instant) ≡ held place of.number
   there_value within =
-      ap integer_of (value-Load of.memory of.number (Leaf port.addr ∷ Const one_bit ∷ []) sight
-      ∙ ap₂ (λ v w. loaded (sight.load of.memory of.number) (v ∷ w ∷ [])) (value-Leaf port.addr sight) (value-Const one_bit sight))
-      ∙ (shows (sight.leaf port.addr) ∙ ap (λ b. if b then held place of.number else pos 0) within)
+      ap integer_of (value-Load of.memory of.number (Leaf port.addr ∷ Const one_bit ∷ []) instant
+      ∙ ap₂ (λ v w. loaded (instant.load of.memory of.number) (v ∷ w ∷ [])) (value-Leaf port.addr instant) (value-Const one_bit instant))
+      ∙ (shows (instant.leaf port.addr) ∙ ap (λ b. if b then held place of.number else pos 0) within)
 
-  after_value : memory.depth < 2 ^ 128 → integer_of (value (after_ground memory port of) sight) ≡ read_by_port memory.depth (after_ports memory.depth (shown sight) memory.ports held) (shown sight port) of.number
+  after_value : memory.depth < 2 ^ 128 → integer_of (value (after_ground memory port of) instant) ≡ read_by_port memory.depth (after_ports memory.depth (shown instant) memory.ports held) (shown instant port) of.number
   after_value small =
       let bound = fitted Unsigned 128 (pos memory.depth) in
       let condition = reading_ground port.en port.mode (below_ground port.addr bound) in
       let all = fold (λ h writer. over_ground port.addr of.number writer h) (there_ground port.addr of) memory.ports in
       let none = fitted of.kind of.width (pos 0) in
-      let now = after_ports memory.depth (shown sight) memory.ports held in
-      let test : is_one (value condition sight) ≡ (asked && nat_lt place memory.depth)
-      = reading_value sight port.en port.mode (below_ground port.addr bound) ∙ ap (λ b. asked && b) (below_is sight port.addr memory.depth addr_kind small) in
-      ap integer_of (value-Mux (condition ∷ all ∷ Const none ∷ []) sight ∙ ap (λ v. chosen (value condition sight ∷ value all sight ∷ v ∷ [])) (value-Const none sight))
-      ∙ (chosen_integer (is_one (value condition sight)) (value all sight) none
-      ∙ (ap₂ (λ b i. if b then integer_of (value all sight) else i) test (zero_integer of.kind of.width)
-      ∙ (where_true (asked && nat_lt place memory.depth) (integer_of (value all sight)) (now place of.number) (λ t.
+      let now = after_ports memory.depth (shown instant) memory.ports held in
+      let test : is_one (value condition instant) ≡ (asked && nat_lt place memory.depth)
+      = reading_value instant port.en port.mode (below_ground port.addr bound) ∙ ap (λ b. asked && b) (below_is instant port.addr memory.depth addr_kind small) in
+      ap integer_of (value-Mux (condition ∷ all ∷ Const none ∷ []) instant ∙ ap (λ v. chosen (value condition instant ∷ value all instant ∷ v ∷ [])) (value-Const none instant))
+      ∙ (chosen_integer (is_one (value condition instant)) (value all instant) none
+      ∙ (ap₂ (λ b i. if b then integer_of (value all instant) else i) test (zero_integer of.kind of.width)
+      ∙ (where_true (asked && nat_lt place memory.depth) (integer_of (value all instant)) (now place of.number) (λ t.
       let within = second asked (nat_lt place memory.depth) t in
-      all_over sight table of.number port.addr memory.depth (shaped of.kind of.width) shapes addr_kind memory.ports (there_ground port.addr of) held within has.writers (there_value within))
+      all_over instant table of.number port.addr memory.depth (shaped of.kind of.width) shapes addr_kind memory.ports (there_ground port.addr of) held within has.writers (there_value within))
       ∙ read_is now)))
     where
       second : (a b : Bool) → (a && b) ≡ true → b ≡ true
@@ -269,6 +269,6 @@ module _ (sight : Sight) (table : Table) (memory : NetMemory) (port : NetPort) (
       where_true false i j h = refl
 
   pub captured_value : (after : Bool) → memory.depth < 2 ^ 128
-      → integer_of (value (captured_ground memory port of after) sight) ≡ read_by_port memory.depth (taken after held (next_of_memory sight (Some memory) held)) (shown sight port) of.number
+      → integer_of (value (captured_ground memory port of after) instant) ≡ read_by_port memory.depth (taken after held (next_of_memory instant (Some memory) held)) (shown instant port) of.number
   captured_value true small = after_value small
   captured_value false small = before_value

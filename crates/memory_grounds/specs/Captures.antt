@@ -11,7 +11,7 @@ use Rattle.ground_net.specs.declared.ground.Ground.TheVariants.{Const, Leaf, Op,
 use Rattle.ground_net.specs.declared.net.NetMemory.{NetMemory}
 use Rattle.ground_net.specs.declared.net.NetPort.{NetPort}
 use Rattle.ground_net.specs.declared.net.NetWrite.{NetWrite}
-use Rattle.ground_net.specs.Grounds.{Sight}
+use Rattle.ground_net.specs.Grounds.{Instant}
 use Rattle.net_meaning.specs.Shapes.{Shape, shaped, Table}
 use Rattle.net_meaning.specs.Cycles.{written_leaf, mask_leaf}
 use Rattle.memory_grounds.specs.declared.leaf.MemoryLeaf.{MemoryLeaf}
@@ -102,6 +102,6 @@ pub record HasCapture (table : Table) (memory : NetMemory) (port : NetPort) (of 
   pub writers : All (λ writer. (write : NetWrite) → writer.write ≡ Some write → HasWriter table of.number (shaped of.kind of.width) writer write) memory.ports
 
 -- The leaf of the element at an address shows what is held there, and 0 past the depth.
-abbrev pub ShowsHeld : Sight → NetMemory → MemoryLeaf → Held ℕ → Type 0
-ShowsHeld sight memory of held = (address : Value)
-    → integer_of (sight.load of.memory of.number address) ≡ (if nat_lt (unsigned_abs (integer_of address)) memory.depth then held (unsigned_abs (integer_of address)) of.number else pos 0)
+abbrev pub ShowsHeld : Instant → NetMemory → MemoryLeaf → Held ℕ → Type 0
+ShowsHeld instant memory of held = (address : Value)
+    → integer_of (instant.load of.memory of.number address) ≡ (if nat_lt (unsigned_abs (integer_of address)) memory.depth then held (unsigned_abs (integer_of address)) of.number else pos 0)

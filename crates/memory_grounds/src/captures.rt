@@ -7,7 +7,7 @@ ghost use Rattle.cycle_values.specs.Values.{fitted};
 ghost use Rattle.cycle_values.specs.Ports.{Held, read_by_port};
 ghost use Rattle.ground_net.specs.declared.net.NetRead.{NetRead};
 ghost use Rattle.ground_net.specs.declared.ground.Ground.TheVariants.{Mux as Choice};
-ghost use Rattle.ground_net.specs.Grounds.{Sight, value};
+ghost use Rattle.ground_net.specs.Grounds.{Instant, value};
 ghost use Rattle.net_meaning.specs.Shapes.{Table, HasShapes, shape, shaped};
 ghost use Rattle.net_meaning.specs.Cycles.{taken, next_of_memory, shown};
 ghost use Rattle.memory_grounds.specs.Captures.{one_bit, zero_bit, both_ground, unless_ground, writing_ground, reading_ground, same_ground, below_ground, over_ground, there_ground, before_ground, after_ground as after_of, captured_ground as captured_of, HasCapture, ShowsHeld};
@@ -28,7 +28,7 @@ pub fn captured_ground(
     after: bool,
 ) -> Result<Ground, AllocError>
     ensures itself { IfOk result (λ g. g ≡ captured_of memory.now port.now of after) }
-    ensures value { IfOk result (λ g. (table : Table) (sight : Sight) (held : Held ℕ) (read : NetRead) → HasCapture table memory.now port.now of → HasShapes table sight → ShowsHeld sight memory.now of held → port.now.read ≡ Some read → integer_of (value g sight) ≡ read_by_port memory.now.depth (taken after held (next_of_memory sight (Some memory.now) held)) (shown sight port.now) of.number) }
+    ensures value { IfOk result (λ g. (table : Table) (instant : Instant) (held : Held ℕ) (read : NetRead) → HasCapture table memory.now port.now of → HasShapes table instant → ShowsHeld instant memory.now of held → port.now.read ≡ Some read → integer_of (value g instant) ≡ read_by_port memory.now.depth (taken after held (next_of_memory instant (Some memory.now) held)) (shown instant port.now) of.number) }
     ensures shape { IfOk result (λ g. (table : Table) → HasCapture table memory.now port.now of → shape g table ≡ Some (shaped of.kind of.width)) }
 {
     let depth = depth_value(memory.depth);

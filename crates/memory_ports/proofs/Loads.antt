@@ -17,11 +17,11 @@ use Rattle.ground_net.specs.declared.net.NetMemory.{NetMemory}
 use Rattle.ground_net.specs.declared.net.NetPort.{NetPort}
 use Rattle.ground_net.specs.declared.net.NetRead.{NetRead}
 use Rattle.ground_net.specs.declared.net.ElementLeaf.{ElementLeaf}
-use Rattle.ground_net.specs.Grounds.{Sight, value, mentions, chosen, loaded, joined}
+use Rattle.ground_net.specs.Grounds.{Instant, value, mentions, chosen, loaded, joined}
 use Rattle.ground_net.specs.Cones.{or_no_leaf}
 use Rattle.ground_net.proofs.Layers.{value-Const, value-Leaf, value-Mux, value-Load, mentions-Const, mentions-Leaf, mentions-Mux, mentions-Load}
 use Rattle.net_meaning.specs.Shapes.{Shape, shaped, shape_of_value, Table, all_of, shape_of_choice, shape_of_load, shape}
-use Rattle.net_meaning.specs.Cycles.{NetState, Valuation, sight_of, held_at, fitted_to_element, element_leaf, depth_of, is_set, shown, where_it_reads}
+use Rattle.net_meaning.specs.Cycles.{NetState, Valuation, instant_of, held_at, fitted_to_element, element_leaf, depth_of, is_set, shown, where_it_reads}
 use Rattle.net_meaning.specs.Nets.{IsWithin, element_shape, element_shapes}
 use Rattle.net_meaning.proofs.Shaping.{shape-Const, shape-Leaf, shape-Mux, shape-Load}
 use Rattle.memory_ports.specs.Placing.{zero_bit, reading, load_of}
@@ -58,13 +58,13 @@ one_of : (b : Bool) (v : Value) → is_one (if b then zero_bit else v) ≡ (if b
 one_of true v = refl
 one_of false v = refl
 
-pub reading_value : (sight : Sight) (en : ℕ) (mode : Option ℕ) → is_one (value (reading en mode) sight) ≡ set_to_read (is_set sight en) (option_map (is_set sight) mode)
-reading_value sight en None = ap is_one (value-Leaf en sight)
-reading_value sight en (Some wmode) =
-    ap is_one (value-Mux (ground.Leaf wmode ∷ ground.Const zero_bit ∷ ground.Leaf en ∷ []) sight
-    ∙ (ap (λ v. chosen (v ∷ value (ground.Const zero_bit) sight ∷ value (ground.Leaf en) sight ∷ [])) (value-Leaf wmode sight)
-    ∙ ap₂ (λ v w. chosen (sight.leaf wmode ∷ v ∷ w ∷ [])) (value-Const zero_bit sight) (value-Leaf en sight)))
-    ∙ (one_of (is_set sight wmode) (sight.leaf en) ∙ both (is_set sight wmode) (is_set sight en))
+pub reading_value : (instant : Instant) (en : ℕ) (mode : Option ℕ) → is_one (value (reading en mode) instant) ≡ set_to_read (is_set instant en) (option_map (is_set instant) mode)
+reading_value instant en None = ap is_one (value-Leaf en instant)
+reading_value instant en (Some wmode) =
+    ap is_one (value-Mux (ground.Leaf wmode ∷ ground.Const zero_bit ∷ ground.Leaf en ∷ []) instant
+    ∙ (ap (λ v. chosen (v ∷ value (ground.Const zero_bit) instant ∷ value (ground.Leaf en) instant ∷ [])) (value-Leaf wmode instant)
+    ∙ ap₂ (λ v w. chosen (instant.leaf wmode ∷ v ∷ w ∷ [])) (value-Const zero_bit instant) (value-Leaf en instant)))
+    ∙ (one_of (is_set instant wmode) (instant.leaf en) ∙ both (is_set instant wmode) (is_set instant en))
 
 -- what is loaded where a test holds, and 0 else
 load_by : (element : ElementLeaf) (held : ℤ) (reads within : Bool)
@@ -76,8 +76,8 @@ load_by element held false within = let narrow : element.width ≤ 128 = element
 
 module _ (net : Net) (s : NetState) (rho : Valuation) (m k : ℕ) (memory : NetMemory) (port : NetPort) (read : NetRead) (element : ElementLeaf)
     (there : slice_get net.memories m ≡ Some memory) (reads : port.read ≡ Some read) (has : slice_get memory.elements k ≡ Some element) where
-  abbrev sight : Sight
-  sight = sight_of net s rho
+  abbrev instant : Instant
+  instant = instant_of net s rho
 
   abbrev address : ℕ
   address = unsigned_abs (integer_of (rho port.addr))
@@ -92,16 +92,16 @@ module _ (net : Net) (s : NetState) (rho : Valuation) (m k : ℕ) (memory : NetM
   held_is = ap₂ (λ o d. fitted_to_element o (if nat_lt address (depth_of d) then s.contents m address k else pos 0)) is_element there
 
   abbrev asked : Bool
-  asked = set_to_read (is_set sight port.en) (option_map (is_set sight) port.mode)
+  asked = set_to_read (is_set instant port.en) (option_map (is_set instant) port.mode)
 
-  shows_reads : (shown sight port).reads ≡ asked
+  shows_reads : (shown instant port).reads ≡ asked
   shows_reads = ap (λ o. where_it_reads o asked) reads
 
-  pub loaded_value : value (load_of m k port) sight ≡ fitted element.kind element.width (read_by_port memory.depth (s.contents m) (shown sight port) k)
+  pub loaded_value : value (load_of m k port) instant ≡ fitted element.kind element.width (read_by_port memory.depth (s.contents m) (shown instant port) k)
   loaded_value =
-      value-Load m k (ground.Leaf port.addr ∷ reading port.en port.mode ∷ []) sight
-      ∙ (ap (λ v. loaded (sight.load m k) (v ∷ value (reading port.en port.mode) sight ∷ [])) (value-Leaf port.addr sight)
-      ∙ (ap₂ (λ b v. if b then v else fitted v.kind v.width (pos 0)) (reading_value sight port.en port.mode) held_is
+      value-Load m k (ground.Leaf port.addr ∷ reading port.en port.mode ∷ []) instant
+      ∙ (ap (λ v. loaded (instant.load m k) (v ∷ value (reading port.en port.mode) instant ∷ [])) (value-Leaf port.addr instant)
+      ∙ (ap₂ (λ b v. if b then v else fitted v.kind v.width (pos 0)) (reading_value instant port.en port.mode) held_is
       ∙ (load_by element held asked (nat_lt address memory.depth)
       ∙ ap (λ b. fitted element.kind element.width (if b && nat_lt address memory.depth then held else pos 0)) (sym shows_reads))))
 
@@ -112,12 +112,12 @@ module _ (net : Net) (s : NetState) (rho : Valuation) (m k : ℕ) (memory : NetM
   zero_in : InRange element.kind element.width (pos 0)
   zero_in = subst (InRange element.kind element.width) (zero_is element.kind element.width) (integer_in_range element.kind element.width 0 (pow_pos element.width))
 
-  pub loaded_integer : IsWithin net s → integer_of (value (load_of m k port) sight) ≡ read_by_port memory.depth (s.contents m) (shown sight port) k
+  pub loaded_integer : IsWithin net s → integer_of (value (load_of m k port) instant) ≡ read_by_port memory.depth (s.contents m) (shown instant port) k
   loaded_integer w =
       let narrow : element.width ≤ 128 = element.narrow in
       let shape_there : slice_get (element_shapes memory) k ≡ Some (element_shape element) = slice_get-map element_shape memory.elements k ∙ ap (option_map element_shape) has in
-      ap integer_of loaded_value ∙ fitted_same element.kind element.width (read_by_port memory.depth (s.contents m) (shown sight port) k) narrow
-      (by_test ((shown sight port).reads && nat_lt address memory.depth) (w.contents m address k memory (element_shape element) there shape_there))
+      ap integer_of loaded_value ∙ fitted_same element.kind element.width (read_by_port memory.depth (s.contents m) (shown instant port) k) narrow
+      (by_test ((shown instant port).reads && nat_lt address memory.depth) (w.contents m address k memory (element_shape element) there shape_there))
     where
       by_test : (b : Bool) → InRange element.kind element.width held → InRange element.kind element.width (if b then held else pos 0)
       by_test true h = h

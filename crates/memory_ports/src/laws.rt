@@ -15,7 +15,7 @@ ghost use Rattle.ground_net.specs.declared.net.Role.TheVariants.{Captured};
 ghost use Rattle.ground_net.specs.Grounds.{value, mentions};
 ghost use Rattle.ground_net.specs.Reads.{IsAssigned, driver_of};
 ghost use Rattle.ground_net.specs.Cones.{or_no_leaf};
-ghost use Rattle.net_meaning.specs.Cycles.{NetState, Valuation, sight_of, shown, captures};
+ghost use Rattle.net_meaning.specs.Cycles.{NetState, Valuation, instant_of, shown, captures};
 ghost use Rattle.net_meaning.specs.Nets.{IsNet, IsWithin, HasRole};
 ghost use Rattle.memory_ports.specs.Placing.{load_of, data_of, IsRead, data_in, IsPlaced};
 ghost use Rattle.memory_ports.specs.Sound.{IsSound};
@@ -23,8 +23,8 @@ ghost use Rattle.memory_ports.specs.Sound.{IsSound};
 /// A load has what its port reads, from what the memory holds at the beginning of the cycle, fitted to the leaf of the element; in
 /// a state that is in range it is that integer.
 pub fn loads_are_what_ports_read()
-    ensures value { (net : TheNet) (s : NetState) (rho : Valuation) (m k : ℕ) (memory : TheMemory) (port : ThePort) (read : TheRead) (element : TheElement) → slice_get net.memories m ≡ Some memory → port.read ≡ Some read → slice_get memory.elements k ≡ Some element → value (load_of m k port) (sight_of net s rho) ≡ fitted element.kind element.width (read_by_port memory.depth (s.contents m) (shown (sight_of net s rho) port) k) }
-    ensures integer { (net : TheNet) (s : NetState) (rho : Valuation) (m k : ℕ) (memory : TheMemory) (port : ThePort) (read : TheRead) (element : TheElement) → slice_get net.memories m ≡ Some memory → port.read ≡ Some read → slice_get memory.elements k ≡ Some element → IsWithin net s → integer_of (value (load_of m k port) (sight_of net s rho)) ≡ read_by_port memory.depth (s.contents m) (shown (sight_of net s rho) port) k }
+    ensures value { (net : TheNet) (s : NetState) (rho : Valuation) (m k : ℕ) (memory : TheMemory) (port : ThePort) (read : TheRead) (element : TheElement) → slice_get net.memories m ≡ Some memory → port.read ≡ Some read → slice_get memory.elements k ≡ Some element → value (load_of m k port) (instant_of net s rho) ≡ fitted element.kind element.width (read_by_port memory.depth (s.contents m) (shown (instant_of net s rho) port) k) }
+    ensures integer { (net : TheNet) (s : NetState) (rho : Valuation) (m k : ℕ) (memory : TheMemory) (port : ThePort) (read : TheRead) (element : TheElement) → slice_get net.memories m ≡ Some memory → port.read ≡ Some read → slice_get memory.elements k ≡ Some element → IsWithin net s → integer_of (value (load_of m k port) (instant_of net s rho)) ≡ read_by_port memory.depth (s.contents m) (shown (instant_of net s rho) port) k }
 {}
 
 /// A load mentions the port's address, the mode of a readwriter, and `en`.

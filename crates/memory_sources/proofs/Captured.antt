@@ -8,7 +8,7 @@ use Rattle.ground_net.specs.declared.net.Net.{Net}
 use Rattle.ground_net.specs.declared.net.NetMemory.{NetMemory}
 use Rattle.ground_net.specs.declared.net.NetPort.{NetPort}
 use Rattle.ground_net.specs.declared.net.NetRead.{NetRead}
-use Rattle.ground_net.specs.Grounds.{Sight}
+use Rattle.ground_net.specs.Grounds.{Instant}
 use Rattle.ground_net.specs.Cones.{numbered}
 use Rattle.net_meaning.specs.Cycles.{NetState, Capture, captures, captured_by, next, next_of_capture}
 use Rattle.net_meaning.specs.Words.{captured_word}
@@ -28,20 +28,20 @@ not_same a b ne = ⊎_elim (λ e. absurd (ne e)) (λ n. grind (arith, common_ste
 abbrev pub of_memory : ℕ × NetMemory → List Capture
 of_memory both = flat_map (λ port. captured_by both.0 both.1 port port.read) both.1.ports
 
-module _ (net : Net) (S : Sources) (m : ℕ) (st : NetState) (sight : Sight) (h : HasMemory net S m) where
+module _ (net : Net) (S : Sources) (m : ℕ) (st : NetState) (instant : Instant) (h : HasMemory net S m) where
   abbrev left : Capture → List Publication
-  left = capture_left net S st sight m
+  left = capture_left net S st instant m
 
-  as_left : (n : ℕ) (c : Capture) → slice_get (captures net) n ≡ Some c → capture_told net st sight m (n, c) ≡ left c
+  as_left : (n : ℕ) (c : Capture) → slice_get (captures net) n ≡ Some c → capture_told net st instant m (n, c) ≡ left c
   as_left n c e = by_test (c.number == m) refl
     where
       by_test : (b : Bool) → (c.number == m) ≡ b
-          → (if b then stored (captured_word net n) (fitted (capture_shape net c).kind (capture_shape net c).width ((next net st sight).captured n)) else [])
-          ≡ (if b then stored (word_of (leaf_source S c.leaf)) (fitted (capture_shape net c).kind (capture_shape net c).width (next_of_capture st sight (Some c))) else [])
+          → (if b then stored (captured_word net n) (fitted (capture_shape net c).kind (capture_shape net c).width ((next net st instant).captured n)) else [])
+          ≡ (if b then stored (word_of (leaf_source S c.leaf)) (fitted (capture_shape net c).kind (capture_shape net c).width (next_of_capture st instant (Some c))) else [])
       by_test false t = refl
       by_test true t =
           let s = h.captured n c e (numbers_same c.number m t) in
-          ap₂ (λ at i. stored at (fitted (capture_shape net c).kind (capture_shape net c).width i)) (sym s.word ∙ sym (ap word_of s.there)) (ap (next_of_capture st sight) e)
+          ap₂ (λ at i. stored at (fitted (capture_shape net c).kind (capture_shape net c).width i)) (sym s.word ∙ sym (ap word_of s.there)) (ap (next_of_capture st instant) e)
 
   -- of another memory nothing is left
   other_left : (j : ℕ) (y : NetMemory) → (j ≡ m → ⊥) → flat_map left (of_memory (j, y)) ≡ []
@@ -54,16 +54,16 @@ module _ (net : Net) (S : Sources) (m : ℕ) (st : NetState) (sight : Sight) (h 
       of_captured port read true =
           flat_mapped left (capture_of j y port read) (numbered read.leaves)
           ∙ nothing_left (λ both. left (capture_of j y port read both)) (numbered read.leaves) (λ both.
-          ap (λ b. if b then stored (word_of (leaf_source S both.1)) (fitted (capture_shape net (capture_of j y port read both)).kind (capture_shape net (capture_of j y port read both)).width (next_of_capture st sight (Some (capture_of j y port read both)))) else []) (not_same j m ne))
+          ap (λ b. if b then stored (word_of (leaf_source S both.1)) (fitted (capture_shape net (capture_of j y port read both)).kind (capture_shape net (capture_of j y port read both)).width (next_of_capture st instant (Some (capture_of j y port read both)))) else []) (not_same j m ne))
 
       of_port : (port : NetPort) (o : Option NetRead) → flat_map left (captured_by j y port o) ≡ []
       of_port port None = refl
       of_port port (Some read) = of_captured port read read.captured
 
   -- port by port
-  pub by_ports : captures_told net st sight m ≡ flat_map (λ port. flat_map left (captured_by m h.memory port port.read)) h.memory.ports
+  pub by_ports : captures_told net st instant m ≡ flat_map (λ port. flat_map left (captured_by m h.memory port port.read)) h.memory.ports
   by_ports =
-      each_numbered (capture_told net st sight m) left (captures net) as_left
+      each_numbered (capture_told net st instant m) left (captures net) as_left
       ∙ (flat_twice left of_memory (numbered net.memories)
       ∙ (one_numbered (λ both. flat_map left (of_memory both)) net.memories m h.memory h.there other_left
       ∙ flat_twice left (λ (port : NetPort). captured_by m h.memory port port.read) h.memory.ports))

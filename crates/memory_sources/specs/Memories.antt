@@ -7,7 +7,7 @@ use Rattle.ground_net.specs.declared.net.NetMemory.{NetMemory}
 use Rattle.ground_net.specs.declared.net.NetPort.{NetPort}
 use Rattle.ground_net.specs.declared.net.NetRead.{NetRead}
 use Rattle.ground_net.specs.declared.net.ElementLeaf.{ElementLeaf}
-use Rattle.ground_net.specs.Grounds.{Sight}
+use Rattle.ground_net.specs.Grounds.{Instant}
 use Rattle.ground_net.specs.Cones.{A_memory, needs}
 use Rattle.net_meaning.specs.Cycles.{NetState, Capture, captures, next_of_capture}
 use Rattle.net_meaning.specs.Nets.{table_of}
@@ -54,6 +54,6 @@ abbrev pub capture_of : ℕ → NetMemory → NetPort → NetRead → ℕ × ℕ
 capture_of m memory port read both = record { number = m; memory = memory; port = port; after = read.after; element = both.0; leaf = both.1 }
 
 -- what a captured read of this memory leaves, from the word on in which its leaf stands
-abbrev pub capture_left : Net → Sources → NetState → Sight → ℕ → Capture → List Publication
-capture_left net S st sight m c =
-    if c.number == m then stored (word_of (leaf_source S c.leaf)) (fitted (capture_shape net c).kind (capture_shape net c).width (next_of_capture st sight (Some c))) else []
+abbrev pub capture_left : Net → Sources → NetState → Instant → ℕ → Capture → List Publication
+capture_left net S st instant m c =
+    if c.number == m then stored (word_of (leaf_source S c.leaf)) (fitted (capture_shape net c).kind (capture_shape net c).width (next_of_capture st instant (Some c))) else []

@@ -7,13 +7,13 @@ use Rattle.ground_net.specs.declared.ground.Ground.TheVariants as expression
 use Rattle.ground_net.specs.declared.circuit.GroundStmt.{GroundStmt}
 use Rattle.ground_net.specs.declared.circuit.GroundStmt.TheVariants as statement
 use Rattle.ground_net.specs.declared.circuit.GroundArm.{GroundArm}
-use Rattle.ground_net.specs.Grounds.{Sight, value}
+use Rattle.ground_net.specs.Grounds.{Instant, value}
 use Rattle.ground_net.specs.Statements.{drives}
 use Rattle.net_examples.specs.Circuits.{uint}
 use Rattle.net_examples.specs.Writing.{sint}
 
 -- the leaves from 0 on have these numbers, in two bits
-abbrev pub seeing : List ℕ → Sight
+abbrev pub seeing : List ℕ → Instant
 seeing numbers = record { leaf = λ x. uint 2 (slice_index numbers x); load = λ m k address. uint 0 0 }
 
 abbrev pub constant : ℕ → Ground

@@ -11,7 +11,7 @@ use Rattle.ground_net.specs.declared.net.Role.TheVariants as role
 use Rattle.ground_net.specs.declared.net.Net.{Net}
 use Rattle.ground_net.specs.declared.net.NetMemory.{NetMemory}
 use Rattle.ground_net.specs.declared.net.NetPort.{NetPort}
-use Rattle.net_meaning.specs.Cycles.{NetState, Valuation, sight_of, next}
+use Rattle.net_meaning.specs.Cycles.{NetState, Valuation, instant_of, next}
 
 -- the UInt of this width
 abbrev pub uint : ℕ → ℕ → Value
@@ -56,7 +56,7 @@ asking en wmode address x = if x == 0 then uint 2 address else if x == 1 then ui
 
 -- The state after it.
 abbrev pub asked : ℕ → ℕ → ℕ → ℕ → NetState
-asked depth en wmode address = next (of_readwriter depth) holding (sight_of (of_readwriter depth) holding (asking en wmode address))
+asked depth en wmode address = next (of_readwriter depth) holding (instant_of (of_readwriter depth) holding (asking en wmode address))
 
 -- A reader whose data come a cycle later: main's inputs are the address (leaf 0) and `en` (1), and its output (2) shows the register
 -- (4), which takes what was read (3).

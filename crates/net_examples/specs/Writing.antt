@@ -7,7 +7,7 @@ use Rattle.ground_net.specs.declared.ground.Ground.TheVariants as expression
 use Rattle.ground_net.specs.declared.net.Role.TheVariants as role
 use Rattle.ground_net.specs.declared.net.Net.{Net}
 use Rattle.ground_net.specs.declared.net.NetMemory.{NetMemory}
-use Rattle.net_meaning.specs.Cycles.{NetState, Valuation, sight_of, next}
+use Rattle.net_meaning.specs.Cycles.{NetState, Valuation, instant_of, next}
 use Rattle.net_examples.specs.Circuits.{uint, leaf, memory, reader}
 use Rattle.net_examples.specs.Kept.{signed_leaf}
 use Rattle.net_examples.specs.Needing.{memory_behind, port_from, writing_from, reading_from}
@@ -36,7 +36,7 @@ masked a b c d x =
 
 -- The state after these masks.
 abbrev pub met : ℕ → ℕ → ℕ → ℕ → NetState
-met a b c d = next meeting before_meeting (sight_of meeting before_meeting (masked a b c d))
+met a b c d = next meeting before_meeting (instant_of meeting before_meeting (masked a b c d))
 
 -- the SInt of four bits
 abbrev pub sint : ℤ → Value
@@ -66,4 +66,4 @@ resetting reset x = if x == 0 then uint 1 reset else if x == 1 then sint (negsuc
 
 -- The state after a cycle with this reset.
 abbrev pub registered : ℕ → NetState
-registered reset = next registering holding_6 (sight_of registering holding_6 (resetting reset))
+registered reset = next registering holding_6 (instant_of registering holding_6 (resetting reset))

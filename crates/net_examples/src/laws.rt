@@ -6,7 +6,7 @@ ghost use Rattle.ground_net.specs.Grounds.{value};
 ghost use Rattle.ground_net.specs.Cones.{A_watched, A_register, A_memory, InCone, sinks, needs};
 ghost use Rattle.ground_net.specs.Reads.{IsOrder};
 ghost use Rattle.ground_net.specs.Statements.{live, is_certain};
-ghost use Rattle.net_meaning.specs.Cycles.{sight_of};
+ghost use Rattle.net_meaning.specs.Cycles.{instant_of};
 ghost use Rattle.net_meaning.specs.Nets.{IsNet};
 ghost use Rattle.net_meaning.specs.Words.{SaysItsWords, words_of, register_word, memory_word, element_word, captured_word, state_words};
 ghost use Rattle.net_examples.specs.Circuits.{uint, of_readwriter, holding, asking, asked, delayed};
@@ -39,8 +39,8 @@ pub fn addresses_past_the_depth_have_nothing()
     ensures kept { (asked 3 1 1 3).contents 0 3 0 ≡ pos 4 }
     ensures first { (asked 3 1 1 3).contents 0 0 0 ≡ pos 4 }
     ensures read { (asked 3 1 0 3).captured 0 ≡ pos 0 }
-    ensures loaded { value (A_load 0 0 (A_constant (uint 2 3) ∷ A_constant (uint 1 1) ∷ [])) (sight_of (of_readwriter 3) holding (asking 0 0 0)) ≡ uint 8 0 }
-    ensures last { value (A_load 0 0 (A_constant (uint 2 2) ∷ A_constant (uint 1 1) ∷ [])) (sight_of (of_readwriter 3) holding (asking 0 0 0)) ≡ uint 8 4 }
+    ensures loaded { value (A_load 0 0 (A_constant (uint 2 3) ∷ A_constant (uint 1 1) ∷ [])) (instant_of (of_readwriter 3) holding (asking 0 0 0)) ≡ uint 8 0 }
+    ensures last { value (A_load 0 0 (A_constant (uint 2 2) ∷ A_constant (uint 1 1) ∷ [])) (instant_of (of_readwriter 3) holding (asking 0 0 0)) ≡ uint 8 4 }
 {}
 
 /// There are well formed nets: one with inputs, an assignment, a captured read and a register.

@@ -29,8 +29,8 @@ use Rattle.ground_net.specs.declared.net.Net.{Net}
 use Rattle.ground_net.specs.declared.net.NetMemory.{NetMemory}
 use Rattle.ground_net.specs.declared.net.NetPort.{NetPort}
 use Rattle.ground_net.specs.declared.net.NetRead.{NetRead}
-use Rattle.ground_net.specs.Grounds.{Sight}
-use Rattle.net_meaning.specs.Cycles.{NetState, Capture, sight_of, captures, is_set, integer_at, is_set_at, written_leaf, mask_leaf, where_it_writes, where_it_reads}
+use Rattle.ground_net.specs.Grounds.{Instant}
+use Rattle.net_meaning.specs.Cycles.{NetState, Capture, instant_of, captures, is_set, integer_at, is_set_at, written_leaf, mask_leaf, where_it_writes, where_it_reads}
 use Rattle.net_meaning.specs.Cycles as cycle
 use Rattle.net_meaning.specs.Nets.{IsNet, HasRole}
 use Rattle.net_meaning.proofs.Ranges.{ComesFrom, capture_from}
@@ -100,8 +100,8 @@ module _ (texts : Texts) (design : Design) (placed : List Placed) (elements : Li
   abbrev tree_rho : Valuation
   tree_rho = seen_valuation placed net t rho
 
-  abbrev sight : Sight
-  sight = sight_of net t rho
+  abbrev instant : Instant
+  instant = instant_of net t rho
 
   -- A memory of the run, and its leaves
   module _ (p : Placed) (memory : Memory) (sort : p.c.declaration.sort ≡ A_memory memory) (reached : module_at design p.path ≡ Some p.m) (declared : component_named p.m p.c.declaration.name ≡ Some p.c) where
@@ -115,43 +115,43 @@ module _ (texts : Texts) (design : Design) (placed : List Placed) (elements : Li
     named way x n =
         local_at p.m p.path tree_rho (record { component = p.c.declaration.name; way = way })
         ∙ (ap (at tree_rho) (ap (λ o. flat_through p.path p.c.declaration.name o way) none ∙ flat_none p.path p.c.declaration.name way)
-        ∙ (ap (tree_rho p.path p.c.declaration.name) (sym n.is) ∙ valuation_at design placed lists sight x (p, n.leaf) n.there))
+        ∙ (ap (tree_rho p.path p.c.declaration.name) (sym n.is) ∙ valuation_at design placed lists instant x (p, n.leaf) n.there))
 
-    set_at : (way : List PathStep) (x : ℕ) → Names (all_leaves placed) p way x → int_eq (shows way) (pos 1) ≡ is_set sight x
+    set_at : (way : List PathStep) (x : ℕ) → Names (all_leaves placed) p way x → int_eq (shows way) (pos 1) ≡ is_set instant x
     set_at way x n = ap (λ i. int_eq i (pos 1)) (named way x n)
 
     -- A port
     module _ (element : FirType) (port : MemoryPort) (np : NetPort) (of : IsPortOf (all_leaves placed) p memory element port np) where
-      address_same : tree_ports.address shows port ≡ unsigned_abs (integer_of (sight.leaf np.addr))
+      address_same : tree_ports.address shows port ≡ unsigned_abs (integer_of (instant.leaf np.addr))
       address_same = ap unsigned_abs (named (step.Field port.name ∷ step.Field addr_name ∷ []) np.addr of.addr)
 
-      en_same : tree_ports.is_set shows port en_name ≡ is_set sight np.en
+      en_same : tree_ports.is_set shows port en_name ≡ is_set instant np.en
       en_same = set_at (step.Field port.name ∷ step.Field en_name ∷ []) np.en of.en
 
-      mode_same : (x : ℕ) → Names (all_leaves placed) p (step.Field port.name ∷ step.Field wmode_name ∷ []) x → tree_ports.is_set shows port wmode_name ≡ is_set sight x
+      mode_same : (x : ℕ) → Names (all_leaves placed) p (step.Field port.name ∷ step.Field wmode_name ∷ []) x → tree_ports.is_set shows port wmode_name ≡ is_set instant x
       mode_same x n = set_at (step.Field port.name ∷ step.Field wmode_name ∷ []) x n
 
-      writes_same : (md : PortMode) → port.mode ≡ md → asks_to_write shows port md ≡ where_it_writes np.write (set_to_write (is_set sight np.en) (option_map (is_set sight) np.mode))
-      writes_same mode.Reader e = sym (ap (λ o. where_it_writes o (set_to_write (is_set sight np.en) (option_map (is_set sight) np.mode))) (of.no_write (ap may_write e)))
+      writes_same : (md : PortMode) → port.mode ≡ md → asks_to_write shows port md ≡ where_it_writes np.write (set_to_write (is_set instant np.en) (option_map (is_set instant) np.mode))
+      writes_same mode.Reader e = sym (ap (λ o. where_it_writes o (set_to_write (is_set instant np.en) (option_map (is_set instant) np.mode))) (of.no_write (ap may_write e)))
       writes_same mode.Writer e =
           let w = of.write (ap may_write e) in
-          en_same ∙ sym (ap₂ (λ o m. where_it_writes o (set_to_write (is_set sight np.en) (option_map (is_set sight) m))) w.1 (of.no_mode (ap has_mode e)))
+          en_same ∙ sym (ap₂ (λ o m. where_it_writes o (set_to_write (is_set instant np.en) (option_map (is_set instant) m))) w.1 (of.no_mode (ap has_mode e)))
       writes_same mode.ReadWriter e =
           let w = of.write (ap may_write e) in
           let m = of.mode (ap has_mode e) in
           ap₂ (λ a b. a && b) en_same (mode_same m.0 m.2)
-          ∙ sym (ap₂ (λ o m. where_it_writes o (set_to_write (is_set sight np.en) (option_map (is_set sight) m))) w.1 m.1)
+          ∙ sym (ap₂ (λ o m. where_it_writes o (set_to_write (is_set instant np.en) (option_map (is_set instant) m))) w.1 m.1)
 
-      reads_same : (md : PortMode) → port.mode ≡ md → asks_to_read shows port md ≡ where_it_reads np.read (set_to_read (is_set sight np.en) (option_map (is_set sight) np.mode))
-      reads_same mode.Writer e = sym (ap (λ o. where_it_reads o (set_to_read (is_set sight np.en) (option_map (is_set sight) np.mode))) (of.no_read (ap may_read e)))
+      reads_same : (md : PortMode) → port.mode ≡ md → asks_to_read shows port md ≡ where_it_reads np.read (set_to_read (is_set instant np.en) (option_map (is_set instant) np.mode))
+      reads_same mode.Writer e = sym (ap (λ o. where_it_reads o (set_to_read (is_set instant np.en) (option_map (is_set instant) np.mode))) (of.no_read (ap may_read e)))
       reads_same mode.Reader e =
           let r = of.read (ap may_read e) in
-          en_same ∙ sym (ap₂ (λ o m. where_it_reads o (set_to_read (is_set sight np.en) (option_map (is_set sight) m))) r.1 (of.no_mode (ap has_mode e)))
+          en_same ∙ sym (ap₂ (λ o m. where_it_reads o (set_to_read (is_set instant np.en) (option_map (is_set instant) m))) r.1 (of.no_mode (ap has_mode e)))
       reads_same mode.ReadWriter e =
           let r = of.read (ap may_read e) in
           let m = of.mode (ap has_mode e) in
           ap₂ (λ a b. a && not b) en_same (mode_same m.0 m.2)
-          ∙ sym (ap₂ (λ o m. where_it_reads o (set_to_read (is_set sight np.en) (option_map (is_set sight) m))) r.1 m.1)
+          ∙ sym (ap₂ (λ o m. where_it_reads o (set_to_read (is_set instant np.en) (option_map (is_set instant) m))) r.1 m.1)
 
       writer : (md : PortMode) → port.mode ≡ md → asks_to_write shows port md ≡ true → may_write port.mode ≡ true
       writer mode.Reader e w = absurd (true≢false (sym w))
@@ -165,7 +165,7 @@ module _ (texts : Texts) (design : Design) (placed : List Placed) (elements : Li
           let x = item numbers k (subst (λ n. k < n) (sym all.counted) (below_length (leaves element) k leaf e)) in
           (x.0, x.1, all.each k x.0 leaf x.1 e)
 
-      port_agrees : (k : ℕ) (leaf : TypeLeaf) → slice_get (leaves element) k ≡ Some leaf → Agrees leaf.path k (tree_ports.shown shows port) (cycle.shown sight np)
+      port_agrees : (k : ℕ) (leaf : TypeLeaf) → slice_get (leaves element) k ≡ Some leaf → Agrees leaf.path k (tree_ports.shown shows port) (cycle.shown instant np)
       port_agrees k leaf e = record {
         writes = writes_same port.mode refl;
         address = address_same;
@@ -173,26 +173,26 @@ module _ (texts : Texts) (design : Design) (placed : List Placed) (elements : Li
             let writes = of.write (writer port.mode refl w) in
             let x = listed_number (written_field port.mode) writes.0.leaves writes.2 k leaf e in
             named (step.Field port.name ∷ step.Field (written_field port.mode) ∷ leaf.path) x.0 x.2
-            ∙ sym (ap (λ o. integer_at sight (written_leaf o k)) writes.1 ∙ ap (integer_at sight) x.1);
+            ∙ sym (ap (λ o. integer_at instant (written_leaf o k)) writes.1 ∙ ap (integer_at instant) x.1);
         masked = λ w.
             let writes = of.write (writer port.mode refl w) in
             let x = listed_number (mask_field port.mode) writes.0.masks writes.3 k leaf e in
             set_at (step.Field port.name ∷ step.Field (mask_field port.mode) ∷ leaf.path) x.0 x.2
-            ∙ sym (ap (λ o. is_set_at sight (mask_leaf o k)) writes.1 ∙ ap (is_set_at sight) x.1);
+            ∙ sym (ap (λ o. is_set_at instant (mask_leaf o k)) writes.1 ∙ ap (is_set_at instant) x.1);
       }
 
     -- What the memory holds after the writes.
     after_same : (element : FirType) (nm : NetMemory) → IsMemoryOf texts placed p memory element nm → (k : ℕ) (leaf : TypeLeaf) → slice_get (leaves element) k ≡ Some leaf
         → (held : Contents (List PathStep)) (other : Contents ℕ) → ((at : ℕ) → held at leaf.path ≡ other at k)
-        → (at : ℕ) → tree_ports.after_writes memory shows held at leaf.path ≡ cycle.next_of_memory sight (Some nm) other at k
+        → (at : ℕ) → tree_ports.after_writes memory shows held at leaf.path ≡ cycle.next_of_memory instant (Some nm) other at k
     after_same element nm of k leaf e held other same at =
-        after_all (depth_of memory) leaf.path k (tree_ports.shown shows) (cycle.shown sight) (memory_ports memory) nm.ports of.all_ports
+        after_all (depth_of memory) leaf.path k (tree_ports.shown shows) (cycle.shown instant) (memory_ports memory) nm.ports of.all_ports
         (λ q port np f g. port_agrees element port np (of.ports q port np f g) k leaf e) held other same at
-        ∙ ap (λ d. after_ports d (cycle.shown sight) nm.ports other at k) (sym of.depth)
+        ∙ ap (λ d. after_ports d (cycle.shown instant) nm.ports other at k) (sym of.depth)
 
   -- Registers: they show what they hold.
   registers_next : ((x n : ℕ) → HasRole net x (role.Register n) → integer_of (rho x) ≡ t.registers n) → (x n : ℕ) (y : Standing) → slice_get (all_leaves placed) x ≡ Some y → HasRole net x (role.Register n)
-      → (tree.next design s tree_rho).registers y.0.path y.0.c.declaration.name y.1.path ≡ (cycle.next net t sight).registers n
+      → (tree.next design s tree_rho).registers y.0.path y.0.c.declaration.name y.1.path ≡ (cycle.next net t instant).registers n
   registers_next shown x n y e held =
       let stands = (lists.stands x y e).0 in
       let place = located_is design y.0.path y.0.c.declaration.name y.0.m y.0.c stands.reached stands.declared in
@@ -203,7 +203,7 @@ module _ (texts : Texts) (design : Design) (placed : List Placed) (elements : Li
       ap (where_located before (λ found. tree.next_of_register (scene_of found.0 y.0.path tree_rho) found.1 found.1.declaration.sort y.1.path before)) place
       ∙ (ap (tree.next_of_register (scene_of y.0.m y.0.path tree_rho) y.0.c y.0.c.declaration.sort y.1.path) same
       ∙ (is.registers n register.0 y s t rho register.1 (ap (slice_get (all_leaves placed)) register.2 ∙ e) seen_is
-      ∙ ap₂ (cycle.next_of_register net sight) (sym register.1) value))
+      ∙ ap₂ (cycle.next_of_register net instant) (sym register.1) value))
 
   -- Memories
   memory_placed : (m : ℕ) (p : Placed) (memory : Memory) → slice_get (all_memories placed) m ≡ Some (p, memory) → (k : ℕ) × (slice_get placed k ≡ Some p) × (p.c.declaration.sort ≡ A_memory memory)
@@ -236,7 +236,7 @@ module _ (texts : Texts) (design : Design) (placed : List Placed) (elements : Li
 
   contents_next : (m at k : ℕ) (p : Placed) (memory : Memory) (typ : FirType) (leaf : TypeLeaf) → slice_get (all_memories placed) m ≡ Some (p, memory)
       → slice_get elements m ≡ Some typ → slice_get (leaves typ) k ≡ Some leaf
-      → (tree.next design s tree_rho).contents p.path p.c.declaration.name at leaf.path ≡ (cycle.next net t sight).contents m at k
+      → (tree.next design s tree_rho).contents p.path p.c.declaration.name at leaf.path ≡ (cycle.next net t instant).contents m at k
   contents_next m at k p memory typ leaf e f g =
       let in_list = memory_placed m p memory e in
       let there = lists.components in_list.0 p in_list.1 in
@@ -247,7 +247,7 @@ module _ (texts : Texts) (design : Design) (placed : List Placed) (elements : Li
       ∙ (ap (λ sort. tree.next_of_memory (scene_of p.m p.path tree_rho) p.c sort held at leaf.path) in_list.2
       ∙ (after_same p memory in_list.2 there.0 there.1 typ nm.0 (is.memories m p memory typ nm.0 e f nm.2) k leaf g held (t.contents m)
       (λ i. seen_is.states.contents m i k p memory typ leaf e f g) at
-      ∙ sym (ap (λ o. cycle.next_of_memory sight o (t.contents m) at k) nm.2)))
+      ∙ sym (ap (λ o. cycle.next_of_memory instant o (t.contents m) at k) nm.2)))
 
   -- Captured reads
   read_same : (depth : ℕ) (way : List PathStep) (k : ℕ) (a : Shown (List PathStep)) (b : Shown ℕ) (held : Contents (List PathStep)) (other : Contents ℕ) → a.reads ≡ b.reads → a.address ≡ b.address
@@ -268,7 +268,7 @@ module _ (texts : Texts) (design : Design) (placed : List Placed) (elements : Li
 
     core : (p : Placed) (memory : Memory) (typ : FirType) (port : MemoryPort) (l : TypeLeaf) → slice_get (all_memories placed) c.number ≡ Some (p, memory) → slice_get elements c.number ≡ Some typ
         → (of : IsMemoryOf texts placed p memory typ c.memory) → slice_get (memory_ports memory) from.place ≡ Some port → slice_get (leaves typ) c.element ≡ Some l → c.after ≡ is_new (under_of memory)
-        → (tree.next design s tree_rho).captured p.path p.c.declaration.name port.name l.path ≡ cycle.next_of_capture t sight (Some c)
+        → (tree.next design s tree_rho).captured p.path p.c.declaration.name port.name l.path ≡ cycle.next_of_capture t instant (Some c)
     core p memory typ port l e f of at_port at_leaf after =
         let in_list = memory_placed c.number p memory e in
         let there = lists.components in_list.0 p in_list.1 in
@@ -283,13 +283,13 @@ module _ (texts : Texts) (design : Design) (placed : List Placed) (elements : Li
         ap (λ o. where_located kept (λ found. tree.next_of_port (scene_of found.0 p.path tree_rho) found.1 found.1.declaration.sort held) o port.name l.path) place
         ∙ (ap (λ sort. tree.next_of_port (scene_of p.m p.path tree_rho) p.c sort held port.name l.path) in_list.2
         ∙ (ap (λ o. tree_ports.read_of memory show later o l.path) first
-        ∙ (read_same (depth_of memory) l.path c.element (tree_ports.shown show port) (cycle.shown sight c.port) later
-        (cycle.taken c.after (t.contents c.number) (cycle.next_of_memory sight (Some c.memory) (t.contents c.number)))
+        ∙ (read_same (depth_of memory) l.path c.element (tree_ports.shown show port) (cycle.shown instant c.port) later
+        (cycle.taken c.after (t.contents c.number) (cycle.next_of_memory instant (Some c.memory) (t.contents c.number)))
         (reads_same p memory in_list.2 there.0 there.1 typ port c.port port_of port.mode refl) (address_same p memory in_list.2 there.0 there.1 typ port c.port port_of)
-        (taken_same (under_of memory) c.after held (tree_ports.after_writes memory show held) (t.contents c.number) (cycle.next_of_memory sight (Some c.memory) (t.contents c.number)) l.path c.element after
+        (taken_same (under_of memory) c.after held (tree_ports.after_writes memory show held) (t.contents c.number) (cycle.next_of_memory instant (Some c.memory) (t.contents c.number)) l.path c.element after
         (λ i. seen_is.states.contents c.number i c.element p memory typ l e f at_leaf)
         (after_same p memory in_list.2 there.0 there.1 typ c.memory of c.element l at_leaf held (t.contents c.number) (λ i. seen_is.states.contents c.number i c.element p memory typ l e f at_leaf)))
-        ∙ ap (λ d. read_by_port d (cycle.taken c.after (t.contents c.number) (cycle.next_of_memory sight (Some c.memory) (t.contents c.number))) (cycle.shown sight c.port) c.element) (sym of.depth))))
+        ∙ ap (λ d. read_by_port d (cycle.taken c.after (t.contents c.number) (cycle.next_of_memory instant (Some c.memory) (t.contents c.number))) (cycle.shown instant c.port) c.element) (sym of.depth))))
 
   reads_of : (p : Placed) (memory : Memory) (element : FirType) (port : MemoryPort) (np : NetPort) → IsPortOf (all_leaves placed) p memory element port np → (read : NetRead) → np.read ≡ Some read
       → NameAll (all_leaves placed) p port.name (read_field port.mode) element read.leaves × (read.after ≡ is_new (under_of memory))
@@ -302,7 +302,7 @@ module _ (texts : Texts) (design : Design) (placed : List Placed) (elements : Li
     by false q = none_some (sym (of.no_read q) ∙ e)
 
   captured_next : (x n : ℕ) (y : Standing) (port name : ℕ) (way : List PathStep) → slice_get (all_leaves placed) x ≡ Some y → HasRole net x (role.Captured n)
-      → y.1.path ≡ step.Field port ∷ step.Field name ∷ way → (tree.next design s tree_rho).captured y.0.path y.0.c.declaration.name port way ≡ (cycle.next net t sight).captured n
+      → y.1.path ≡ step.Field port ∷ step.Field name ∷ way → (tree.next design s tree_rho).captured y.0.path y.0.c.declaration.name port way ≡ (cycle.next net t instant).captured n
   captured_next x n y port name way e held behind =
       let capture = well.captured x n held in
       let c : Capture = capture.0 in
@@ -325,7 +325,7 @@ module _ (texts : Texts) (design : Design) (placed : List Placed) (elements : Li
       let is_core = core n c capture.1 p memory typ.0 mport.0 l.0 both.1 typ.1 of mport.1 l.1 after in
       ap (λ (q : Placed). (tree.next design s tree_rho).captured q.path q.c.declaration.name port way) (sym (ap (λ z. z.0) same))
       ∙ (ap₂ (λ i w. (tree.next design s tree_rho).captured p.path p.c.declaration.name i w) (first_step (sym path)) (behind_steps (sym path))
-      ∙ (is_core ∙ sym (ap (cycle.next_of_capture t sight) capture.1)))
+      ∙ (is_core ∙ sym (ap (cycle.next_of_capture t instant) capture.1)))
     where
       first_step : {a b c d : ℕ} {v w : List PathStep} → step.Field a ∷ step.Field b ∷ v ≡ step.Field c ∷ step.Field d ∷ w → a ≡ c
       first_step e = cc
@@ -335,5 +335,5 @@ module _ (texts : Texts) (design : Design) (placed : List Placed) (elements : Li
 
   -- The states match behind the cycle, where registers show what they hold.
   pub next_matches : ((x n : ℕ) → HasRole net x (role.Register n) → integer_of (rho x) ≡ t.registers n)
-      → MatchingState (all_leaves placed) (all_memories placed) elements net (tree.next design s tree_rho) (cycle.next net t sight)
+      → MatchingState (all_leaves placed) (all_memories placed) elements net (tree.next design s tree_rho) (cycle.next net t instant)
   next_matches shown = record { registers = registers_next shown; contents = contents_next; captured = captured_next }

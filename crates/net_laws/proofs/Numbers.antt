@@ -7,7 +7,7 @@ use Rattle.fir_types.specs.declared.leaf.PathStep.{PathStep}
 use Rattle.fir_types.specs.declared.leaf.PathStep.TheVariants as step
 use Rattle.fir_meaning.specs.Components.{Design, FlatLeaf}
 use Rattle.fir_meaning.specs.Drives.{same_step, same_way}
-use Rattle.ground_net.specs.Grounds.{Sight}
+use Rattle.ground_net.specs.Grounds.{Instant}
 use Rattle.net_meaning.specs.Cycles.{integer_at}
 use Rattle.net_of_circuit.specs.FlatOrder.{Placed, Standing, all_leaves, flat_of, same_path, same_flat, number_in, ListsLeaves}
 use Rattle.net_of_circuit.specs.NetOf.{valuation_of}
@@ -104,6 +104,6 @@ module _ (design : Design) (placed : List Placed) (lists : ListsLeaves design pl
       (λ z w f g. lists.once z x w y f e (flat_is (flat_of w) (flat_of y) g))
 
   -- What is seen of an entry is the value of its number.
-  pub valuation_at : (sight : Sight) (x : ℕ) (y : Standing) → slice_get (all_leaves placed) x ≡ Some y
-      → valuation_of (all_leaves placed) sight y.0.path y.0.c.declaration.name y.1.path ≡ integer_of (sight.leaf x)
-  valuation_at sight x y e = ap (integer_at sight) (number_is x y e)
+  pub valuation_at : (instant : Instant) (x : ℕ) (y : Standing) → slice_get (all_leaves placed) x ≡ Some y
+      → valuation_of (all_leaves placed) instant y.0.path y.0.c.declaration.name y.1.path ≡ integer_of (instant.leaf x)
+  valuation_at instant x y e = ap (integer_at instant) (number_is x y e)

@@ -20,7 +20,7 @@ use Rattle.ground_net.specs.declared.net.Role.{Role}
 use Rattle.ground_net.specs.declared.net.Role.TheVariants as role
 use Rattle.ground_net.specs.declared.net.Net.{Net}
 use Rattle.ground_net.specs.Watching.{is_shown, told_where, port_leaf, watched}
-use Rattle.net_meaning.specs.Cycles.{NetState, sight_of}
+use Rattle.net_meaning.specs.Cycles.{NetState, instant_of}
 use Rattle.net_meaning.specs.Cycles as cycle
 use Rattle.net_of_circuit.specs.FlatOrder.{Placed, InFlatOrder, no_more, one_more, an_instance, Standing, all_leaves, flat_of, ListsLeaves}
 use Rattle.net_of_circuit.specs.NetOf.{Part, Given, Without_value, part_of_role, part_of, is_input_of_main, is_of_port, is_of_main, IsNetWith, seen_valuation}
@@ -262,7 +262,7 @@ module _ (texts : Texts) (design : Design) (placed : List Placed) (elements : Li
             → map (λ p. integer_of (rho p.leaf)) (filter_map told_at (range_with_len a (length (y ∷ ys)))) ≡ map (λ y. at tree_rho (flat_of y)) (filter is_watched (y ∷ ys))
         by true e rest =
             let told : told_at a ≡ Some (port_leaf a there.0) = ap (told_where is_shown a) there.1 ∙ ap (λ b. if b then Some (port_leaf a there.0) else None) (shown ∙ e) in
-            let value = valuation_at design placed lists (sight_of net t rho) a y here in
+            let value = valuation_at design placed lists (instant_of net t rho) a y here in
             ap (λ o. map (λ p. integer_of (rho p.leaf)) (cons_option o (filter_map told_at (range_with_len (a + 1) (length ys))))) told
             ∙ (ap₂ (λ v l. v ∷ l) (sym value) rest ∙ sym (ap (λ b. map (λ y. at tree_rho (flat_of y)) (cond b (y ∷ filter is_watched ys) (filter is_watched ys))) e))
         by false e rest =

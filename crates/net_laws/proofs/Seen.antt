@@ -33,7 +33,7 @@ use Rattle.ground_net.specs.declared.net.Role.{Role}
 use Rattle.ground_net.specs.declared.net.Role.TheVariants as role
 use Rattle.ground_net.specs.declared.net.Net.{Net}
 use Rattle.ground_net.specs.Reads.{driver_of}
-use Rattle.net_meaning.specs.Cycles.{NetState, Capture, sight_of, captures}
+use Rattle.net_meaning.specs.Cycles.{NetState, Capture, instant_of, captures}
 use Rattle.net_meaning.specs.Cycles as cycle
 use Rattle.net_meaning.specs.Nets.{IsNet, HasRole, AreInputs, register_shapes, captured_shapes, shape_or_none, leaf_shape as net_shape}
 use Rattle.net_of_circuit.specs.FlatOrder.{Placed, Standing, all_leaves, flat_of, ListsLeaves}
@@ -296,7 +296,7 @@ module _ (texts : Texts) (design : Design) (placed : List Placed) (elements : Li
 
     -- what is seen of an entry
     entry_seen : (x : ℕ) (y : Standing) → slice_get (all_leaves placed) x ≡ Some y → at tree_rho (flat_of y) ≡ integer_of (rho x)
-    entry_seen x y e = valuation_at design placed lists (sight_of net t rho) x y e
+    entry_seen x y e = valuation_at design placed lists (instant_of net t rho) x y e
 
     leaf_seen : (path : List ℕ) (m : TypedModule) (c : Component) (leaf : TypeLeaf) (f : Found path m c leaf) → seen m path tree_rho c leaf ≡ integer_of (rho f.x)
     leaf_seen path m c leaf f = seen_at m path tree_rho c leaf ∙ (ap (at tree_rho) (sym f.same) ∙ entry_seen f.x f.y f.there)

@@ -13,7 +13,7 @@ use Rattle.ground_net.specs.declared.net.Net.{Net}
 use Rattle.ground_net.specs.declared.net.Role.TheVariants as role
 use Rattle.ground_net.specs.Reads.{Through, itself, others, IsOrder}
 use Rattle.ground_net.specs.Watching.{watched}
-use Rattle.net_meaning.specs.Cycles.{NetState, sight_of, HasOneSettled as NetHasOne}
+use Rattle.net_meaning.specs.Cycles.{NetState, instant_of, HasOneSettled as NetHasOne}
 use Rattle.net_meaning.specs.Cycles as net_cycle
 use Rattle.net_meaning.specs.Nets.{IsWithin, HasRole, AreInputs, register_shapes, shape_or_none, leaf_shape as net_shape}
 use Rattle.net_meaning.proofs.Loops.{no_loop}
@@ -66,11 +66,11 @@ module _ (texts : Texts) (design : Design) (net : Net) (of : IsNetOf texts desig
 
   module _ (s : State) (t : NetState) (numbered : net_cycle.Inputs) (rho : net_cycle.Valuation) (matching : MatchingState (all_leaves placed) (all_memories placed) of.elements net s t) (within : IsWithin net t)
       (settled : net_cycle.Settled net t numbered rho) where
-    pub nexts_match : MatchingState (all_leaves placed) (all_memories placed) of.elements net (tree.next design s (seen_valuation placed net t rho)) (net_cycle.next net t (sight_of net t rho))
+    pub nexts_match : MatchingState (all_leaves placed) (all_memories placed) of.elements net (tree.next design s (seen_valuation placed net t rho)) (net_cycle.next net t (instant_of net t rho))
     nexts_match = next_matches texts design placed of.elements net of.is of.well_formed lists typed s t rho (seen_of s t numbered rho matching within settled) (shows s t numbered rho within settled)
 
-    pub nexts_within : IsWithin net (net_cycle.next net t (sight_of net t rho))
-    nexts_within = next_within net of.well_formed t (sight_of net t rho) (seen_of s t numbered rho matching within settled).shapes within
+    pub nexts_within : IsWithin net (net_cycle.next net t (instant_of net t rho))
+    nexts_within = next_within net of.well_formed t (instant_of net t rho) (seen_of s t numbered rho matching within settled).shapes within
 
     pub rows_match : map integer_of (map rho (map (λ p. p.leaf) (watched net))) ≡ tree.row design (seen_valuation placed net t rho)
     rows_match =
@@ -86,7 +86,7 @@ module _ (texts : Texts) (design : Design) (net : Net) (of : IsNetOf texts desig
   run_traces s t matching within (g ∷ given) (n ∷ numbered) (one_more inputs ranges later) (runs.cycle {rows = more} rho settled rest) =
       subst (λ row. Trace design s (g ∷ given) (row ∷ map (map integer_of) more)) (sym (rows_match s t n rho matching within settled))
       (cycle (seen_valuation placed net t rho) (settles s t g n rho matching within inputs ranges settled)
-      (run_traces (tree.next design s (seen_valuation placed net t rho)) (net_cycle.next net t (sight_of net t rho)) (nexts_match s t n rho matching within settled)
+      (run_traces (tree.next design s (seen_valuation placed net t rho)) (net_cycle.next net t (instant_of net t rho)) (nexts_match s t n rho matching within settled)
       (nexts_within s t n rho matching within settled) given numbered later rest))
 
   -- Loops

@@ -2,7 +2,7 @@
 use Rattle.std.specs.Prelude.{ℕ, List, [], ◌∷◌, map}
 use Rattle.bit_words.specs.declared.value.Value.{Value}
 use Rattle.ground_net.specs.declared.net.Net.{Net}
-use Rattle.net_meaning.specs.Cycles.{NetState, Inputs, Valuation, Settled, sight_of, next}
+use Rattle.net_meaning.specs.Cycles.{NetState, Inputs, Valuation, Settled, instant_of, next}
 use Rattle.fir_meaning.specs.States as tree
 use Rattle.net_meaning.specs.Nets.{AreInputs}
 use Rattle.net_of_circuit.specs.FlatOrder.{Standing}
@@ -12,7 +12,7 @@ use Rattle.net_of_circuit.specs.NetOf.{MatchingInputs}
 pub data Run (net : Net) (watch : List ℕ) : NetState → List Inputs → List (List Value) → Type 0 where
   ended : {t : NetState} → Run net watch t [] []
   cycle : {t : NetState} {given : Inputs} {later : List Inputs} {rows : List (List Value)} (rho : Valuation) → Settled net t given rho
-      → Run net watch (next net t (sight_of net t rho)) later rows → Run net watch t (given ∷ later) (map rho watch ∷ rows)
+      → Run net watch (next net t (instant_of net t rho)) later rows → Run net watch t (given ∷ later) (map rho watch ∷ rows)
 
 -- The inputs of the circuit are those of the net, cycle by cycle, and in range.
 pub data AreGiven (all : List Standing) (net : Net) : List tree.Inputs → List Inputs → Type 0 where

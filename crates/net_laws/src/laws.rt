@@ -8,10 +8,10 @@ ghost use Rattle.fir_meaning.specs.Components.{Design};
 ghost use Rattle.fir_meaning.specs.States.{State, Inputs, Settled, Trace, HasOneSettled, next};
 ghost use Rattle.fir_meaning.specs.Loops.{HasNoLoop};
 ghost use Rattle.ground_net.specs.declared.net.Net.{Net as TheNet};
-ghost use Rattle.ground_net.specs.Grounds.{Sight};
+ghost use Rattle.ground_net.specs.Grounds.{Instant};
 ghost use Rattle.ground_net.specs.Reads.{IsOrder};
 ghost use Rattle.ground_net.specs.Watching.{watched};
-ghost use Rattle.net_meaning.specs.Cycles.{NetState, sight_of};
+ghost use Rattle.net_meaning.specs.Cycles.{NetState, instant_of};
 ghost use Rattle.net_meaning.specs.Cycles as cycles;
 ghost use Rattle.net_meaning.specs.Nets.{IsWithin, AreInputs};
 ghost use Rattle.net_of_circuit.specs.FlatOrder.{Placed, Standing, all_leaves, ListsLeaves};
@@ -21,7 +21,7 @@ ghost use Rattle.net_laws.specs.Serves.{Serves, Matches};
 
 /// What is seen of a leaf of the circuit is the value of its number in flat order.
 pub fn leaves_are_seen_by_number()
-    ensures { (design : Design) (placed : List Placed) → ListsLeaves design placed → (sight : Sight) (x : ℕ) (y : Standing) → slice_get (all_leaves placed) x ≡ Some y → valuation_of (all_leaves placed) sight y.0.path y.0.c.declaration.name y.1.path ≡ integer_of (sight.leaf x) }
+    ensures { (design : Design) (placed : List Placed) → ListsLeaves design placed → (instant : Instant) (x : ℕ) (y : Standing) → slice_get (all_leaves placed) x ≡ Some y → valuation_of (all_leaves placed) instant y.0.path y.0.c.declaration.name y.1.path ≡ integer_of (instant.leaf x) }
 {}
 
 /// Where the assignments of a circuit's net have an order, no leaf of the circuit reads itself.
@@ -36,8 +36,8 @@ pub fn settled_nets_settle_circuits()
 
 /// And the next states match and are in range again.
 pub fn next_states_match()
-    ensures matching { (texts : Texts) (design : Design) (net : TheNet) (sequence : List ℕ) (serves : Serves texts design net) → IsOrder net sequence → (s : State) (t : NetState) (numbered : cycles.Inputs) (rho : cycles.Valuation) → Matches serves s t → IsWithin net t → cycles.Settled net t numbered rho → Matches serves (next design s (seen_valuation serves.of.placed net t rho)) (cycles.next net t (sight_of net t rho)) }
-    ensures within { (texts : Texts) (design : Design) (net : TheNet) (sequence : List ℕ) (serves : Serves texts design net) → IsOrder net sequence → (s : State) (t : NetState) (numbered : cycles.Inputs) (rho : cycles.Valuation) → Matches serves s t → IsWithin net t → cycles.Settled net t numbered rho → IsWithin net (cycles.next net t (sight_of net t rho)) }
+    ensures matching { (texts : Texts) (design : Design) (net : TheNet) (sequence : List ℕ) (serves : Serves texts design net) → IsOrder net sequence → (s : State) (t : NetState) (numbered : cycles.Inputs) (rho : cycles.Valuation) → Matches serves s t → IsWithin net t → cycles.Settled net t numbered rho → Matches serves (next design s (seen_valuation serves.of.placed net t rho)) (cycles.next net t (instant_of net t rho)) }
+    ensures within { (texts : Texts) (design : Design) (net : TheNet) (sequence : List ℕ) (serves : Serves texts design net) → IsOrder net sequence → (s : State) (t : NetState) (numbered : cycles.Inputs) (rho : cycles.Valuation) → Matches serves s t → IsWithin net t → cycles.Settled net t numbered rho → IsWithin net (cycles.next net t (instant_of net t rho)) }
 {}
 
 /// A circuit whose net has an order has exactly one settled valuation for each state and each inputs that are in range.

@@ -16,8 +16,8 @@ use Rattle.ground_net.specs.declared.net.NetMemory.{NetMemory}
 use Rattle.ground_net.specs.declared.net.NetPort.{NetPort}
 use Rattle.ground_net.specs.declared.net.NetWrite.{NetWrite}
 use Rattle.ground_net.specs.declared.net.NetRead.{NetRead}
-use Rattle.ground_net.specs.Grounds.{Sight, value}
-use Rattle.net_meaning.specs.Cycles.{NetState, Valuation, sight_of, next}
+use Rattle.ground_net.specs.Grounds.{Instant, value}
+use Rattle.net_meaning.specs.Cycles.{NetState, Valuation, instant_of, next}
 use Rattle.net_meaning.specs.Words.{words_of_value}
 
 abbrev pub v : ℕ → ℕ → Value
@@ -52,9 +52,9 @@ abbrev counting : ℕ → ℕ → Valuation
 counting reset n x = if x == 0 then v 1 reset else v 4 n
 
 abbrev counted : ℕ → ℕ → NetState
-counted reset n = next counter (holding n 0 0) (sight_of counter (holding n 0 0) (counting reset n))
+counted reset n = next counter (holding n 0 0) (instant_of counter (holding n 0 0) (counting reset n))
 
-counter_shows : value (ground.Leaf 2) (sight_of counter (holding 7 0 0) (counting 0 7)) ≡ v 4 7
+counter_shows : value (ground.Leaf 2) (instant_of counter (holding 7 0 0) (counting 0 7)) ≡ v 4 7
 counter_shows = grind (arith, common_steps, the_lemmas)
 
 counter_counts : (counted 0 7).registers 0 ≡ pos 8
@@ -77,7 +77,7 @@ swapping = record {
 }
 
 abbrev swapped : NetState
-swapped = next swapping (holding 3 5 0) (sight_of swapping (holding 3 5 0) (λ x. if x == 0 then v 4 3 else v 4 5))
+swapped = next swapping (holding 3 5 0) (instant_of swapping (holding 3 5 0) (λ x. if x == 0 then v 4 3 else v 4 5))
 
 first_takes_second : swapped.registers 0 ≡ pos 5
 first_takes_second = grind (arith, common_steps, the_lemmas)
@@ -111,7 +111,7 @@ lines d mask on x =
     else if x == 5 then v 8 d else if x == 6 then v 1 mask else if x == 9 then v 8 77 else if x == 8 then v 1 on else v 1 1
 
 abbrev written : ℕ → ℕ → ℕ → Bool → NetState
-written d mask on after = next (with_memory true after) (holding 0 0 4) (sight_of (with_memory true after) (holding 0 0 4) (lines d mask on))
+written d mask on after = next (with_memory true after) (holding 0 0 4) (instant_of (with_memory true after) (holding 0 0 4) (lines d mask on))
 
 one_writes : (written 6 1 0 false).contents 0 2 0 ≡ pos 6
 one_writes = grind (arith, common_steps, the_lemmas)
@@ -135,8 +135,8 @@ captured_new = grind (arith, common_steps, the_lemmas)
 abbrev load : ℕ → Ground
 load on = ground.Load 0 0 (constant 2 2 ∷ constant 1 on ∷ [])
 
-abbrev loading : Sight
-loading = sight_of (with_memory false false) (holding 0 0 9) (λ x. v 1 0)
+abbrev loading : Instant
+loading = instant_of (with_memory false false) (holding 0 0 9) (λ x. v 1 0)
 
 loads : value (load 1) loading ≡ v 8 9
 loads = grind (arith, common_steps, the_lemmas)

@@ -25,11 +25,11 @@ use Rattle.ground_net.specs.declared.net.ElementLeaf.{ElementLeaf}
 use Rattle.ground_net.specs.declared.net.NetPort.{NetPort}
 use Rattle.ground_net.specs.declared.net.NetWrite.{NetWrite}
 use Rattle.ground_net.specs.declared.net.NetRead.{NetRead}
-use Rattle.ground_net.specs.Grounds.{Sight, value, mentions}
+use Rattle.ground_net.specs.Grounds.{Instant, value, mentions}
 use Rattle.ground_net.specs.Reads.{IsAssigned, Reads, IsOrder, driver_of}
 use Rattle.ground_net.specs.Cones.{numbered}
 use Rattle.net_meaning.specs.Shapes.{Shape, shape_of_value, HasShapes, shape}
-use Rattle.net_meaning.specs.Cycles.{NetState, Inputs, Valuation, Settled, sight_of, fitted_to, fitted_to_element, element_leaf, next, next_of_register, after_reset, driven_or, next_of_memory, next_of_capture, shown, integer_at, written_leaf, Capture, captured_by, captures, taken}
+use Rattle.net_meaning.specs.Cycles.{NetState, Inputs, Valuation, Settled, instant_of, fitted_to, fitted_to_element, element_leaf, next, next_of_register, after_reset, driven_or, next_of_memory, next_of_capture, shown, integer_at, written_leaf, Capture, captured_by, captures, taken}
 use Rattle.net_meaning.specs.Nets.{IsNet, IsPort, AreElements, table_of, leaf_shape, element_shape, shape_or_none, register_shapes, element_shapes, captured_shapes, IsIn, IsWithin}
 use Rattle.net_meaning.proofs.Settling.{le_split, get_there, reads_mentions, driver_agrees}
 use Rattle.net_meaning.proofs.Shaping.{fitted_shape, shapes_hold}
@@ -90,7 +90,7 @@ module _ (net : Net) (w : IsNet net) (order_of : List ℕ) (order : IsOrder net 
   reshape_fine (Some leaf) v t e = leaf_fine leaf (integer_of v) ∙ some_same e
   reshape_fine None v t e = absurd (none_some e)
 
-  reshaped_has : HasShapes (table_of net) (sight_of net s reshaped)
+  reshaped_has : HasShapes (table_of net) (instant_of net s reshaped)
   reshaped_has = record {
     leaf = λ x t e. reshape_fine (slice_get net.leaves x) (rho x) t e;
     load = λ m k t address e. element_fine (element_leaf net m k) t _ e;
@@ -122,7 +122,7 @@ module _ (net : Net) (w : IsNet net) (order_of : List ℕ) (order : IsOrder net 
         let there_too = a.there in
         let same : a.leaf ≡ leaf = cc in
         ap shape_of_value (p.assigned at_k a.leaf g.0 a.there a.is g.1 ∙ driver_agrees net s rho reshaped g.0 (read_same a g.0 g.1))
-        ∙ (shapes_hold (table_of net) (sight_of net s reshaped) reshaped_has g.0 (leaf_shape a.leaf) (w.shapes at_k a.leaf g.0 a.there g.1) ∙ ap leaf_shape same)
+        ∙ (shapes_hold (table_of net) (instant_of net s reshaped) reshaped_has g.0 (leaf_shape a.leaf) (w.shapes at_k a.leaf g.0 a.there g.1) ∙ ap leaf_shape same)
 
   first_fine : (k : ℕ) → k ≤ length order_of → (j : ℕ) → j < k → (leaf : Leaf) → slice_get net.leaves (slice_index order_of j) ≡ Some leaf → Fine (slice_index order_of j) leaf
   first_fine zero most j less = absurd (omega (arith, less))
@@ -139,7 +139,7 @@ module _ (net : Net) (w : IsNet net) (order_of : List ℕ) (order : IsOrder net 
       subst (λ z. Fine z leaf) at.2 (first_fine (length order_of) (omega arith) at.0 at.1 leaf (ap (slice_get net.leaves) at.2 ∙ there)))
 
   -- settled values have the kinds and widths of their leaves
-  pub settled_has : HasShapes (table_of net) (sight_of net s rho)
+  pub settled_has : HasShapes (table_of net) (instant_of net s rho)
   settled_has = record {
     leaf = λ x t e. let l = some_of leaf_shape (slice_get net.leaves x) t e in all_fine x l.0 l.1 ∙ l.2;
     load = λ m k t address e. element_fine (element_leaf net m k) t _ e;
@@ -201,31 +201,31 @@ capture_from net n c e =
 
 -- The next state
 
-module _ (net : Net) (w : IsNet net) (s : NetState) (sight : Sight) (h : HasShapes (table_of net) sight) (inside : IsWithin net s) where
+module _ (net : Net) (w : IsNet net) (s : NetState) (instant : Instant) (h : HasShapes (table_of net) instant) (inside : IsWithin net s) where
   -- registers
   module _ (n : ℕ) (register : NetRegister) (there : slice_get net.registers n ≡ Some register) (leaf : Leaf) (at : slice_get net.leaves register.leaf ≡ Some leaf) (held : ℤ)
       (kept : IsIn (leaf_shape leaf) held) where
-    driven_in : (d : Option Ground) → driver_of net register.leaf ≡ d → IsIn (leaf_shape leaf) (driven_or held sight d)
-    driven_in (Some g) e = in_range (value g sight) (leaf_shape leaf) (shapes_hold (table_of net) sight h g (leaf_shape leaf) (w.shapes register.leaf leaf g at e))
+    driven_in : (d : Option Ground) → driver_of net register.leaf ≡ d → IsIn (leaf_shape leaf) (driven_or held instant d)
+    driven_in (Some g) e = in_range (value g instant) (leaf_shape leaf) (shapes_hold (table_of net) instant h g (leaf_shape leaf) (w.shapes register.leaf leaf g at e))
     driven_in None e = kept
 
-    reset_in : (o : Option NetReset) → register.reset ≡ o → (driven : ℤ) → IsIn (leaf_shape leaf) driven → IsIn (leaf_shape leaf) (after_reset driven sight o)
+    reset_in : (o : Option NetReset) → register.reset ≡ o → (driven : ℤ) → IsIn (leaf_shape leaf) driven → IsIn (leaf_shape leaf) (after_reset driven instant o)
     reset_in None e driven d = d
     reset_in (Some r) e driven d =
         let init : shape r.init (table_of net) ≡ Some (leaf_shape leaf) = (w.resets n register r there e).1 ∙ ap (option_map leaf_shape) at in
-        by_test (is_one (value r.reset sight)) (in_range (value r.init sight) (leaf_shape leaf) (shapes_hold (table_of net) sight h r.init (leaf_shape leaf) init))
+        by_test (is_one (value r.reset instant)) (in_range (value r.init instant) (leaf_shape leaf) (shapes_hold (table_of net) instant h r.init (leaf_shape leaf) init))
       where
-        by_test : (b : Bool) → IsIn (leaf_shape leaf) (integer_of (value r.init sight)) → IsIn (leaf_shape leaf) (if b then integer_of (value r.init sight) else driven)
+        by_test : (b : Bool) → IsIn (leaf_shape leaf) (integer_of (value r.init instant)) → IsIn (leaf_shape leaf) (if b then integer_of (value r.init instant) else driven)
         by_test true i = i
         by_test false i = d
 
-  registers_in : (n : ℕ) (t : Shape) → slice_get (register_shapes net) n ≡ Some t → IsIn t (next_of_register net sight (slice_get net.registers n) (s.registers n))
+  registers_in : (n : ℕ) (t : Shape) → slice_get (register_shapes net) n ≡ Some t → IsIn t (next_of_register net instant (slice_get net.registers n) (s.registers n))
   registers_in n t e =
       let r = mapped (λ register. shape_or_none (slice_get net.leaves register.leaf)) net.registers n t e in
       let at = w.register_leaves n r.0 r.1 in
       let same : leaf_shape at.leaf ≡ t = ap shape_or_none (sym at.there) ∙ r.2 in
-      subst (λ o. IsIn t (next_of_register net sight o (s.registers n))) (sym r.1)
-      (subst (λ u. IsIn u (next_of_register net sight (Some r.0) (s.registers n))) same
+      subst (λ o. IsIn t (next_of_register net instant o (s.registers n))) (sym r.1)
+      (subst (λ u. IsIn u (next_of_register net instant (Some r.0) (s.registers n))) same
       (reset_in n r.0 r.1 at.leaf at.there (s.registers n) (subst (λ u. IsIn u (s.registers n)) (sym same) (inside.registers n t e)) r.0.reset refl _
       (driven_in n r.0 r.1 at.leaf at.there (s.registers n) (subst (λ u. IsIn u (s.registers n)) (sym same) (inside.registers n t e)) (driver_of net r.0.leaf) refl)))
 
@@ -234,51 +234,51 @@ module _ (net : Net) (w : IsNet net) (s : NetState) (sight : Sight) (h : HasShap
     abbrev u : Shape
     u = element_shape element
 
-    leaf_in : (leaves : List ℕ) → AreElements net memory leaves → (o : Option ℕ) → slice_get leaves k ≡ o → IsIn u (integer_at sight o)
-    leaf_in leaves a (Some x) e = in_range (sight.leaf x) u (h.leaf x u (a.shapes k x element e at))
+    leaf_in : (leaves : List ℕ) → AreElements net memory leaves → (o : Option ℕ) → slice_get leaves k ≡ o → IsIn u (integer_at instant o)
+    leaf_in leaves a (Some x) e = in_range (instant.leaf x) u (h.leaf x u (a.shapes k x element e at))
     leaf_in leaves a None e = zero_in u
 
-    written_in : (port : NetPort) → IsPort net memory port → (o : Option NetWrite) → port.write ≡ o → IsIn u (integer_at sight (written_leaf o k))
+    written_in : (port : NetPort) → IsPort net memory port → (o : Option NetWrite) → port.write ≡ o → IsIn u (integer_at instant (written_leaf o k))
     written_in port fine (Some write) e = leaf_in write.leaves (fine.written write e) (slice_get write.leaves k) refl
     written_in port fine None e = zero_in u
 
-    port_in : (depth : ℕ) (held : Held ℕ) (port : NetPort) → IsPort net memory port → ((i : ℕ) → IsIn u (held i k)) → (i : ℕ) → IsIn u (after_port depth held (shown sight port) i k)
+    port_in : (depth : ℕ) (held : Held ℕ) (port : NetPort) → IsPort net memory port → ((i : ℕ) → IsIn u (held i k)) → (i : ℕ) → IsIn u (after_port depth held (shown instant port) i k)
     port_in depth held port fine old i = by_test _ (written_in port fine port.write refl) (old i)
       where
-        by_test : (b : Bool) → IsIn u (integer_at sight (written_leaf port.write k)) → IsIn u (held i k) → IsIn u (if b then integer_at sight (written_leaf port.write k) else held i k)
+        by_test : (b : Bool) → IsIn u (integer_at instant (written_leaf port.write k)) → IsIn u (held i k) → IsIn u (if b then integer_at instant (written_leaf port.write k) else held i k)
         by_test true x y = x
         by_test false x y = y
 
     ports_in : (depth : ℕ) (ports : List NetPort) → ((q : ℕ) (port : NetPort) → slice_get ports q ≡ Some port → IsPort net memory port) → (held : Held ℕ) → ((i : ℕ) → IsIn u (held i k))
-        → (i : ℕ) → IsIn u (after_ports depth (shown sight) ports held i k)
+        → (i : ℕ) → IsIn u (after_ports depth (shown instant) ports held i k)
     ports_in depth [] fine held old i = old i
     ports_in depth (port ∷ ports) fine held old i =
-        ports_in depth ports (λ q p e. fine (suc q) p e) (after_port depth held (shown sight port)) (port_in depth held port (fine 0 port refl) old) i
+        ports_in depth ports (λ q p e. fine (suc q) p e) (after_port depth held (shown instant port)) (port_in depth held port (fine 0 port refl) old) i
 
   contents_in : (m i k : ℕ) (memory : NetMemory) (t : Shape) → slice_get net.memories m ≡ Some memory → slice_get (element_shapes memory) k ≡ Some t
-      → IsIn t (next_of_memory sight (slice_get net.memories m) (s.contents m) i k)
+      → IsIn t (next_of_memory instant (slice_get net.memories m) (s.contents m) i k)
   contents_in m i k memory t e f =
       let el = mapped element_shape memory.elements k t f in
-      subst (λ o. IsIn t (next_of_memory sight o (s.contents m) i k)) (sym e)
-      (subst (λ u. IsIn u (after_ports memory.depth (shown sight) memory.ports (s.contents m) i k)) el.2
+      subst (λ o. IsIn t (next_of_memory instant o (s.contents m) i k)) (sym e)
+      (subst (λ u. IsIn u (after_ports memory.depth (shown instant) memory.ports (s.contents m) i k)) el.2
       (ports_in memory k el.0 el.1 memory.depth memory.ports (λ q port l. w.memories m q memory port e l) (s.contents m)
       (λ j. subst (λ u. IsIn u (s.contents m j k)) (sym el.2) (inside.contents m j k memory t e f)) i))
 
   -- captured reads
   abbrev old_or_new : Capture → Bool → Held ℕ
-  old_or_new c after = taken after (s.contents c.number) (next_of_memory sight (Some c.memory) (s.contents c.number))
+  old_or_new c after = taken after (s.contents c.number) (next_of_memory instant (Some c.memory) (s.contents c.number))
 
-  by_time : (t : Shape) (c : Capture) (after : Bool) → ((i : ℕ) → IsIn t (s.contents c.number i c.element)) → ((i : ℕ) → IsIn t (next_of_memory sight (Some c.memory) (s.contents c.number) i c.element))
+  by_time : (t : Shape) (c : Capture) (after : Bool) → ((i : ℕ) → IsIn t (s.contents c.number i c.element)) → ((i : ℕ) → IsIn t (next_of_memory instant (Some c.memory) (s.contents c.number) i c.element))
       → (i : ℕ) → IsIn t (old_or_new c after i c.element)
   by_time t c true old new i = new i
   by_time t c false old new i = old i
 
-  by_read : (t : Shape) (c : Capture) (b : Bool) → IsIn t (old_or_new c c.after (shown sight c.port).address c.element)
-      → IsIn t (if b then old_or_new c c.after (shown sight c.port).address c.element else pos 0)
+  by_read : (t : Shape) (c : Capture) (b : Bool) → IsIn t (old_or_new c c.after (shown instant c.port).address c.element)
+      → IsIn t (if b then old_or_new c c.after (shown instant c.port).address c.element else pos 0)
   by_read t c true x = x
   by_read t c false x = zero_in t
 
-  captured_in : (n : ℕ) (t : Shape) → slice_get (captured_shapes net) n ≡ Some t → IsIn t (next_of_capture s sight (slice_get (captures net) n))
+  captured_in : (n : ℕ) (t : Shape) → slice_get (captured_shapes net) n ≡ Some t → IsIn t (next_of_capture s instant (slice_get (captures net) n))
   captured_in n t e =
       let c = mapped (λ c. shape_or_none (slice_get net.leaves c.leaf)) (captures net) n t e in
       let from = capture_from net n c.0 c.1 in
@@ -289,11 +289,11 @@ module _ (net : Net) (w : IsNet net) (s : NetState) (sight : Sight) (h : HasShap
       let at = some_of leaf_shape (slice_get net.leaves c.0.leaf) (element_shape el.0) (fine.shapes c.0.element c.0.leaf el.0 from.leaf el.1) in
       let same : element_shape el.0 ≡ t = sym at.2 ∙ (ap shape_or_none (sym at.1) ∙ c.2) in
       let f : slice_get (element_shapes c.0.memory) c.0.element ≡ Some t = slice_get-map element_shape c.0.memory.elements c.0.element ∙ (ap (option_map element_shape) el.1 ∙ ap Some same) in
-      subst (λ o. IsIn t (next_of_capture s sight o)) (sym c.1)
-      (by_read t c.0 ((shown sight c.0.port).reads && nat_lt (shown sight c.0.port).address c.0.memory.depth)
+      subst (λ o. IsIn t (next_of_capture s instant o)) (sym c.1)
+      (by_read t c.0 ((shown instant c.0.port).reads && nat_lt (shown instant c.0.port).address c.0.memory.depth)
       (by_time t c.0 c.0.after (λ i. inside.contents c.0.number i c.0.element c.0.memory t from.there f)
-      (λ i. subst (λ o. IsIn t (next_of_memory sight o (s.contents c.0.number) i c.0.element)) from.there (contents_in c.0.number i c.0.element c.0.memory t from.there f))
-      (shown sight c.0.port).address))
+      (λ i. subst (λ o. IsIn t (next_of_memory instant o (s.contents c.0.number) i c.0.element)) from.there (contents_in c.0.number i c.0.element c.0.memory t from.there f))
+      (shown instant c.0.port).address))
 
-  pub next_within : IsWithin net (next net s sight)
+  pub next_within : IsWithin net (next net s instant)
   next_within = record { registers = registers_in; contents = contents_in; captured = captured_in }

@@ -13,7 +13,7 @@ use Rattle.ground_net.specs.declared.ground.Ground.{Ground}
 use Rattle.ground_net.specs.Grounds.{value, mentions}
 use Rattle.ground_net.specs.Reads.{IsAssigned, Reads, IsOrder, MentionsLeaves, read_by, read_of, direct_reads, driver_of}
 use Rattle.ground_net.proofs.Layers.{value_agrees}
-use Rattle.net_meaning.specs.Cycles.{NetState, Inputs, Valuation, Settled, HasOneSettled, sight_of, fitted_to}
+use Rattle.net_meaning.specs.Cycles.{NetState, Inputs, Valuation, Settled, HasOneSettled, instant_of, fitted_to}
 
 pub le_split : {j k : ℕ} → j ≤ k → (j < k) ⊎ (j ≡ k)
 le_split {j} {k} most = by_test (nat_lt j k) refl
@@ -34,8 +34,8 @@ reads_mentions net x leaf driver there is d =
 
 -- the value of a driver under two valuations that agree on what it mentions
 pub driver_agrees : (net : Net) (s : NetState) (rho other : Valuation) (g : Ground) → ((y : ℕ) → Contains (mentions g) y → rho y ≡ other y)
-    → value g (sight_of net s rho) ≡ value g (sight_of net s other)
-driver_agrees net s rho other g h = value_agrees (sight_of net s rho) (sight_of net s other) (λ m k address. refl) g h
+    → value g (instant_of net s rho) ≡ value g (instant_of net s other)
+driver_agrees net s rho other g h = value_agrees (instant_of net s rho) (instant_of net s other) (λ m k address. refl) g h
 
 -- What a leaf of a role is given, where it isn't an assignment.
 abbrev given_to : NetState → Inputs → Leaf → Role → Value
@@ -54,7 +54,7 @@ first net s given x = given_at s given (slice_get net.leaves x)
 
 -- the driver's value, where there is one
 abbrev driven : Net → NetState → Valuation → ℕ → Option Ground → Value
-driven net s rho x (Some driver) = value driver (sight_of net s rho)
+driven net s rho x (Some driver) = value driver (instant_of net s rho)
 driven net s rho x None = rho x
 
 -- the valuation with one value changed

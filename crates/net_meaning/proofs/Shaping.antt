@@ -14,7 +14,7 @@ use Rattle.prim_ops.specs.Results.{integer_result, kinds_of, widths_of}
 use Rattle.cycle_values.specs.Values.{fitted, lone, is_one, operation, kind_or_unsigned}
 use Rattle.ground_net.specs.declared.ground.Ground.{Ground, the_lemmas}
 use Rattle.ground_net.specs.declared.ground.Ground.TheVariants.{Const, Leaf, Op, Mux, Select, Load, Fit}
-use Rattle.ground_net.specs.Grounds.{Sight, value, chosen, selected, or_zero, loaded}
+use Rattle.ground_net.specs.Grounds.{Instant, value, chosen, selected, or_zero, loaded}
 use Rattle.ground_net.proofs.Layers.{ground_induction, maps, values, value-Const, value-Leaf, value-Op, value-Mux, value-Select, value-Load, value-Fit}
 use Rattle.net_meaning.specs.Shapes.{Shape, shaped, shape_of_value, Table, HasShapes, same_kind, same_shape, is_unsigned, all_of, is_row, params_fit, width_of_row, shape_of_row, shape_of_choice, shape_of_items, is_index, shape_of_selection, shape_of_load, shape_of_fit, shape}
 
@@ -182,37 +182,37 @@ shape-Load m k items table = grind (arith, common_steps, the_lemmas, maps)
 pub shape-Fit : (kind : Kind) (width : ℕ) (items : List Ground) (table : Table) → shape (Fit kind width items) table ≡ option_and_then (shape_of_fit kind width) (all_of (shapes_of items table))
 shape-Fit kind width items table = grind (arith, common_steps, the_lemmas, maps)
 
-module _ (table : Table) (sight : Sight) (h : HasShapes table sight) where
+module _ (table : Table) (instant : Instant) (h : HasShapes table instant) where
   abbrev Shapes_hold : Ground → Type 0
-  Shapes_hold g = (s : Shape) → shape g table ≡ Some s → shape_of_value (value g sight) ≡ s
+  Shapes_hold g = (s : Shape) → shape g table ≡ Some s → shape_of_value (value g instant) ≡ s
 
-  items_shaped : (gs : List Ground) → AllByRecursion Shapes_hold gs → (ss : List Shape) → all_of (shapes_of gs table) ≡ Some ss → map shape_of_value (values gs sight) ≡ ss
+  items_shaped : (gs : List Ground) → AllByRecursion Shapes_hold gs → (ss : List Shape) → all_of (shapes_of gs table) ≡ Some ss → map shape_of_value (values gs instant) ≡ ss
   items_shaped [] a ss e = some_same e
   items_shaped (g ∷ gs) a ss e =
       let first = and_then (λ s. option_and_then (λ more. Some (s ∷ more)) (all_of (shapes_of gs table))) (shape g table) ss e in
       let rest = and_then (λ more. Some (first.0 ∷ more)) (all_of (shapes_of gs table)) ss first.2 in
       ap₂ (λ s more. s ∷ more) (a.0 first.0 first.1) (items_shaped gs a.1 rest.0 rest.1) ∙ some_same rest.2
 
-  pub shapes_hold : (g : Ground) (s : Shape) → shape g table ≡ Some s → shape_of_value (value g sight) ≡ s
+  pub shapes_hold : (g : Ground) (s : Shape) → shape g table ≡ Some s → shape_of_value (value g instant) ≡ s
   shapes_hold = ground_induction Shapes_hold
-      (λ v s e. ap shape_of_value (value-Const v sight) ∙ some_same (sym (shape-Const v table) ∙ e))
-      (λ x s e. ap shape_of_value (value-Leaf x sight) ∙ h.leaf x s (sym (shape-Leaf x table) ∙ e))
+      (λ v s e. ap shape_of_value (value-Const v instant) ∙ some_same (sym (shape-Const v table) ∙ e))
+      (λ x s e. ap shape_of_value (value-Leaf x instant) ∙ h.leaf x s (sym (shape-Leaf x table) ∙ e))
       (λ prim gs params a s e.
       let parts = and_then (shape_of_row prim params) (all_of (shapes_of gs table)) s (sym (shape-Op prim gs params table) ∙ e) in
-      ap shape_of_value (value-Op prim gs params sight) ∙ operation_shape prim params (values gs sight) parts.0 s (items_shaped gs a parts.0 parts.1) parts.2)
+      ap shape_of_value (value-Op prim gs params instant) ∙ operation_shape prim params (values gs instant) parts.0 s (items_shaped gs a parts.0 parts.1) parts.2)
       (λ gs a s e.
       let parts = and_then shape_of_choice (all_of (shapes_of gs table)) s (sym (shape-Mux gs table) ∙ e) in
-      ap shape_of_value (value-Mux gs sight) ∙ choice_shape (values gs sight) s (ap shape_of_choice (items_shaped gs a parts.0 parts.1) ∙ parts.2))
+      ap shape_of_value (value-Mux gs instant) ∙ choice_shape (values gs instant) s (ap shape_of_choice (items_shaped gs a parts.0 parts.1) ∙ parts.2))
       (λ is gs b a s e.
       let index = and_then (λ i. option_and_then (shape_of_selection i) (all_of (shapes_of gs table))) (all_of (shapes_of is table)) s (sym (shape-Select is gs table) ∙ e) in
       let parts = and_then (shape_of_selection index.0) (all_of (shapes_of gs table)) s index.2 in
       let test = if_some (is_index index.0) (shape_of_items parts.0) s parts.2 in
-      ap shape_of_value (value-Select is gs sight) ∙ selected_shape (integer_of (lone (values is sight))) (values gs sight) s (ap shape_of_items (items_shaped gs a parts.0 parts.1) ∙ test.1))
+      ap shape_of_value (value-Select is gs instant) ∙ selected_shape (integer_of (lone (values is instant))) (values gs instant) s (ap shape_of_items (items_shaped gs a parts.0 parts.1) ∙ test.1))
       (λ m k gs a s e.
       let parts = and_then (shape_of_load (table.element m k)) (all_of (shapes_of gs table)) s (sym (shape-Load m k gs table) ∙ e) in
-      ap shape_of_value (value-Load m k gs sight)
-      ∙ loaded_shape (sight.load m k) (table.element m k) (values gs sight) s (λ address t q. h.load m k t address q) (ap (shape_of_load (table.element m k)) (items_shaped gs a parts.0 parts.1) ∙ parts.2))
+      ap shape_of_value (value-Load m k gs instant)
+      ∙ loaded_shape (instant.load m k) (table.element m k) (values gs instant) s (λ address t q. h.load m k t address q) (ap (shape_of_load (table.element m k)) (items_shaped gs a parts.0 parts.1) ∙ parts.2))
       (λ kind width gs a s e.
       let parts = and_then (shape_of_fit kind width) (all_of (shapes_of gs table)) s (sym (shape-Fit kind width gs table) ∙ e) in
-      ap shape_of_value (value-Fit kind width gs sight)
-      ∙ fit_shape kind width (values gs sight) s (integer_of (lone (values gs sight))) (ap (shape_of_fit kind width) (items_shaped gs a parts.0 parts.1) ∙ parts.2))
+      ap shape_of_value (value-Fit kind width gs instant)
+      ∙ fit_shape kind width (values gs instant) s (integer_of (lone (values gs instant))) (ap (shape_of_fit kind width) (items_shaped gs a parts.0 parts.1) ∙ parts.2))

@@ -17,7 +17,7 @@ use Rattle.ground_net.specs.declared.net.ElementLeaf.{ElementLeaf}
 use Rattle.ground_net.specs.declared.net.NetPort.{NetPort}
 use Rattle.ground_net.specs.declared.net.NetWrite.{NetWrite}
 use Rattle.ground_net.specs.declared.net.NetRead.{NetRead}
-use Rattle.ground_net.specs.Grounds.{Sight, value}
+use Rattle.ground_net.specs.Grounds.{Instant, value}
 use Rattle.ground_net.specs.Reads.{driver_of}
 use Rattle.ground_net.specs.Cones.{numbered}
 
@@ -60,8 +60,8 @@ held_at net s m k address =
     fitted_to_element (element_leaf net m k) (if nat_lt address (depth_of (slice_get net.memories m)) then s.contents m address k else pos 0)
 
 -- What is seen in a cycle that begins with this state, where the leaves have these values.
-abbrev pub sight_of : Net → NetState → Valuation → Sight
-sight_of net s rho = record { leaf = rho; load = λ m k address. held_at net s m k (unsigned_abs (integer_of address)) }
+abbrev pub instant_of : Net → NetState → Valuation → Instant
+instant_of net s rho = record { leaf = rho; load = λ m k address. held_at net s m k (unsigned_abs (integer_of address)) }
 
 -- an integer fitted to a leaf
 abbrev pub fitted_to : Leaf → ℤ → Value
@@ -79,7 +79,7 @@ pub record Settled (net : Net) (s : NetState) (given : Inputs) (rho : Valuation)
   pub captured : (x n : ℕ) (leaf : Leaf) → slice_get net.leaves x ≡ Some leaf → leaf.role ≡ role.Captured n → rho x ≡ fitted_to leaf (s.captured n)
   -- an assignment has its driver's value
   pub assigned : (x : ℕ) (leaf : Leaf) (driver : Ground) → slice_get net.leaves x ≡ Some leaf → leaf.role ≡ role.Assigned → driver_of net x ≡ Some driver
-      → rho x ≡ value driver (sight_of net s rho)
+      → rho x ≡ value driver (instant_of net s rho)
 
 -- There is one settled valuation: any two agree on every leaf of the net.
 pub record HasOneSettled (net : Net) (s : NetState) (given : Inputs) : Type 0 where
@@ -89,32 +89,32 @@ pub record HasOneSettled (net : Net) (s : NetState) (given : Inputs) : Type 0 wh
 -- The next state
 
 -- what the driver of a register leaves, and what the register holds where it has none
-abbrev pub driven_or : ℤ → Sight → Option Ground → ℤ
-driven_or held sight (Some driver) = integer_of (value driver sight)
-driven_or held sight None = held
+abbrev pub driven_or : ℤ → Instant → Option Ground → ℤ
+driven_or held instant (Some driver) = integer_of (value driver instant)
+driven_or held instant None = held
 
 -- A reset that is 1 takes its `init`.
-abbrev pub after_reset : ℤ → Sight → Option NetReset → ℤ
-after_reset driven sight (Some r) = if is_one (value r.reset sight) then integer_of (value r.init sight) else driven
-after_reset driven sight None = driven
+abbrev pub after_reset : ℤ → Instant → Option NetReset → ℤ
+after_reset driven instant (Some r) = if is_one (value r.reset instant) then integer_of (value r.init instant) else driven
+after_reset driven instant None = driven
 
 -- What a register holds next: `init` where it has a reset that is 1; else what its driver leaves; else what it holds.
-abbrev pub next_of_register : Net → Sight → Option NetRegister → ℤ → ℤ
-next_of_register net sight (Some register) held = after_reset (driven_or held sight (driver_of net register.leaf)) sight register.reset
-next_of_register net sight None held = held
+abbrev pub next_of_register : Net → Instant → Option NetRegister → ℤ → ℤ
+next_of_register net instant (Some register) held = after_reset (driven_or held instant (driver_of net register.leaf)) instant register.reset
+next_of_register net instant None held = held
 
 -- whether a leaf of one bit is 1
-abbrev pub is_set : Sight → ℕ → Bool
-is_set sight x = is_one (sight.leaf x)
+abbrev pub is_set : Instant → ℕ → Bool
+is_set instant x = is_one (instant.leaf x)
 
 -- the integer of a leaf, and 0 where there is none
-abbrev pub integer_at : Sight → Option ℕ → ℤ
-integer_at sight (Some x) = integer_of (sight.leaf x)
-integer_at sight None = pos 0
+abbrev pub integer_at : Instant → Option ℕ → ℤ
+integer_at instant (Some x) = integer_of (instant.leaf x)
+integer_at instant None = pos 0
 
-abbrev pub is_set_at : Sight → Option ℕ → Bool
-is_set_at sight (Some x) = is_set sight x
-is_set_at sight None = false
+abbrev pub is_set_at : Instant → Option ℕ → Bool
+is_set_at instant (Some x) = is_set instant x
+is_set_at instant None = false
 
 -- whether a port has something to write, or to read, and is set to
 abbrev pub where_it_writes : Option NetWrite → Bool → Bool
@@ -135,19 +135,19 @@ mask_leaf (Some write) k = slice_get write.masks k
 mask_leaf None k = None
 
 -- What a port shows of its leaves.
-abbrev pub shown : Sight → NetPort → Shown ℕ
-shown sight port = record {
-  writes = where_it_writes port.write (set_to_write (is_set sight port.en) (option_map (is_set sight) port.mode));
-  reads = where_it_reads port.read (set_to_read (is_set sight port.en) (option_map (is_set sight) port.mode));
-  address = unsigned_abs (integer_of (sight.leaf port.addr));
-  written = λ k. integer_at sight (written_leaf port.write k);
-  masked = λ k. is_set_at sight (mask_leaf port.write k);
+abbrev pub shown : Instant → NetPort → Shown ℕ
+shown instant port = record {
+  writes = where_it_writes port.write (set_to_write (is_set instant port.en) (option_map (is_set instant) port.mode));
+  reads = where_it_reads port.read (set_to_read (is_set instant port.en) (option_map (is_set instant) port.mode));
+  address = unsigned_abs (integer_of (instant.leaf port.addr));
+  written = λ k. integer_at instant (written_leaf port.write k);
+  masked = λ k. is_set_at instant (mask_leaf port.write k);
 }
 
 -- What a memory holds next.
-abbrev pub next_of_memory : Sight → Option NetMemory → Held ℕ → Held ℕ
-next_of_memory sight (Some memory) held = after_ports memory.depth (shown sight) memory.ports held
-next_of_memory sight None held = held
+abbrev pub next_of_memory : Instant → Option NetMemory → Held ℕ → Held ℕ
+next_of_memory instant (Some memory) held = after_ports memory.depth (shown instant) memory.ports held
+next_of_memory instant None held = held
 
 -- A captured read: its memory and that one's number, its port, whether it is taken after the writes, and the leaf of the element that
 -- it reads, with the leaf of the net that shows it.
@@ -174,16 +174,16 @@ abbrev pub taken : Bool → Held ℕ → Held ℕ → Held ℕ
 taken after old new = if after then new else old
 
 -- What a captured read shows next.
-abbrev pub next_of_capture : NetState → Sight → Option Capture → ℤ
-next_of_capture s sight (Some c) =
+abbrev pub next_of_capture : NetState → Instant → Option Capture → ℤ
+next_of_capture s instant (Some c) =
     let held = s.contents c.number in
-    read_by_port c.memory.depth (taken c.after held (next_of_memory sight (Some c.memory) held)) (shown sight c.port) c.element
-next_of_capture s sight None = pos 0
+    read_by_port c.memory.depth (taken c.after held (next_of_memory instant (Some c.memory) held)) (shown instant c.port) c.element
+next_of_capture s instant None = pos 0
 
 -- The state after the cycle.
-abbrev pub next : Net → NetState → Sight → NetState
-next net s sight = record {
-  registers = λ k. next_of_register net sight (slice_get net.registers k) (s.registers k);
-  contents = λ m. next_of_memory sight (slice_get net.memories m) (s.contents m);
-  captured = λ n. next_of_capture s sight (slice_get (captures net) n);
+abbrev pub next : Net → NetState → Instant → NetState
+next net s instant = record {
+  registers = λ k. next_of_register net instant (slice_get net.registers k) (s.registers k);
+  contents = λ m. next_of_memory instant (slice_get net.memories m) (s.contents m);
+  captured = λ n. next_of_capture s instant (slice_get (captures net) n);
 }

@@ -11,7 +11,7 @@ use Rattle.prim_ops.specs.Kinds.{row_kind}
 use Rattle.prim_ops.specs.Widths.{width_number}
 use Rattle.ground_net.specs.declared.ground.Ground.{Ground, fold-Ground}
 use Rattle.ground_net.specs.declared.ground.Ground.TheOpen.{Ground-F}
-use Rattle.ground_net.specs.Grounds.{Sight}
+use Rattle.ground_net.specs.Grounds.{Instant}
 pub use Rattle.cycle_values.specs.Shapes.{Shape, shaped, shape_of_value, same_kind, same_shape, is_unsigned, all_of, fit_on, params_fit, is_row, width_of_row, shape_of_row}
 
 -- The kinds and widths of the leaves, and of the leaves of the memories' elements; none where there is no such leaf.
@@ -19,10 +19,10 @@ pub record Table : Type 0 where
   pub leaf : ℕ → Option Shape
   pub element : ℕ → ℕ → Option Shape
 
--- A sight shows of each leaf a value of its kind and width, and so do the memories at each address.
-pub record HasShapes (table : Table) (sight : Sight) : Type 0 where
-  pub leaf : (x : ℕ) (s : Shape) → table.leaf x ≡ Some s → shape_of_value (sight.leaf x) ≡ s
-  pub load : (m k : ℕ) (s : Shape) (address : Value) → table.element m k ≡ Some s → shape_of_value (sight.load m k address) ≡ s
+-- An instant shows of each leaf a value of its kind and width, and so do the memories at each address.
+pub record HasShapes (table : Table) (instant : Instant) : Type 0 where
+  pub leaf : (x : ℕ) (s : Shape) → table.leaf x ≡ Some s → shape_of_value (instant.leaf x) ≡ s
+  pub load : (m k : ℕ) (s : Shape) (address : Value) → table.element m k ≡ Some s → shape_of_value (instant.load m k address) ≡ s
 
 -- Of conditions and values in turn and one item at the end each condition is a UInt, and all values have the last item's shape.
 abbrev pub shape_of_choice : List Shape → Option Shape

@@ -6,10 +6,10 @@ ghost use Rattle.cycle_values.specs.Values.{fitted};
 ghost use Rattle.ground_net.specs.declared.net.NetMemory.{NetMemory as TheMemory};
 ghost use Rattle.ground_net.specs.declared.ground.Ground.{Ground as TheGround};
 ghost use Rattle.ground_net.specs.declared.net.Net.{Net as TheNet};
-ghost use Rattle.ground_net.specs.Grounds.{Sight, value};
+ghost use Rattle.ground_net.specs.Grounds.{Instant, value};
 ghost use Rattle.ground_net.specs.Reads.{IsOrder, HasNoLoop, MentionsLeaves};
 ghost use Rattle.net_meaning.specs.Shapes.{Shape, Table, HasShapes, shape, shape_of_value};
-ghost use Rattle.net_meaning.specs.Cycles.{NetState, Inputs, Valuation, Settled, HasOneSettled, sight_of, next};
+ghost use Rattle.net_meaning.specs.Cycles.{NetState, Inputs, Valuation, Settled, HasOneSettled, instant_of, next};
 ghost use Rattle.net_meaning.specs.Nets.{IsNet, IsWithin, table_of, register_shapes, element_shapes, captured_shapes};
 ghost use Rattle.net_meaning.specs.Words.{words_of, state_of};
 
@@ -30,17 +30,17 @@ pub fn orders_have_no_loops()
 
 /// A well formed expression has a value of its kind and its width in each cycle.
 pub fn values_have_their_shapes()
-    ensures { (g : TheGround) (table : Table) (sight : Sight) (s : Shape) → shape g table ≡ Some s → HasShapes table sight → shape_of_value (value g sight) ≡ s }
+    ensures { (g : TheGround) (table : Table) (instant : Instant) (s : Shape) → shape g table ≡ Some s → HasShapes table instant → shape_of_value (value g instant) ≡ s }
 {}
 
 /// Settled values have the kinds and widths of their leaves, where the assignments of a well formed net have an order.
 pub fn settled_values_have_their_shapes()
-    ensures { (net : TheNet) (sequence : List ℕ) → IsNet net → IsOrder net sequence → (s : NetState) (given : Inputs) (rho : Valuation) → Settled net s given rho → HasShapes (table_of net) (sight_of net s rho) }
+    ensures { (net : TheNet) (sequence : List ℕ) → IsNet net → IsOrder net sequence → (s : NetState) (given : Inputs) (rho : Valuation) → Settled net s given rho → HasShapes (table_of net) (instant_of net s rho) }
 {}
 
 /// The next state of a well formed net is in the ranges of its leaves.
 pub fn next_states_are_within()
-    ensures { (net : TheNet) → IsNet net → (s : NetState) (sight : Sight) → HasShapes (table_of net) sight → IsWithin net s → IsWithin net (next net s sight) }
+    ensures { (net : TheNet) → IsNet net → (s : NetState) (instant : Instant) → HasShapes (table_of net) instant → IsWithin net s → IsWithin net (next net s instant) }
 {}
 
 /// The state of a state's words has each of its integers, fitted to the leaf that keeps it.

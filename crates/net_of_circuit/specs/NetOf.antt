@@ -35,12 +35,12 @@ use Rattle.ground_net.specs.declared.net.ElementLeaf.{ElementLeaf}
 use Rattle.ground_net.specs.declared.net.NetPort.{NetPort}
 use Rattle.ground_net.specs.declared.net.NetWrite.{NetWrite}
 use Rattle.ground_net.specs.declared.net.NetRead.{NetRead}
-use Rattle.ground_net.specs.Grounds.{Sight}
+use Rattle.ground_net.specs.Grounds.{Instant}
 use Rattle.ground_net.specs.Grounds as net_values
 use Rattle.ground_net.specs.Reads.{Reads, driver_of}
 use Rattle.ground_net.specs.Cones.{register_needs}
 use Rattle.net_meaning.specs.Shapes.{HasShapes}
-use Rattle.net_meaning.specs.Cycles.{NetState, sight_of, integer_at}
+use Rattle.net_meaning.specs.Cycles.{NetState, instant_of, integer_at}
 use Rattle.net_meaning.specs.Cycles as cycle
 use Rattle.net_meaning.specs.Nets.{IsNet, IsWithin, HasRole, table_of}
 use Rattle.net_meaning.specs.Words.{SaysItsWords}
@@ -92,9 +92,9 @@ is_of_main x = is_of_port x.0.path x.0.c
 
 -- Values
 
--- The integers that a sight shows of the circuit's leaves, and 0 where there is no such leaf.
-abbrev pub valuation_of : List Standing → Sight → tree.Valuation
-valuation_of all sight path c way = integer_at sight (number_in all (record { path = path; component = c; way = way }))
+-- The integers that an instant shows of the circuit's leaves, and 0 where there is no such leaf.
+abbrev pub valuation_of : List Standing → Instant → tree.Valuation
+valuation_of all instant path c way = integer_at instant (number_in all (record { path = path; component = c; way = way }))
 
 -- A state of the circuit and one of the net are the same, leaf by leaf and element by element, where the elements of the memories have
 -- these types.
@@ -114,11 +114,11 @@ pub record MatchingInputs (all : List Standing) (net : Net) (given : tree_states
 pub record IsSeen (placed : List Placed) (elements : List FirType) (net : Net) (s : State) (t : NetState) (rho : cycle.Valuation) : Type 0 where
   pub states : MatchingState (all_leaves placed) (all_memories placed) elements net s t
   pub within : IsWithin net t
-  pub shapes : HasShapes (table_of net) (sight_of net t rho)
+  pub shapes : HasShapes (table_of net) (instant_of net t rho)
 
 -- what the circuit's leaves have where the net's have these values
 abbrev pub seen_valuation : List Placed → Net → NetState → cycle.Valuation → tree.Valuation
-seen_valuation placed net t rho = valuation_of (all_leaves placed) (sight_of net t rho)
+seen_valuation placed net t rho = valuation_of (all_leaves placed) (instant_of net t rho)
 
 -- Names
 
@@ -202,7 +202,7 @@ pub record IsLeafOfNet (texts : Texts) (y : Standing) (leaf : Leaf) : Type 0 whe
   pub place : leaf.place ≡ y.0.c.declaration.place
   pub part : part_of_role leaf.role ≡ part_of y
 
--- The net is that of the circuit whose components are these, in flat order, and the elements of whose memories have these types. Of each leaf and register it says the same at every sight
+-- The net is that of the circuit whose components are these, in flat order, and the elements of whose memories have these types. Of each leaf and register it says the same at every instant
 -- that is in range, and its memories are the circuit's.
 pub record IsNetWith (texts : Texts) (design : Design) (placed : List Placed) (elements : List FirType) (net : Net) : Type 0 where
   pub counted : length net.leaves ≡ length (all_leaves placed)
@@ -212,18 +212,18 @@ pub record IsNetWith (texts : Texts) (design : Design) (placed : List Placed) (e
   pub driven : (path : List ℕ) (m : TypedModule) (c : Component) (leaf : TypeLeaf) (x : ℕ) (y : Standing) (driver : Ground) (s : State) (t : NetState) (rho : cycle.Valuation)
       → Stands design path m c leaf → is_driven c leaf ≡ true → slice_get (all_leaves placed) x ≡ Some y → flat m path (leaf_of c leaf) ≡ flat_of y
       → driver_of net x ≡ Some driver → IsSeen placed elements net s t rho
-      → drives (scene_of m path (seen_valuation placed net t rho)) (leaf_of c leaf) c.declaration.block ≡ Some (integer_of (net_values.value driver (sight_of net t rho)))
+      → drives (scene_of m path (seen_valuation placed net t rho)) (leaf_of c leaf) c.declaration.block ≡ Some (integer_of (net_values.value driver (instant_of net t rho)))
   -- the value of a node's expression
   pub nodes : (x : ℕ) (y : Standing) (e : Expr) (k : ℕ) (driver : Ground) (s : State) (t : NetState) (rho : cycle.Valuation)
       → slice_get (all_leaves placed) x ≡ Some y → y.0.c.declaration.sort ≡ A_node e → is_clock y.1 ≡ false → slice_get (leaves y.0.c.typ) k ≡ Some y.1
       → driver_of net x ≡ Some driver → IsSeen placed elements net s t rho
-      → slice_get (map integer_of (value e (scene_of y.0.m y.0.path (seen_valuation placed net t rho)))) k ≡ Some (integer_of (net_values.value driver (sight_of net t rho)))
+      → slice_get (map integer_of (value e (scene_of y.0.m y.0.path (seen_valuation placed net t rho)))) k ≡ Some (integer_of (net_values.value driver (instant_of net t rho)))
   -- a read of latency 0
   pub port_reads : (x : ℕ) (y : Standing) (memory : Memory) (port field : ℕ) (way : List PathStep) (driver : Ground) (s : State) (t : NetState) (rho : cycle.Valuation)
       → slice_get (all_leaves placed) x ≡ Some y → y.0.c.declaration.sort ≡ A_memory memory → read_latency_of memory ≡ 0 → y.1.flip ≡ false
       → y.1.path ≡ step.Field port ∷ step.Field field ∷ way → driver_of net x ≡ Some driver → IsSeen placed elements net s t rho
       → read_by memory ((scene_of y.0.m y.0.path (seen_valuation placed net t rho)).integers y.0.c.declaration.name) (s.contents y.0.path y.0.c.declaration.name) port way
-      ≡ integer_of (net_values.value driver (sight_of net t rho))
+      ≡ integer_of (net_values.value driver (instant_of net t rho))
   -- what a leaf reads, both ways
   pub reads : (x z : ℕ) (y w : Standing) → slice_get (all_leaves placed) x ≡ Some y → slice_get (all_leaves placed) z ≡ Some w → Reads net x z → ReadsLeaf design (flat_of y) (flat_of w)
   pub all_reads : (x : ℕ) (y : Standing) (f : FlatLeaf) → slice_get (all_leaves placed) x ≡ Some y → ReadsLeaf design (flat_of y) f
@@ -232,7 +232,7 @@ pub record IsNetWith (texts : Texts) (design : Design) (placed : List Placed) (e
   pub registers : (n : ℕ) (register : NetRegister) (y : Standing) (s : State) (t : NetState) (rho : cycle.Valuation) → slice_get net.registers n ≡ Some register
       → slice_get (all_leaves placed) register.leaf ≡ Some y → IsSeen placed elements net s t rho
       → tree_states.next_of_register (scene_of y.0.m y.0.path (seen_valuation placed net t rho)) y.0.c y.0.c.declaration.sort y.1.path (integer_of (rho register.leaf))
-      ≡ cycle.next_of_register net (sight_of net t rho) (Some register) (integer_of (rho register.leaf))
+      ≡ cycle.next_of_register net (instant_of net t rho) (Some register) (integer_of (rho register.leaf))
   pub takes : (n z : ℕ) (register : NetRegister) (y w : Standing) → slice_get net.registers n ≡ Some register → slice_get (all_leaves placed) register.leaf ≡ Some y
       → slice_get (all_leaves placed) z ≡ Some w → part_of w ≡ Driven → Contains (register_needs net register) z → TakesFrom design (flat_of y) (flat_of w)
   pub all_takes : (n : ℕ) (register : NetRegister) (y : Standing) (f : FlatLeaf) → slice_get net.registers n ≡ Some register → slice_get (all_leaves placed) register.leaf ≡ Some y

@@ -4,9 +4,9 @@ use Rattle.std.proofs.lemmas.Option.{get_or_from_slice_get, slice_get_within}
 use Rattle.bit_words.specs.declared.value.Value.{Value}
 use Rattle.ground_net.specs.declared.net.Net.{Net}
 use Rattle.ground_net.specs.declared.net.NetMemory.{NetMemory}
-use Rattle.ground_net.specs.Grounds.{Sight}
+use Rattle.ground_net.specs.Grounds.{Instant}
 use Rattle.net_meaning.specs.Nets.{IsNet}
-use Rattle.net_meaning.specs.Cycles.{NetState, sight_of, next, next_of_memory}
+use Rattle.net_meaning.specs.Cycles.{NetState, instant_of, next, next_of_memory}
 use Rattle.net_meaning.proofs.Settling.{get_there}
 use Rattle.net_run.specs.declared.kept.Kept.{Kept}
 use Rattle.net_run.specs.Seeing.{AreSeen, value_at}
@@ -33,8 +33,8 @@ contents_long values (x ∷ xs) [] e = absurd (omega (arith, e))
 contents_long values (x ∷ xs) (y ∷ ys) e = ap suc (contents_long values xs ys (omega (arith, e)))
 
 module _ (net : Net) (s : NetState) (kept : Kept) (k : IsKept net s kept) (fine : IsNet net) (values : List Value) (shown_here : AreSeen net values kept.contents) where
-  abbrev sight : Sight
-  sight = sight_of net s (value_at values)
+  abbrev instant : Instant
+  instant = instant_of net s (value_at values)
 
   abbrev later : List (List Value)
   later = contents_over net.memories values kept.contents
@@ -50,17 +50,17 @@ module _ (net : Net) (s : NetState) (kept : Kept) (k : IsKept net s kept) (fine 
       let held = kept_at m memory e in
       subst (AreContents memory (s.contents m)) (sym (get_or_from_slice_get kept.contents m held.0 [] held.1)) (k.contents m memory held.0 e held.1)
 
-  new_at : (m : ℕ) (memory : NetMemory) → slice_get net.memories m ≡ Some memory → AreContents memory (next_of_memory sight (Some memory) (s.contents m)) (get_or later m [])
+  new_at : (m : ℕ) (memory : NetMemory) → slice_get net.memories m ≡ Some memory → AreContents memory (next_of_memory instant (Some memory) (s.contents m)) (get_or later m [])
   new_at m memory e =
       let held = kept_at m memory e in
       let got = contents_get values net.memories kept.contents m memory held.0 e held.1 in
-      subst (AreContents memory (next_of_memory sight (Some memory) (s.contents m))) (sym (get_or_from_slice_get later m (over_ports memory values memory.ports held.0) [] got))
+      subst (AreContents memory (next_of_memory instant (Some memory) (s.contents m))) (sym (get_or_from_slice_get later m (over_ports memory values memory.ports held.0) [] got))
       (ports_written net s values kept.contents shown_here memory memory.ports (λ p port l. fine.memories m p memory port e l) (s.contents m) held.0 (k.contents m memory held.0 e held.1))
 
-  pub advanced : (registers captured : List Value) (contents : List (List Value)) → length registers ≡ length net.registers → AreRegisters net (next net s sight) registers → contents ≡ later
+  pub advanced : (registers captured : List Value) (contents : List (List Value)) → length registers ≡ length net.registers → AreRegisters net (next net s instant) registers → contents ≡ later
       → captured ≡ all_taken (memories_taken false net.memories values kept.contents (length net.memories)) (memories_taken true net.memories values contents (length net.memories))
       (length (memories_taken true net.memories values contents (length net.memories)))
-      → IsKept net (next net s sight) (record { registers = registers; contents = contents; captured = captured })
+      → IsKept net (next net s instant) (record { registers = registers; contents = contents; captured = captured })
   advanced registers captured contents counted r c t =
       let taken = t ∙ ap (λ cs. all_taken (memories_taken false net.memories values kept.contents (length net.memories)) (memories_taken true net.memories values cs (length net.memories))
       (length (memories_taken true net.memories values cs (length net.memories)))) c in
@@ -70,7 +70,7 @@ module _ (net : Net) (s : NetState) (kept : Kept) (k : IsKept net s kept) (fine 
         all_contents = ap length c ∙ contents_long values net.memories kept.contents k.all_contents;
         contents = λ m memory held e there.
             let is = get_or_from_slice_get later m held [] (ap (λ l. slice_get l m) (sym c) ∙ there) in
-            subst (λ o. AreContents memory (next_of_memory sight o (s.contents m)) held) (sym e) (subst (AreContents memory (next_of_memory sight (Some memory) (s.contents m))) is (new_at m memory e));
+            subst (λ o. AreContents memory (next_of_memory instant o (s.contents m)) held) (sym e) (subst (AreContents memory (next_of_memory instant (Some memory) (s.contents m))) is (new_at m memory e));
         all_captured = ap length taken ∙ all_captured net s fine values kept.contents later shown_here old_at new_at;
         captured = λ n one leaf e there. ap (λ l. slice_get l n) taken ∙ captured_next net s fine values kept.contents later shown_here old_at new_at n one leaf e there;
       }

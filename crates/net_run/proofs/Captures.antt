@@ -15,12 +15,12 @@ use Rattle.ground_net.specs.declared.net.NetMemory.{NetMemory}
 use Rattle.ground_net.specs.declared.net.NetPort.{NetPort}
 use Rattle.ground_net.specs.declared.net.NetRead.{NetRead}
 use Rattle.ground_net.specs.declared.net.ElementLeaf.{ElementLeaf}
-use Rattle.ground_net.specs.Grounds.{Sight}
+use Rattle.ground_net.specs.Grounds.{Instant}
 use Rattle.ground_net.specs.Cones.{numbered}
 use Rattle.ground_net.proofs.Layers.{maps}
 use Rattle.net_meaning.specs.Shapes.{Shape}
 use Rattle.net_meaning.specs.Nets.{IsNet, leaf_shape, element_shape}
-use Rattle.net_meaning.specs.Cycles.{NetState, Capture, captures, captured_by, sight_of, fitted_to, shown, next_of_capture, next_of_memory, taken, is_set, where_it_reads}
+use Rattle.net_meaning.specs.Cycles.{NetState, Capture, captures, captured_by, instant_of, fitted_to, shown, next_of_capture, next_of_memory, taken, is_set, where_it_reads}
 use Rattle.net_meaning.proofs.Settling.{get_there}
 use Rattle.net_meaning.proofs.Ranges.{capture_from}
 use Rattle.net_run.specs.Seeing.{AreSeen, value_at, held_leaf}
@@ -122,10 +122,10 @@ chosen_one false old new = refl
 
 module _ (net : Net) (s : NetState) (fine : IsNet net) (values : List Value) (old new : List (List Value)) (shown_here : AreSeen net values old)
     (old_is : (m : ℕ) (memory : NetMemory) → slice_get net.memories m ≡ Some memory → AreContents memory (s.contents m) (get_or old m []))
-    (new_is : (m : ℕ) (memory : NetMemory) → slice_get net.memories m ≡ Some memory → AreContents memory (next_of_memory (sight_of net s (value_at values)) (Some memory) (s.contents m)) (get_or new m []))
+    (new_is : (m : ℕ) (memory : NetMemory) → slice_get net.memories m ≡ Some memory → AreContents memory (next_of_memory (instant_of net s (value_at values)) (Some memory) (s.contents m)) (get_or new m []))
   where
-    abbrev sight : Sight
-    sight = sight_of net s (value_at values)
+    abbrev instant : Instant
+    instant = instant_of net s (value_at values)
 
     -- a leaf that is read, of what the memory holds
     reads_leaf : (memory : NetMemory) (held : List Value) (contents : Held ℕ) (leaf : Leaf) (element : ElementLeaf) (k : ℕ) (set : Bool) (address : ℕ) → AreContents memory contents held
@@ -149,7 +149,7 @@ module _ (net : Net) (s : NetState) (fine : IsNet net) (values : List Value) (ol
 
     module _ (n : ℕ) (c : Capture) (there : slice_get (captures net) n ≡ Some c) (leaf : Leaf) (at : slice_get net.leaves c.leaf ≡ Some leaf) where
       shows : (held : List Value) (contents : Held ℕ) → AreContents c.memory contents held
-          → read_leaf c.memory held (is_reading c.memory values c.port) (value_at values c.port.addr).bits c.element ≡ fitted_to leaf (read_by_port c.memory.depth contents (shown sight c.port) c.element)
+          → read_leaf c.memory held (is_reading c.memory values c.port) (value_at values c.port.addr).bits c.element ≡ fitted_to leaf (read_by_port c.memory.depth contents (shown instant c.port) c.element)
       shows held contents h =
           let from = capture_from net n c there in
           let port = fine.memories c.number from.place c.memory c.port from.there from.listed in
@@ -159,19 +159,19 @@ module _ (net : Net) (s : NetState) (fine : IsNet net) (values : List Value) (ol
           let el = get_there c.memory.elements c.element (omega (arith, counted, inside)) in
           let same : element_shape el.0 ≡ leaf_shape leaf = some_same (sym (elements.shapes c.element c.leaf el.0 from.leaf el.1) ∙ ap (option_map leaf_shape) at) in
           let bits_are = address_is net s values old shown_here c.memory c.port.addr port.addr in
-          let set = set_to_read (is_set sight c.port.en) (option_map (is_set sight) c.port.mode) in
+          let set = set_to_read (is_set instant c.port.en) (option_map (is_set instant) c.port.mode) in
           reads_leaf c.memory held contents leaf el.0 c.element set (value_at values c.port.addr).bits h el.1 same
           ∙ (ap (λ a. fitted_to leaf (if set && nat_lt a c.memory.depth then contents a c.element else pos 0)) bits_are
           ∙ ap (λ o. fitted_to leaf (if where_it_reads o set && nat_lt (unsigned_abs (integer_of (value_at values c.port.addr))) c.memory.depth
           then contents (unsigned_abs (integer_of (value_at values c.port.addr))) c.element else pos 0)) (sym from.reads))
 
-      by_time : (after : Bool) → (if after then of_capture true values new c else of_capture false values old c) ≡ fitted_to leaf (read_by_port c.memory.depth (taken after (s.contents c.number) (next_of_memory sight (Some c.memory) (s.contents c.number))) (shown sight c.port) c.element)
-      by_time true = shows (get_or new c.number []) (next_of_memory sight (Some c.memory) (s.contents c.number)) (new_is c.number c.memory (capture_from net n c there).there)
+      by_time : (after : Bool) → (if after then of_capture true values new c else of_capture false values old c) ≡ fitted_to leaf (read_by_port c.memory.depth (taken after (s.contents c.number) (next_of_memory instant (Some c.memory) (s.contents c.number))) (shown instant c.port) c.element)
+      by_time true = shows (get_or new c.number []) (next_of_memory instant (Some c.memory) (s.contents c.number)) (new_is c.number c.memory (capture_from net n c there).there)
       by_time false = shows (get_or old c.number []) (s.contents c.number) (old_is c.number c.memory (capture_from net n c there).there)
 
     pub captured_next : (n : ℕ) (c : Capture) (leaf : Leaf) → slice_get (captures net) n ≡ Some c → slice_get net.leaves c.leaf ≡ Some leaf
         → slice_get (all_taken (memories_taken false net.memories values old (length net.memories)) (memories_taken true net.memories values new (length net.memories))
-        (length (memories_taken true net.memories values new (length net.memories)))) n ≡ Some (fitted_to leaf (next_of_capture s sight (slice_get (captures net) n)))
+        (length (memories_taken true net.memories values new (length net.memories)))) n ≡ Some (fitted_to leaf (next_of_capture s instant (slice_get (captures net) n)))
     captured_next n c leaf there at =
         let olds = memories_taken false net.memories values old (length net.memories) in
         let news = memories_taken true net.memories values new (length net.memories) in
@@ -180,7 +180,7 @@ module _ (net : Net) (s : NetState) (fine : IsNet net) (values : List Value) (ol
         get_up_to (λ n. one_taken (get_or olds n None) (get_or news n None)) (length news) n (omega (arith, within, long))
         ∙ ap Some (ap₂ one_taken (taken_at false values old net n c there) (taken_at true values new net n c there)
         ∙ (chosen_one c.after (of_capture false values old c) (of_capture true values new c)
-        ∙ (by_time n c there leaf at c.after ∙ ap (λ o. fitted_to leaf (next_of_capture s sight o)) (sym there))))
+        ∙ (by_time n c there leaf at c.after ∙ ap (λ o. fitted_to leaf (next_of_capture s instant o)) (sym there))))
 
     pub all_captured : length (all_taken (memories_taken false net.memories values old (length net.memories)) (memories_taken true net.memories values new (length net.memories))
         (length (memories_taken true net.memories values new (length net.memories)))) ≡ length (captures net)

@@ -13,12 +13,12 @@ use Rattle.ground_net.specs.declared.net.Leaf.{Leaf}
 use Rattle.ground_net.specs.declared.net.NetRegister.{NetRegister}
 use Rattle.ground_net.specs.declared.net.NetReset.{NetReset}
 use Rattle.ground_net.specs.declared.ground.Ground.{Ground}
-use Rattle.ground_net.specs.Grounds.{Sight, value}
+use Rattle.ground_net.specs.Grounds.{Instant, value}
 use Rattle.ground_net.specs.Reads.{driver_of}
 use Rattle.ground_net.proofs.Layers.{value_agrees}
 use Rattle.net_meaning.specs.Shapes.{Shape, shape}
 use Rattle.net_meaning.specs.Nets.{IsNet, table_of, leaf_shape}
-use Rattle.net_meaning.specs.Cycles.{NetState, sight_of, fitted_to, next, next_of_register, after_reset, driven_or}
+use Rattle.net_meaning.specs.Cycles.{NetState, instant_of, fitted_to, next, next_of_register, after_reset, driven_or}
 use Rattle.net_meaning.proofs.Shaping.{shapes_hold}
 use Rattle.net_run.specs.declared.kept.Kept.{Kept}
 use Rattle.net_run.specs.Seeing.{AreSeen, seen, value_at}
@@ -30,19 +30,19 @@ use Rattle.net_run.proofs.Zeros.{get_left, get_right}
 some_same : {A : Type 0} {x y : A} → Some x ≡ Some y → x ≡ y
 some_same e = cc
 
-pub next_more : (net : Net) (sight : Sight) (held : List Value) (n : ℕ) (register : NetRegister) (values after : List Value) (v : Value) → AreNext net sight held n values → slice_get net.registers n ≡ Some register
-    → v ≡ next_value net sight register (value_at held n) → after ≡ values ++ v ∷ [] → AreNext net sight held (n + 1) after
-next_more net sight held n register values after v d there is e =
+pub next_more : (net : Net) (instant : Instant) (held : List Value) (n : ℕ) (register : NetRegister) (values after : List Value) (v : Value) → AreNext net instant held n values → slice_get net.registers n ≡ Some register
+    → v ≡ next_value net instant register (value_at held n) → after ≡ values ++ v ∷ [] → AreNext net instant held (n + 1) after
+next_more net instant held n register values after v d there is e =
     let counted = d.counted in
-    subst (AreNext net sight held (n + 1)) (sym e) (record {
+    subst (AreNext net instant held (n + 1)) (sym e) (record {
       counted = length-append values (v ∷ []) ∙ ap (λ a. a + 1) counted;
       each = λ m other less at. ⊎_elim
-          (λ old. get_left values (v ∷ []) m (next_value net sight other (value_at held m)) (d.each m other old at))
+          (λ old. get_left values (v ∷ []) m (next_value net instant other (value_at held m)) (d.each m other old at))
           (λ most.
           let same : m ≡ n = omega (arith, less, most) in
           let first : m ≡ length values + 0 = omega (arith, same, counted) in
           let other_is : register ≡ other = some_same (sym there ∙ (ap (slice_get net.registers) (sym same) ∙ at)) in
-          get_right values (v ∷ []) m 0 first ∙ ap Some (is ∙ (ap (λ r. next_value net sight r (value_at held n)) other_is ∙ ap (λ i. next_value net sight other (value_at held i)) (sym same))))
+          get_right values (v ∷ []) m 0 first ∙ ap Some (is ∙ (ap (λ r. next_value net instant r (value_at held n)) other_is ∙ ap (λ i. next_value net instant other (value_at held i)) (sym same))))
           (cases_lt m n);
     })
 
@@ -64,11 +64,11 @@ init_fine net fine n register there r e =
     subst (λ o. IsSome o) (sym (both.1 ∙ ap (λ (o : Option Leaf). option_map leaf_shape o) at.there)) refl
 
 module _ (net : Net) (s : NetState) (kept : Kept) (k : IsKept net s kept) (fine : IsNet net) (values : List Value) (shown : AreSeen net values kept.contents) where
-  abbrev here : Sight
+  abbrev here : Instant
   here = seen net values kept.contents
 
-  abbrev there : Sight
-  there = sight_of net s (value_at values)
+  abbrev there : Instant
+  there = instant_of net s (value_at values)
 
   sees : (g : Ground) → value g here ≡ value g there
   sees g = value_agrees here there (λ m j address. load_same net s kept k m j (unsigned_abs (integer_of address))) g (λ y c. refl)

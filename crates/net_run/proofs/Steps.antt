@@ -22,7 +22,7 @@ use Rattle.ground_net.specs.Reads.{IsAssigned, Reads, IsOrder, driver_of}
 use Rattle.ground_net.proofs.Layers.{value_agrees}
 use Rattle.net_meaning.specs.Shapes.{Shape, shape, shape_of_value}
 use Rattle.net_meaning.specs.Nets.{IsNet, table_of, leaf_shape, element_shape}
-use Rattle.net_meaning.specs.Cycles.{NetState, Inputs, Settled, sight_of, fitted_to, fitted_to_element, element_leaf, depth_of, held_at}
+use Rattle.net_meaning.specs.Cycles.{NetState, Inputs, Settled, instant_of, fitted_to, fitted_to_element, element_leaf, depth_of, held_at}
 use Rattle.net_meaning.proofs.Settling.{reads_mentions, le_split, get_there}
 use Rattle.net_meaning.proofs.Shaping.{fitted_shape, shapes_hold}
 use Rattle.net_run.specs.declared.kept.Kept.{Kept}
@@ -228,7 +228,7 @@ module _ (net : Net) (s : NetState) (kept : Kept) (k : IsKept net s kept) where
       assigned = λ x leaf driver there is e.
           let at = order.all x (record { leaf = leaf; there = there; is = is }) in
           subst (λ y. driver_of net y ≡ Some driver → value_at values y ≡ value driver (seen net values kept.contents)) at.2 (λ f. d.done at.0 driver (omega (arith, at.1, all)) f) e
-          ∙ value_agrees (seen net values kept.contents) (sight_of net s (value_at values)) (λ m j address. load_same m j (unsigned_abs (integer_of address))) driver (λ y c. refl);
+          ∙ value_agrees (seen net values kept.contents) (instant_of net s (value_at values)) (λ m j address. load_same m j (unsigned_abs (integer_of address))) driver (λ y c. refl);
     }
       where
         of_role : (x : ℕ) (leaf : Leaf) (r : Role) → slice_get net.leaves x ≡ Some leaf → leaf.role ≡ r → (r ≡ role.Assigned → ⊥) → value_at values x ≡ before_assignments kept inputs leaf r

@@ -16,10 +16,10 @@ use Rattle.ground_net.specs.declared.net.NetMemory.{NetMemory}
 use Rattle.ground_net.specs.declared.net.NetPort.{NetPort}
 use Rattle.ground_net.specs.declared.net.NetWrite.{NetWrite}
 use Rattle.ground_net.specs.declared.net.ElementLeaf.{ElementLeaf}
-use Rattle.ground_net.specs.Grounds.{Sight}
+use Rattle.ground_net.specs.Grounds.{Instant}
 use Rattle.net_meaning.specs.Shapes.{Shape, shape_of_value}
 use Rattle.net_meaning.specs.Nets.{IsPort, IsUnsigned, AreElements, leaf_shape, element_shape}
-use Rattle.net_meaning.specs.Cycles.{NetState, sight_of, is_set_at, integer_at, shown, where_it_writes, written_leaf, mask_leaf}
+use Rattle.net_meaning.specs.Cycles.{NetState, instant_of, is_set_at, integer_at, shown, where_it_writes, written_leaf, mask_leaf}
 use Rattle.net_meaning.proofs.Settling.{le_split, get_there}
 use Rattle.net_run.specs.Seeing.{AreSeen, value_at}
 use Rattle.net_run.specs.Keeping.{AreContents, put_driven}
@@ -71,8 +71,8 @@ put_long (Some v) i xs = length-set xs i v
 put_long None i xs = refl
 
 module _ (net : Net) (s : NetState) (values : List Value) (kept_contents : List (List Value)) (seen_here : AreSeen net values kept_contents) where
-  abbrev sight : Sight
-  sight = sight_of net s (value_at values)
+  abbrev instant : Instant
+  instant = instant_of net s (value_at values)
 
   shape_fits : (v : Value) (leaf : ElementLeaf) → shape_of_value v ≡ element_shape leaf → v ≡ fitted leaf.kind leaf.width (integer_of v)
   shape_fits v leaf e = sym (refitted v) ∙ ap (λ (t : Shape). fitted t.kind t.width (integer_of v)) e
@@ -80,7 +80,7 @@ module _ (net : Net) (s : NetState) (values : List Value) (kept_contents : List 
   -- a leaf is written where its mask is 1
   put_here : (i : ℕ) (held : List Value) (leaf : ElementLeaf) (old : ℤ) (x : ℕ) (o : Option ℕ) → slice_get held i ≡ Some (fitted leaf.kind leaf.width old)
       → value_at values x ≡ fitted leaf.kind leaf.width (integer_of (value_at values x))
-      → slice_get (put_driven (written_value values o (Some x)) i held) i ≡ Some (fitted leaf.kind leaf.width (if is_set_at sight o then integer_at sight (Some x) else old))
+      → slice_get (put_driven (written_value values o (Some x)) i held) i ≡ Some (fitted leaf.kind leaf.width (if is_set_at instant o then integer_at instant (Some x) else old))
   put_here i held leaf old x None e fine = e
   put_here i held leaf old x (Some mask) e fine = by_test (is_one (value_at values mask))
     where
@@ -93,7 +93,7 @@ module _ (net : Net) (s : NetState) (values : List Value) (kept_contents : List 
     many = length memory.elements
 
     abbrev changed : Held ℕ
-    changed element k = if (address == element) && is_set_at sight (slice_get write.masks k) then integer_at sight (slice_get write.leaves k) else contents element k
+    changed element k = if (address == element) && is_set_at instant (slice_get write.masks k) then integer_at instant (slice_get write.leaves k) else contents element k
 
     -- The first leaves of the element are written.
     record IsPut (n : ℕ) (held : List Value) : Type 0 where
@@ -114,23 +114,23 @@ module _ (net : Net) (s : NetState) (values : List Value) (kept_contents : List 
       elsewhere element k v less h e = put_other item held (address * many + n) (element * many + k) v (differs address element many n k below less h) e
 
       at_address : (leaf : ElementLeaf) → slice_get memory.elements n ≡ Some leaf
-          → slice_get later (address * many + n) ≡ Some (fitted leaf.kind leaf.width (if is_set_at sight (slice_get write.masks n) then integer_at sight (slice_get write.leaves n) else contents address n))
+          → slice_get later (address * many + n) ≡ Some (fitted leaf.kind leaf.width (if is_set_at instant (slice_get write.masks n) then integer_at instant (slice_get write.leaves n) else contents address n))
       at_address leaf there =
           let counted = elements.counted in
           let x = get_there write.leaves n (omega (arith, counted, below)) in
           let fine = shape_fits (value_at values x.0) leaf (seen_here.leaf x.0 (element_shape leaf) (elements.shapes n x.0 leaf x.1 there)) in
           subst (λ p. slice_get (put_driven (written_value values (slice_get write.masks n) p) (address * many + n) held) (address * many + n)
-          ≡ Some (fitted leaf.kind leaf.width (if is_set_at sight (slice_get write.masks n) then integer_at sight p else contents address n))) (sym x.1)
+          ≡ Some (fitted leaf.kind leaf.width (if is_set_at instant (slice_get write.masks n) then integer_at instant p else contents address n))) (sym x.1)
           (put_here (address * many + n) held leaf (contents address n) x.0 (slice_get write.masks n) (d.rest address n leaf inside there (omega arith)) fine)
 
       at_number : (element : ℕ) (leaf : ElementLeaf) → element < memory.depth → slice_get memory.elements n ≡ Some leaf → slice_get later (element * many + n) ≡ Some (fitted leaf.kind leaf.width (changed element n))
       at_number element leaf less there = by_test (address == element) refl
         where
           by_test : (b : Bool) → (address == element) ≡ b
-              → slice_get later (element * many + n) ≡ Some (fitted leaf.kind leaf.width (if b && is_set_at sight (slice_get write.masks n) then integer_at sight (slice_get write.leaves n) else contents element n))
+              → slice_get later (element * many + n) ≡ Some (fitted leaf.kind leaf.width (if b && is_set_at instant (slice_get write.masks n) then integer_at instant (slice_get write.leaves n) else contents element n))
           by_test true e =
               subst (λ a. slice_get later (a * many + n)
-              ≡ Some (fitted leaf.kind leaf.width (if is_set_at sight (slice_get write.masks n) then integer_at sight (slice_get write.leaves n) else contents a n))) (numbers_same address element e)
+              ≡ Some (fitted leaf.kind leaf.width (if is_set_at instant (slice_get write.masks n) then integer_at instant (slice_get write.leaves n) else contents a n))) (numbers_same address element e)
               (at_address leaf there)
           by_test false e =
               elsewhere element n (fitted leaf.kind leaf.width (contents element n)) below (λ a m. not_same a e) (d.rest element n leaf less there (omega arith))
@@ -164,13 +164,13 @@ module _ (net : Net) (s : NetState) (values : List Value) (kept_contents : List 
 
   module _ (memory : NetMemory) where
     written_by : (o : Option NetWrite) → ((write : NetWrite) → o ≡ Some write → AreElements net memory write.leaves) → (set : Bool) (address : ℕ) (contents : Held ℕ) (held : List Value) → AreContents memory contents held
-        → AreContents memory (λ element k. if (where_it_writes o set && nat_lt address memory.depth) && ((address == element) && is_set_at sight (mask_leaf o k)) then integer_at sight (written_leaf o k) else contents element k)
+        → AreContents memory (λ element k. if (where_it_writes o set && nat_lt address memory.depth) && ((address == element) && is_set_at instant (mask_leaf o k)) then integer_at instant (written_leaf o k) else contents element k)
         (put_element memory values o set address held)
     written_by None h set address contents held c = c
     written_by (Some write) h true address contents held c = by_test (nat_lt address memory.depth) refl
       where
         by_test : (b : Bool) → nat_lt address memory.depth ≡ b
-            → AreContents memory (λ element k. if b && ((address == element) && is_set_at sight (slice_get write.masks k)) then integer_at sight (slice_get write.leaves k) else contents element k)
+            → AreContents memory (λ element k. if b && ((address == element) && is_set_at instant (slice_get write.masks k)) then integer_at instant (slice_get write.leaves k) else contents element k)
             (if b then put_leaves values write address (length memory.elements) (length memory.elements) held else held)
         by_test true e = put_all memory write (h write refl) address (ltb-true address memory.depth e) contents held c
         by_test false e = c
@@ -184,13 +184,13 @@ module _ (net : Net) (s : NetState) (values : List Value) (kept_contents : List 
         sym (ap (λ k. unsigned_abs (integer k v.width v.bits)) kind_is)
 
     port_written : (port : NetPort) → IsPort net memory port → (contents : Held ℕ) (held : List Value) → AreContents memory contents held
-        → AreContents memory (after_port memory.depth contents (shown sight port)) (over_port memory values held port)
+        → AreContents memory (after_port memory.depth contents (shown instant port)) (over_port memory values held port)
     port_written port p contents held c =
-        subst (λ a. AreContents memory (after_port memory.depth contents (shown sight port)) (put_element memory values port.write (is_set_to_write values port) a held)) (sym (address_is port.addr p.addr))
+        subst (λ a. AreContents memory (after_port memory.depth contents (shown instant port)) (put_element memory values port.write (is_set_to_write values port) a held)) (sym (address_is port.addr p.addr))
         (written_by port.write p.written (is_set_to_write values port) (unsigned_abs (integer_of (value_at values port.addr))) contents held c)
 
     pub ports_written : (ports : List NetPort) → ((p : ℕ) (port : NetPort) → slice_get ports p ≡ Some port → IsPort net memory port) → (contents : Held ℕ) (held : List Value) → AreContents memory contents held
-        → AreContents memory (after_ports memory.depth (shown sight) ports contents) (over_ports memory values ports held)
+        → AreContents memory (after_ports memory.depth (shown instant) ports contents) (over_ports memory values ports held)
     ports_written [] h contents held c = c
     ports_written (port ∷ ports) h contents held c =
-        ports_written ports (λ p other e. h (suc p) other e) (after_port memory.depth contents (shown sight port)) (over_port memory values held port) (port_written port (h 0 port refl) contents held c)
+        ports_written ports (λ p other e. h (suc p) other e) (after_port memory.depth contents (shown instant port)) (over_port memory values held port) (port_written port (h 0 port refl) contents held c)

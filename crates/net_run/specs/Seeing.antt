@@ -7,7 +7,7 @@ use Rattle.ground_net.specs.declared.ground.Ground.{Ground}
 use Rattle.ground_net.specs.declared.net.Net.{Net}
 use Rattle.ground_net.specs.declared.net.NetMemory.{NetMemory}
 use Rattle.ground_net.specs.declared.net.ElementLeaf.{ElementLeaf}
-use Rattle.ground_net.specs.Grounds.{Sight, value}
+use Rattle.ground_net.specs.Grounds.{Instant, value}
 use Rattle.prim_ops.specs.declared.operation.PrimOp.{PrimOp}
 use Rattle.prim_ops.specs.Operations.{arity_of}
 use Rattle.prim_ops.specs.Kinds.{row_kind}
@@ -31,7 +31,7 @@ held_by (Some memory) held k address = held_leaf (slice_get memory.elements k) (
 held_by None held k address = lone []
 
 -- What a cycle shows where the leaves have these values and the memories these contents.
-abbrev pub seen : Net → List Value → List (List Value) → Sight
+abbrev pub seen : Net → List Value → List (List Value) → Instant
 seen net values contents = record { leaf = value_at values; load = λ m k address. held_by (slice_get net.memories m) (get_or contents m []) k (unsigned_abs (integer_of address)) }
 
 -- All values are of the kinds and widths of their leaves.
@@ -43,8 +43,8 @@ abbrev pub AreShaped : Table → List Ground → Type 0
 AreShaped table items = All (λ g. IsSome (shape g table)) items
 
 -- the values of expressions
-abbrev pub values_of : List Ground → Sight → List Value
-values_of items sight = map (λ g. value g sight) items
+abbrev pub values_of : List Ground → Instant → List Value
+values_of items instant = map (λ g. value g instant) items
 
 -- Values that an operation of the table takes.
 pub record Applies (prim : PrimOp) (params : List ℕ) (values : List Value) : Type 0 where

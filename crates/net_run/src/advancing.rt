@@ -4,7 +4,7 @@ ghost use Rattle.std.specs.Prelude.{◌≡◌, IfOk, IsSome, Some, length};
 ghost use Rattle.ground_net.specs.declared.ground.Ground.{Ground as TheGround};
 ghost use Rattle.ground_net.specs.declared.net.NetReset.{NetReset as TheReset};
 ghost use Rattle.ground_net.specs.Reads.{driver_of};
-ghost use Rattle.net_meaning.specs.Cycles.{NetState, next, sight_of};
+ghost use Rattle.net_meaning.specs.Cycles.{NetState, next, instant_of};
 ghost use Rattle.net_meaning.specs.Nets.{IsNet, table_of};
 ghost use Rattle.net_meaning.specs.Shapes.{shape};
 ghost use Rattle.net_run.specs.Seeing.{AreSeen, seen, value_at as value_in};
@@ -25,7 +25,7 @@ use std::alloc::{AllocError, Global};
 pub fn advance(alloc: Global, net: &Net, kept: Kept, values: &[Value]) -> Result<Kept, AllocError>
     requires net { IsNet net.now }
     requires seen { AreSeen net.now values.now kept.contents }
-    ensures { (s : NetState) → IsKept net.now s kept → IfOk result (λ after. IsKept net.now (next net.now s (sight_of net.now s (value_in values.now))) after) }
+    ensures { (s : NetState) → IsKept net.now s kept → IfOk result (λ after. IsKept net.now (next net.now s (instant_of net.now s (value_in values.now))) after) }
 {
     let registers = registers_after(alloc, net, &kept, values)?;
     let before = kept.contents;
@@ -50,7 +50,7 @@ pub fn registers_after(
     requires net { IsNet net.now }
     requires seen { AreSeen net.now values.now kept.now.contents }
     ensures counted { IfOk result (λ registers. length registers ≡ length net.now.registers) }
-    ensures state { (s : NetState) → IsKept net.now s kept.now → IfOk result (λ registers. AreRegisters net.now (next net.now s (sight_of net.now s (value_in values.now))) registers) }
+    ensures state { (s : NetState) → IsKept net.now s kept.now → IfOk result (λ registers. AreRegisters net.now (next net.now s (instant_of net.now s (value_in values.now))) registers) }
 {
     let contents = kept.contents.as_slice();
     let cycle = Seen {

@@ -11,7 +11,7 @@ use Rattle.ground_net.specs.declared.ground.Ground.TheVariants.{Leaf, Mux}
 use Rattle.ground_net.specs.declared.net.Net.{Net}
 use Rattle.ground_net.specs.declared.net.NetReset.{NetReset}
 use Rattle.ground_net.specs.declared.net.NetRegister.{NetRegister}
-use Rattle.ground_net.specs.Grounds.{Sight, value}
+use Rattle.ground_net.specs.Grounds.{Instant, value}
 use Rattle.ground_net.specs.Reads.{driver_of}
 use Rattle.ground_net.proofs.Layers.{value-Leaf, value-Mux}
 use Rattle.net_meaning.specs.Shapes.{Shape, shaped, Table, shape, all_of, shape_of_choice, same_kind, same_shape, is_unsigned}
@@ -22,23 +22,23 @@ use Rattle.next_grounds.specs.Nexts.{driven_ground, reset_ground, next_ground}
 
 -- values
 
-driven_value : (x : ℕ) (o : Option Ground) (sight : Sight) (held : ℤ) → integer_of (sight.leaf x) ≡ held → integer_of (value (driven_ground x o) sight) ≡ driven_or held sight o
-driven_value x (Some g) sight held e = refl
-driven_value x None sight held e = ap integer_of (value-Leaf x sight) ∙ e
+driven_value : (x : ℕ) (o : Option Ground) (instant : Instant) (held : ℤ) → integer_of (instant.leaf x) ≡ held → integer_of (value (driven_ground x o) instant) ≡ driven_or held instant o
+driven_value x (Some g) instant held e = refl
+driven_value x None instant held e = ap integer_of (value-Leaf x instant) ∙ e
 
-reset_value : (o : Option NetReset) (g : Ground) (sight : Sight) (driven : ℤ) → integer_of (value g sight) ≡ driven → integer_of (value (reset_ground o g) sight) ≡ after_reset driven sight o
-reset_value None g sight driven e = e
-reset_value (Some r) g sight driven e = ap integer_of (value-Mux (r.reset ∷ r.init ∷ g ∷ []) sight) ∙ by_test (is_one (value r.reset sight))
+reset_value : (o : Option NetReset) (g : Ground) (instant : Instant) (driven : ℤ) → integer_of (value g instant) ≡ driven → integer_of (value (reset_ground o g) instant) ≡ after_reset driven instant o
+reset_value None g instant driven e = e
+reset_value (Some r) g instant driven e = ap integer_of (value-Mux (r.reset ∷ r.init ∷ g ∷ []) instant) ∙ by_test (is_one (value r.reset instant))
   where
-    by_test : (b : Bool) → integer_of (if b then value r.init sight else value g sight) ≡ (if b then integer_of (value r.init sight) else driven)
+    by_test : (b : Bool) → integer_of (if b then value r.init instant else value g instant) ≡ (if b then integer_of (value r.init instant) else driven)
     by_test true = refl
     by_test false = e
 
-pub next_value : (net : Net) (register : NetRegister) (sight : Sight) (held : ℤ) → integer_of (sight.leaf register.leaf) ≡ held
-    → integer_of (value (next_ground register (driver_of net register.leaf)) sight) ≡ next_of_register net sight (Some register) held
-next_value net register sight held e =
+pub next_value : (net : Net) (register : NetRegister) (instant : Instant) (held : ℤ) → integer_of (instant.leaf register.leaf) ≡ held
+    → integer_of (value (next_ground register (driver_of net register.leaf)) instant) ≡ next_of_register net instant (Some register) held
+next_value net register instant held e =
     let x = register.leaf in
-    reset_value register.reset (driven_ground x (driver_of net x)) sight (driven_or held sight (driver_of net x)) (driven_value x (driver_of net x) sight held e)
+    reset_value register.reset (driven_ground x (driver_of net x)) instant (driven_or held instant (driver_of net x)) (driven_value x (driver_of net x) instant held e)
 
 -- kinds and widths
 

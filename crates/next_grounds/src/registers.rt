@@ -2,7 +2,7 @@
 
 ghost use Rattle.std.specs.Prelude.{◌≡◌, ℕ, ℤ, Some, slice_get, IfOk};
 ghost use Rattle.bit_words.specs.Values.{integer_of};
-ghost use Rattle.ground_net.specs.Grounds.{Sight, value};
+ghost use Rattle.ground_net.specs.Grounds.{Instant, value};
 ghost use Rattle.ground_net.specs.Reads.{driver_of};
 ghost use Rattle.net_meaning.specs.Shapes.{shape};
 ghost use Rattle.net_meaning.specs.Cycles.{next_of_register};
@@ -16,7 +16,7 @@ use std::alloc::{AllocError, Global};
 /// The expression of what a register holds next: `init` where its reset is 1, else what its driver leaves, else what it shows.
 pub fn next_ground(alloc: Global, net: &Net, register: &NetRegister) -> Result<Ground, AllocError>
     ensures itself { IfOk result (λ g. g ≡ next_of register.now (driver_of net.now register.now.leaf)) }
-    ensures value { IfOk result (λ g. (sight : Sight) (held : ℤ) → integer_of (sight.leaf register.now.leaf) ≡ held → integer_of (value g sight) ≡ next_of_register net.now sight (Some register.now) held) }
+    ensures value { IfOk result (λ g. (instant : Instant) (held : ℤ) → integer_of (instant.leaf register.now.leaf) ≡ held → integer_of (value g instant) ≡ next_of_register net.now instant (Some register.now) held) }
     ensures shape { IfOk result (λ g. (n : ℕ) → IsNet net.now → slice_get net.now.registers n ≡ Some register.now → shape g (table_of net.now) ≡ (table_of net.now).leaf register.now.leaf) }
 {
     let next = made(alloc, net, register)?;

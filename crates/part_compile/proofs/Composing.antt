@@ -116,9 +116,9 @@ module _ (net : Net) (w : IsNet net) (watch : List ℕ) (part : CutPart) where
         are = are;
         told = made.draft;
         tells = so.tells;
-        spots = made.shown;
+        locations = made.shown;
         whole = whole;
-        shows = λ ws is F sight sol sees. so.values ws is F sight sol sees ∙ sym (map-map sight.leaf (slice_index watch) made.positions);
+        shows = λ ws is F instant sol sees. so.values ws is F instant sol sees ∙ sym (map-map instant.leaf (slice_index watch) made.positions);
       } in
       record {
         words = words ∙ (so.tells.words ∙ (goes.grows.words ∙ counted));

@@ -16,11 +16,11 @@ use Rattle.net_meaning.proofs.Settling.{reads_mentions}
 use Rattle.flat_code.specs.declared.code.Code.{Code}
 use Rattle.flat_code.specs.declared.instr.Port.{Port}
 use Rattle.flat_code.specs.declared.instr.Wide.{Wide}
-use Rattle.flat_code.specs.declared.instr.Spot.{Spot}
+use Rattle.flat_code.specs.declared.instr.Location.{Location}
 use Rattle.flat_code.specs.Fine.{among, slots_of}
 use Rattle.code_draft.specs.declared.draft.Draft.{Draft}
 use Rattle.code_draft.proofs.Segmenting.{none_among}
-use Rattle.code_draft.proofs.Stepping.{spot_few}
+use Rattle.code_draft.proofs.Stepping.{location_few}
 use Rattle.code_emit.specs.declared.sources.Source.{Source}
 use Rattle.code_emit.specs.declared.sources.Source.TheVariants as source
 use Rattle.code_emit.specs.declared.sources.Sources.{Sources}
@@ -69,7 +69,7 @@ once_of (x ∷ xs) h = (
 source_two : (src : Option Source) → length (found_slots src) ≤ 2
 source_two (Some (source.Word k)) = omega arith
 source_two (Some (source.Input k)) = omega arith
-source_two (Some (source.Frame s)) = spot_few s
+source_two (Some (source.Frame s)) = location_few s
 source_two (Some (source.Constant c)) = omega arith
 source_two None = omega arith
 
@@ -81,7 +81,7 @@ none_framed net S of y k (Some (source.Frame s)) e a = (of.leaves y (source.Fram
 none_framed net S of y k (Some (source.Constant c)) e a = none_among k a
 none_framed net S of y k None e a = none_among k a
 
-within_further : (S : Sources) (x : ℕ) (xs : List ℕ) (s : Spot) → ((z : ℕ) → Contains (x ∷ xs) z → z < length S.leaves) → (z : ℕ) → Contains xs z → z < length (with_frame S x s).leaves
+within_further : (S : Sources) (x : ℕ) (xs : List ℕ) (s : Location) → ((z : ℕ) → Contains (x ∷ xs) z → z < length S.leaves) → (z : ℕ) → Contains xs z → z < length (with_frame S x s).leaves
 within_further S x xs s within z c =
     let long = length-set S.leaves x (Some (source.Frame s)) in
     let below = within z (contains_later x xs z c) in
@@ -89,10 +89,10 @@ within_further S x xs s within z c =
 
 -- a leaf that is found in the frame is so behind more assignments
 frame_stays : (drivers : List (Option Ground)) (xs : List ℕ) (S T : Sources) (a b : Draft) → InSegments drivers xs S a T b → ((z : ℕ) → Contains xs z → z < length S.leaves) → (y : ℕ)
-    → (t : Spot) × (leaf_source S y ≡ Some (source.Frame t)) → (t : Spot) × (leaf_source T y ≡ Some (source.Frame t))
+    → (t : Location) × (leaf_source S y ≡ Some (source.Frame t)) → (t : Location) × (leaf_source T y ≡ Some (source.Frame t))
 frame_stays drivers [] S T a b h within y f = (f.0, ap (λ V. leaf_source V y) h.0 ∙ f.1)
 frame_stays drivers (x ∷ xs) S T a b h within y f =
-    let now : (t : Spot) × (leaf_source (with_frame S x h.1) y ≡ Some (source.Frame t)) = ⊎_elim
+    let now : (t : Location) × (leaf_source (with_frame S x h.1) y ≡ Some (source.Frame t)) = ⊎_elim
     (λ q. (h.1, ap (leaf_source (with_frame S x h.1)) q ∙ set_source S x h.1 (within x (contains_first x xs))))
     (λ ne. (f.0, other_source S x y h.1 ne ∙ f.1))
     (cases_eq y x)
@@ -101,7 +101,7 @@ frame_stays drivers (x ∷ xs) S T a b h within y f =
 
 -- and so is each that was assigned
 framed : (drivers : List (Option Ground)) (xs : List ℕ) (S T : Sources) (a b : Draft) → InSegments drivers xs S a T b → ((z : ℕ) → Contains xs z → z < length S.leaves) → (y : ℕ) → Contains xs y
-    → (t : Spot) × (leaf_source T y ≡ Some (source.Frame t))
+    → (t : Location) × (leaf_source T y ≡ Some (source.Frame t))
 framed drivers [] S T a b h within y c = absurd (none_in y c)
 framed drivers (x ∷ xs) S T a b h within y c = ⊎_elim
     (λ q. frame_stays drivers xs (with_frame S x h.1) T h.2 b h.5 (within_further S x xs h.1 within) y
@@ -121,9 +121,9 @@ driver_known net x g e =
     ((λ y c. subst (λ o. Contains (mentioned_by o) y) (sym d) c), subst (λ o. tips g ≤ nodes_of o) (sym d) (tips_few g))
 
 -- pieces may read more
-reads_more : (spots reads more : ℕ → List ℕ) (counts : ℕ → ℕ) (leaves : List ℕ) (a b : Draft) → ((x y : ℕ) → Contains leaves x → Contains (reads x) y → Contains (more x) y)
-    → AssignsPieces spots reads counts leaves a b → AssignsPieces spots more counts leaves a b
-reads_more spots reads more counts leaves a b f it = record {
+reads_more : (locations reads more : ℕ → List ℕ) (counts : ℕ → ℕ) (leaves : List ℕ) (a b : Draft) → ((x y : ℕ) → Contains leaves x → Contains (reads x) y → Contains (more x) y)
+    → AssignsPieces locations reads counts leaves a b → AssignsPieces locations more counts leaves a b
+reads_more locations reads more counts leaves a b f it = record {
   pieces = it.pieces;
   goes = it.goes;
   counted = it.counted;

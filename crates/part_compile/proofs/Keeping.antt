@@ -62,7 +62,7 @@ module _ (net : Net) (w : IsNet net) (assignments : List ℕ) (first later : Sou
   }
   by_source n c leaf (source.Input kept) there is at h = absurd (captured_input leaf.role n kept.number is h.1)
   by_source n c leaf (source.Constant value) there is at h = absurd (captured_clock leaf.role n is h.0)
-  by_source n c leaf (source.Frame spot) there is at h = absurd h
+  by_source n c leaf (source.Frame location) there is at h = absurd h
 
   captured_there : (n : ℕ) (c : Capture) → slice_get (captures net) n ≡ Some c → StandsCaptured net later n c
   captured_there n c there =

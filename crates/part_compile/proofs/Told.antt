@@ -9,8 +9,8 @@ use Rattle.ground_net.specs.Cones.{Sink, A_watched, A_register, A_memory}
 use Rattle.ground_net.specs.Reads.{driver_of}
 use Rattle.net_meaning.specs.Nets.{IsNet}
 use Rattle.next_grounds.specs.Nexts.{next_ground}
-use Rattle.flat_code.specs.declared.instr.Spot.{Spot}
-use Rattle.flat_code.specs.Fine.{among, spot_slots, slots_of}
+use Rattle.flat_code.specs.declared.instr.Location.{Location}
+use Rattle.flat_code.specs.Fine.{among, location_slots, slots_of}
 use Rattle.code_draft.specs.declared.draft.Draft.{Draft}
 use Rattle.code_draft.proofs.Segmenting.{none_among, among_either}
 use Rattle.code_emit.specs.declared.sources.Sources.{Sources}
@@ -29,11 +29,11 @@ use Rattle.frame_laws.proofs.Telling.{groups_pieces}
 use Rattle.part_sinks.specs.declared.work.Made.{Made}
 use Rattle.part_compile.specs.Telling.{EvaluatesSink, AreFound, AreTold}
 
--- a slot of spots and of one more
-slots_either : (ss : List Spot) (s : Spot) (k : ℕ) → among (slots_of (ss ++ s ∷ [])) k ≡ true → (among (slots_of ss) k ≡ true) ⊎ (among (spot_slots s) k ≡ true)
+-- a slot of locations and of one more
+slots_either : (ss : List Location) (s : Location) (k : ℕ) → among (slots_of (ss ++ s ∷ [])) k ≡ true → (among (slots_of ss) k ≡ true) ⊎ (among (location_slots s) k ≡ true)
 slots_either ss s k e =
-    let same : slots_of (ss ++ s ∷ []) ≡ slots_of ss ++ spot_slots s = flat_map-append spot_slots ss (s ∷ []) ∙ ap (λ l. slots_of ss ++ l) (append-nil (spot_slots s)) in
-    among_either (slots_of ss) (spot_slots s) k (ap (λ l. among l k) (sym same) ∙ e)
+    let same : slots_of (ss ++ s ∷ []) ≡ slots_of ss ++ location_slots s = flat_map-append location_slots ss (s ∷ []) ∙ ap (λ l. slots_of ss ++ l) (append-nil (location_slots s)) in
+    among_either (slots_of ss) (location_slots s) k (ap (λ l. among l k) (sym same) ∙ e)
 
 module _ (net : Net) (w : IsNet net) (watch : List ℕ) (part : CutPart) (S : Sources) where
   register_groups_fit : (n : ℕ) → Contains (sinks_of_part net watch part) (A_register n) → ((n k : ℕ) (register : NetRegister) → slice_get net.registers n ≡ Some register → among (leaf_slots S register.leaf) k ≡ true → ⊥)
@@ -73,7 +73,7 @@ module _ (net : Net) (w : IsNet net) (watch : List ℕ) (part : CutPart) (S : So
     told_more (A_watched x) old new c le h so =
         let t = found.watched x c in
         let e = h t.0 t.1 in
-        let at : leaf_slots S x ≡ spot_slots t.0 = ap found_slots t.1 in
+        let at : leaf_slots S x ≡ location_slots t.0 = ap found_slots t.1 in
         record {
           adds = subst (AddsPieces (leaf_slots S) part.assignments (sinks_read net watch part) (sinks_nodes net watch part) start) (sym e.0) so.adds;
           shown = λ k a. ⊎_elim

@@ -4,7 +4,7 @@ use Rattle.ground_net.specs.declared.net.Net.{Net}
 use Rattle.ground_net.specs.declared.net.NetRegister.{NetRegister}
 use Rattle.ground_net.specs.declared.net.CutPart.{CutPart}
 use Rattle.ground_net.specs.Cones.{Sink, A_watched, A_register, A_memory}
-use Rattle.flat_code.specs.declared.instr.Spot.{Spot}
+use Rattle.flat_code.specs.declared.instr.Location.{Location}
 use Rattle.flat_code.specs.Fine.{among, slots_of}
 use Rattle.code_draft.specs.declared.draft.Draft.{Draft}
 use Rattle.code_emit.specs.declared.sources.Source.TheVariants as source
@@ -30,7 +30,7 @@ pub record AreFound (net : Net) (watch : List ℕ) (part : CutPart) (S : Sources
   pub before : AreFoundBefore S end
   pub assigned : (y k : ℕ) → among (leaf_slots S y) k ≡ true → Contains part.assignments y
   pub registers : (n k : ℕ) (register : NetRegister) → slice_get net.registers n ≡ Some register → among (leaf_slots S register.leaf) k ≡ true → ⊥
-  pub watched : (x : ℕ) → Contains (sinks_of_part net watch part) (A_watched x) → (t : Spot) × (leaf_source S x ≡ Some (source.Frame t))
+  pub watched : (x : ℕ) → Contains (sinks_of_part net watch part) (A_watched x) → (t : Location) × (leaf_source S x ≡ Some (source.Frame t))
 
 -- What was told is pieces, and stands where assignments do.
 pub record AreTold (net : Net) (watch : List ℕ) (part : CutPart) (S : Sources) (start : Draft) (made : Made) : Type 0 where

@@ -5,10 +5,10 @@ use Rattle.bit_words.specs.declared.value.Value.{Value}
 use Rattle.bit_words.specs.Values.{integer_of}
 use Rattle.ground_net.specs.declared.ground.Ground.{Ground}
 use Rattle.ground_net.specs.declared.net.Net.{Net}
-use Rattle.ground_net.specs.Grounds.{Sight}
+use Rattle.ground_net.specs.Grounds.{Instant}
 use Rattle.ground_net.specs.Cones.{Sink}
 use Rattle.ground_net.specs.Reads.{driver_of, lone_driver}
-use Rattle.net_meaning.specs.Cycles.{Inputs, Valuation, Settled, sight_of}
+use Rattle.net_meaning.specs.Cycles.{Inputs, Valuation, Settled, instant_of}
 use Rattle.net_meaning.specs.Nets.{IsNet, leaf_shape, register_shapes}
 use Rattle.net_meaning.specs.Words.{state_of, register_word, integer_at_word}
 use Rattle.flat_code.specs.declared.code.Code.{Code}
@@ -29,8 +29,8 @@ same_driver None g e = e
 
 module _ (net : Net) (assignments : List ℕ) (these : List Sink) (shown : List ℕ) (code : Code) (words : List ℕ) (inputs : List Value) (given : Inputs) (rho : Valuation) (w : IsNet net) (p : IsPart net assignments these shown code)
     (plain : (k : ℕ) → slice_index words k < 2 ^ 64) (match : MatchInputs net inputs given) (settled : Settled net (state_of net words) given rho) where
-  abbrev seen_now : Sight
-  seen_now = sight_of net (state_of net words) rho
+  abbrev seen_now : Instant
+  seen_now = instant_of net (state_of net words) rho
 
   are_assigned : AreAssigned net.drivers assignments seen_now
   are_assigned x g there e = let a = p.are x there in settled.assigned x a.leaf g a.there a.is (same_driver (slice_get net.drivers x) g e)

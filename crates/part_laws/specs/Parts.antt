@@ -2,12 +2,12 @@
 use Rattle.std.specs.Prelude.{◌≡◌, ℕ, List, [], map, Contains}
 use Rattle.bit_words.specs.declared.value.Value.{Value}
 use Rattle.ground_net.specs.declared.net.Net.{Net}
-use Rattle.ground_net.specs.Grounds.{Sight}
+use Rattle.ground_net.specs.Grounds.{Instant}
 use Rattle.ground_net.specs.Cones.{Sink}
 use Rattle.ground_net.specs.Reads.{IsAssigned}
 use Rattle.flat_code.specs.declared.code.Code.{Code}
-use Rattle.flat_code.specs.declared.instr.Spot.{Spot}
-use Rattle.flat_code.specs.Meaning.{spot_values}
+use Rattle.flat_code.specs.declared.instr.Location.{Location}
+use Rattle.flat_code.specs.Meaning.{location_values}
 use Rattle.code_draft.specs.declared.draft.Draft.{Draft}
 use Rattle.code_draft.specs.Drafts.{Solved}
 use Rattle.code_emit.specs.declared.sources.Sources.{Sources}
@@ -29,6 +29,6 @@ pub record IsPart (net : Net) (assignments : List ℕ) (these : List Sink) (show
   pub are : (x : ℕ) → Contains assignments x → IsAssigned net.leaves x
   pub told : Draft
   pub tells : TellsSinks net later these assigned told
-  pub spots : List Spot
-  pub whole : IsCodeOf code told spots
-  pub shows : (words : List ℕ) (inputs : List Value) (F : List ℕ) (sight : Sight) → Solved told words inputs F → Sees later words inputs F sight → spot_values F spots ≡ map sight.leaf shown
+  pub locations : List Location
+  pub whole : IsCodeOf code told locations
+  pub shows : (words : List ℕ) (inputs : List Value) (F : List ℕ) (instant : Instant) → Solved told words inputs F → Sees later words inputs F instant → location_values F locations ≡ map instant.leaf shown

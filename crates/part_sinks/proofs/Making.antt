@@ -10,15 +10,15 @@ use Rattle.bit_words.specs.declared.value.Value.{Value}
 use Rattle.ground_net.specs.declared.net.Net.{Net}
 use Rattle.ground_net.specs.declared.ground.Ground.{Ground}
 use Rattle.ground_net.specs.declared.ground.Ground.TheVariants.{Leaf}
-use Rattle.ground_net.specs.Grounds.{Sight, value}
+use Rattle.ground_net.specs.Grounds.{Instant, value}
 use Rattle.ground_net.specs.Cones.{Sink, A_watched, A_register, A_memory, sinks}
 use Rattle.ground_net.proofs.Layers.{value-Leaf}
 use Rattle.net_meaning.specs.Cycles.{NetState}
 use Rattle.flat_code.specs.declared.code.Span.{Span}
-use Rattle.flat_code.specs.declared.instr.Spot.{Spot}
-use Rattle.flat_code.specs.Meaning.{spot_value, spot_values}
-use Rattle.flat_code.specs.Fine.{spot_slots}
-use Rattle.flat_code.proofs.Frames.{spot_more}
+use Rattle.flat_code.specs.declared.instr.Location.{Location}
+use Rattle.flat_code.specs.Meaning.{location_value, location_values}
+use Rattle.flat_code.specs.Fine.{location_slots}
+use Rattle.flat_code.proofs.Frames.{location_more}
 use Rattle.sink_effects.specs.Effects.{HasWord, sink_told, sinks_told}
 use Rattle.code_draft.specs.declared.draft.Draft.{Draft}
 use Rattle.code_draft.specs.Drafts.{IsDraft, Solved, Stands, pushed_in}
@@ -86,9 +86,9 @@ words_more net these sink old new h more i = (
     only_one : (s : Sink) → Contains (sink ∷ []) s → sink ≡ s
     only_one s (k, below, is) = let e : k ≡ 0 = omega (arith, below) in rw e at is
 
--- spots that stood stand
-stands_on : (net : Net) (S : Sources) (these : List Sink) (old new : Draft) (s : Spot) → TellsSinks net S these old new → Stands old s → Stands new s
-stands_on net S these old new s t h = record { within = spot_more old.slots new.slots s t.slots h.within; written = λ k d lt. t.stays (get_or (spot_slots s) k d) (h.written k d lt) }
+-- locations that stood stand
+stands_on : (net : Net) (S : Sources) (these : List Sink) (old new : Draft) (s : Location) → TellsSinks net S these old new → Stands old s → Stands new s
+stands_on net S these old new s t h = record { within = location_more old.slots new.slots s t.slots h.within; written = λ k d lt. t.stays (get_or (location_slots s) k d) (h.written k d lt) }
 
 module _ (net : Net) (watch : List ℕ) (S : Sources) (start : Draft) where
   pub none_so_far : (made : Made) → IsDraft start → AreSources S start → made.draft ≡ start → made.shown ≡ [] → made.positions ≡ [] → made.owned ≡ [] → SoFar net watch S start [] made
@@ -97,7 +97,7 @@ module _ (net : Net) (watch : List ℕ) (S : Sources) (start : Draft) where
     stand = subst (All (Stands made.draft)) (sym shown) (λ k d lt. absurd (omega (arith, lt)));
     positions = positions;
     paired = ap length positions ∙ sym (ap length shown);
-    values = λ words inputs F sight sol sees. ap (spot_values F) shown ∙ sym (ap (seen_at watch sight) positions);
+    values = λ words inputs F instant sol sees. ap (location_values F) shown ∙ sym (ap (seen_at watch instant) positions);
     owned = λ i. ((λ e. absurd (false_true (ap (λ l. is_among l i) (sym owned) ∙ e))), (λ a. absurd (nil_in a.sink a.there)));
   }
 
@@ -110,18 +110,18 @@ module _ (net : Net) (watch : List ℕ) (S : Sources) (start : Draft) where
       let placed : new.positions ≡ positions_in watch (numbers ++ k ∷ [])
       = a.positions ∙ (ap (λ l. l ++ positions_in watch (k ∷ [])) h.positions ∙ sym (filter-append (λ j. nat_lt j (length watch)) numbers (k ∷ []))) in
       record {
-        tells = told_as net S (λ st sight. sinks_told net st sight these ++ sinks_told net st sight (sink ∷ [])) (λ st sight. sinks_told net st sight (sinks_of net watch (numbers ++ k ∷ []))) start new.draft
-            (λ st sight. sym (flat_map-append (sink_told net st sight) these (sink ∷ [])) ∙ ap (sinks_told net st sight) (sym listed))
-            (told_then net S (λ st sight. sinks_told net st sight these) (λ st sight. sinks_told net st sight (sink ∷ [])) start old.draft new.draft h.tells a.tells);
+        tells = told_as net S (λ st instant. sinks_told net st instant these ++ sinks_told net st instant (sink ∷ [])) (λ st instant. sinks_told net st instant (sinks_of net watch (numbers ++ k ∷ []))) start new.draft
+            (λ st instant. sym (flat_map-append (sink_told net st instant) these (sink ∷ [])) ∙ ap (sinks_told net st instant) (sym listed))
+            (told_then net S (λ st instant. sinks_told net st instant these) (λ st instant. sinks_told net st instant (sink ∷ [])) start old.draft new.draft h.tells a.tells);
         stand = subst (All (Stands new.draft)) (sym a.shown)
-            (All-append (Stands new.draft) old.shown a.spots (λ j d lt. stands_on net S (sink ∷ []) old.draft new.draft (get_or old.shown j d) a.tells (h.stand j d lt)) a.stand);
+            (All-append (Stands new.draft) old.shown a.locations (λ j d lt. stands_on net S (sink ∷ []) old.draft new.draft (get_or old.shown j d) a.tells (h.stand j d lt)) a.stand);
         positions = placed;
-        paired = long (length new.positions) (length new.shown) (length old.positions) (length (positions_in watch (k ∷ []))) (length old.shown) (length a.spots)
-            (ap length a.positions ∙ length-append old.positions (positions_in watch (k ∷ []))) (ap length a.shown ∙ length-append old.shown a.spots) h.paired a.paired;
-        values = λ words inputs F sight sol sees.
-            ap (spot_values F) a.shown ∙ (map-append (spot_value F) old.shown a.spots
-            ∙ (ap₂ (λ vs us. vs ++ us) (h.values words inputs F sight (a.tells.back words inputs F sol) sees) (a.values words inputs F sight sol sees)
-            ∙ (sym (map-append (λ j. sight.leaf (slice_index watch j)) old.positions (positions_in watch (k ∷ []))) ∙ ap (seen_at watch sight) (sym a.positions))));
+        paired = long (length new.positions) (length new.shown) (length old.positions) (length (positions_in watch (k ∷ []))) (length old.shown) (length a.locations)
+            (ap length a.positions ∙ length-append old.positions (positions_in watch (k ∷ []))) (ap length a.shown ∙ length-append old.shown a.locations) h.paired a.paired;
+        values = λ words inputs F instant sol sees.
+            ap (location_values F) a.shown ∙ (map-append (location_value F) old.shown a.locations
+            ∙ (ap₂ (λ vs us. vs ++ us) (h.values words inputs F instant (a.tells.back words inputs F sol) sees) (a.values words inputs F instant sol sees)
+            ∙ (sym (map-append (λ j. instant.leaf (slice_index watch j)) old.positions (positions_in watch (k ∷ []))) ∙ ap (seen_at watch instant) (sym a.positions))));
         owned = subst (λ l. (i : ℕ) → IsTrue (is_among new.owned i) ↔ HasWordAmong net l i) (sym listed) (words_more net these sink old.owned new.owned h.owned a.owned);
       }
     where
@@ -145,7 +145,7 @@ position_out watch k le = by_test (nat_lt k (length watch)) (grind (arith, nat_t
     by_test false e = refl
 
 -- a watched leaf
-pub watched_adds : (net : Net) (watch : List ℕ) (S : Sources) (k x : ℕ) (old new : Made) (s : Spot) → k < length watch → slice_index watch k ≡ x → IsDraft old.draft → AreSources S old.draft
+pub watched_adds : (net : Net) (watch : List ℕ) (S : Sources) (k x : ℕ) (old new : Made) (s : Location) → k < length watch → slice_index watch k ≡ x → IsDraft old.draft → AreSources S old.draft
     → Emits S (Leaf x) old.draft new.draft s → new.shown ≡ old.shown ++ s ∷ [] → new.positions ≡ old.positions ++ k ∷ [] → new.owned ≡ old.owned → Adds net watch S k (A_watched x) old new
 watched_adds net watch S k x old new s lt at is srcs emits shown positions owned =
     let m = emits is srcs in
@@ -158,16 +158,16 @@ watched_adds net watch S k x old new s lt at is srcs emits shown positions owned
         slots = m.grows.slots;
         stays = m.grows.stays;
         back = m.grows.back;
-        tells = λ words inputs F sight st sol sees shows. m.grows.quiet F ∙ sym (append-nil (pushed_in old.draft F));
+        tells = λ words inputs F instant st sol sees shows. m.grows.quiet F ∙ sym (append-nil (pushed_in old.draft F));
       };
-      spots = s ∷ [];
+      locations = s ∷ [];
       shown = shown;
       stand = λ j d jt. let z : j ≡ 0 = omega (arith, jt) in subst (λ i. Stands new.draft (get_or (s ∷ []) i d)) (sym z) m.stands;
       positions = positions ∙ ap (λ l. old.positions ++ l) (sym one);
       paired = ap length one;
-      values = λ words inputs F sight sol sees.
-          ap (λ v. v ∷ []) (held_value F s (sight.leaf x) (m.holds words inputs F (sight.leaf x) sol (sight, sees, sym (value-Leaf x sight))) ∙ ap sight.leaf (sym at))
-          ∙ sym (ap (seen_at watch sight) one);
+      values = λ words inputs F instant sol sees.
+          ap (λ v. v ∷ []) (held_value F s (instant.leaf x) (m.holds words inputs F (instant.leaf x) sol (instant, sees, sym (value-Leaf x instant))) ∙ ap instant.leaf (sym at))
+          ∙ sym (ap (seen_at watch instant) one);
       owned = record {
         spans = [];
         is = owned ∙ sym (append-nil old.owned);
@@ -182,11 +182,11 @@ kept_adds net watch S k sink old new le tells shown positions owned =
     let none = position_out watch k le in
     record {
       tells = tells;
-      spots = [];
+      locations = [];
       shown = shown ∙ sym (append-nil old.shown);
       stand = λ j d jt. absurd (omega (arith, jt));
       positions = positions ∙ (sym (append-nil old.positions) ∙ ap (λ l. old.positions ++ l) (sym none));
       paired = ap length none;
-      values = λ words inputs F sight sol sees. sym (ap (seen_at watch sight) none);
+      values = λ words inputs F instant sol sees. sym (ap (seen_at watch instant) none);
       owned = owned;
     }

@@ -4,14 +4,14 @@ use Rattle.bit_words.specs.declared.value.Value.{Value}
 use Rattle.ground_net.specs.declared.net.Net.{Net}
 use Rattle.ground_net.specs.declared.net.NetMemory.{NetMemory}
 use Rattle.ground_net.specs.declared.net.CutPart.{CutPart}
-use Rattle.ground_net.specs.Grounds.{Sight}
+use Rattle.ground_net.specs.Grounds.{Instant}
 use Rattle.ground_net.specs.Cones.{Sink, sinks, InCone}
 use Rattle.net_meaning.specs.Cycles.{Capture, captures}
 use Rattle.net_meaning.specs.Nets.{IsNet}
 use Rattle.net_meaning.specs.Words.{state_words, captured_word, memory_words, SaysItsWords}
 use Rattle.flat_code.specs.declared.code.Span.{Span}
-use Rattle.flat_code.specs.declared.instr.Spot.{Spot}
-use Rattle.flat_code.specs.Meaning.{spot_values}
+use Rattle.flat_code.specs.declared.instr.Location.{Location}
+use Rattle.flat_code.specs.Meaning.{location_values}
 use Rattle.sink_effects.specs.Effects.{HasWord, IsWordOf, capture_shape}
 use Rattle.code_draft.specs.declared.draft.Draft.{Draft}
 use Rattle.code_draft.specs.Drafts.{IsDraft, Solved, Stands}
@@ -43,8 +43,8 @@ abbrev pub positions_in : List ℕ → List ℕ → List ℕ
 positions_in watch numbers = filter (λ k. nat_lt k (length watch)) numbers
 
 -- the values of the watched leaves at positions
-abbrev pub seen_at : List ℕ → Sight → List ℕ → List Value
-seen_at watch sight positions = map (λ k. sight.leaf (slice_index watch k)) positions
+abbrev pub seen_at : List ℕ → Instant → List ℕ → List Value
+seen_at watch instant positions = map (λ k. instant.leaf (slice_index watch k)) positions
 
 -- A part's numbers are sinks whose cones are among its assignments, and these are known.
 pub record IsWork (net : Net) (watch : List ℕ) (part : CutPart) (S : Sources) : Type 0 where
@@ -81,13 +81,13 @@ pub record OwnsSome (net : Net) (m : ℕ) (memory : NetMemory) (count : ℕ) (ol
 -- The code and the words of one sink are added.
 pub record Adds (net : Net) (watch : List ℕ) (S : Sources) (k : ℕ) (sink : Sink) (old new : Made) : Type 0 where
   pub tells : TellsSinks net S (sink ∷ []) old.draft new.draft
-  pub spots : List Spot
-  pub shown : new.shown ≡ old.shown ++ spots
-  pub stand : All (Stands new.draft) spots
+  pub locations : List Location
+  pub shown : new.shown ≡ old.shown ++ locations
+  pub stand : All (Stands new.draft) locations
   pub positions : new.positions ≡ old.positions ++ positions_in watch (k ∷ [])
-  pub paired : length (positions_in watch (k ∷ [])) ≡ length spots
-  pub values : (words : List ℕ) (inputs : List Value) (F : List ℕ) (sight : Sight) → Solved new.draft words inputs F → Sees S words inputs F sight
-      → spot_values F spots ≡ seen_at watch sight (positions_in watch (k ∷ []))
+  pub paired : length (positions_in watch (k ∷ [])) ≡ length locations
+  pub values : (words : List ℕ) (inputs : List Value) (F : List ℕ) (instant : Instant) → Solved new.draft words inputs F → Sees S words inputs F instant
+      → location_values F locations ≡ seen_at watch instant (positions_in watch (k ∷ []))
   pub owned : OwnsMore net sink old.owned new.owned
 
 -- the same of the sink of a number
@@ -100,8 +100,8 @@ pub record SoFar (net : Net) (watch : List ℕ) (S : Sources) (start : Draft) (n
   pub stand : All (Stands made.draft) made.shown
   pub positions : made.positions ≡ positions_in watch numbers
   pub paired : length made.positions ≡ length made.shown
-  pub values : (words : List ℕ) (inputs : List Value) (F : List ℕ) (sight : Sight) → Solved made.draft words inputs F → Sees S words inputs F sight
-      → spot_values F made.shown ≡ seen_at watch sight made.positions
+  pub values : (words : List ℕ) (inputs : List Value) (F : List ℕ) (instant : Instant) → Solved made.draft words inputs F → Sees S words inputs F instant
+      → location_values F made.shown ≡ seen_at watch instant made.positions
   pub owned : (i : ℕ) → IsTrue (is_among made.owned i) ↔ HasWordAmong net (sinks_of net watch numbers) i
 
 -- what is done where the draft is in order

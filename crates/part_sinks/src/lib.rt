@@ -1,4 +1,4 @@
-//! What sinks add to the code of a part: watched leaves their spots, registers the code of their next words, and registers and memories
+//! What sinks add to the code of a part: watched leaves their locations, registers the code of their next words, and registers and memories
 //! the spans of the words that they have. Keeps the contract that exactly what the sink leaves is published, and exactly its words are
 //! owned.
 #![tactic(auto)]

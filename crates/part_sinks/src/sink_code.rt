@@ -29,8 +29,8 @@ pub fn show_leaf(
     ensures adds { OnOk result (Adds work.now.plan.now.net.now work.now.plan.now.watch.now work.now.sources.now number (A_watched leaf) made.old made.new) }
     ensures shows { OnOk result (ShowsLeaf work.now.sources.now leaf made.old made.new) }
 {
-    let spot = emit(alloc, &mut made.draft, work.sources, &Ground::Leaf(leaf))?;
-    made.shown.push(spot)?;
+    let location = emit(alloc, &mut made.draft, work.sources, &Ground::Leaf(leaf))?;
+    made.shown.push(location)?;
     made.positions.push(number)?;
     Ok(())
 }

@@ -3,7 +3,7 @@
 use bit_words::List;
 use code_draft::Draft;
 use code_emit::Sources;
-use flat_code::{Span, Spot};
+use flat_code::{Span, Location};
 use ground_net::Net;
 use net_sources::{CapturedRead, FirstWords};
 
@@ -23,11 +23,11 @@ pub struct Work<'a> {
     pub sources: &'a Sources,
 }
 
-/// Code with the spots that it shows, their positions in the watch list, and the words that it owns.
+/// Code with the locations that it shows, their positions in the watch list, and the words that it owns.
 #[derive(Drop)]
 pub struct Made {
     pub draft: Draft,
-    pub shown: List<Spot>,
+    pub shown: List<Location>,
     pub positions: List<u32>,
     pub owned: List<Span>,
 }

@@ -8,7 +8,7 @@ use Rattle.ground_net.specs.declared.net.Ordered.{Ordered}
 use Rattle.ground_net.specs.declared.net.CutPart.{CutPart}
 use Rattle.ground_net.specs.Cones.{Sink, sinks}
 use Rattle.ground_net.specs.Reads.{IsOrder}
-use Rattle.net_meaning.specs.Cycles.{NetState, Inputs, Valuation, Settled, sight_of}
+use Rattle.net_meaning.specs.Cycles.{NetState, Inputs, Valuation, Settled, instant_of}
 use Rattle.net_meaning.specs.Nets.{IsNet}
 use Rattle.net_meaning.specs.Words.{state_words, state_of}
 use Rattle.flat_code.specs.declared.code.Code.{Code}
@@ -61,7 +61,7 @@ pub record IsCodeOf (net : Net) (watch : List ℕ) (part : CutPart) (code : Code
   pub positions : code.positions ≡ positions_of_part watch part
   pub owned : (i : ℕ) → IsTrue (owns code i) ↔ HasWordAmong net (sinks_of_part net watch part) i
   pub publications : (words : List ℕ) (inputs : List Value) (rho : Valuation) → IsCycle net words inputs rho
-      → published_by code words inputs ≡ sinks_told net (state_of net words) (sight_of net (state_of net words) rho) (sinks_of_part net watch part)
+      → published_by code words inputs ≡ sinks_told net (state_of net words) (instant_of net (state_of net words) rho) (sinks_of_part net watch part)
   pub outputs : (words : List ℕ) (inputs : List Value) (rho : Valuation) → IsCycle net words inputs rho
       → outputs_by code words inputs ≡ map (λ k. rho (slice_index watch k)) code.positions
 

@@ -19,11 +19,11 @@ use Rattle.ground_net.specs.declared.net.Leaf.{Leaf}
 use Rattle.ground_net.specs.declared.net.Role.TheVariants as role
 use Rattle.ground_net.specs.declared.net.Net.{Net}
 use Rattle.ground_net.specs.declared.net.NetRegister.{NetRegister}
-use Rattle.ground_net.specs.Grounds.{Sight}
+use Rattle.ground_net.specs.Grounds.{Instant}
 use Rattle.ground_net.specs.Reads.{Reads, driver_of, read_of, read_by}
 use Rattle.ground_net.specs.Cones.{register_needs, mentioned_by, mentioned_by_reset}
 use Rattle.net_meaning.specs.Shapes.{HasShapes, shaped}
-use Rattle.net_meaning.specs.Cycles.{NetState, sight_of, driven_or, after_reset}
+use Rattle.net_meaning.specs.Cycles.{NetState, instant_of, driven_or, after_reset}
 use Rattle.net_meaning.specs.Cycles as cycle
 use Rattle.net_meaning.specs.Nets.{table_of, leaf_shape}
 use Rattle.net_of_circuit.specs.FlatOrder.{Standing, flat_of}
@@ -62,8 +62,8 @@ module _ (z : Setting) (net : Net) (is : IsPlaced z.flat net) where
   net_leaf x leaf e = item net.leaves x (subst (λ n. x < n) (sym is.counted) (below_length z.flat.leaves x leaf e))
 
   -- What is seen of the net in range shows each leaf of the circuit in its kind and width.
-  pub fits_seen : (sight : Sight) → HasShapes (table_of net) sight → Fits z.fitted z.well z.lowered z.is z.driven z.expanded (spots z) (placed z) (match z) (lists z) sight
-  fits_seen sight shapes x y there =
+  pub fits_seen : (instant : Instant) → HasShapes (table_of net) instant → Fits z.fitted z.well z.lowered z.is z.driven z.expanded (spots z) (placed z) (match z) (lists z) instant
+  fits_seen instant shapes x y there =
       let at = leaf_at z x y there in
       let new = net_leaf x at.leaf at.leaf_there in
       let of = is.leaves x at.leaf new.0 at.leaf_there new.1 in
@@ -91,10 +91,10 @@ module _ (z : Setting) (net : Net) (is : IsPlaced z.flat net) where
   pub registers : (elements : List FirType) (n : ℕ) (register : NetRegister) (y : Standing) (s : State) (t : NetState) (rho : cycle.Valuation) → slice_get net.registers n ≡ Some register
       → slice_get (all z) register.leaf ≡ Some y → IsSeen (placed z) elements net s t rho
       → tree_states.next_of_register (scene_of y.0.m y.0.path (seen_valuation (placed z) net t rho)) y.0.c y.0.c.declaration.sort y.1.path (integer_of (rho register.leaf))
-      ≡ cycle.next_of_register net (sight_of net t rho) (Some register) (integer_of (rho register.leaf))
+      ≡ cycle.next_of_register net (instant_of net t rho) (Some register) (integer_of (rho register.leaf))
   registers elements n register y s t rho e there seen =
-      next_same z (sight_of net t rho) (fits_seen (sight_of net t rho) seen.shapes) n register y (flat_there n register e) there
-      ∙ sym (ap (λ o. after_reset (driven_or (integer_of (rho register.leaf)) (sight_of net t rho) o) (sight_of net t rho) register.reset) (register_has n register y e there))
+      next_same z (instant_of net t rho) (fits_seen (instant_of net t rho) seen.shapes) n register y (flat_there n register e) there
+      ∙ sym (ap (λ o. after_reset (driven_or (integer_of (rho register.leaf)) (instant_of net t rho) o) (instant_of net t rho) register.reset) (register_has n register y e there))
 
   -- What the edge takes for a register.
   pub takes : (n k : ℕ) (register : NetRegister) (y w : Standing) → slice_get net.registers n ≡ Some register → slice_get (all z) register.leaf ≡ Some y → slice_get (all z) k ≡ Some w → part_of w ≡ Driven

@@ -18,7 +18,7 @@ use Rattle.ground_net.specs.declared.circuit.FlatCircuit.{FlatCircuit}
 use Rattle.ground_net.specs.declared.net.Net.{Net}
 use Rattle.ground_net.specs.declared.net.NetRegister.{NetRegister}
 use Rattle.ground_net.specs.Cones.{register_needs}
-use Rattle.net_meaning.specs.Cycles.{NetState, sight_of}
+use Rattle.net_meaning.specs.Cycles.{NetState, instant_of}
 use Rattle.net_meaning.specs.Cycles as cycle
 use Rattle.expand_whens.specs.Expanding.{IsExpanded}
 use Rattle.net_of_circuit.specs.FlatOrder.{Placed, InFlatOrder, no_more, one_more, an_instance, Standing, all_leaves, flat_of}
@@ -86,7 +86,7 @@ abbrev Next : Fitted → Net → List Placed → Type 0
 Next fitted net placed = (elements : List FirType) (n : ℕ) (register : NetRegister) (y : Standing) (s : State) (t : NetState) (rho : cycle.Valuation) → slice_get net.registers n ≡ Some register
     → slice_get (all_leaves placed) register.leaf ≡ Some y → IsSeen placed elements net s t rho
     → tree_states.next_of_register (scene_of y.0.m y.0.path (seen_valuation placed net t rho)) y.0.c y.0.c.declaration.sort y.1.path (integer_of (rho register.leaf))
-    ≡ cycle.next_of_register net (sight_of net t rho) (Some register) (integer_of (rho register.leaf))
+    ≡ cycle.next_of_register net (instant_of net t rho) (Some register) (integer_of (rho register.leaf))
 
 abbrev Takes : Fitted → Net → List Placed → Type 0
 Takes fitted net placed = (n z : ℕ) (register : NetRegister) (y w : Standing) → slice_get net.registers n ≡ Some register → slice_get (all_leaves placed) register.leaf ≡ Some y → slice_get (all_leaves placed) z ≡ Some w

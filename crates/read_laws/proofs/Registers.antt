@@ -29,7 +29,7 @@ use Rattle.ground_net.specs.declared.circuit.GroundStmt.{GroundStmt}
 use Rattle.ground_net.specs.declared.circuit.GroundRole.TheVariants.{Register}
 use Rattle.ground_net.specs.declared.net.NetRegister.{NetRegister}
 use Rattle.ground_net.specs.declared.net.NetReset.{NetReset}
-use Rattle.ground_net.specs.Grounds.{Sight, value, mentions, joined}
+use Rattle.ground_net.specs.Grounds.{Instant, value, mentions, joined}
 use Rattle.ground_net.specs.Statements.{drives, live}
 use Rattle.ground_net.specs.Renumbering.{with_numbers, seen_by}
 use Rattle.ground_net.proofs.Layers.{renumbered_value}
@@ -161,19 +161,19 @@ module _ (z : Setting) where
 
   -- What registers hold next
 
-  module _ (sight : Sight) (fits : Fits z.fitted z.well z.lowered z.is z.driven z.expanded (spots z) (placed z) (match z) (lists z) sight) where
+  module _ (instant : Instant) (fits : Fits z.fitted z.well z.lowered z.is z.driven z.expanded (spots z) (placed z) (match z) (lists z) instant) where
     abbrev run : Valuation
-    run = valuation_of (all z) sight
+    run = valuation_of (all z) instant
 
     module _ {path : List ℕ} {n : ℕ} {m : TypedModule} {d : DrivenModule} {names : List ℕ} (leads : Way z path n m d names) (numbers : List ℕ) (are : AreNumbers z.driven (spots z) path n numbers) where
-      abbrev inner : Sight
-      inner = seen_by (slice_index numbers) sight
+      abbrev inner : Instant
+      inner = seen_by (slice_index numbers) instant
 
       shapes : HasShapes (table_of (known_of z leads).g.leaves) inner
-      shapes = inner_fits z.fitted z.well z.lowered z.is z.driven z.expanded (spots z) (placed z) (match z) (lists z) leads numbers are sight fits
+      shapes = inner_fits z.fitted z.well z.lowered z.is z.driven z.expanded (spots z) (placed z) (match z) (lists z) leads numbers are instant fits
 
       agree_on : (us : List Leaf) (ns : List ℕ) → SameReads m us ns → Agree (scene_at m inner).integers (local m names run) us
-      agree_on us ns same = seen_agree z.fitted z.well z.lowered z.is z.driven z.expanded (spots z) (placed z) (match z) (lists z) leads numbers are sight us (λ u h. let r = same.all u h in (r.0, r.1))
+      agree_on us ns same = seen_agree z.fitted z.well z.lowered z.is z.driven z.expanded (spots z) (placed z) (match z) (lists z) leads numbers are instant us (λ u h. let r = same.all u h in (r.0, r.1))
 
       -- the ground statements leave in a leaf what the circuit's do
       left_same : (y : ℕ) (c : Component) (leaf : TypeLeaf) → slice_get (module_leaves m) y ≡ Some (c, leaf) → is_set (c, leaf) ≡ true
@@ -186,22 +186,22 @@ module _ (z : Setting) where
 
       -- a reset holds where the register's does, and `init` is what a reset sets
       reset_holds : (c : Component) (leaf : TypeLeaf) (reset init : Expr) (r : NetReset) → IsReset m (table_of (known_of z leads).g.leaves) (c, leaf) reset init r
-          → is_one (value (with_numbers (slice_index numbers) r.reset) sight) ≡ tree.is_one (tree.value reset (scene_of m names run))
+          → is_one (value (with_numbers (slice_index numbers) r.reset) instant) ≡ tree.is_one (tree.value reset (scene_of m names run))
       reset_holds c leaf reset init r is =
-          ap is_one (renumbered_value (slice_index numbers) sight r.reset)
+          ap is_one (renumbered_value (slice_index numbers) instant r.reset)
           ∙ (is.holds inner shapes
           ∙ ap tree.is_one (all_same (tracked reset (type_in m) (scene_at m inner).integers (local m names run)) (agree_on (tree_reads.joined (tree_reads.mentions reset (type_in m))) (mentions r.reset) is.reset_reads)))
 
       init_left : (c : Component) (leaf : TypeLeaf) (reset init : Expr) (r : NetReset) → IsReset m (table_of (known_of z leads).g.leaves) (c, leaf) reset init r
-          → left_in (leaf_of c leaf) None (set_at false (Some (whole (scene_of m names run) c.declaration.name)) (tree.value init (scene_of m names run))) ≡ Some (integer_of (value (with_numbers (slice_index numbers) r.init) sight))
+          → left_in (leaf_of c leaf) None (set_at false (Some (whole (scene_of m names run) c.declaration.name)) (tree.value init (scene_of m names run))) ≡ Some (integer_of (value (with_numbers (slice_index numbers) r.init) instant))
       init_left c leaf reset init r is =
           sym (init_same (type_in m) c.declaration.name (leaf_of c leaf) (scene_at m inner).integers (local m names run) init
           (agree_on (tree_reads.joined (driven_from false (leaf_of c leaf) (tree_reads.mentions init (type_in m)) (Some (whole_region (type_in m) c.declaration.name)))) (mentions r.init) is.init_reads))
-          ∙ (is.taken inner shapes ∙ ap (λ v. Some (integer_of v)) (sym (renumbered_value (slice_index numbers) sight r.init)))
+          ∙ (is.taken inner shapes ∙ ap (λ v. Some (integer_of v)) (sym (renumbered_value (slice_index numbers) instant r.init)))
 
     -- what the statements leave in a register's leaf, or else what it holds, is what its driver has
     driven_same : (x : ℕ) (y : Standing) → slice_get (all z) x ≡ Some y → is_register y.0.c.declaration.sort ≡ true
-        → or_else (integer_of (sight.leaf x)) (tree_drives.drives (scene_of y.0.m y.0.path run) (leaf_of y.0.c y.1) y.0.c.declaration.block) ≡ driven_or (integer_of (sight.leaf x)) sight (flat_driver z x)
+        → or_else (integer_of (instant.leaf x)) (tree_drives.drives (scene_of y.0.m y.0.path run) (leaf_of y.0.c y.1) y.0.c.declaration.block) ≡ driven_or (integer_of (instant.leaf x)) instant (flat_driver z x)
     driven_same x y there register = by (driver_in D.d D.y) refl where
       stands : Stands (design z) y.0.path y.0.m y.0.c y.1
       stands = let L = lists z in (L.stands x y there).0
@@ -213,13 +213,13 @@ module _ (z : Setting) where
       D = register_driver x y there register
 
       held : ℤ
-      held = integer_of (sight.leaf x)
+      held = integer_of (instant.leaf x)
 
       left : Option ℤ
       left = tree_drives.drives (scene_of y.0.m y.0.path run) (leaf_of y.0.c y.1) y.0.c.declaration.block
 
-      seen : Sight
-      seen = seen_by (slice_index D.numbers) sight
+      seen : Instant
+      seen = seen_by (slice_index D.numbers) instant
 
       body : List GroundStmt
       body = (known_of z D.leads).g.body
@@ -240,37 +240,37 @@ module _ (z : Setting) where
       role : own.0.role ≡ Register
       role = own.1 ∙ role_is y.0.c y.1 false true (is_port y.0.c.declaration.sort && is_source (flow_of y.0.c.declaration.sort y.1.flip)) clock register refl
 
-      with_driver : (g : Ground) → IsDriver own.0 D.y body g → flat_driver z x ≡ Some (with_numbers (slice_index D.numbers) g) → (o : Option Value) → drives seen D.y body ≡ o → or_else held left ≡ driven_or held sight (flat_driver z x)
+      with_driver : (g : Ground) → IsDriver own.0 D.y body g → flat_driver z x ≡ Some (with_numbers (slice_index D.numbers) g) → (o : Option Value) → drives seen D.y body ≡ o → or_else held left ≡ driven_or held instant (flat_driver z x)
       with_driver g is has None q =
           ap (or_else held) (sym same ∙ ap (option_map integer_of) q)
-          ∙ sym (ap (driven_or held sight) has ∙ (ap integer_of (renumbered_value (slice_index D.numbers) sight g ∙ is.keeps role seen q) ∙ ap (λ k. integer_of (sight.leaf k)) itself))
+          ∙ sym (ap (driven_or held instant) has ∙ (ap integer_of (renumbered_value (slice_index D.numbers) instant g ∙ is.keeps role seen q) ∙ ap (λ k. integer_of (instant.leaf k)) itself))
       with_driver g is has (Some v) q =
           ap (or_else held) (sym same ∙ ap (option_map integer_of) q)
-          ∙ sym (ap (driven_or held sight) has ∙ ap integer_of (renumbered_value (slice_index D.numbers) sight g ∙ is.has seen v q))
+          ∙ sym (ap (driven_or held instant) has ∙ ap integer_of (renumbered_value (slice_index D.numbers) instant g ∙ is.has seen v q))
 
-      by : (g : Option Ground) → driver_in D.d D.y ≡ g → or_else held left ≡ driven_or held sight (flat_driver z x)
+      by : (g : Option Ground) → driver_in D.d D.y ≡ g → or_else held left ≡ driven_or held instant (flat_driver z x)
       by None q =
           let never : IsUndriven D.y body = subst (λ w. Drives own.0 D.y body w) q own.2 in
           ap (or_else held) (sym same ∙ ap (option_map integer_of) (never.never seen))
-          ∙ sym (ap (driven_or held sight) (D.has ∙ ap (driver_with D.numbers) q))
+          ∙ sym (ap (driven_or held instant) (D.has ∙ ap (driver_with D.numbers) q))
       by (Some g) q = with_driver g (subst (λ w. Drives own.0 D.y body w) q own.2) (D.has ∙ ap (driver_with D.numbers) q) (drives seen D.y body) refl
 
     -- What a register of the flat circuit holds next is what the circuit's does, where it shows what it holds.
     pub next_same : (n : ℕ) (register : NetRegister) (y : Standing) → slice_get z.flat.registers n ≡ Some register → slice_get (all z) register.leaf ≡ Some y
-        → tree_states.next_of_register (scene_of y.0.m y.0.path run) y.0.c y.0.c.declaration.sort y.1.path (integer_of (sight.leaf register.leaf))
-        ≡ after_reset (driven_or (integer_of (sight.leaf register.leaf)) sight (flat_driver z register.leaf)) sight register.reset
+        → tree_states.next_of_register (scene_of y.0.m y.0.path run) y.0.c y.0.c.declaration.sort y.1.path (integer_of (instant.leaf register.leaf))
+        ≡ after_reset (driven_or (integer_of (instant.leaf register.leaf)) instant (flat_driver z register.leaf)) instant register.reset
     next_same n register y e there = by y.0.c.declaration.sort refl (reset_of register y R) where
       R : RegisterAt register y
       R = register_at n register e y there
 
       held : ℤ
-      held = integer_of (sight.leaf register.leaf)
+      held = integer_of (instant.leaf register.leaf)
 
       left : Option ℤ
       left = tree_drives.drives (scene_of y.0.m y.0.path run) (leaf_of y.0.c y.1) y.0.c.declaration.block
 
       left_or : ℤ
-      left_or = driven_or held sight (flat_driver z register.leaf)
+      left_or = driven_or held instant (flat_driver z register.leaf)
 
       same : or_else held left ≡ left_or
       same = driven_same register.leaf y there (is_of_register register y R)
@@ -280,19 +280,19 @@ module _ (z : Setting) where
 
       with_reset : (reset init : Expr) (r : NetReset) → R.own.reset ≡ Some r → IsReset y.0.m (table_of (known_of z R.leads).g.leaves) (y.0.c, y.1) reset init r
           → or_else held (if tree.is_one (tree.value reset (scene_of y.0.m y.0.path run)) then left_in (leaf_of y.0.c y.1) None (set_at false (Some (whole (scene_of y.0.m y.0.path run) y.0.c.declaration.name)) (tree.value init (scene_of y.0.m y.0.path run))) else left)
-          ≡ after_reset left_or sight register.reset
+          ≡ after_reset left_or instant register.reset
       with_reset reset init r q is =
           let b : Bool = tree.is_one (tree.value reset (scene_of y.0.m y.0.path run)) in
-          let i : ℤ = integer_of (value (with_numbers (slice_index R.numbers) r.init) sight) in
+          let i : ℤ = integer_of (value (with_numbers (slice_index R.numbers) r.init) instant) in
           ap (λ w. or_else held (if b then w else left)) (init_left R.leads R.numbers R.are y.0.c y.1 reset init r is)
           ∙ (chosen_or b held i left
           ∙ (ap (λ w. if b then i else w) same
           ∙ (ap (λ w. if w then i else left_or) (sym (reset_holds R.leads R.numbers R.are y.0.c y.1 reset init r is))
-          ∙ sym (ap (after_reset left_or sight) (reset_is ∙ ap (option_map (reset_with R.numbers)) q)))))
+          ∙ sym (ap (after_reset left_or instant) (reset_is ∙ ap (option_map (reset_with R.numbers)) q)))))
 
       by : (sort : Sort) → y.0.c.declaration.sort ≡ sort → HasReset y.0.m (table_of (known_of z R.leads).g.leaves) (y.0.c, y.1) sort R.own.reset
-          → tree_states.next_of_register (scene_of y.0.m y.0.path run) y.0.c sort y.1.path held ≡ after_reset left_or sight register.reset
-      by (A_register clock) q h = same ∙ sym (ap (after_reset left_or sight) (reset_is ∙ ap (option_map (reset_with R.numbers)) h))
+          → tree_states.next_of_register (scene_of y.0.m y.0.path run) y.0.c sort y.1.path held ≡ after_reset left_or instant register.reset
+      by (A_register clock) q h = same ∙ sym (ap (after_reset left_or instant) (reset_is ∙ ap (option_map (reset_with R.numbers)) h))
       by (A_reset_register clock reset init) q h = with_reset reset init h.0 h.1 h.2
       by An_input q h = absurd h
       by An_output q h = absurd h

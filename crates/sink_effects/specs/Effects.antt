@@ -7,7 +7,7 @@ use Rattle.ground_net.specs.declared.net.Net.{Net}
 use Rattle.ground_net.specs.declared.net.NetRegister.{NetRegister}
 use Rattle.ground_net.specs.declared.net.NetMemory.{NetMemory}
 use Rattle.ground_net.specs.declared.net.NetPort.{NetPort}
-use Rattle.ground_net.specs.Grounds.{Sight}
+use Rattle.ground_net.specs.Grounds.{Instant}
 use Rattle.ground_net.specs.Cones.{Sink, A_watched, A_register, A_memory, numbered}
 use Rattle.net_meaning.specs.Shapes.{Shape}
 use Rattle.net_meaning.specs.Cycles.{NetState, Capture, captures, shown, next}
@@ -23,11 +23,11 @@ abbrev pub capture_shape : Net → Capture → Shape
 capture_shape net c = shape_or_none (slice_get net.leaves c.leaf)
 
 -- A register leaves the words of its next integer, from its own word on.
-abbrev pub register_told : Net → NetState → Sight → ℕ → Option NetRegister → List Publication
-register_told net st sight n (Some register) =
+abbrev pub register_told : Net → NetState → Instant → ℕ → Option NetRegister → List Publication
+register_told net st instant n (Some register) =
     let s = register_shape net register in
-    stored (register_word net n) (fitted s.kind s.width ((next net st sight).registers n))
-register_told net st sight n None = []
+    stored (register_word net n) (fitted s.kind s.width ((next net st instant).registers n))
+register_told net st instant n None = []
 
 -- What a port leaves in leaf k of an element: the words of its data, where it writes, the address is below the depth, and the leaf's
 -- mask is 1.
@@ -38,35 +38,35 @@ leaf_told net m memory port both =
     else []
 
 -- The writes of a port, leaf by leaf, and those of a memory, port by port in declared order: of two writes of a word the later stays.
-abbrev pub port_told : Net → Sight → ℕ → NetMemory → NetPort → List Publication
-port_told net sight m memory port = flat_map (leaf_told net m memory (shown sight port)) (numbered (element_shapes memory))
+abbrev pub port_told : Net → Instant → ℕ → NetMemory → NetPort → List Publication
+port_told net instant m memory port = flat_map (leaf_told net m memory (shown instant port)) (numbered (element_shapes memory))
 
-abbrev pub writes_told : Net → Sight → ℕ → NetMemory → List Publication
-writes_told net sight m memory = flat_map (port_told net sight m memory) memory.ports
+abbrev pub writes_told : Net → Instant → ℕ → NetMemory → List Publication
+writes_told net instant m memory = flat_map (port_told net instant m memory) memory.ports
 
 -- A captured read of the memory leaves the words of what it shows next, from its own word on.
-abbrev pub capture_told : Net → NetState → Sight → ℕ → ℕ × Capture → List Publication
-capture_told net st sight m both =
+abbrev pub capture_told : Net → NetState → Instant → ℕ → ℕ × Capture → List Publication
+capture_told net st instant m both =
     if both.1.number == m
-    then (let s = capture_shape net both.1 in stored (captured_word net both.0) (fitted s.kind s.width ((next net st sight).captured both.0)))
+    then (let s = capture_shape net both.1 in stored (captured_word net both.0) (fitted s.kind s.width ((next net st instant).captured both.0)))
     else []
 
-abbrev pub captures_told : Net → NetState → Sight → ℕ → List Publication
-captures_told net st sight m = flat_map (capture_told net st sight m) (numbered (captures net))
+abbrev pub captures_told : Net → NetState → Instant → ℕ → List Publication
+captures_told net st instant m = flat_map (capture_told net st instant m) (numbered (captures net))
 
 -- A memory leaves what its ports write, and then what its captured reads show next.
-abbrev pub memory_told : Net → NetState → Sight → ℕ → Option NetMemory → List Publication
-memory_told net st sight m (Some memory) = writes_told net sight m memory ++ captures_told net st sight m
-memory_told net st sight m None = []
+abbrev pub memory_told : Net → NetState → Instant → ℕ → Option NetMemory → List Publication
+memory_told net st instant m (Some memory) = writes_told net instant m memory ++ captures_told net st instant m
+memory_told net st instant m None = []
 
 -- What a sink leaves, in order. A watched leaf leaves nothing.
-abbrev pub sink_told : Net → NetState → Sight → Sink → List Publication
-sink_told net st sight (A_watched x) = []
-sink_told net st sight (A_register n) = register_told net st sight n (slice_get net.registers n)
-sink_told net st sight (A_memory m) = memory_told net st sight m (slice_get net.memories m)
+abbrev pub sink_told : Net → NetState → Instant → Sink → List Publication
+sink_told net st instant (A_watched x) = []
+sink_told net st instant (A_register n) = register_told net st instant n (slice_get net.registers n)
+sink_told net st instant (A_memory m) = memory_told net st instant m (slice_get net.memories m)
 
-abbrev pub sinks_told : Net → NetState → Sight → List Sink → List Publication
-sinks_told net st sight these = flat_map (sink_told net st sight) these
+abbrev pub sinks_told : Net → NetState → Instant → List Sink → List Publication
+sinks_told net st instant these = flat_map (sink_told net st instant) these
 
 -- the words of a leaf, from its first one on
 abbrev pub IsWordOf : ℕ → Shape → ℕ → Type 0

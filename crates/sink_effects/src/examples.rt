@@ -4,7 +4,7 @@ ghost use Rattle.std.specs.Prelude.{◌≡◌, ℕ, ◌+◌, ◌/◌, ◌%◌, �
 ghost use Rattle.bit_words.specs.declared.value.Kind.TheVariants.{Unsigned};
 ghost use Rattle.ground_net.specs.declared.net.Net.{Net as TheNet};
 ghost use Rattle.ground_net.specs.declared.net.NetMemory.{NetMemory as TheMemory};
-ghost use Rattle.ground_net.specs.Grounds.{Sight};
+ghost use Rattle.ground_net.specs.Grounds.{Instant};
 ghost use Rattle.ground_net.specs.Cones.{A_watched};
 ghost use Rattle.cycle_values.specs.Values.{fitted};
 ghost use Rattle.cycle_values.specs.Ports.{Shown};
@@ -15,7 +15,7 @@ ghost use Rattle.sink_effects.specs.Effects.{leaf_told, sinks_told, HasWord};
 
 /// Watched leaves leave nothing, and have no words.
 pub fn watched_leaves_leave_nothing()
-    ensures nothing { (net : TheNet) (st : NetState) (sight : Sight) (x y : ℕ) → sinks_told net st sight (A_watched x ∷ A_watched y ∷ []) ≡ [] }
+    ensures nothing { (net : TheNet) (st : NetState) (instant : Instant) (x y : ℕ) → sinks_told net st instant (A_watched x ∷ A_watched y ∷ []) ≡ [] }
     ensures no_word { (net : TheNet) (x i : ℕ) → HasWord net (A_watched x) i → ⊥ }
 {}
 

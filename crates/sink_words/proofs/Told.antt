@@ -8,7 +8,7 @@ use Rattle.ground_net.specs.declared.net.Net.{Net}
 use Rattle.ground_net.specs.declared.net.NetRegister.{NetRegister}
 use Rattle.ground_net.specs.declared.net.NetMemory.{NetMemory}
 use Rattle.ground_net.specs.declared.net.NetPort.{NetPort}
-use Rattle.ground_net.specs.Grounds.{Sight}
+use Rattle.ground_net.specs.Grounds.{Instant}
 use Rattle.ground_net.specs.Cones.{Sink, A_watched, A_register, A_memory, numbered}
 use Rattle.cycle_values.specs.Values.{fitted}
 use Rattle.net_meaning.specs.Shapes.{Shape}
@@ -65,17 +65,17 @@ all_three true true c e = refl
 all_three true false c e = cc
 all_three false b c e = cc
 
-module _ (net : Net) (st : NetState) (sight : Sight) where
+module _ (net : Net) (st : NetState) (instant : Instant) where
   -- a publication of a sink
   pub record IsOwn (sink : Sink) (p : Publication) : Type 0 where
     pub has : HasWord net sink p.word
     pub plain : p.value < 2 ^ 64
 
-  register_own : (n : ℕ) (o : Option NetRegister) → slice_get net.registers n ≡ o → Each (IsOwn (A_register n)) (register_told net st sight n o)
+  register_own : (n : ℕ) (o : Option NetRegister) → slice_get net.registers n ≡ o → Each (IsOwn (A_register n)) (register_told net st instant n o)
   register_own n None e = each_none (IsOwn (A_register n))
   register_own n (Some register) e =
       let s = register_shape net register in
-      let v = fitted s.kind s.width ((next net st sight).registers n) in
+      let v = fitted s.kind s.width ((next net st instant).registers n) in
       each_more (IsAt (register_word net n) (word_count s)) (IsOwn (A_register n)) (stored (register_word net n) v)
       (λ p h. record { has = of_register register e (h.from, h.below); plain = h.plain })
       (kept_at (register_word net n) s v refl)
@@ -99,9 +99,9 @@ module _ (net : Net) (st : NetState) (sight : Sight) where
         ends : (m t c n i : ℕ) → t + c ≤ n → i < (m + t) + c → i < m + n
         ends m t c n i h lt = omega (arith, h, lt)
 
-    leaf_own : (port : NetPort) (k : ℕ) (both : ℕ × Shape) → slice_get (numbered (element_shapes memory)) k ≡ Some both → Each (IsOwn (A_memory m)) (leaf_told net m memory (shown sight port) both)
+    leaf_own : (port : NetPort) (k : ℕ) (both : ℕ × Shape) → slice_get (numbered (element_shapes memory)) k ≡ Some both → Each (IsOwn (A_memory m)) (leaf_told net m memory (shown instant port) both)
     leaf_own port k both e =
-        let q = shown sight port in
+        let q = shown instant port in
         let n = from_numbered 0 (element_shapes memory) k both e in
         let z : 0 + k ≡ k = omega arith in
         let at : slice_get (element_shapes memory) both.0 ≡ Some both.1 = ap (slice_get (element_shapes memory)) (n.0 ∙ z) ∙ n.1 in
@@ -111,28 +111,28 @@ module _ (net : Net) (st : NetState) (sight : Sight) where
         (λ p h. element_own both.0 q.address both.1 p at (ltb-true q.address memory.depth (all_three q.writes (nat_lt q.address memory.depth) (q.masked both.0) yes)) h)
         (kept_at (element_word net m memory q.address both.0) both.1 v refl))
 
-    writes_own : Each (IsOwn (A_memory m)) (writes_told net sight m memory)
-    writes_own = each_flat (IsOwn (A_memory m)) (port_told net sight m memory) memory.ports
-        (λ j port e. each_flat (IsOwn (A_memory m)) (leaf_told net m memory (shown sight port)) (numbered (element_shapes memory)) (λ k both f. leaf_own port k both f))
+    writes_own : Each (IsOwn (A_memory m)) (writes_told net instant m memory)
+    writes_own = each_flat (IsOwn (A_memory m)) (port_told net instant m memory) memory.ports
+        (λ j port e. each_flat (IsOwn (A_memory m)) (leaf_told net m memory (shown instant port)) (numbered (element_shapes memory)) (λ k both f. leaf_own port k both f))
 
-  capture_own : (m k : ℕ) (both : ℕ × Capture) → slice_get (numbered (captures net)) k ≡ Some both → Each (IsOwn (A_memory m)) (capture_told net st sight m both)
+  capture_own : (m k : ℕ) (both : ℕ × Capture) → slice_get (numbered (captures net)) k ≡ Some both → Each (IsOwn (A_memory m)) (capture_told net st instant m both)
   capture_own m k both e =
       let n = from_numbered 0 (captures net) k both e in
       let z : 0 + k ≡ k = omega arith in
       let at : slice_get (captures net) both.0 ≡ Some both.1 = ap (slice_get (captures net)) (n.0 ∙ z) ∙ n.1 in
       let s = capture_shape net both.1 in
-      let v = fitted s.kind s.width ((next net st sight).captured both.0) in
+      let v = fitted s.kind s.width ((next net st instant).captured both.0) in
       each_where (IsOwn (A_memory m)) (stored (captured_word net both.0) v) (both.1.number == m)
       (λ yes. each_more (IsAt (captured_word net both.0) (word_count s)) (IsOwn (A_memory m)) (stored (captured_word net both.0) v)
       (λ p h. record { has = of_capture both.0 both.1 at (eqb-true both.1.number m yes) (h.from, h.below); plain = h.plain })
       (kept_at (captured_word net both.0) s v refl))
 
-  memory_own : (m : ℕ) (o : Option NetMemory) → slice_get net.memories m ≡ o → Each (IsOwn (A_memory m)) (memory_told net st sight m o)
+  memory_own : (m : ℕ) (o : Option NetMemory) → slice_get net.memories m ≡ o → Each (IsOwn (A_memory m)) (memory_told net st instant m o)
   memory_own m None e = each_none (IsOwn (A_memory m))
-  memory_own m (Some memory) e = each_append (IsOwn (A_memory m)) (writes_told net sight m memory) (captures_told net st sight m) (writes_own m memory e)
-      (each_flat (IsOwn (A_memory m)) (capture_told net st sight m) (numbered (captures net)) (λ k both f. capture_own m k both f))
+  memory_own m (Some memory) e = each_append (IsOwn (A_memory m)) (writes_told net instant m memory) (captures_told net st instant m) (writes_own m memory e)
+      (each_flat (IsOwn (A_memory m)) (capture_told net st instant m) (numbered (captures net)) (λ k both f. capture_own m k both f))
 
-  pub told_own : (s : Sink) → Each (IsOwn s) (sink_told net st sight s)
+  pub told_own : (s : Sink) → Each (IsOwn s) (sink_told net st instant s)
   told_own (A_watched x) = each_none (IsOwn (A_watched x))
   told_own (A_register n) = register_own n (slice_get net.registers n) refl
   told_own (A_memory m) = memory_own m (slice_get net.memories m) refl

@@ -3,7 +3,7 @@
 ghost use Rattle.std.specs.Prelude.{◌≡◌, ◌<◌, ◌^◌, ℕ, List, Some, Contains, slice_get};
 ghost use Rattle.phase_core.specs.declared.model.Publication.{Publication as ThePublication};
 ghost use Rattle.ground_net.specs.declared.net.Net.{Net as TheNet};
-ghost use Rattle.ground_net.specs.Grounds.{Sight};
+ghost use Rattle.ground_net.specs.Grounds.{Instant};
 ghost use Rattle.ground_net.specs.Cones.{Sink, sinks};
 ghost use Rattle.net_meaning.specs.Cycles.{NetState};
 ghost use Rattle.net_meaning.specs.Nets.{IsNet};
@@ -23,6 +23,6 @@ pub fn each_word_is_of_a_sink()
 
 /// What a sink leaves is at words of its own, each a number of 64 bits.
 pub fn sinks_leave_words_of_their_own()
-    ensures words { (net : TheNet) (state : NetState) (sight : Sight) (s : Sink) (k : ℕ) (p : ThePublication) → slice_get (sink_told net state sight s) k ≡ Some p → HasWord net s p.word }
-    ensures plain { (net : TheNet) (state : NetState) (sight : Sight) (s : Sink) (k : ℕ) (p : ThePublication) → slice_get (sink_told net state sight s) k ≡ Some p → p.value < 2 ^ 64 }
+    ensures words { (net : TheNet) (state : NetState) (instant : Instant) (s : Sink) (k : ℕ) (p : ThePublication) → slice_get (sink_told net state instant s) k ≡ Some p → HasWord net s p.word }
+    ensures plain { (net : TheNet) (state : NetState) (instant : Instant) (s : Sink) (k : ℕ) (p : ThePublication) → slice_get (sink_told net state instant s) k ≡ Some p → p.value < 2 ^ 64 }
 {}

@@ -39,7 +39,7 @@ use Rattle.ground_net.specs.declared.circuit.GroundRole.{GroundRole}
 use Rattle.ground_net.specs.declared.circuit.GroundRole.TheVariants.{Input, Clock, Register, Plain}
 use Rattle.ground_net.specs.declared.circuit.GroundStmt.{GroundStmt}
 use Rattle.ground_net.specs.Cones.{numbered}
-use Rattle.ground_net.specs.Grounds.{Sight}
+use Rattle.ground_net.specs.Grounds.{Instant}
 use Rattle.ground_net.specs.Statements.{drives}
 use Rattle.ground_net.specs.Renumbering.{with_numbers, seen_by}
 use Rattle.net_meaning.specs.Shapes.{HasShapes, shaped}
@@ -140,7 +140,7 @@ must (An_instance target) true s r = refl
 must (An_instance target) false s r = absurd (true≢false s)
 must (A_node expr) flip s r = absurd (true≢false s)
 
--- A sight of the flat leaves in range
+-- An instant of the flat leaves in range
 
 zero_of : Option GroundLeaf → Value
 zero_of (Some leaf) = fitted leaf.kind leaf.width (pos 0)
@@ -154,7 +154,7 @@ abbrev Some_driver : Setting → ℕ → Type 0
 Some_driver z x = (driver : Ground) × (flat_driver z x ≡ Some driver)
 
 module _ (z : Setting) where
-  rest : Sight
+  rest : Instant
   rest = record { leaf = λ x. zero_of (slice_get z.flat.leaves x); load = λ m k a. lone [] }
 
   rest_fits : Fits z.fitted z.well z.lowered z.is z.driven z.expanded (spots z) (placed z) (match z) (lists z) rest
@@ -167,7 +167,7 @@ module _ (z : Setting) where
   run = valuation_of (all z) rest
 
   module _ {path : List ℕ} {n : ℕ} {m : TypedModule} {d : DrivenModule} {names : List ℕ} (leads : Way z path n m d names) (numbers : List ℕ) (are : AreNumbers z.driven (spots z) path n numbers) where
-    abbrev inner : Sight
+    abbrev inner : Instant
     inner = seen_by (slice_index numbers) rest
 
     shapes : HasShapes (table_of (known_of z leads).g.leaves) inner
@@ -188,7 +188,7 @@ module _ (z : Setting) where
     abbrev body : List GroundStmt
     body = (known_of z D.leads).g.body
 
-    abbrev seen : Sight
+    abbrev seen : Instant
     seen = seen_by (slice_index D.numbers) rest
 
     -- where something is left in the leaf, it has a driver
@@ -217,7 +217,7 @@ module _ (z : Setting) where
     body' : List GroundStmt
     body' = (known_of z D.leads).g.body
 
-    seen' : Sight
+    seen' : Instant
     seen' = seen_by (slice_index D.numbers) rest
 
     stands : Stands (design z) y.0.path y.0.m y.0.c y.1

@@ -9,7 +9,7 @@ use Rattle.cycle_values.specs.Values.{lone}
 use Rattle.ground_net.specs.declared.ground.Ground.{Ground}
 use Rattle.ground_net.specs.declared.circuit.DrivenModule.{DrivenModule}
 use Rattle.ground_net.specs.declared.circuit.GroundLeaf.{GroundLeaf}
-use Rattle.ground_net.specs.Grounds.{Sight}
+use Rattle.ground_net.specs.Grounds.{Instant}
 use Rattle.ground_net.specs.Reads.{lone_driver}
 use Rattle.ground_net.specs.Renumbering.{with_numbers}
 use Rattle.net_meaning.specs.Shapes.{Shape, shaped, shape}
@@ -27,8 +27,8 @@ use Rattle.read_laws.proofs.Drivers.{all, known_of, flat_driver}
 use Rattle.sound_laws.proofs.Tables.{shape_moves}
 use Rattle.sound_laws.proofs.Origins.{Origin, number_same, origin}
 
-no_sight : Sight
-no_sight = record { leaf = λ x. lone []; load = λ m k a. lone [] }
+no_instant : Instant
+no_instant = record { leaf = λ x. lone []; load = λ m k a. lone [] }
 
 mapped : {A B : Type 0} (f : A → B) (o : Option A) (b : B) → option_map f o ≡ Some b → (a : A) × (o ≡ Some a) × (f a ≡ b)
 mapped f None b e = none_some e
@@ -59,7 +59,7 @@ module _ (z : Setting) where
       let known = known_of z leads in
       let gl = mapped ground_shape (slice_get known.g.leaves y) s e in
       let l = item (module_leaves m) y (subst (λ k. y < k) known.ground_is.counted (below_length known.g.leaves y gl.0 gl.1)) in
-      let x = number_at z.fitted z.well z.lowered z.is z.driven z.expanded (spots z) (placed z) (match z) (lists z) leads numbers are no_sight y l.0 l.1 in
+      let x = number_at z.fitted z.well z.lowered z.is z.driven z.expanded (spots z) (placed z) (match z) (lists z) leads numbers are no_instant y l.0 l.1 in
       let is_leaf = known.ground_is.leaves_are y l.0 gl.0 l.1 gl.1 in
       ap (flat_table z.flat).leaf x.2
       ∙ (table_at x.0 x.3.e x.3.there ∙ ap Some (same_leaf_shape x.3.e.1 l.0.1 x.3.typ ∙ (ap₂ shaped (sym is_leaf.kind) (sym is_leaf.width) ∙ gl.2)))

@@ -14,7 +14,7 @@ use Rattle.ground_net.specs.declared.net.NetRegister.{NetRegister}
 use Rattle.ground_net.specs.declared.net.ElementLeaf.{ElementLeaf}
 use Rattle.ground_net.specs.declared.net.Role.TheVariants as role
 use Rattle.net_meaning.specs.Shapes.{Shape, shaped, shape_of_value}
-use Rattle.net_meaning.specs.Cycles.{NetState, Inputs, Valuation, Settled, Capture, captures, sight_of, fitted_to, held_at, element_leaf, fitted_to_element, depth_of}
+use Rattle.net_meaning.specs.Cycles.{NetState, Inputs, Valuation, Settled, Capture, captures, instant_of, fitted_to, held_at, element_leaf, fitted_to_element, depth_of}
 use Rattle.net_meaning.specs.Nets.{IsNet, HasRole, leaf_shape, element_shape, shape_or_none, register_shapes, captured_shapes, element_shapes}
 use Rattle.net_meaning.specs.Words.{state_of, value_at, high_at, integer_at_word, element_integer, register_word, captured_word, element_word, element_words, memory_word, count_words}
 use Rattle.net_meaning.proofs.Shaping.{fitted_shape}
@@ -149,7 +149,7 @@ module _ (net : Net) (w : IsNet net) (words : List ℕ) (inputs : List Value) (F
       ap shape_of_value (held_is m k e h a)
       ∙ (fitted_shape h.leaf.kind h.leaf.width (if nat_lt a h.memory.depth then integer_at_word words (element_word net m h.memory a k) (Some (element_shape h.leaf)) else pos 0) h.leaf.narrow ∙ sym h.shape)
 
-  pub sees : (S : Sources) → AreOf net S → Sees S words inputs F (sight_of net (state_of net words) rho)
+  pub sees : (S : Sources) → AreOf net S → Sees S words inputs F (instant_of net (state_of net words) rho)
   sees S of = record {
     leaf = λ x src e. let h = of.leaves x src e in shows x h.leaf src h.there h.is;
     load = λ m k e address at kind. loads m k e (of.elements m k e at) address kind;

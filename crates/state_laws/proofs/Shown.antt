@@ -11,7 +11,7 @@ use Rattle.ground_net.specs.declared.net.NetMemory.{NetMemory}
 use Rattle.ground_net.specs.declared.net.NetRegister.{NetRegister}
 use Rattle.ground_net.specs.declared.net.ElementLeaf.{ElementLeaf}
 use Rattle.net_meaning.specs.Shapes.{Shape, shaped, shape_of_value}
-use Rattle.net_meaning.specs.Cycles.{NetState, Inputs, Valuation, Settled, sight_of, fitted_to, held_at, element_leaf, fitted_to_element, depth_of}
+use Rattle.net_meaning.specs.Cycles.{NetState, Inputs, Valuation, Settled, instant_of, fitted_to, held_at, element_leaf, fitted_to_element, depth_of}
 use Rattle.net_meaning.specs.Nets.{IsNet, HasRole, leaf_shape, element_shape, shape_or_none, register_shapes, element_shapes}
 use Rattle.net_meaning.specs.Words.{state_of, value_at, high_at, integer_at_word, element_integer, register_word, element_word}
 use Rattle.net_meaning.proofs.Shaping.{fitted_shape}
@@ -56,7 +56,7 @@ module _ (net : Net) (words : List ℕ) (given : Inputs) (rho : Valuation) (w : 
       by_test true e = e
       by_test false e = zero_integer leaf.kind leaf.width
 
-  pub shows_state : ShowsState net (state_of net words) (sight_of net (state_of net words) rho)
+  pub shows_state : ShowsState net (state_of net words) (instant_of net (state_of net words) rho)
   shows_state = record {
     registers = registers_shown;
     contents = λ m k memory leaf address there at. contents_shown m k memory leaf (unsigned_abs (integer_of address)) there at;

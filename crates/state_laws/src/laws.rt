@@ -2,12 +2,12 @@
 
 ghost use Rattle.std.specs.Prelude.{ℕ, List};
 ghost use Rattle.ground_net.specs.declared.net.Net.{Net as TheNet};
-ghost use Rattle.net_meaning.specs.Cycles.{Inputs, Valuation, Settled, sight_of};
+ghost use Rattle.net_meaning.specs.Cycles.{Inputs, Valuation, Settled, instant_of};
 ghost use Rattle.net_meaning.specs.Nets.{IsNet};
 ghost use Rattle.net_meaning.specs.Words.{state_of};
 ghost use Rattle.code_registers.specs.Telling.{ShowsState};
 
 /// What is seen of settled values of a well formed net, in a cycle that begins with the state of any words, shows this state.
 pub fn settled_values_show_the_state()
-    ensures { (net : TheNet) (words : List ℕ) (given : Inputs) (rho : Valuation) → IsNet net → Settled net (state_of net words) given rho → ShowsState net (state_of net words) (sight_of net (state_of net words) rho) }
+    ensures { (net : TheNet) (words : List ℕ) (given : Inputs) (rho : Valuation) → IsNet net → Settled net (state_of net words) given rho → ShowsState net (state_of net words) (instant_of net (state_of net words) rho) }
 {}

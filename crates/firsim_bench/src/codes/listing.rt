@@ -1,6 +1,6 @@
 //! The listing of a code.
 
-use flat_code::{Code, Form, Instr, Op, Port, Spot, Wide};
+use flat_code::{Code, Form, Instr, Op, Port, Location, Wide};
 
 /// Writes the numbers of a code's slots, shared words, ports, wide values and instructions, and then each of these three.
 pub fn list(rt: &HostRuntime, code: &Code) -> Option<()> {
@@ -30,30 +30,30 @@ fn list_port(rt: &HostRuntime, port: &Port) -> Option<()> {
         port.conditions.len()
     )
     .ok()?;
-    list_spot(rt, port.address)?;
-    list_spot(rt, port.source)?;
-    list_spots(rt, port.conditions.as_slice())
+    list_location(rt, port.address)?;
+    list_location(rt, port.source)?;
+    list_locations(rt, port.conditions.as_slice())
 }
 
 /// A form, a target and operands.
 fn list_wide(rt: &HostRuntime, wide: &Wide) -> Option<()> {
     let form = form_number(&wide.form);
     println!(rt; "{form} {}", wide.operands.len()).ok()?;
-    list_spot(rt, wide.target)?;
-    list_spots(rt, wide.operands.as_slice())
+    list_location(rt, wide.target)?;
+    list_locations(rt, wide.operands.as_slice())
 }
 
 /// Values.
-fn list_spots(rt: &HostRuntime, spots: &[Spot]) -> Option<()> {
-    for spot in spots {
-        list_spot(rt, *spot)?;
+fn list_locations(rt: &HostRuntime, locations: &[Location]) -> Option<()> {
+    for location in locations {
+        list_location(rt, *location)?;
     }
     Some(())
 }
 
 /// A value's width and slots.
-fn list_spot(rt: &HostRuntime, spot: Spot) -> Option<()> {
-    println!(rt; "{} {} {}", spot.width, spot.low, spot.high).ok()
+fn list_location(rt: &HostRuntime, location: Location) -> Option<()> {
+    println!(rt; "{} {} {}", location.width, location.low, location.high).ok()
 }
 
 /// An instruction.

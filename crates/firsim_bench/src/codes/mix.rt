@@ -2,12 +2,12 @@
 
 ghost use Rattle.std.specs.Prelude.{◌≡◌, ℕ, ◌+◌, ◌*◌, ◌<◌, ◌≤◌, List as Listed, length, All, IfOk, IfSome, [], ◌∷◌};
 ghost use Rattle.bit_words.specs.declared.value.Kind.TheVariants.{Unsigned as unsigned};
-ghost use Rattle.flat_code.specs.Fine.{IsFine, AreFine, IsSpot, IsWide, IsPort};
+ghost use Rattle.flat_code.specs.Fine.{IsFine, AreFine, IsLocation, IsWide, IsPort};
 ghost use Rattle.code_place.specs.Live.{IsSingle};
 
 use bit_words::{Kind, List};
 use code_order::writes_once;
-use flat_code::{Code, Form, Instr, Op, Port, Region, Spot, Wide};
+use flat_code::{Code, Form, Instr, Op, Port, Region, Location, Wide};
 use prim_ops::Prim;
 use std::alloc::{AllocError, Global};
 
@@ -219,7 +219,7 @@ fn wide_of(alloc: Global, block: u32, blocks: u32) -> Result<Wide, AllocError>
     let condition = operand(block, 3, 1, blocks);
     let first = operand(block, 4, 100, blocks);
     let second = operand(block, 5, 100, blocks);
-    let target = Spot {
+    let target = Location {
         kind: Kind::Unsigned,
         width: 100,
         low: 2 * block,
@@ -268,17 +268,17 @@ fn wide_of(alloc: Global, block: u32, blocks: u32) -> Result<Wide, AllocError>
 }
 
 /// A value of this width in two slots that are written by the end of a block.
-fn operand(block: u32, number: u64, width: u8, blocks: u32) -> Spot
+fn operand(block: u32, number: u64, width: u8, blocks: u32) -> Location
     requires within { block < blocks }
     requires few { blocks ≤ 1000000 }
     requires narrow { width ≤ 128 }
     requires small { number < 8 }
-    ensures spot { IsSpot (20 * blocks) result }
+    ensures location { IsLocation (20 * blocks) result }
     ensures kind { result.kind ≡ unsigned }
     ensures width { result.width ≡ width }
 {
     let seed = mixed_up(u64::from(block) * 8 + number);
-    Spot {
+    Location {
         kind: Kind::Unsigned,
         width,
         low: slot_before(seed, 18 * block + 18, blocks),

@@ -1,5 +1,5 @@
 use Rattle.std.proofs.Common.{sym, subst}
-use Rattle.net_meaning.specs.Cycles.{next, sight_of}
+use Rattle.net_meaning.specs.Cycles.{next, instant_of}
 use Rattle.net_run.specs.Seeing.{value_at}
 use Rattle.net_run.specs.Keeping.{IsKept, AreInputValues}
 use Rattle.circuit_run.specs.NetRuns.{given_in}
@@ -26,5 +26,5 @@ returns c =
     let values = c.in_ok-values.values.items in
     let row = row_watched net values c.as_slice.result.now ports.watched c.as_slice-watched.result.now c.in_ok-row.row planned.seen c.as_slice-watched.ensures c.as_slice.ensures.value c.in_ok-row.ensures in
     λ s k.
-    let kept = subst (λ vs. IsKept net (next net s (sight_of net s (value_at vs))) c.in_ok-kept.kept) c.as_slice-2.ensures.value (c.in_ok-kept.ensures s k) in
+    let kept = subst (λ vs. IsKept net (next net s (instant_of net s (value_at vs))) c.in_ok-kept.kept) c.as_slice-2.ensures.value (c.in_ok-kept.ensures s k) in
     one_cycle net stimulus (λ t. IsKept net t c.in_ok-kept.kept) s cycle (value_at values) c.in_ok-row.row c.in_ok-lines.lines.items (c.in_ok-values.ensures.settled s given k inputs) row c.in_ok-lines.ensures kept

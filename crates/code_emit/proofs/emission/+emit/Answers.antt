@@ -3,11 +3,11 @@ use Rattle.std.proofs.lemmas.List.{take_more}
 use Rattle.ground_net.specs.declared.ground.Ground.{the_lemmas}
 use Rattle.ground_net.specs.declared.ground.Ground.TheVariants.{Op, Mux, Select, Load, Fit, Const}
 use Rattle.net_meaning.specs.Shapes.{Shape, shaped, shape, shape_of_items, shape_of_load, is_index, all_of}
-use Rattle.flat_code.specs.Meaning.{spot_shape}
-use Rattle.flat_code.specs.Fine.{spot_shapes, shape_of_picked}
+use Rattle.flat_code.specs.Meaning.{location_shape}
+use Rattle.flat_code.specs.Fine.{location_shapes, shape_of_picked}
 use Rattle.code_emit.specs.Emits.{sources_table, AreShaped, EmitsAll, elements_shape, shapes_in}
 use Rattle.code_emit.proofs.Shaped.{ok_so}
-use Rattle.code_emit.proofs.Arms.{ok_both, spot_shape_by, op_shaped, op_row, mux_shaped, mux_row, index_shaped, items_shaped, items_row, index_row, load_row, load_element, fit_shaped, fit_row, fit_is, picked_shape, one_ground, one_more_shape}
+use Rattle.code_emit.proofs.Arms.{ok_both, location_shape_by, op_shaped, op_row, mux_shaped, mux_row, index_shaped, items_shaped, items_row, index_row, load_row, load_element, fit_shaped, fit_row, fit_is, picked_shape, one_ground, one_more_shape}
 use Rattle.code_emit.proofs.Emitting.{none_emitted, const_emits, leaf_emits, op_emits, mux_emits, fit_emits, select_emits, load_emits, both_emitted, one_more_emitted}
 use Rattle.code_emit.specs.Spans.{SpansAll}
 use Rattle.code_emit.proofs.Spanning.{none_spans, fetched_spans, leaf_spans, load_spans, fit_spans, select_spans, both_span, one_more_spans}
@@ -65,7 +65,7 @@ emit-items_measure-measure-requires t c =
     let is = c.as_slice-in-Select.result.now in
     let gs = c.as_slice-in-Select-2.result.now in
     let e : g ≡ Select is gs = c.in-Select.is ∙ ap₂ (λ os qs. Select os qs) (sym c.as_slice-in-Select.ensures) (sym c.as_slice-in-Select-2.ensures) in
-    subst (λ ss. IsSome (shape_of_items (spot_shapes ss))) (sym c.as_slice-in-Select-3.ensures)
+    subst (λ ss. IsSome (shape_of_items (location_shapes ss))) (sym c.as_slice-in-Select-3.ensures)
     (subst (λ o. IsSome o) (sym (items_row table g c.requires is gs c.in_ok-back-in-Select.back e c.in_ok-back-in-Select.ensures.shapes)) c.requires)
 
 pub emit-emit_all-requires-in-Fit : goal.emit-emit_all-requires-in-Fit
@@ -92,13 +92,13 @@ emit-emit_nested-requires t c =
     let p = c.in-Some.inner.row.prim in
     let qs = c.in-Some.inner.row.params.now in
     let gs = c.in-Some.inner.operands.now in
-    let ss = c.in_ok-spots-in-Some.spots in
+    let ss = c.in_ok-locations-in-Some.locations in
     let e : g ≡ Op o (Op p gs qs ∷ []) ps =
     c.in-Op.is ∙ (ap (λ os. Op o os c.in-Op.params) (sym c.as_slice.ensures ∙ c.in-Some.ensures) ∙ ap (Op o (Op p gs qs ∷ [])) (sym c.as_slice-in-Some.ensures)) in
-    subst (λ x. IsSome x) (sym (nested_row table g c.requires o ps p qs gs e ss c.in_ok-spots-in-Some.ensures.shapes)) c.requires
+    subst (λ x. IsSome x) (sym (nested_row table g c.requires o ps p qs gs e ss c.in_ok-locations-in-Some.ensures.shapes)) c.requires
 
-pub emit-returns-in_ok-spots-in-Some-clause-shape : goal.emit-returns-in_ok-spots-in-Some-clause-shape
-emit-returns-in_ok-spots-in-Some-clause-shape t c =
+pub emit-returns-in_ok-locations-in-Some-clause-shape : goal.emit-returns-in_ok-locations-in-Some-clause-shape
+emit-returns-in_ok-locations-in-Some-clause-shape t c =
     let table = sources_table c.args.sources.now in
     let g = c.args.ground.now in
     let o = c.in-Op.prim in
@@ -106,13 +106,13 @@ emit-returns-in_ok-spots-in-Some-clause-shape t c =
     let p = c.in-Some.inner.row.prim in
     let qs = c.in-Some.inner.row.params.now in
     let gs = c.in-Some.inner.operands.now in
-    let ss = c.in_ok-spots-in-Some.spots in
+    let ss = c.in_ok-locations-in-Some.locations in
     let e : g ≡ Op o (Op p gs qs ∷ []) ps =
     c.in-Op.is ∙ (ap (λ os. Op o os c.in-Op.params) (sym c.as_slice.ensures ∙ c.in-Some.ensures) ∙ ap (Op o (Op p gs qs ∷ [])) (sym c.as_slice-in-Some.ensures)) in
-    ok_so c.emit_nested.result c.emit_nested.ensures.shape (λ s h. sym (nested_row table g c.requires o ps p qs gs e ss c.in_ok-spots-in-Some.ensures.shapes) ∙ h)
+    ok_so c.emit_nested.result c.emit_nested.ensures.shape (λ s h. sym (nested_row table g c.requires o ps p qs gs e ss c.in_ok-locations-in-Some.ensures.shapes) ∙ h)
 
-pub emit-returns-in_ok-spots-in-Some-clause-emits : goal.emit-returns-in_ok-spots-in-Some-clause-emits
-emit-returns-in_ok-spots-in-Some-clause-emits t c =
+pub emit-returns-in_ok-locations-in-Some-clause-emits : goal.emit-returns-in_ok-locations-in-Some-clause-emits
+emit-returns-in_ok-locations-in-Some-clause-emits t c =
     let S = c.args.sources.now in
     let table = sources_table S in
     let g = c.args.ground.now in
@@ -121,12 +121,12 @@ emit-returns-in_ok-spots-in-Some-clause-emits t c =
     let p = c.in-Some.inner.row.prim in
     let qs = c.in-Some.inner.row.params.now in
     let gs = c.in-Some.inner.operands.now in
-    let ss = c.in_ok-spots-in-Some.spots in
+    let ss = c.in_ok-locations-in-Some.locations in
     let e : g ≡ Op o (Op p gs qs ∷ []) ps =
     c.in-Op.is ∙ (ap (λ os. Op o os c.in-Op.params) (sym c.as_slice.ensures ∙ c.in-Some.ensures) ∙ ap (Op o (Op p gs qs ∷ [])) (sym c.as_slice-in-Some.ensures)) in
     ok_so c.emit_nested.result (ok_both _ _ c.emit_nested.result c.emit_nested.ensures.shape c.emit_nested.ensures.makes) (λ s h.
-    nested_emits S g o ps p qs gs c.args.draft.now c.emit_all.new.draft c.emit_nested.new.draft ss s (spot_shape s) e c.in_ok-spots-in-Some.ensures.emits h.1
-    (sym (nested_row table g c.requires o ps p qs gs e ss c.in_ok-spots-in-Some.ensures.shapes) ∙ h.0))
+    nested_emits S g o ps p qs gs c.args.draft.now c.emit_all.new.draft c.emit_nested.new.draft ss s (location_shape s) e c.in_ok-locations-in-Some.ensures.emits h.1
+    (sym (nested_row table g c.requires o ps p qs gs e ss c.in_ok-locations-in-Some.ensures.shapes) ∙ h.0))
 
 pub emit-emit_operation-requires : goal.emit-emit_operation-requires
 emit-emit_operation-requires t c =
@@ -135,34 +135,34 @@ emit-emit_operation-requires t c =
     let prim = c.in-Op.prim in
     let gs = c.as_slice-in-None.result.now in
     let ps = c.as_slice-in-None-2.result.now in
-    let ss = c.in_ok-spots-in-None.spots in
+    let ss = c.in_ok-locations-in-None.locations in
     let e : g ≡ Op prim gs ps = c.in-Op.is ∙ ap₂ (λ os qs. Op prim os qs) (sym c.as_slice-in-None.ensures) (sym c.as_slice-in-None-2.ensures) in
-    subst (λ o. IsSome o) (sym (op_row table g c.requires prim gs ps ss e c.in_ok-spots-in-None.ensures.shapes)) c.requires
+    subst (λ o. IsSome o) (sym (op_row table g c.requires prim gs ps ss e c.in_ok-locations-in-None.ensures.shapes)) c.requires
 
-pub emit-returns-in_ok-spots-in-None-clause-shape : goal.emit-returns-in_ok-spots-in-None-clause-shape
-emit-returns-in_ok-spots-in-None-clause-shape t c =
+pub emit-returns-in_ok-locations-in-None-clause-shape : goal.emit-returns-in_ok-locations-in-None-clause-shape
+emit-returns-in_ok-locations-in-None-clause-shape t c =
     let table = sources_table c.args.sources.now in
     let g = c.args.ground.now in
     let prim = c.in-Op.prim in
     let gs = c.as_slice-in-None.result.now in
     let ps = c.as_slice-in-None-2.result.now in
-    let ss = c.in_ok-spots-in-None.spots in
+    let ss = c.in_ok-locations-in-None.locations in
     let e : g ≡ Op prim gs ps = c.in-Op.is ∙ ap₂ (λ os qs. Op prim os qs) (sym c.as_slice-in-None.ensures) (sym c.as_slice-in-None-2.ensures) in
-    ok_so c.emit_operation.result c.emit_operation.ensures.shape (λ s h. sym (op_row table g c.requires prim gs ps ss e c.in_ok-spots-in-None.ensures.shapes) ∙ h)
+    ok_so c.emit_operation.result c.emit_operation.ensures.shape (λ s h. sym (op_row table g c.requires prim gs ps ss e c.in_ok-locations-in-None.ensures.shapes) ∙ h)
 
-pub emit-returns-in_ok-spots-in-None-clause-emits : goal.emit-returns-in_ok-spots-in-None-clause-emits
-emit-returns-in_ok-spots-in-None-clause-emits t c =
+pub emit-returns-in_ok-locations-in-None-clause-emits : goal.emit-returns-in_ok-locations-in-None-clause-emits
+emit-returns-in_ok-locations-in-None-clause-emits t c =
     let S = c.args.sources.now in
     let table = sources_table S in
     let g = c.args.ground.now in
     let prim = c.in-Op.prim in
     let gs = c.as_slice-in-None.result.now in
     let ps = c.as_slice-in-None-2.result.now in
-    let ss = c.in_ok-spots-in-None.spots in
+    let ss = c.in_ok-locations-in-None.locations in
     let e : g ≡ Op prim gs ps = c.in-Op.is ∙ ap₂ (λ os qs. Op prim os qs) (sym c.as_slice-in-None.ensures) (sym c.as_slice-in-None-2.ensures) in
     ok_so c.emit_operation.result (ok_both _ _ c.emit_operation.result c.emit_operation.ensures.shape c.emit_operation.ensures.makes) (λ s h.
-    op_emits S g prim gs ps c.args.draft.now c.emit_all-in-None.new.draft c.emit_operation.new.draft ss s (spot_shape s) e c.in_ok-spots-in-None.ensures.emits h.1
-    (sym (op_row table g c.requires prim gs ps ss e c.in_ok-spots-in-None.ensures.shapes) ∙ h.0))
+    op_emits S g prim gs ps c.args.draft.now c.emit_all-in-None.new.draft c.emit_operation.new.draft ss s (location_shape s) e c.in_ok-locations-in-None.ensures.emits h.1
+    (sym (op_row table g c.requires prim gs ps ss e c.in_ok-locations-in-None.ensures.shapes) ∙ h.0))
 
 pub emit-emit_choice-requires : goal.emit-emit_choice-requires
 emit-emit_choice-requires t c =
@@ -170,28 +170,28 @@ emit-emit_choice-requires t c =
     let g = c.args.ground.now in
     let gs = c.as_slice-in-Mux.result.now in
     let e : g ≡ Mux gs = c.in-Mux.is ∙ ap Mux (sym c.as_slice-in-Mux.ensures) in
-    subst (λ o. IsSome o) (sym (mux_row table g c.requires gs c.in_ok-spots-in-Mux.spots e c.in_ok-spots-in-Mux.ensures.shapes)) c.requires
+    subst (λ o. IsSome o) (sym (mux_row table g c.requires gs c.in_ok-locations-in-Mux.locations e c.in_ok-locations-in-Mux.ensures.shapes)) c.requires
 
-pub emit-returns-in_ok-spots-in-Mux-clause-shape : goal.emit-returns-in_ok-spots-in-Mux-clause-shape
-emit-returns-in_ok-spots-in-Mux-clause-shape t c =
+pub emit-returns-in_ok-locations-in-Mux-clause-shape : goal.emit-returns-in_ok-locations-in-Mux-clause-shape
+emit-returns-in_ok-locations-in-Mux-clause-shape t c =
     let table = sources_table c.args.sources.now in
     let g = c.args.ground.now in
     let gs = c.as_slice-in-Mux.result.now in
-    let ss = c.in_ok-spots-in-Mux.spots in
+    let ss = c.in_ok-locations-in-Mux.locations in
     let e : g ≡ Mux gs = c.in-Mux.is ∙ ap Mux (sym c.as_slice-in-Mux.ensures) in
-    ok_so c.emit_choice.result c.emit_choice.ensures.shape (λ s h. sym (mux_row table g c.requires gs ss e c.in_ok-spots-in-Mux.ensures.shapes) ∙ h)
+    ok_so c.emit_choice.result c.emit_choice.ensures.shape (λ s h. sym (mux_row table g c.requires gs ss e c.in_ok-locations-in-Mux.ensures.shapes) ∙ h)
 
-pub emit-returns-in_ok-spots-in-Mux-clause-emits : goal.emit-returns-in_ok-spots-in-Mux-clause-emits
-emit-returns-in_ok-spots-in-Mux-clause-emits t c =
+pub emit-returns-in_ok-locations-in-Mux-clause-emits : goal.emit-returns-in_ok-locations-in-Mux-clause-emits
+emit-returns-in_ok-locations-in-Mux-clause-emits t c =
     let S = c.args.sources.now in
     let table = sources_table S in
     let g = c.args.ground.now in
     let gs = c.as_slice-in-Mux.result.now in
-    let ss = c.in_ok-spots-in-Mux.spots in
+    let ss = c.in_ok-locations-in-Mux.locations in
     let e : g ≡ Mux gs = c.in-Mux.is ∙ ap Mux (sym c.as_slice-in-Mux.ensures) in
     ok_so c.emit_choice.result (ok_both _ _ c.emit_choice.result c.emit_choice.ensures.shape c.emit_choice.ensures.makes) (λ s h.
-    mux_emits S g gs c.args.draft.now c.emit_all-in-Mux.new.draft c.emit_choice.new.draft ss s (spot_shape s) e c.in_ok-spots-in-Mux.ensures.emits h.1
-    (sym (mux_row table g c.requires gs ss e c.in_ok-spots-in-Mux.ensures.shapes) ∙ h.0))
+    mux_emits S g gs c.args.draft.now c.emit_all-in-Mux.new.draft c.emit_choice.new.draft ss s (location_shape s) e c.in_ok-locations-in-Mux.ensures.emits h.1
+    (sym (mux_row table g c.requires gs ss e c.in_ok-locations-in-Mux.ensures.shapes) ∙ h.0))
 
 pub emit-emit_fit-requires-clause-shape : goal.emit-emit_fit-requires-clause-shape
 emit-emit_fit-requires-clause-shape t c =
@@ -201,23 +201,23 @@ emit-emit_fit-requires-clause-shape t c =
     let width = c.in-Fit.width in
     let gs = c.as_slice-in-Fit.result.now in
     let e : g ≡ Fit kind width gs = c.in-Fit.is ∙ ap (λ xs. Fit kind width xs) (sym c.as_slice-in-Fit.ensures) in
-    fit_row table g c.requires kind width gs c.in_ok-spots-in-Fit.spots e c.in_ok-spots-in-Fit.ensures.shapes ∙ (fit_is table g c.requires kind width gs e).1
+    fit_row table g c.requires kind width gs c.in_ok-locations-in-Fit.locations e c.in_ok-locations-in-Fit.ensures.shapes ∙ (fit_is table g c.requires kind width gs e).1
 
-pub emit-returns-in_ok-spots-in-Fit-clause-emits : goal.emit-returns-in_ok-spots-in-Fit-clause-emits
-emit-returns-in_ok-spots-in-Fit-clause-emits t c =
+pub emit-returns-in_ok-locations-in-Fit-clause-emits : goal.emit-returns-in_ok-locations-in-Fit-clause-emits
+emit-returns-in_ok-locations-in-Fit-clause-emits t c =
     let S = c.args.sources.now in
     let table = sources_table S in
     let g = c.args.ground.now in
     let kind = c.in-Fit.kind in
     let width = c.in-Fit.width in
     let gs = c.as_slice-in-Fit.result.now in
-    let ss = c.in_ok-spots-in-Fit.spots in
+    let ss = c.in_ok-locations-in-Fit.locations in
     let e : g ≡ Fit kind width gs = c.in-Fit.is ∙ ap (λ xs. Fit kind width xs) (sym c.as_slice-in-Fit.ensures) in
     let at : shape g table ≡ Some (shaped kind width) = (fit_is table g c.requires kind width gs e).1 in
-    ok_so c.emit_fit.result c.emit_fit.ensures.makes (λ s m. fit_emits S g kind width gs c.args.draft.now c.emit_all-in-Fit.new.draft c.emit_fit.new.draft ss s (shaped kind width) e c.in_ok-spots-in-Fit.ensures.emits m at)
+    ok_so c.emit_fit.result c.emit_fit.ensures.makes (λ s m. fit_emits S g kind width gs c.args.draft.now c.emit_all-in-Fit.new.draft c.emit_fit.new.draft ss s (shaped kind width) e c.in_ok-locations-in-Fit.ensures.emits m at)
 
-pub emit-returns-in_ok-spots-in-Select-clause-shape : goal.emit-returns-in_ok-spots-in-Select-clause-shape
-emit-returns-in_ok-spots-in-Select-clause-shape t c =
+pub emit-returns-in_ok-locations-in-Select-clause-shape : goal.emit-returns-in_ok-locations-in-Select-clause-shape
+emit-returns-in_ok-locations-in-Select-clause-shape t c =
     let table = sources_table c.args.sources.now in
     let g = c.args.ground.now in
     let is = c.as_slice-in-Select.result.now in
@@ -226,12 +226,12 @@ emit-returns-in_ok-spots-in-Select-clause-shape t c =
     let kind = c.items_measure-measure.result.kind in
     let width = c.items_measure-measure.result.width in
     let e : g ≡ Select is gs = c.in-Select.is ∙ ap₂ (λ os qs. Select os qs) (sym c.as_slice-in-Select.ensures) (sym c.as_slice-in-Select-2.ensures) in
-    let row : shape_of_items (spot_shapes back) ≡ Some (shaped kind width) = ap (λ xs. shape_of_items (spot_shapes xs)) (sym c.as_slice-in-Select-3.ensures) ∙ c.items_measure-measure.ensures in
+    let row : shape_of_items (location_shapes back) ≡ Some (shaped kind width) = ap (λ xs. shape_of_items (location_shapes xs)) (sym c.as_slice-in-Select-3.ensures) ∙ c.items_measure-measure.ensures in
     let at : shape g table ≡ Some (shaped kind width) = sym (items_row table g c.requires is gs back e c.in_ok-back-in-Select.ensures.shapes) ∙ row in
-    ok_so c.wide_value.result (ok_both _ _ c.wide_value.result c.wide_value.ensures.shape c.wide_value.ensures.width) (λ s h. at ∙ ap Some (sym (spot_shape_by s kind width h.0 h.1)))
+    ok_so c.wide_value.result (ok_both _ _ c.wide_value.result c.wide_value.ensures.shape c.wide_value.ensures.width) (λ s h. at ∙ ap Some (sym (location_shape_by s kind width h.0 h.1)))
 
-pub emit-returns-in_ok-spots-in-Select-clause-emits : goal.emit-returns-in_ok-spots-in-Select-clause-emits
-emit-returns-in_ok-spots-in-Select-clause-emits t c =
+pub emit-returns-in_ok-locations-in-Select-clause-emits : goal.emit-returns-in_ok-locations-in-Select-clause-emits
+emit-returns-in_ok-locations-in-Select-clause-emits t c =
     let S = c.args.sources.now in
     let table = sources_table S in
     let g = c.args.ground.now in
@@ -239,39 +239,39 @@ emit-returns-in_ok-spots-in-Select-clause-emits t c =
     let gs = c.as_slice-in-Select-2.result.now in
     let front = c.in_ok-front-in-Select.front in
     let back = c.in_ok-back-in-Select.back in
-    let ss = c.in_ok-spots-in-Select.spots in
+    let ss = c.in_ok-locations-in-Select.locations in
     let kind = c.items_measure-measure.result.kind in
     let width = c.items_measure-measure.result.width in
     let e : g ≡ Select is gs = c.in-Select.is ∙ ap₂ (λ os qs. Select os qs) (sym c.as_slice-in-Select.ensures) (sym c.as_slice-in-Select-2.ensures) in
-    let same : ss ≡ front ++ back = c.in_ok-spots-in-Select.ensures ∙ ap (λ xs. front ++ xs) c.as_slice-in-Select-4.ensures in
-    let row : shape_of_items (spot_shapes back) ≡ Some (shaped kind width) = ap (λ xs. shape_of_items (spot_shapes xs)) (sym c.as_slice-in-Select-3.ensures) ∙ c.items_measure-measure.ensures in
+    let same : ss ≡ front ++ back = c.in_ok-locations-in-Select.ensures ∙ ap (λ xs. front ++ xs) c.as_slice-in-Select-4.ensures in
+    let row : shape_of_items (location_shapes back) ≡ Some (shaped kind width) = ap (λ xs. shape_of_items (location_shapes xs)) (sym c.as_slice-in-Select-3.ensures) ∙ c.items_measure-measure.ensures in
     let at : shape g table ≡ Some (shaped kind width) = sym (items_row table g c.requires is gs back e c.in_ok-back-in-Select.ensures.shapes) ∙ row in
-    let index : is_index (spot_shapes front) ≡ true = index_row table g c.requires is gs front e c.in_ok-front-in-Select.ensures.shapes in
-    let one = one_ground table is (spot_shapes front) c.in_ok-front-in-Select.ensures.shapes index in
+    let index : is_index (location_shapes front) ≡ true = index_row table g c.requires is gs front e c.in_ok-front-in-Select.ensures.shapes in
+    let one = one_ground table is (location_shapes front) c.in_ok-front-in-Select.ensures.shapes index in
     let both = both_emitted S is gs c.args.draft.now c.emit_all-in-Select.new.draft c.emit_all-in-Select-2.new.draft front back c.in_ok-front-in-Select.ensures.emits c.in_ok-back-in-Select.ensures.emits in
-    let whole = ap (λ xs. shape_of_picked (spot_shapes xs)) same ∙ (picked_shape front back index ∙ row) in
+    let whole = ap (λ xs. shape_of_picked (location_shapes xs)) same ∙ (picked_shape front back index ∙ row) in
     ok_so c.wide_value.result c.wide_value.ensures.makes (λ s m.
     select_emits S g is gs one.0 c.args.draft.now c.emit_all-in-Select-2.new.draft c.wide_value.new.draft ss s (shaped kind width) e one.1
     (subst (EmitsAll S (is ++ gs) c.args.draft.now c.emit_all-in-Select-2.new.draft) (sym same) both) m whole at)
 
-pub emit-returns-in_ok-spots-in-Load-clause-emits : goal.emit-returns-in_ok-spots-in-Load-clause-emits
-emit-returns-in_ok-spots-in-Load-clause-emits t c =
+pub emit-returns-in_ok-locations-in-Load-clause-emits : goal.emit-returns-in_ok-locations-in-Load-clause-emits
+emit-returns-in_ok-locations-in-Load-clause-emits t c =
     let S = c.args.sources.now in
     let table = sources_table S in
     let g = c.args.ground.now in
     let m = c.in-Load.memory in
     let k = c.in-Load.leaf in
     let gs = c.as_slice-in-Load.result.now in
-    let ss = c.in_ok-spots-in-Load.spots in
+    let ss = c.in_ok-locations-in-Load.locations in
     let el = c.elements_of-elements.result in
     let e : g ≡ Load m k gs = c.in-Load.is ∙ ap (λ xs. Load m k xs) (sym c.as_slice-in-Load.ensures) in
     let known : table.element m k ≡ Some (elements_shape el) = ap (option_map elements_shape) c.elements_of-elements.ensures in
     let at : shape g table ≡ Some (elements_shape el) = sym (load_element table g c.requires m k gs e) ∙ known in
-    let row : shape_of_load (table.element m k) (spot_shapes ss) ≡ shape g table = load_row table g c.requires m k gs ss e c.in_ok-spots-in-Load.ensures.shapes in
+    let row : shape_of_load (table.element m k) (location_shapes ss) ≡ shape g table = load_row table g c.requires m k gs ss e c.in_ok-locations-in-Load.ensures.shapes in
     ok_so c.wide_value-in-Load.result (ok_both _ _ c.wide_value-in-Load.result (ok_both _ _ c.wide_value-in-Load.result c.wide_value-in-Load.ensures.shape c.wide_value-in-Load.ensures.width) c.wide_value-in-Load.ensures.makes) (λ s h.
-    let same : spot_shape s ≡ elements_shape el = spot_shape_by s el.kind el.width h.0.0 h.0.1 in
-    load_emits S g m k gs el c.args.draft.now c.emit_all-in-Load.new.draft c.wide_value-in-Load.new.draft ss s (elements_shape el) e c.elements_of-elements.ensures refl same c.in_ok-spots-in-Load.ensures.emits h.1
-    (ap (λ (u : Shape). shape_of_load (Some u) (spot_shapes ss)) same ∙ (ap (λ o. shape_of_load o (spot_shapes ss)) (sym known) ∙ (row ∙ at))) at)
+    let same : location_shape s ≡ elements_shape el = location_shape_by s el.kind el.width h.0.0 h.0.1 in
+    load_emits S g m k gs el c.args.draft.now c.emit_all-in-Load.new.draft c.wide_value-in-Load.new.draft ss s (elements_shape el) e c.elements_of-elements.ensures refl same c.in_ok-locations-in-Load.ensures.emits h.1
+    (ap (λ (u : Shape). shape_of_load (Some u) (location_shapes ss)) same ∙ (ap (λ o. shape_of_load o (location_shapes ss)) (sym known) ∙ (row ∙ at))) at)
 
 pub emit_all-loop-ground-preserved : goal.emit_all-loop-ground-preserved
 emit_all-loop-ground-preserved t c =
@@ -279,18 +279,18 @@ emit_all-loop-ground-preserved t c =
     let gs = c.args.grounds.now in
     let g = c.ground-item.result in
     let k = c.loop-ground.ground-index in
-    let ss = c.loop-ground.spots in
+    let ss = c.loop-ground.locations in
     let s = c.in_ok-emit.field-0 in
     let longer : take (k + 1) gs ≡ take k gs ++ g ∷ [] = take_more gs k g c.loop-ground-test.true ∙ ap (λ h. take k gs ++ h ∷ []) (sym c.ground-item.is) in
-    let spots = c.in_ok-push.ensures.ok in
+    let locations = c.in_ok-push.ensures.ok in
     record {
       shapes = ap (λ hs. all_of (shapes_in (sources_table S) hs)) longer ∙ (one_more_shape (sources_table S) (take k gs) g ss s c.loop-ground.invariant.shapes c.in_ok-emit.ensures.shape
-          ∙ ap (λ xs. Some (spot_shapes xs)) (sym spots));
+          ∙ ap (λ xs. Some (location_shapes xs)) (sym locations));
       emits = subst (λ hs. EmitsAll S hs c.args.draft.now c.emit.new.draft c.push.new.self) (sym longer)
-          (subst (λ xs. EmitsAll S (take k gs ++ g ∷ []) c.args.draft.now c.emit.new.draft xs) (sym spots)
+          (subst (λ xs. EmitsAll S (take k gs ++ g ∷ []) c.args.draft.now c.emit.new.draft xs) (sym locations)
           (one_more_emitted S (take k gs) g c.args.draft.now c.loop-ground.draft c.emit.new.draft ss s c.loop-ground.invariant.emits c.in_ok-emit.ensures.emits));
       spans = subst (λ hs. SpansAll S hs c.args.draft.now c.emit.new.draft c.push.new.self) (sym longer)
-          (subst (λ xs. SpansAll S (take k gs ++ g ∷ []) c.args.draft.now c.emit.new.draft xs) (sym spots)
+          (subst (λ xs. SpansAll S (take k gs ++ g ∷ []) c.args.draft.now c.emit.new.draft xs) (sym locations)
           (one_more_spans S (take k gs) g c.args.draft.now c.loop-ground.draft c.emit.new.draft ss s c.loop-ground.invariant.spans c.in_ok-emit.ensures.spans));
     }
 
@@ -303,8 +303,8 @@ emit-returns-in-Leaf-clause-spans t c =
     ok_so c.fetch.result c.fetch.ensures.step (λ s st.
     leaf_spans c.args.sources.now c.args.ground.now c.in-Leaf.leaf c.source_of.result c.args.draft.now c.fetch.new.draft s c.in-Leaf.is c.source_of.ensures st)
 
-pub emit-returns-in_ok-spots-in-Some-clause-spans : goal.emit-returns-in_ok-spots-in-Some-clause-spans
-emit-returns-in_ok-spots-in-Some-clause-spans t c =
+pub emit-returns-in_ok-locations-in-Some-clause-spans : goal.emit-returns-in_ok-locations-in-Some-clause-spans
+emit-returns-in_ok-locations-in-Some-clause-spans t c =
     let g = c.args.ground.now in
     let o = c.in-Op.prim in
     let ps = c.as_slice-in-Some.result.now in
@@ -315,10 +315,10 @@ emit-returns-in_ok-spots-in-Some-clause-spans t c =
     c.in-Op.is ∙ (ap (λ os. Op o os c.in-Op.params) (sym c.as_slice.ensures ∙ c.in-Some.ensures) ∙ ap (Op o (Op p gs qs ∷ [])) (sym c.as_slice-in-Some.ensures)) in
     let S = c.args.sources.now in
     ok_so c.emit_nested.result c.emit_nested.ensures.follows (λ s st.
-    nested_spans S (sources_table S) g gs c.args.draft.now c.emit_all.new.draft c.emit_nested.new.draft c.in_ok-spots-in-Some.spots s c.in_ok-spots-in-Some.ensures.shapes c.in_ok-spots-in-Some.ensures.spans st o ps p qs e)
+    nested_spans S (sources_table S) g gs c.args.draft.now c.emit_all.new.draft c.emit_nested.new.draft c.in_ok-locations-in-Some.locations s c.in_ok-locations-in-Some.ensures.shapes c.in_ok-locations-in-Some.ensures.spans st o ps p qs e)
 
-pub emit-returns-in_ok-spots-in-None-clause-spans : goal.emit-returns-in_ok-spots-in-None-clause-spans
-emit-returns-in_ok-spots-in-None-clause-spans t c =
+pub emit-returns-in_ok-locations-in-None-clause-spans : goal.emit-returns-in_ok-locations-in-None-clause-spans
+emit-returns-in_ok-locations-in-None-clause-spans t c =
     let g = c.args.ground.now in
     let prim = c.in-Op.prim in
     let gs = c.as_slice-in-None.result.now in
@@ -326,61 +326,61 @@ emit-returns-in_ok-spots-in-None-clause-spans t c =
     let e : g ≡ Op prim gs ps = c.in-Op.is ∙ ap₂ (λ os qs. Op prim os qs) (sym c.as_slice-in-None.ensures) (sym c.as_slice-in-None-2.ensures) in
     let S = c.args.sources.now in
     ok_so c.emit_operation.result c.emit_operation.ensures.follows (λ s st.
-    op_spans S (sources_table S) g gs c.args.draft.now c.emit_all-in-None.new.draft c.emit_operation.new.draft c.in_ok-spots-in-None.spots s c.in_ok-spots-in-None.ensures.shapes c.in_ok-spots-in-None.ensures.spans st prim ps e)
+    op_spans S (sources_table S) g gs c.args.draft.now c.emit_all-in-None.new.draft c.emit_operation.new.draft c.in_ok-locations-in-None.locations s c.in_ok-locations-in-None.ensures.shapes c.in_ok-locations-in-None.ensures.spans st prim ps e)
 
-pub emit-returns-in_ok-spots-in-Mux-clause-spans : goal.emit-returns-in_ok-spots-in-Mux-clause-spans
-emit-returns-in_ok-spots-in-Mux-clause-spans t c =
+pub emit-returns-in_ok-locations-in-Mux-clause-spans : goal.emit-returns-in_ok-locations-in-Mux-clause-spans
+emit-returns-in_ok-locations-in-Mux-clause-spans t c =
     let S = c.args.sources.now in
     let g = c.args.ground.now in
     let gs = c.as_slice-in-Mux.result.now in
     let e : g ≡ Mux gs = c.in-Mux.is ∙ ap Mux (sym c.as_slice-in-Mux.ensures) in
     ok_so c.emit_choice.result c.emit_choice.ensures.follows (λ s last.
-    mux_spans S (sources_table S) g gs c.args.draft.now c.emit_all-in-Mux.new.draft c.emit_choice.new.draft c.in_ok-spots-in-Mux.spots s c.in_ok-spots-in-Mux.ensures.shapes c.in_ok-spots-in-Mux.ensures.spans last e)
+    mux_spans S (sources_table S) g gs c.args.draft.now c.emit_all-in-Mux.new.draft c.emit_choice.new.draft c.in_ok-locations-in-Mux.locations s c.in_ok-locations-in-Mux.ensures.shapes c.in_ok-locations-in-Mux.ensures.spans last e)
 
-pub emit-returns-in_ok-spots-in-Fit-clause-spans : goal.emit-returns-in_ok-spots-in-Fit-clause-spans
-emit-returns-in_ok-spots-in-Fit-clause-spans t c =
+pub emit-returns-in_ok-locations-in-Fit-clause-spans : goal.emit-returns-in_ok-locations-in-Fit-clause-spans
+emit-returns-in_ok-locations-in-Fit-clause-spans t c =
     let g = c.args.ground.now in
     let kind = c.in-Fit.kind in
     let width = c.in-Fit.width in
     let gs = c.as_slice-in-Fit.result.now in
     let e : g ≡ Fit kind width gs = c.in-Fit.is ∙ ap (λ xs. Fit kind width xs) (sym c.as_slice-in-Fit.ensures) in
     ok_so c.emit_fit.result c.emit_fit.ensures.step (λ s st.
-    fit_spans c.args.sources.now g gs c.args.draft.now c.emit_all-in-Fit.new.draft c.emit_fit.new.draft c.in_ok-spots-in-Fit.spots s c.in_ok-spots-in-Fit.ensures.spans st kind width e)
+    fit_spans c.args.sources.now g gs c.args.draft.now c.emit_all-in-Fit.new.draft c.emit_fit.new.draft c.in_ok-locations-in-Fit.locations s c.in_ok-locations-in-Fit.ensures.spans st kind width e)
 
-pub emit-returns-in_ok-spots-in-Select-clause-spans : goal.emit-returns-in_ok-spots-in-Select-clause-spans
-emit-returns-in_ok-spots-in-Select-clause-spans t c =
+pub emit-returns-in_ok-locations-in-Select-clause-spans : goal.emit-returns-in_ok-locations-in-Select-clause-spans
+emit-returns-in_ok-locations-in-Select-clause-spans t c =
     let S = c.args.sources.now in
     let g = c.args.ground.now in
     let is = c.as_slice-in-Select.result.now in
     let gs = c.as_slice-in-Select-2.result.now in
     let front = c.in_ok-front-in-Select.front in
     let back = c.in_ok-back-in-Select.back in
-    let ss = c.in_ok-spots-in-Select.spots in
+    let ss = c.in_ok-locations-in-Select.locations in
     let d = c.args.draft.now in
     let b = c.emit_all-in-Select-2.new.draft in
     let e : g ≡ Select is gs = c.in-Select.is ∙ ap₂ (λ os qs. Select os qs) (sym c.as_slice-in-Select.ensures) (sym c.as_slice-in-Select-2.ensures) in
-    let same : ss ≡ front ++ back = c.in_ok-spots-in-Select.ensures ∙ ap (λ xs. front ++ xs) c.as_slice-in-Select-4.ensures in
+    let same : ss ≡ front ++ back = c.in_ok-locations-in-Select.ensures ∙ ap (λ xs. front ++ xs) c.as_slice-in-Select-4.ensures in
     let both = both_span S is gs d c.emit_all-in-Select.new.draft b front back c.in_ok-front-in-Select.ensures.spans c.in_ok-back-in-Select.ensures.spans in
     ok_so c.wide_value.result c.wide_value.ensures.step (λ s st.
     select_spans S g is gs d b c.wide_value.new.draft ss s e (subst (SpansAll S (is ++ gs) d b) (sym same) both) st)
 
-pub emit-returns-in_ok-spots-in-Load-clause-spans : goal.emit-returns-in_ok-spots-in-Load-clause-spans
-emit-returns-in_ok-spots-in-Load-clause-spans t c =
+pub emit-returns-in_ok-locations-in-Load-clause-spans : goal.emit-returns-in_ok-locations-in-Load-clause-spans
+emit-returns-in_ok-locations-in-Load-clause-spans t c =
     let g = c.args.ground.now in
     let m = c.in-Load.memory in
     let k = c.in-Load.leaf in
     let gs = c.as_slice-in-Load.result.now in
     let e : g ≡ Load m k gs = c.in-Load.is ∙ ap (λ xs. Load m k xs) (sym c.as_slice-in-Load.ensures) in
     ok_so c.wide_value-in-Load.result c.wide_value-in-Load.ensures.step (λ s st.
-    load_spans c.args.sources.now g gs c.args.draft.now c.emit_all-in-Load.new.draft c.wide_value-in-Load.new.draft c.in_ok-spots-in-Load.spots s c.in_ok-spots-in-Load.ensures.spans st m k e)
+    load_spans c.args.sources.now g gs c.args.draft.now c.emit_all-in-Load.new.draft c.wide_value-in-Load.new.draft c.in_ok-locations-in-Load.locations s c.in_ok-locations-in-Load.ensures.spans st m k e)
 
 pub emit_all-loop-ground-init : goal.emit_all-loop-ground-init
 emit_all-loop-ground-init t c =
     let S = c.args.sources.now in
     let d = c.args.draft.now in
-    let none : c.new-spots.result ≡ [] = c.new-spots.ensures in
+    let none : c.new-locations.result ≡ [] = c.new-locations.ensures in
     record {
-      shapes = ap (λ xs. Some (spot_shapes xs)) (sym none);
+      shapes = ap (λ xs. Some (location_shapes xs)) (sym none);
       emits = subst (EmitsAll S [] d d) (sym none) (none_emitted S d);
       spans = subst (SpansAll S [] d d) (sym none) (none_spans S d);
     }
@@ -393,20 +393,20 @@ emit-returns-in-Leaf-clause-stands t c =
     ok_so c.fetch.result c.fetch.ensures.stands (λ s st.
     leaf_stands c.args.sources.now c.args.ground.now c.in-Leaf.leaf c.source_of.result c.args.draft.now c.fetch.new.draft s c.in-Leaf.is c.source_of.ensures st)
 
-pub emit-returns-in_ok-spots-in-None-clause-stands : goal.emit-returns-in_ok-spots-in-None-clause-stands
-emit-returns-in_ok-spots-in-None-clause-stands t c = no_leaf c.args.sources.now c.args.ground.now (Op c.in-Op.prim c.in-Op.operands c.in-Op.params) c.args.draft.now c.emit_operation.new.draft c.emit_operation.result c.in-Op.is (leaf-Op c.in-Op.prim c.in-Op.operands c.in-Op.params)
+pub emit-returns-in_ok-locations-in-None-clause-stands : goal.emit-returns-in_ok-locations-in-None-clause-stands
+emit-returns-in_ok-locations-in-None-clause-stands t c = no_leaf c.args.sources.now c.args.ground.now (Op c.in-Op.prim c.in-Op.operands c.in-Op.params) c.args.draft.now c.emit_operation.new.draft c.emit_operation.result c.in-Op.is (leaf-Op c.in-Op.prim c.in-Op.operands c.in-Op.params)
 
-pub emit-returns-in_ok-spots-in-Mux-clause-stands : goal.emit-returns-in_ok-spots-in-Mux-clause-stands
-emit-returns-in_ok-spots-in-Mux-clause-stands t c = no_leaf c.args.sources.now c.args.ground.now (Mux c.in-Mux.items) c.args.draft.now c.emit_choice.new.draft c.emit_choice.result c.in-Mux.is (leaf-Mux c.in-Mux.items)
+pub emit-returns-in_ok-locations-in-Mux-clause-stands : goal.emit-returns-in_ok-locations-in-Mux-clause-stands
+emit-returns-in_ok-locations-in-Mux-clause-stands t c = no_leaf c.args.sources.now c.args.ground.now (Mux c.in-Mux.items) c.args.draft.now c.emit_choice.new.draft c.emit_choice.result c.in-Mux.is (leaf-Mux c.in-Mux.items)
 
-pub emit-returns-in_ok-spots-in-Select-clause-stands : goal.emit-returns-in_ok-spots-in-Select-clause-stands
-emit-returns-in_ok-spots-in-Select-clause-stands t c = no_leaf c.args.sources.now c.args.ground.now (Select c.in-Select.index c.in-Select.items) c.args.draft.now c.wide_value.new.draft c.wide_value.result c.in-Select.is (leaf-Select c.in-Select.index c.in-Select.items)
+pub emit-returns-in_ok-locations-in-Select-clause-stands : goal.emit-returns-in_ok-locations-in-Select-clause-stands
+emit-returns-in_ok-locations-in-Select-clause-stands t c = no_leaf c.args.sources.now c.args.ground.now (Select c.in-Select.index c.in-Select.items) c.args.draft.now c.wide_value.new.draft c.wide_value.result c.in-Select.is (leaf-Select c.in-Select.index c.in-Select.items)
 
-pub emit-returns-in_ok-spots-in-Load-clause-stands : goal.emit-returns-in_ok-spots-in-Load-clause-stands
-emit-returns-in_ok-spots-in-Load-clause-stands t c = no_leaf c.args.sources.now c.args.ground.now (Load c.in-Load.memory c.in-Load.leaf c.in-Load.items) c.args.draft.now c.wide_value-in-Load.new.draft c.wide_value-in-Load.result c.in-Load.is (leaf-Load c.in-Load.memory c.in-Load.leaf c.in-Load.items)
+pub emit-returns-in_ok-locations-in-Load-clause-stands : goal.emit-returns-in_ok-locations-in-Load-clause-stands
+emit-returns-in_ok-locations-in-Load-clause-stands t c = no_leaf c.args.sources.now c.args.ground.now (Load c.in-Load.memory c.in-Load.leaf c.in-Load.items) c.args.draft.now c.wide_value-in-Load.new.draft c.wide_value-in-Load.result c.in-Load.is (leaf-Load c.in-Load.memory c.in-Load.leaf c.in-Load.items)
 
-pub emit-returns-in_ok-spots-in-Fit-clause-stands : goal.emit-returns-in_ok-spots-in-Fit-clause-stands
-emit-returns-in_ok-spots-in-Fit-clause-stands t c = no_leaf c.args.sources.now c.args.ground.now (Fit c.in-Fit.kind c.in-Fit.width c.in-Fit.items) c.args.draft.now c.emit_fit.new.draft c.emit_fit.result c.in-Fit.is (leaf-Fit c.in-Fit.kind c.in-Fit.width c.in-Fit.items)
+pub emit-returns-in_ok-locations-in-Fit-clause-stands : goal.emit-returns-in_ok-locations-in-Fit-clause-stands
+emit-returns-in_ok-locations-in-Fit-clause-stands t c = no_leaf c.args.sources.now c.args.ground.now (Fit c.in-Fit.kind c.in-Fit.width c.in-Fit.items) c.args.draft.now c.emit_fit.new.draft c.emit_fit.result c.in-Fit.is (leaf-Fit c.in-Fit.kind c.in-Fit.width c.in-Fit.items)
 
-pub emit-returns-in_ok-spots-in-Some-clause-stands : goal.emit-returns-in_ok-spots-in-Some-clause-stands
-emit-returns-in_ok-spots-in-Some-clause-stands t c = no_leaf c.args.sources.now c.args.ground.now (Op c.in-Op.prim c.in-Op.operands c.in-Op.params) c.args.draft.now c.emit_nested.new.draft c.emit_nested.result c.in-Op.is (leaf-Op c.in-Op.prim c.in-Op.operands c.in-Op.params)
+pub emit-returns-in_ok-locations-in-Some-clause-stands : goal.emit-returns-in_ok-locations-in-Some-clause-stands
+emit-returns-in_ok-locations-in-Some-clause-stands t c = no_leaf c.args.sources.now c.args.ground.now (Op c.in-Op.prim c.in-Op.operands c.in-Op.params) c.args.draft.now c.emit_nested.new.draft c.emit_nested.result c.in-Op.is (leaf-Op c.in-Op.prim c.in-Op.operands c.in-Op.params)

@@ -6,6 +6,6 @@ use Rattle.code_draft.proofs.Running.{run_solves}
 use Rattle.code_emit.proofs.laws.runs_give_values.Goals as goal
 
 pub returns : goal.returns
-returns c = λ S g old new s words inputs frame sight m long plain sees.
+returns c = λ S g old new s words inputs frame instant m long plain sees.
     let F = ran new.wides new.instrs words inputs frame in
-    held_value F s (value g sight) (m.holds words inputs F (value g sight) (run_solves new words inputs frame m.grows.is long plain) (sight, sees, refl))
+    held_value F s (value g instant) (m.holds words inputs F (value g instant) (run_solves new words inputs frame m.grows.is long plain) (instant, sees, refl))

@@ -10,7 +10,7 @@ use Rattle.code_writes.specs.Writes.{PublishesLeft}
 use Rattle.code_writes.proofs.Targets.{on_ok_so}
 use Rattle.code_writes.proofs.Written.{some_is}
 use Rattle.code_memories.proofs.Loops.{kept_here, has_here, capture_done}
-use Rattle.flat_code.specs.Fine.{spot_slots}
+use Rattle.flat_code.specs.Fine.{location_slots}
 use Rattle.code_draft.specs.Segments.{Segment}
 use Rattle.code_emit.proofs.Spanning.{one_told}
 use Rattle.code_registers.specs.Groups.{EvaluatesOnly}
@@ -65,17 +65,17 @@ returns-clause-left c =
     let element = c.in-Some-get-2.element.now in
     let element_there = sym c.in-Some-get-2.ensures.value in
     let g = c.in_ok-next.next in
-    let s = c.in_ok-spot.spot in
+    let s = c.in_ok-location.location in
     let mid = c.emit.new.draft in
     let new = c.publish.new.draft in
     let old = c.args.draft.now in
     on_ok_so (Publishes mid new c.word_of-word.result s)
     ((other : NetMemory) (its : NetPort) (rd : NetRead) (sh : ℕ) → slice_get net.memories m ≡ Some other → slice_get other.ports p ≡ Some its → its.read ≡ Some rd → slice_get rd.leaves k ≡ Some sh
-    → PublishesLeft net S (λ st sight. capture_left net S st sight m (capture_of m other its rd (k, sh))) old new)
+    → PublishesLeft net S (λ st instant. capture_left net S st instant m (capture_of m other its rd (k, sh))) old new)
     c.publish.result c.publish.ensures.publishes (λ told.
     capture_done net S m c.requires.net c.requires.memory memory there p port listed read reads k x element at element_there c.requires.there (record { memory = m; number = c.args.at.leaf; kind = element.kind; width = element.width; narrow = _ }) g old mid new s c.word_of-word.result refl refl refl c.in_ok-next.ensures.value
     (c.in_ok-next.ensures.shape (sources_table S) (has_here net S m c.requires.net c.requires.memory memory there p port listed read reads k x element at element_there c.requires.there (record { memory = m; number = c.args.at.leaf; kind = element.kind; width = element.width; narrow = _ }) refl refl refl))
-    c.in_ok-spot.ensures.shape c.in_ok-spot.ensures.emits told c.word_of-word.ensures)
+    c.in_ok-location.ensures.shape c.in_ok-location.ensures.emits told c.word_of-word.ensures)
 
 pub returns-clause-evaluates : goal.returns-clause-evaluates
 returns-clause-evaluates c =
@@ -91,12 +91,12 @@ returns-clause-evaluates c =
     let read = c.in-Some.read in
     let element = c.in-Some-get-2.element.now in
     let g = c.in_ok-next.next in
-    let s = c.in_ok-spot.spot in
+    let s = c.in_ok-location.location in
     let old = c.args.draft.now in
     let mid = c.emit.new.draft in
     let new = c.publish.new.draft in
-    on_ok_so (Segment mid new (spot_slots s) [] 0) (EvaluatesOnly S (IsCaptureGroup net m) old new) c.publish.result c.publish.ensures.segment (λ told.
+    on_ok_so (Segment mid new (location_slots s) [] 0) (EvaluatesOnly S (IsCaptureGroup net m) old new) c.publish.result c.publish.ensures.segment (λ told.
     one_such S (IsCaptureGroup net m) (g ∷ []) old new
     (capture_group net m p k memory port read element (record { memory = m; number = c.args.at.leaf; kind = element.kind; width = element.width; narrow = element.narrow }) g there listed c.in-Some.is
     (late_here net m p k c.requires.there memory port read there listed c.in-Some.is) (sym c.in-Some-get-2.ensures.value) refl refl refl refl c.in_ok-next.ensures.itself)
-    (one_told S g old mid new s c.in_ok-spot.ensures.spans told))
+    (one_told S g old mid new s c.in_ok-location.ensures.spans told))

@@ -10,6 +10,6 @@ use Rattle.code_memories.proofs.captures.publish_captures.Given as goal
 abbrev pub invariant-loop-port : goal.invariant-loop-port
 invariant-loop-port l = record {
   left : (memory : NetMemory) → slice_get l.at.net.now.memories l.at.number ≡ Some memory
-      → PublishesLeft l.at.net.now l.at.sources.now (λ st sight. flat_map (λ port. flat_map (capture_left l.at.net.now l.at.sources.now st sight l.at.number) (captured_by l.at.number memory port port.read)) (take l.port memory.ports)) l.fn.draft l.draft;
+      → PublishesLeft l.at.net.now l.at.sources.now (λ st instant. flat_map (λ port. flat_map (capture_left l.at.net.now l.at.sources.now st instant l.at.number) (captured_by l.at.number memory port port.read)) (take l.port memory.ports)) l.fn.draft l.draft;
   evaluates : EvaluatesOnly l.at.sources.now (IsCaptureGroup l.at.net.now l.at.number) l.fn.draft l.draft;
 }

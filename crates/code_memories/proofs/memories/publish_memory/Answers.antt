@@ -20,7 +20,7 @@ returns-clause-publishes c =
     let a = c.args.draft.now in
     let b = c.publish_writes.new.draft in
     let d = c.publish_captures.new.draft in
-    on_ok_so ((memory : NetMemory) → slice_get net.memories m ≡ Some memory → PublishesLeft net S (λ st sight. flat_map (λ port. flat_map (capture_left net S st sight m) (captured_by m memory port port.read)) memory.ports) b d)
+    on_ok_so ((memory : NetMemory) → slice_get net.memories m ≡ Some memory → PublishesLeft net S (λ st instant. flat_map (λ port. flat_map (capture_left net S st instant m) (captured_by m memory port port.read)) memory.ports) b d)
     (PublishesSinks net S (A_memory m ∷ []) a d) c.publish_captures.result c.publish_captures.ensures.left (λ reads.
     memory_done net S m c.requires.memory a b d c.in_ok-publish_writes.ensures.left reads)
 

@@ -8,4 +8,4 @@ pub returns-clause-more : goal.returns-clause-more
 returns-clause-more c = assigns_push
 
 pub returns-clause-same : goal.returns-clause-same
-returns-clause-same c spots others reads counts = assigns_same spots reads counts others
+returns-clause-same c locations others reads counts = assigns_same locations reads counts others

@@ -8,7 +8,7 @@ use Rattle.code_publish.specs.Publishing.{Publishes}
 use Rattle.sink_effects.specs.Effects.{register_shape}
 use Rattle.code_registers.specs.Telling.{PublishesSinks}
 use Rattle.code_registers.proofs.NextWords.{some_same, on_ok_so, one_register}
-use Rattle.flat_code.specs.Fine.{spot_slots}
+use Rattle.flat_code.specs.Fine.{location_slots}
 use Rattle.code_draft.specs.Segments.{Segment}
 use Rattle.code_emit.specs.Spans.{EvaluatesAll}
 use Rattle.code_registers.specs.Groups.{register_groups}
@@ -23,7 +23,7 @@ returns-clause-publishes c =
     let n = c.args.numbers.0 in
     let register = c.in-Some.register.now in
     let next = c.in_ok-next.next in
-    let s = c.in_ok-spot.spot in
+    let s = c.in_ok-location.location in
     let old = c.args.draft.now in
     let mid = c.emit.new.draft in
     let new = c.publish.new.draft in
@@ -33,7 +33,7 @@ returns-clause-publishes c =
     = subst (λ r. shape (next_ground r (driver_of net r.leaf)) table ≡ Some (register_shape net r)) same c.requires.shaped.shaped in
     let shaped : shape next table ≡ Some (register_shape net register) = ap (λ g. shape g table) c.in_ok-next.ensures.itself ∙ known in
     on_ok_so (Publishes mid new c.args.numbers.1 s) (PublishesSinks net S (A_register n ∷ []) old new) c.publish.result c.publish.ensures.publishes (λ publishes.
-    one_register net S n register next old mid new s c.args.numbers.1 found shaped c.in_ok-next.ensures.value c.in_ok-spot.ensures.shape c.in_ok-spot.ensures.emits publishes c.requires.word)
+    one_register net S n register next old mid new s c.args.numbers.1 found shaped c.in_ok-next.ensures.value c.in_ok-location.ensures.shape c.in_ok-location.ensures.emits publishes c.requires.word)
 
 pub returns-clause-evaluates : goal.returns-clause-evaluates
 returns-clause-evaluates c =
@@ -41,10 +41,10 @@ returns-clause-evaluates c =
     let S = c.args.sources.now in
     let n = c.args.numbers.0 in
     let register = c.in-Some.register.now in
-    let s = c.in_ok-spot.spot in
+    let s = c.in_ok-location.location in
     let old = c.args.draft.now in
     let mid = c.emit.new.draft in
     let new = c.publish.new.draft in
     let found : slice_get net.registers n ≡ Some register = sym c.in-Some.ensures.value in
-    on_ok_so (Segment mid new (spot_slots s) [] 0) (EvaluatesAll S (register_groups net n) old new) c.publish.result c.publish.ensures.segment (λ told.
-    register_evaluated net S n register c.in_ok-next.next old mid new s found c.in_ok-next.ensures.itself c.in_ok-spot.ensures.spans told)
+    on_ok_so (Segment mid new (location_slots s) [] 0) (EvaluatesAll S (register_groups net n) old new) c.publish.result c.publish.ensures.segment (λ told.
+    register_evaluated net S n register c.in_ok-next.next old mid new s found c.in_ok-next.ensures.itself c.in_ok-location.ensures.spans told)

@@ -13,7 +13,7 @@ returns-clause-table c =
     let x = c.args.leaf in
     let got : get_or drivers x c.in-Some-Some.field-0.now ≡ Some c.in-Some-Some.driver = sym c.in-Some-Some.ensures.lookup.1 ∙ c.in-Some-Some.field-0-is in
     let at : driver_in drivers x ≡ Some c.in-Some-Some.driver = driver_is drivers x c.in-Some-Some.field-0.now c.in-Some-Some.driver (sources_table S) got c.requires.in_turn in
-    subst (λ ls. Turned drivers x S (record { leaves = ls; memories = S.memories })) (sym c.set.ensures) (turned drivers x S c.in_ok-spot.spot c.in-Some-Some.driver c.requires.within at c.in_ok-spot.ensures.shape)
+    subst (λ ls. Turned drivers x S (record { leaves = ls; memories = S.memories })) (sym c.set.ensures) (turned drivers x S c.in_ok-location.location c.in-Some-Some.driver c.requires.within at c.in_ok-location.ensures.shape)
 
 pub returns-clause-assigns : goal.returns-clause-assigns
 returns-clause-assigns c =
@@ -25,13 +25,13 @@ returns-clause-assigns c =
     let got : get_or drivers x c.in-Some-Some.field-0.now ≡ Some c.in-Some-Some.driver = sym c.in-Some-Some.ensures.lookup.1 ∙ c.in-Some-Some.field-0-is in
     let at : driver_in drivers x ≡ Some c.in-Some-Some.driver = driver_is drivers x c.in-Some-Some.field-0.now c.in-Some-Some.driver (sources_table S) got c.requires.in_turn in
     subst (λ ls. Assigns drivers (x ∷ []) S old (record { leaves = ls; memories = S.memories }) new) (sym c.set.ensures)
-    (assigned drivers x S old new c.in_ok-spot.spot c.in-Some-Some.driver c.requires.within at c.in_ok-spot.ensures.emits)
+    (assigned drivers x S old new c.in_ok-location.location c.in-Some-Some.driver c.requires.within at c.in_ok-location.ensures.emits)
 
 pub returns-clause-others : goal.returns-clause-others
 returns-clause-others c =
     let S = c.args.sources.now in
     let x = c.args.leaf in
-    subst (λ ls. StandElsewhere (x ∷ []) S (record { leaves = ls; memories = S.memories })) (sym c.set.ensures) (elsewhere x S c.in_ok-spot.spot)
+    subst (λ ls. StandElsewhere (x ∷ []) S (record { leaves = ls; memories = S.memories })) (sym c.set.ensures) (elsewhere x S c.in_ok-location.location)
 
 pub returns-clause-segments : goal.returns-clause-segments
 returns-clause-segments c =
@@ -43,4 +43,4 @@ returns-clause-segments c =
     let got : get_or drivers x c.in-Some-Some.field-0.now ≡ Some c.in-Some-Some.driver = sym c.in-Some-Some.ensures.lookup.1 ∙ c.in-Some-Some.field-0-is in
     let at : driver_in drivers x ≡ Some c.in-Some-Some.driver = driver_is drivers x c.in-Some-Some.field-0.now c.in-Some-Some.driver (sources_table S) got c.requires.in_turn in
     subst (λ ls. AreSegments drivers (x ∷ []) S old (record { leaves = ls; memories = S.memories }) new) (sym c.set.ensures)
-    (one_segment drivers x S old new c.in_ok-spot.spot c.in-Some-Some.driver c.requires.within at c.in_ok-spot.ensures.spans)
+    (one_segment drivers x S old new c.in_ok-location.location c.in-Some-Some.driver c.requires.within at c.in_ok-location.ensures.spans)

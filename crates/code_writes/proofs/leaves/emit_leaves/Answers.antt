@@ -13,7 +13,7 @@ pub loop-leaf-init : goal.loop-leaf-init
 loop-leaf-init c =
     let S = c.args.sources.now in
     let d = c.args.draft.now in
-    let none : c.new-spots.result ≡ [] = c.new-spots.ensures in
+    let none : c.new-locations.result ≡ [] = c.new-locations.ensures in
     record { emits = subst (EmitsAll S [] d d) (sym none) (none_emitted S d); spans = subst (SpansAll S [] d d) (sym none) (none_spans S d) }
 
 pub loop-leaf-preserved : goal.loop-leaf-preserved
@@ -28,16 +28,16 @@ loop-leaf-preserved c =
     record {
       emits = subst (λ hs. EmitsAll S hs a e c.push.new.self) (sym (leaves_more xs k 0 c.loop-leaf-test.true))
           (subst (λ ss. EmitsAll S (gs ++ Leaf (get_or xs k 0) ∷ []) a e ss) (sym c.in_ok-push.ensures.ok)
-          (one_more_emitted S gs (Leaf (get_or xs k 0)) a b e c.loop-leaf.spots c.in_ok-spot.spot c.loop-leaf.invariant.emits c.in_ok-spot.ensures.emits));
+          (one_more_emitted S gs (Leaf (get_or xs k 0)) a b e c.loop-leaf.locations c.in_ok-location.location c.loop-leaf.invariant.emits c.in_ok-location.ensures.emits));
       spans = subst (λ hs. SpansAll S hs a e c.push.new.self) (sym (leaves_more xs k 0 c.loop-leaf-test.true))
           (subst (λ ss. SpansAll S (gs ++ Leaf (get_or xs k 0) ∷ []) a e ss) (sym c.in_ok-push.ensures.ok)
-          (one_more_spans S gs (Leaf (get_or xs k 0)) a b e c.loop-leaf.spots c.in_ok-spot.spot c.loop-leaf.invariant.spans c.in_ok-spot.ensures.spans));
+          (one_more_spans S gs (Leaf (get_or xs k 0)) a b e c.loop-leaf.locations c.in_ok-location.location c.loop-leaf.invariant.spans c.in_ok-location.ensures.spans));
     }
 
 pub returns-clause-emits : goal.returns-clause-emits
 returns-clause-emits c =
-    subst (λ ys. EmitsAll c.args.sources.now (map (λ (x : ℕ). Leaf x) ys) c.args.draft.now c.loop-leaf.draft c.loop-leaf.spots) (take_all c.loop-leaf.leaf-index c.args.leaves.now c.loop-leaf-test.false) c.loop-leaf.invariant.emits
+    subst (λ ys. EmitsAll c.args.sources.now (map (λ (x : ℕ). Leaf x) ys) c.args.draft.now c.loop-leaf.draft c.loop-leaf.locations) (take_all c.loop-leaf.leaf-index c.args.leaves.now c.loop-leaf-test.false) c.loop-leaf.invariant.emits
 
 pub returns-clause-spans : goal.returns-clause-spans
 returns-clause-spans c =
-    subst (λ ys. SpansAll c.args.sources.now (map (λ (x : ℕ). Leaf x) ys) c.args.draft.now c.loop-leaf.draft c.loop-leaf.spots) (take_all c.loop-leaf.leaf-index c.args.leaves.now c.loop-leaf-test.false) c.loop-leaf.invariant.spans
+    subst (λ ys. SpansAll c.args.sources.now (map (λ (x : ℕ). Leaf x) ys) c.args.draft.now c.loop-leaf.draft c.loop-leaf.locations) (take_all c.loop-leaf.leaf-index c.args.leaves.now c.loop-leaf-test.false) c.loop-leaf.invariant.spans

@@ -6,6 +6,6 @@ use Rattle.code_writes.proofs.leaves.emit_leaves.Given as goal
 
 abbrev pub invariant-loop-leaf : goal.invariant-loop-leaf
 invariant-loop-leaf l = record {
-  emits : EmitsAll l.sources (map (λ x. Leaf x) (take l.leaf-index l.leaves)) l.fn.draft l.draft l.spots;
-  spans : SpansAll l.sources (map (λ x. Leaf x) (take l.leaf-index l.leaves)) l.fn.draft l.draft l.spots;
+  emits : EmitsAll l.sources (map (λ x. Leaf x) (take l.leaf-index l.leaves)) l.fn.draft l.draft l.locations;
+  spans : SpansAll l.sources (map (λ x. Leaf x) (take l.leaf-index l.leaves)) l.fn.draft l.draft l.locations;
 }

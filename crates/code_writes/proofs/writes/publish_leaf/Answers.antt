@@ -43,7 +43,7 @@ returns-clause-left c =
     let xs = c.as_slice.result.now in
     on_ok_so ((n : Net) → TellsTarget n S target xs a b)
     ((memory : NetMemory) (port : NetPort) (leaf : ElementLeaf) → slice_get net.memories m ≡ Some memory → slice_get memory.ports p ≡ Some port → slice_get memory.elements k ≡ Some leaf
-    → PublishesLeft net S (λ st sight. leaf_told net m memory (shown sight port) (k, element_shape leaf)) a b)
+    → PublishesLeft net S (λ st instant. leaf_told net m memory (shown instant port) (k, element_shape leaf)) a b)
     c.publish_target.result c.publish_target.ensures.tells (λ told.
     leaf_done c.args.at.memory.net.now c.args.at.memory.sources.now c.args.at.memory.number c.memory_of.result.now c.memory_of.ensures c.args.at.port c.port_of-port.result.now c.port_of-port.ensures c.requires.net c.requires.memory c.args.at.leaf c.in-Some.write c.in-Some-get.mask.now c.in-Some-get-2.source.now c.in-Some.is (sym c.in-Some-get.ensures.value) (sym c.in-Some-get-2.ensures.value) target xs a b refl refl c.region_of.ensures (c.as_slice.ensures ∙ c.in_ok-conditions.ensures) (told net))
 

@@ -13,6 +13,6 @@ use Rattle.code_writes.proofs.writes.publish_port.Given as goal
 abbrev pub invariant-loop-leaf : goal.invariant-loop-leaf
 invariant-loop-leaf l = record {
   left : (memory : NetMemory) (port : NetPort) → slice_get l.at.memory.net.now.memories l.at.memory.number ≡ Some memory → slice_get memory.ports l.at.port ≡ Some port
-      → PublishesLeft l.at.memory.net.now l.at.memory.sources.now (λ st sight. flat_map (leaf_told l.at.memory.net.now l.at.memory.number memory (shown sight port)) (take l.leaf (numbered (element_shapes memory)))) l.fn.draft l.draft;
+      → PublishesLeft l.at.memory.net.now l.at.memory.sources.now (λ st instant. flat_map (leaf_told l.at.memory.net.now l.at.memory.number memory (shown instant port)) (take l.leaf (numbered (element_shapes memory)))) l.fn.draft l.draft;
   evaluates : EvaluatesOnly l.at.memory.sources.now (IsWriteGroup l.at.memory.net.now l.at.memory.number) l.fn.draft l.draft;
 }

@@ -8,6 +8,6 @@ use Rattle.code_writes.proofs.writes.publish_writes.Given as goal
 
 abbrev pub invariant-loop-port : goal.invariant-loop-port
 invariant-loop-port l = record {
-  left : (memory : NetMemory) → slice_get l.at.net.now.memories l.at.number ≡ Some memory → PublishesLeft l.at.net.now l.at.sources.now (λ st sight. flat_map (port_told l.at.net.now sight l.at.number memory) (take l.port memory.ports)) l.fn.draft l.draft;
+  left : (memory : NetMemory) → slice_get l.at.net.now.memories l.at.number ≡ Some memory → PublishesLeft l.at.net.now l.at.sources.now (λ st instant. flat_map (port_told l.at.net.now instant l.at.number memory) (take l.port memory.ports)) l.fn.draft l.draft;
   evaluates : EvaluatesOnly l.at.sources.now (IsWriteGroup l.at.net.now l.at.number) l.fn.draft l.draft;
 }

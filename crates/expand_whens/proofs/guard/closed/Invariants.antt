@@ -9,7 +9,7 @@ use Rattle.expand_whens.proofs.guard.closed.Given as goal
 
 abbrev pub invariant-loop-condition : goal.invariant-loop-condition
 invariant-loop-condition l = (done : List Ground) × (l.fn.part.accepted.items ≡ l.accepted.items ++ done)
-    × IsBit (λ sight. none_hold sight l.fn.part.refused.items && all_hold sight done) (joined (map mentions l.fn.part.refused.items) ++ joined (map mentions done))
+    × IsBit (λ instant. none_hold instant l.fn.part.refused.items && all_hold instant done) (joined (map mentions l.fn.part.refused.items) ++ joined (map mentions done))
     (λ table. list_all (is_condition table) l.fn.part.refused.items && list_all (is_condition table) done) l.guard
 
 abbrev pub decreases-loop-condition : goal.decreases-loop-condition

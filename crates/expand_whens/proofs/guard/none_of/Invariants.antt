@@ -10,7 +10,7 @@ use Rattle.expand_whens.proofs.guard.none_of.Given as goal
 
 abbrev pub invariant-loop-condition : goal.invariant-loop-condition
 invariant-loop-condition l = (done : List Ground) × (l.fn.refused.items ≡ l.refused.items ++ done)
-    × IsBit (λ sight. none_hold sight done) (joined (map mentions done)) (λ table. list_all (is_condition table) done) (Mux (reverse l.items.items))
+    × IsBit (λ instant. none_hold instant done) (joined (map mentions done)) (λ table. list_all (is_condition table) done) (Mux (reverse l.items.items))
 
 abbrev pub decreases-loop-condition : goal.decreases-loop-condition
 decreases-loop-condition l = length l.refused.items

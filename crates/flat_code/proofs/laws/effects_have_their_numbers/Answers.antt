@@ -1,6 +1,6 @@
 use Rattle.std.proofs.Common.{◌∙◌, sym, arith}
 use Rattle.std.proofs.lemmas.List.{length-map}
-use Rattle.flat_code.specs.Meaning.{spot_value, ran}
+use Rattle.flat_code.specs.Meaning.{location_value, ran}
 use Rattle.flat_code.specs.Codes.{zeros}
 use Rattle.flat_code.proofs.Frames.{published_few}
 use Rattle.flat_code.proofs.laws.effects_have_their_numbers.Goals as goal
@@ -12,4 +12,4 @@ returns-clause-publications c = λ code words inputs.
     omega (arith, few, most)
 
 pub returns-clause-outputs : goal.returns-clause-outputs
-returns-clause-outputs c = λ code words inputs. length-map code.shown (spot_value (ran code.wides code.instrs words inputs (zeros code))) ∙ sym code.each_shown
+returns-clause-outputs c = λ code words inputs. length-map code.shown (location_value (ran code.wides code.instrs words inputs (zeros code))) ∙ sym code.each_shown

@@ -13,9 +13,9 @@ returns-then-after-clause-value c =
     let memory = c.args.memory.now in
     let port = c.args.port.now in
     IfOk-weaker c.after_ground.result _ _
-    (λ g is table sight held read has shapes shows reads.
-    ap (λ x. integer_of (value x sight)) (is c.depth_value-depth.ensures.value ∙ sym (ap (captured_ground memory port c.args.of) c.if-after.true))
-    ∙ captured_value sight table memory port c.args.of held read has shapes shows reads c.args.after c.depth_value-depth.ensures.bound)
+    (λ g is table instant held read has shapes shows reads.
+    ap (λ x. integer_of (value x instant)) (is c.depth_value-depth.ensures.value ∙ sym (ap (captured_ground memory port c.args.of) c.if-after.true))
+    ∙ captured_value instant table memory port c.args.of held read has shapes shows reads c.args.after c.depth_value-depth.ensures.bound)
     c.after_ground.ensures
 
 pub returns-then-after-clause-shape : goal.returns-then-after-clause-shape
@@ -32,9 +32,9 @@ returns-else-after-clause-value c =
     let memory = c.args.memory.now in
     let port = c.args.port.now in
     IfOk-weaker c.before-else-after.result _ _
-    (λ g is table sight held read has shapes shows reads.
-    ap (λ x. integer_of (value x sight)) (is ∙ sym (ap (captured_ground memory port c.args.of) c.if-after.false))
-    ∙ captured_value sight table memory port c.args.of held read has shapes shows reads c.args.after c.depth_value-depth.ensures.bound)
+    (λ g is table instant held read has shapes shows reads.
+    ap (λ x. integer_of (value x instant)) (is ∙ sym (ap (captured_ground memory port c.args.of) c.if-after.false))
+    ∙ captured_value instant table memory port c.args.of held read has shapes shows reads c.args.after c.depth_value-depth.ensures.bound)
     c.before-else-after.ensures
 
 pub returns-else-after-clause-shape : goal.returns-else-after-clause-shape

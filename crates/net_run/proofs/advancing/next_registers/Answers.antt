@@ -41,12 +41,12 @@ next_held-requires-clause-init c =
 pub loop-number-preserved : goal.loop-number-preserved
 loop-number-preserved c =
     let net = c.args.cycle.now.net.now in
-    let sight = seen net c.args.cycle.now.values.now c.args.cycle.now.contents.now in
+    let instant = seen net c.args.cycle.now.values.now c.args.cycle.now.contents.now in
     let xs = c.as_slice-registers.result.now in
     let i = c.loop-number.number in
     let register = c.index-registers-number.result in
     let test = c.loop-number-test.true in
     let below : i < length xs = omega (arith, test) in
     let there : slice_get net.registers i ≡ Some register = ap (λ l. slice_get l i) (sym c.as_slice-registers.ensures) ∙ (slice_get-get_or xs i register below ∙ ap Some (sym c.index-registers-number.is)) in
-    next_more net sight c.args.held.now i register c.loop-number.values.items c.push.new.self.items c.next_held.result c.loop-number.invariant there
-    (c.next_held.ensures ∙ ap (λ v. next_value net sight register v) c.held_at.ensures) c.in_ok-push.ensures.items
+    next_more net instant c.args.held.now i register c.loop-number.values.items c.push.new.self.items c.next_held.result c.loop-number.invariant there
+    (c.next_held.ensures ∙ ap (λ v. next_value net instant register v) c.held_at.ensures) c.in_ok-push.ensures.items

@@ -7,7 +7,7 @@ use Rattle.next_grounds.proofs.NextValues.{next_value, next_shape}
 use Rattle.next_grounds.proofs.registers.next_ground.Goals as goal
 
 pub returns-clause-value : goal.returns-clause-value
-returns-clause-value c = λ sight held e. ap (λ g. integer_of (value g sight)) c.in_ok-next.ensures ∙ next_value c.args.net.now c.args.register.now sight held e
+returns-clause-value c = λ instant held e. ap (λ g. integer_of (value g instant)) c.in_ok-next.ensures ∙ next_value c.args.net.now c.args.register.now instant held e
 
 pub returns-clause-shape : goal.returns-clause-shape
 returns-clause-shape c = λ n w e. ap (λ g. shape g (table_of c.args.net.now)) c.in_ok-next.ensures ∙ next_shape c.args.net.now c.args.register.now n w e

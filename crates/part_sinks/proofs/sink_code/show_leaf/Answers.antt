@@ -16,9 +16,9 @@ returns-clause-adds c =
     let net = c.args.work.now.plan.now.net.now in
     let watch = c.args.work.now.plan.now.watch.now in
     let place = watched_place net watch c.args.number c.args.leaf c.requires.there in
-    watched_adds net watch c.args.work.now.sources.now c.args.number c.args.leaf _ _ c.in_ok-spot.spot place.0 place.1 c.requires.ready.0 c.requires.ready.1 c.in_ok-spot.ensures.emits c.in_ok-push.ensures.ok c.in_ok-push-2.ensures.ok refl
+    watched_adds net watch c.args.work.now.sources.now c.args.number c.args.leaf _ _ c.in_ok-location.location place.0 place.1 c.requires.ready.0 c.requires.ready.1 c.in_ok-location.ensures.emits c.in_ok-push.ensures.ok c.in_ok-push-2.ensures.ok refl
 
 pub returns-clause-shows : goal.returns-clause-shows
 returns-clause-shows c = λ t at.
-    let h = c.in_ok-spot.ensures.stands c.args.leaf t refl at in
+    let h = c.in_ok-location.ensures.stands c.args.leaf t refl at in
     (h.1, c.in_ok-push.ensures.ok ∙ ap (λ s. c.args.made.now.shown ++ s ∷ []) h.0)

@@ -2,4 +2,4 @@ use Rattle.split_laws.proofs.Parts.{left_by_sink}
 use Rattle.split_laws.proofs.laws.words_are_left_by_their_sinks.Goals as goal
 
 pub returns : goal.returns
-returns c = λ ordered watch parts state sight i s words w split has. left_by_sink ordered w watch parts split state sight i s has words
+returns c = λ ordered watch parts state instant i s words w split has. left_by_sink ordered w watch parts split state instant i s has words

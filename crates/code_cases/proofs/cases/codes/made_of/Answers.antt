@@ -1,6 +1,6 @@
 use Rattle.std.proofs.Common.{◌∙◌, ℕ, List, length, arith, subst, sym, ap, All}
-use Rattle.flat_code.specs.declared.instr.Spot.{Spot}
-use Rattle.flat_code.specs.Fine.{IsSpot, IsPort, IsWide, ShownLast, nothing}
+use Rattle.flat_code.specs.declared.instr.Location.{Location}
+use Rattle.flat_code.specs.Fine.{IsLocation, IsPort, IsWide, ShownLast, nothing}
 use Rattle.flat_code.proofs.Solving.{ready_if_single}
 use Rattle.hand_codes.proofs.Pushing.{pushes_few}
 use Rattle.code_cases.proofs.Building.{single_now, fine_now}
@@ -21,8 +21,8 @@ invariant_of-result c =
       in_order = ready_if_single nothing ports wides instrs single;
       ports_fine = subst (All (IsPort n m)) (sym c.new.ensures) (λ k d lt. absurd (omega arith));
       wides_fine = subst (All (IsWide n m)) (sym c.new-2.ensures) (λ k d lt. absurd (omega arith));
-      shown_fine = subst (All (IsSpot n)) (sym c.new-3.ensures) (λ k d lt. absurd (omega arith));
+      shown_fine = subst (All (IsLocation n)) (sym c.new-3.ensures) (λ k d lt. absurd (omega arith));
       shown_last = subst (λ x. ShownLast wides x instrs) (sym c.new-3.ensures) (λ k d lt. absurd (omega arith));
-      each_shown = ap (λ (x : List ℕ). length x) c.new-4.ensures ∙ sym (ap (λ (x : List Spot). length x) c.new-3.ensures);
+      each_shown = ap (λ (x : List ℕ). length x) c.new-4.ensures ∙ sym (ap (λ (x : List Location). length x) c.new-3.ensures);
       at_most = omega (arith, few, count);
     }
