@@ -21,8 +21,8 @@ use Rattle.lowering_laws.proofs.Driving.{must, driven_source, driven_register, l
 use Rattle.lowering_laws.proofs.Whole.{Setting, spots, placed, match, lists, leaves_counted, leaf_at, driver_at}
 use Rattle.lowering_laws.proofs.Whole as whole
 use Rattle.lowering_laws.proofs.Stores.{elements, elements_counted}
-use Rattle.read_laws.proofs.Nets as nets
-use Rattle.read_laws.proofs.Clauses as clauses
+use Rattle.lowering_laws.proofs.Nets as nets
+use Rattle.lowering_laws.proofs.Clauses as clauses
 use Rattle.assembly_laws.proofs.Showing.{shows}
 use Rattle.assembly_laws.proofs.Roles.{part_at}
 use Rattle.assembly_laws.proofs.Mains.{ports_are}

@@ -17,7 +17,7 @@ use Rattle.net_of_circuit.specs.FlatOrder.{Standing, flat_of}
 use Rattle.memory_ports.specs.Placing.{IsPlaced, driver_for, own_driver}
 use Rattle.lowering_laws.proofs.Heights.{none_some}
 use Rattle.lowering_laws.proofs.Whole.{Setting, design, leaf_at}
-use Rattle.read_laws.proofs.Drivers.{all, driven_source, entry_here}
+use Rattle.lowering_laws.proofs.Drivers.{all, driven_source, entry_here}
 use Rattle.assembly_laws.proofs.Showing.{ShowsData, nothing, what_is_read, shows_data}
 
 -- a driver where no read data are shown is the flat circuit's

@@ -1,3 +1,14 @@
+pub mod Tables
+pub mod Origins
+pub mod Shaped
+pub mod Firsts
+pub mod ListPlaces
+pub mod Registering
+pub mod Bundles
+pub mod Stored
+pub mod PortsSound
+pub mod Rising
+pub mod Driven
 pub mod PortLeaves
 pub mod Lists
 pub mod Naming

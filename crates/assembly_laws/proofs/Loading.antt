@@ -38,15 +38,15 @@ use Rattle.net_laws.proofs.Numbers.{valuation_at}
 use Rattle.memory_ports.specs.declared.reads.ReadData.{ReadData}
 use Rattle.memory_ports.specs.declared.reads.ReadData.TheVariants as read_data
 use Rattle.memory_ports.specs.Placing.{IsPlaced, load_of, driver_for, own_driver, without_word}
-use Rattle.design_laws.proofs.Lists.{below_length, map_at}
+use Rattle.net_laws.proofs.Lists.{below_length, map_at}
 use Rattle.lowering_laws.proofs.Heights.{some_same}
 use Rattle.lowering_laws.proofs.Parts.{item}
 use Rattle.lowering_laws.proofs.Matching.{map_counted}
 use Rattle.lowering_laws.proofs.Whole.{Setting, design, texts, placed, lists, leaf_at}
 use Rattle.lowering_laws.proofs.Stores.{elements, memories_counted, memories_are}
-use Rattle.read_laws.proofs.Drivers.{all, role_is}
-use Rattle.read_laws.proofs.Reading.{plain_role}
-use Rattle.read_laws.proofs.Loads.{memory_same}
+use Rattle.lowering_laws.proofs.Drivers.{all, role_is}
+use Rattle.lowering_laws.proofs.Reading.{plain_role}
+use Rattle.lowering_laws.proofs.Loads.{memory_same}
 use Rattle.assembly_laws.proofs.Showing.{ReadOf, ShowsData, nothing, what_is_read, shows_data, is_load}
 
 -- what loads are

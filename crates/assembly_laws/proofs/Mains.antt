@@ -15,10 +15,10 @@ use Rattle.net_of_circuit.specs.FlatOrder.{Placed, InFlatOrder, no_more, one_mor
 use Rattle.net_of_circuit.specs.NetOf.{is_of_port, is_of_main}
 use Rattle.net_laws.proofs.Rows.{begins, all_of_append}
 use Rattle.memory_ports.specs.Placing.{IsPlaced}
-use Rattle.design_laws.proofs.Standing.{within}
+use Rattle.net_laws.proofs.Standing.{within}
 use Rattle.lowering_laws.proofs.Matching.{leads_known, port_size, length_append}
 use Rattle.lowering_laws.proofs.Whole.{Setting}
-use Rattle.read_laws.proofs.Drivers.{all}
+use Rattle.lowering_laws.proofs.Drivers.{all}
 
 filter_none : {A : Type 0} (test : A → Bool) (xs : List A) → ((k : ℕ) (x : A) → slice_get xs k ≡ Some x → test x ≡ false) → filter test xs ≡ []
 filter_none test [] h = refl

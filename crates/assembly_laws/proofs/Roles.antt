@@ -15,7 +15,7 @@ use Rattle.ground_net.specs.declared.net.Net.{Net}
 use Rattle.net_of_circuit.specs.FlatOrder.{Standing}
 use Rattle.net_of_circuit.specs.NetOf.{Part, Given, Without_value, Held, Kept, Driven, part_of_role, part_of, is_input_of_main, is_late_read}
 use Rattle.net_laws.proofs.Seen.{part_is, port_late}
-use Rattle.ground_of_circuit.specs.Numbers.{role_of}
+use Rattle.net_of_circuit.specs.Numbers.{role_of}
 use Rattle.flatten_instances.specs.Flat.{role_at, is_input}
 use Rattle.memory_ports.specs.declared.reads.ReadData.{ReadData}
 use Rattle.memory_ports.specs.Placing.{IsPlaced, data_in, role_behind, parts_of}
@@ -23,8 +23,8 @@ use Rattle.memory_ports.specs.Placing as placing
 use Rattle.lowering_laws.proofs.Heights.{some_same}
 use Rattle.lowering_laws.proofs.Matching.{at_main, behind}
 use Rattle.lowering_laws.proofs.Whole.{Setting, Way, leaf_at}
-use Rattle.read_laws.proofs.Drivers.{all, role_is}
-use Rattle.read_laws.proofs.Nets.{shown_at}
+use Rattle.lowering_laws.proofs.Drivers.{all, role_is}
+use Rattle.lowering_laws.proofs.Nets.{shown_at}
 use Rattle.assembly_laws.proofs.Showing.{ShowsData, nothing, what_is_read, shows_data, is_load, is_late, equal_zero}
 
 abbrev as_part : placing.Part → Part

@@ -25,15 +25,15 @@ use Rattle.net_of_circuit.specs.NetOf.{NameAll, IsPortOf, IsMemoryOf, may_read, 
 use Rattle.memory_ports.specs.declared.reads.ReadData.{ReadData}
 use Rattle.memory_ports.specs.declared.reads.ReadData.TheVariants as read_data
 use Rattle.memory_ports.specs.Placing.{data_of, load_of, data_in, reads_of, last_data, IsRead}
-use Rattle.design_laws.proofs.Lists.{in_list, place_of, below_length}
-use Rattle.design_laws.proofs.Standing.{Within, within}
+use Rattle.net_laws.proofs.Lists.{in_list, place_of, below_length}
+use Rattle.net_laws.proofs.Standing.{Within, within}
 use Rattle.lowering_laws.proofs.Heights.{some_same, none_some}
 use Rattle.lowering_laws.proofs.Parts.{item}
 use Rattle.lowering_laws.proofs.Whole.{Setting, design, texts, placed, lists, leaves_counted}
 use Rattle.lowering_laws.proofs.Stores.{elements, elements_counted, memories_counted, memories_are}
-use Rattle.read_laws.proofs.Drivers.{all}
-use Rattle.read_laws.proofs.Clauses as clauses
-use Rattle.read_laws.proofs.Clauses.{no_read, late_read, load_read}
+use Rattle.lowering_laws.proofs.Drivers.{all}
+use Rattle.lowering_laws.proofs.Clauses as clauses
+use Rattle.lowering_laws.proofs.Clauses.{no_read, late_read, load_read}
 use Rattle.assembly_laws.proofs.PortLeaves.{in_filter_map, data_leaf, ReadLeaf, read_leaf_there, read_leaf_is}
 use Rattle.assembly_laws.proofs.Naming.{Origin, data_there, shown_from, not_named}
 

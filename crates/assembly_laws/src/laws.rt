@@ -12,7 +12,7 @@ ghost use Rattle.net_meaning.specs.Nets.{IsNet};
 ghost use Rattle.expand_whens.specs.Expanding.{IsExpanded};
 ghost use Rattle.net_of_circuit.specs.NetOf.{IsNetOf};
 ghost use Rattle.net_laws.specs.Serves.{Serves};
-ghost use Rattle.ground_of_circuit.specs.Lowering.{IsGroundOf};
+ghost use Rattle.net_of_circuit.specs.Lowering.{IsGroundOf};
 ghost use Rattle.flatten_instances.specs.Flat.{IsFlat};
 ghost use Rattle.memory_ports.specs.Placing.{IsPlaced};
 

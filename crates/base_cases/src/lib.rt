@@ -4,3 +4,8 @@
 
 #[cfg(test)]
 mod cases;
+pub mod hand_codes;
+pub mod hand_nets;
+
+pub use hand_codes::{WordList, repeated};
+pub use hand_nets::{choice, leaf_at, module_alone};

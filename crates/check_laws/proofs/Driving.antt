@@ -10,10 +10,10 @@ use Rattle.fir_types.specs.Equivalence.{Equivalent}
 use Rattle.fir_types.proofs.Masks.{straight}
 use Rattle.fir_types.proofs.Ways.{same_ways}
 use Rattle.fir_tree.specs.declared.expr.Expr.{Expr}
-use Rattle.circuit_parts.specs.declared.part.Flow.{Flow}
-use Rattle.circuit_parts.specs.declared.part.Flow.TheVariants.{Source, Sink, Duplex}
-use Rattle.circuit_parts.specs.declared.part.Part.{Part}
-use Rattle.circuit_parts.specs.Parts.{flow_through}
+use Rattle.fir_tree.specs.declared.part.Flow.{Flow}
+use Rattle.fir_tree.specs.declared.part.Flow.TheVariants.{Source, Sink, Duplex}
+use Rattle.fir_tree.specs.declared.part.Part.{Part}
+use Rattle.fir_tree.specs.Parts.{flow_through}
 use Rattle.type_check.specs.declared.fault.TypeFault.TheVariants.{NotEquivalent, FlowSink, FlowSource}
 use Rattle.type_check.specs.Parts.{Known, where_typed}
 use Rattle.type_check.specs.Texts.{are_equivalent}

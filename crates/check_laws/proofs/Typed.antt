@@ -8,7 +8,7 @@ use Rattle.fir_types.specs.declared.fir_type.FirType.{FirType}
 use Rattle.fir_tree.specs.declared.expr.Expr.{Expr}
 use Rattle.fir_tree.specs.declared.expr.Suffix.{Suffix}
 use Rattle.fir_tree.specs.declared.expr.Suffix.TheVariants as suffix
-use Rattle.circuit_parts.specs.declared.part.Part.{Part}
+use Rattle.fir_tree.specs.declared.part.Part.{Part}
 use Rattle.type_check.specs.Parts.{Known}
 use Rattle.type_check.specs.Expressions.{found_of}
 use Rattle.check_laws.specs.Typing.{IsPart, HaveTypes, no_operands as none_have, one_operand as one_has}

@@ -1,9 +1,9 @@
 -- Which leaf a connect drives, and its flow (FIRRTL specification 3.0, "Connects", "Flows").
 use Rattle.std.specs.Prelude.{if◌then◌else◌}
 use Rattle.fir_types.specs.declared.leaf.TypeLeaf.{TypeLeaf}
-use Rattle.circuit_parts.specs.declared.part.Flow.{Flow}
-use Rattle.circuit_parts.specs.declared.part.Part.{Part}
-use Rattle.circuit_parts.specs.Parts.{flow_through}
+use Rattle.fir_tree.specs.declared.part.Flow.{Flow}
+use Rattle.fir_tree.specs.declared.part.Part.{Part}
+use Rattle.fir_tree.specs.Parts.{flow_through}
 
 -- the flow of a leaf of a part: one that is turned round in the part's type turns the part's flow round
 abbrev pub leaf_flow : Part → TypeLeaf → Flow

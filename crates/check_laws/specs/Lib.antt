@@ -3,3 +3,10 @@ pub mod Driving
 pub mod Blocks
 pub mod Faults
 pub mod Nodes
+pub mod CircuitNodes
+pub mod Conditions
+pub mod GroundKinds
+pub mod DoubledFields
+pub mod Paths
+pub mod Meant
+pub mod References

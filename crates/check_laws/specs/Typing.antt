@@ -17,9 +17,9 @@ use Rattle.fir_tree.specs.declared.expr.Expr.{Expr}
 use Rattle.fir_tree.specs.declared.expr.Suffix.{Suffix}
 use Rattle.fir_tree.specs.declared.expr.Form.TheVariants as form
 use Rattle.fir_tree.specs.declared.expr.Suffix.TheVariants as suffix
-use Rattle.circuit_parts.specs.declared.part.Part.{Part}
-use Rattle.circuit_parts.specs.Parts.{part_of, source_of, flow_through}
-use Rattle.circuit_parts.specs.Kinds.{ground}
+use Rattle.fir_tree.specs.declared.part.Part.{Part}
+use Rattle.fir_tree.specs.Parts.{part_of, source_of, flow_through}
+use Rattle.fir_tree.specs.Kinds.{ground}
 use Rattle.type_check.specs.Parts.{Known, component}
 use Rattle.type_check.specs.Texts.{has_signal}
 use Rattle.type_check.specs.Expressions.{fits_literal, sign_for, result_type}

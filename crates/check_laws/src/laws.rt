@@ -13,7 +13,7 @@ ghost use Rattle.fir_tree.specs.declared.circuit.Module.{Module as AModule};
 ghost use Rattle.check_laws.specs.Blocks.{Declares};
 ghost use Rattle.fir_tree.specs.declared.expr.Expr.{Expr as AnExpr};
 ghost use Rattle.fir_types.specs.declared.fir_type.FirType.{FirType as TheType};
-ghost use Rattle.circuit_parts.specs.declared.part.Part.{Part as APart};
+ghost use Rattle.fir_tree.specs.declared.part.Part.{Part as APart};
 ghost use Rattle.type_check.specs.Parts.{Known};
 ghost use Rattle.type_check.specs.Expressions.{found_of, Has};
 ghost use Rattle.check_laws.specs.Typing.{IsPart, HaveTypes};
@@ -23,7 +23,7 @@ ghost use Rattle.std.specs.Prelude.{List};
 ghost use Rattle.check_laws.specs.Nodes.{NodesOf, ListTypes};
 ghost use Rattle.fir_types.specs.declared.leaf.TypeLeaf.{TypeLeaf as ALeaf};
 ghost use Rattle.fir_types.specs.Leaves.{leaves, way_of};
-ghost use Rattle.circuit_parts.specs.declared.part.Flow.TheVariants.{Source as source_flow};
+ghost use Rattle.fir_tree.specs.declared.part.Flow.TheVariants.{Source as source_flow};
 ghost use Rattle.type_check.specs.Statements.{connects};
 ghost use Rattle.check_laws.specs.Driving.{driven_flow};
 

@@ -19,7 +19,7 @@ use Rattle.fir_types.specs.declared.leaf.PathStep.{PathStep}
 use Rattle.fir_types.specs.declared.leaf.PathStep.TheVariants as step
 use Rattle.fir_types.specs.Leaves.{leaves, field_leaves, elements, under}
 use Rattle.fir_types.proofs.Layers.{leaves-bundle, leaves-vector, leaves-field}
-use Rattle.circuit_parts.proofs.Shapes.{ShapeCase, shape_uint, shape_sint, shape_clock, shape_reset, shape_async, shape_bundle, shape_vector, case_of}
+use Rattle.fir_tree.proofs.Shapes.{ShapeCase, shape_uint, shape_sint, shape_clock, shape_reset, shape_async, shape_bundle, shape_vector, case_of}
 use Rattle.fir_meaning.specs.Components.{width_of_leaf}
 use Rattle.fir_meaning.specs.Values.{field_of_shape, element_of_shape, length_of_shape, vector_length}
 use Rattle.fir_meaning.specs.WellTyped.{is_narrow, narrow_layer}

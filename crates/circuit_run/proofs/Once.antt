@@ -3,7 +3,7 @@ use Rattle.std.proofs.Common.{◌≡◌, ℕ, ◌≤◌, List, [], ◌∷◌, �
 use Rattle.std.specs.List.{flat_map, enumerate_from, AllZip}
 use native.Mathlib.Bridge.{le_prop}
 use Rattle.bit_words.specs.declared.value.Kind.{Kind}
-use Rattle.leaf_names.specs.LeafNames.{Texts}
+use Rattle.fir_tree.specs.LeafNames.{Texts}
 use Rattle.fir_meaning.specs.Components.{Design}
 use Rattle.fir_meaning.specs.States.{first_state}
 use Rattle.fir_meaning.proofs.Settling.{state_itself}

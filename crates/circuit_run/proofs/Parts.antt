@@ -8,7 +8,7 @@ use Rattle.std.proofs.lemmas.List.Concat.{flat_map-cons}
 use Rattle.fir_types.specs.declared.fir_type.FirType.{FirType}
 use Rattle.fir_types.specs.declared.leaf.TypeLeaf.{TypeLeaf}
 use Rattle.fir_types.specs.Leaves.{leaves}
-use Rattle.leaf_names.specs.LeafNames.{Texts, leaf_text}
+use Rattle.fir_tree.specs.LeafNames.{Texts, leaf_text}
 use Rattle.fir_meaning.specs.Components.{Design, TypedModule, Component, is_clock, flow_of, module_named}
 use Rattle.fir_meaning.specs.States.{is_port, is_source}
 use Rattle.fir_meaning.proofs.Settling.{port_target}

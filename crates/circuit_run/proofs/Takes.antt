@@ -17,7 +17,7 @@ use Rattle.fir_types.specs.Leaves.{leaves, under, way_of}
 use Rattle.fir_types.specs.Memories.{depth_of}
 use Rattle.fir_types.specs.Bundles.{nowhere, addr_name, en_name, clk_name, wmode_name, plain_field, uint_at, clock_at, address_bits, fields_of_mode, port_type, port_field, mask_of}
 use Rattle.fir_types.proofs.Masks.{masked}
-use Rattle.leaf_names.specs.LeafNames.{Texts}
+use Rattle.fir_tree.specs.LeafNames.{Texts}
 use Rattle.fir_meaning.specs.Components.{Design, TypedModule, Component, FlatLeaf, A_memory, flat, flat_through, target_in, ports_bundle}
 use Rattle.fir_meaning.specs.MemoryPorts.{MemoryPort, memory_ports, port_named, written_field, mask_field}
 use Rattle.fir_meaning.specs.States.{Stands, IsLeafOf, leaf_of, is_register}

@@ -4,7 +4,7 @@ use Rattle.std.specs.Prelude.{◌≡◌, ℕ, ◌&&◌, not, Bool, List, [], map
 use Rattle.std.specs.List.{AllZip, enumerate_from}
 use Rattle.fir_types.specs.declared.leaf.TypeLeaf.{TypeLeaf}
 use Rattle.fir_types.specs.Leaves.{leaves}
-use Rattle.leaf_names.specs.LeafNames.{Texts, leaf_text}
+use Rattle.fir_tree.specs.LeafNames.{Texts, leaf_text}
 use Rattle.fir_meaning.specs.Components.{Design, TypedModule, Component, flow_of, is_clock, kind_of_leaf, width_of_leaf, module_named}
 use Rattle.fir_meaning.specs.States.{is_port, is_source}
 use Rattle.ground_net.specs.declared.net.PortLeaf.{PortLeaf}

@@ -4,7 +4,7 @@ use Rattle.std.specs.List.{range_with_len, enumerate_from}
 use Rattle.bit_words.specs.Values.{integer_of}
 use Rattle.bit_words.specs.Decimals.{decimal_text}
 use Rattle.fir_types.specs.declared.leaf.PathStep.{PathStep}
-use Rattle.leaf_names.specs.LeafNames.{Texts}
+use Rattle.fir_tree.specs.LeafNames.{Texts}
 use Rattle.fir_meaning.specs.Components.{Design}
 use Rattle.fir_meaning.specs.Drives.{same_way}
 use Rattle.fir_meaning.specs.States.{Inputs, Trace, first_state}

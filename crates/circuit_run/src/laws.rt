@@ -4,7 +4,7 @@ ghost use Rattle.std.specs.Prelude.{◌≡◌, ℕ, List, ◌∷◌, [], codes, 
 ghost use Rattle.bit_words.specs.declared.value.Value.{Value as OneValue};
 ghost use Rattle.bit_words.specs.Values.{integer_of};
 ghost use Rattle.fir_types.specs.declared.leaf.PathStep.{PathStep as OneStep};
-ghost use Rattle.leaf_names.specs.LeafNames.{Texts};
+ghost use Rattle.fir_tree.specs.LeafNames.{Texts};
 ghost use Rattle.fir_meaning.specs.Components.{Design};
 ghost use Rattle.fir_meaning.specs.States.{State, Inputs, HasOneSettled};
 ghost use Rattle.ground_net.specs.declared.net.Net.{Net as TheNet};

@@ -2,7 +2,7 @@
 
 ghost use Rattle.std.specs.Prelude.{◌≡◌, ◌≢◌, ℕ, List, Err, OnOk, OnErr, take};
 ghost use Rattle.shelf_io.specs.Outside.{Appends, Rose};
-ghost use Rattle.leaf_names.specs.LeafNames.{Texts};
+ghost use Rattle.fir_tree.specs.LeafNames.{Texts};
 ghost use Rattle.fir_meaning.specs.Components.{Design};
 ghost use Rattle.ground_net.specs.Reads.{IsOrder};
 ghost use Rattle.ground_net.specs.Watching.{inputs, watched};

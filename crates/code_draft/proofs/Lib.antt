@@ -9,3 +9,5 @@ pub mod Running
 pub mod Segmenting
 pub mod Joining
 pub mod Stepping
+pub mod Building
+pub mod Reading

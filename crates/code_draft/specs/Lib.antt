@@ -1,3 +1,3 @@
--- what a reader must believe
 pub mod Drafts
 pub mod Segments
+pub mod Pieces

@@ -1,7 +1,9 @@
-//! Code that grows: instructions that fetch constants, shared words and inputs or compute words, and wide values, each with slots of their own. Keeps
-//! the contract that every frame that solves the code has the wanted value at the location, and that a run leaves such a frame.
+//! Code that grows by pieces: instructions that fetch constants, shared words and inputs or compute words, and wide values, each with
+//! slots of their own. Keeps the contract that every frame that solves the code has the wanted value at the location, that a run leaves such a
+//! frame, and that pieces come together as one code.
 #![tactic(auto)]
 
+pub mod code_pieces;
 pub mod computing;
 pub mod draft;
 pub mod fetching;

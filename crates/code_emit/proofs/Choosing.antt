@@ -13,7 +13,7 @@ use Rattle.code_draft.specs.declared.draft.Draft.{Draft}
 use Rattle.code_draft.specs.Drafts.{IsDraft, Stands, Makes}
 use Rattle.code_draft.proofs.Growing.{grows_then, stands_on}
 use Rattle.code_draft.proofs.Held.{held_value}
-use Rattle.code_words.specs.Ways.{Cut, IsMade}
+use Rattle.code_emit.specs.Ways.{Cut, IsMade}
 use Rattle.code_emit.proofs.Emitting.{cut_there}
 use Rattle.code_emit.proofs.Nesting.{some_inner}
 

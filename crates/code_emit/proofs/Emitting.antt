@@ -24,7 +24,7 @@ use Rattle.code_draft.specs.declared.draft.Draft.{Draft}
 use Rattle.code_draft.specs.Drafts.{IsDraft, Solved, Grows, Stands, Makes, Wanted, Holds, IsConstant, IsForm}
 use Rattle.code_draft.proofs.Growing.{grows_then, grows_not, stands_on, all_stand_on}
 use Rattle.code_draft.proofs.Held.{held_value}
-use Rattle.code_words.specs.Ways.{Cut, Given, IsMade, row_value, fit_of_one}
+use Rattle.code_emit.specs.Ways.{Cut, Given, IsMade, row_value, fit_of_one}
 use Rattle.code_emit.specs.declared.sources.Source.{Source}
 use Rattle.code_emit.specs.declared.sources.Source.TheVariants as source
 use Rattle.code_emit.specs.declared.sources.Elements.{Elements}

@@ -20,8 +20,8 @@ use Rattle.code_draft.specs.Segments.{Segment, Step}
 use Rattle.code_draft.proofs.Segmenting.{among_left, among_right, among_either, none_among, both_so}
 use Rattle.code_draft.proofs.Joining.{segment_then, segment_weaker, step_then}
 use Rattle.code_draft.proofs.Stepping.{location_few}
-use Rattle.code_words.specs.Ways.{Reckons}
-use Rattle.code_words.proofs.Behind.{then_step}
+use Rattle.code_emit.specs.Ways.{Reckons}
+use Rattle.code_emit.proofs.Behind.{then_step}
 use Rattle.code_emit.specs.declared.sources.Sources.{Sources}
 use Rattle.code_emit.specs.Emits.{shapes_in}
 use Rattle.code_emit.specs.Counts.{tips}

@@ -1,3 +1,15 @@
+pub mod Laws
+pub mod Shifting
+pub mod There
+pub mod Making
+pub mod Ones
+pub mod Twos
+pub mod Reading
+pub mod Lowest
+pub mod Behind
+pub mod Pairing
+pub mod Signs
+pub mod Pairwise
 pub mod Rowing
 pub mod Shaped
 pub mod Emitting

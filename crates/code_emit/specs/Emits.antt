@@ -12,7 +12,7 @@ use Rattle.flat_code.specs.Meaning.{location_shape, location_values}
 use Rattle.flat_code.specs.Fine.{InRegion, further_words}
 use Rattle.code_draft.specs.declared.draft.Draft.{Draft}
 use Rattle.code_draft.specs.Drafts.{IsDraft, Solved, Grows, Stands, Makes, Wanted, Holds, input_value}
-use Rattle.code_words.specs.Ways.{Cut}
+use Rattle.code_emit.specs.Ways.{Cut}
 use Rattle.code_emit.specs.declared.sources.Kept.{Kept}
 use Rattle.code_emit.specs.declared.sources.Source.{Source}
 use Rattle.code_emit.specs.declared.sources.Source.TheVariants as source

@@ -4,7 +4,7 @@ use Rattle.prim_ops.specs.declared.operation.PrimOp.{PrimOp}
 use Rattle.prim_ops.specs.declared.operation.PrimOp.TheVariants.{Tail, Bits}
 use Rattle.cycle_values.specs.Values.{operation}
 use Rattle.net_meaning.specs.Shapes.{Shape, shape_of_row}
-use Rattle.code_words.specs.Ways.{Given}
+use Rattle.code_emit.specs.Ways.{Given}
 
 -- The value of an operation on the value of an inner one.
 abbrev pub nested_value : PrimOp → List ℕ → PrimOp → List ℕ → Given

@@ -7,7 +7,7 @@ ghost use Rattle.flat_code.specs.Meaning.{location_shape};
 ghost use Rattle.flat_code.specs.Fine.{location_shapes, location_slots, slots_of};
 ghost use Rattle.code_draft.specs.Drafts.{IsDraft, Stands, Makes};
 ghost use Rattle.code_draft.specs.Segments.{Segment};
-ghost use Rattle.code_words.specs.Ways.{IsMade};
+ghost use Rattle.code_emit.specs.Ways.{IsMade};
 ghost use Rattle.code_emit.specs.Spans.{ComeBefore, Follows, are_words};
 
 use crate::values::emit_one_choice;

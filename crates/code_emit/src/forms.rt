@@ -9,8 +9,8 @@ ghost use Rattle.prim_ops.specs.Kinds.{row_kind};
 ghost use Rattle.prim_ops.specs.Widths.{row_width};
 ghost use Rattle.code_emit.specs.Rows.{IsRow};
 
+use crate::ways::Measure;
 use bit_words::{Kind, List};
-use code_words::Measure;
 use flat_code::Location;
 use prim_ops::{Prim, Width, kind_of, width_of};
 use std::alloc::AllocError;

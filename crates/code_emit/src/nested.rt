@@ -8,15 +8,16 @@ ghost use Rattle.flat_code.specs.Meaning.{location_shape};
 ghost use Rattle.flat_code.specs.Fine.{location_shapes, location_slots, slots_of};
 ghost use Rattle.code_draft.specs.Drafts.{IsDraft, Stands, Makes};
 ghost use Rattle.code_draft.specs.Segments.{Step};
-ghost use Rattle.code_words.specs.Ways.{IsMade};
+ghost use Rattle.code_emit.specs.Ways.{IsMade};
 ghost use Rattle.code_emit.specs.Nested.{nested_shape, nested_value, TakesLowest};
 ghost use Rattle.code_emit.specs.Spans.{Follows};
 
 use crate::forms::row_measure;
+use crate::sums::lowest_word;
 use crate::values::emit_operation;
+use crate::ways::Measure;
 use bit_words::List;
 use code_draft::Draft;
-use code_words::{Measure, lowest_word};
 use flat_code::Location;
 use ground_net::Ground;
 use prim_ops::Prim;

@@ -7,13 +7,16 @@ ghost use Rattle.flat_code.specs.Meaning.{location_shape};
 ghost use Rattle.flat_code.specs.Fine.{location_shapes, location_slots, slots_of};
 ghost use Rattle.code_draft.specs.Drafts.{IsDraft, Stands, Makes};
 ghost use Rattle.code_draft.specs.Segments.{Step};
-ghost use Rattle.code_words.specs.Ways.{IsMade, row_value, fit_of_one};
+ghost use Rattle.code_emit.specs.Ways.{IsMade, row_value, fit_of_one};
 ghost use Rattle.code_emit.specs.Spans.{Follows};
 
+use crate::choices::choice_word;
+use crate::fits::fit_word;
 use crate::forms::{choice_measure, row_measure};
+use crate::operations::operation_word;
+use crate::ways::Measure;
 use bit_words::{Kind, List};
 use code_draft::{Draft, wide_value};
-use code_words::{Measure, choice_word, fit_word, operation_word};
 use flat_code::{Form, Location};
 use prim_ops::Prim;
 use std::alloc::{AllocError, Global};

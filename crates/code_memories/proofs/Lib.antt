@@ -1,3 +1,10 @@
+pub mod Numbered
+pub mod Ports
+pub mod Captured
+pub mod Targets
+pub mod Written
+pub mod WriteLoops
+pub mod WriteEvaluating
 pub mod Published
 pub mod Loops
 pub mod Evaluating

@@ -24,14 +24,14 @@ use Rattle.code_emit.specs.Emits.{sources_table, leaf_source, Emits}
 use Rattle.code_publish.specs.Publishing.{Publishes}
 use Rattle.sink_effects.specs.Effects.{sinks_told, memory_told, writes_told}
 use Rattle.code_registers.specs.Telling.{PublishesSinks}
-use Rattle.memory_grounds.specs.declared.leaf.MemoryLeaf.{MemoryLeaf}
-use Rattle.memory_grounds.specs.Captures.{HasCapture, ShowsHeld}
-use Rattle.memory_sources.specs.Memories.{HasMemory, word_of, capture_of, capture_left}
-use Rattle.memory_sources.proofs.Numbered.{some_same, numbered_long, some_there}
-use Rattle.memory_sources.proofs.Captured.{by_ports}
-use Rattle.code_writes.specs.Writes.{PublishesLeft}
-use Rattle.code_writes.proofs.Targets.{left_as, left_then, nothing_left_yet}
-use Rattle.code_writes.proofs.Written.{flat_more}
+use Rattle.code_registers.specs.declared.leaf.MemoryLeaf.{MemoryLeaf}
+use Rattle.code_registers.specs.Captures.{HasCapture, ShowsHeld}
+use Rattle.code_memories.specs.Memories.{HasMemory, word_of, capture_of, capture_left}
+use Rattle.code_memories.proofs.Numbered.{some_same, numbered_long, some_there}
+use Rattle.code_memories.proofs.Captured.{by_ports}
+use Rattle.code_memories.specs.Writes.{PublishesLeft}
+use Rattle.code_memories.proofs.Targets.{left_as, left_then, nothing_left_yet}
+use Rattle.code_memories.proofs.Written.{flat_more}
 use Rattle.code_memories.specs.Captures.{ReadsAt, IsKept}
 use Rattle.code_memories.proofs.Published.{is_kept, has, captured, capture_more}
 

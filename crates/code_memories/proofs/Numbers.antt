@@ -13,9 +13,9 @@ use Rattle.net_meaning.specs.Shapes.{Shape}
 use Rattle.net_meaning.specs.Cycles.{Capture, captures, captured_by}
 use Rattle.net_meaning.specs.Nets.{register_shapes, captured_shapes, shape_or_none}
 use Rattle.net_meaning.specs.Words.{word_count, count_words, memory_words, state_words}
-use Rattle.memory_sources.specs.Memories.{capture_of}
-use Rattle.memory_sources.proofs.Numbered.{numbered_long, at_numbered}
-use Rattle.memory_sources.proofs.Captured.{of_memory}
+use Rattle.code_memories.specs.Memories.{capture_of}
+use Rattle.code_memories.proofs.Numbered.{numbered_long, at_numbered}
+use Rattle.code_memories.proofs.Captured.{of_memory}
 
 piece_long : {A B : Type 0} (f : A → List B) (xs : List A) (k : ℕ) (x : A) → slice_get xs k ≡ Some x → length (f x) ≤ length (flat_map f xs)
 piece_long f xs k x e =

@@ -31,14 +31,14 @@ use Rattle.code_emit.specs.Emits.{sources_table, leaf_source, kept_shape, Fits, 
 use Rattle.code_emit.proofs.Emitting.{sources_on, seen_shapes}
 use Rattle.code_publish.specs.Publishing.{Tells, Publishes}
 use Rattle.sink_effects.specs.Effects.{capture_shape}
-use Rattle.memory_grounds.specs.declared.leaf.MemoryLeaf.{MemoryLeaf}
-use Rattle.memory_grounds.specs.Captures.{HasCapture, ShowsHeld}
-use Rattle.memory_sources.specs.Memories.{HasMemory, StandsCaptured, word_of, capture_of, capture_left}
-use Rattle.memory_sources.proofs.Numbered.{some_same, none_some, numbered_more, some_there}
-use Rattle.memory_sources.proofs.Ports.{has_capture}
-use Rattle.memory_sources.proofs.Captured.{capture_there}
-use Rattle.code_writes.specs.Writes.{PublishesLeft}
-use Rattle.code_writes.proofs.Written.{flat_more}
+use Rattle.code_registers.specs.declared.leaf.MemoryLeaf.{MemoryLeaf}
+use Rattle.code_registers.specs.Captures.{HasCapture, ShowsHeld}
+use Rattle.code_memories.specs.Memories.{HasMemory, StandsCaptured, word_of, capture_of, capture_left}
+use Rattle.code_memories.proofs.Numbered.{some_same, none_some, numbered_more, some_there}
+use Rattle.code_memories.proofs.Ports.{has_capture}
+use Rattle.code_memories.proofs.Captured.{capture_there}
+use Rattle.code_memories.specs.Writes.{PublishesLeft}
+use Rattle.code_memories.proofs.Written.{flat_more}
 use Rattle.code_memories.specs.Captures.{ReadsAt, IsKept}
 
 -- sources stay where they are

@@ -1,3 +1,5 @@
--- what a reader must believe
+pub mod Memories
+pub mod Writes
+pub mod WriteGroups
 pub mod Captures
 pub mod Groups

@@ -4,15 +4,16 @@ ghost use Rattle.std.specs.Prelude.{◌≡◌, ◌<◌, ◌^◌, [], ◌∷◌, 
 ghost use Rattle.ground_net.specs.Cones.{A_memory};
 ghost use Rattle.net_meaning.specs.Nets.{IsNet};
 ghost use Rattle.net_meaning.specs.Words.{state_words};
-ghost use Rattle.memory_sources.specs.Memories.{HasMemory};
+ghost use Rattle.code_memories.specs.Memories.{HasMemory};
 ghost use Rattle.code_registers.specs.Telling.{PublishesSinks};
 ghost use Rattle.code_registers.specs.Groups.{EvaluatesOnly};
 ghost use Rattle.code_memories.specs.Groups.{IsMemoryGroup};
 
 use crate::captures::publish_captures;
+use crate::places::MemoryAt;
+use crate::writes::publish_writes;
 use code_draft::Draft;
 use code_emit::Sources;
-use code_writes::{MemoryAt, publish_writes};
 use ground_net::Net;
 use std::alloc::{AllocError, Global};
 

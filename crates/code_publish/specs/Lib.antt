@@ -1,2 +1,3 @@
--- what a reader must believe
 pub mod Publishing
+pub mod Writing
+pub mod Finishing

@@ -7,7 +7,7 @@ use Rattle.ground_net.specs.declared.ground.Ground.TheVariants.{Mux}
 use Rattle.ground_net.specs.declared.net.Net.{Net}
 use Rattle.ground_net.specs.declared.net.NetRegister.{NetRegister}
 use Rattle.ground_net.specs.Reads.{driver_of}
-use Rattle.next_grounds.specs.Nexts.{next_ground}
+use Rattle.code_registers.specs.Nexts.{next_ground}
 use Rattle.flat_code.specs.declared.instr.Location.{Location}
 use Rattle.flat_code.specs.Fine.{location_slots}
 use Rattle.code_draft.specs.declared.draft.Draft.{Draft}

@@ -1,2 +1,5 @@
+pub mod NextValues
 pub mod NextWords
 pub mod Evaluating
+pub mod Reading
+pub mod Shaping

@@ -4,7 +4,7 @@ use Rattle.ground_net.specs.declared.ground.Ground.{Ground}
 use Rattle.ground_net.specs.declared.net.Net.{Net}
 use Rattle.ground_net.specs.declared.net.NetRegister.{NetRegister}
 use Rattle.ground_net.specs.Reads.{driver_of}
-use Rattle.next_grounds.specs.Nexts.{next_ground}
+use Rattle.code_registers.specs.Nexts.{next_ground}
 use Rattle.code_draft.specs.declared.draft.Draft.{Draft}
 use Rattle.code_emit.specs.declared.sources.Sources.{Sources}
 use Rattle.code_emit.specs.Spans.{AreFoundBefore, Evaluates}

@@ -1,3 +1,5 @@
--- what a reader must believe
+-- what the bodies give
+pub mod Nexts
 pub mod Telling
 pub mod Groups
+pub mod Captures

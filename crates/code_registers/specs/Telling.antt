@@ -13,7 +13,7 @@ use Rattle.ground_net.specs.Reads.{driver_of}
 use Rattle.ground_net.specs.Cones.{Sink}
 use Rattle.net_meaning.specs.Shapes.{shape}
 use Rattle.net_meaning.specs.Cycles.{NetState}
-use Rattle.next_grounds.specs.Nexts.{next_ground}
+use Rattle.code_registers.specs.Nexts.{next_ground}
 use Rattle.sink_effects.specs.Effects.{register_shape, sinks_told, HasWord}
 use Rattle.code_draft.specs.declared.draft.Draft.{Draft}
 use Rattle.code_draft.specs.Drafts.{IsDraft, Solved, written_in, pushed_in}

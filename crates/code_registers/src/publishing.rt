@@ -7,11 +7,11 @@ ghost use Rattle.code_emit.specs.Spans.{EvaluatesAll};
 ghost use Rattle.code_registers.specs.Telling.{IsNextShaped, PublishesSinks};
 ghost use Rattle.code_registers.specs.Groups.{register_groups};
 
+use crate::registers::next_ground;
 use code_draft::Draft;
 use code_emit::{Sources, emit};
 use code_publish::publish;
 use ground_net::Net;
-use next_grounds::next_ground;
 use std::alloc::{AllocError, Global};
 
 /// Adds code that publishes what the registers of these numbers hold next, in order, each from its word on.

@@ -1,3 +1,3 @@
--- what a reader must believe
+pub mod FromNets
 pub mod Sequences
 pub mod Segmented

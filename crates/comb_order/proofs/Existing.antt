@@ -9,8 +9,8 @@ use Rattle.ground_net.specs.declared.net.Leaf.{Leaf}
 use Rattle.ground_net.specs.declared.net.Role.{Role}
 use Rattle.ground_net.specs.declared.net.Role.TheVariants as role
 use Rattle.ground_net.specs.Reads.{IsAssigned, Reads, Through, itself, others, HasNoLoop, IsOrder, MentionsLeaves, direct_reads}
-use Rattle.read_graph.specs.Search.{Stands}
-use Rattle.read_graph.proofs.Steps.{push_old, push_new, push_cases, stands_push, stands_last}
+use Rattle.comb_order.specs.Search.{Stands}
+use Rattle.comb_order.proofs.Steps.{push_old, push_new, push_cases, stands_push, stands_last}
 use Rattle.comb_order.proofs.Leaves.{role_of}
 
 -- a list without one element, and numbers below a bound

@@ -9,9 +9,9 @@ use Rattle.std.specs.declared.alloc.Global.{Global}
 use Rattle.std.specs.declared.vec.Vec.{Vec}
 use Rattle.place_text.specs.declared.place.Place.{Place}
 use Rattle.ground_net.specs.declared.net.Net.{Net}
-use Rattle.read_graph.specs.Graph.{Graph, AreVertices, Reads as Edge, Through as Walk, itself as one_edge, others as more_edges, IsFirstOnLoop, IsOrder as IsOrderOf}
+use Rattle.comb_order.specs.Graph.{Graph, AreVertices, Reads as Edge, Through as Walk, itself as one_edge, others as more_edges, IsFirstOnLoop, IsOrder as IsOrderOf}
 use Rattle.ground_net.specs.Reads.{direct_reads, read_of, Reads, Through, itself, others, MentionsLeaves, IsAssigned, HasNoLoop, IsFirstLoop, IsOrder}
-use Rattle.read_graph.proofs.Reaches.{loop_inside}
+use Rattle.comb_order.proofs.Reaches.{loop_inside}
 use Rattle.comb_order.specs.Graphs.{IsGraph, Keeps, HasPlace}
 
 -- only leaves read

@@ -1,7 +1,7 @@
 -- Numbers that are kept of a list.
 use Rattle.std.proofs.Common.{◌≡◌, ℕ, ◌<◌, List, [], ◌∷◌, ◌++◌, length, slice_index, refl, sym, subst, ◌∙◌, arith, ⊎_elim}
 use Rattle.std.proofs.lemmas.List.{length_push}
-use Rattle.read_graph.proofs.Steps.{push_old, push_new, push_cases}
+use Rattle.comb_order.proofs.Steps.{push_old, push_new, push_cases}
 use Rattle.comb_order.specs.Graphs.{IsOnce, StoodAt, Keeps}
 
 pub keeps_none : (is : ℕ → Type 0) → Keeps is [] []

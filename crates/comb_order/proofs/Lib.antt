@@ -1,3 +1,8 @@
+pub mod Steps
+pub mod Begins
+pub mod Reaches
+pub mod Orders
+pub mod Examples
 pub mod Keeping
 pub mod Graphs
 pub mod Leaves

@@ -1,6 +1,6 @@
 -- The graph of a net, as lists of numbers.
 use Rattle.std.specs.Prelude.{◌≡◌, ◌≢◌, ℕ, ◌<◌, List, length, slice_get, slice_index, Some}
-use Rattle.read_graph.specs.Graph.{Graph}
+use Rattle.comb_order.specs.Graph.{Graph}
 use Rattle.std.specs.declared.alloc.Global.{Global}
 use Rattle.std.specs.declared.vec.Vec.{Vec}
 use Rattle.place_text.specs.declared.place.Place.{Place}

@@ -9,10 +9,10 @@ ghost use Rattle.comb_order.specs.Graphs.{Keeps, HasPlace};
 
 use crate::fault::OrderFault;
 use crate::graph::graph_of;
+use crate::graph_fault::GraphFault;
 use bit_words::List;
 use ground_net::{Leaf, Net, Ordered, Role};
 use place_text::Place;
-use read_graph::GraphFault;
 use std::alloc::{AllocError, Global};
 
 /// The net with its assignments in an order, each after all that it reads; or the place of the first leaf, in flat order, that is
@@ -37,7 +37,7 @@ fn sequence_of(alloc: Global, net: &Net) -> Result<List<u32>, OrderFault>
     ensures looped { (place : APlace) → result ≡ Err (OrderFault.CombLoop place) → IsFirstLoop net.now place }
 {
     let graph = graph_of(alloc, net)?;
-    match read_graph::order(alloc, graph.as_slice()) {
+    match crate::graph_ordering::order(alloc, graph.as_slice()) {
         Ok(vertices) => {
             let leaves = net.leaves.as_slice();
             Ok(assignments_of(alloc, leaves, vertices.as_slice())?)

@@ -1,5 +1,5 @@
-//! Cases of runs by workers in threads: short circuits whose traces are written by hand, whatever threads are there, and frames that stay
-//! short.
+//! Cases of the top call, over shelves and sinks that fail in the middle, and of runs by workers in threads: short circuits whose traces
+//! are written by hand, whatever threads are there, and frames that stay short.
 #![tactic(auto)]
 
 #[cfg(test)]
@@ -10,6 +10,8 @@ mod frames;
 mod gates;
 #[cfg(test)]
 mod meeting;
+#[cfg(test)]
+mod programs;
 #[cfg(test)]
 mod reading;
 #[cfg(test)]

@@ -9,12 +9,12 @@ use Rattle.net_meaning.specs.Words.{words_of}
 use Rattle.flat_code.specs.declared.code.Code.{Code}
 use Rattle.cone_cutter.proofs.Splitting.{is_split}
 use Rattle.partition_code.specs.Codes.{AreWords, AreOfOneCut}
-use Rattle.crew_turns.specs.Scripts.{Runs}
+use Rattle.crew_workers.specs.Scripts.{Runs}
 use Rattle.stimulus.specs.declared.stimulus.Stimulus.{Stimulus}
 use Rattle.stimulus.specs.Rows.{rows_from}
 use Rattle.circuit_run.specs.NetRuns.{watch, IsPlanned}
 use Rattle.crew_run.specs.Crews.{AreCodesOfCut}
-use Rattle.code_laws.proofs.Placed.{words_counted, words_plain}
+use Rattle.partition_code.proofs.Placed.{words_counted, words_plain}
 use Rattle.crew_run.proofs.Matched.{rows_long, rows_match}
 
 module _ (ordered : Ordered) (ports : Ports) (stimulus : Stimulus) (planned : IsPlanned ordered ports stimulus) (workers : ℕ) (some : 1 ≤ workers) (few : workers ≤ 64) (codes : List Code) (it : Cut) (of : AreCodesOfCut ordered workers codes it) where

@@ -10,16 +10,16 @@ use Rattle.ground_net.specs.declared.net.CutPart.{CutPart}
 use Rattle.net_meaning.specs.Cycles.{NetState}
 use Rattle.net_meaning.specs.Words.{state_words}
 use Rattle.flat_code.specs.declared.code.Code.{Code}
-use Rattle.sink_laws.proofs.Parts.{word_below}
+use Rattle.sink_effects.proofs.Parts.{word_below}
 use Rattle.partition_code.specs.Codes.{owner_in}
-use Rattle.code_cuts.proofs.Owners.{owner_of_sink}
-use Rattle.crew_turns.specs.Scripts.{script_of}
+use Rattle.partition_code.proofs.Owners.{owner_of_sink}
+use Rattle.crew_workers.specs.Scripts.{script_of}
 use Rattle.stimulus.specs.declared.stimulus.Stimulus.{Stimulus}
 use Rattle.stimulus.specs.Rows.{rows_from}
 use Rattle.circuit_run.specs.NetRuns.{IsPlanned}
 use Rattle.crew_run.specs.Epochs.{IsAfter, IsEpoch, AreEpochs}
 use Rattle.crew_run.specs.Crews.{AreCodesOfCut}
-use Rattle.code_laws.proofs.Placed.{words_counted}
+use Rattle.partition_code.proofs.Placed.{words_counted}
 use Rattle.crew_run.proofs.Matched.{rows_long}
 use Rattle.crew_run.proofs.Crews.{one_cut}
 use Rattle.crew_run.proofs.States.{state_at}

@@ -10,8 +10,8 @@ use Rattle.net_meaning.specs.Shapes.{Shape}
 use Rattle.net_meaning.specs.Cycles.{first_state}
 use Rattle.net_meaning.specs.Nets.{register_shapes, element_shapes, captured_shapes}
 use Rattle.net_meaning.specs.Words.{kept, kept_all, words_of_memory, words_of, state_words}
-use Rattle.sink_words.proofs.Lists.{Each, each_none, each_cons, each_append, each_flat}
-use Rattle.code_laws.proofs.Placed.{words_counted}
+use Rattle.sink_effects.proofs.Lists.{Each, each_none, each_cons, each_append, each_flat}
+use Rattle.partition_code.proofs.Placed.{words_counted}
 
 abbrev IsZero : ℕ → Type 0
 IsZero n = n ≡ 0

@@ -5,3 +5,5 @@ pub mod Firsts
 pub mod Rows
 pub mod States
 pub mod Epochs
+pub mod Lines
+pub mod Sums

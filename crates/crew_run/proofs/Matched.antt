@@ -10,7 +10,7 @@ use Rattle.ground_net.specs.Watching.{inputs}
 use Rattle.net_meaning.specs.Cycles.{Inputs, fitted_to}
 use Rattle.net_meaning.specs.Nets.{IsNet}
 use Rattle.net_meaning.proofs.Shaping.{fitted_shape}
-use Rattle.source_laws.specs.FromNets.{MatchInputs}
+use Rattle.code_sequence.specs.FromNets.{MatchInputs}
 use Rattle.crew_workers.specs.Codes.{row_at}
 use Rattle.stimulus.specs.declared.stimulus.Stimulus.{Stimulus}
 use Rattle.stimulus.specs.Stimuli.{IsFormed}

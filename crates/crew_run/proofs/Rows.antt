@@ -8,8 +8,8 @@ use Rattle.net_meaning.specs.Cycles.{Valuation}
 use Rattle.flat_code.specs.declared.code.Code.{Code}
 use Rattle.flat_code.specs.Codes.{outputs_by}
 use Rattle.partition_code.specs.Codes.{AreOfOneCut}
-use Rattle.code_cuts.proofs.Places.{place, position_below}
-use Rattle.crew_turns.specs.Scripts.{RowOf}
+use Rattle.partition_code.proofs.Places.{place, position_below}
+use Rattle.crew_workers.specs.Scripts.{RowOf}
 use Rattle.trace_print.specs.Trace.{trace_line_of}
 use Rattle.circuit_run.specs.NetRuns.{lines_from}
 

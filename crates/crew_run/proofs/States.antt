@@ -18,8 +18,8 @@ use Rattle.flat_code.specs.declared.code.Code.{Code}
 use Rattle.flat_code.specs.Codes.{outputs_by}
 use Rattle.partition_code.specs.Codes.{AreOfOneCut}
 use Rattle.crew_workers.specs.Codes.{row_at}
-use Rattle.crew_turns.specs.Scripts.{script_of, round_by, Outputs}
-use Rattle.crew_turns.proofs.Scripts.{values_next}
+use Rattle.crew_workers.specs.Scripts.{script_of, round_by, Outputs}
+use Rattle.crew_workers.proofs.Scripts.{values_next}
 use Rattle.stimulus.specs.declared.stimulus.Stimulus.{Stimulus}
 use Rattle.stimulus.specs.Rows.{row_in, rows_from}
 use Rattle.trace_print.specs.Trace.{trace_line_of}
@@ -28,8 +28,8 @@ use Rattle.circuit_run.proofs.NetRuns.{given_split, no_cycle, one_cycle, join}
 use Rattle.circuit_run.proofs.Traces.{first_within}
 use Rattle.crew_run.specs.Epochs.{Reaches, there, onward, IsAfter}
 use Rattle.crew_run.specs.Crews.{AreCodesOfCut}
-use Rattle.code_laws.proofs.Whole.{next_words}
-use Rattle.code_laws.proofs.Cycles.{outputs_of}
+use Rattle.partition_code.proofs.Whole.{next_words}
+use Rattle.partition_code.proofs.StateCycles.{outputs_of}
 use Rattle.crew_run.proofs.Matched.{rows_long, row_is, row_matches}
 use Rattle.crew_run.proofs.Crews.{one_cut}
 use Rattle.crew_run.proofs.Rows.{lines_next, row_watched}

@@ -4,7 +4,7 @@ ghost use Rattle.std.specs.Prelude.{◌≡◌, ◌+◌, ◌<◌, ◌≤◌, ◌^
 ghost use Rattle.ground_net.specs.declared.net.Cut.{Cut as OneCut};
 ghost use Rattle.net_meaning.specs.Cycles.{NetState};
 ghost use Rattle.register_table.specs.Shown.{closed_script};
-ghost use Rattle.crew_turns.specs.Scripts.{script_of};
+ghost use Rattle.crew_workers.specs.Scripts.{script_of};
 ghost use Rattle.stimulus.specs.Rows.{rows_from};
 ghost use Rattle.circuit_run.specs.NetRuns.{IsPlanned, LeadsTo, lines_from};
 ghost use Rattle.crew_run.specs.Epochs.{IsAfter};

@@ -2,7 +2,7 @@
 
 ghost use Rattle.std.specs.Prelude.{◌≡◌, ◌≢◌, ℕ, ◌≤◌, List as Listed, map, Err, IfOk, OnOk, OnErr, take};
 ghost use Rattle.shelf_io.specs.Outside.{Appends, Rose};
-ghost use Rattle.leaf_names.specs.LeafNames.{Texts};
+ghost use Rattle.fir_tree.specs.LeafNames.{Texts};
 ghost use Rattle.fir_meaning.specs.Components.{Design};
 ghost use Rattle.ground_net.specs.declared.net.Cut.{Cut as OneCut};
 ghost use Rattle.net_meaning.specs.Cycles.{first_state};

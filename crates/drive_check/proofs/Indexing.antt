@@ -3,8 +3,8 @@ use Rattle.std.proofs.Common.{◌≡◌, ℕ, zero, suc, List, [], ◌∷◌, �
 use Rattle.std.specs.Prelude.{is_some}
 use Rattle.std.specs.Option.{ForSome}
 use Rattle.fir_types.specs.declared.fir_type.FirType.{FirType}
-use Rattle.field_index.specs.declared.index.FieldIndex.{FieldIndex}
-use Rattle.field_index.specs.Indexes.{IsIndexOfType}
+use Rattle.fir_types.specs.declared.index.FieldIndex.{FieldIndex}
+use Rattle.fir_types.specs.Indexes.{IsIndexOfType}
 use Rattle.drive_check.specs.Indexed.{AreIndexed}
 
 some_same : {X : Type 0} (x y : X) → Some x ≡ Some y → x ≡ y

@@ -1,8 +1,8 @@
 -- Indexes of fields that stand beside types.
 use Rattle.std.specs.Prelude.{◌≡◌, ℕ, List, Option, Some, slice_get}
 use Rattle.fir_types.specs.declared.fir_type.FirType.{FirType}
-use Rattle.field_index.specs.declared.index.FieldIndex.{FieldIndex}
-use Rattle.field_index.specs.Indexes.{IsIndexOfType}
+use Rattle.fir_types.specs.declared.index.FieldIndex.{FieldIndex}
+use Rattle.fir_types.specs.Indexes.{IsIndexOfType}
 
 -- each index is that of the type with its number
 abbrev pub AreIndexed : List FirType → List (Option FieldIndex) → Type 0

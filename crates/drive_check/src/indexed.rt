@@ -3,12 +3,11 @@
 ghost use Rattle.std.specs.Prelude.{◌≡◌, Some, slice_get, IfOk};
 ghost use Rattle.std.specs.Option.{ForSome};
 ghost use Rattle.fir_types.specs.declared.fir_type.FirType.{FirType as AType};
-ghost use Rattle.field_index.specs.Indexes.{IsIndexOfType};
+ghost use Rattle.fir_types.specs.Indexes.{IsIndexOfType};
 ghost use Rattle.drive_check.specs.Indexed.{AreIndexed};
 
 use bit_words::Shared;
-use field_index::{FieldIndex, index_of};
-use fir_types::FirType;
+use fir_types::{FieldIndex, FirType, index_of};
 use std::alloc::{AllocError, Global};
 
 /// The indexes of the first types, of as many as asked. None where a type is no bundle of many fields.

@@ -7,8 +7,7 @@ ghost use Rattle.drive_check.specs.Typing.{typed, no_type, IsPlaced, with_new};
 use crate::indexed::indexes_of;
 use crate::reached::Reached;
 use bit_words::{List, Shared};
-use field_index::FieldIndex;
-use fir_types::{FirType, Name, Shape};
+use fir_types::{FieldIndex, FirType, Name, Shape};
 use indexmap::IndexMap;
 use place_text::Place;
 use std::alloc::{AllocError, Global};
@@ -30,7 +29,7 @@ impl<'a> ModuleTypes<'a> {
     ghost use Rattle.std.specs.Prelude.{Some, slice_get};
     ghost use Rattle.std.specs.Option.{ForSome};
     ghost use Rattle.fir_types.specs.declared.fir_type.FirType.{FirType as AType};
-    ghost use Rattle.field_index.specs.Indexes.{IsIndexOfType};
+    ghost use Rattle.fir_types.specs.Indexes.{IsIndexOfType};
     ghost use Rattle.drive_check.specs.HeldTypes.{types_in};
 
     /// The types of declarations with these names. Takes time and memory in proportion to their number and that of their fields.

@@ -2,11 +2,10 @@
 
 ghost use Rattle.std.specs.Prelude.{◌≡◌};
 ghost use Rattle.std.specs.Option.{ForSome};
-ghost use Rattle.field_index.specs.Indexes.{IsIndexOfType};
+ghost use Rattle.fir_types.specs.Indexes.{IsIndexOfType};
 
 use crate::spot::{element_type, field_type};
-use field_index::FieldIndex;
-use fir_types::{FirType, Shape};
+use fir_types::{FieldIndex, FirType, Shape};
 
 /// The type that a reference has come to, with an index of its fields where there is one: at a component itself.
 #[derive(Clone, Copy)]

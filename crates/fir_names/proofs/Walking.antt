@@ -9,7 +9,7 @@ use Rattle.fir_types.specs.declared.name.Name.{Name}
 use Rattle.fir_names.specs.declared.walk.Walk.{Walk}
 use Rattle.fir_names.specs.Extents.{Seen}
 use Rattle.fir_names.specs.Parts.{Part, nothing, mentions, declares, joined, in_turn, module_part}
-use Rattle.circuit_parts.proofs.Turns.{Turns, walks_push as one_more}
+use Rattle.fir_tree.proofs.Turns.{Turns, walks_push as one_more}
 use Rattle.fir_names.proofs.Agreement.{sees_its_blocks, declares_its_names, has_its_instances}
 use Rattle.fir_tree.specs.declared.circuit.Module.{Module}
 use Rattle.fir_names.specs.declared.fault.NameFault.TheVariants.{NameUnknown}

@@ -5,7 +5,7 @@ use Rattle.fir_tree.specs.declared.circuit.Module.{Module}
 use Rattle.fir_tree.specs.declared.stmt.Stmt.{Stmt, fold-Stmt}
 use Rattle.fir_tree.specs.declared.stmt.Arm.{Arm, fold-Arm}
 use Rattle.fir_tree.specs.declared.stmt.Stmt.TheOpen.{Stmt-F, Arm-F}
-use Rattle.circuit_parts.specs.Turns.{in_order}
+use Rattle.fir_tree.specs.Turns.{in_order}
 use Rattle.fir_names.specs.Extents.{Seen, Use, references}
 
 -- What a part of a module has: the declarations that it shows to what stands behind it in its block, all names that it

@@ -1,6 +1,8 @@
 //! Circuits and modules (FIRRTL specification 3.0, "Circuits and Modules").
 
-use crate::{Names, PrintItem, Stmt};
+use crate::names::Names;
+use crate::print::PrintItem;
+use crate::stmt::Stmt;
 use bit_words::List;
 use fir_types::{Name, Port};
 

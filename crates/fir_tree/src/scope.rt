@@ -1,6 +1,6 @@
 //! What the stages behind the parser find out about a circuit.
 
-use crate::Circuit;
+use crate::circuit::Circuit;
 use bit_words::{List, Shared};
 use fir_types::FirType;
 

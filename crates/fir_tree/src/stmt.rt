@@ -1,6 +1,6 @@
 //! Statements (FIRRTL specification 3.0, "Statements").
 
-use crate::Expr;
+use crate::expr::Expr;
 use bit_words::List;
 use fir_types::{FirType, Memory, Name};
 use place_text::Place;

@@ -9,3 +9,5 @@ pub mod Equivalences
 pub mod Masks
 pub mod Runs
 pub mod Singles
+pub mod Places
+pub mod SpotLayers

@@ -4,3 +4,5 @@ pub mod Equivalence
 pub mod Bundles
 pub mod Memories
 pub mod Runs
+pub mod Indexes
+pub mod Spots

@@ -6,7 +6,10 @@ ghost use Rattle.fir_types.specs.Memories.{element_in, depth_in, first_or};
 ghost use Rattle.fir_types.specs.Runs.{within};
 
 use crate::copying::copy;
-use crate::{Field, FirType, MemLine, Memory, Name, Port, PortMode, Shape};
+use crate::fir_type::{Field, FirType, Shape};
+use crate::memory::{MemLine, Memory, PortMode};
+use crate::name::Name;
+use crate::port::Port;
 use bit_words::{List, Shared};
 use place_text::Place;
 use std::alloc::{AllocError, Global};

@@ -2,7 +2,7 @@
 
 ghost use Rattle.std.specs.Prelude.{◌≡◌, IfOk};
 
-use crate::{FirType, Shape};
+use crate::fir_type::{FirType, Shape};
 use std::alloc::AllocError;
 
 /// The same type once more. Its parts are shared, so it takes no memory.

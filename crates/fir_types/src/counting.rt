@@ -5,7 +5,7 @@ ghost use Rattle.std.specs.Prelude.{◌≡◌, ◌-◌, ◌^◌, min, map, sum};
 ghost use Rattle.std.specs.List.{list_any};
 ghost use Rattle.fir_types.specs.Leaves.{count, field_count, leaves, field_leaves, has_clock, has_signal, is_asked};
 
-use crate::{Field, FirType, Shape};
+use crate::fir_type::{Field, FirType, Shape};
 
 /// The number of leaves of a type, or 2^128 - 1 where there are more.
 #[cycle(count)]

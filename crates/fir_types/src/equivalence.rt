@@ -4,7 +4,7 @@ ghost use Rattle.std.specs.Prelude.{◌≡◌, ◌↔◌, ◌==◌, IsTrue, find
 ghost use Rattle.std.specs.Option.{option_copied};
 ghost use Rattle.fir_types.specs.Equivalence.{Equivalent, AreSame, IsUnsigned, SameFields};
 
-use crate::{Field, FirType, Shape};
+use crate::fir_type::{Field, FirType, Shape};
 
 /// Whether two types are equivalent: ground types of one kind whatever their widths, vectors of equal length and bundles of
 /// the same names and orientations, with equivalent parts. `Reset` is `UInt<1>`. Takes no memory.

@@ -1,6 +1,6 @@
 //! Types (FIRRTL specification 3.0, "Types").
 
-use crate::Name;
+use crate::name::Name;
 use bit_words::{Shared, SharedList};
 use place_text::Place;
 

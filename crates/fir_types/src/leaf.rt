@@ -1,6 +1,6 @@
 //! The leaves of a type: its parts that are no bundles and no vectors.
 
-use crate::FirType;
+use crate::fir_type::FirType;
 use bit_words::List;
 
 /// A leaf of a type.

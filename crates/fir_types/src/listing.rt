@@ -5,7 +5,8 @@ ghost use Rattle.fir_types.specs.Leaves.{count, field_count, leaves, field_leave
 
 use crate::copying::copy;
 use crate::counting::leaf_count;
-use crate::{Field, FirType, PathStep, Shape, TypeLeaf};
+use crate::fir_type::{Field, FirType, Shape};
+use crate::leaf::{PathStep, TypeLeaf};
 use bit_words::List;
 use std::alloc::{AllocError, Global};
 

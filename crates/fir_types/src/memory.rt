@@ -1,6 +1,7 @@
 //! Memories (FIRRTL specification 3.0, "Memories").
 
-use crate::{FirType, Name};
+use crate::fir_type::FirType;
+use crate::name::Name;
 use bit_words::List;
 use place_text::Place;
 

@@ -4,7 +4,7 @@ ghost use Rattle.std.specs.Prelude.{◌≡◌, ◌↔◌, IsTrue};
 ghost use Rattle.std.specs.List.{list_any};
 ghost use Rattle.fir_types.specs.Passivity.{IsPassive, has_flip, field_has_flip};
 
-use crate::{Field, FirType, Shape};
+use crate::fir_type::{Field, FirType, Shape};
 
 /// Whether a type is passive: no `flip` stands anywhere in it, also not in the element of a vector of length 0. Takes no
 /// memory.

@@ -1,6 +1,7 @@
 //! The ports of a module.
 
-use crate::{FirType, Name};
+use crate::fir_type::FirType;
+use crate::name::Name;
 
 /// A port of a module.
 #[derive(Drop)]

@@ -12,8 +12,7 @@ use crate::codes::listing::list;
 use crate::codes::mix::mixed;
 use crate::codes::running::cycles;
 use crate::lines::Words;
-use code_arrange::arrange;
-use code_order::reorder;
+use code_order::{arrange, reorder};
 use flat_code::Code;
 use std::alloc::Global;
 

@@ -9,7 +9,7 @@ use crate::cuts::net::{Shape, net_of};
 use crate::lines::Words;
 use comb_order::{OrderFault, order};
 use cone_cutter::cut;
-use cut_print::cut_text;
+use cut_listing::cut_text;
 use std::alloc::Global;
 
 /// The names of the shapes.

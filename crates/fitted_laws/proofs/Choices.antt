@@ -13,9 +13,9 @@ use Rattle.fir_tree.specs.declared.expr.Suffix.{Suffix, fold-Suffix}
 use Rattle.fir_tree.specs.declared.expr.Form.TheOpen.{Form-F, Suffix-F, Expr-F}
 use Rattle.fir_tree.specs.declared.expr.Form.TheFolds.{map-Form, map-Suffix, map-Expr, fold-roll-Form, fold-roll-Suffix, fold-roll-Expr}
 use Rattle.fir_tree.specs.declared.expr.Form.TheViews.{roll-Form, roll-Suffix, roll-Expr}
-use Rattle.circuit_parts.specs.declared.part.Part.{Part}
-use Rattle.circuit_parts.specs.declared.part.Flow.{Flow}
-use Rattle.circuit_parts.specs.Kinds.{is_unsigned}
+use Rattle.fir_tree.specs.declared.part.Part.{Part}
+use Rattle.fir_tree.specs.declared.part.Flow.{Flow}
+use Rattle.fir_tree.specs.Kinds.{is_unsigned}
 use Rattle.type_check.specs.declared.fault.TypeFault.TheVariants.{ConditionKind}
 use Rattle.type_check.specs.Parts as check
 use Rattle.type_check.specs.Parts.{unless}

@@ -20,7 +20,7 @@ use Rattle.prim_ops.specs.declared.widths.Width.TheVariants.{Bits}
 use Rattle.fir_tree.specs.declared.circuit.Circuit.{Circuit}
 use Rattle.fir_tree.specs.declared.circuit.Module.{Module}
 use Rattle.fir_tree.specs.declared.scope.Fitted.{Fitted}
-use Rattle.circuit_parts.specs.Parts as parts
+use Rattle.fir_tree.specs.Parts as parts
 use Rattle.type_check.specs.Texts.{twice_in}
 use Rattle.type_check.specs.Statements as checking
 use Rattle.width_rules.specs.Solutions.{IsWidth}

@@ -32,12 +32,12 @@ use Rattle.fir_tree.specs.declared.expr.Suffix.{Suffix, fold-Suffix, ind-Suffix}
 use Rattle.fir_tree.specs.declared.expr.Form.TheOpen.{Form-F, Suffix-F, Expr-F}
 use Rattle.fir_tree.specs.declared.expr.Form.TheFolds.{map-Form, map-Suffix, map-Expr, fold-roll-Form, fold-roll-Suffix, fold-roll-Expr}
 use Rattle.fir_tree.specs.declared.expr.Form.TheViews.{roll-Form, roll-Suffix, roll-Expr, out-Form}
-use Rattle.circuit_parts.specs.declared.part.Part.{Part}
-use Rattle.circuit_parts.specs.declared.part.Flow.{Flow}
-use Rattle.circuit_parts.specs.declared.part.Flow.TheVariants.{Source}
-use Rattle.circuit_parts.specs.Parts.{part_of, source_of, flow_through}
+use Rattle.fir_tree.specs.declared.part.Part.{Part}
+use Rattle.fir_tree.specs.declared.part.Flow.{Flow}
+use Rattle.fir_tree.specs.declared.part.Flow.TheVariants.{Source}
+use Rattle.fir_tree.specs.Parts.{part_of, source_of, flow_through}
 use Rattle.fir_types.specs.Leaves.{leaves}
-use Rattle.circuit_parts.specs.Kinds.{sign_of, is_unsigned, ground, sign_or_unsigned}
+use Rattle.fir_tree.specs.Kinds.{sign_of, is_unsigned, ground, sign_or_unsigned}
 use Rattle.type_check.specs.declared.fault.TypeFault.{TypeFault}
 use Rattle.type_check.specs.declared.fault.TypeFault.TheVariants.{OperandKind, ConditionKind, NotPassive, LiteralFit}
 use Rattle.type_check.specs.Parts as check

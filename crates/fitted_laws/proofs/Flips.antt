@@ -19,9 +19,9 @@ use Rattle.fir_types.specs.Equivalence.{Equivalent, SameFields, IsUnsigned, IsSi
 use Rattle.fir_types.proofs.Layers.{flip-bundle}
 use Rattle.prim_ops.specs.declared.widths.Width.{Width}
 use Rattle.prim_ops.specs.declared.widths.Width.TheVariants.{Bits, Over}
-use Rattle.circuit_parts.specs.declared.part.Flow.{Flow}
-use Rattle.circuit_parts.specs.declared.part.Flow.TheVariants.{Source}
-use Rattle.circuit_parts.specs.Parts.{flow_through}
+use Rattle.fir_tree.specs.declared.part.Flow.{Flow}
+use Rattle.fir_tree.specs.declared.part.Flow.TheVariants.{Source}
+use Rattle.fir_tree.specs.Parts.{flow_through}
 use Rattle.width_rules.specs.declared.slot.Slot.{Slot}
 use Rattle.width_rules.specs.declared.rule.Formula.{Formula}
 use Rattle.width_rules.specs.Places.{Spot, spots, turned, slot_of, is_open, slots_from}

@@ -4,8 +4,8 @@ use Rattle.std.specs.Prelude.{nat_eq, is_some, option_map}
 use Rattle.std.specs.Map.{lookup}
 use Rattle.std.proofs.lemmas.Bool.{eqb-true, eq-eqb}
 use Rattle.prim_ops.specs.declared.widths.Width.{Width}
-use Rattle.circuit_parts.specs.declared.part.Flow.{Flow}
-use Rattle.circuit_parts.specs.declared.part.Flow.TheVariants.{Source}
+use Rattle.fir_tree.specs.declared.part.Flow.{Flow}
+use Rattle.fir_tree.specs.declared.part.Flow.TheVariants.{Source}
 use Rattle.type_check.specs.Parts as check
 use Rattle.width_rules.specs.declared.component.Component.{Component}
 use Rattle.width_rules.specs.declared.rule.Formula.{Formula}

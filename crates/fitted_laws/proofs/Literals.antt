@@ -5,7 +5,7 @@ use Rattle.std.proofs.lemmas.Bool.{le-leb, leb-true, leb-false, ltb-true, ltb-fa
 use Rattle.bit_words.specs.declared.value.Kind.{Kind}
 use Rattle.bit_words.specs.declared.value.Kind.TheVariants.{Unsigned, Signed}
 use Rattle.fir_types.specs.Bundles.{least_reaching}
-use Rattle.circuit_parts.specs.Kinds.{holds}
+use Rattle.fir_tree.specs.Kinds.{holds}
 use Rattle.type_check.specs.Expressions.{fits_literal}
 use Rattle.width_rules.specs.Sources as sources
 use Rattle.width_rules.specs.Sources.{least_holding}

@@ -10,7 +10,7 @@ use Rattle.prim_ops.specs.declared.widths.Width.{Width}
 use Rattle.prim_ops.specs.declared.widths.Width.TheVariants.{Bits}
 use Rattle.fir_tree.specs.declared.circuit.Module.{Module}
 use Rattle.fir_tree.specs.declared.stmt.Stmt.{Stmt}
-use Rattle.circuit_parts.specs.Parts.{part_of, port_flow, instance_in}
+use Rattle.fir_tree.specs.Parts.{part_of, port_flow, instance_in}
 use Rattle.type_check.specs.Parts as check
 use Rattle.type_check.specs.Texts.{twice_in}
 use Rattle.type_check.specs.Statements as checking

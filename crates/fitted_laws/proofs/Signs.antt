@@ -8,8 +8,8 @@ use Rattle.fir_types.specs.declared.fir_type.FirType.{FirType, the_lemmas}
 use Rattle.fir_types.specs.declared.fir_type.Shape.TheVariants as shape
 use Rattle.fir_types.specs.declared.fir_type.Field.{Field}
 use Rattle.fir_types.specs.Equivalence.{IsUnsigned, IsSigned, a_uint, a_reset, a_sint}
-use Rattle.circuit_parts.proofs.Shapes.{ShapeCase, shape_uint, shape_sint, shape_clock, shape_reset, shape_async, shape_bundle, shape_vector, case_of}
-use Rattle.circuit_parts.specs.Kinds.{sign_of, sign_or_unsigned, is_unsigned, is_async}
+use Rattle.fir_tree.proofs.Shapes.{ShapeCase, shape_uint, shape_sint, shape_clock, shape_reset, shape_async, shape_bundle, shape_vector, case_of}
+use Rattle.fir_tree.specs.Kinds.{sign_of, sign_or_unsigned, is_unsigned, is_async}
 use Rattle.prim_ops.specs.declared.operation.PrimOp.{PrimOp}
 use Rattle.type_check.specs.Expressions.{takes_async, sign_for}
 

@@ -22,11 +22,11 @@ use Rattle.fir_tree.specs.declared.stmt.Arm.{Arm, fold-Arm}
 use Rattle.fir_tree.specs.declared.stmt.Stmt.TheOpen.{Stmt-F, Arm-F}
 use Rattle.fir_tree.specs.declared.stmt.Stmt.TheFolds.{map-Stmt, map-Arm, fold-roll-Stmt, fold-roll-Arm}
 use Rattle.fir_tree.specs.declared.stmt.Stmt.TheViews.{roll-Stmt, roll-Arm}
-use Rattle.circuit_parts.specs.declared.part.Part.{Part as APart}
-use Rattle.circuit_parts.specs.declared.part.Flow.{Flow}
-use Rattle.circuit_parts.specs.declared.part.Flow.TheVariants.{Source, Sink, Duplex}
-use Rattle.circuit_parts.specs.Parts.{part_of, source_of, instance_in}
-use Rattle.circuit_parts.specs.Kinds.{is_unsigned, is_async, is_reset}
+use Rattle.fir_tree.specs.declared.part.Part.{Part as APart}
+use Rattle.fir_tree.specs.declared.part.Flow.{Flow}
+use Rattle.fir_tree.specs.declared.part.Flow.TheVariants.{Source, Sink, Duplex}
+use Rattle.fir_tree.specs.Parts.{part_of, source_of, instance_in}
+use Rattle.fir_tree.specs.Kinds.{is_unsigned, is_async, is_reset}
 use Rattle.type_check.specs.Parts as check
 use Rattle.type_check.specs.Texts.{twice_in, stored_faults, is_passive, has_signal, are_equivalent}
 use Rattle.type_check.specs.declared.fault.TypeFault.{TypeFault}

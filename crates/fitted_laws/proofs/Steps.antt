@@ -14,12 +14,12 @@ use Rattle.fir_types.specs.declared.fir_type.Shape.TheVariants.{outs-Unsigned, o
 use Rattle.fir_types.specs.declared.fir_type.Field.{Field, fold-Field}
 use Rattle.fir_types.specs.declared.name.Name.{Name}
 use Rattle.prim_ops.specs.declared.widths.Width.{Width}
-use Rattle.circuit_parts.specs.declared.part.Part.{Part}
-use Rattle.circuit_parts.specs.declared.part.Flow.{Flow}
-use Rattle.circuit_parts.specs.declared.part.Flow.TheVariants.{Source, Sink, Duplex}
-use Rattle.circuit_parts.specs.Parts.{part_of, flow_through, field_part, element_part, field_of_layer, field_or_whole, element_of_layer}
-use Rattle.circuit_parts.specs.Parts.{turned as turned_flow}
-use Rattle.circuit_parts.proofs.Shapes.{ShapeCase, shape_uint, shape_sint, shape_clock, shape_reset, shape_async, shape_bundle, shape_vector, case_of}
+use Rattle.fir_tree.specs.declared.part.Part.{Part}
+use Rattle.fir_tree.specs.declared.part.Flow.{Flow}
+use Rattle.fir_tree.specs.declared.part.Flow.TheVariants.{Source, Sink, Duplex}
+use Rattle.fir_tree.specs.Parts.{part_of, flow_through, field_part, element_part, field_of_layer, field_or_whole, element_of_layer}
+use Rattle.fir_tree.specs.Parts.{turned as turned_flow}
+use Rattle.fir_tree.proofs.Shapes.{ShapeCase, shape_uint, shape_sint, shape_clock, shape_reset, shape_async, shape_bundle, shape_vector, case_of}
 use Rattle.type_check.specs.declared.fault.TypeFault.{TypeFault}
 use Rattle.type_check.specs.Texts.{twice_in, twice_in_shape, field_faults, seconds_behind, FieldFaults}
 use Rattle.type_check.specs.Expressions as typing_check

@@ -16,10 +16,10 @@ use Rattle.fir_types.specs.declared.name.Name.{Name}
 use Rattle.fir_types.specs.Memories.{element_of, depth_of}
 use Rattle.fir_types.specs.Bundles.{instance_of, instance_field, memory_of, port_field, port_type, address_bits, mask_of, plain_field, uint_at, clock_at, flipped_field, fields_of_mode, addr_name, en_name, clk_name, data_name, mask_name, rdata_name, wmode_name, wdata_name, wmask_name}
 use Rattle.fir_tree.specs.declared.circuit.Module.{Module}
-use Rattle.circuit_parts.specs.declared.part.Part.{Part}
-use Rattle.circuit_parts.specs.declared.part.Flow.TheVariants.{Source}
-use Rattle.circuit_parts.specs.Parts.{source_of}
-use Rattle.circuit_parts.specs.Parts as parts
+use Rattle.fir_tree.specs.declared.part.Part.{Part}
+use Rattle.fir_tree.specs.declared.part.Flow.TheVariants.{Source}
+use Rattle.fir_tree.specs.Parts.{source_of}
+use Rattle.fir_tree.specs.Parts as parts
 use Rattle.type_check.specs.Texts.{twice_in}
 use Rattle.type_check.specs.Memories.{memory_faults}
 use Rattle.width_rules.specs.declared.component.Component.{Component}

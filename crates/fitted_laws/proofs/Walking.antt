@@ -8,7 +8,7 @@ use Rattle.fir_types.specs.declared.fir_type.FirType.{FirType}
 use Rattle.fir_types.specs.declared.name.Name.{Name}
 use Rattle.prim_ops.specs.declared.widths.Width.{Width}
 use Rattle.fir_tree.specs.declared.circuit.Module.{Module}
-use Rattle.circuit_parts.specs.Parts.{instance_in}
+use Rattle.fir_tree.specs.Parts.{instance_in}
 use Rattle.type_check.specs.Parts as check
 use Rattle.type_check.specs.Statements as checking
 use Rattle.width_rules.specs.declared.component.Component.{Component}

@@ -22,9 +22,9 @@ use Rattle.fir_meaning.specs.Values as tree
 use Rattle.fir_meaning.specs.Values.{element_of_shape, suffix_step}
 use Rattle.fir_meaning.specs.Mentions as reads
 use Rattle.fir_meaning.specs.Mentions.{suffix_onward}
-use Rattle.ground_parts.specs.declared.part.Part.{Part}
+use Rattle.ground_exprs.specs.declared.part.Part.{Part}
 use Rattle.fir_meaning.specs.WellTyped.{is_narrow}
-use Rattle.ground_parts.proofs.Members.{none_some, some_same}
+use Rattle.ground_exprs.proofs.Members.{none_some, some_same}
 use Rattle.ground_exprs.specs.declared.source.Source.{Source}
 use Rattle.ground_exprs.specs.Sources.{Entries, known_of, told, Lowers, IsLowered, AreOfPart, AreOperands, Leads, typed_step}
 use Rattle.ground_exprs.proofs.Lowered.{lowers_as, reference_lowers}

@@ -17,8 +17,8 @@ use Rattle.ground_net.proofs.Layers.{value-Fit, mentions-Fit}
 use Rattle.net_meaning.specs.Shapes.{Shape, shaped, shape_of_value, Table, shape, all_of, shape_of_fit}
 use Rattle.net_meaning.proofs.Shaping.{shape-Fit, shapes_hold}
 use Rattle.fir_meaning.specs.Components.{kind_of_leaf, width_of_leaf}
-use Rattle.ground_parts.specs.declared.part.Pick.{Pick}
-use Rattle.ground_parts.specs.Parts.{choices, are_indices, is_nowhere, IsRead}
+use Rattle.ground_exprs.specs.declared.part.Pick.{Pick}
+use Rattle.ground_exprs.specs.Parts.{choices, are_indices, is_nowhere, IsRead}
 use Rattle.ground_exprs.specs.declared.source.Source.{Source}
 use Rattle.ground_exprs.specs.Sources.{told, IsFitted, IsOfLeaf}
 

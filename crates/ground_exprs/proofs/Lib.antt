@@ -1,3 +1,8 @@
+pub mod Members
+pub mod Selections
+pub mod Insides
+pub mod Onwards
+pub mod Narrow
 pub mod Lists
 pub mod Leasts
 pub mod Fits

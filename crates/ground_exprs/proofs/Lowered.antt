@@ -29,12 +29,12 @@ use Rattle.fir_meaning.specs.Values as tree
 use Rattle.fir_meaning.specs.Values.{Scene, Spot, field_type, element_type, vector_length, or_itself, field_of_shape, element_of_shape, part_of, element_step, suffix_step, follow, whole}
 use Rattle.fir_meaning.specs.Mentions as reads
 use Rattle.fir_meaning.specs.Mentions.{Scope, Region, joined, behind_each, elements_behind, suffix_onward, follow_all, whole_region, leaves_at}
-use Rattle.ground_parts.specs.declared.part.Part.{Part}
-use Rattle.ground_parts.specs.declared.part.Pick.{Pick}
-use Rattle.ground_parts.specs.Parts.{are_indices, is_index_shape}
-use Rattle.ground_parts.specs.Numbers.{Numbering, IsPart, IsInside, SameLeaves, scene_seen}
+use Rattle.ground_exprs.specs.declared.part.Part.{Part}
+use Rattle.ground_exprs.specs.declared.part.Pick.{Pick}
+use Rattle.ground_exprs.specs.Parts.{are_indices, is_index_shape}
+use Rattle.ground_exprs.specs.Numbers.{Numbering, IsPart, IsInside, SameLeaves, scene_seen}
 use Rattle.fir_meaning.specs.WellTyped.{is_narrow}
-use Rattle.ground_parts.proofs.Onwards.{part_inside, part_indexed, part_whole, part_told}
+use Rattle.ground_exprs.proofs.Onwards.{part_inside, part_indexed, part_whole, part_told}
 use Rattle.ground_exprs.specs.declared.source.Source.{Source}
 use Rattle.ground_exprs.specs.declared.component.Component.{Component}
 use Rattle.ground_exprs.specs.Sources.{Entries, known_of, AreNarrow, told, ReadEach, Lowers, IsLowered, AreOfPart, typed_step, Steps, Leads}

@@ -21,9 +21,9 @@ use Rattle.fir_meaning.specs.Values as tree
 use Rattle.fir_meaning.specs.Values.{Scene, one_of_two}
 use Rattle.fir_meaning.specs.Mentions as reads
 use Rattle.fir_meaning.specs.Mentions.{Scope, joined}
-use Rattle.ground_parts.specs.Numbers.{Numbering, SameLeaves, scene_seen}
-use Rattle.ground_parts.proofs.Members.{none_some, some_same}
-use Rattle.ground_parts.proofs.Onwards.{same_append}
+use Rattle.ground_exprs.specs.Numbers.{Numbering, SameLeaves, scene_seen}
+use Rattle.ground_exprs.proofs.Members.{none_some, some_same}
+use Rattle.ground_exprs.proofs.Onwards.{same_append}
 use Rattle.ground_exprs.specs.declared.source.Source.{Source}
 use Rattle.ground_exprs.specs.Sources.{Entries, known_of, told, source_values, ReadEach, Lowers, IsLowered}
 use Rattle.ground_exprs.specs.Choices.{IsChosen, AreChosen}

@@ -22,9 +22,9 @@ use Rattle.fir_meaning.specs.Values as tree
 use Rattle.fir_meaning.specs.Values.{Scene, one_of_two, literal_width}
 use Rattle.fir_meaning.specs.Mentions as reads
 use Rattle.fir_meaning.specs.Mentions.{Scope, joined}
-use Rattle.ground_parts.specs.Numbers.{Numbering, SameLeaves, scene_seen}
-use Rattle.ground_parts.proofs.Members.{none_some, some_same, place_within, item_at}
-use Rattle.ground_parts.proofs.Onwards.{same_none, same_append}
+use Rattle.ground_exprs.specs.Numbers.{Numbering, SameLeaves, scene_seen}
+use Rattle.ground_exprs.proofs.Members.{none_some, some_same, place_within, item_at}
+use Rattle.ground_exprs.proofs.Onwards.{same_none, same_append}
 use Rattle.ground_exprs.specs.declared.source.Source.{Source}
 use Rattle.ground_exprs.specs.Sources.{Entries, known_of, Knows, told, source_values, IsLowered, AreOperands, is_lone}
 use Rattle.ground_exprs.proofs.Lists.{maps_same}

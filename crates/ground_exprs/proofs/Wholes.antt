@@ -18,13 +18,13 @@ use Rattle.fir_meaning.specs.Components.{width_of_leaf}
 use Rattle.fir_meaning.specs.Values.{Spot, values_at, fitted_to}
 use Rattle.fir_meaning.specs.Mentions.{Region, leaves_at}
 use Rattle.fir_meaning.specs.WellTyped.{leaf_shape}
-use Rattle.ground_parts.specs.declared.part.Part.{Part}
-use Rattle.ground_parts.specs.Parts.{picked, choices, are_indices}
-use Rattle.ground_parts.specs.Numbers.{Numbering, Reaches, SameLeaves, IsPart, scene_seen}
+use Rattle.ground_exprs.specs.declared.part.Part.{Part}
+use Rattle.ground_exprs.specs.Parts.{picked, choices, are_indices}
+use Rattle.ground_exprs.specs.Numbers.{Numbering, Reaches, SameLeaves, IsPart, scene_seen}
 use Rattle.fir_meaning.specs.WellTyped.{is_narrow}
-use Rattle.ground_parts.proofs.Members.{none_some, some_same, from_place, at_place, in_map, from_map}
-use Rattle.ground_parts.proofs.Onwards.{picked_moved, choice_moved, choice_back}
-use Rattle.ground_parts.proofs.Narrow.{narrow}
+use Rattle.ground_exprs.proofs.Members.{none_some, some_same, from_place, at_place, in_map, from_map}
+use Rattle.ground_exprs.proofs.Onwards.{picked_moved, choice_moved, choice_back}
+use Rattle.ground_exprs.proofs.Narrow.{narrow}
 use Rattle.ground_exprs.specs.declared.source.Source.{Source}
 use Rattle.ground_exprs.specs.Sources.{told, source_values, ReadEach, IsOfLeaf, AreOfLeaves, AreOfPart}
 use Rattle.ground_exprs.proofs.Lists.{maps_same}
@@ -94,7 +94,7 @@ module _ (n : Numbering) (types : ℕ → FirType) (region : Region) (spot : Ins
     where
       one : (j : ℕ) (s : Source) → slice_get sources j ≡ Some s → shape s.expr n.table ≡ Some (told s)
       one j s f =
-          let there = Rattle.ground_parts.proofs.Members.item_at (leaves typ) j (subst (λ m. j < m) all.counted (Rattle.ground_parts.proofs.Members.place_within sources j s f)) in
+          let there = Rattle.ground_exprs.proofs.Members.item_at (leaves typ) j (subst (λ m. j < m) all.counted (Rattle.ground_exprs.proofs.Members.place_within sources j s f)) in
           (all.each j there.0 s there.1 f).shape n.table i (in_table j there.0 s there.1 f)
 
       each : (ss : List Source) → ((j : ℕ) (s : Source) → slice_get ss j ≡ Some s → shape s.expr n.table ≡ Some (told s)) → map (λ s. shape s.expr n.table) ss ≡ map (λ s. Some (told s)) ss

@@ -18,10 +18,10 @@ use Rattle.fir_meaning.specs.Mentions as tree_reads
 use Rattle.fir_meaning.specs.Mentions.{Scope}
 use Rattle.fir_meaning.specs.WellTyped.{Known, typed, lone_shape, type_behind}
 pub use Rattle.fir_meaning.specs.WellTyped.{typed_step}
-use Rattle.ground_parts.specs.declared.part.Pick.{Pick}
-use Rattle.ground_parts.specs.declared.part.Part.{Part}
-use Rattle.ground_parts.specs.Parts.{picked, choices, index_mentions, are_indices}
-use Rattle.ground_parts.specs.Numbers.{Numbering, StandsAt, SameLeaves, IsPart, scene_seen}
+use Rattle.ground_exprs.specs.declared.part.Pick.{Pick}
+use Rattle.ground_exprs.specs.declared.part.Part.{Part}
+use Rattle.ground_exprs.specs.Parts.{picked, choices, index_mentions, are_indices}
+use Rattle.ground_exprs.specs.Numbers.{Numbering, StandsAt, SameLeaves, IsPart, scene_seen}
 use Rattle.fir_meaning.specs.WellTyped.{is_narrow}
 use Rattle.ground_exprs.specs.declared.source.Source.{Source}
 use Rattle.ground_exprs.specs.declared.component.Component.{Component}

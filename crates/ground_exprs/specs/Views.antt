@@ -2,8 +2,8 @@
 use Rattle.std.specs.Prelude.{◌≡◌, ℕ, ◌+◌}
 use Rattle.fir_types.specs.declared.fir_type.FirType.{FirType}
 use Rattle.fir_types.specs.declared.leaf.PathStep.{PathStep}
-use Rattle.ground_parts.specs.declared.part.Part.{Part}
-use Rattle.ground_parts.specs.Numbers.{IsInside}
+use Rattle.ground_exprs.specs.declared.part.Part.{Part}
+use Rattle.ground_exprs.specs.Numbers.{IsInside}
 
 -- The part behind this step begins so many leaves further on as stand before its type in the outer one.
 pub record Moves (outer : FirType) (next : PathStep) (part : Part) (inner : FirType) (after : Part) : Type 0 where

@@ -11,17 +11,17 @@ ghost use Rattle.ground_exprs.specs.Sources.{Entries, known_of, AreNarrow, Lower
 use crate::choice::chosen;
 use crate::component::Component;
 use crate::constants::{constant, width_of};
+use crate::inside::to_elements;
 use crate::operation::{lone, operation};
+use crate::part::{Part, Pick};
 use crate::part_sources::sources_of;
 use crate::source::Source;
+use crate::stepping::{indexed, whole};
 use crate::views::{View, enter_element, enter_field};
 use bit_words::{Kind, List, Number};
 use fir_tree::{Expr, Form, Suffix};
 use fir_types::{FirType, Name};
 use ground_net::Ground;
-use ground_parts::inside::to_elements;
-use ground_parts::stepping::{indexed, whole};
-use ground_parts::{Part, Pick};
 use indexmap::IndexMap;
 use std::alloc::{AllocError, Global};
 

@@ -6,12 +6,12 @@ ghost use Rattle.fir_types.specs.Leaves.{leaves};
 ghost use Rattle.fir_meaning.specs.Components.{kind_of_shape, width_of_shape};
 ghost use Rattle.ground_exprs.specs.Sources.{AreOfPart, IsOfLeaf};
 
+use crate::part::{Part, Pick};
+use crate::reading::{read, sum_of};
 use crate::source::Source;
 use bit_words::{Kind, List};
 use fir_types::{FirType, Shape, TypeLeaf, leaf_count, leaves};
 use ground_net::Ground;
-use ground_parts::reading::{read, sum_of};
-use ground_parts::{Part, Pick};
 use std::alloc::{AllocError, Global};
 
 /// The kind of the values of a ground type. A `Clock` has no value, and counts as a `UInt` of no bits.

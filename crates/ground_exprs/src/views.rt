@@ -4,13 +4,13 @@ ghost use Rattle.std.specs.Prelude.{◌≡◌, ◌<◌, ℕ, Some, IfOk, IsSome}
 ghost use Rattle.fir_types.specs.declared.fir_type.Shape.TheViews.{out-Shape};
 ghost use Rattle.fir_types.specs.declared.leaf.PathStep.TheVariants as step;
 ghost use Rattle.fir_meaning.specs.Values.{field_of_shape, element_of_shape, vector_length};
-ghost use Rattle.ground_parts.specs.Numbers.{IsInside};
+ghost use Rattle.ground_exprs.specs.Numbers.{IsInside};
 ghost use Rattle.ground_exprs.specs.Views.{Moves};
 
+use crate::inside::{to_elements, to_field};
+use crate::part::Part;
+use crate::stepping::{moved, moved_to};
 use fir_types::FirType;
-use ground_parts::Part;
-use ground_parts::inside::{to_elements, to_field};
-use ground_parts::stepping::{moved, moved_to};
 use std::alloc::AllocError;
 
 /// A part of a component with its type.

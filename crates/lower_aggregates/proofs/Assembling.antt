@@ -10,7 +10,7 @@ use Rattle.fir_types.specs.Leaves.{leaves}
 use Rattle.fir_tree.specs.declared.circuit.Circuit.{Circuit}
 use Rattle.fir_tree.specs.declared.circuit.Module.{Module}
 use Rattle.fir_tree.specs.declared.scope.Scope.{Scope}
-use Rattle.leaf_names.specs.LeafNames.{Texts}
+use Rattle.fir_tree.specs.LeafNames.{Texts}
 use Rattle.circuit_laws.proofs.Scoping.{declared_once}
 use Rattle.fir_meaning.specs.Components.{TypedModule, Component, Sort, An_input, An_output, A_wire, A_register, A_reset_register, A_memory, An_instance, A_node, declarations_of, type_in}
 use Rattle.fir_meaning.specs.WellTyped.{Known, are_typed, is_condition, is_typed}
@@ -19,22 +19,22 @@ use Rattle.ground_net.specs.declared.circuit.GroundStmt.{GroundStmt}
 use Rattle.ground_net.specs.declared.circuit.GroundMemory.{GroundMemory}
 use Rattle.ground_net.specs.declared.circuit.GroundInstance.{GroundInstance}
 use Rattle.ground_net.specs.declared.net.NetRegister.{NetRegister}
-use Rattle.ground_of_circuit.specs.Numbers.{number_of, table_of}
-use Rattle.ground_of_circuit.specs.Lowering.{IsGroundModule}
+use Rattle.net_of_circuit.specs.Numbers.{number_of, table_of}
+use Rattle.net_of_circuit.specs.Lowering.{IsGroundModule}
 use Rattle.ground_exprs.specs.Sources.{Entries, AreNarrow, Knows, known_of}
-use Rattle.ground_tables.specs.declared.pieces.Piece.{Piece}
-use Rattle.ground_tables.specs.Headings.{Heading, headings_of}
-use Rattle.ground_tables.specs.Parts.{Part, parts_from, parts_of, component_parts}
-use Rattle.ground_tables.specs.Held.{held_sort, held_part, ArePieces}
-use Rattle.ground_tables.specs.Tables.{leaf_row, piece_rows, flags_of_piece, port_size}
-use Rattle.ground_tables.specs.Views.{KnowsPieces, AreNamedOnce}
-use Rattle.ground_tables.proofs.Listing.{headings_are}
-use Rattle.ground_tables.proofs.Zipping.{parts_are}
-use Rattle.ground_tables.proofs.Viewing.{named_once, component_known, known_component}
-use Rattle.ground_tables.proofs.Modules.{ports_counted, flags_listed, flag_at, table_listed, table_counted, table_leaf, table_shape}
-use Rattle.ground_bodies.specs.Bodies.{IsViewOf, HasTable, IsBody, IsWholeBody}
-use Rattle.ground_bodies.proofs.Views.{narrow_view, typed_view, knows_view, number_at}
-use Rattle.ground_bodies.proofs.Wholes.{whole_body}
+use Rattle.lower_aggregates.specs.declared.pieces.Piece.{Piece}
+use Rattle.lower_aggregates.specs.Headings.{Heading, headings_of}
+use Rattle.lower_aggregates.specs.Parts.{Part, parts_from, parts_of, component_parts}
+use Rattle.lower_aggregates.specs.Held.{held_sort, held_part, ArePieces}
+use Rattle.lower_aggregates.specs.Tables.{leaf_row, piece_rows, flags_of_piece, port_size}
+use Rattle.lower_aggregates.specs.Views.{KnowsPieces, AreNamedOnce}
+use Rattle.lower_aggregates.proofs.Listing.{headings_are}
+use Rattle.lower_aggregates.proofs.Zipping.{parts_are}
+use Rattle.lower_aggregates.proofs.Viewing.{named_once, component_known, known_component}
+use Rattle.lower_aggregates.proofs.Modules.{ports_counted, flags_listed, flag_at, table_listed, table_counted, table_leaf, table_shape}
+use Rattle.ground_statements.specs.Bodies.{IsViewOf, HasTable, IsBody, IsWholeBody}
+use Rattle.ground_statements.proofs.Views.{narrow_view, typed_view, knows_view, number_at}
+use Rattle.ground_statements.proofs.Wholes.{whole_body}
 use Rattle.lower_aggregates.specs.Registers.{AreRegisters, IsTypedSort, is_typed_sort}
 use Rattle.lower_aggregates.specs.Memories.{memory_row, memories_in}
 use Rattle.lower_aggregates.specs.Instances.{Numbers, IsMade, instance_row, instances_from}

@@ -18,7 +18,7 @@ use Rattle.fir_meaning.specs.Components.{TypedModule, declarations_of, with_type
 use Rattle.fir_meaning.proofs.Tracking.{none_some}
 use Rattle.circuit_laws.specs.WellFormed.{IsWellFormed}
 use Rattle.ground_net.specs.declared.circuit.GroundModule.{GroundModule}
-use Rattle.ground_tables.specs.Headings.{headings_of}
+use Rattle.lower_aggregates.specs.Headings.{headings_of}
 use Rattle.lower_aggregates.specs.Instances.{Numbers}
 use Rattle.lower_aggregates.specs.Modules.{IsLowerable}
 use Rattle.lower_aggregates.specs.Circuits.{IsPlaced, with_new, StandsFrom, IsMadeAt, AreMade}

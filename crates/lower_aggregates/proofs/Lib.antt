@@ -1,3 +1,8 @@
+pub mod Listing
+pub mod Knowing
+pub mod Zipping
+pub mod Modules
+pub mod Viewing
 pub mod Porting
 pub mod Registering
 pub mod Setting

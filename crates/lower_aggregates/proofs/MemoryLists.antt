@@ -11,7 +11,7 @@ use Rattle.fir_types.specs.declared.memory.PortMode.{PortMode}
 use Rattle.fir_types.specs.Leaves.{leaves}
 use Rattle.fir_types.specs.Memories.{element_of}
 use Rattle.fir_tree.specs.declared.circuit.Module.{Module}
-use Rattle.leaf_names.specs.LeafNames.{Texts}
+use Rattle.fir_tree.specs.LeafNames.{Texts}
 use Rattle.fir_meaning.specs.Components.{TypedModule, Component, A_memory, ports_bundle, width_of_leaf}
 use Rattle.fir_meaning.specs.Elements.{IsElement}
 use Rattle.fir_meaning.specs.MemoryPorts.{MemoryPort, memory_ports}
@@ -19,9 +19,9 @@ use Rattle.fir_meaning.specs.States.{leaf_of}
 use Rattle.fir_meaning.specs.WellTyped.{HasTypes}
 use Rattle.ground_net.specs.declared.circuit.GroundMemory.{GroundMemory}
 use Rattle.ground_net.specs.declared.net.ElementLeaf.{ElementLeaf}
-use Rattle.ground_of_circuit.specs.Numbers.{number_of, leaves_before, memory_parts}
-use Rattle.ground_of_circuit.specs.Lowering.{IsGroundMemory}
-use Rattle.ground_tables.specs.Parts.{component_part, parts_of}
+use Rattle.net_of_circuit.specs.Numbers.{number_of, leaves_before, memory_parts}
+use Rattle.net_of_circuit.specs.Lowering.{IsGroundMemory}
+use Rattle.lower_aggregates.specs.Parts.{component_part, parts_of}
 use Rattle.lower_aggregates.specs.declared.memories.HowRead.{HowRead}
 use Rattle.lower_aggregates.specs.Elements.{ElementRow, element_row, own_row}
 use Rattle.lower_aggregates.specs.Memories.{MemoryRow, port_leaves, memory_row, memory_by, memories_in, mode_of_first, first_mode_of, stored, stored_by, ports_from, reading_of}

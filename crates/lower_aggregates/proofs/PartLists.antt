@@ -5,10 +5,10 @@ use Rattle.std.proofs.lemmas.Grind.{common_steps}
 use Rattle.std.proofs.lemmas.List.Sums.{sum_by-cons}
 use Rattle.fir_types.specs.declared.memory.Memory.{Memory}
 use Rattle.fir_types.specs.Leaves.{leaves}
-use Rattle.leaf_names.specs.LeafNames.{Texts}
+use Rattle.fir_tree.specs.LeafNames.{Texts}
 use Rattle.fir_meaning.specs.Components.{Component, Sort, An_input, An_output, A_wire, A_register, A_reset_register, A_memory, An_instance, A_node, target_in}
-use Rattle.ground_of_circuit.specs.Numbers.{as_memory}
-use Rattle.ground_tables.specs.Parts.{component_part, component_parts}
+use Rattle.net_of_circuit.specs.Numbers.{as_memory}
+use Rattle.lower_aggregates.specs.Parts.{component_part, component_parts}
 use Rattle.lower_aggregates.specs.Memories.{MemoryRow, memory_by, memory_where, memories_in}
 use Rattle.lower_aggregates.specs.Instances.{InstanceRow, Numbers, instance_where, instances_from, memories_by}
 use Rattle.lower_aggregates.specs.Standing.{memory_parts_from, instance_parts_from, MemoryThere, InstanceThere}

@@ -16,8 +16,8 @@ use Rattle.fir_meaning.specs.Components.{TypedModule, Component, ports_bundle}
 use Rattle.fir_meaning.specs.MemoryPorts.{MemoryPort, memory_ports}
 use Rattle.fir_meaning.specs.States.{leaf_of}
 use Rattle.ground_net.specs.declared.net.NetPort.{NetPort}
-use Rattle.ground_of_circuit.specs.Numbers.{number_of}
-use Rattle.ground_of_circuit.specs.Lowering.{AreOfField, IsGroundPort}
+use Rattle.net_of_circuit.specs.Numbers.{number_of}
+use Rattle.net_of_circuit.specs.Lowering.{AreOfField, IsGroundPort}
 use Rattle.lower_aggregates.specs.declared.memories.HowRead.{HowRead}
 use Rattle.lower_aggregates.specs.Memories.{reading_of, port_leaves, port_numbers, ports_from}
 use Rattle.lower_aggregates.proofs.PortLeaves.{ways, behind, port_ways, all_ways, memory_ways}

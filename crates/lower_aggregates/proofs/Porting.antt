@@ -12,11 +12,11 @@ use Rattle.fir_types.specs.declared.memory.Under.{Under}
 use Rattle.fir_types.specs.Memories.{read_latency_in, under_in}
 use Rattle.fir_types.proofs.Lines.{lines_more}
 use Rattle.fir_meaning.specs.MemoryPorts.{MemoryPort, port_in}
-use Rattle.leaf_names.specs.LeafNames.{Texts}
+use Rattle.fir_tree.specs.LeafNames.{Texts}
 use Rattle.ground_net.specs.declared.circuit.GroundMemory.{GroundMemory}
 use Rattle.ground_net.specs.declared.net.NetPort.{NetPort}
-use Rattle.ground_tables.specs.declared.pieces.Piece.{Piece}
-use Rattle.ground_tables.specs.Held.{held_part}
+use Rattle.lower_aggregates.specs.declared.pieces.Piece.{Piece}
+use Rattle.lower_aggregates.specs.Held.{held_part}
 use Rattle.lower_aggregates.specs.declared.memories.HowRead.{HowRead}
 use Rattle.lower_aggregates.specs.Memories.{port_numbers, ports_from, port_leaves, size_of_ports, size_of_line, mode_of_first, first_mode_of, MemoryRow, memory_row, memory_in, memories_in}
 

@@ -11,9 +11,9 @@ use Rattle.fir_meaning.specs.Components.{Component, Sort, An_input, An_output, A
 use Rattle.fir_meaning.specs.States.{is_register}
 use Rattle.ground_net.specs.declared.net.NetRegister.{NetRegister}
 use Rattle.ground_net.specs.declared.net.NetReset.{NetReset}
-use Rattle.ground_of_circuit.specs.Numbers.{ModuleLeaf, leaves_of}
+use Rattle.net_of_circuit.specs.Numbers.{ModuleLeaf, leaves_of}
 use Rattle.ground_exprs.specs.Sources.{Entries}
-use Rattle.ground_tables.specs.Parts.{Part, component_part, component_parts}
+use Rattle.lower_aggregates.specs.Parts.{Part, component_part, component_parts}
 use Rattle.lower_aggregates.specs.Registers.{AreFirst, AreOwnBy, AreRegisters, HasResetBy, RegisterAt, PlainReset, ResetTo}
 
 some_same : {A : Type 0} {x y : A} → Some x ≡ Some y → x ≡ y

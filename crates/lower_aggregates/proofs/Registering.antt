@@ -17,9 +17,9 @@ use Rattle.ground_net.specs.declared.net.NetRegister.{NetRegister}
 use Rattle.ground_net.specs.declared.net.NetReset.{NetReset}
 use Rattle.ground_exprs.specs.declared.source.Source.{Source}
 use Rattle.ground_exprs.specs.Sources.{Entries, IsLowered, IsFitted}
-use Rattle.ground_tables.specs.declared.pieces.Piece.{Piece}
-use Rattle.ground_tables.specs.Held.{held_part}
-use Rattle.ground_tables.specs.Parts.{Part}
+use Rattle.lower_aggregates.specs.declared.pieces.Piece.{Piece}
+use Rattle.lower_aggregates.specs.Held.{held_part}
+use Rattle.lower_aggregates.specs.Parts.{Part}
 use Rattle.lower_aggregates.specs.Registers.{IsInit, ResetTo, AreFirst, AreOwnBy, AreOwn, AreRegisters}
 
 some_same : {A : Type 0} {x y : A} → Some x ≡ Some y → x ≡ y

@@ -28,9 +28,9 @@ use Rattle.ground_net.specs.Grounds.{Instant, value, mentions}
 use Rattle.ground_net.proofs.Layers.{value-Const, mentions-Const}
 use Rattle.net_meaning.specs.Shapes.{shaped, Table, HasShapes, shape, shape_of_value, is_unsigned}
 use Rattle.net_meaning.proofs.Shaping.{shape-Const}
-use Rattle.ground_of_circuit.specs.Numbers.{number_of, scene_at, SameReads}
-use Rattle.ground_of_circuit.specs.Lowering.{IsReset}
-use Rattle.ground_parts.specs.Numbers.{Numbering, SameLeaves}
+use Rattle.net_of_circuit.specs.Numbers.{number_of, scene_at, SameReads}
+use Rattle.net_of_circuit.specs.Lowering.{IsReset}
+use Rattle.ground_exprs.specs.Numbers.{Numbering, SameLeaves}
 use Rattle.ground_exprs.specs.declared.source.Source.{Source}
 use Rattle.ground_exprs.specs.Sources.{Entries, Knows, AreSources, ReadEach, IsLowered, known_of, told}
 use Rattle.lower_aggregates.specs.Registers.{IsInit}

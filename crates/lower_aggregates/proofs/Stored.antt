@@ -20,7 +20,7 @@ use Rattle.fir_types.specs.Leaves.{leaves, under, field_leaves}
 use Rattle.fir_types.specs.Memories.{depth_of}
 use Rattle.fir_types.specs.Bundles.{address_bits, addr_name, en_name, clk_name, data_name, mask_name, rdata_name, wmode_name, wdata_name, wmask_name, plain_field, flipped_field, uint_at, clock_at, mask_of, fields_of_mode, port_type, port_field}
 use Rattle.fir_types.proofs.Layers.{leaves-bundle, leaves-field}
-use Rattle.leaf_names.specs.LeafNames.{Texts}
+use Rattle.fir_tree.specs.LeafNames.{Texts}
 use Rattle.fir_meaning.specs.Components.{ports_bundle, width_of_leaf}
 use Rattle.lower_aggregates.specs.Elements.{own_row, row_before, rows_while, way_behind}
 use Rattle.lower_aggregates.specs.Memories.{shown_field, first_mode_of, stored_by, stored}

@@ -11,7 +11,7 @@ use Rattle.fir_types.specs.declared.leaf.TypeLeaf.{TypeLeaf}
 use Rattle.fir_types.specs.Leaves.{leaves}
 use Rattle.fir_tree.specs.declared.circuit.Circuit.{Circuit}
 use Rattle.fir_tree.specs.declared.circuit.Module.{Module}
-use Rattle.leaf_names.specs.LeafNames.{Texts}
+use Rattle.fir_tree.specs.LeafNames.{Texts}
 use Rattle.fir_names.specs.Scopes.{Means}
 use Rattle.fir_meaning.specs.Components.{TypedModule, Component, Sort, An_input, An_output, A_wire, A_register, A_reset_register, A_memory, An_instance, A_node, type_in}
 use Rattle.fir_meaning.specs.States.{is_register}
@@ -19,12 +19,12 @@ use Rattle.fir_meaning.specs.WellTyped.{HasTypes, are_typed, is_condition, is_ty
 use Rattle.ground_net.specs.declared.circuit.GroundInstance.{GroundInstance}
 use Rattle.ground_net.specs.declared.net.NetRegister.{NetRegister}
 use Rattle.net_meaning.specs.Shapes.{Table}
-use Rattle.ground_of_circuit.specs.Numbers.{ModuleLeaf, module_leaves, leaves_of, number_of, leaves_before, instance_parts, memory_parts}
-use Rattle.ground_of_circuit.specs.Lowering.{HasReset, IsGroundInstance}
+use Rattle.net_of_circuit.specs.Numbers.{ModuleLeaf, module_leaves, leaves_of, number_of, leaves_before, instance_parts, memory_parts}
+use Rattle.net_of_circuit.specs.Lowering.{HasReset, IsGroundInstance}
 use Rattle.ground_exprs.specs.Sources.{Entries, Knows, known_of}
-use Rattle.ground_tables.specs.Headings.{Heading, heading_of, headings_of}
-use Rattle.ground_tables.specs.Parts.{parts_of}
-use Rattle.ground_tables.proofs.Listing.{headings_are}
+use Rattle.lower_aggregates.specs.Headings.{Heading, heading_of, headings_of}
+use Rattle.lower_aggregates.specs.Parts.{parts_of}
+use Rattle.lower_aggregates.proofs.Listing.{headings_are}
 use Rattle.lower_aggregates.specs.Registers.{AreRegisters, HasResetBy, is_typed_sort}
 use Rattle.lower_aggregates.specs.Instances.{Numbers, instance_row, instances_from}
 use Rattle.lower_aggregates.proofs.RegisterLists.{register_at}

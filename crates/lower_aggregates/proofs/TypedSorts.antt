@@ -12,8 +12,8 @@ use Rattle.fir_tree.specs.declared.stmt.Stmt.TheFolds.{map-Stmt, map-Arm, fold-r
 use Rattle.fir_tree.specs.declared.stmt.Stmt.TheViews.{roll-Stmt, roll-Arm}
 use Rattle.fir_meaning.specs.WellTyped as kinds
 use Rattle.fir_meaning.specs.WellTyped.{Known, is_typed_stmt, are_typed}
-use Rattle.ground_tables.specs.Headings as heads
-use Rattle.ground_tables.specs.Headings.{Heading, all_headings, stmt_headings, arm_headings, port_heading, headings_of}
+use Rattle.lower_aggregates.specs.Headings as heads
+use Rattle.lower_aggregates.specs.Headings.{Heading, all_headings, stmt_headings, arm_headings, port_heading, headings_of}
 use Rattle.lower_aggregates.specs.Registers.{is_typed_sort}
 
 both_true : (p q : Bool) → (p && q) ≡ true → (p ≡ true) × (q ≡ true)

@@ -18,7 +18,7 @@ use Rattle.fir_tree.specs.declared.stmt.Stmt.TheViews.{roll-Stmt, roll-Arm}
 use Rattle.fir_meaning.specs.Components.{Declaration, Declares, Told, ToldArm, told, of_told, of_told_arm, one, declared_from, declared_in_block, declared_by_port, Sort, An_input, An_output, Component, TypedModule}
 use Rattle.fir_meaning.specs.States.{is_port}
 use Rattle.fir_meaning.specs.WellTyped.{HasTypes}
-use Rattle.ground_of_circuit.specs.Numbers.{leaves_before}
+use Rattle.net_of_circuit.specs.Numbers.{leaves_before}
 
 abbrev told_arm : Arm → ToldArm
 told_arm = fold-Arm Told ToldArm of_told of_told_arm

@@ -7,7 +7,7 @@ use Rattle.fir_tree.specs.declared.scope.Fitted.{Fitted}
 use Rattle.fir_names.specs.Finds.{numbered}
 use Rattle.fir_meaning.specs.Components.{TypedModule, declarations_of, with_types, modules_of}
 use Rattle.ground_net.specs.declared.circuit.GroundModule.{GroundModule}
-use Rattle.ground_of_circuit.specs.Lowering.{IsGroundModule}
+use Rattle.net_of_circuit.specs.Lowering.{IsGroundModule}
 use Rattle.lower_aggregates.specs.Instances.{Numbers}
 
 -- Each name has the number of the first of these names that is the same.

@@ -4,7 +4,7 @@ use Rattle.bit_words.specs.declared.value.Kind.{Kind}
 use Rattle.fir_types.specs.declared.leaf.TypeLeaf.{TypeLeaf}
 use Rattle.fir_types.specs.declared.leaf.PathStep.{PathStep}
 use Rattle.fir_types.specs.declared.leaf.PathStep.TheVariants as step
-use Rattle.leaf_names.specs.LeafNames.{Texts, way_text}
+use Rattle.fir_tree.specs.LeafNames.{Texts, way_text}
 use Rattle.fir_meaning.specs.Components.{kind_of_leaf, width_of_leaf}
 use Rattle.ground_net.specs.declared.net.ElementLeaf.{ElementLeaf}
 

@@ -2,10 +2,10 @@
 use Rattle.std.specs.Prelude.{◌≡◌, ℕ, ◌+◌, true, is_some, nat_eq, List, [], ◌∷◌, Option, Some, None}
 use Rattle.std.specs.Map.{lookup}
 use Rattle.std.specs.List.{cons_option}
-use Rattle.leaf_names.specs.LeafNames.{Texts, text_of}
+use Rattle.fir_tree.specs.LeafNames.{Texts, text_of}
 use Rattle.fir_meaning.specs.Components.{Sort, A_memory, An_instance}
 use Rattle.ground_net.specs.declared.circuit.GroundInstance.{GroundInstance}
-use Rattle.ground_tables.specs.Parts.{Part}
+use Rattle.lower_aggregates.specs.Parts.{Part}
 
 -- What is said of an instance.
 pub record InstanceRow : Type 0 where

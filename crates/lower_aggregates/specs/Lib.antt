@@ -1,3 +1,8 @@
+pub mod Headings
+pub mod Parts
+pub mod Held
+pub mod Tables
+pub mod Views
 pub mod Registers
 pub mod Elements
 pub mod Memories

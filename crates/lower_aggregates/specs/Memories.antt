@@ -10,13 +10,13 @@ use Rattle.fir_types.specs.declared.memory.PortMode.TheVariants as mode
 use Rattle.fir_types.specs.Leaves.{leaves}
 use Rattle.fir_types.specs.Memories.{element_of, depth_of, read_latency_of, under_of}
 use Rattle.fir_types.specs.Bundles.{data_name, rdata_name}
-use Rattle.leaf_names.specs.LeafNames.{Texts, text_of}
+use Rattle.fir_tree.specs.LeafNames.{Texts, text_of}
 use Rattle.fir_meaning.specs.Components.{Sort, A_memory}
 use Rattle.fir_meaning.specs.MemoryPorts.{MemoryPort, port_in, memory_ports}
 use Rattle.ground_net.specs.declared.circuit.GroundMemory.{GroundMemory}
 use Rattle.ground_net.specs.declared.net.NetPort.{NetPort}
 use Rattle.net_of_circuit.specs.NetOf.{is_new}
-use Rattle.ground_tables.specs.Parts.{Part}
+use Rattle.lower_aggregates.specs.Parts.{Part}
 use Rattle.lower_aggregates.specs.declared.memories.HowRead.{HowRead}
 use Rattle.lower_aggregates.specs.Elements.{ElementRow, element_row, own_row, rows_while}
 

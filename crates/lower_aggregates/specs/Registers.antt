@@ -11,7 +11,7 @@ use Rattle.ground_net.specs.declared.net.NetRegister.{NetRegister}
 use Rattle.ground_net.specs.declared.net.NetReset.{NetReset}
 use Rattle.ground_exprs.specs.declared.source.Source.{Source}
 use Rattle.ground_exprs.specs.Sources.{Entries, IsLowered, IsFitted, known_of}
-use Rattle.ground_tables.specs.Parts.{Part}
+use Rattle.lower_aggregates.specs.Parts.{Part}
 
 -- What a reset sets in a leaf from a source: the source, fitted to the leaf's kind and width, or 0.
 abbrev pub IsInit : Option Source → TypeLeaf → Ground → Type 0

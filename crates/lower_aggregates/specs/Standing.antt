@@ -4,10 +4,10 @@ use Rattle.std.specs.Map.{lookup}
 use Rattle.std.specs.List.{range_with_len}
 use Rattle.fir_types.specs.declared.memory.Memory.{Memory}
 use Rattle.fir_types.specs.Leaves.{leaves}
-use Rattle.leaf_names.specs.LeafNames.{Texts, text_of}
+use Rattle.fir_tree.specs.LeafNames.{Texts, text_of}
 use Rattle.fir_meaning.specs.Components.{Component, A_memory, target_in}
-use Rattle.ground_of_circuit.specs.Numbers.{as_memory}
-use Rattle.ground_tables.specs.Parts.{component_part}
+use Rattle.net_of_circuit.specs.Numbers.{as_memory}
+use Rattle.lower_aggregates.specs.Parts.{component_part}
 use Rattle.lower_aggregates.specs.Memories.{MemoryRow, memory_by}
 use Rattle.lower_aggregates.specs.Instances.{InstanceRow, Numbers}
 

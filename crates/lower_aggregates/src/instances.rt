@@ -1,15 +1,16 @@
 //! Instances (FIRRTL specification 3.0, "Instances").
 
 ghost use Rattle.std.specs.Prelude.{◌≡◌, ◌+◌, ◌++◌, All, map, option_to_list, IfOk, OnOk};
-ghost use Rattle.ground_tables.specs.Held.{held_sort, held_part};
+ghost use Rattle.lower_aggregates.specs.Held.{held_sort, held_part};
 ghost use Rattle.lower_aggregates.specs.Instances.{instance_row, instance_where, instances_from, memories_by, IsMade};
 
+use crate::declarations::Sort;
 use crate::memories::text_of_name;
+use crate::pieces::Piece;
 use bit_words::List;
 use fir_tree::Names;
+use ground_exprs::reading::sum_of;
 use ground_net::GroundInstance;
-use ground_parts::reading::sum_of;
-use ground_tables::{Piece, Sort};
 use indexmap::IndexMap;
 use std::alloc::{AllocError, Global};
 

@@ -1,7 +1,7 @@
 //! Laws of the definitions. The functions do nothing.
 
 ghost use Rattle.std.specs.Prelude.{◌≡◌, ℕ, ◌+◌, true, List, [], ◌∷◌, map, length, slice_get, Some, Contains};
-ghost use Rattle.leaf_names.specs.LeafNames.{Texts};
+ghost use Rattle.fir_tree.specs.LeafNames.{Texts};
 ghost use Rattle.fir_types.specs.declared.memory.Memory.{Memory as AMemory};
 ghost use Rattle.fir_types.specs.declared.leaf.TypeLeaf.{TypeLeaf as TheLeaf};
 ghost use Rattle.fir_types.specs.Leaves.{leaves};
@@ -14,13 +14,13 @@ ghost use Rattle.ground_net.specs.declared.net.NetPort.{NetPort as APort};
 ghost use Rattle.fir_meaning.specs.States.{is_register, leaf_of};
 ghost use Rattle.fir_meaning.specs.WellTyped.{HasTypes, is_condition, are_typed, Known as Types};
 ghost use Rattle.std.specs.List.{list_all};
-ghost use Rattle.ground_tables.specs.Headings.{headings_of};
+ghost use Rattle.lower_aggregates.specs.Headings.{headings_of};
 ghost use Rattle.ground_net.specs.declared.net.NetReset.{NetReset as AReset};
 ghost use Rattle.ground_net.specs.declared.net.NetRegister.{NetRegister as ARegister};
 ghost use Rattle.net_meaning.specs.Shapes.{Table};
-ghost use Rattle.ground_of_circuit.specs.Numbers.{leaves_before, ModuleLeaf, module_leaves, number_of, register_numbers, memory_parts, instance_parts};
-ghost use Rattle.ground_tables.specs.Parts.{parts_of};
-ghost use Rattle.ground_of_circuit.specs.Lowering.{IsReset, IsGroundPort, HasReset, IsGroundInstance, IsGroundMemory};
+ghost use Rattle.net_of_circuit.specs.Numbers.{leaves_before, ModuleLeaf, module_leaves, number_of, register_numbers, memory_parts, instance_parts};
+ghost use Rattle.lower_aggregates.specs.Parts.{parts_of};
+ghost use Rattle.net_of_circuit.specs.Lowering.{IsReset, IsGroundPort, HasReset, IsGroundInstance, IsGroundMemory};
 ghost use Rattle.ground_net.specs.declared.circuit.GroundMemory.{GroundMemory as AGroundMemory};
 ghost use Rattle.std.specs.Prelude.{nat_eq};
 ghost use Rattle.std.specs.Map.{lookup};

@@ -5,17 +5,17 @@ ghost use Rattle.std.specs.Map.{lookup};
 ghost use Rattle.circuit_laws.specs.WellFormed.{IsWellFormed};
 ghost use Rattle.fir_meaning.specs.Components.{declarations_of as all_declarations};
 ghost use Rattle.fir_names.specs.Scopes.{module_names};
-ghost use Rattle.ground_of_circuit.specs.Lowering.{IsGroundOf};
+ghost use Rattle.net_of_circuit.specs.Lowering.{IsGroundOf};
 ghost use Rattle.lower_aggregates.specs.Circuits.{IsPlaced, with_new, StandsFrom, IsMadeAt, AreMade};
 
+use crate::declarations::declarations_of;
+use crate::ground_tables::pieces_are_components;
 use crate::modules::lower_module;
 use bit_words::List;
 use circuit_laws::laws::{modules_are_named, reached_modules_stand_at_paths};
 use fir_tree::{Fitted, Module};
 use fir_types::FirType;
 use ground_net::{GroundCircuit, GroundModule};
-use ground_tables::declarations::declarations_of;
-use ground_tables::laws::pieces_are_components;
 use indexmap::IndexMap;
 use std::alloc::{AllocError, Global};
 

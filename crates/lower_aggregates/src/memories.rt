@@ -6,21 +6,21 @@ ghost use Rattle.fir_types.specs.Leaves.{leaves};
 ghost use Rattle.fir_types.specs.Memories.{read_latency_in, under_in, first_or};
 ghost use Rattle.fir_types.specs.declared.memory.Under.TheVariants.{Undefined};
 ghost use Rattle.fir_meaning.specs.MemoryPorts.{port_in, memory_ports};
-ghost use Rattle.leaf_names.specs.LeafNames.{text_of};
-ghost use Rattle.ground_tables.specs.Held.{held_part};
+ghost use Rattle.fir_tree.specs.LeafNames.{text_of};
+ghost use Rattle.lower_aggregates.specs.Held.{held_part};
 ghost use Rattle.lower_aggregates.specs.Elements.{element_row, row_at, own_row, way_behind, rows_while};
 ghost use Rattle.lower_aggregates.specs.Memories.{reading_of, port_numbers, ports_from, port_leaves, size_of_line, first_mode_of, shown_field, stored, memory_row, memory_by, memory_in, memories_in};
 
+use crate::declarations::Sort;
+use crate::pieces::Piece;
 use bit_words::{List, Shared, Text};
-use fir_tree::Names;
-use fir_types::bundles::{depth_of, element_of};
+use fir_tree::{Names, push_name, push_way};
 use fir_types::{FirType, MemLine, Memory, PathStep, PortMode, Shape, TypeLeaf, Under};
+use fir_types::bundles::{depth_of, element_of};
 use ground_exprs::part_sources::{kind_of, leaves_of, width_of};
+use ground_exprs::reading::sum_of;
 use ground_net::GroundMemory;
 use ground_net::net::{ElementLeaf, NetPort, NetRead, NetWrite};
-use ground_parts::reading::sum_of;
-use ground_tables::{Piece, Sort};
-use leaf_names::{push_name, push_way};
 use place_text::Place;
 use std::alloc::{AllocError, Global};
 

@@ -4,20 +4,20 @@ ghost use Rattle.std.specs.Prelude.{◌≤◌, length, IfOk};
 ghost use Rattle.fir_tree.specs.declared.circuit.Circuit.{Circuit as ACircuit};
 ghost use Rattle.fir_tree.specs.declared.scope.Scope.{Scope as AScope};
 ghost use Rattle.fir_meaning.specs.Components.{TypedModule};
-ghost use Rattle.ground_of_circuit.specs.Lowering.{IsGroundModule};
-ghost use Rattle.ground_tables.specs.Headings.{headings_of};
+ghost use Rattle.net_of_circuit.specs.Lowering.{IsGroundModule};
+ghost use Rattle.lower_aggregates.specs.Headings.{headings_of};
 ghost use Rattle.lower_aggregates.specs.Modules.{IsLowerable};
 
 use crate::instances::instances_of;
 use crate::memories::memories_of;
+use crate::pieces::pieces_of;
 use crate::registers::registers_of;
+use crate::table::{leaf_table, port_leaves, settable_leaves};
+use crate::view::components_of;
 use fir_tree::{Module, Names};
 use fir_types::FirType;
-use ground_bodies::lower_body;
 use ground_net::GroundModule;
-use ground_tables::pieces_of;
-use ground_tables::table::{leaf_table, port_leaves, settable_leaves};
-use ground_tables::view::components_of;
+use ground_statements::lower_body;
 use indexmap::IndexMap;
 use std::alloc::{AllocError, Global};
 

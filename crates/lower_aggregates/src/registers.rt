@@ -3,20 +3,21 @@
 ghost use Rattle.std.specs.Prelude.{◌≡◌, ◌++◌, All, map, length, option_copied, IfOk, OnOk};
 ghost use Rattle.fir_types.specs.Leaves.{leaves};
 ghost use Rattle.ground_exprs.specs.Sources.{AreNarrow};
-ghost use Rattle.ground_tables.specs.Held.{held_sort, held_part};
+ghost use Rattle.lower_aggregates.specs.Held.{held_sort, held_part};
 ghost use Rattle.lower_aggregates.specs.Registers.{IsInit, AreFirst, PlainReset, ResetTo, AreOwn, IsTypedSort, AreRegisters};
 
+use crate::declarations::Sort;
+use crate::pieces::Piece;
 use bit_words::{List, Number};
 use fir_types::TypeLeaf;
+use ground_exprs::{Component, Source, lower_expr};
 use ground_exprs::constants::constant;
 use ground_exprs::fitting::fit_source;
 use ground_exprs::operation::lone;
 use ground_exprs::part_sources::{kind_of, leaves_of, width_of};
-use ground_exprs::{Component, Source, lower_expr};
-use ground_net::net::{NetRegister, NetReset};
+use ground_exprs::reading::sum_of;
 use ground_net::{Ground, copied};
-use ground_parts::reading::sum_of;
-use ground_tables::{Piece, Sort};
+use ground_net::net::{NetRegister, NetReset};
 use indexmap::IndexMap;
 use std::alloc::{AllocError, Global};
 

@@ -44,16 +44,16 @@ use Rattle.ground_net.proofs.Layers.{renumbered_value}
 use Rattle.expand_whens.specs.Expanding.{IsExpanded, IsDriver, Drives}
 use Rattle.net_of_circuit.specs.FlatOrder.{Placed, Standing, all_leaves, flat_of, ListsLeaves}
 use Rattle.net_of_circuit.specs.NetOf.{valuation_of}
-use Rattle.ground_of_circuit.specs.Numbers.{ModuleLeaf, module_leaves, leaves_of, leaves_before, scene_at, is_set, role_of}
-use Rattle.ground_of_circuit.specs.Lowering.{IsGroundOf}
+use Rattle.net_of_circuit.specs.Numbers.{ModuleLeaf, module_leaves, leaves_of, leaves_before, scene_at, is_set, role_of}
+use Rattle.net_of_circuit.specs.Lowering.{IsGroundOf}
 use Rattle.flatten_instances.specs.FlatOrder.{Spot}
 use Rattle.flatten_instances.specs.Numbers.{AreNumbers, driver_in}
 use Rattle.flatten_instances.specs.Instances as paths
 use Rattle.flatten_instances.specs.Flat.{IsFlatDriver, IsLeafAt, is_input, by_its_module, by_its_holder, given}
 use Rattle.net_laws.specs.Typed.{HasPortsFirst}
 use Rattle.net_laws.proofs.Seen.{get-map'}
-use Rattle.design_laws.proofs.Lists.{in_list, place_of, later, below_length, map_at, from_map_at, in_append}
-use Rattle.design_laws.proofs.Accepted.{ports_first}
+use Rattle.net_laws.proofs.Lists.{in_list, place_of, later, below_length, map_at, from_map_at, in_append}
+use Rattle.net_laws.proofs.Accepted.{ports_first}
 use Rattle.lowering_laws.proofs.Heights.{some_same, none_some}
 use Rattle.lowering_laws.proofs.Parts.{item, instance_place, leaf_behind}
 use Rattle.lowering_laws.proofs.Matching.{Two, two_back, Known, Leads, at_main, behind, leads_at, leads_known, IsAt, port_size}

@@ -7,3 +7,14 @@ pub mod Driving
 pub mod Whole
 pub mod Stores
 pub mod Flats
+pub mod Turns
+pub mod Standing
+pub mod Drivers
+pub mod Reading
+pub mod Inits
+pub mod Registers
+pub mod Taking
+pub mod Nets
+pub mod Orders
+pub mod Loads
+pub mod Clauses

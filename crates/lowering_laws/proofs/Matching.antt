@@ -14,7 +14,7 @@ use Rattle.fir_types.specs.Bundles.{nowhere, instance_field, instance_of}
 use Rattle.fir_tree.specs.declared.circuit.Circuit.{Circuit}
 use Rattle.fir_tree.specs.declared.scope.Fitted.{Fitted}
 use Rattle.fir_names.specs.Scopes.{FirstOf}
-use Rattle.leaf_names.specs.LeafNames.{Texts}
+use Rattle.fir_tree.specs.LeafNames.{Texts}
 use Rattle.fir_meaning.specs.Components.{Design, TypedModule, Component, Sort, An_input, An_output, A_wire, A_register, A_reset_register, A_memory, An_instance, A_node, design_of, modules_of, module_at, module_named, component_named, target_in, typed_ports, port_of}
 use Rattle.fir_meaning.specs.States.{is_port}
 use Rattle.fir_meaning.proofs.Ports.{at_snoc, inside, target_is, target_sort}
@@ -28,13 +28,13 @@ use Rattle.ground_net.specs.declared.circuit.GroundInstance.{GroundInstance}
 use Rattle.ground_net.specs.declared.circuit.GroundMemory.{GroundMemory}
 use Rattle.expand_whens.specs.Expanding.{IsExpanded, IsExpandedModule}
 use Rattle.net_of_circuit.specs.FlatOrder.{Placed, InFlatOrder, no_more, one_more, an_instance, Standing, all_leaves}
-use Rattle.ground_of_circuit.specs.Numbers.{module_leaves, leaves_of, as_memory, memory_parts, instance_parts}
-use Rattle.ground_of_circuit.specs.Lowering.{IsGroundOf, IsGroundModule, IsGroundInstance}
+use Rattle.net_of_circuit.specs.Numbers.{module_leaves, leaves_of, as_memory, memory_parts, instance_parts}
+use Rattle.net_of_circuit.specs.Lowering.{IsGroundOf, IsGroundModule, IsGroundInstance}
 use Rattle.flatten_instances.specs.FlatOrder.{Spot, spot, Item, A_leaf, instance_here, memory_here, leaf_spots, leaf_in, memories_from}
 use Rattle.flatten_instances.specs.FlatOrder as items
 use Rattle.net_laws.proofs.Rows.{all_of_append, leaves_of as entries_of}
-use Rattle.design_laws.proofs.Lists.{in_list, below_length, map_at, first_of, second_of, append_nil}
-use Rattle.design_laws.proofs.Standing.{placed_at}
+use Rattle.net_laws.proofs.Lists.{in_list, below_length, map_at, first_of, second_of, append_nil}
+use Rattle.net_laws.proofs.Standing.{placed_at}
 use Rattle.lowering_laws.proofs.Heights.{some_same, none_some, height, takes_instance, takes_memory, takes_leaf, takes_nothing}
 use Rattle.lowering_laws.proofs.Inside.{instance_leaves}
 use Rattle.lowering_laws.proofs.Parts.{StandsFrom, no_component, instance_next, memory_next, other_next, instance_behind, memory_behind, item, stands_from, leaves_counted_of}

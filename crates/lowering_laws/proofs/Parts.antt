@@ -8,16 +8,16 @@ use Rattle.fir_types.specs.declared.leaf.TypeLeaf.{TypeLeaf}
 use Rattle.fir_types.specs.declared.memory.Memory.{Memory}
 use Rattle.fir_types.specs.Leaves.{leaves}
 use Rattle.fir_tree.specs.declared.circuit.Circuit.{Circuit}
-use Rattle.leaf_names.specs.LeafNames.{Texts}
+use Rattle.fir_tree.specs.LeafNames.{Texts}
 use Rattle.fir_meaning.specs.Components.{TypedModule, Component, Sort, An_input, An_output, A_wire, A_register, A_reset_register, A_memory, An_instance, A_node, target_in}
 use Rattle.ground_net.specs.declared.circuit.GroundModule.{GroundModule}
 use Rattle.ground_net.specs.declared.circuit.DrivenModule.{DrivenModule}
 use Rattle.ground_net.specs.declared.circuit.GroundInstance.{GroundInstance}
 use Rattle.ground_net.specs.declared.circuit.GroundMemory.{GroundMemory}
 use Rattle.expand_whens.specs.Expanding.{IsExpandedModule}
-use Rattle.ground_of_circuit.specs.Numbers.{module_leaves, leaves_of, leaves_before, as_memory, memory_parts, instance_parts}
-use Rattle.ground_of_circuit.specs.Lowering.{IsGroundModule, IsGroundInstance, IsGroundMemory}
-use Rattle.design_laws.proofs.Lists.{first_of, second_of, below_length, append_nil, map_at}
+use Rattle.net_of_circuit.specs.Numbers.{module_leaves, leaves_of, leaves_before, as_memory, memory_parts, instance_parts}
+use Rattle.net_of_circuit.specs.Lowering.{IsGroundModule, IsGroundInstance, IsGroundMemory}
+use Rattle.net_laws.proofs.Lists.{first_of, second_of, below_length, append_nil, map_at}
 use Rattle.lowering_laws.proofs.Heights.{some_same, none_some}
 
 -- what some components are, with their places from a on

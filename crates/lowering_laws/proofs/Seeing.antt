@@ -37,14 +37,14 @@ use Rattle.net_meaning.specs.Cycles.{integer_at}
 use Rattle.expand_whens.specs.Expanding.{IsExpanded}
 use Rattle.net_of_circuit.specs.FlatOrder.{Placed, Standing, all_leaves, flat_of, ListsLeaves}
 use Rattle.net_of_circuit.specs.NetOf.{valuation_of}
-use Rattle.ground_of_circuit.specs.Numbers.{ModuleLeaf, module_leaves, leaves_of, leaves_before, number_of, scene_at, table_of, ground_shape, instance_parts}
-use Rattle.ground_of_circuit.specs.Lowering.{IsGroundOf}
+use Rattle.net_of_circuit.specs.Numbers.{ModuleLeaf, module_leaves, leaves_of, leaves_before, number_of, scene_at, table_of, ground_shape, instance_parts}
+use Rattle.net_of_circuit.specs.Lowering.{IsGroundOf}
 use Rattle.flatten_instances.specs.FlatOrder.{Spot, spot}
 use Rattle.flatten_instances.specs.Numbers.{StandsAt, its_own, of_instance, AreNumbers}
 use Rattle.net_laws.specs.Typed.{HasPortsFirst}
 use Rattle.net_laws.proofs.Numbers.{valuation_at, way_is}
-use Rattle.design_laws.proofs.Lists.{in_list, later, below_length, map_at, from_map_at, in_append, first_of, second_of}
-use Rattle.design_laws.proofs.Accepted.{ports_first}
+use Rattle.net_laws.proofs.Lists.{in_list, later, below_length, map_at, from_map_at, in_append, first_of, second_of}
+use Rattle.net_laws.proofs.Accepted.{ports_first}
 use Rattle.lowering_laws.proofs.Heights.{some_same, none_some}
 use Rattle.lowering_laws.proofs.Inside.{port_there, port_sort, instance_leaves}
 use Rattle.lowering_laws.proofs.Parts.{leaves_counted_of, item, instance_place, leaf_behind}

@@ -13,7 +13,7 @@ use Rattle.fir_types.specs.declared.memory.Memory.{Memory}
 use Rattle.fir_types.specs.Leaves.{leaves}
 use Rattle.fir_types.specs.Memories.{depth_of}
 use Rattle.fir_types.specs.Bundles.{addr_name, en_name, wmode_name}
-use Rattle.leaf_names.specs.LeafNames.{text_of}
+use Rattle.fir_tree.specs.LeafNames.{text_of}
 use Rattle.fir_meaning.specs.Components.{Component, Leaf, Sort, An_input, An_output, A_wire, A_register, A_reset_register, A_memory, An_instance, A_node, module_at, component_named, target_in, flat, flat_through}
 use Rattle.fir_meaning.specs.MemoryPorts.{MemoryPort, written_field, mask_field}
 use Rattle.fir_meaning.specs.States.{Stands, leaf_of}
@@ -26,12 +26,12 @@ use Rattle.ground_net.specs.Grounds.{Instant}
 use Rattle.cycle_values.specs.Values.{lone}
 use Rattle.net_of_circuit.specs.FlatOrder.{Placed, all_leaves, all_memories, memory_in, flat_of}
 use Rattle.net_of_circuit.specs.NetOf.{Names, NameAll, IsPortOf, IsMemoryOf, path_text, read_field}
-use Rattle.ground_of_circuit.specs.Numbers.{ModuleLeaf, leaves_of, number_of}
-use Rattle.ground_of_circuit.specs.Lowering.{IsGroundMemory, IsGroundPort, AreOfField}
+use Rattle.net_of_circuit.specs.Numbers.{ModuleLeaf, leaves_of, number_of}
+use Rattle.net_of_circuit.specs.Lowering.{IsGroundMemory, IsGroundPort, AreOfField}
 use Rattle.flatten_instances.specs.FlatOrder.{Spot}
 use Rattle.flatten_instances.specs.Numbers.{AreNumbers, port_with, write_with, read_with}
 use Rattle.memory_ports.specs.Placing.{without_word}
-use Rattle.design_laws.proofs.Lists.{below_length, from_map_at, in_append, later, in_list}
+use Rattle.net_laws.proofs.Lists.{below_length, from_map_at, in_append, later, in_list}
 use Rattle.lowering_laws.proofs.Heights.{some_same, none_some}
 use Rattle.lowering_laws.proofs.Parts.{item}
 use Rattle.lowering_laws.proofs.Matching.{two_back, two_counted, leads_known, memory_entry, memory_entries, map_counted}

@@ -5,7 +5,7 @@ use Rattle.std.specs.List.{slice_get}
 use Rattle.std.proofs.lemmas.Grind.{flat_map-append}
 use Rattle.std.proofs.lemmas.List.Concat.{flat_map-cons}
 use Rattle.fir_tree.specs.declared.scope.Fitted.{Fitted}
-use Rattle.leaf_names.specs.LeafNames.{Texts, text_of}
+use Rattle.fir_tree.specs.LeafNames.{Texts, text_of}
 use Rattle.fir_meaning.specs.Components.{Design, TypedModule, modules_of, design_of, module_at, module_named, module_within, kind_of_leaf, width_of_leaf}
 use Rattle.circuit_laws.specs.WellFormed.{IsWellFormed}
 use Rattle.circuit_laws.proofs.Reached.{module_meant, names_with}
@@ -18,13 +18,13 @@ use Rattle.ground_net.specs.declared.ground.Ground.{Ground}
 use Rattle.expand_whens.specs.Expanding.{IsExpanded}
 use Rattle.net_of_circuit.specs.FlatOrder.{Placed, Standing, all_leaves, flat_of, ListsLeaves}
 use Rattle.net_of_circuit.specs.NetOf.{path_text, flat_text}
-use Rattle.ground_of_circuit.specs.Numbers.{role_of}
-use Rattle.ground_of_circuit.specs.Lowering.{IsGroundOf}
+use Rattle.net_of_circuit.specs.Numbers.{role_of}
+use Rattle.net_of_circuit.specs.Lowering.{IsGroundOf}
 use Rattle.flatten_instances.specs.FlatOrder.{Spot, leaf_spots}
 use Rattle.flatten_instances.specs.Instances as paths
 use Rattle.flatten_instances.specs.Flat.{IsFlat, IsFlatDriver, role_at}
-use Rattle.design_laws.proofs.Lists.{below_length, append_nil}
-use Rattle.design_laws.proofs.Accepted.{lists_leaves}
+use Rattle.net_laws.proofs.Lists.{below_length, append_nil}
+use Rattle.net_laws.proofs.Accepted.{lists_leaves}
 use Rattle.lowering_laws.proofs.Heights.{some_same}
 use Rattle.lowering_laws.proofs.Parts.{item}
 use Rattle.lowering_laws.proofs.Matching.{Two, two_back, two_counted, known_at, Leads, at_main, behind, leads_known, IsAt, Matched, matched, map_counted}

@@ -10,7 +10,7 @@ ghost use Rattle.ground_net.specs.declared.circuit.DrivenCircuit.{DrivenCircuit 
 ghost use Rattle.ground_net.specs.declared.circuit.FlatCircuit.{FlatCircuit as CircuitOfLeaves};
 ghost use Rattle.expand_whens.specs.Expanding.{IsExpanded};
 ghost use Rattle.flatten_instances.specs.Flat.{IsFlat};
-ghost use Rattle.ground_of_circuit.specs.Lowering.{IsGroundOf};
+ghost use Rattle.net_of_circuit.specs.Lowering.{IsGroundOf};
 ghost use Rattle.lowering_laws.specs.FlatOf.{IsFlatOf};
 
 use fir_meaning::laws::initialized_leaves_are_driven;

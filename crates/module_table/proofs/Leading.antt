@@ -15,8 +15,8 @@ use Rattle.fir_types.specs.declared.name.Name.{Name}
 use Rattle.fir_types.specs.Equivalence.{Equivalent}
 use Rattle.fir_tree.specs.declared.expr.Suffix.{Suffix}
 use Rattle.fir_tree.specs.declared.expr.Suffix.TheVariants as suffix
-use Rattle.circuit_parts.specs.declared.part.Part.{Part}
-use Rattle.circuit_parts.proofs.Shapes.{ShapeCase, shape_uint, shape_sint, shape_clock, shape_reset, shape_async, shape_bundle, shape_vector, case_of}
+use Rattle.fir_tree.specs.declared.part.Part.{Part}
+use Rattle.fir_tree.proofs.Shapes.{ShapeCase, shape_uint, shape_sint, shape_clock, shape_reset, shape_async, shape_bundle, shape_vector, case_of}
 use Rattle.type_classes.specs.Numbers.{Table, HasNumber}
 use Rattle.type_classes.specs.Tables.{IsField, IsElement, FieldHas, ElementHas}
 use Rattle.type_index.specs.Knowing.{fields_in, element_in}

@@ -4,9 +4,9 @@ use Rattle.std.specs.Map.{lookup}
 use Rattle.std.specs.Coded.{Coded, code_by, coded×, coded_list, coded_ℕ}
 use Rattle.fir_tree.specs.declared.circuit.Module.{Module}
 use Rattle.fir_tree.specs.contracts.circuit.Module.{the_row as module_row}
-use Rattle.circuit_parts.specs.declared.part.Part.{Part}
-use Rattle.circuit_parts.specs.contracts.part.Part.{the_row as part_row}
-use Rattle.circuit_parts.specs.Parts.{part_of}
+use Rattle.fir_tree.specs.declared.part.Part.{Part}
+use Rattle.fir_tree.specs.contracts.part.Part.{the_row as part_row}
+use Rattle.fir_tree.specs.Parts.{part_of}
 use Rattle.type_classes.specs.Numbers.{Table, HasNumber}
 use Rattle.module_table.specs.declared.components.Component.{Component}
 use Rattle.module_table.specs.declared.components.Noted.{Noted}

@@ -8,7 +8,7 @@ use Rattle.fir_tree.specs.declared.expr.Expr.{Expr}
 use Rattle.fir_tree.specs.declared.expr.Form.TheVariants as form
 use Rattle.fir_tree.specs.declared.expr.Suffix.{Suffix}
 use Rattle.fir_tree.specs.declared.expr.Suffix.TheVariants as suffix
-use Rattle.circuit_parts.specs.declared.part.Part.{Part}
+use Rattle.fir_tree.specs.declared.part.Part.{Part}
 use Rattle.type_classes.specs.Numbers.{Table, HasNumber}
 use Rattle.type_classes.specs.Tables.{IsField, IsElement}
 use Rattle.module_table.specs.declared.components.Noted.{Noted}

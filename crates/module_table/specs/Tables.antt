@@ -4,7 +4,7 @@ use Rattle.std.specs.Map.{lookup}
 use Rattle.fir_tree.specs.declared.circuit.Module.{Module}
 use Rattle.fir_types.specs.declared.fir_type.FirType.{FirType}
 use Rattle.fir_types.specs.Bundles.{instance_of}
-use Rattle.leaf_names.specs.LeafNames.{Texts}
+use Rattle.fir_tree.specs.LeafNames.{Texts}
 use Rattle.type_classes.specs.Numbers.{Table, HasNumber}
 use Rattle.type_index.specs.Knowing.{HasWays}
 use Rattle.type_index.specs.declared.known_type.KnownType.{KnownType}

@@ -5,13 +5,13 @@ ghost use Rattle.std.specs.Map.{lookup};
 ghost use Rattle.std.specs.Option.{option_copied};
 ghost use Rattle.fir_types.specs.declared.fir_type.FirType.{FirType as AType};
 ghost use Rattle.fir_types.specs.Bundles.{memory_of};
-ghost use Rattle.circuit_parts.specs.Parts.{part_of, source_of, instance_in};
+ghost use Rattle.fir_tree.specs.Parts.{part_of, source_of, instance_in};
 ghost use Rattle.module_table.specs.Components.{part_in, with_part};
 ghost use Rattle.module_table.specs.Leading.{Leads, AreCompared as AreAnswered};
 
 use crate::modules::{Modules, insert_new};
 use crate::reference::{Reference, class_at, part_along};
-use circuit_parts::Flow;
+use fir_tree::Flow;
 use fir_types::{FirType, Memory, copy};
 use indexmap::IndexMap;
 use std::alloc::{AllocError, Global};

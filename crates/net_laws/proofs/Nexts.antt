@@ -16,7 +16,7 @@ use Rattle.fir_types.specs.Leaves.{leaves}
 use Rattle.fir_types.specs.Memories.{depth_of, under_of}
 use Rattle.fir_types.specs.Bundles.{addr_name, en_name, wmode_name}
 use Rattle.cycle_values.specs.Ports.{Held as Contents, Shown, after_port, after_ports, read_by_port, set_to_write, set_to_read}
-use Rattle.leaf_names.specs.LeafNames.{Texts}
+use Rattle.fir_tree.specs.LeafNames.{Texts}
 use Rattle.fir_meaning.specs.Components.{Design, TypedModule, Component, Sort, An_input, An_output, A_wire, A_register, A_reset_register, A_memory, An_instance, A_node, flat_through, component_named, target_of, target_in, module_at}
 use Rattle.fir_meaning.specs.Values.{Valuation, scene_of}
 use Rattle.fir_meaning.specs.MemoryPorts.{MemoryPort, memory_ports, port_named, field, written_field, mask_field, asks_to_write, asks_to_read}

@@ -18,7 +18,7 @@ use Rattle.fir_types.specs.Leaves.{leaves}
 use Rattle.fir_types.specs.Memories.{read_latency_of}
 use Rattle.fir_tree.specs.declared.expr.Expr.{Expr}
 use Rattle.cycle_values.specs.Shapes.{Shape, shape_of_value}
-use Rattle.leaf_names.specs.LeafNames.{Texts}
+use Rattle.fir_tree.specs.LeafNames.{Texts}
 use Rattle.fir_meaning.specs.Components.{Design, TypedModule, Component, FlatLeaf, Sort, An_input, An_output, A_wire, A_register, A_reset_register, A_memory, An_instance, A_node, flow_of, is_clock, width_of_leaf, is_clock_shape, width_of_shape, flat, flat_through, component_named, target_in, module_at, HasBundles}
 use Rattle.fir_meaning.specs.Values.{Valuation, scene_of, value}
 use Rattle.fir_meaning.specs.MemoryPorts.{read_by}

@@ -3,7 +3,7 @@ use Rattle.std.proofs.Common.{◌≡◌, ℕ, List, [], ◌∷◌, map, Some, re
 use Rattle.std.specs.List.{slice_get}
 use Rattle.bit_words.specs.declared.value.Value.{Value}
 use Rattle.bit_words.specs.Values.{integer_of}
-use Rattle.leaf_names.specs.LeafNames.{Texts}
+use Rattle.fir_tree.specs.LeafNames.{Texts}
 use Rattle.fir_meaning.specs.Components.{Design, FlatLeaf, HasBundles, flat}
 use Rattle.fir_meaning.specs.States.{State, Inputs, Settled, Trace, ended, cycle, IsLeafOf, Stands, leaf_of, HasOneSettled}
 use Rattle.fir_meaning.specs.States as tree

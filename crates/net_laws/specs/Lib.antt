@@ -1,3 +1,4 @@
 pub mod Typed
 pub mod Serves
 pub mod Runs
+pub mod FirstLoops

@@ -1,7 +1,7 @@
 -- A net that serves a circuit: it is the circuit's, whose flat order lists each leaf of the run once and whose types are sound.
 use Rattle.fir_meaning.specs.Components.{Design, HasBundles}
 use Rattle.fir_meaning.specs.States.{State}
-use Rattle.leaf_names.specs.LeafNames.{Texts}
+use Rattle.fir_tree.specs.LeafNames.{Texts}
 use Rattle.ground_net.specs.declared.net.Net.{Net}
 use Rattle.net_meaning.specs.Cycles.{NetState}
 use Rattle.net_of_circuit.specs.FlatOrder.{all_leaves, all_memories, ListsLeaves}

@@ -3,7 +3,7 @@
 ghost use Rattle.std.specs.Prelude.{◌≡◌, ℕ, List, slice_get, Some, map};
 ghost use Rattle.bit_words.specs.declared.value.Value.{Value as TheValue};
 ghost use Rattle.bit_words.specs.Values.{integer_of};
-ghost use Rattle.leaf_names.specs.LeafNames.{Texts};
+ghost use Rattle.fir_tree.specs.LeafNames.{Texts};
 ghost use Rattle.fir_meaning.specs.Components.{Design};
 ghost use Rattle.fir_meaning.specs.States.{State, Inputs, Settled, Trace, HasOneSettled, next};
 ghost use Rattle.fir_meaning.specs.Loops.{HasNoLoop};

@@ -1,2 +1,4 @@
 pub mod FlatOrder
 pub mod NetOf
+pub mod Numbers
+pub mod Lowering

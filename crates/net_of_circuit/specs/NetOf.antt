@@ -14,7 +14,7 @@ use Rattle.fir_types.specs.Leaves.{leaves}
 use Rattle.fir_types.specs.Memories.{depth_of, read_latency_of, under_of}
 use Rattle.fir_types.specs.Bundles.{addr_name, en_name, data_name, rdata_name, wmode_name}
 use Rattle.fir_tree.specs.declared.expr.Expr.{Expr}
-use Rattle.leaf_names.specs.LeafNames.{Texts, text_of, way_text, leaf_text}
+use Rattle.fir_tree.specs.LeafNames.{Texts, text_of, way_text, leaf_text}
 use Rattle.fir_meaning.specs.Components.{Design, TypedModule, Component, FlatLeaf, Sort, A_memory, A_node, is_clock, kind_of_leaf, width_of_leaf, flow_of, module_named, flat}
 use Rattle.fir_meaning.specs.Values.{scene_of, value}
 use Rattle.fir_meaning.specs.Values as tree

@@ -26,20 +26,20 @@ use Rattle.code_draft.specs.Drafts.{IsDraft}
 use Rattle.code_emit.specs.declared.sources.Sources.{Sources}
 use Rattle.code_emit.specs.Emits.{sources_table}
 use Rattle.code_sequence.specs.Sequences.{Goes, Assigns, turned_table}
-use Rattle.code_finish.specs.Finishing.{IsCodeOf as HasDraftsEffects}
-use Rattle.net_sources.specs.declared.captured.CapturedRead.{CapturedRead}
-use Rattle.net_sources.specs.declared.words.FirstWords.{FirstWords}
-use Rattle.net_sources.specs.FirstWords.{AreFirst, told_of}
-use Rattle.net_sources.specs.Complete.{AreAllOf}
-use Rattle.net_sources.proofs.Among.{among}
-use Rattle.turn_laws.specs.Knowing.{Knows}
-use Rattle.turn_laws.proofs.Turning.{part_known}
-use Rattle.part_laws.specs.Parts.{IsPart}
-use Rattle.part_laws.proofs.Composed.{publishes, shows}
+use Rattle.code_publish.specs.Finishing.{IsCodeOf as HasDraftsEffects}
+use Rattle.code_parts.specs.declared.captured.CapturedRead.{CapturedRead}
+use Rattle.code_parts.specs.declared.words.FirstWords.{FirstWords}
+use Rattle.code_parts.specs.FirstWords.{AreFirst, told_of}
+use Rattle.code_parts.specs.Complete.{AreAllOf}
+use Rattle.code_parts.proofs.Among.{among}
+use Rattle.code_parts.specs.Knowing.{Knows}
+use Rattle.code_parts.proofs.Turning.{part_known}
+use Rattle.code_parts.specs.Parts.{IsPart}
+use Rattle.code_parts.proofs.Composed.{publishes, shows}
 use Rattle.partition_code.specs.Codes.{is_among, HasWordAmong, IsCodeOf, AreCodesOf}
-use Rattle.part_sinks.specs.declared.work.Made.{Made}
-use Rattle.part_sinks.specs.Rows.{sinks_of, IsWork, SoFar}
-use Rattle.frame_laws.specs.Pieces.{HasDrivers}
+use Rattle.code_parts.specs.declared.work.Made.{Made}
+use Rattle.code_parts.specs.PartRows.{sinks_of, IsWork, SoFar}
+use Rattle.part_compile.specs.Pieces.{HasDrivers}
 use Rattle.part_compile.specs.Frames.{TakesFewSlots, TakeFewSlots}
 use Rattle.part_compile.proofs.StateWords.{behind_all}
 

@@ -2,7 +2,7 @@
 use Rattle.std.proofs.Common.{◌≡◌, ◌⊎◌, inl, inr, ⊎_elim, zero, suc, List, [], ◌∷◌, Option, Some, None, Contains, refl, sym, subst, ap, ◌∙◌, arith}
 use Rattle.std.specs.Prelude.{filter_map}
 use Rattle.std.specs.List.{cons_option}
-use Rattle.frame_laws.proofs.Standing.{contains_first, contains_later}
+use Rattle.part_compile.proofs.Standing.{contains_first, contains_later}
 
 none_there : {A : Type 0} (x : A) → Contains [] x → ⊥
 none_there x c = omega (arith, c.1)

@@ -32,20 +32,20 @@ use Rattle.code_sequence.specs.Sequences.{driver_in}
 use Rattle.code_sequence.specs.Segmented.{with_frame, InSegments, AreSegments}
 use Rattle.code_sequence.proofs.Turns.{set_source, other_source}
 use Rattle.code_sequence.proofs.Segmenting.{found_by}
-use Rattle.code_pieces.specs.Pieces.{IsPiece, Piece, AssignsPieces}
-use Rattle.source_laws.specs.FromNets.{AreOf}
-use Rattle.net_sources.specs.Complete.{AreAllOf}
+use Rattle.code_draft.specs.Pieces.{IsPiece, Piece, AssignsPieces}
+use Rattle.code_sequence.specs.FromNets.{AreOf}
+use Rattle.code_parts.specs.Complete.{AreAllOf}
 use Rattle.cone_cutter.specs.Splits.{IsUnion}
 use Rattle.cone_cutter.proofs.Assembly.{assigned_within}
 use Rattle.cone_cutter.proofs.Lists.{none_in, first_in, later_in, cons_cases, stood}
 use Rattle.partition_code.specs.Codes.{sinks_of_part}
-use Rattle.frame_laws.specs.Frames.{assignment_nodes, nodes_of}
-use Rattle.frame_laws.specs.Pieces.{Once, InPieces}
-use Rattle.frame_laws.proofs.Standing.{contains_first, contains_later}
-use Rattle.frame_laws.proofs.Fitting.{item_there}
-use Rattle.frame_laws.proofs.Turning.{turns_pieces}
-use Rattle.frame_laws.proofs.Building.{in_pieces}
-use Rattle.part_sinks.specs.declared.work.Made.{Made}
+use Rattle.part_compile.specs.SlotBounds.{assignment_nodes, nodes_of}
+use Rattle.part_compile.specs.Pieces.{Once, InPieces}
+use Rattle.part_compile.proofs.Standing.{contains_first, contains_later}
+use Rattle.part_compile.proofs.Fitting.{item_there}
+use Rattle.part_compile.proofs.Turning.{turns_pieces}
+use Rattle.part_compile.proofs.Building.{in_pieces}
+use Rattle.code_parts.specs.declared.work.Made.{Made}
 use Rattle.part_compile.specs.Frames.{WatchesAssignments}
 use Rattle.part_compile.specs.Telling.{AreFound, AreTold, TellsInPieces}
 use Rattle.part_compile.proofs.Composing.{are_assignments}

@@ -21,10 +21,10 @@ use Rattle.code_emit.specs.Emits.{leaf_source, element_source}
 use Rattle.code_emit.proofs.Rowing.{some_of}
 use Rattle.code_emit.proofs.Shaped.{some_is, some_same}
 use Rattle.code_sequence.specs.Sequences.{StandElsewhere}
-use Rattle.source_laws.specs.FromNets.{IsFrom}
-use Rattle.net_sources.specs.Complete.{AreAllOf}
-use Rattle.memory_sources.specs.Memories.{HasMemory, StandsInMemory, StandsCaptured}
-use Rattle.memory_sources.proofs.Numbered.{some_there}
+use Rattle.code_sequence.specs.FromNets.{IsFrom}
+use Rattle.code_parts.specs.Complete.{AreAllOf}
+use Rattle.code_memories.specs.Memories.{HasMemory, StandsInMemory, StandsCaptured}
+use Rattle.code_memories.proofs.Numbered.{some_there}
 use Rattle.part_compile.specs.Rows.{KnowsCone, AreKept}
 
 captured_assigned : (r : Role) (n : ℕ) → r ≡ role.Captured n → r ≡ role.Assigned → ⊥

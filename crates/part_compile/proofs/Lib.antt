@@ -1,3 +1,16 @@
+pub mod Marks
+pub mod Walking
+pub mod Counts
+pub mod Staying
+pub mod Standing
+pub mod Greatest
+pub mod Frames
+pub mod Building
+pub mod Driving
+pub mod Turning
+pub mod Telling
+pub mod Fitting
+pub mod Capturing
 pub mod StateWords
 pub mod Keeping
 pub mod OneByOne

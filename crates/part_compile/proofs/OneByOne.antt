@@ -13,10 +13,10 @@ use Rattle.code_draft.specs.declared.draft.Draft.{Draft}
 use Rattle.code_emit.specs.declared.sources.Sources.{Sources}
 use Rattle.code_emit.specs.Emits.{sources_table}
 use Rattle.code_registers.specs.Telling.{TellsSinks}
-use Rattle.turn_laws.proofs.Turning.{knows_for}
-use Rattle.part_sinks.specs.declared.work.Made.{Made}
-use Rattle.part_sinks.specs.Rows.{IsWork, IsReady, Adds, SoFar}
-use Rattle.part_sinks.proofs.Making.{one_so_far}
+use Rattle.code_parts.proofs.Turning.{knows_for}
+use Rattle.code_parts.specs.declared.work.Made.{Made}
+use Rattle.code_parts.specs.PartRows.{IsWork, IsReady, Adds, SoFar}
+use Rattle.code_parts.proofs.Making.{one_so_far}
 use Rattle.part_compile.specs.Rows.{KnowsCone}
 
 -- a memory under the same number

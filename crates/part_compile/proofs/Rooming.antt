@@ -3,9 +3,9 @@ use Rattle.std.proofs.Common.{ℕ, ◌≤◌, List, take, drop, arith}
 use Rattle.std.proofs.lemmas.List.{take-append-drop}
 use Rattle.ground_net.specs.declared.net.Net.{Net}
 use Rattle.ground_net.specs.declared.net.CutPart.{CutPart}
-use Rattle.part_room.specs.Rooms.{HasRoom}
-use Rattle.frame_laws.specs.Frames.{frame_bound}
-use Rattle.frame_laws.proofs.Greatest.{live_room}
+use Rattle.part_compile.specs.Rooms.{HasRoom}
+use Rattle.part_compile.specs.SlotBounds.{frame_bound}
+use Rattle.part_compile.proofs.Greatest.{live_room}
 
 pub room_fits : (net : Net) (watch : List ℕ) (part : CutPart) (room : ℕ) → HasRoom net watch part room → room ≤ frame_bound net watch part
 room_fits net watch part room has =

@@ -7,7 +7,7 @@ use Rattle.ground_net.specs.Reads.{IsAssigned}
 use Rattle.flat_code.specs.declared.code.Code.{Code}
 use Rattle.flat_code.specs.Codes.{frame_length}
 use Rattle.partition_code.specs.Codes.{sinks_of_part}
-use Rattle.frame_laws.specs.Frames.{frame_bound}
+use Rattle.part_compile.specs.SlotBounds.{frame_bound}
 
 -- the watched leaves of a part are assignments
 abbrev pub WatchesAssignments : Net → List ℕ → CutPart → Type 0

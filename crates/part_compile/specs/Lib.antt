@@ -1,5 +1,11 @@
 -- what a reader must believe
+pub mod Rooms
+pub mod SlotBounds
+pub mod Examples
+-- what is known of a code
+pub mod Pieces
 pub mod Frames
--- what the bodies keep
+-- what the bodies keep, and what proofs need
+pub mod Counts
 pub mod Rows
 pub mod Telling

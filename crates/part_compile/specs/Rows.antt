@@ -10,8 +10,8 @@ use Rattle.net_meaning.specs.Cycles.{Capture, captures}
 use Rattle.code_emit.specs.declared.sources.Sources.{Sources}
 use Rattle.code_emit.specs.Emits.{sources_table}
 use Rattle.cone_cutter.specs.Splits.{IsUnion}
-use Rattle.turn_laws.specs.Knowing.{Knows}
-use Rattle.memory_sources.specs.Memories.{StandsInMemory, StandsCaptured}
+use Rattle.code_parts.specs.Knowing.{Knows}
+use Rattle.code_memories.specs.Memories.{StandsInMemory, StandsCaptured}
 
 -- the assignments in a sink's cone are known
 abbrev pub KnowsCone : Net → Sink → Sources → Type 0

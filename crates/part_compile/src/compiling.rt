@@ -10,14 +10,13 @@ ghost use Rattle.part_compile.specs.Frames.{TakeFewSlots};
 
 use crate::counting::has_few_words;
 use crate::part_code::code_of;
+use crate::room::room_of;
 use bit_words::List;
-use code_arrange::arrange;
+use code_order::arrange;
+use code_parts::{Plan, captured_reads, first_words, have_numbers};
 use cone_cutter::sinks_of;
 use flat_code::Code;
 use ground_net::{Cut, Ordered};
-use net_sources::{captured_reads, first_words, have_numbers};
-use part_room::room_of;
-use part_sinks::Plan;
 use std::alloc::{AllocError, Global};
 
 /// There are fewer leaves and memories than this.

@@ -5,8 +5,8 @@ ghost use Rattle.net_meaning.specs.Nets.{register_shapes};
 ghost use Rattle.net_meaning.specs.Cycles.{captures};
 ghost use Rattle.net_meaning.specs.Words.{count_words, memory_words, state_words, SaysItsWords};
 
+use code_parts::element_words;
 use ground_net::Net;
-use net_sources::element_words;
 
 /// Words have numbers below this.
 const NUMBERS: u128 = 4_294_967_296;

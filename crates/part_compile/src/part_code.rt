@@ -5,21 +5,20 @@ ghost use Rattle.ground_net.specs.Cones.{sinks as sinks_in};
 ghost use Rattle.cone_cutter.specs.Rows.{sink_of};
 ghost use Rattle.partition_code.specs.Codes.{IsCodeOf};
 ghost use Rattle.code_place.specs.Live.{IsSingle};
-ghost use Rattle.net_sources.specs.FirstWords.{HaveNumbers};
-ghost use Rattle.part_sinks.specs.Rows.{IsPlan};
-ghost use Rattle.frame_laws.specs.Pieces.{InPieces};
+ghost use Rattle.code_parts.specs.FirstWords.{HaveNumbers};
+ghost use Rattle.code_parts.specs.PartRows.{IsPlan};
+ghost use Rattle.part_compile.specs.Pieces.{InPieces};
 ghost use Rattle.part_compile.specs.Frames.{WatchesAssignments};
 ghost use Rattle.part_compile.specs.Rows.{IsUnionInOrder};
 
 use crate::adding::made_of;
 use code_draft::steps::empty;
-use code_finish::finish;
+use code_parts::{Plan, Work, sources_of};
+use code_publish::finish;
 use code_sequence::assign_all;
 use cone_cutter::SinkAt;
 use flat_code::Code;
 use ground_net::CutPart;
-use net_sources::sources_of;
-use part_sinks::{Plan, Work};
 use std::alloc::{AllocError, Global};
 
 /// The code of a part: its assignments in their order, and then its sinks in theirs. The sinks are those of the net, by their numbers.

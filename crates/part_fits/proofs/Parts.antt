@@ -12,9 +12,9 @@ use Rattle.fir_types.specs.declared.fir_type.Shape.TheOpen.{Shape-F}
 use Rattle.fir_types.specs.declared.fir_type.Shape.TheViews.{out-Shape}
 use Rattle.fir_types.specs.declared.fir_type.Shape.TheVariants as shape
 use Rattle.fir_types.specs.declared.fir_type.Field.{Field}
-use Rattle.circuit_parts.specs.Parts.{field_or_whole, field_of_layer, element_of_layer}
-use Rattle.field_index.specs.declared.index.FieldPlace.{FieldPlace}
-use Rattle.field_index.specs.Indexes.{first_at}
+use Rattle.fir_tree.specs.Parts.{field_or_whole, field_of_layer, element_of_layer}
+use Rattle.fir_types.specs.declared.index.FieldPlace.{FieldPlace}
+use Rattle.fir_types.specs.Indexes.{first_at}
 use Rattle.type_index.specs.Knowing as known
 use Rattle.type_index.specs.Knowing.{IsPlaceIn}
 use Rattle.width_rules.specs.declared.component.Component.{Component}

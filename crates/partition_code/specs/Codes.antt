@@ -14,7 +14,7 @@ use Rattle.net_meaning.specs.Words.{state_words, state_of}
 use Rattle.flat_code.specs.declared.code.Code.{Code}
 use Rattle.flat_code.specs.declared.code.Span.{Span}
 use Rattle.flat_code.specs.Codes.{published_by, outputs_by}
-use Rattle.source_laws.specs.FromNets.{MatchInputs}
+use Rattle.code_sequence.specs.FromNets.{MatchInputs}
 use Rattle.sink_effects.specs.Effects.{sinks_told, HasWord}
 use Rattle.cone_cutter.specs.Splits.{IsSplit}
 

@@ -1,3 +1,2 @@
--- what a reader must believe
 pub mod Codes
 pub mod Examples

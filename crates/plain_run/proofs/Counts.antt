@@ -8,12 +8,12 @@ use Rattle.fir_types.specs.declared.leaf.TypeLeaf.{TypeLeaf}
 use Rattle.fir_meaning.specs.Components.{Design}
 use Rattle.fir_meaning.specs.Values.{Valuation}
 use Rattle.fir_meaning.specs.States.{State, Inputs}
-use Rattle.sweep_laws.specs.Sweeps.{sweep, swept}
-use Rattle.tree_values.specs.declared.site.Site.{Site}
-use Rattle.tree_values.specs.Sites.{valuation_of}
-use Rattle.tree_sites.specs.declared.declarations.Declaration.{Declaration}
-use Rattle.tree_sites.specs.Layouts.{Located, IsLayout, site_of, flat_leaves, all_flat}
-use Rattle.tree_sites.proofs.Lists.{take_past}
+use Rattle.settling_laws.specs.Sweeps.{sweep, swept}
+use Rattle.plain_values.specs.declared.site.Site.{Site}
+use Rattle.plain_values.specs.Sites.{valuation_of}
+use Rattle.plain_cycle.specs.declared.declarations.Declaration.{Declaration}
+use Rattle.plain_cycle.specs.Layouts.{Located, IsLayout, site_of, flat_leaves, all_flat}
+use Rattle.plain_cycle.proofs.Lists.{take_past}
 
 abbrev pub leaf_count : List Site → ℕ
 leaf_count [] = 0

@@ -7,15 +7,15 @@ use Rattle.bit_words.specs.declared.value.Value.{Value}
 use Rattle.fir_meaning.specs.Components.{Design, Leaf, HasBundles}
 use Rattle.fir_meaning.specs.Values.{Valuation}
 use Rattle.fir_meaning.specs.States.{State, SameState, Inputs, Settled, next, first_state}
-use Rattle.sweep_runs.specs.Runs.{Watched, value_of, row_of, Runs, ended, cycle}
-use Rattle.sweep_runs.proofs.Sames.{settled_alike}
-use Rattle.sweep_runs.proofs.Nexts.{next_alike}
-use Rattle.tree_values.specs.declared.site.Site.{Site}
-use Rattle.tree_values.specs.Sites.{valuation_of}
-use Rattle.tree_sites.proofs.Lists.{take_past}
-use Rattle.tree_sweep.specs.declared.run.Held.{Held}
-use Rattle.tree_sweep.specs.Given.{given_by}
-use Rattle.tree_sweep.specs.Runs.{state_of, contents_on, captured_on}
+use Rattle.settling_laws.specs.Runs.{Watched, value_of, row_of, Runs, ended, cycle}
+use Rattle.settling_laws.proofs.Sames.{settled_alike}
+use Rattle.settling_laws.proofs.Nexts.{next_alike}
+use Rattle.plain_values.specs.declared.site.Site.{Site}
+use Rattle.plain_values.specs.Sites.{valuation_of}
+use Rattle.plain_cycle.proofs.Lists.{take_past}
+use Rattle.plain_cycle.specs.declared.run.Held.{Held}
+use Rattle.plain_cycle.specs.Given.{given_by}
+use Rattle.plain_cycle.specs.Runs.{state_of, contents_on, captured_on}
 use Rattle.plain_run.proofs.Ports.{taken_more}
 
 -- nothing is held of any component

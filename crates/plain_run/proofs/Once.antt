@@ -14,9 +14,9 @@ use Rattle.fir_meaning.proofs.Settling.{at, port_target, flat_none, settled_same
 use Rattle.fir_meaning.proofs.Nexts.{next_same}
 use Rattle.circuit_laws.specs.WellFormed.{IsWellFormed}
 use Rattle.drive_check.proofs.Telling.{get_contains}
-use Rattle.leaf_reads.proofs.Listing.{has_leaves}
-use Rattle.leaf_reads.proofs.Reading.{takes_leaves}
-use Rattle.sweep_runs.specs.Runs.{Watched, value_of, row_of, Runs, ended, cycle}
+use Rattle.settling_laws.proofs.Listing.{has_leaves}
+use Rattle.settling_laws.proofs.Reading.{takes_leaves}
+use Rattle.settling_laws.specs.Runs.{Watched, value_of, row_of, Runs, ended, cycle}
 use Rattle.plain_run.specs.Leaves.{leaf_of_main, leaves_of_port, leaves_of_ports, port_leaves, watched_by}
 
 row_same : (ws : List Watched) (rho other : Valuation) → ((w : Watched) → Contains ws w → at rho w.at ≡ at other w.at) → row_of ws rho ≡ row_of ws other

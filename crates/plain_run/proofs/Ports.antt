@@ -9,13 +9,13 @@ use Rattle.fir_types.specs.declared.fir_type.FirType.{FirType}
 use Rattle.fir_meaning.specs.Components.{TypedModule, Leaf}
 use Rattle.fir_meaning.proofs.Tracking.{none_some}
 use Rattle.fir_names.proofs.Graphs.{some_same}
-use Rattle.sweep_runs.specs.Runs.{Watched}
-use Rattle.tree_sites.specs.declared.declarations.Declaration.{Declaration}
-use Rattle.tree_sites.specs.Held.{Kept, held}
-use Rattle.tree_sites.specs.Parts.{bare, bares}
-use Rattle.tree_sites.proofs.Lists.{zip_mapped, zip_mapped_more}
-use Rattle.tree_sites.proofs.Modules.{zipped}
-use Rattle.tree_sweep.specs.Given.{inputs_of_component, inputs_of}
+use Rattle.settling_laws.specs.Runs.{Watched}
+use Rattle.plain_cycle.specs.declared.declarations.Declaration.{Declaration}
+use Rattle.plain_cycle.specs.Held.{Kept, held}
+use Rattle.plain_cycle.specs.Parts.{bare, bares}
+use Rattle.plain_cycle.proofs.Lists.{zip_mapped, zip_mapped_more}
+use Rattle.plain_cycle.proofs.Modules.{zipped}
+use Rattle.plain_cycle.specs.Given.{inputs_of_component, inputs_of}
 use Rattle.plain_run.specs.Leaves.{leaves_of_port, leaves_of_ports, component_with}
 
 -- Components, one after another

@@ -24,10 +24,10 @@ use Rattle.circuit_laws.specs.WellFormed.{IsWellFormed, IsKnownModule}
 use Rattle.circuit_laws.proofs.Pieces.{mapped_some}
 use Rattle.circuit_laws.proofs.Reached.{known_module}
 use Rattle.drive_check.proofs.Telling.{contains_get}
-use Rattle.sweep_runs.specs.Runs.{Watched, value_of, row_of, Runs, ended, cycle}
+use Rattle.settling_laws.specs.Runs.{Watched, value_of, row_of, Runs, ended, cycle}
 use Rattle.plain_run.specs.Leaves.{leaf_of_main, sinks_of_port, sinks_of, sinks}
-use Rattle.leaf_reads.proofs.Typing.{block_typed_there}
-use Rattle.leaf_reads.proofs.Driven.{IsFit, block_fits, from_filter}
+use Rattle.settling_laws.proofs.Typing.{block_typed_there}
+use Rattle.settling_laws.proofs.Driven.{IsFit, block_fits, from_filter}
 
 both_true : (p q : Bool) → (p && q) ≡ true → (p ≡ true) × (q ≡ true)
 both_true true q e = (refl, e)

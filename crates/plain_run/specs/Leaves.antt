@@ -7,8 +7,8 @@ use Rattle.fir_types.specs.Bundles.{nowhere}
 use Rattle.fir_meaning.specs.Components.{Design, TypedModule, Component, Leaf, Sort, flow_of, is_clock, module_named}
 use Rattle.fir_meaning.specs.States.{is_port, is_source}
 use Rattle.drive_check.specs.Keys.{leaf_of_key}
-use Rattle.sweep_runs.specs.Runs.{Watched}
-use Rattle.tree_sites.specs.Held.{Kept}
+use Rattle.settling_laws.specs.Runs.{Watched}
+use Rattle.plain_cycle.specs.Held.{Kept}
 use Rattle.plain_run.specs.declared.leaves.MainLeaf.{MainLeaf}
 use Rattle.plain_run.specs.declared.running.Watch.{Watch}
 

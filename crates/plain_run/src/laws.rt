@@ -7,7 +7,7 @@ ghost use Rattle.fir_meaning.specs.Components.{design_of};
 ghost use Rattle.fir_meaning.specs.States.{State, Inputs};
 ghost use Rattle.fir_meaning.specs.Loops.{HasNoLoop};
 ghost use Rattle.circuit_laws.specs.WellFormed.{IsWellFormed};
-ghost use Rattle.sweep_runs.specs.Runs.{Runs};
+ghost use Rattle.settling_laws.specs.Runs.{Runs};
 ghost use Rattle.plain_run.specs.Leaves.{watched_by};
 
 /// Whichever of main's leaves are watched, a well formed circuit without a loop has at most one list of rows from a state under given

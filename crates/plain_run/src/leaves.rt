@@ -4,8 +4,8 @@ ghost use Rattle.std.specs.Prelude.{◌≡◌, ◌++◌, map, filter, IfOk, OnOk
 ghost use Rattle.fir_meaning.specs.Components.{design_of, flow_of};
 ghost use Rattle.fir_meaning.specs.States.{is_port, is_source};
 ghost use Rattle.drive_check.specs.Keys.{leaf_of_key};
-ghost use Rattle.tree_sites.specs.Held.{held, held_sort};
-ghost use Rattle.tree_sweep.specs.Given.{inputs_in, inputs_of_component};
+ghost use Rattle.plain_cycle.specs.Held.{held, held_sort};
+ghost use Rattle.plain_cycle.specs.Given.{inputs_in, inputs_of_component};
 ghost use Rattle.plain_run.specs.Leaves.{leaf_of_main, leaves_of_port, port_leaves, component_with, is_given, leaf_named, leaf_held};
 
 use bit_words::List;
@@ -13,9 +13,9 @@ use drive_check::leaf_set::{LeafKey, key_of};
 use drive_check::listing::list_leaves;
 use fir_tree::Fitted;
 use fir_types::{FirType, Shape, TypeLeaf, copy};
+use plain_cycle::{Declaration, Sort};
+use plain_cycle::places::parts_of;
 use std::alloc::{AllocError, Global};
-use tree_sites::places::parts_of;
-use tree_sites::{Declaration, Sort};
 
 /// A leaf of a port of main: where it is found, and the leaf of the port's type, which has its kind and width.
 #[derive(Drop)]

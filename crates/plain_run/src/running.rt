@@ -6,11 +6,11 @@ ghost use Rattle.fir_meaning.specs.Components.{design_of};
 ghost use Rattle.fir_meaning.specs.States.{Trace, first_state};
 ghost use Rattle.circuit_laws.specs.WellFormed.{IsWellFormed};
 ghost use Rattle.drive_check.specs.Keys.{leaf_of_key};
-ghost use Rattle.tree_values.specs.declared.site.Site.{Site as ASite};
-ghost use Rattle.tree_values.specs.Sites.{valuation_of};
-ghost use Rattle.sweep_runs.specs.Runs.{value_of, row_of, Runs};
-ghost use Rattle.tree_sweep.specs.Given.{given_by, inputs_in};
-ghost use Rattle.tree_sweep.specs.Runs.{IsRun, design_in, state_of};
+ghost use Rattle.plain_values.specs.declared.site.Site.{Site as ASite};
+ghost use Rattle.plain_values.specs.Sites.{valuation_of};
+ghost use Rattle.settling_laws.specs.Runs.{value_of, row_of, Runs};
+ghost use Rattle.plain_cycle.specs.Given.{given_by, inputs_in};
+ghost use Rattle.plain_cycle.specs.Runs.{IsRun, design_in, state_of};
 ghost use Rattle.plain_run.specs.Settling.{CanSettle};
 ghost use Rattle.plain_run.specs.Leaves.{leaf_held, sinks, watched_by, watched_in};
 
@@ -18,12 +18,10 @@ use crate::leaves::{MainLeaf, MainLeaves, main_leaves};
 use crate::settling::settled;
 use bit_words::{List, Row, Rows, Value};
 use fir_tree::Fitted;
+use plain_cycle::{Held, Run, lay_out, next_held};
+use plain_values::fitted_value;
+use plain_values::sights::value_on;
 use std::alloc::{AllocError, Global};
-use tree_edges::next_held;
-use tree_sites::lay_out;
-use tree_sweep::{Held, Run};
-use tree_values::fitted_value;
-use tree_values::sights::value_on;
 
 /// What is watched of a run: some of the leaves of main's ports, by their numbers.
 #[derive(Drop)]

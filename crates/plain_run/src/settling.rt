@@ -3,17 +3,17 @@
 ghost use Rattle.std.specs.Prelude.{◌≡◌, ℕ, ◌+◌, map, length, IfOk};
 ghost use Rattle.fir_meaning.specs.States.{Settled};
 ghost use Rattle.drive_check.specs.Keys.{leaf_of_key};
-ghost use Rattle.tree_values.specs.Sites.{valuation_of};
-ghost use Rattle.sweep_laws.specs.Sweeps.{swept};
-ghost use Rattle.tree_sweep.specs.Given.{given_by};
-ghost use Rattle.tree_sweep.specs.Runs.{IsRun, design_in, state_of};
+ghost use Rattle.plain_values.specs.Sites.{valuation_of};
+ghost use Rattle.settling_laws.specs.Sweeps.{swept};
+ghost use Rattle.plain_cycle.specs.Given.{given_by};
+ghost use Rattle.plain_cycle.specs.Runs.{IsRun, design_in, state_of};
 ghost use Rattle.plain_run.specs.Settling.{CanSettle};
 
 use bit_words::{List, Value};
 use fir_types::TypeLeaf;
+use plain_cycle::{Held, Moment, Run, sweep};
+use settling_laws::sweep_laws::sweeps_settle;
 use std::alloc::{AllocError, Global};
-use sweep_laws::laws::sweeps_settle;
-use tree_sweep::{Held, Moment, Run, sweep};
 
 /// What the leaves of the run have when the cycle that begins with what is held and has this row of inputs has settled: so many sweeps
 /// from 0 everywhere as there are leaves. Takes time in proportion to the leaves, each with that of a sweep.

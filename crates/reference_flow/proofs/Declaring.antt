@@ -14,9 +14,9 @@ use Rattle.fir_tree.specs.declared.circuit.Module.{Module}
 use Rattle.fir_tree.specs.declared.stmt.Stmt.{Stmt, the_lemmas}
 use Rattle.fir_tree.specs.declared.stmt.Arm.{Arm}
 use Rattle.fir_tree.specs.declared.stmt.Stmt.TheVariants as stmt
-use Rattle.circuit_parts.specs.declared.part.Part.{Part}
+use Rattle.fir_tree.specs.declared.part.Part.{Part}
 use Rattle.reference_flow.specs.declared.component.Reached.{Reached}
-use Rattle.circuit_parts.specs.Parts.{part_of, part_or_none, no_part, instance_in, port_flow}
+use Rattle.fir_tree.specs.Parts.{part_of, part_or_none, no_part, instance_in, port_flow}
 use Rattle.reference_flow.specs.Flows.{Declared, stmt_declared, port_declared, components_of}
 use Rattle.reference_flow.specs.Declarations.{arm_declared}
 use Rattle.reference_flow.specs.Reached.{Means, MayMean, neither, both}

@@ -14,7 +14,7 @@ use Rattle.fir_tree.specs.declared.expr.Suffix.TheVariants as suffix
 use Rattle.fir_tree.specs.declared.stmt.Stmt.{Stmt, the_lemmas as stmt_lemmas}
 use Rattle.fir_tree.specs.declared.stmt.Stmt.TheVariants as stmt
 use Rattle.fir_tree.specs.declared.circuit.Module.{Module}
-use Rattle.circuit_parts.specs.declared.part.Flow.TheVariants.{Source, Sink, Duplex}
+use Rattle.fir_tree.specs.declared.part.Flow.TheVariants.{Source, Sink, Duplex}
 use Rattle.reference_flow.specs.Flows.{module_flows}
 
 -- Places by their columns, on one line. Names: the output io is 22, the wire w is 23.

@@ -9,9 +9,9 @@ use Rattle.fir_types.specs.declared.memory.PortMode.{PortMode}
 use Rattle.fir_types.specs.declared.memory.PortMode.TheVariants as mode
 use Rattle.fir_types.specs.Bundles.{mask_of, address_bits, addr_name, en_name, clk_name, plain_field, uint_at, clock_at, fields_of_mode}
 use Rattle.fir_types.specs.Memories.{element_of, depth_of}
-use Rattle.circuit_parts.specs.declared.part.Flow.TheVariants.{Source, Sink}
-use Rattle.circuit_parts.specs.declared.part.Part.{Part}
-use Rattle.circuit_parts.specs.Parts.{part_of, field_part}
+use Rattle.fir_tree.specs.declared.part.Flow.TheVariants.{Source, Sink}
+use Rattle.fir_tree.specs.declared.part.Part.{Part}
+use Rattle.fir_tree.specs.Parts.{part_of, field_part}
 use Rattle.reference_flow.specs.Reached.{IsPlain, port_part}
 use Rattle.reference_flow.proofs.Stepping.{field-bundle, field-found, plain-unsigned, plain-clock}
 

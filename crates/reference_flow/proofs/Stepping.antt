@@ -22,9 +22,9 @@ use Rattle.fir_types.specs.declared.name.Name.{Name}
 use Rattle.fir_types.specs.Bundles.{instance_field, instance_of, mask_of, mask_of_field, port_field}
 use Rattle.fir_types.specs.Memories.{element_in, element_of, first_or}
 use Rattle.fir_types.proofs.Lines.{lines_more}
-use Rattle.circuit_parts.specs.declared.part.Part.{Part}
-use Rattle.circuit_parts.specs.Parts.{part_of, source_of, flow_through, field_or_whole, field_of_layer, field_part, element_of_layer, element_part, no_part}
-use Rattle.circuit_parts.proofs.Shapes.{ShapeCase, shape_uint, shape_sint, shape_clock, shape_reset, shape_async, shape_bundle, shape_vector, case_of}
+use Rattle.fir_tree.specs.declared.part.Part.{Part}
+use Rattle.fir_tree.specs.Parts.{part_of, source_of, flow_through, field_or_whole, field_of_layer, field_part, element_of_layer, element_part, no_part}
+use Rattle.fir_tree.proofs.Shapes.{ShapeCase, shape_uint, shape_sint, shape_clock, shape_reset, shape_async, shape_bundle, shape_vector, case_of}
 use Rattle.reference_flow.specs.declared.component.PartRef.{PartRef}
 use Rattle.reference_flow.specs.Reached.{lent, mask_of_part, IsPlain}
 

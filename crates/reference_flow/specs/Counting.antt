@@ -3,7 +3,7 @@ use Rattle.std.specs.Prelude.{ℕ, zero, suc, List, [], ◌∷◌}
 use Rattle.std.specs.declared.ops.ControlFlow.{ControlFlow}
 use Rattle.std.specs.declared.ops.ControlFlow.TheVariants.{Continue, Break}
 use Rattle.fir_tree.specs.declared.expr.Suffix.{Suffix}
-use Rattle.circuit_parts.specs.declared.part.Flow.{Flow}
+use Rattle.fir_tree.specs.declared.part.Flow.{Flow}
 use Rattle.reference_flow.specs.Flows.{Flows, suffix_step}
 
 -- The flow of the reference behind so many others, or how many are left to be passed behind the list.

@@ -5,12 +5,12 @@ use Rattle.fir_types.specs.declared.memory.Memory.{Memory as AMemory}
 use Rattle.fir_types.specs.declared.memory.PortMode.{PortMode}
 use Rattle.fir_types.specs.Bundles.{instance_of, memory_of, mask_of, port_type}
 use Rattle.fir_types.specs.Memories.{element_of, depth_of}
-use Rattle.circuit_parts.specs.declared.part.Flow.TheVariants.{Sink}
-use Rattle.circuit_parts.specs.declared.part.Part.{Part}
+use Rattle.fir_tree.specs.declared.part.Flow.TheVariants.{Sink}
+use Rattle.fir_tree.specs.declared.part.Part.{Part}
 use Rattle.reference_flow.specs.declared.component.PartRef.{PartRef}
 use Rattle.reference_flow.specs.declared.component.Reached.{Reached}
 use Rattle.reference_flow.specs.declared.component.Reached.TheVariants.{Typed, Instance, Memory, MemoryPort, Plain}
-use Rattle.circuit_parts.specs.Parts.{part_of, source_of, field_part, element_part}
+use Rattle.fir_tree.specs.Parts.{part_of, source_of, field_part, element_part}
 
 abbrev pub lent : PartRef → Part
 lent part = part_of part.typ.now part.flow

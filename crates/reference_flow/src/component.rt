@@ -6,14 +6,13 @@ ghost use Rattle.place_text.specs.declared.place.Place.{Place as APlace};
 ghost use Rattle.fir_types.specs.declared.memory.PortMode.TheVariants.{Reader as A_reader, Writer as A_writer, ReadWriter as A_read_writer};
 ghost use Rattle.fir_types.specs.Bundles.{instance_of, memory_of, mask_of};
 ghost use Rattle.fir_types.specs.Memories.{element_of};
-ghost use Rattle.circuit_parts.specs.declared.part.Part.{Part as APart};
-ghost use Rattle.circuit_parts.specs.Parts.{flow_through, turned, part_of, source_of, field_part, element_part};
+ghost use Rattle.fir_tree.specs.declared.part.Part.{Part as APart};
+ghost use Rattle.fir_tree.specs.Parts.{flow_through, turned, part_of, source_of, field_part, element_part};
 ghost use Rattle.reference_flow.specs.Flows.{suffix_step, named};
 ghost use Rattle.reference_flow.specs.Reached.{Means, lent, port_part};
 
-use circuit_parts::Flow;
-use circuit_parts::steps::through;
-use fir_tree::Suffix;
+use fir_tree::{Flow, Suffix};
+use fir_tree::steps::through;
 use fir_types::{FirType, MemLine, Memory, Port, PortMode, Shape, field_of};
 
 // The numbers that the names of a port's fields have in every circuit. Those of `addr`, `en` and `clk` are the first.

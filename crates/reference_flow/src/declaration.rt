@@ -4,16 +4,15 @@ ghost use Rattle.std.specs.Prelude.{◌≡◌, ◌==◌, ◌∷◌, [], find, na
 ghost use Rattle.std.specs.List.{flat_map};
 ghost use Rattle.std.specs.Map.{lookup};
 ghost use Rattle.std.specs.Option.{option_copied};
-ghost use Rattle.circuit_parts.specs.declared.part.Part.{Part as APart};
-ghost use Rattle.circuit_parts.specs.Parts.{instance_in, port_flow, part_or_none};
+ghost use Rattle.fir_tree.specs.declared.part.Part.{Part as APart};
+ghost use Rattle.fir_tree.specs.Parts.{instance_in, port_flow, part_or_none};
 ghost use Rattle.reference_flow.specs.Flows.{components_of, stmt_declared};
 ghost use Rattle.reference_flow.specs.Declarations.{arm_declared};
 ghost use Rattle.reference_flow.specs.Reached.{Means, MayMean};
 
 use crate::component::{PartRef, Reached, port_named};
-use circuit_parts::Flow;
-use circuit_parts::steps::port_flow;
-use fir_tree::{Arm, Module, Stmt};
+use fir_tree::{Arm, Flow, Module, Stmt};
+use fir_tree::steps::port_flow;
 use fir_types::{Name, Port};
 
 /// The component of a name in a module: the first declaration of it, and what has no parts where there is none.

@@ -7,8 +7,7 @@ ghost use Rattle.reference_flow.specs.Counting.{passed};
 
 use crate::component::flow_along;
 use crate::declaration::component_named;
-use circuit_parts::Flow;
-use fir_tree::{Checked, Expr, Form, Module, Stmt, Suffix};
+use fir_tree::{Checked, Expr, Flow, Form, Module, Stmt, Suffix};
 use std::ops::ControlFlow;
 
 /// The flow of the reference with this number in text order over all modules (FIRRTL specification 3.0, "Flows"), a reference

@@ -20,8 +20,8 @@ use Rattle.drive_check.proofs.Deciding.{covered_has_none}
 use Rattle.clock_check.specs.Clocked.{IsOther, register, port, IsFault as IsClockFault, clock_other}
 use Rattle.clock_check.specs.declared.fault.ClockFault.{ClockFault}
 use Rattle.comb_order.specs.declared.fault.OrderFault.{OrderFault}
-use Rattle.loop_laws.specs.FirstLoops.{IsLoopFault, first_loop}
-use Rattle.loop_laws.proofs.FlatOrders.{no_first}
+use Rattle.net_laws.specs.FirstLoops.{IsLoopFault, first_loop}
+use Rattle.net_laws.proofs.FlatOrders.{no_first}
 use Rattle.sim_engine.specs.Stages.{IsFirstOfDrives, IsFirstOfClocks, IsFirstOfLoops}
 
 -- fitted circuits that agree in what the last stages judge

@@ -1,3 +1,4 @@
+mod Verdicts
 pub mod Solving
 pub mod Settling
 pub mod Accepting

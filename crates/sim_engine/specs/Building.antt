@@ -2,7 +2,7 @@
 use Rattle.std.specs.Prelude.{◌≡◌, ℕ, List}
 use Rattle.fir_meaning.specs.Components.{design_of}
 use Rattle.ground_net.specs.Watching.{inputs, watched, port_names}
-use Rattle.net_engine.specs.OrderedNets.{IsOrderedNet}
+use Rattle.sim_engine.specs.OrderedNets.{IsOrderedNet}
 use Rattle.sim_engine.specs.Stages.{IsAccepted}
 use Rattle.sim_engine.specs.declared.compile.Built.{Built}
 

@@ -1,4 +1,6 @@
 -- what a reader must believe
+pub mod Passing
+pub mod OrderedNets
 pub mod Stages
 pub mod Faults
 pub mod Building

@@ -43,7 +43,7 @@ use Rattle.clock_check.specs.Clocked.{IsFault as IsClockFault}
 use Rattle.clock_check.specs.declared.fault.ClockFault.{ClockFault}
 use Rattle.comb_order.specs.Faults.{place_of as place_of_order, rank_of as rank_of_order}
 use Rattle.comb_order.specs.declared.fault.OrderFault.{OrderFault}
-use Rattle.loop_laws.specs.FirstLoops.{IsLoopFault}
+use Rattle.net_laws.specs.FirstLoops.{IsLoopFault}
 use Rattle.sim_engine.specs.Faults.{fault_place}
 use Rattle.sim_engine.specs.declared.fault.CircuitFault.{CircuitFault}
 use Rattle.sim_engine.specs.declared.fault.CircuitFault.TheVariants as fault

@@ -13,11 +13,11 @@ ghost use Rattle.sim_engine.specs.declared.fault.CircuitFault.TheVariants.{NoMem
 use crate::fault::CircuitFault;
 use crate::fitting::fit_text;
 use crate::laws::accepted_circuits_are_well_formed;
+use crate::ordering::ordered_net;
 use drive_check::covered;
 use drive_check::laws::initialized_circuits_have_no_fault;
 use fir_tree::Fitted;
 use ground_net::{Ordered, Ports, ports_of};
-use net_engine::ordered_net;
 use one_clock::clocks;
 use std::alloc::Global;
 

@@ -5,7 +5,7 @@ use Rattle.std.specs.List.{flat_map, enumerate_from}
 use Rattle.place_text.specs.declared.place.Place.{Place}
 use Rattle.fault_order.specs.First.{IsFirst}
 use Rattle.fault_order.proofs.Ordering.{one_first}
-use Rattle.leaf_names.specs.LeafNames.{Texts}
+use Rattle.fir_tree.specs.LeafNames.{Texts}
 use Rattle.fir_types.specs.declared.fir_type.FirType.{FirType}
 use Rattle.fir_tree.specs.declared.circuit.Circuit.{Circuit}
 use Rattle.fir_tree.specs.declared.scope.Fitted.{Fitted}
@@ -20,14 +20,14 @@ use Rattle.stimulus.specs.Stimuli.{IsStimulus}
 use Rattle.stimulus.proofs.Once.{stimulus_once}
 use Rattle.circuit_run.specs.Traces.{watched_names, all_inputs, line_of, IsTraceText}
 use Rattle.circuit_run.proofs.Once.{ports_once}
-use Rattle.leaf_reads.proofs.Traces.{one_trace as rows_once}
+use Rattle.settling_laws.proofs.Traces.{one_trace as rows_once}
 use Rattle.trace_print.specs.Trace.{header_of}
 use Rattle.trace_print.specs.Listing.{listing_of}
-use Rattle.trace_summary.specs.Summaries.{IsSummary}
-use Rattle.trace_summary.proofs.Lines.{summary_once}
+use Rattle.crew_run.specs.Summaries.{IsSummary}
+use Rattle.crew_run.proofs.Lines.{summary_once}
 use Rattle.circuit_make.specs.Rings.{ring_text}
-use Rattle.cut_laws.specs.CircuitCuts.{IsCutText}
-use Rattle.cut_laws.proofs.Accepted.{one_cut}
+use Rattle.cut_listing.specs.CircuitCuts.{IsCutText}
+use Rattle.cut_listing.proofs.Accepted.{one_cut}
 use Rattle.width_fit.specs.Fitting.{IsFittedCircuit}
 use Rattle.sim_engine.specs.Stages.{circuit_limit, IsAccepted}
 use Rattle.sim_engine.specs.Faults.{fault_place}

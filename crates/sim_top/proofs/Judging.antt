@@ -10,7 +10,7 @@ use Rattle.stimulus.specs.declared.stimulus.Stimulus.{Stimulus}
 use Rattle.stimulus.specs.declared.fault.StimFault.{StimFault}
 use Rattle.stimulus.specs.Faults.{IsFault, place_of, rank_of}
 use Rattle.stimulus.specs.Stimuli.{IsStimulus}
-use Rattle.cut_laws.specs.CircuitCuts.{IsCutText}
+use Rattle.cut_listing.specs.CircuitCuts.{IsCutText}
 use Rattle.circuit_run.specs.Ports.{ArePortsOf}
 use Rattle.circuit_run.proofs.Parts.{ports_of_circuit}
 use Rattle.trace_print.specs.Listing.{listing_of}

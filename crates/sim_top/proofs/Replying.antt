@@ -4,7 +4,7 @@ use Rattle.std.specs.Prelude.{codes, Some, None, Result, Err}
 use Rattle.std.proofs.lemmas.Bool.{cases_eq}
 use Rattle.std.proofs.lemmas.Grind.{common_steps}
 use Rattle.place_text.specs.Places.{first_place}
-use Rattle.leaf_names.specs.LeafNames.{Texts}
+use Rattle.fir_tree.specs.LeafNames.{Texts}
 use Rattle.stimulus.specs.declared.stimulus.Stimulus.{Stimulus}
 use Rattle.sim_engine.specs.declared.compile.Built.{Built}
 use Rattle.circuit_run.specs.NetRuns.{IsPlanned}
@@ -12,7 +12,7 @@ use Rattle.circuit_run.specs.Traces.{IsTraceText}
 use Rattle.fir_meaning.specs.Components.{Design, design_of}
 use Rattle.shelf_io.specs.Outside.{Appends, Rose}
 use Rattle.circuit_make.specs.Rings.{ring_text}
-use Rattle.trace_summary.specs.Summaries.{IsSummary}
+use Rattle.crew_run.specs.Summaries.{IsSummary}
 use Rattle.sim_engine.specs.Stages.{circuit_limit}
 use Rattle.sim_top.specs.declared.words.Command.{Command}
 use Rattle.sim_top.specs.declared.words.Command.TheVariants.{Run, Check, Widths, Cut}

@@ -3,7 +3,7 @@ use Rattle.std.proofs.Common.{◌≡◌, ◌≢◌, ℕ, zero, suc, ◌+◌, ◌
 use Rattle.std.specs.Prelude.{Some, slice_get}
 use native.Mathlib.Decide.{dec_le}
 use Rattle.std.proofs.lemmas.Grind.{common_steps}
-use Rattle.trace_summary.specs.Summaries.{BeginsLine}
+use Rattle.crew_run.specs.Summaries.{BeginsLine}
 use Rattle.sim_top.specs.Texts.{IsStimulusLine, NoneBefore, HasNone, EndsFirst}
 
 slice_get-drop : (n : ℕ) (l : List ℕ) (k : ℕ) → slice_get (drop n l) k ≡ slice_get l (n + k)

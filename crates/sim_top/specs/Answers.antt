@@ -4,7 +4,7 @@ use Rattle.place_text.specs.Places.{fault_line_bytes, first_place}
 use Rattle.place_text.specs.declared.place.Place.{Place}
 use Rattle.place_text.specs.declared.place.TextPart.TheVariants.{Circuit as Circuit_part, Stimulus as Stimulus_part}
 use Rattle.fault_order.specs.First.{IsFirst, HasNone as HasNoFault}
-use Rattle.leaf_names.specs.LeafNames.{Texts}
+use Rattle.fir_tree.specs.LeafNames.{Texts}
 use Rattle.fir_tree.specs.declared.scope.Fitted.{Fitted}
 use Rattle.fir_meaning.specs.Components.{Design, design_of}
 use Rattle.ground_net.specs.declared.net.Ports.{Ports}
@@ -15,9 +15,9 @@ use Rattle.stimulus.specs.Stimuli.{IsStimulus}
 use Rattle.circuit_run.specs.Ports.{ArePortsOf}
 use Rattle.circuit_run.specs.Traces.{IsTraceText}
 use Rattle.trace_print.specs.Listing.{listing_of}
-use Rattle.trace_summary.specs.Summaries.{IsSummary}
+use Rattle.crew_run.specs.Summaries.{IsSummary}
 use Rattle.circuit_make.specs.Rings.{ring_text}
-use Rattle.cut_laws.specs.CircuitCuts.{IsCutText}
+use Rattle.cut_listing.specs.CircuitCuts.{IsCutText}
 use Rattle.sim_engine.specs.Stages.{circuit_limit, IsAccepted, IsFirstFault}
 use Rattle.sim_engine.specs.Faults.{kind_name, fault_place}
 use Rattle.sim_engine.specs.declared.fault.CircuitFault.{CircuitFault}

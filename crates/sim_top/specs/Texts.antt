@@ -1,6 +1,6 @@
 -- The texts: how long they may be, their faults as a whole, and where the stimulus begins in a text that holds both.
 use Rattle.std.specs.Prelude.{◌≡◌, ◌≢◌, ℕ, ◌+◌, ◌-◌, ◌<◌, ◌≤◌, Bool, true, false, List, [], ◌++◌, length, take, drop, codes, slice_get, Some, ◌⊎◌}
-use Rattle.trace_summary.specs.Summaries.{BeginsLine}
+use Rattle.crew_run.specs.Summaries.{BeginsLine}
 use Rattle.sim_engine.specs.Stages.{circuit_limit}
 use Rattle.sim_top.specs.declared.words.Command.{Command}
 use Rattle.sim_top.specs.declared.words.Command.TheVariants.{Run, Check, Widths, Cut}

@@ -9,7 +9,7 @@ ghost use Rattle.sim_engine.specs.Building.{IsBuilt};
 ghost use Rattle.sim_engine.specs.Faults.{fault_place};
 ghost use Rattle.stimulus.specs.Faults.{place_of};
 ghost use Rattle.fir_meaning.specs.Components.{design_of};
-ghost use Rattle.cut_laws.specs.CircuitCuts.{IsCutText};
+ghost use Rattle.cut_listing.specs.CircuitCuts.{IsCutText};
 ghost use Rattle.sim_top.specs.Commands.{AreWorkers};
 ghost use Rattle.sim_top.specs.Texts.{joined_limit, stimulus_limit, HasNone, IsPart};
 ghost use Rattle.sim_top.specs.Answers.{fault_bytes, whole_bytes, stimulus_bytes, whole_stimulus_bytes, JudgesTexts, Judges};
@@ -17,7 +17,7 @@ ghost use Rattle.sim_top.specs.Endings.{IsFaultLine, Gives, IsFor};
 
 use crate::texts::{STIMULUS_LIMIT, WholeFault, split};
 use crate::words::Command;
-use cut_laws::circuit_cut;
+use cut_listing::circuit_cut;
 use fault_order::Fault;
 use fir_tree::Fitted;
 use place_text::{Place, TextPart, fault_line};

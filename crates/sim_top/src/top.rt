@@ -5,7 +5,7 @@ ghost use Rattle.shelf_io.specs.Outside.{Rose};
 ghost use Rattle.fir_meaning.specs.Components.{design_of};
 ghost use Rattle.circuit_run.specs.Traces.{IsTraceText};
 ghost use Rattle.circuit_make.specs.Rings.{InRange, ring_text};
-ghost use Rattle.trace_summary.specs.Summaries.{IsSummary};
+ghost use Rattle.crew_run.specs.Summaries.{IsSummary};
 ghost use Rattle.sim_engine.specs.Stages.{circuit_limit};
 ghost use Rattle.sim_top.specs.Commands.{AreWorkers, Of_joined, Of_two, Of_made, asked_by, NeedsFor, Needs};
 ghost use Rattle.sim_top.specs.Texts.{joined_limit};
@@ -17,7 +17,7 @@ use crate::texts::{JOINED_LIMIT, STIMULUS_LIMIT, WholeFault};
 use crate::words::{Asked, Command, read_question, workers_of};
 use circuit_make::{MakeFault, make_joined};
 use circuit_run::RunFault;
-use crew_run::{Plan, simulate};
+use crew_run::{Plan, simulate, summarize};
 use crew_workers::Gate;
 use shelf_io::{Shelf, Sink, TakeFault, put_all, take_text};
 use sim_engine::{Built, CIRCUIT_LIMIT};
@@ -25,7 +25,6 @@ use std::alloc::{AllocError, Global};
 use std::sync::Wait;
 use std::thread::Threads;
 use stimulus::Stimulus;
-use trace_summary::summarize;
 
 /// What runs circuits: a runtime that starts threads and waits, the gate that each worker enters before it evaluates, and how many
 /// workers there are, from 1 to 64.

@@ -1,1 +1,9 @@
 pub mod Left
+pub mod Parts
+pub mod Blocks
+pub mod Lists
+pub mod Apart
+pub mod Standing
+pub mod Told
+pub mod Publishing
+pub mod SplitParts

@@ -1,2 +1,1 @@
--- what a reader must believe
 pub mod Effects

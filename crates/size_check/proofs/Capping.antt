@@ -1,6 +1,6 @@
 -- What is capped once more stays, and what is capped before a sum is as good as what isn't.
 use Rattle.std.proofs.Common.{◌≡◌, ℕ, ◌+◌, ◌*◌, ◌-◌, ◌^◌, ◌≤◌, min, max, refl, ap, ◌∙◌, arith, lit≤}
-use Rattle.name_sizes.proofs.Capping.{times_to}
+use Rattle.fir_tree.proofs.Capping.{times_to}
 use Rattle.size_check.specs.declared.sums.Sums.{Sums}
 use Rattle.size_check.specs.declared.sums.Total.{Total}
 use Rattle.size_check.specs.Caps.{cap, capped, capped_total}

@@ -3,7 +3,7 @@ use Rattle.std.proofs.Common.{◌≡◌, ℕ, zero, suc, ◌+◌, ◌<◌, ◌�
 use Rattle.std.specs.Prelude.{Option, None, Some}
 use Rattle.fir_tree.specs.declared.circuit.Circuit.{Circuit}
 use Rattle.fir_tree.specs.declared.circuit.Module.{Module}
-use Rattle.leaf_names.specs.LeafNames.{Texts}
+use Rattle.fir_tree.specs.LeafNames.{Texts}
 use Rattle.size_check.specs.declared.calls.Call.{Call}
 use Rattle.size_check.specs.Typings.{named}
 use Rattle.size_check.specs.Standings.{Standing, standings, standings_of, of_found, of_call, behind, total_of, calls_in, measured}

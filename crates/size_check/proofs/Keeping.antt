@@ -6,7 +6,7 @@ use Rattle.fir_types.specs.Leaves.{count}
 use Rattle.fir_types.specs.Memories.{read_latency_in, first_or}
 use Rattle.size_check.specs.Caps.{cap}
 use Rattle.size_check.specs.Owns.{kept_leaves, reads_in}
-use Rattle.name_sizes.proofs.Wording.{cap_product}
+use Rattle.fir_tree.proofs.Wording.{cap_product}
 
 pub kept_capped : (lines : List MemLine) (element : FirType) (latency reads leaves product : ℕ) → latency ≡ first_or 0 (filter_map read_latency_in lines) → latency ≡ 1
     → reads ≡ cap (sum (map reads_in lines)) → leaves ≡ cap (count element) → product ≡ cap (reads * leaves) → product ≡ cap (kept_leaves lines element)

@@ -8,7 +8,7 @@ use Rattle.std.proofs.lemmas.Map.Entries.{All-lookup}
 use Rattle.std.proofs.lemmas.Map.Made.{lookup-map_values}
 use Rattle.fir_types.specs.declared.fir_type.FirType.{FirType}
 use Rattle.fir_tree.specs.declared.circuit.Module.{Module}
-use Rattle.leaf_names.specs.LeafNames.{Texts}
+use Rattle.fir_tree.specs.LeafNames.{Texts}
 use Rattle.std.proofs.Math.Logic.{∥∥₁_elim}
 use Rattle.std.proofs.Math.Nat.{ℕ_set}
 use Rattle.type_index.specs.declared.tree.TypeIndex.{TypeIndex}
@@ -18,7 +18,7 @@ use Rattle.size_check.specs.declared.component.Component.{Component}
 use Rattle.module_table.specs.Tables.{with_new, bundle_of}
 use Rattle.size_check.specs.Kept.{types_of, IsMeasured, AreMeasured}
 use Rattle.size_check.specs.Caps.{cap}
-use Rattle.name_sizes.specs.Texts.{way_bytes}
+use Rattle.fir_tree.specs.Texts.{way_bytes}
 use Rattle.size_check.specs.Typings.{typing, type_or_none, known_with, instance_type}
 use Rattle.size_check.specs.Weights.{no_type}
 

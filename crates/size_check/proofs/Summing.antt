@@ -6,7 +6,7 @@ use Rattle.std.proofs.lemmas.List.{map_more}
 use Rattle.std.proofs.lemmas.List.Sums.{sum_by-cons}
 use Rattle.std.proofs.lemmas.Option.{slice_get-map, slice_get-get_or, none-some, same_Some}
 use Rattle.fir_tree.specs.declared.circuit.Module.{Module}
-use Rattle.leaf_names.specs.LeafNames.{Texts, text_of}
+use Rattle.fir_tree.specs.LeafNames.{Texts, text_of}
 use Rattle.size_check.specs.declared.sums.Sums.{Sums}
 use Rattle.size_check.specs.declared.sums.Total.{Total}
 use Rattle.size_check.specs.declared.calls.Call.{Call}
@@ -15,7 +15,7 @@ use Rattle.size_check.specs.Owns.{module_own}
 use Rattle.size_check.specs.Typings.{named}
 use Rattle.size_check.specs.Rounds.{totals_at, owns_of, deeper}
 use Rattle.size_check.specs.Standings.{Standing, standings, of_found, of_call, behind, before, at_path, total_of, add, no_total, calls_in}
-use Rattle.name_sizes.proofs.Capping.{cap_times}
+use Rattle.fir_tree.proofs.Capping.{cap_times}
 use Rattle.size_check.proofs.Capping.{sums_same, total_same, capped_add, add_later, no_total_add, add_no_total}
 
 pub total-append : (texts : Texts) (modules : List Module) (xs ys : List Standing) → total_of texts modules (xs ++ ys) ≡ add (total_of texts modules xs) (total_of texts modules ys)

@@ -1,5 +1,5 @@
 -- Numbers as the bodies hold them: 2^128 - 1 stands for all from there on.
-pub use Rattle.name_sizes.specs.Caps.{cap}
+pub use Rattle.fir_tree.specs.Caps.{cap}
 use Rattle.size_check.specs.declared.sums.Sums.{Sums}
 use Rattle.size_check.specs.declared.sums.Total.{Total}
 

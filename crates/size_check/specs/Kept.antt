@@ -1,6 +1,6 @@
 -- The components that are known, as the bodies keep them.
 use Rattle.std.specs.Prelude.{ℕ, List, map, All}
-use Rattle.leaf_names.specs.LeafNames.{Texts}
+use Rattle.fir_tree.specs.LeafNames.{Texts}
 use Rattle.size_check.specs.declared.component.Component.{Component}
 use Rattle.type_index.specs.Knowing.{HasWays}
 use Rattle.size_check.specs.Typings.{Known}

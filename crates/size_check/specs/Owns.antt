@@ -20,8 +20,8 @@ use Rattle.fir_tree.specs.declared.circuit.Module.{Module}
 use Rattle.fir_tree.specs.declared.stmt.Stmt.{Stmt, fold-Stmt}
 use Rattle.fir_tree.specs.declared.stmt.Arm.{Arm, fold-Arm}
 use Rattle.fir_tree.specs.declared.stmt.Stmt.TheOpen.{Stmt-F, Arm-F}
-use Rattle.leaf_names.specs.LeafNames.{Texts}
-use Rattle.name_sizes.specs.Texts.{name_bytes}
+use Rattle.fir_tree.specs.LeafNames.{Texts}
+use Rattle.fir_tree.specs.Texts.{name_bytes}
 use Rattle.size_check.specs.declared.sums.Sums.{Sums}
 use Rattle.size_check.specs.Measures.{nothing, plus, together, greatest}
 use Rattle.size_check.specs.Weights.{Typing, nodes, weight}

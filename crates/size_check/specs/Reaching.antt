@@ -1,7 +1,7 @@
 -- What the walks through expressions keep.
 use Rattle.size_check.specs.declared.known.Known.{Known}
 use Rattle.size_check.specs.declared.reached.Reached.{Reached}
-use Rattle.leaf_names.specs.LeafNames.{Texts}
+use Rattle.fir_tree.specs.LeafNames.{Texts}
 use Rattle.type_index.specs.declared.known.Known.{Known as Part}
 use Rattle.type_index.specs.Knowing.{HasWays}
 use Rattle.size_check.specs.Caps.{cap}

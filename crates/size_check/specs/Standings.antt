@@ -5,7 +5,7 @@ use Rattle.fir_tree.specs.declared.circuit.Module.{Module}
 use Rattle.fir_tree.specs.declared.stmt.Stmt.{Stmt, fold-Stmt}
 use Rattle.fir_tree.specs.declared.stmt.Arm.{Arm, fold-Arm}
 use Rattle.fir_tree.specs.declared.stmt.Stmt.TheOpen.{Stmt-F, Arm-F}
-use Rattle.leaf_names.specs.LeafNames.{Texts, text_of}
+use Rattle.fir_tree.specs.LeafNames.{Texts, text_of}
 use Rattle.size_check.specs.declared.sums.Sums.{Sums}
 use Rattle.size_check.specs.declared.sums.Total.{Total}
 use Rattle.size_check.specs.declared.calls.Call.{Call}

@@ -4,7 +4,7 @@ ghost use Rattle.std.specs.Prelude.{◌≡◌, [], map, IfOk, OnOk};
 ghost use Rattle.std.specs.Coded.{Coded-set};
 ghost use Rattle.fir_types.specs.contracts.fir_type.FirType.{the_row as type_row};
 ghost use Rattle.fir_types.specs.Bundles.{memory_of};
-ghost use Rattle.leaf_names.specs.LeafNames.{Texts};
+ghost use Rattle.fir_tree.specs.LeafNames.{Texts};
 ghost use Rattle.size_check.specs.Kept.{types_of, IsMeasured, AreMeasured};
 ghost use Rattle.size_check.specs.Typings.{known_with, known_in, stmt_notes, arm_notes, port_notes, in_turn, named, instance_type as instance_type_of};
 ghost use Rattle.size_check.specs.Weights.{one_bit, no_type, weight};
@@ -13,11 +13,10 @@ ghost use Rattle.type_index.specs.Knowing.{HasWays};
 use crate::component::Component;
 use crate::weights::weigh;
 use bit_words::{List, Shared};
-use fir_tree::{Arm, Expr, Module, Names, Stmt};
+use fir_tree::{Arm, Expr, Module, Names, Stmt, Ways};
 use fir_types::{FirType, Memory, Name, Port, Shape, copy, instance_type};
 use indexmap::IndexMap;
 use module_table::{Modules, insert_new};
-use name_sizes::Ways;
 use place_text::Place;
 use std::alloc::{AllocError, Global};
 use type_index::{Known as Part, KnownType, TypeIndex};
@@ -44,7 +43,7 @@ impl Known {
     ghost use Rattle.fir_types.specs.Leaves.{count};
     ghost use Rattle.size_check.specs.Caps.{cap};
     ghost use Rattle.size_check.specs.Reaching.{types_in, HasPart};
-    ghost use Rattle.name_sizes.specs.Texts.{way_bytes};
+    ghost use Rattle.fir_tree.specs.Texts.{way_bytes};
 
     /// No component.
     pub fn new(alloc: Global) -> Result<Known, AllocError>

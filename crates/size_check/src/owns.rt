@@ -14,12 +14,9 @@ use crate::known::{Known, known_of};
 use crate::sums::Sums;
 use crate::weights::{more, nodes, weigh};
 use bit_words::Shared;
-use fir_tree::{Arm, Module, Names, Stmt};
-use fir_types::{
-    FirType, MemLine, Memory, Name, Port, PortMode, Shape, copy, depth_of, element_of, leaf_count,
-};
+use fir_tree::{Arm, Module, Names, Stmt, Ways, names_by, names_of};
+use fir_types::{FirType, MemLine, Memory, Name, Port, PortMode, Shape, copy, depth_of, element_of, leaf_count};
 use module_table::Modules;
-use name_sizes::{Ways, names_by, names_of};
 use place_text::Place;
 use std::alloc::{AllocError, Global};
 

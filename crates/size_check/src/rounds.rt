@@ -7,14 +7,13 @@ ghost use Rattle.size_check.specs.declared.sums.Total.{Total as ATotal};
 ghost use Rattle.size_check.specs.Rounds.{owns_of, totals_at, deeper};
 ghost use Rattle.size_check.specs.Standings.{measured, add, total_of, of_call, of_found, standings};
 ghost use Rattle.size_check.specs.Typings.{named};
-ghost use Rattle.leaf_names.specs.LeafNames.{Texts};
+ghost use Rattle.fir_tree.specs.LeafNames.{Texts};
 
 use crate::calls::{Call, calls_of};
 use crate::owns::module_own;
 use crate::sums::{Sums, Total};
-use fir_tree::{Circuit, Module, Names};
+use fir_tree::{Circuit, Module, Names, name_length};
 use module_table::Modules;
-use name_sizes::name_length;
 use std::alloc::{AllocError, Global};
 
 /// One more name than an instance path may have.

@@ -3,7 +3,7 @@
 ghost use Rattle.std.specs.Prelude.{◌≡◌, ◌+◌, max, map, sum, IfOk};
 ghost use Rattle.fir_meaning.specs.Values.{field_type, element_type};
 ghost use Rattle.size_check.specs.Caps.{cap};
-ghost use Rattle.leaf_names.specs.LeafNames.{Texts};
+ghost use Rattle.fir_tree.specs.LeafNames.{Texts};
 ghost use Rattle.size_check.specs.Kept.{AreMeasured};
 ghost use Rattle.size_check.specs.Reaching.{types_in, weight_of, capped_weight, HasPart};
 ghost use Rattle.size_check.specs.Weights.{nodes, suffix_nodes, weight, suffix_step, along, whole, reach, most_of, of_choice, one_bit};

@@ -2,9 +2,8 @@
 
 use crate::stages::circuit_with;
 use bit_words::{List, Shared};
-use circuit_parts::Flow;
 use fir_names::resolve;
-use fir_tree::Checked;
+use fir_tree::{Checked, Flow};
 use reference_flow::flow_of;
 use std::alloc::Global;
 

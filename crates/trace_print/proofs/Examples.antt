@@ -23,7 +23,7 @@ use Rattle.fir_tree.specs.declared.stmt.Stmt.TheVariants as stmt
 use Rattle.trace_print.specs.declared.component.Component.{Component}
 use Rattle.trace_print.specs.Trace.{header_of, trace_line_of}
 use Rattle.trace_print.specs.Components.{stmt_declared, components_of}
-use Rattle.leaf_names.specs.LeafNames.{Texts}
+use Rattle.fir_tree.specs.LeafNames.{Texts}
 use Rattle.trace_print.specs.Listing.{shape_line, component_lines, listing_of}
 
 -- a header

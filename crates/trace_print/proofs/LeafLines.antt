@@ -13,7 +13,7 @@ use Rattle.fir_types.specs.declared.leaf.PathStep.TheVariants as step
 use Rattle.fir_types.specs.Leaves.{leaves, field_leaves, elements, under}
 use Rattle.fir_types.proofs.Layers.{leaves-field}
 use Rattle.fir_types.proofs.Singles.{leaves-single}
-use Rattle.leaf_names.specs.LeafNames.{Texts, step_text}
+use Rattle.fir_tree.specs.LeafNames.{Texts, step_text}
 use Rattle.trace_print.specs.Listing.{shape_line, leaf_line}
 
 -- a name without a text

@@ -7,7 +7,7 @@ use Rattle.fir_types.specs.declared.fir_type.Shape.TheVariants as shape
 use Rattle.fir_types.specs.declared.leaf.TypeLeaf.{TypeLeaf}
 use Rattle.fir_types.specs.Leaves.{leaves}
 use Rattle.fir_tree.specs.declared.scope.Fitted.{Fitted}
-use Rattle.leaf_names.specs.LeafNames.{Texts, text_of, way_text}
+use Rattle.fir_tree.specs.LeafNames.{Texts, text_of, way_text}
 use Rattle.trace_print.specs.declared.component.Component.{Component}
 use Rattle.trace_print.specs.Components.{components_of}
 

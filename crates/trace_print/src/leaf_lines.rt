@@ -4,10 +4,9 @@ ghost use Rattle.std.specs.Prelude.{◌≡◌, ◌++◌, flat_map, OnOk};
 ghost use Rattle.fir_types.specs.Leaves.{leaves};
 ghost use Rattle.trace_print.specs.Listing.{leaf_line, width_line};
 
-use fir_tree::Names;
+use fir_tree::{Names, push_name};
 use fir_types::{FirType, Shape, leaf_count};
 use itoa::Buffer;
-use leaf_names::push_name;
 use std::alloc::AllocError;
 
 /// Adds the lines of the leaves of a type, which all begin with this front. Lengths of 1, of which any number may stand in one

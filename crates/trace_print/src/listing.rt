@@ -6,9 +6,8 @@ ghost use Rattle.trace_print.specs.Listing.{component_lines, listing_of};
 use crate::component::Component;
 use crate::declarations::components;
 use crate::leaf_lines::push_lines;
-use fir_tree::{Fitted, Names};
+use fir_tree::{Fitted, Names, push_name};
 use fir_types::FirType;
-use leaf_names::push_name;
 use std::alloc::{AllocError, Global};
 
 /// The listing of the widths: a line `MODULE LEAF KIND WIDTH` for each leaf of the ports, wires, registers, nodes and memory

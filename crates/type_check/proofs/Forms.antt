@@ -14,12 +14,12 @@ use Rattle.fir_tree.specs.declared.expr.Form.TheVariants as form
 use Rattle.type_check.specs.declared.fault.TypeFault.{TypeFault}
 use Rattle.type_check.specs.declared.fault.TypeFault.TheVariants.{LiteralFit}
 use Rattle.type_check.specs.declared.found.Findings.{Findings}
-use Rattle.circuit_parts.specs.declared.part.Part.{Part}
+use Rattle.fir_tree.specs.declared.part.Part.{Part}
 use Rattle.type_check.specs.declared.rules.Operand.{Operand as Held}
 use Rattle.type_check.specs.Parts.{Known, unless, typed_without}
-use Rattle.circuit_parts.specs.Parts.{source_of}
+use Rattle.fir_tree.specs.Parts.{source_of}
 use Rattle.type_check.specs.Expressions.{Judgement, Operand, found_of, judged, node, unjudged_node, over, operation, choice, type_or_none, fits_literal, typed_operands, all_among, row_of, signs_of, result_type}
-use Rattle.circuit_parts.specs.Kinds.{ground, no_type, sign_or_unsigned}
+use Rattle.fir_tree.specs.Kinds.{ground, no_type, sign_or_unsigned}
 use Rattle.type_check.specs.Judging.{operand_of, together, filled, AddsBelow}
 use Rattle.type_check.specs.Walks.{Adds}
 

@@ -7,7 +7,7 @@ use Rattle.std.proofs.lemmas.List.Concat.{flat_map-append}
 use Rattle.place_text.specs.declared.place.Place.{Place}
 use Rattle.fir_tree.specs.declared.expr.Expr.{Expr, the_lemmas}
 use Rattle.type_check.specs.declared.found.Findings.{Findings}
-use Rattle.circuit_parts.specs.declared.part.Part.{Part}
+use Rattle.fir_tree.specs.declared.part.Part.{Part}
 use Rattle.type_check.specs.declared.rules.Operand.{Operand as Held}
 use Rattle.type_check.specs.Parts.{Known}
 use Rattle.type_check.specs.Expressions.{Judgement, Judged, Step, Operand, behind, along, typed_operands, with_operand, all_among, judged, found_of}

@@ -27,10 +27,10 @@ use Rattle.fir_tree.specs.declared.expr.Suffix.{Suffix, ind-Suffix}
 use Rattle.fir_tree.specs.declared.expr.Suffix.TheVariants.{rolls-Field, rolls-At, rolls-Index}
 use Rattle.fir_types.specs.declared.fir_type.Shape.{Shape}
 use Rattle.fir_types.specs.declared.fir_type.Shape.TheOpen.{Shape-F}
-use Rattle.circuit_parts.specs.Kinds.{is_unsigned}
+use Rattle.fir_tree.specs.Kinds.{is_unsigned}
 use Rattle.fir_tree.specs.declared.expr.Suffix.TheVariants as suffix
-use Rattle.circuit_parts.specs.declared.part.Part.{Part}
-use Rattle.circuit_parts.specs.Parts.{source_of}
+use Rattle.fir_tree.specs.declared.part.Part.{Part}
+use Rattle.fir_tree.specs.Parts.{source_of}
 use Rattle.type_check.specs.declared.fault.TypeFault.{TypeFault}
 use Rattle.type_check.specs.Parts.{Known, component, typed_without}
 use Rattle.type_check.specs.Expressions.{Judgement, Operand, found_of, judged, over, choice, choice_faults, with_operand, typed_operands, all_among, as_node, along, behind, suffix_step, from_base, from_index, field_step, element_step, element_found, index_step, indexed}

@@ -1,7 +1,7 @@
 -- One walk behind another.
 use Rattle.std.proofs.Common.{◌≡◌, ℕ, ◌+◌, List, ◌++◌, map, length, take, refl, sym, ap, ap₂, ◌∙◌, append_assoc, append-nil, get_or, ◌<◌, subst, arith}
 use Rattle.std.proofs.lemmas.Grind.{common_steps}
-use Rattle.circuit_parts.proofs.Turns.{Turns, walks_push as one_more}
+use Rattle.fir_tree.proofs.Turns.{Turns, walks_push as one_more}
 use Rattle.fir_tree.specs.declared.circuit.Module.{Module}
 use Rattle.fir_tree.specs.declared.stmt.Stmt.{Stmt, the_lemmas}
 use Rattle.fir_tree.specs.declared.stmt.Stmt.TheVariants as stmt

@@ -12,10 +12,10 @@ use Rattle.fir_types.specs.declared.fir_type.Shape.TheOpen.{Shape-F}
 use Rattle.fir_types.specs.declared.fir_type.Shape.TheViews.{out-Shape}
 use Rattle.fir_types.specs.declared.fir_type.Field.{Field}
 use Rattle.fir_types.specs.declared.name.Name.{Name}
-use Rattle.circuit_parts.specs.declared.part.Part.{Part}
-use Rattle.circuit_parts.specs.Parts.{part_of, flow_through}
+use Rattle.fir_tree.specs.declared.part.Part.{Part}
+use Rattle.fir_tree.specs.Parts.{part_of, flow_through}
 use Rattle.type_check.specs.declared.rules.Operand.{Operand as Held}
-use Rattle.circuit_parts.specs.Kinds.{ground}
+use Rattle.fir_tree.specs.Kinds.{ground}
 use Rattle.type_check.specs.Expressions.{field_step, field_found, stands, row_of, with_sign, signs_of, sign_for, takes_async, result_type}
 use Rattle.type_check.specs.Judging.{operand_of}
 use Rattle.type_index.specs.Knowing.{fields_in}

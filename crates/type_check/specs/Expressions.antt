@@ -19,12 +19,12 @@ use Rattle.prim_ops.specs.Kinds.{row_kind}
 use Rattle.fir_tree.specs.declared.expr.Expr.{Expr, fold-Expr}
 use Rattle.fir_tree.specs.declared.expr.Suffix.{Suffix, fold-Suffix}
 use Rattle.fir_tree.specs.declared.expr.Form.TheOpen.{Form-F, Suffix-F, Expr-F}
-use Rattle.circuit_parts.specs.declared.part.Part.{Part}
+use Rattle.fir_tree.specs.declared.part.Part.{Part}
 use Rattle.type_check.specs.declared.fault.TypeFault.TheVariants.{FieldUnknown, NotBundle, NotVector, IndexRange, IndexKind, OperandKind, NotEquivalent, ConditionKind, NotPassive, LiteralFit}
 use Rattle.type_check.specs.declared.fault.TypeFault.{TypeFault}
 use Rattle.type_check.specs.Parts.{Known, component, unless, when, one_fault, typed_without}
-use Rattle.circuit_parts.specs.Parts.{part_of, source_of, flow_through}
-use Rattle.circuit_parts.specs.Kinds.{holds, ground, sign_or_unsigned, no_type, sign_of, is_unsigned, is_async}
+use Rattle.fir_tree.specs.Parts.{part_of, source_of, flow_through}
+use Rattle.fir_tree.specs.Kinds.{holds, ground, sign_or_unsigned, no_type, sign_of, is_unsigned, is_async}
 use Rattle.type_check.specs.Texts.{has_signal, is_passive, are_equivalent}
 
 -- What is found of an expression, or of a reference up to some step: the part with its type, the types of its nodes in

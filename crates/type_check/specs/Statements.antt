@@ -12,16 +12,16 @@ use Rattle.fir_tree.specs.declared.expr.Expr.{Expr}
 use Rattle.fir_tree.specs.declared.stmt.Stmt.{Stmt, fold-Stmt}
 use Rattle.fir_tree.specs.declared.stmt.Arm.{Arm, fold-Arm}
 use Rattle.fir_tree.specs.declared.stmt.Stmt.TheOpen.{Stmt-F, Arm-F}
-use Rattle.circuit_parts.specs.declared.part.Flow.{Flow}
-use Rattle.circuit_parts.specs.declared.part.Flow.TheVariants.{Source, Sink, Duplex}
-use Rattle.circuit_parts.specs.declared.part.Part.{Part}
+use Rattle.fir_tree.specs.declared.part.Flow.{Flow}
+use Rattle.fir_tree.specs.declared.part.Flow.TheVariants.{Source, Sink, Duplex}
+use Rattle.fir_tree.specs.declared.part.Part.{Part}
 use Rattle.type_check.specs.declared.fault.TypeFault.TheVariants.{OperandKind, NotEquivalent, FlowSink, FlowSource, ConditionKind, NotPassive}
 use Rattle.type_check.specs.declared.fault.TypeFault.{TypeFault}
 use Rattle.type_check.specs.Parts.{Known, known_with, unless, when, where_typed}
-use Rattle.circuit_parts.specs.Turns.{in_order}
-use Rattle.circuit_parts.specs.Parts.{port_flow, instance_in, part_of, source_of}
+use Rattle.fir_tree.specs.Turns.{in_order}
+use Rattle.fir_tree.specs.Parts.{port_flow, instance_in, part_of, source_of}
 use Rattle.type_check.specs.Texts.{twice_in, stored_faults, is_passive, are_equivalent}
-use Rattle.circuit_parts.specs.Kinds.{is_unsigned, is_reset, is_a_clock}
+use Rattle.fir_tree.specs.Kinds.{is_unsigned, is_reset, is_a_clock}
 use Rattle.type_check.specs.Expressions.{found_of}
 use Rattle.type_check.specs.Memories.{memory_faults}
 

@@ -11,7 +11,7 @@ use Rattle.fir_types.specs.declared.name.Name.{Name}
 use Rattle.fir_types.specs.Passivity.{has_flip}
 use Rattle.type_check.specs.declared.fault.TypeFault.TheVariants.{FieldTwice, OperandKind, NotPassive}
 use Rattle.type_check.specs.declared.fault.TypeFault.{TypeFault}
-use Rattle.circuit_parts.specs.Kinds.{is_clock_layer, is_async_layer}
+use Rattle.fir_tree.specs.Kinds.{is_clock_layer, is_async_layer}
 use Rattle.type_check.specs.Parts.{unless, when}
 -- whether a leaf of a type is a `Clock` or an `AsyncReset`
 pub use Rattle.fir_types.specs.Leaves.{has_signal}

@@ -2,8 +2,8 @@
 
 ghost use Rattle.std.specs.Prelude.{◌≡◌, Some, OnOk};
 ghost use Rattle.fir_types.specs.Bundles.{memory_of};
-ghost use Rattle.circuit_parts.specs.declared.part.Flow.TheVariants.{Duplex as A_duplex};
-ghost use Rattle.circuit_parts.specs.Parts.{part_of, source_of, instance_in, port_flow};
+ghost use Rattle.fir_tree.specs.declared.part.Flow.TheVariants.{Duplex as A_duplex};
+ghost use Rattle.fir_tree.specs.Parts.{part_of, source_of, instance_in, port_flow};
 ghost use Rattle.type_check.specs.Texts.{twice_in, stored_faults};
 ghost use Rattle.type_check.specs.Memories.{memory_faults};
 ghost use Rattle.type_check.specs.Statements.{and_then, notes, declares, expects, names_node, port_walk, clock_faults, reset_faults, init_faults};
@@ -16,9 +16,8 @@ use crate::memory::push_memory;
 use crate::texts::{push_stored, push_twice, push_unless};
 use crate::walk::Walk;
 use crate::whole::{is_passive_at, reference_at};
-use circuit_parts::Flow;
-use circuit_parts::steps::port_flow;
-use fir_tree::Expr;
+use fir_tree::{Expr, Flow};
+use fir_tree::steps::port_flow;
 use fir_types::{FirType, Memory, Name, Port};
 use std::alloc::{AllocError, Global};
 

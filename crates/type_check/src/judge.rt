@@ -2,7 +2,7 @@
 
 ghost use Rattle.std.specs.Prelude.{◌≡◌, ◌<◌, All, length, map, option_map, IfOk, IfSome, OnOk};
 ghost use Rattle.type_check.specs.Expressions.{found_of, judged, suffix_step, typed_operands, all_among, along};
-ghost use Rattle.circuit_parts.specs.Kinds.{no_type};
+ghost use Rattle.fir_tree.specs.Kinds.{no_type};
 ghost use Rattle.type_check.specs.Parts.{component};
 ghost use Rattle.type_check.specs.Judging.{part_reached, operand_of, IsFound, together, filled, AddsBelow};
 ghost use Rattle.type_check.specs.Walks.{Adds};
@@ -11,9 +11,8 @@ use crate::found::Findings;
 use crate::reached::Reached;
 use crate::rules::{Operand, judge_choice, judge_literal, judge_operation};
 use crate::steps::{to_element, to_field, to_indexed};
-use circuit_parts::Part;
-use circuit_parts::kinds::no_type;
-use fir_tree::{Expr, Form, Suffix};
+use fir_tree::{Expr, Form, Part, Suffix};
+use fir_tree::kinds::no_type;
 use fir_types::{FirType, copy};
 use module_table::Components;
 use std::alloc::{AllocError, Global};

@@ -7,7 +7,7 @@ ghost use Rattle.bit_words.specs.declared.value.Kind.TheVariants.{Unsigned, Sign
 ghost use Rattle.fir_types.specs.Equivalence.{Equivalent};
 ghost use Rattle.fir_types.specs.declared.fir_type.FirType.{FirType as TheType};
 ghost use Rattle.type_check.specs.Expressions.{fits_literal};
-ghost use Rattle.circuit_parts.specs.Kinds.{holds};
+ghost use Rattle.fir_tree.specs.Kinds.{holds};
 ghost use Rattle.type_check.specs.Texts.{are_equivalent};
 
 /// The question whether two types are equivalent is answered with yes exactly where they are.

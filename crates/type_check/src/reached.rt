@@ -1,6 +1,6 @@
 //! What a reference has come to.
 
-use circuit_parts::Flow;
+use fir_tree::Flow;
 use type_index::Known;
 
 /// What a reference has come to.

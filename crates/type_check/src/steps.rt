@@ -2,16 +2,16 @@
 
 ghost use Rattle.std.specs.Prelude.{◌≡◌, ◌++◌, ◌∷◌, [], None, option_map, IfOk, OnOk};
 ghost use Rattle.fir_types.specs.declared.fir_type.Shape.TheViews.{out-Shape};
-ghost use Rattle.circuit_parts.specs.Parts.{flow_through, part_of};
+ghost use Rattle.fir_tree.specs.Parts.{flow_through, part_of};
 ghost use Rattle.type_index.specs.Knowing.{element_in};
 ghost use Rattle.type_check.specs.Expressions.{field_step, element_step, index_step};
 ghost use Rattle.type_check.specs.Judging.{part_at, part_reached};
 
 use crate::fault::TypeFault;
 use crate::reached::Reached;
-use circuit_parts::kinds::is_unsigned;
-use circuit_parts::steps::through;
-use circuit_parts::{Flow, Part};
+use fir_tree::{Flow, Part};
+use fir_tree::kinds::is_unsigned;
+use fir_tree::steps::through;
 use fir_types::{Name, Shape};
 use place_text::Place;
 use std::alloc::AllocError;

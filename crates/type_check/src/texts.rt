@@ -4,7 +4,7 @@ ghost use Rattle.std.specs.Prelude.{◌≡◌, ◌++◌, [], map, OnOk};
 ghost use Rattle.std.specs.List.{flat_map};
 ghost use Rattle.bit_words.specs.Numbers.{integer_of_number};
 ghost use Rattle.type_check.specs.Parts.{unless};
-ghost use Rattle.circuit_parts.specs.Kinds.{sign_of, is_unsigned, is_a_clock};
+ghost use Rattle.fir_tree.specs.Kinds.{sign_of, is_unsigned, is_a_clock};
 ghost use Rattle.type_check.specs.Texts.{is_passive, are_equivalent, seconds_behind, twice_in, stored_faults};
 ghost use Rattle.type_check.specs.Expressions.{fits_literal};
 

@@ -6,12 +6,11 @@ ghost use Rattle.type_check.specs.Expressions.{found_of};
 ghost use Rattle.module_table.specs.Leading.{Leads};
 ghost use Rattle.type_check.specs.Judging.{Agrees};
 ghost use Rattle.type_check.specs.Parts.{Known as TheKnown};
-ghost use Rattle.circuit_parts.specs.declared.part.Part.{Part as APart};
+ghost use Rattle.fir_tree.specs.declared.part.Part.{Part as APart};
 ghost use Rattle.type_check.specs.Texts.{has_signal, is_passive, are_equivalent};
 
 use crate::texts::{are_equivalent, is_passive};
-use circuit_parts::Part;
-use fir_tree::{Expr, Form};
+use fir_tree::{Expr, Form, Part};
 use fir_types::has_signal;
 use module_table::{Components, Reference, reference_of};
 use type_index::Known;

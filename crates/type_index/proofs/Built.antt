@@ -19,15 +19,15 @@ use Rattle.fir_types.specs.Runs.{within}
 use Rattle.fir_types.proofs.Layers.{count-bundle, count-field, flip-bundle, leaves-bundle, leaves-vector, some-fields, some-field, some-elements}
 use Rattle.fir_types.proofs.Masks.{flip-vector}
 use Rattle.fir_types.proofs.Runs.{within_last}
-use Rattle.leaf_names.specs.LeafNames.{Texts}
-use Rattle.name_sizes.specs.Caps.{cap}
-use Rattle.name_sizes.specs.Texts.{way_bytes, field_bytes}
-use Rattle.name_sizes.proofs.Capping.{cap_plus}
-use Rattle.name_sizes.proofs.Wording.{ways-bundle}
-use Rattle.field_index.specs.declared.index.FieldIndex.{FieldIndex}
-use Rattle.field_index.specs.Indexes.{IsIndexOf}
-use Rattle.width_spots.specs.Spots.{size, field_size}
-use Rattle.width_spots.proofs.Layers.{size-field, size-bundle, spots-vector}
+use Rattle.fir_tree.specs.LeafNames.{Texts}
+use Rattle.fir_tree.specs.Caps.{cap}
+use Rattle.fir_tree.specs.Texts.{way_bytes, field_bytes}
+use Rattle.fir_tree.proofs.Capping.{cap_plus}
+use Rattle.fir_tree.proofs.Wording.{ways-bundle}
+use Rattle.fir_types.specs.declared.index.FieldIndex.{FieldIndex}
+use Rattle.fir_types.specs.Indexes.{IsIndexOf}
+use Rattle.fir_types.specs.Spots.{size, field_size}
+use Rattle.fir_types.proofs.SpotLayers.{size-field, size-bundle, spots-vector}
 use Rattle.type_index.specs.declared.tree.TypeIndex.{TypeIndex, the_lemmas}
 use Rattle.type_index.specs.declared.tree.Inside.TheVariants as inside
 use Rattle.type_index.specs.declared.tree.Inside.TheViews.{out-Inside}

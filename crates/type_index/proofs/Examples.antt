@@ -4,7 +4,7 @@ use Rattle.place_text.specs.declared.place.Place.{Place}
 use Rattle.fir_types.specs.declared.fir_type.FirType.{FirType}
 use Rattle.fir_types.specs.declared.fir_type.Shape.{Shape}
 use Rattle.fir_types.specs.declared.fir_type.Shape.TheVariants as shape
-use Rattle.leaf_names.specs.LeafNames.{Texts}
+use Rattle.fir_tree.specs.LeafNames.{Texts}
 use Rattle.type_index.specs.declared.tree.Inside.TheVariants as inside
 use Rattle.type_index.specs.Knowing.{Matches, IsRight}
 use Rattle.type_index.proofs.Built.{async_matches, clock_matches}

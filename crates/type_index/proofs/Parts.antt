@@ -16,15 +16,15 @@ use Rattle.fir_types.specs.declared.fir_type.FirType.{the_lemmas as type_lemmas}
 use Rattle.fir_types.specs.declared.fir_type.Field.{Field}
 use Rattle.fir_types.specs.Leaves.{count, has_clock, has_signal}
 use Rattle.fir_types.specs.Passivity.{has_flip}
-use Rattle.leaf_names.specs.LeafNames.{Texts}
-use Rattle.name_sizes.specs.Caps.{cap}
-use Rattle.name_sizes.specs.Texts.{way_bytes}
-use Rattle.field_index.specs.declared.index.FieldIndex.{FieldIndex}
-use Rattle.field_index.specs.declared.index.FieldPlace.{FieldPlace}
-use Rattle.field_index.specs.contracts.index.FieldPlace.{the_row as place_row}
-use Rattle.width_spots.specs.Spots.{size}
-use Rattle.field_index.specs.Indexes.{first_at, place_in, IsIndexOf}
-use Rattle.field_index.proofs.Places.{at_place, field_found, sum_more}
+use Rattle.fir_tree.specs.LeafNames.{Texts}
+use Rattle.fir_tree.specs.Caps.{cap}
+use Rattle.fir_tree.specs.Texts.{way_bytes}
+use Rattle.fir_types.specs.declared.index.FieldIndex.{FieldIndex}
+use Rattle.fir_types.specs.declared.index.FieldPlace.{FieldPlace}
+use Rattle.fir_types.specs.contracts.index.FieldPlace.{the_row as place_row}
+use Rattle.fir_types.specs.Spots.{size}
+use Rattle.fir_types.specs.Indexes.{first_at, place_in, IsIndexOf}
+use Rattle.fir_types.proofs.Places.{at_place, field_found, sum_more}
 use Rattle.type_index.specs.declared.tree.TypeIndex.{TypeIndex, the_lemmas}
 use Rattle.type_index.specs.declared.tree.Inside.TheVariants as inside
 use Rattle.type_index.specs.declared.tree.Inside.TheViews.{out-Inside}

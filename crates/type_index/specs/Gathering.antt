@@ -4,10 +4,10 @@ use Rattle.std.specs.List.{list_any}
 use Rattle.fir_types.specs.declared.fir_type.Field.{Field}
 use Rattle.fir_types.specs.Leaves.{field_count, has_clock, has_signal}
 use Rattle.fir_types.specs.Passivity.{field_has_flip}
-use Rattle.leaf_names.specs.LeafNames.{Texts}
-use Rattle.width_spots.specs.Spots.{field_size}
-use Rattle.name_sizes.specs.Caps.{cap}
-use Rattle.name_sizes.specs.Texts.{field_bytes}
+use Rattle.fir_tree.specs.LeafNames.{Texts}
+use Rattle.fir_types.specs.Spots.{field_size}
+use Rattle.fir_tree.specs.Caps.{cap}
+use Rattle.fir_tree.specs.Texts.{field_bytes}
 use Rattle.type_index.specs.declared.gathered.Gathered.{Gathered}
 use Rattle.type_index.specs.Knowing.{FieldsMatch, IsRight}
 

@@ -8,13 +8,13 @@ use Rattle.fir_types.specs.declared.fir_type.Shape.TheVariants as shape
 use Rattle.fir_types.specs.declared.fir_type.Field.{Field}
 use Rattle.fir_types.specs.Leaves.{count, has_clock, has_signal}
 use Rattle.fir_types.specs.Passivity.{has_flip}
-use Rattle.field_index.specs.declared.index.FieldIndex.{FieldIndex}
-use Rattle.field_index.specs.declared.index.FieldPlace.{FieldPlace}
-use Rattle.field_index.specs.Indexes.{IsIndexOf, first_at}
-use Rattle.width_spots.specs.Spots.{size}
-use Rattle.leaf_names.specs.LeafNames.{Texts}
-use Rattle.name_sizes.specs.Caps.{cap}
-use Rattle.name_sizes.specs.Texts.{way_bytes}
+use Rattle.fir_types.specs.declared.index.FieldIndex.{FieldIndex}
+use Rattle.fir_types.specs.declared.index.FieldPlace.{FieldPlace}
+use Rattle.fir_types.specs.Indexes.{IsIndexOf, first_at}
+use Rattle.fir_types.specs.Spots.{size}
+use Rattle.fir_tree.specs.LeafNames.{Texts}
+use Rattle.fir_tree.specs.Caps.{cap}
+use Rattle.fir_tree.specs.Texts.{way_bytes}
 use Rattle.type_index.specs.declared.tree.TypeIndex.{TypeIndex}
 use Rattle.type_index.specs.declared.tree.Inside.TheVariants as inside
 

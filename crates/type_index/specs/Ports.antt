@@ -4,7 +4,7 @@ use Rattle.fir_types.specs.declared.fir_type.FirType.{FirType}
 use Rattle.fir_types.specs.declared.fir_type.Shape.TheVariants as shape
 use Rattle.fir_types.specs.declared.fir_type.Field.{Field}
 use Rattle.fir_types.specs.Bundles.{data_name, mask_name, rdata_name, wdata_name, wmask_name}
-use Rattle.leaf_names.specs.LeafNames.{Texts}
+use Rattle.fir_tree.specs.LeafNames.{Texts}
 use Rattle.type_index.specs.declared.memories.Kept.{Kept}
 use Rattle.type_index.specs.Knowing.{Matches, IsRight}
 

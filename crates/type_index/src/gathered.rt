@@ -4,15 +4,13 @@ ghost use Rattle.std.specs.Prelude.{◌≡◌, ◌++◌, ◌∷◌, [], ◌&&◌
 ghost use Rattle.fir_types.specs.declared.fir_type.FirType.{FirType as AType};
 ghost use Rattle.fir_types.specs.declared.fir_type.Field.{Field as AField};
 ghost use Rattle.fir_types.specs.declared.fir_type.Shape.TheVariants as shape;
-ghost use Rattle.leaf_names.specs.LeafNames.{Texts};
+ghost use Rattle.fir_tree.specs.LeafNames.{Texts};
 ghost use Rattle.type_index.specs.Knowing.{Matches, IsRight, IsAmong, places_of};
 
 use crate::tree::{Inside, TypeIndex};
 use bit_words::{List, Shared, SharedList};
-use field_index::{FieldIndex, index_among};
-use fir_tree::Names;
-use fir_types::Field;
-use name_sizes::Ways;
+use fir_tree::{Names, Ways};
+use fir_types::{Field, FieldIndex, index_among};
 use std::alloc::{AllocError, Global};
 
 /// What is known of some fields of a bundle, in order, and of all of them together.

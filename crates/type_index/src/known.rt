@@ -2,19 +2,18 @@
 
 ghost use Rattle.std.specs.Prelude.{◌≡◌, ◌==◌, ◌-◌, ◌^◌, min, not, map, find, get_or, option_map, IfSome};
 ghost use Rattle.std.specs.Option.{option_copied};
-ghost use Rattle.field_index.specs.Indexes.{first_at};
+ghost use Rattle.fir_types.specs.Indexes.{first_at};
 ghost use Rattle.fir_types.specs.declared.fir_type.Shape.TheViews.{out-Shape};
 ghost use Rattle.fir_types.specs.Leaves.{count, has_clock, has_signal};
 ghost use Rattle.fir_types.specs.Passivity.{has_flip};
-ghost use Rattle.name_sizes.specs.Caps.{cap};
-ghost use Rattle.leaf_names.specs.LeafNames.{Texts};
-ghost use Rattle.width_spots.specs.Spots.{size};
+ghost use Rattle.fir_tree.specs.Caps.{cap};
+ghost use Rattle.fir_tree.specs.LeafNames.{Texts};
+ghost use Rattle.fir_types.specs.Spots.{size};
 ghost use Rattle.type_index.specs.Knowing.{Knows, HasWays, IsAmong, IsPlaceIn, weight, places_of, position_of, fields_in, element_in};
 
 use crate::tree::{Inside, TypeIndex};
 use bit_words::Shared;
-use field_index::{FieldIndex, FieldPlace};
-use fir_types::{Field, FirType, Shape};
+use fir_types::{Field, FieldIndex, FieldPlace, FirType, Shape};
 
 /// A type of which all this is known.
 #[derive(Clone, Copy)]

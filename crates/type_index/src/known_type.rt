@@ -2,7 +2,7 @@
 
 ghost use Rattle.std.specs.Prelude.{◌≡◌, IfOk};
 ghost use Rattle.fir_types.specs.Bundles.{memory_of};
-ghost use Rattle.leaf_names.specs.LeafNames.{Texts};
+ghost use Rattle.fir_tree.specs.LeafNames.{Texts};
 ghost use Rattle.type_index.specs.Knowing.{Knows, HasWays};
 
 use crate::known::Known;

@@ -3,7 +3,7 @@
 ghost use Rattle.std.specs.Prelude.{◌≡◌, IfOk};
 
 use bit_words::{Shared, SharedList};
-use field_index::FieldIndex;
+use fir_types::FieldIndex;
 use std::alloc::AllocError;
 
 /// What is known of a type, and of each of its parts.

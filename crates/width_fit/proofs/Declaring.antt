@@ -10,9 +10,9 @@ use Rattle.fir_types.specs.declared.name.Name.{Name}
 use Rattle.fir_types.specs.Memories.{element_of}
 use Rattle.fir_types.specs.Bundles.{memory_of}
 use Rattle.fir_tree.specs.declared.expr.Expr.{Expr}
-use Rattle.circuit_parts.specs.declared.part.Part.{Part}
-use Rattle.circuit_parts.specs.declared.part.Flow.TheVariants.{Duplex}
-use Rattle.circuit_parts.specs.Parts.{part_of, source_of}
+use Rattle.fir_tree.specs.declared.part.Part.{Part}
+use Rattle.fir_tree.specs.declared.part.Flow.TheVariants.{Duplex}
+use Rattle.fir_tree.specs.Parts.{part_of, source_of}
 use Rattle.width_rules.specs.declared.slot.Slot.{Slot}
 use Rattle.width_rules.specs.Places.{spots, slots_from, open_spots, node_slots, node_size}
 use Rattle.width_rules.specs.declared.component.Component.{Component}

@@ -23,7 +23,7 @@ use Rattle.prim_ops.specs.declared.widths.Width.{Width}
 use Rattle.prim_ops.specs.declared.widths.Width.TheVariants.{Bits}
 use Rattle.width_rules.specs.declared.slot.Slot.{Slot}
 use Rattle.width_rules.specs.declared.slot.Slot.TheVariants as slot
-use Rattle.circuit_parts.specs.Parts.{source_of}
+use Rattle.fir_tree.specs.Parts.{source_of}
 use Rattle.width_rules.specs.declared.component.Component.{Component}
 use Rattle.width_rules.specs.Places.{Spot, spots, size, turned, slots_from, is_open}
 use Rattle.width_rules.specs.Circuits.{memory_slots}

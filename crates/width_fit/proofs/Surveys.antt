@@ -22,8 +22,8 @@ use Rattle.fir_tree.specs.declared.expr.Form.TheVariants as form
 use Rattle.fir_tree.specs.declared.expr.Form.TheOpen.{Suffix-F}
 use Rattle.fir_tree.specs.declared.expr.Form.TheViews.{out-Suffix}
 use Rattle.fir_tree.specs.declared.expr.Suffix.{Suffix}
-use Rattle.circuit_parts.specs.Parts.{source_of}
-use Rattle.circuit_parts.specs.Kinds.{no_type, ground}
+use Rattle.fir_tree.specs.Parts.{source_of}
+use Rattle.fir_tree.specs.Kinds.{no_type, ground}
 use Rattle.width_rules.specs.Sources as sources
 use Rattle.width_rules.specs.Sources.{Known, Measured, named, component, measured_reference, literal_bits, operation, choice}
 use Rattle.width_fit.specs.declared.fault.WidthFault.{WidthFault}

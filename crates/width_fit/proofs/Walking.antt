@@ -2,7 +2,7 @@
 use Rattle.std.proofs.Common.{◌≡◌, ℕ, ◌+◌, ◌<◌, List, [], ◌∷◌, ◌++◌, map, length, take, get_or, refl, sym, ap, ap₂, ◌∙◌, arith, append_assoc, append-nil, subst}
 use Rattle.fir_tree.specs.declared.stmt.Stmt.{fold-Stmt}
 use Rattle.fir_tree.specs.declared.stmt.Stmt.TheOpen.{Stmt-F}
-use Rattle.circuit_parts.proofs.Turns.{Turns, walks_push as one_more}
+use Rattle.fir_tree.proofs.Turns.{Turns, walks_push as one_more}
 use Rattle.width_rules.specs.Sources.{Known, component_or_none, known_with}
 use Rattle.width_rules.specs.Circuits.{WithPorts}
 use Rattle.width_rules.specs.Walks.{AreInstances}

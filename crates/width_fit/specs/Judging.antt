@@ -26,9 +26,9 @@ use Rattle.width_rules.specs.declared.rule.Rule.{Rule}
 use Rattle.width_rules.specs.Formulas.{level, width_under}
 use Rattle.width_rules.specs.Places.{capped, spots, slots_from, open_spots, node_slots, node_size}
 use Rattle.width_rules.specs.Sources.{Known, Measured, measured_reference, component, named, field_step, element_step, operation, choice, literal_bits, lone}
-use Rattle.circuit_parts.specs.Turns.{in_order}
-use Rattle.circuit_parts.specs.Parts.{source_of}
-use Rattle.circuit_parts.specs.Kinds.{ground}
+use Rattle.fir_tree.specs.Turns.{in_order}
+use Rattle.fir_tree.specs.Parts.{source_of}
+use Rattle.fir_tree.specs.Kinds.{ground}
 use Rattle.bit_words.specs.declared.value.Kind.{Kind as Sign}
 use Rattle.bit_words.specs.declared.number.Number.{Number}
 use Rattle.bit_words.specs.Numbers.{integer_of_number}

@@ -12,8 +12,8 @@ use Rattle.prim_ops.specs.declared.widths.Width.TheVariants.{Bits}
 use Rattle.prim_ops.specs.Operations.{arity_of}
 use Rattle.prim_ops.specs.Kinds.{row_kind}
 use Rattle.prim_ops.specs.Widths.{row_width}
-use Rattle.circuit_parts.specs.Parts.{source_of, no_part}
-use Rattle.circuit_parts.specs.Kinds.{sign_of, sign_or_unsigned}
+use Rattle.fir_tree.specs.Parts.{source_of, no_part}
+use Rattle.fir_tree.specs.Kinds.{sign_of, sign_or_unsigned}
 use Rattle.width_rules.specs.declared.component.Component.{Component}
 use Rattle.width_rules.specs.Formulas.{level}
 use Rattle.width_rules.specs.Sources.{Known, result_type, operation, choice, measured_reference, named, component}

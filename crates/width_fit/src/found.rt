@@ -2,7 +2,7 @@
 
 use crate::fault::WidthFault;
 use bit_words::List;
-use circuit_parts::Part;
+use fir_tree::Part;
 use fir_types::FirType;
 use place_text::Place;
 use prim_ops::Width;

@@ -1,7 +1,7 @@
 //! The fitted types and the faults of a whole circuit.
 
 ghost use Rattle.std.specs.Prelude.{◌≡◌, ◌++◌, ◌∷◌, [], map, length, drop, get_or, false, IfOk, OnOk};
-ghost use Rattle.circuit_parts.specs.Parts.{part_of, port_flow};
+ghost use Rattle.fir_tree.specs.Parts.{part_of, port_flow};
 ghost use Rattle.width_rules.specs.Circuits.{rules_in, known_ports};
 ghost use Rattle.width_rules.specs.Sources.{known_with};
 ghost use Rattle.width_rules.specs.Walks.{ported};
@@ -15,9 +15,8 @@ use crate::given::{Given, Instances};
 use crate::instances::fits_of_instances;
 use crate::walk::{Walk, push_component, walk_statements};
 use bit_words::List;
-use circuit_parts::Part;
-use circuit_parts::steps::port_flow;
-use fir_tree::Checked;
+use fir_tree::{Checked, Part};
+use fir_tree::steps::port_flow;
 use fir_types::{FirType, Port, copy};
 use indexmap::IndexMap;
 use part_fits::choices::Choices;
@@ -26,10 +25,10 @@ use part_fits::widths::slot_widths;
 use std::alloc::{AllocError, Global};
 use type_filling::filled;
 use type_filling::made::Made;
+use width_rules::{Rules, Widths};
 use width_rules::gathering::{Ported, instances_of, with_ports};
 use width_rules::indexed::Indexed;
 use width_rules::slot::Slot;
-use width_rules::{Rules, Widths};
 
 /// The fitted types of all modules, with the faults of those that the main module reaches.
 pub fn tell(

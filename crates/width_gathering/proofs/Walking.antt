@@ -1,6 +1,6 @@
 -- One part of a body walked behind another.
 use Rattle.std.proofs.Common.{◌≡◌, ℕ, ◌+◌, ◌<◌, List, ◌++◌, map, length, take, get_or, refl, sym, ap, ap₂, ◌∙◌, arith, append_assoc, append-nil, length-append}
-use Rattle.circuit_parts.proofs.Turns.{Turns, walks_push as one_more}
+use Rattle.fir_tree.proofs.Turns.{Turns, walks_push as one_more}
 use Rattle.width_rules.specs.Sources.{Known}
 use Rattle.width_rules.specs.Circuits.{Walk, Gathered, and_then, in_turn, nothing}
 use Rattle.width_gathering.specs.declared.walk.Found.{Found}

@@ -1,7 +1,7 @@
 -- The walk over two lists of formulas by the flips alone.
 use Rattle.std.specs.Prelude.{◌++◌, Bool, List, [], ◌∷◌}
-use Rattle.circuit_parts.specs.declared.part.Flow.{Flow}
-use Rattle.circuit_parts.specs.Parts.{flow_through}
+use Rattle.fir_tree.specs.declared.part.Flow.{Flow}
+use Rattle.fir_tree.specs.Parts.{flow_through}
 use Rattle.width_rules.specs.declared.rule.Formula.{Formula}
 use Rattle.width_rules.specs.declared.rule.Rule.{Rule}
 use Rattle.width_rules.specs.Circuits.{driven, zeroed}

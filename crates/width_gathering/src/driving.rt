@@ -1,21 +1,20 @@
 //! The rules of connects, of what is invalid, and of nodes.
 
 ghost use Rattle.std.specs.Prelude.{◌≡◌, ◌++◌, map, OnOk, IfOk};
-ghost use Rattle.circuit_parts.specs.Parts.{flow_through};
+ghost use Rattle.fir_tree.specs.Parts.{flow_through};
 ghost use Rattle.width_rules.specs.Places.{spots};
 ghost use Rattle.width_rules.specs.Circuits.{at_least, driven, connected, zeroed, invalidated, node_rules};
 ghost use Rattle.width_gathering.specs.ByFlips.{connected_by, invalidated_by};
 
 use crate::found::FoundRules;
 use bit_words::List;
-use circuit_parts::Flow;
-use circuit_parts::steps::through;
-use fir_types::FirType;
+use fir_tree::Flow;
+use fir_tree::steps::through;
+use fir_types::{FirType, flips_of};
 use std::alloc::{AllocError, Global};
+use width_rules::{Formula, Rule};
 use width_rules::measuring::{Formulas, formula_of};
 use width_rules::slot::Slot;
-use width_rules::{Formula, Rule};
-use width_spots::flips_of;
 
 /// Adds the rules of a connect, whose left side has this type.
 pub fn push_connected(

@@ -8,16 +8,13 @@ ghost use Rattle.width_gathering.specs.Walked.{Walks};
 
 use crate::driving::{push_connected, push_invalidated, push_node};
 use crate::found::FoundRules;
-use circuit_parts::Flow;
-use fir_tree::{Arm, Expr, Names, Stmt};
+use fir_tree::{Arm, Expr, Flow, Names, Stmt};
 use fir_types::{FirType, Memory, Name};
 use indexmap::IndexMap;
 use place_text::Place;
 use std::alloc::{AllocError, Global};
 use width_rules::indexed::Indexed;
-use width_rules::measuring::{
-    Measure, Scope, formulas_of, in_text, look_up, may_have_target, measure_expr, no_component,
-};
+use width_rules::measuring::{Measure, Scope, formulas_of, in_text, look_up, may_have_target, measure_expr, no_component};
 use width_rules::sizes::variables;
 use width_rules::walk::{duplex, memory_component, note, slots_of_type};
 

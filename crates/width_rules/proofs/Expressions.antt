@@ -12,8 +12,8 @@ use Rattle.fir_types.specs.declared.name.Name.{Name}
 use Rattle.fir_tree.specs.declared.expr.Expr.{Expr, the_lemmas}
 use Rattle.fir_tree.specs.declared.expr.Suffix.{Suffix}
 use Rattle.fir_tree.specs.declared.expr.Form.TheVariants as form
-use Rattle.circuit_parts.specs.Parts.{source_of}
-use Rattle.circuit_parts.specs.Kinds.{sign_or_unsigned}
+use Rattle.fir_tree.specs.Parts.{source_of}
+use Rattle.fir_tree.specs.Kinds.{sign_or_unsigned}
 use Rattle.width_rules.specs.declared.rule.Formula.{Formula}
 use Rattle.width_rules.specs.declared.component.Component.{Component}
 use Rattle.width_rules.specs.Sources.{Known, Measured, measured, measured_reference, component, suffix_step, named, kind_of, lone, result_type, operation, choice, greater_of}

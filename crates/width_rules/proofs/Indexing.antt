@@ -11,12 +11,12 @@ use Rattle.fir_types.specs.declared.fir_type.Shape.TheOpen.{Shape-F}
 use Rattle.fir_types.specs.declared.fir_type.Shape.TheViews.{out-Shape}
 use Rattle.fir_types.specs.declared.fir_type.Shape.TheVariants as shape
 use Rattle.fir_types.specs.declared.fir_type.Shape.TheVariants.{outs-Bundle}
-use Rattle.field_index.specs.declared.index.FieldPlace.{FieldPlace}
-use Rattle.field_index.specs.Indexes.{first_at}
-use Rattle.circuit_parts.specs.declared.part.Flow.{Flow}
-use Rattle.circuit_parts.specs.Parts.{part_of, flow_through, field_or_whole, field_of_layer}
-use Rattle.width_spots.specs.Spots.{field_size}
-use Rattle.width_spots.proofs.Layers.{size-bundle, size-field}
+use Rattle.fir_types.specs.declared.index.FieldPlace.{FieldPlace}
+use Rattle.fir_types.specs.Indexes.{first_at}
+use Rattle.fir_tree.specs.declared.part.Flow.{Flow}
+use Rattle.fir_tree.specs.Parts.{part_of, flow_through, field_or_whole, field_of_layer}
+use Rattle.fir_types.specs.Spots.{field_size}
+use Rattle.fir_types.proofs.SpotLayers.{size-bundle, size-field}
 use Rattle.type_index.specs.Knowing.{weight, IsPlaceIn, fields_in}
 use Rattle.width_rules.specs.declared.slot.Slot.{Slot}
 use Rattle.width_rules.specs.declared.component.Component.{Component}

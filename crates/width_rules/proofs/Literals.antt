@@ -8,7 +8,7 @@ use Rattle.bit_words.specs.declared.value.Kind.{Kind}
 use Rattle.bit_words.specs.declared.value.Kind.TheVariants.{Unsigned, Signed}
 use Rattle.bit_words.specs.Values.{InRange}
 use Rattle.bit_words.specs.LeastWidths.{IsLeastWidth}
-use Rattle.circuit_parts.specs.Kinds.{holds}
+use Rattle.fir_tree.specs.Kinds.{holds}
 use Rattle.width_rules.specs.Sources.{least_holding}
 
 both_true : (a b : Bool) → T a → T b → (a && b) ≡ true

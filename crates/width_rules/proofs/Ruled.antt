@@ -15,9 +15,9 @@ use Rattle.fir_tree.specs.declared.stmt.Stmt.{Stmt, roll-Stmt, map-Stmt}
 use Rattle.fir_tree.specs.declared.stmt.Arm.{Arm, roll-Arm, map-Arm}
 use Rattle.fir_tree.specs.declared.stmt.Stmt.TheOpen.{Stmt-F, Arm-F}
 use Rattle.fir_tree.specs.declared.stmt.Stmt.TheFolds.{ind-Stmt, fold-roll-Stmt, fold-roll-Arm}
-use Rattle.circuit_parts.specs.declared.part.Flow.{Flow}
-use Rattle.circuit_parts.specs.declared.part.Flow.TheVariants.{Source, Sink, Duplex}
-use Rattle.circuit_parts.specs.Parts.{flow_through}
+use Rattle.fir_tree.specs.declared.part.Flow.{Flow}
+use Rattle.fir_tree.specs.declared.part.Flow.TheVariants.{Source, Sink, Duplex}
+use Rattle.fir_tree.specs.Parts.{flow_through}
 use Rattle.width_rules.specs.declared.slot.Slot.{Slot}
 use Rattle.width_rules.specs.declared.slot.Slot.TheVariants as slot
 use Rattle.width_rules.specs.declared.rule.Formula.{Formula}

@@ -9,8 +9,8 @@ use Rattle.fir_types.specs.declared.fir_type.FirType.{FirType, the_lemmas}
 use Rattle.fir_types.specs.declared.fir_type.Shape.TheVariants as shape
 use Rattle.fir_types.specs.declared.fir_type.Field.{Field}
 use Rattle.fir_types.specs.Bundles.{mask_of, mask_of_field}
-pub use Rattle.width_spots.proofs.Layers.{spots-bundle, spots-vector, spots-field}
-use Rattle.width_spots.proofs.Layers.{fields_next, mask-bundle, mask-field}
+pub use Rattle.fir_types.proofs.SpotLayers.{spots-bundle, spots-vector, spots-field}
+use Rattle.fir_types.proofs.SpotLayers.{fields_next, mask-bundle, mask-field}
 use Rattle.width_rules.specs.declared.slot.Slot.{Slot}
 use Rattle.width_rules.specs.declared.slot.Slot.TheVariants as slot
 use Rattle.width_rules.specs.Places.{Spot, spots, turned, slot_of, is_open, slots_from, open_spots, node_spots}

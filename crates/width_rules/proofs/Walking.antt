@@ -11,7 +11,7 @@ use Rattle.fir_types.specs.Bundles.{nowhere}
 use Rattle.fir_types.specs.Memories.{element_of, depth_of, first_or, element_in, depth_in}
 use Rattle.fir_tree.specs.declared.stmt.Stmt.{fold-Stmt}
 use Rattle.fir_tree.specs.declared.stmt.Stmt.TheOpen.{Stmt-F}
-use Rattle.circuit_parts.specs.declared.part.Part.{Part}
+use Rattle.fir_tree.specs.declared.part.Part.{Part}
 use Rattle.width_rules.specs.declared.component.Component.{Component}
 use Rattle.width_rules.specs.declared.slot.Slot.{Slot}
 use Rattle.width_rules.specs.Layers.{line_widths}

@@ -19,10 +19,10 @@ use Rattle.fir_tree.specs.declared.expr.Expr.{Expr}
 use Rattle.fir_tree.specs.declared.stmt.Stmt.{Stmt, fold-Stmt}
 use Rattle.fir_tree.specs.declared.stmt.Arm.{Arm, fold-Arm}
 use Rattle.fir_tree.specs.declared.stmt.Stmt.TheOpen.{Stmt-F, Arm-F}
-use Rattle.circuit_parts.specs.declared.part.Flow.{Flow}
-use Rattle.circuit_parts.specs.declared.part.Flow.TheVariants.{Source, Sink, Duplex}
-use Rattle.circuit_parts.specs.Turns.{in_order}
-use Rattle.circuit_parts.specs.Parts.{part_of, source_of, flow_through, port_flow}
+use Rattle.fir_tree.specs.declared.part.Flow.{Flow}
+use Rattle.fir_tree.specs.declared.part.Flow.TheVariants.{Source, Sink, Duplex}
+use Rattle.fir_tree.specs.Turns.{in_order}
+use Rattle.fir_tree.specs.Parts.{part_of, source_of, flow_through, port_flow}
 use Rattle.width_rules.specs.declared.component.Component.{Component}
 use Rattle.width_rules.specs.declared.slot.Slot.{Slot}
 use Rattle.width_rules.specs.declared.slot.Slot.TheVariants as slot

@@ -8,7 +8,7 @@ use Rattle.fir_types.specs.declared.memory.MemLine.TheVariants as line
 use Rattle.fir_types.specs.declared.memory.PortMode.{PortMode}
 use Rattle.fir_types.specs.declared.memory.PortMode.TheVariants as mode
 use Rattle.fir_types.specs.Bundles.{mask_of, mask_of_field, address_bits}
-pub use Rattle.width_spots.specs.Spots.{field_spots, field_size, flip_of, flips_under}
+pub use Rattle.fir_types.specs.Spots.{field_spots, field_size, flip_of, flips_under}
 use Rattle.width_rules.specs.declared.slot.Slot.{Slot}
 use Rattle.width_rules.specs.declared.slot.Slot.TheVariants as slot
 use Rattle.width_rules.specs.Places.{Spot, spots, of_field, node_shape, slots_from, open_spots}

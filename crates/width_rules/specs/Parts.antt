@@ -5,8 +5,8 @@ use Rattle.place_text.specs.declared.place.Place.{Place}
 use Rattle.prim_ops.specs.declared.operation.PrimOp.{PrimOp}
 use Rattle.prim_ops.specs.Operations.{arity_of}
 use Rattle.prim_ops.specs.Kinds.{row_kind}
-use Rattle.circuit_parts.specs.Parts.{part_of, source_of}
-use Rattle.circuit_parts.specs.Kinds.{sign_or_unsigned}
+use Rattle.fir_tree.specs.Parts.{part_of, source_of}
+use Rattle.fir_tree.specs.Kinds.{sign_or_unsigned}
 use Rattle.width_rules.specs.declared.component.Component.{Component}
 use Rattle.width_rules.specs.declared.rule.Formula.{Formula}
 use Rattle.width_rules.specs.declared.rule.Formula.TheVariants as formula

@@ -5,7 +5,7 @@ use Rattle.fir_types.specs.declared.fir_type.Shape.{Shape}
 use Rattle.fir_types.specs.declared.fir_type.Shape.TheOpen.{Shape-F}
 use Rattle.fir_types.specs.declared.fir_type.Shape.TheViews.{out-Shape}
 use Rattle.fir_types.specs.declared.fir_type.Field.{Field}
-pub use Rattle.width_spots.specs.Spots.{Spot, one_spot, turned, of_shape, of_field, spots, size}
+pub use Rattle.fir_types.specs.Spots.{Spot, one_spot, turned, of_shape, of_field, spots, size}
 use Rattle.width_rules.specs.declared.slot.Slot.{Slot}
 use Rattle.width_rules.specs.declared.slot.Slot.TheVariants.{Fixed, Var}
 

@@ -13,9 +13,9 @@ use Rattle.prim_ops.specs.Kinds.{row_kind}
 use Rattle.fir_tree.specs.declared.expr.Expr.{Expr, fold-Expr}
 use Rattle.fir_tree.specs.declared.expr.Suffix.{Suffix, fold-Suffix}
 use Rattle.fir_tree.specs.declared.expr.Form.TheOpen.{Form-F, Suffix-F, Expr-F}
-use Rattle.circuit_parts.specs.declared.part.Part.{Part}
-use Rattle.circuit_parts.specs.Parts.{source_of, no_part, field_part, element_part}
-use Rattle.circuit_parts.specs.Kinds.{sign_of, holds, ground, sign_or_unsigned}
+use Rattle.fir_tree.specs.declared.part.Part.{Part}
+use Rattle.fir_tree.specs.Parts.{source_of, no_part, field_part, element_part}
+use Rattle.fir_tree.specs.Kinds.{sign_of, holds, ground, sign_or_unsigned}
 use Rattle.width_rules.specs.declared.component.Component.{Component}
 use Rattle.width_rules.specs.declared.slot.Slot.{Slot}
 use Rattle.width_rules.specs.declared.slot.Slot.TheVariants as slot

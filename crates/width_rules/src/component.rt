@@ -2,7 +2,7 @@
 
 use crate::slot::Slot;
 use bit_words::SharedList;
-use circuit_parts::Part;
+use fir_tree::Part;
 
 /// A component or a part of one, with the widths of its type's places.
 #[derive(Drop)]

@@ -1,7 +1,7 @@
 //! Components with what is known of their types.
 
 ghost use Rattle.std.specs.Prelude.{◌≡◌, IfOk};
-ghost use Rattle.circuit_parts.specs.Parts.{part_of, source_of};
+ghost use Rattle.fir_tree.specs.Parts.{part_of, source_of};
 ghost use Rattle.width_rules.specs.Pieces.{joined, slots_in};
 ghost use Rattle.width_rules.specs.Targets.{has_variable};
 
@@ -10,8 +10,7 @@ use crate::lists::Lists;
 use crate::pieces::Slots;
 use crate::slot::Slot;
 use bit_words::{List, Shared, SharedList};
-use circuit_parts::{Flow, Part};
-use fir_tree::Names;
+use fir_tree::{Flow, Names, Part};
 use std::alloc::{AllocError, Global};
 use std::marker::Model;
 use type_index::{Known, KnownType};
@@ -28,7 +27,7 @@ pub struct Indexed {
 
 impl Model for Indexed {
     ghost use Rattle.std.specs.Prelude.{◌≡◌};
-    ghost use Rattle.circuit_parts.specs.Parts.{part_of};
+    ghost use Rattle.fir_tree.specs.Parts.{part_of};
     ghost use Rattle.width_rules.specs.declared.component.Component.{Component as Value_of};
     ghost use Rattle.width_rules.specs.contracts.component.Component.{the_row};
 

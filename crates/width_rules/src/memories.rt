@@ -4,7 +4,7 @@ ghost use Rattle.std.specs.Prelude.{◌≡◌, ◌++◌, ◌∷◌, [], ◌&&◌
 ghost use Rattle.std.specs.List.{list_any};
 ghost use Rattle.fir_types.specs.Memories.{depth_in, element_of, first_or};
 ghost use Rattle.width_rules.specs.Circuits.{memory_slots};
-ghost use Rattle.circuit_parts.specs.Parts.{source_of};
+ghost use Rattle.fir_tree.specs.Parts.{source_of};
 ghost use Rattle.fir_types.specs.Bundles.{address_bits, memory_of};
 ghost use Rattle.width_rules.specs.Layers.{line_widths, mask_widths};
 ghost use Rattle.width_rules.specs.Pieces.{mode_lists, line_lists, joined};
@@ -14,8 +14,8 @@ use crate::indexed::{Indexed, has_variable};
 use crate::sizes::push_mask;
 use crate::slot::Slot;
 use bit_words::{List, Shared, SharedList};
-use circuit_parts::steps::no_part;
 use fir_tree::Names;
+use fir_tree::steps::no_part;
 use fir_types::{FirType, MemLine, Memory, PortMode, address_width, depth_of, element_of};
 use std::alloc::{AllocError, Global};
 use type_index::KnownType;

@@ -9,10 +9,9 @@ ghost use Rattle.width_rules.specs.Circuits.{places_for};
 
 use crate::slot::{Slot, capped};
 use bit_words::List;
-use fir_types::{Field, FirType, Shape};
+use fir_types::{Field, FirType, Shape, inside_lengths};
 use place_text::Place;
 use std::alloc::{AllocError, Global};
-use width_spots::inside_lengths;
 
 /// The most places with variables that a circuit may have; more are a want of memory. Each takes 16 bytes, 8 for where it is
 /// and 8 for its width in its component, and so many take 0.8 GB.

@@ -10,9 +10,8 @@ ghost use Rattle.width_rules.specs.Pieces.{slots_in};
 
 use crate::indexed::Indexed;
 use crate::pieces::{Slots, slots_behind, without_first};
-use circuit_parts::Flow;
-use circuit_parts::steps::through;
-use fir_tree::Suffix;
+use fir_tree::{Flow, Suffix};
+use fir_tree::steps::through;
 use fir_types::Shape;
 use type_index::Known;
 

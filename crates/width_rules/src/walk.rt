@@ -2,8 +2,8 @@
 
 ghost use Rattle.std.specs.Prelude.{◌≡◌, ◌++◌, length, OnOk, IfOk};
 ghost use Rattle.fir_types.specs.Memories.{element_of};
-ghost use Rattle.circuit_parts.specs.declared.part.Flow.TheVariants.{Duplex};
-ghost use Rattle.circuit_parts.specs.Parts.{part_of};
+ghost use Rattle.fir_tree.specs.declared.part.Flow.TheVariants.{Duplex};
+ghost use Rattle.fir_tree.specs.Parts.{part_of};
 ghost use Rattle.width_rules.specs.Places.{spots, slots_from, open_spots};
 ghost use Rattle.width_rules.specs.Sources.{known_with};
 ghost use Rattle.width_rules.specs.Circuits.{places_for};
@@ -14,9 +14,8 @@ use crate::memories::memory_of_slots;
 use crate::sizes::push_slots;
 use crate::slot::Slot;
 use bit_words::List;
-use circuit_parts::steps::no_part;
-use circuit_parts::{Flow, Part};
-use fir_tree::Names;
+use fir_tree::{Flow, Names, Part};
+use fir_tree::steps::no_part;
 use fir_types::{FirType, Memory, copy, element_of};
 use indexmap::IndexMap;
 use place_text::Place;

@@ -6,12 +6,12 @@ use mathlib.Core.Logic.{dite}
 use Rattle.bit_words.specs.declared.value.Value.{Value}
 use Rattle.phase_core.specs.declared.model.Script.{Script}
 use Rattle.flat_code.specs.declared.code.Code.{Code}
-use Rattle.crew_turns.specs.Lists.{Placed}
-use Rattle.crew_turns.specs.Places.{HasPlaces, OwnPlaces}
+use Rattle.crew_workers.specs.Spreads.{Placed}
+use Rattle.crew_workers.specs.Places.{HasPlaces, OwnPlaces}
 use Rattle.worker_crew.specs.Crew.{Task, Parts}
 use Rattle.crew_workers.specs.Lists.{Through}
 use Rattle.worker_crew.specs.Grids.{Filled, Wide, GridFrom}
-use Rattle.crew_turns.specs.Scripts.{Outputs}
+use Rattle.crew_workers.specs.Scripts.{Outputs}
 
 -- the rows keep their places
 pub wide_next : (codes : List Code) (old new : List (List Value)) (ps : List ℕ) (part : List (List Value)) → Wide codes old → Filled ps part old new (length old) → Wide codes new

@@ -3,8 +3,8 @@ use Rattle.std.specs.Prelude.{◌≡◌, ℕ, ◌<◌, List, [], length, slice_i
 use Rattle.bit_words.specs.declared.value.Value.{Value}
 use Rattle.flat_code.specs.declared.code.Code.{Code}
 use Rattle.crew_workers.specs.Lists.{Through}
-use Rattle.crew_turns.specs.Lists.{Placed}
-use Rattle.crew_turns.specs.Places.{HasPlaces}
+use Rattle.crew_workers.specs.Spreads.{Placed}
+use Rattle.crew_workers.specs.Places.{HasPlaces}
 
 -- in the first n rows the outputs of one code were put at its positions
 abbrev pub Filled : List ℕ → List (List Value) → List (List Value) → List (List Value) → ℕ → Type 0

@@ -2,8 +2,8 @@
 
 ghost use Rattle.std.specs.Prelude.{◌≡◌, ℕ, ◌<◌, [], length, slice_index, slice_index_or, IfOk};
 ghost use Rattle.flat_code.specs.declared.code.Code.{Code as Cod};
-ghost use Rattle.crew_turns.specs.Lists.{Apart, Placed};
-ghost use Rattle.crew_turns.specs.Places.{HasPlaces, OwnPlaces};
+ghost use Rattle.crew_workers.specs.Spreads.{Apart, Placed};
+ghost use Rattle.crew_workers.specs.Places.{HasPlaces, OwnPlaces};
 ghost use Rattle.worker_crew.specs.Grids.{Filled, Long, Wide, GridFrom};
 
 use bit_words::{Kind, List, Row, Rows, Value};

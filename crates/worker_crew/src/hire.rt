@@ -5,8 +5,8 @@ ghost use Rattle.phase_core.specs.Sound.{view};
 ghost use Rattle.register_table.specs.Shown.{ComesFrom};
 ghost use Rattle.worker_crew.specs.Crew.{Fresh};
 ghost use Rattle.worker_crew.specs.Numbers.{Manned};
-ghost use Rattle.crew_turns.specs.Turns.{Serves};
-ghost use Rattle.crew_turns.specs.Scripts.{script_of, Runs};
+ghost use Rattle.crew_workers.specs.Turns.{Serves};
+ghost use Rattle.crew_workers.specs.Scripts.{script_of, Runs};
 ghost use Rattle.crew_workers.specs.Standing.{Each};
 
 use crate::crew::Shared;

@@ -3,8 +3,7 @@
 use super::codes::{Row, code_of};
 use super::telling::{expect, told_code};
 use bit_words::List;
-use code_arrange::arrange;
-use code_order::{exchange, faster, reorder};
+use code_order::{arrange, exchange, faster, reorder};
 use code_place::{move_to, place, places_of};
 use flat_code::{Code, Op};
 use std::alloc::Global;

@@ -3,9 +3,9 @@
 use super::arranging::{APART, MIXED, arranged, reordered};
 use super::codes::{Row, code_of};
 use super::telling::expect;
+use base_cases::{WordList, repeated};
 use bit_words::List;
 use flat_code::{Code, step};
-use hand_codes::{WordList, repeated};
 use std::alloc::Global;
 use std::io::Write;
 

@@ -7,7 +7,7 @@ use super::codes::code_with;
 use super::steps::published;
 use super::telling::expect;
 use bit_words::List;
-use code_arrange::arrange;
+use code_order::arrange;
 use flat_code::{Code, Instr, Op};
 use std::alloc::{AllocError, Global};
 

@@ -2,9 +2,9 @@
 
 ghost use Rattle.std.specs.Prelude.{◌≡◌, length};
 
+use base_cases::{WordList, repeated};
 use bit_words::{Kind, List, Row, from_words};
 use flat_code::{Code, step};
-use hand_codes::{WordList, repeated};
 use phase_core::Publication;
 use std::alloc::{AllocError, Global};
 

@@ -4,9 +4,9 @@ ghost use Rattle.std.specs.Prelude.{◌≡◌, ℕ, ◌+◌, ◌<◌, ◌^◌, l
 ghost use Rattle.ground_net.specs.Reads.{MentionsLeaves};
 ghost use Rattle.firsim_bench.specs.Trios.{IsBelow};
 
+use base_cases::{choice, leaf_at};
 use bit_words::List;
 use ground_net::{Net, NetRegister, Role};
-use hand_nets::{choice, leaf_at};
 use std::alloc::{AllocError, Global};
 
 /// What registers and assignments read. There is an assignment for each register.

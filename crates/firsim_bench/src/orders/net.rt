@@ -2,11 +2,11 @@
 
 ghost use Rattle.std.specs.Prelude.{◌≡◌, ◌<◌, length, IfOk, IfSome};
 ghost use Rattle.ground_net.specs.Reads.{MentionsLeaves};
-ghost use Rattle.hand_nets.specs.Drivers.{ReadsBelow};
+ghost use Rattle.base_cases.specs.Drivers.{ReadsBelow};
 
+use base_cases::leaf_at;
 use bit_words::List;
 use ground_net::{Ground, Net, Role};
-use hand_nets::leaf_at;
 use std::alloc::{AllocError, Global};
 
 /// Which leaf each one reads.

@@ -2,9 +2,9 @@
 
 ghost use Rattle.std.specs.Prelude.{◌<◌, ◌≡◌, ◌^◌, length, All, IfOk};
 
+use base_cases::module_alone;
 use bit_words::{Kind, List};
 use ground_net::{Ground, GroundArm, GroundCircuit, GroundLeaf, GroundRole, GroundStmt};
-use hand_nets::module_alone;
 use place_text::Place;
 use std::alloc::{AllocError, Global};
 

@@ -2,10 +2,10 @@
 
 ghost use Rattle.std.specs.Prelude.{◌<◌, ◌^◌, length, All, IfOk};
 
+use base_cases::module_alone;
 use bit_words::{Kind, List, from_words};
 use expand_whens::expand;
 use ground_net::{Ground, GroundCircuit, GroundLeaf, GroundRole, GroundStmt};
-use hand_nets::module_alone;
 use place_text::Place;
 use std::alloc::{AllocError, Global};
 

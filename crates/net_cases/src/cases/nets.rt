@@ -2,11 +2,11 @@
 
 ghost use Rattle.std.specs.Prelude.{◌≤◌, length, IfOk};
 ghost use Rattle.ground_net.specs.Reads.{MentionsLeaves};
-ghost use Rattle.hand_nets.specs.Drivers.{ReadsBelow};
+ghost use Rattle.base_cases.specs.Drivers.{ReadsBelow};
 
+use base_cases::choice;
 use bit_words::{Kind, List};
 use ground_net::{Ground, Leaf, Net, NetRegister, Role};
-use hand_nets::choice;
 use place_text::Place;
 use std::alloc::{AllocError, Global};
 

@@ -6,7 +6,7 @@ use super::nets::{Row, net_of};
 use super::telling::expect;
 use comb_order::{OrderFault, order};
 use cone_cutter::cut;
-use cut_print::cut_text;
+use cut_listing::cut_text;
 use ground_net::{PortLeaf, Role, ports_of};
 use std::alloc::Global;
 use std::io::Write;

@@ -1,4 +1,4 @@
-use Rattle.design_laws.proofs.Accepted.{lists_leaves, is_typed}
+use Rattle.net_laws.proofs.Accepted.{lists_leaves, is_typed}
 use Rattle.assembly_laws.proofs.laws.nets_of_circuits_serve_them.Goals as goal
 
 pub returns : goal.returns

@@ -6,7 +6,7 @@ use Rattle.flat_code.specs.Meaning.{location_shape}
 use Rattle.flat_code.specs.Fine.{location_shapes, location_slots, slots_of}
 use Rattle.code_draft.specs.Drafts.{IsDraft, Stands, Makes}
 use Rattle.code_draft.specs.Segments.{Segment, Step}
-use Rattle.code_words.specs.Ways.{IsMade}
+use Rattle.code_emit.specs.Ways.{IsMade}
 use Rattle.code_emit.proofs.Choosing.{twice, odd_long, choice_from, split_at, two_less, none_less, three_less, chain_shape, chain_step, rest_all}
 use Rattle.code_emit.specs.Spans.{ComeBefore}
 use Rattle.code_emit.proofs.Following.{chain_segment}

@@ -5,7 +5,7 @@ use Rattle.flat_code.specs.Meaning.{location_shape}
 use Rattle.flat_code.specs.Fine.{location_shapes, location_slots, slots_of}
 use Rattle.code_draft.specs.Drafts.{IsDraft, Stands, Makes}
 use Rattle.code_draft.specs.Segments.{Segment}
-use Rattle.code_words.specs.Ways.{IsMade}
+use Rattle.code_emit.specs.Ways.{IsMade}
 use Rattle.code_emit.specs.Spans.{ComeBefore}
 use Rattle.code_emit.proofs.Choosing.{twice}
 use Rattle.code_emit.proofs.chains.emit_chain.Given as goal

@@ -1,7 +1,7 @@
 use Rattle.std.proofs.Common.{subst}
 use Rattle.code_emit.specs.Rows.{IsRow}
 use Rattle.code_emit.proofs.Rowing.{kinds_at, bits_at, row_of}
-use Rattle.code_words.proofs.There.{one_item, two_items}
+use Rattle.code_emit.proofs.There.{one_item, two_items}
 use Rattle.code_emit.proofs.forms.row_measure.Goals as goal
 
 pub measured-requires : goal.measured-requires

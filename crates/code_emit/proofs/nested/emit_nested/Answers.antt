@@ -6,7 +6,7 @@ use Rattle.flat_code.specs.Fine.{location_shapes, location_slots, slots_of}
 use Rattle.code_draft.specs.declared.draft.Draft.{Draft}
 use Rattle.code_draft.specs.Drafts.{IsDraft, Stands, Makes}
 use Rattle.code_draft.specs.Segments.{Step}
-use Rattle.code_words.specs.Ways.{IsMade, row_value}
+use Rattle.code_emit.specs.Ways.{IsMade, row_value}
 use Rattle.code_emit.specs.Nested.{nested_value}
 use Rattle.code_emit.specs.Spans.{Follows}
 use Rattle.code_emit.proofs.Shaped.{ok_so}

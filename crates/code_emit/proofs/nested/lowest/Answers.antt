@@ -1,7 +1,7 @@
 use Rattle.std.proofs.Common.{sym, subst}
 use Rattle.code_draft.specs.Drafts.{Makes}
-use Rattle.code_words.specs.Ways.{IsMade}
-use Rattle.code_words.proofs.There.{some_so}
+use Rattle.code_emit.specs.Ways.{IsMade}
+use Rattle.code_emit.proofs.There.{some_so}
 use Rattle.code_emit.specs.Nested.{nested_value}
 use Rattle.code_emit.proofs.Shaped.{ok_so}
 use Rattle.code_emit.proofs.Arms.{ok_both}

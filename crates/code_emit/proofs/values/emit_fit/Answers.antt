@@ -5,7 +5,7 @@ use Rattle.cycle_values.specs.Values.{fitted, lone}
 use Rattle.net_meaning.specs.Shapes.{shaped, shape_of_fit}
 use Rattle.flat_code.specs.declared.instr.Form.TheVariants as form
 use Rattle.flat_code.specs.Fine.{location_shapes}
-use Rattle.code_words.specs.Ways.{fit_of_one}
+use Rattle.code_emit.specs.Ways.{fit_of_one}
 use Rattle.code_emit.proofs.Shaped.{ok_so}
 use Rattle.code_emit.proofs.Arms.{ok_both}
 use Rattle.code_emit.proofs.Emitting.{wide_after}

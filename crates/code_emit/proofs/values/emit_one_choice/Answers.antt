@@ -5,7 +5,7 @@ use Rattle.net_meaning.specs.Shapes.{Shape, shaped, shape_of_choice}
 use Rattle.flat_code.specs.declared.instr.Form.TheVariants as form
 use Rattle.flat_code.specs.Fine.{location_shapes}
 use Rattle.code_draft.specs.Drafts.{IsDraft, Stands, Makes}
-use Rattle.code_words.specs.Ways.{IsMade}
+use Rattle.code_emit.specs.Ways.{IsMade}
 use Rattle.code_emit.proofs.Shaped.{ok_so}
 use Rattle.code_emit.proofs.Arms.{ok_both, location_shape_by}
 use Rattle.code_emit.proofs.Emitting.{wide_after}

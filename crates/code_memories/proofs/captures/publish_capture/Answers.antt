@@ -5,10 +5,10 @@ use Rattle.ground_net.specs.declared.net.NetRead.{NetRead}
 use Rattle.net_meaning.specs.Shapes.{shape, shaped}
 use Rattle.code_emit.specs.Emits.{sources_table}
 use Rattle.code_publish.specs.Publishing.{Publishes}
-use Rattle.memory_sources.specs.Memories.{capture_of, capture_left}
-use Rattle.code_writes.specs.Writes.{PublishesLeft}
-use Rattle.code_writes.proofs.Targets.{on_ok_so}
-use Rattle.code_writes.proofs.Written.{some_is}
+use Rattle.code_memories.specs.Memories.{capture_of, capture_left}
+use Rattle.code_memories.specs.Writes.{PublishesLeft}
+use Rattle.code_memories.proofs.Targets.{on_ok_so}
+use Rattle.code_memories.proofs.Written.{some_is}
 use Rattle.code_memories.proofs.Loops.{kept_here, has_here, capture_done}
 use Rattle.flat_code.specs.Fine.{location_slots}
 use Rattle.code_draft.specs.Segments.{Segment}

@@ -1,7 +1,7 @@
 use Rattle.std.proofs.Common.{length, sym, ap, ◌∙◌, arith}
 use Rattle.ground_net.specs.declared.net.NetMemory.{NetMemory}
-use Rattle.memory_sources.proofs.Numbered.{some_there, some_same}
-use Rattle.code_writes.proofs.Targets.{nothing_left_yet}
+use Rattle.code_memories.proofs.Numbered.{some_there, some_same}
+use Rattle.code_memories.proofs.Targets.{nothing_left_yet}
 use Rattle.code_memories.proofs.Loops.{port_step, captures_done}
 use Rattle.code_registers.proofs.Evaluating.{none_such, more_such}
 use Rattle.code_memories.specs.Groups.{IsCaptureGroup}

@@ -3,8 +3,8 @@ use Rattle.ground_net.specs.declared.net.NetMemory.{NetMemory}
 use Rattle.ground_net.specs.declared.net.NetPort.{NetPort}
 use Rattle.ground_net.specs.declared.net.NetRead.{NetRead}
 use Rattle.ground_net.specs.Cones.{numbered}
-use Rattle.memory_sources.specs.Memories.{capture_of, capture_left}
-use Rattle.code_writes.specs.Writes.{PublishesLeft}
+use Rattle.code_memories.specs.Memories.{capture_of, capture_left}
+use Rattle.code_memories.specs.Writes.{PublishesLeft}
 use Rattle.code_registers.specs.Groups.{EvaluatesOnly}
 use Rattle.code_memories.specs.Groups.{IsCaptureGroup}
 use Rattle.code_memories.proofs.captures.publish_reads.Given as goal

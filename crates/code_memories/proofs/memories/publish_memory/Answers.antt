@@ -2,10 +2,10 @@ use Rattle.std.proofs.Common.{◌≡◌, Some, [], ◌∷◌, slice_get, flat_ma
 use Rattle.ground_net.specs.declared.net.NetMemory.{NetMemory}
 use Rattle.ground_net.specs.Cones.{A_memory}
 use Rattle.net_meaning.specs.Cycles.{captured_by}
-use Rattle.memory_sources.specs.Memories.{capture_left}
+use Rattle.code_memories.specs.Memories.{capture_left}
 use Rattle.code_registers.specs.Telling.{PublishesSinks}
-use Rattle.code_writes.specs.Writes.{PublishesLeft}
-use Rattle.code_writes.proofs.Targets.{on_ok_so}
+use Rattle.code_memories.specs.Writes.{PublishesLeft}
+use Rattle.code_memories.proofs.Targets.{on_ok_so}
 use Rattle.code_memories.proofs.Loops.{memory_done}
 use Rattle.code_registers.specs.Groups.{EvaluatesOnly}
 use Rattle.code_memories.specs.Groups.{IsCaptureGroup, IsMemoryGroup}

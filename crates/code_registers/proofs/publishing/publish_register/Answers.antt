@@ -2,7 +2,7 @@ use Rattle.std.proofs.Common.{◌≡◌, Some, slice_get, [], ◌∷◌, sym, su
 use Rattle.ground_net.specs.Reads.{driver_of}
 use Rattle.ground_net.specs.Cones.{A_register}
 use Rattle.net_meaning.specs.Shapes.{shape}
-use Rattle.next_grounds.specs.Nexts.{next_ground}
+use Rattle.code_registers.specs.Nexts.{next_ground}
 use Rattle.code_emit.specs.Emits.{sources_table}
 use Rattle.code_publish.specs.Publishing.{Publishes}
 use Rattle.sink_effects.specs.Effects.{register_shape}

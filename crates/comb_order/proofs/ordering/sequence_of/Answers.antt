@@ -1,5 +1,5 @@
 use Rattle.std.proofs.Common.{◌≡◌, ◌<◌, length, Err, sym, subst, ap}
-use Rattle.read_graph.specs.Graph.{IsOrder}
+use Rattle.comb_order.specs.Graph.{IsOrder}
 use Rattle.ground_net.specs.Reads.{IsAssigned}
 use Rattle.comb_order.specs.Graphs.{IsGraph, Keeps, HasPlace}
 use Rattle.comb_order.proofs.Graphs.{vertices, no_loop, first_inside, first_loop, ordered}

@@ -1,6 +1,6 @@
 use Rattle.std.proofs.Common.{◌≡◌, ℕ, ◌<◌, length, replicate, slice_index_or, sym, ap, ◌∙◌, arith}
 use Rattle.net_meaning.specs.Words.{state_words}
-use Rattle.code_cuts.proofs.Asked.{words_counted}
+use Rattle.partition_code.proofs.Asked.{words_counted}
 use Rattle.crew_run.specs.Epochs.{there}
 use Rattle.crew_run.proofs.Crews.{one_cut, many}
 use Rattle.crew_run.proofs.Firsts.{first_words_are}

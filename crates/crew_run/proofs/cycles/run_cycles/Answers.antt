@@ -1,5 +1,5 @@
 use Rattle.std.proofs.Common.{sym, subst, ap, ◌∙◌}
-use Rattle.crew_turns.specs.Scripts.{Runs}
+use Rattle.crew_workers.specs.Scripts.{Runs}
 use Rattle.circuit_run.specs.NetRuns.{lines_from}
 use Rattle.crew_run.proofs.Crews.{may_run}
 use Rattle.crew_run.proofs.States.{told_leads}

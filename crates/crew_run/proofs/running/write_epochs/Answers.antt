@@ -8,7 +8,7 @@ use Rattle.shelf_io.proofs.Written.{Appends-trans}
 use Rattle.net_meaning.specs.Cycles.{first_state}
 use Rattle.register_table.specs.Shown.{closed_script}
 use Rattle.stimulus.specs.Rows.{rows_from}
-use Rattle.crew_turns.specs.Scripts.{script_of}
+use Rattle.crew_workers.specs.Scripts.{script_of}
 use Rattle.circuit_run.specs.NetRuns.{LeadsTo}
 use Rattle.circuit_run.proofs.Lists.{front_of}
 use Rattle.circuit_run.proofs.NetRuns.{no_cycle, join, whole, extended}

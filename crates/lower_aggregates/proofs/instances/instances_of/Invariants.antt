@@ -1,5 +1,5 @@
 use Rattle.std.proofs.Common.{◌≡◌, ◌++◌, map, drop}
-use Rattle.ground_tables.specs.Held.{held_part}
+use Rattle.lower_aggregates.specs.Held.{held_part}
 use Rattle.lower_aggregates.specs.Instances.{instance_row, instances_from}
 use Rattle.lower_aggregates.proofs.instances.instances_of.Given as goal
 

@@ -1,5 +1,5 @@
 use Rattle.std.proofs.Common.{◌≡◌, map, take}
-use Rattle.ground_tables.specs.Held.{held_part}
+use Rattle.lower_aggregates.specs.Held.{held_part}
 use Rattle.lower_aggregates.specs.Memories.{memory_row, memories_in}
 use Rattle.lower_aggregates.proofs.memories.memories_of.Given as goal
 

@@ -2,11 +2,11 @@ use Rattle.std.proofs.Common.{ℕ, ◌<◌, List, length, map, slice_index_or, s
 use Rattle.std.specs.List.{flat_map, sum_by}
 use Rattle.fir_meaning.specs.WellTyped.{are_typed}
 use Rattle.ground_exprs.specs.Sources.{known_of}
-use Rattle.ground_tables.specs.declared.pieces.Piece.{Piece}
-use Rattle.ground_tables.specs.Held.{held_sort, held_part}
-use Rattle.ground_tables.specs.Tables.{piece_rows, flags_of_piece, port_size}
-use Rattle.ground_tables.specs.Views.{KnowsPieces}
-use Rattle.ground_bodies.specs.Bodies.{IsBody}
+use Rattle.lower_aggregates.specs.declared.pieces.Piece.{Piece}
+use Rattle.lower_aggregates.specs.Held.{held_sort, held_part}
+use Rattle.lower_aggregates.specs.Tables.{piece_rows, flags_of_piece, port_size}
+use Rattle.lower_aggregates.specs.Views.{KnowsPieces}
+use Rattle.ground_statements.specs.Bodies.{IsBody}
 use Rattle.lower_aggregates.specs.Registers.{AreRegisters, IsTypedSort}
 use Rattle.lower_aggregates.specs.Memories.{memories_in}
 use Rattle.lower_aggregates.specs.Instances.{IsMade, instances_from}

@@ -1,5 +1,5 @@
 use Rattle.std.proofs.Common.{ap}
-use Rattle.ground_tables.specs.Held.{held_sort, held_part}
+use Rattle.lower_aggregates.specs.Held.{held_sort, held_part}
 use Rattle.lower_aggregates.proofs.Registering.{own_reset}
 use Rattle.lower_aggregates.proofs.registers.own_registers.Goals as goal
 

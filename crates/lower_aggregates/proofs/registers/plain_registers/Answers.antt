@@ -1,6 +1,6 @@
 use Rattle.std.proofs.Common.{◌≡◌, ◌∙◌, refl, ap, sym, subst, length, arith}
 use Rattle.fir_types.specs.Leaves.{leaves}
-use Rattle.ground_tables.specs.Held.{held_part}
+use Rattle.lower_aggregates.specs.Held.{held_part}
 use Rattle.lower_aggregates.specs.Registers.{AreFirst, PlainReset}
 use Rattle.lower_aggregates.proofs.Registering.{first_none, first_more}
 use Rattle.lower_aggregates.proofs.registers.plain_registers.Goals as goal

@@ -1,5 +1,5 @@
 use Rattle.std.proofs.Common.{◌≡◌, ◌+◌}
-use Rattle.ground_tables.specs.Held.{held_part}
+use Rattle.lower_aggregates.specs.Held.{held_part}
 use Rattle.lower_aggregates.specs.Registers.{AreFirst, PlainReset}
 use Rattle.lower_aggregates.proofs.registers.plain_registers.Given as goal
 

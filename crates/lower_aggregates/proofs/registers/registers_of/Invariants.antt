@@ -1,5 +1,5 @@
 use Rattle.std.proofs.Common.{map, take}
-use Rattle.ground_tables.specs.Held.{held_part}
+use Rattle.lower_aggregates.specs.Held.{held_part}
 use Rattle.lower_aggregates.specs.Registers.{AreRegisters}
 use Rattle.lower_aggregates.proofs.registers.registers_of.Given as goal
 

@@ -2,7 +2,7 @@ use Rattle.std.proofs.Common.{◌≡◌, ◌∙◌, refl, ap, sym, subst, length
 use Rattle.fir_types.specs.declared.leaf.TypeLeaf.{TypeLeaf}
 use Rattle.fir_types.specs.Leaves.{leaves}
 use Rattle.ground_net.specs.declared.net.NetReset.{NetReset}
-use Rattle.ground_tables.specs.Held.{held_part}
+use Rattle.lower_aggregates.specs.Held.{held_part}
 use Rattle.lower_aggregates.specs.Registers.{AreFirst, ResetTo}
 use Rattle.lower_aggregates.proofs.Registering.{first_none, first_more, item_is, reset_there}
 use Rattle.lower_aggregates.proofs.registers.reset_registers.Goals as goal

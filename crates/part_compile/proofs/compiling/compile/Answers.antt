@@ -2,8 +2,8 @@ use Rattle.std.proofs.Common.{◌≡◌, ◌+◌, ◌<◌, length, take, slice_g
 use Rattle.std.proofs.lemmas.List.{take_all}
 use Rattle.std.proofs.lemmas.Option.{slice_get-get_or}
 use Rattle.partition_code.specs.Codes.{AreCodesOf}
-use Rattle.frame_laws.proofs.Driving.{placed_few}
-use Rattle.place_laws.proofs.Placed.{placed_is_code}
+use Rattle.part_compile.proofs.Driving.{placed_few}
+use Rattle.code_parts.proofs.Placed.{placed_is_code}
 use Rattle.part_compile.specs.Frames.{TakesFewSlots, TakeFewSlots}
 use Rattle.part_compile.proofs.Composing.{have_drivers, codes_none, codes_more, few_none, few_more}
 use Rattle.part_compile.proofs.Rooming.{room_fits}

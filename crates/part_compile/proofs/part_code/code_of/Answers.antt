@@ -2,7 +2,7 @@ use Rattle.std.proofs.Common.{◌<◌, length, All, sym, subst, ap, ap₂, ◌�
 use Rattle.code_emit.specs.Emits.{sources_table}
 use Rattle.code_sequence.specs.Sequences.{InTurn, StandElsewhere, turned_table}
 use Rattle.code_sequence.specs.Segmented.{AreSegments}
-use Rattle.turn_laws.proofs.Turning.{part_turn}
+use Rattle.code_parts.proofs.Turning.{part_turn}
 use Rattle.part_compile.proofs.Keeping.{are_kept}
 use Rattle.part_compile.proofs.Composing.{at_both, reads_long, words_counted, are_assignments, all_within, goes_on, is_work, code_is}
 use Rattle.part_compile.proofs.Framing.{code_in_pieces}

@@ -1,7 +1,7 @@
 use Rattle.std.proofs.Common.{◌∙◌, sym, ap, map, arith, option_map}
 use Rattle.fir_meaning.specs.Components.{design_of, module_named}
 use Rattle.drive_check.specs.Keys.{leaf_of_key}
-use Rattle.tree_sites.specs.Parts.{bares_held}
+use Rattle.plain_cycle.specs.Parts.{bares_held}
 use Rattle.plain_run.specs.Leaves.{leaf_held}
 use Rattle.plain_run.proofs.Ports.{inputs_kept, leaves_kept, flat_more, inputs_all, leaves_all}
 use Rattle.plain_run.proofs.leaves.main_leaves.Goals as goal

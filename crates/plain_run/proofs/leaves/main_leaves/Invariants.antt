@@ -1,7 +1,7 @@
 use Rattle.std.proofs.Common.{◌≡◌, map}
 use Rattle.std.specs.List.{flat_map}
 use Rattle.drive_check.specs.Keys.{leaf_of_key}
-use Rattle.tree_sites.proofs.Modules.{zipped}
+use Rattle.plain_cycle.proofs.Modules.{zipped}
 use Rattle.plain_run.specs.Leaves.{leaf_held}
 use Rattle.plain_run.proofs.Ports.{inputs_kept, leaves_kept}
 use Rattle.plain_run.proofs.leaves.main_leaves.Given as goal

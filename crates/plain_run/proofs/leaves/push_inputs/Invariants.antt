@@ -1,7 +1,7 @@
 use Rattle.std.proofs.Common.{◌≡◌, ◌++◌, map, take}
 use Rattle.std.specs.Prelude.{filter}
 use Rattle.drive_check.specs.Keys.{leaf_of_key}
-use Rattle.tree_sites.specs.Held.{held_sort}
+use Rattle.plain_cycle.specs.Held.{held_sort}
 use Rattle.plain_run.specs.Leaves.{is_given, leaf_named}
 use Rattle.plain_run.proofs.leaves.push_inputs.Given as goal
 

@@ -4,9 +4,9 @@ use Rattle.bit_words.specs.declared.value.Value.{Value}
 use Rattle.fir_meaning.specs.Components.{design_of}
 use Rattle.fir_meaning.specs.States.{first_state}
 use Rattle.drive_check.specs.Keys.{leaf_of_key}
-use Rattle.sweep_runs.specs.Runs.{Runs}
-use Rattle.tree_sites.specs.Layouts.{IsLayout}
-use Rattle.tree_sweep.specs.Given.{given_by, inputs_in}
+use Rattle.settling_laws.specs.Runs.{Runs}
+use Rattle.plain_cycle.specs.Layouts.{IsLayout}
+use Rattle.plain_cycle.specs.Given.{given_by, inputs_in}
 use Rattle.plain_run.specs.Leaves.{leaf_held, port_leaves}
 use Rattle.plain_run.proofs.Leading.{run_of}
 use Rattle.plain_run.proofs.Tracing.{runs_trace}

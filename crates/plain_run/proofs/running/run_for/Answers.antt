@@ -1,10 +1,10 @@
 use Rattle.std.proofs.Common.{map, ap, ◌∙◌, subst, arith}
 use Rattle.fir_meaning.specs.States.{SameState, Settled, next}
 use Rattle.drive_check.specs.Keys.{leaf_of_key}
-use Rattle.sweep_runs.specs.Runs.{row_of}
-use Rattle.tree_values.specs.Sites.{valuation_of}
-use Rattle.tree_sweep.specs.Given.{given_by}
-use Rattle.tree_sweep.specs.Runs.{design_in, state_of}
+use Rattle.settling_laws.specs.Runs.{row_of}
+use Rattle.plain_values.specs.Sites.{valuation_of}
+use Rattle.plain_cycle.specs.Given.{given_by}
+use Rattle.plain_cycle.specs.Runs.{design_in, state_of}
 use Rattle.plain_run.specs.Leaves.{watched_in}
 use Rattle.plain_run.proofs.Leading.{none_run, run_more, all_run}
 use Rattle.plain_run.proofs.running.run_for.Goals as goal

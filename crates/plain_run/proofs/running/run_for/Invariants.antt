@@ -1,8 +1,8 @@
 use Rattle.std.proofs.Common.{map, take}
 use Rattle.fir_meaning.specs.States.{first_state}
 use Rattle.drive_check.specs.Keys.{leaf_of_key}
-use Rattle.tree_sweep.specs.Given.{given_by}
-use Rattle.tree_sweep.specs.Runs.{design_in, state_of}
+use Rattle.plain_cycle.specs.Given.{given_by}
+use Rattle.plain_cycle.specs.Runs.{design_in, state_of}
 use Rattle.plain_run.specs.Leaves.{watched_in}
 use Rattle.plain_run.proofs.Leading.{Leads}
 use Rattle.plain_run.proofs.running.run_for.Given as goal

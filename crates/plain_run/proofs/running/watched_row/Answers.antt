@@ -1,6 +1,6 @@
 use Rattle.std.proofs.Common.{◌≡◌, map, get_or, slice_get, refl, sym, ap, ◌∙◌, arith, option_map}
 use Rattle.std.specs.Option.{option_copied}
-use Rattle.tree_values.specs.Sites.{valuation_of}
+use Rattle.plain_values.specs.Sites.{valuation_of}
 use Rattle.plain_run.specs.Leaves.{leaf_held}
 use Rattle.plain_run.proofs.Leading.{shown_more, shown_less}
 use Rattle.plain_run.proofs.running.watched_row.Goals as goal

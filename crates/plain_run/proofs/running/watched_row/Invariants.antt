@@ -1,7 +1,7 @@
 use Rattle.std.proofs.Common.{◌≡◌, map, take, slice_get}
 use Rattle.std.specs.List.{filter_map}
-use Rattle.sweep_runs.specs.Runs.{row_of}
-use Rattle.tree_values.specs.Sites.{valuation_of}
+use Rattle.settling_laws.specs.Runs.{row_of}
+use Rattle.plain_values.specs.Sites.{valuation_of}
 use Rattle.plain_run.specs.Leaves.{leaf_held}
 use Rattle.plain_run.proofs.running.watched_row.Given as goal
 

@@ -1,10 +1,10 @@
 use Rattle.std.proofs.Common.{map, take, sym, ap, ◌∙◌, subst, arith}
 use Rattle.fir_meaning.specs.States.{Settled}
 use Rattle.drive_check.specs.Keys.{leaf_of_key}
-use Rattle.sweep_laws.specs.Sweeps.{swept}
-use Rattle.tree_sites.specs.Layouts.{all_flat}
-use Rattle.tree_sweep.specs.Given.{given_by}
-use Rattle.tree_sweep.specs.Runs.{design_in, state_of}
+use Rattle.settling_laws.specs.Sweeps.{swept}
+use Rattle.plain_cycle.specs.Layouts.{all_flat}
+use Rattle.plain_cycle.specs.Given.{given_by}
+use Rattle.plain_cycle.specs.Runs.{design_in, state_of}
 use Rattle.plain_run.proofs.Counts.{leaf_count, none_swept, site_more, all_there}
 use Rattle.plain_run.proofs.AllLeaves.{are_leaves}
 use Rattle.plain_run.proofs.settling.settled.Goals as goal

@@ -1,9 +1,9 @@
 use Rattle.std.proofs.Common.{◌+◌, map, ap, ◌∙◌, arith}
 use Rattle.drive_check.specs.Keys.{leaf_of_key}
-use Rattle.tree_values.specs.Sites.{valuation_of}
-use Rattle.sweep_laws.specs.Sweeps.{sweep, swept}
-use Rattle.tree_sweep.specs.Given.{given_by}
-use Rattle.tree_sweep.specs.Runs.{design_in, state_of}
+use Rattle.plain_values.specs.Sites.{valuation_of}
+use Rattle.settling_laws.specs.Sweeps.{sweep, swept}
+use Rattle.plain_cycle.specs.Given.{given_by}
+use Rattle.plain_cycle.specs.Runs.{design_in, state_of}
 use Rattle.plain_run.proofs.Counts.{once_more}
 use Rattle.plain_run.proofs.settling.swept_for.Goals as goal
 

@@ -1,9 +1,9 @@
 use Rattle.std.proofs.Common.{◌≡◌, ℕ, ◌+◌, map}
 use Rattle.drive_check.specs.Keys.{leaf_of_key}
-use Rattle.tree_values.specs.Sites.{valuation_of}
-use Rattle.sweep_laws.specs.Sweeps.{swept}
-use Rattle.tree_sweep.specs.Given.{given_by}
-use Rattle.tree_sweep.specs.Runs.{design_in, state_of}
+use Rattle.plain_values.specs.Sites.{valuation_of}
+use Rattle.settling_laws.specs.Sweeps.{swept}
+use Rattle.plain_cycle.specs.Given.{given_by}
+use Rattle.plain_cycle.specs.Runs.{design_in, state_of}
 use Rattle.plain_run.proofs.settling.swept_for.Given as goal
 
 abbrev pub invariant-loop-leaf : goal.invariant-loop-leaf

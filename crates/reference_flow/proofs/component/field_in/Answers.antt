@@ -1,5 +1,5 @@
 use Rattle.std.proofs.Common.{sym, ap, ◌∙◌, Some, None, rules}
-use Rattle.circuit_parts.specs.Parts.{part_of}
+use Rattle.fir_tree.specs.Parts.{part_of}
 use Rattle.reference_flow.specs.Reached.{lent}
 use Rattle.reference_flow.proofs.Stepping.{field-found}
 use Rattle.reference_flow.proofs.component.field_in.Goals as goal

@@ -2,7 +2,7 @@ use Rattle.std.proofs.Common.{◌≡◌, ◌==◌, find, refl, ap, rules, filter
 use Rattle.std.proofs.lemmas.Bool.{eq-eqb}
 use Rattle.fir_types.specs.Bundles.{memory_of, port_field}
 use Rattle.fir_types.specs.Memories.{element_of, depth_of}
-use Rattle.circuit_parts.specs.Parts.{source_of}
+use Rattle.fir_tree.specs.Parts.{source_of}
 use Rattle.reference_flow.proofs.Stepping.{at_end, field-found, found_here, found_none_more, passes_no_port, passes_other_port}
 use Rattle.reference_flow.proofs.component.field_of_memory.Goals as goal
 use Rattle.reference_flow.proofs.component.field_of_memory.Goals.{in-MemPort+else-name-id, in_default}

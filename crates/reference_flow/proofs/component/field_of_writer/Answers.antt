@@ -1,5 +1,5 @@
 use Rattle.std.proofs.Common.{arith, inl, inr}
-use Rattle.circuit_parts.specs.Parts.{field_part}
+use Rattle.fir_tree.specs.Parts.{field_part}
 use Rattle.fir_types.specs.declared.memory.PortMode.TheVariants.{Writer}
 use Rattle.reference_flow.specs.Reached.{Means, port_part}
 use Rattle.reference_flow.proofs.Ports.{writer-data, writer-mask, writer-none, one_of_two}

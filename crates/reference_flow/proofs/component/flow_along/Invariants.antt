@@ -1,5 +1,5 @@
 use Rattle.std.proofs.Common.{map, take}
-use Rattle.circuit_parts.specs.declared.part.Part.{Part}
+use Rattle.fir_tree.specs.declared.part.Part.{Part}
 use Rattle.reference_flow.specs.Flows.{suffix_step, named}
 use Rattle.reference_flow.specs.Reached.{Means}
 use Rattle.reference_flow.proofs.component.flow_along.Given as goal

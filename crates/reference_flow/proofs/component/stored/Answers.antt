@@ -3,7 +3,7 @@ use Rattle.fir_types.specs.declared.fir_type.FirType.{FirType}
 use Rattle.fir_types.specs.Bundles.{mask_of}
 use Rattle.fir_types.specs.Memories.{element_in}
 use Rattle.fir_types.proofs.Lines.{first_line, none_more, not_element}
-use Rattle.circuit_parts.specs.Parts.{part_of}
+use Rattle.fir_tree.specs.Parts.{part_of}
 use Rattle.reference_flow.proofs.Stepping.{at_end, no_element, plain-empty, mask-empty}
 use Rattle.reference_flow.proofs.component.stored.Goals as goal
 

@@ -1,5 +1,5 @@
 use Rattle.std.proofs.Common.{rules, sym, ap, ◌∙◌, inl, refl}
-use Rattle.circuit_parts.specs.Parts.{part_of}
+use Rattle.fir_tree.specs.Parts.{part_of}
 use Rattle.reference_flow.proofs.Stepping.{plain-no_part}
 use Rattle.reference_flow.proofs.Declaring.{component-port, body_found, nothing_found}
 use Rattle.reference_flow.proofs.declaration.component_named.Goals as goal

@@ -1,5 +1,5 @@
 use Rattle.std.proofs.Common.{◌≡◌, map, take}
-use Rattle.leaf_names.specs.LeafNames.{Texts}
+use Rattle.fir_tree.specs.LeafNames.{Texts}
 use Rattle.size_check.specs.Caps.{cap}
 use Rattle.size_check.specs.Kept.{AreMeasured}
 use Rattle.size_check.specs.Reaching.{types_in, weight_of, capped_weight, HasPart}

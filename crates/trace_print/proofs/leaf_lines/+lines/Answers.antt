@@ -4,7 +4,7 @@ use Rattle.fir_types.specs.Leaves.{leaves}
 use Rattle.fir_types.proofs.Layers.{leaves-bundle}
 use Rattle.fir_types.proofs.Runs.{element_falls}
 use Rattle.fir_types.proofs.Walks.{no_leaves}
-use Rattle.leaf_names.specs.LeafNames.{text_of}
+use Rattle.fir_tree.specs.LeafNames.{text_of}
 use Rattle.trace_print.proofs.LeafLines.{elements_more, fields_more, at_element, at_field, cut_back, leads_on}
 use Rattle.trace_print.proofs.leaf_lines.+lines.Goals as goal
 

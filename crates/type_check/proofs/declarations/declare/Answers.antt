@@ -1,7 +1,7 @@
 use Rattle.std.proofs.Common.{refl}
 use Rattle.std.specs.Prelude.{Some}
 use Rattle.std.proofs.lemmas.Result.{on_ok_weaker}
-use Rattle.circuit_parts.specs.Parts.{part_of}
+use Rattle.fir_tree.specs.Parts.{part_of}
 use Rattle.type_check.proofs.Kept.{walks_declared}
 use Rattle.type_check.proofs.declarations.declare.Goals as goal
 

@@ -2,7 +2,7 @@ use Rattle.std.proofs.Common.{refl}
 use Rattle.std.specs.Prelude.{Some}
 use Rattle.std.proofs.lemmas.Result.{on_ok_weaker}
 use Rattle.fir_types.specs.Bundles.{memory_of}
-use Rattle.circuit_parts.specs.Parts.{source_of}
+use Rattle.fir_tree.specs.Parts.{source_of}
 use Rattle.type_check.specs.declared.walk.Walk.{Walk}
 use Rattle.type_check.specs.Memories.{memory_faults}
 use Rattle.type_check.proofs.Kept.{walks_declared}

@@ -1,6 +1,6 @@
 use Rattle.std.proofs.Common.{rules, refl, ap, ap₂, sym, append-nil, ◌∙◌, ◌++◌}
 use Rattle.std.specs.Prelude.{Some}
-use Rattle.circuit_parts.specs.Parts.{part_of}
+use Rattle.fir_tree.specs.Parts.{part_of}
 use Rattle.type_check.specs.Judging.{part_at}
 use Rattle.type_check.proofs.Ways.{first_field}
 use Rattle.type_check.proofs.steps.to_field.Goals as goal

@@ -1,6 +1,6 @@
 use Rattle.std.proofs.Common.{◌≡◌, ◌-◌, ◌^◌, min, map, sum, take}
 use Rattle.std.specs.Prelude.{None}
-use Rattle.field_index.specs.Indexes.{first_at}
+use Rattle.fir_types.specs.Indexes.{first_at}
 use Rattle.type_index.specs.Knowing.{weight}
 use Rattle.type_index.proofs.known.first_place.Given as goal
 

@@ -4,7 +4,7 @@ use Rattle.width_rules.specs.Sources.{known_with}
 use Rattle.type_filling.specs.Filling.{filled}
 use Rattle.width_fit.specs.Judging.{slot_width, component_faults}
 use Rattle.width_fit.specs.Walks.{solved}
-use Rattle.circuit_parts.specs.declared.part.Part.{Part}
+use Rattle.fir_tree.specs.declared.part.Part.{Part}
 use Rattle.part_fits.proofs.Declared.{fits_of}
 use Rattle.width_fit.proofs.Declaring.{storage_walks}
 use Rattle.width_fit.proofs.walk.declare_storage.Goals as goal

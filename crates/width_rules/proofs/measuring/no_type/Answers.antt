@@ -1,5 +1,5 @@
 use Rattle.std.proofs.Common.{[], ap}
-use Rattle.circuit_parts.specs.declared.part.Part.{Part}
+use Rattle.fir_tree.specs.declared.part.Part.{Part}
 use Rattle.type_index.proofs.Built.{weaker}
 use Rattle.width_rules.proofs.measuring.no_type.Goals as goal
 

@@ -1,7 +1,7 @@
 use Rattle.std.proofs.Common.{rules, ap, ◌∙◌, sym, ◌&&◌}
 use Rattle.std.specs.List.{list_any}
 use Rattle.std.proofs.lemmas.Result.{IfOk-weaker}
-use Rattle.circuit_parts.specs.Parts.{source_of}
+use Rattle.fir_tree.specs.Parts.{source_of}
 use Rattle.width_rules.specs.Targets.{is_port, has_variable}
 use Rattle.width_rules.proofs.Cuts.{memory_joined, memory_varies}
 use Rattle.width_rules.proofs.Walking.{component_is}

@@ -1,5 +1,5 @@
 use Rattle.std.proofs.Common.{[], ◌∙◌, subst, sym, length}
-use Rattle.crew_turns.proofs.Rows.{own_apart, places_below}
+use Rattle.crew_workers.proofs.Rows.{own_apart, places_below}
 use Rattle.worker_crew.proofs.Gridded.{wide_next, grid_next}
 use Rattle.worker_crew.proofs.grid.fill_all.Goals as goal
 

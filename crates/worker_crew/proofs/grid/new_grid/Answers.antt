@@ -1,5 +1,5 @@
 use Rattle.std.proofs.Common.{subst, sym}
-use Rattle.crew_turns.specs.Places.{HasPlaces}
+use Rattle.crew_workers.specs.Places.{HasPlaces}
 use Rattle.worker_crew.proofs.grid.new_grid.Goals as goal
 
 pub returns-clause-wide : goal.returns-clause-wide

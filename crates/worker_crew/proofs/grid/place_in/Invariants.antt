@@ -1,4 +1,4 @@
-use Rattle.crew_turns.specs.Lists.{Placed}
+use Rattle.crew_workers.specs.Spreads.{Placed}
 use Rattle.worker_crew.proofs.grid.place_in.Given as goal
 
 abbrev pub invariant-loop-j : goal.invariant-loop-j

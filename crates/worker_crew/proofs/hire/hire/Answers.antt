@@ -5,8 +5,8 @@ use Rattle.phase_core.specs.Sound.{view}
 use Rattle.flat_code.specs.declared.code.Code.{Code}
 use Rattle.flat_code.specs.Codes.{frame_length}
 use Rattle.crew_workers.specs.Codes.{Follows}
-use Rattle.crew_turns.specs.Scripts.{script_of}
-use Rattle.crew_turns.proofs.Scripts.{follows}
+use Rattle.crew_workers.specs.Scripts.{script_of}
+use Rattle.crew_workers.proofs.Scripts.{follows}
 use Rattle.worker_crew.proofs.hire.hire.Goals as goal
 
 pub new-requires-clause-follows : goal.new-requires-clause-follows

@@ -1,11 +1,11 @@
 use Rattle.std.proofs.Common.{◌≡◌, ◌<◌, List, [], length, get_or, ap, sym, subst, ◌∙◌, arith}
 use Rattle.phase_core.specs.declared.model.Script.{Script}
 use Rattle.phase_core.specs.Script.{values}
-use Rattle.crew_turns.proofs.Asked.{asked_of}
-use Rattle.crew_turns.proofs.Rows.{outputs_many}
+use Rattle.crew_workers.proofs.Asked.{asked_of}
+use Rattle.crew_workers.proofs.Rows.{outputs_many}
 use Rattle.crew_workers.specs.Codes.{row_at}
 use Rattle.worker_crew.specs.Crew.{task_of, Parts}
-use Rattle.crew_turns.specs.Scripts.{script_of}
+use Rattle.crew_workers.specs.Scripts.{script_of}
 use Rattle.worker_crew.proofs.Gridded.{outputs_of}
 use Rattle.worker_crew.proofs.run.fill_rows.Goals as goal
 

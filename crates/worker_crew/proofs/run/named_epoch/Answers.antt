@@ -1,6 +1,6 @@
 use Rattle.std.proofs.Common.{subst, sym}
 use Rattle.phase_core.specs.Script.{IsScript}
-use Rattle.crew_turns.proofs.Scripts.{script_is}
+use Rattle.crew_workers.proofs.Scripts.{script_is}
 use Rattle.worker_crew.proofs.run.named_epoch.Goals as goal
 
 pub open-requires-clause-script : goal.open-requires-clause-script

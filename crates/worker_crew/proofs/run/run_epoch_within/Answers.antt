@@ -1,5 +1,5 @@
 use Rattle.std.proofs.Common.{length, ap, arith}
-use Rattle.crew_turns.proofs.Asked.{asked_of}
+use Rattle.crew_workers.proofs.Asked.{asked_of}
 use Rattle.worker_crew.proofs.run.run_epoch_within.Goals as goal
 
 pub named_epoch-requires-clause-few : goal.named_epoch-requires-clause-few

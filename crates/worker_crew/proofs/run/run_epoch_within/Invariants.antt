@@ -1,4 +1,4 @@
-use Rattle.crew_turns.specs.Scripts.{script_of}
+use Rattle.crew_workers.specs.Scripts.{script_of}
 use Rattle.worker_crew.proofs.run.run_epoch_within.Given as goal
 
 abbrev pub ghosts-named_epoch : goal.ghosts-named_epoch

@@ -2,7 +2,7 @@ use Rattle.std.proofs.Common.{◌∙◌, ℕ, List, length, arith, subst, sym, a
 use Rattle.flat_code.specs.declared.instr.Location.{Location}
 use Rattle.flat_code.specs.Fine.{IsLocation, IsPort, IsWide, ShownLast, nothing}
 use Rattle.flat_code.proofs.Solving.{ready_if_single}
-use Rattle.hand_codes.proofs.Pushing.{pushes_few}
+use Rattle.base_cases.proofs.Pushing.{pushes_few}
 use Rattle.code_cases.proofs.Building.{single_now, fine_now}
 use Rattle.code_cases.proofs.cases.codes.made_of.Goals as goal
 

@@ -4,7 +4,7 @@ use Rattle.flat_code.specs.Meaning.{pushes}
 use Rattle.flat_code.specs.Fine.{AreFine, IsLocation, ShownLast, nothing}
 use Rattle.flat_code.proofs.Solving.{ready_if_single}
 use Rattle.code_order.proofs.Finding.{single_of}
-use Rattle.hand_codes.proofs.Pushing.{pushes_few}
+use Rattle.base_cases.proofs.Pushing.{pushes_few}
 use Rattle.firsim_bench.proofs.codes.mix.mixed.Goals as goal
 
 pub invariant_of-result : goal.invariant_of-result

@@ -1,7 +1,7 @@
 use Rattle.std.proofs.Common.{arith, sym, subst, ap, ◌∙◌, ◌+◌, length}
 use Rattle.std.proofs.lemmas.List.{length_push}
 use Rattle.ground_net.specs.declared.net.Net.{Net}
-use Rattle.hand_nets.proofs.Reading.{AllBelow, mentions, more}
+use Rattle.base_cases.proofs.Reading.{AllBelow, mentions, more}
 use Rattle.firsim_bench.proofs.orders.net.net_of.Goals as goal
 
 pub loop-index-preserved : goal.loop-index-preserved

@@ -1,5 +1,5 @@
 use Rattle.std.proofs.Common.{◌≡◌, length}
-use Rattle.hand_nets.proofs.Reading.{AllBelow}
+use Rattle.base_cases.proofs.Reading.{AllBelow}
 use Rattle.firsim_bench.proofs.orders.net.net_of.Given as goal
 
 abbrev pub invariant-loop-index : goal.invariant-loop-index

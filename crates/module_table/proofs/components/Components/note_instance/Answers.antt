@@ -2,8 +2,8 @@ use Rattle.std.proofs.Common.{◌≡◌, List, refl, subst, sym, ap, ◌∙◌}
 use Rattle.std.specs.Prelude.{Some}
 use Rattle.fir_types.specs.declared.fir_type.FirType.{FirType}
 use Rattle.fir_tree.specs.declared.circuit.Module.{Module}
-use Rattle.circuit_parts.specs.declared.part.Flow.TheVariants.{Source}
-use Rattle.circuit_parts.specs.Parts.{source_of, instance_in}
+use Rattle.fir_tree.specs.declared.part.Flow.TheVariants.{Source}
+use Rattle.fir_tree.specs.Parts.{source_of, instance_in}
 use Rattle.type_classes.specs.Sights.{table_of}
 use Rattle.module_table.specs.declared.components.Noted.{Noted}
 use Rattle.module_table.specs.Components.{AreClassed, Environment, with_part}

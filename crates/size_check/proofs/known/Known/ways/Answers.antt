@@ -1,5 +1,5 @@
 use Rattle.std.proofs.Common.{◌∙◌, ap}
-use Rattle.name_sizes.specs.Texts.{way_bytes}
+use Rattle.fir_tree.specs.Texts.{way_bytes}
 use Rattle.size_check.specs.Caps.{cap}
 use Rattle.size_check.proofs.Kept.{bytes_of}
 use Rattle.size_check.proofs.known.Known.ways.Goals as goal

@@ -1,6 +1,6 @@
 use Rattle.std.proofs.Common.{◌≡◌, ◌∙◌, refl, ap, subst, map}
 use Rattle.std.specs.Prelude.{IfSome}
-use Rattle.field_index.specs.Indexes.{IsIndexOf}
+use Rattle.fir_types.specs.Indexes.{IsIndexOf}
 use Rattle.type_index.specs.Knowing.{places_of}
 use Rattle.type_index.proofs.Built.{bundle_matches}
 use Rattle.type_index.proofs.gathered.Gathered.finish.Goals as goal

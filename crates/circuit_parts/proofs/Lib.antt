@@ -1,3 +1,0 @@
-pub mod Shapes
-pub mod Turns
-mod Examples

@@ -1,4 +1,0 @@
-pub mod Owners
-pub mod Places
-pub mod Cycles
-pub mod Asked

@@ -1,5 +1,0 @@
-use Rattle.code_cuts.proofs.Cycles.{cycle_of}
-use Rattle.code_cuts.proofs.laws.codes_that_may_run_have_cycles.Goals as goal
-
-pub returns : goal.returns
-returns c = λ codes words rows may k row e now plain counted. cycle_of codes words rows may k row e now plain counted

@@ -1,8 +1,0 @@
-mod Back
-pub mod Placed
-mod Left
-mod Writes
-mod Captures
-mod Nexts
-pub mod Cycles
-pub mod Whole

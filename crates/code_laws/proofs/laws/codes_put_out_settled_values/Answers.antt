@@ -1,5 +1,0 @@
-use Rattle.code_laws.proofs.Cycles.{outputs_of}
-use Rattle.code_laws.proofs.laws.codes_put_out_settled_values.Goals as goal
-
-pub returns : goal.returns
-returns c = λ codes cut k code e s inside inputs given matched rho settled. outputs_of codes cut k code e s inside inputs given matched rho settled

@@ -1,8 +1,0 @@
-use Rattle.code_laws.proofs.Placed.{words_counted, words_plain}
-use Rattle.code_laws.proofs.laws.words_of_a_state_are_words.Goals as goal
-
-pub returns-clause-counted : goal.returns-clause-counted
-returns-clause-counted c = λ net s. words_counted net s
-
-pub returns-clause-plain : goal.returns-clause-plain
-returns-clause-plain c = λ net s. words_plain net s

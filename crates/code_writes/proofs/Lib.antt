@@ -1,4 +1,0 @@
-pub mod Targets
-pub mod Written
-pub mod Loops
-pub mod Evaluating

@@ -1,3 +1,0 @@
--- what a reader must believe
-pub mod Writes
-pub mod Groups

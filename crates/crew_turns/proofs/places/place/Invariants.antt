@@ -1,7 +1,0 @@
-use Rattle.crew_turns.specs.Lists.{Placed}
-use Rattle.crew_turns.proofs.places.place.Given as goal
-
-abbrev pub invariant-loop-j : goal.invariant-loop-j
-invariant-loop-j l = record {
-  placed : Placed l.positions l.outputs l.initial.row l.row l.j;
-}

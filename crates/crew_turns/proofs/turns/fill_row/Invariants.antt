@@ -1,9 +1,0 @@
-use Rattle.std.proofs.Common.{◌≡◌, length}
-use Rattle.crew_turns.specs.Turns.{RowFrom}
-use Rattle.crew_turns.proofs.turns.fill_row.Given as goal
-
-abbrev pub invariant-loop-k : goal.invariant-loop-k
-invariant-loop-k l = record {
-  row : RowFrom l.codes l.effects l.row l.k;
-  many : length l.row ≡ length l.initial.row;
-}

@@ -1,0 +1,7 @@
+use Rattle.crew_workers.specs.Spreads.{Placed}
+use Rattle.crew_workers.proofs.places.place.Given as goal
+
+abbrev pub invariant-loop-j : goal.invariant-loop-j
+invariant-loop-j l = record {
+  placed : Placed l.positions l.outputs l.initial.row l.row l.j;
+}

@@ -1,5 +1,0 @@
-use Rattle.cut_laws.proofs.Accepted.{stand_once}
-use Rattle.cut_laws.proofs.laws.components_stand_once.Goals as goal
-
-pub returns : goal.returns
-returns c = λ fitted well main found placed order. stand_once fitted well main found placed order

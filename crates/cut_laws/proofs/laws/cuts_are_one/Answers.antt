@@ -1,5 +1,0 @@
-use Rattle.cut_laws.proofs.Texts.{one_text}
-use Rattle.cut_laws.proofs.laws.cuts_are_one.Goals as goal
-
-pub returns : goal.returns
-returns c = λ texts design net serves stand workers bytes other a b. one_text texts design net serves stand workers bytes other a b

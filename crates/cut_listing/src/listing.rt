@@ -1,0 +1,62 @@
+//! The listing of a circuit's cut.
+
+ghost use Rattle.std.specs.Prelude.{◌≡◌, ℕ, ◌<◌, ◌≤◌, ◌^◌, List, length, map, IfOk};
+ghost use Rattle.fir_tree.specs.LeafNames.{Texts};
+ghost use Rattle.fir_meaning.specs.Components.{Design};
+ghost use Rattle.ground_net.specs.Cones.{sinks};
+ghost use Rattle.ground_net.specs.Reads.{IsOrder};
+ghost use Rattle.ground_net.specs.Watching.{watched};
+ghost use Rattle.net_laws.specs.Serves.{Serves};
+ghost use Rattle.cut_listing.specs.CircuitCuts.{watch, IsCutText};
+
+use crate::cut_print::cut_text;
+use cone_cutter::cut;
+use ground_net::{Net, Ordered, PortLeaf, Ports};
+use std::alloc::{AllocError, Global};
+
+/// There are fewer leaves and sinks than this.
+const NUMBERS: usize = 4_294_967_296;
+
+/// The listing of the cut of a circuit's net into 1 to 64 partitions, where the ports are the net's: a line for each partition, and
+/// one for all. Main's watched leaves, the registers and the memories are its sinks.
+///
+/// More leaves or sinks than a `u32` numbers are a want of memory.
+pub fn circuit_cut(
+    alloc: Global,
+    ordered: &Ordered,
+    ports: &Ports,
+    workers: u32,
+) -> Result<Vec<u8>, AllocError>
+    requires order { IsOrder ordered.now.net ordered.now.sequence }
+    requires seen { ports.now.watched ≡ watched ordered.now.net }
+    requires some { 0 < workers }
+    requires most { workers ≤ 64 }
+    ensures { (texts : Texts) (design : Design) → Serves texts design ordered.now.net → IfOk result (λ bytes. IsCutText texts design workers bytes.items) }
+{
+    let sinks = most_sinks(&ordered.net, ports.watched.len());
+    if ordered.net.leaves.len() >= NUMBERS || sinks >= NUMBERS {
+        return Err(AllocError);
+    }
+    let watch = numbers_of(alloc, ports.watched.as_slice())?;
+    let parts = cut(alloc, ordered, watch.as_slice(), workers)?;
+    Ok(cut_text(alloc, &parts)?)
+}
+
+/// A net of which so many leaves are watched has at most this many sinks.
+fn most_sinks(net: &Net, watched: usize) -> usize
+    ensures { result < 2 ^ 32 → (watch : List ℕ) → length watch ≤ watched → length (sinks net.now watch) ≤ result }
+{
+    let state = net.registers.len().saturating_add(net.memories.len());
+    watched.saturating_add(state)
+}
+
+/// The numbers of leaves of ports.
+fn numbers_of(alloc: Global, leaves: &[PortLeaf]) -> Result<Vec<u32>, AllocError>
+    ensures { IfOk result (λ numbers. numbers.items ≡ map (λ p. p.leaf) leaves.now) }
+{
+    let mut numbers = Vec::new(alloc);
+    for leaf in leaves {
+        numbers.push(leaf.leaf)?;
+    }
+    Ok(numbers)
+}

@@ -1,0 +1,12 @@
+pub mod Samples
+pub mod Sides
+pub mod Memories
+pub mod Registers
+pub mod Clocks
+pub mod Passing
+pub mod Holding
+pub mod Circuits
+pub mod Kept
+pub mod Needing
+pub mod Writing
+pub mod Choosing

@@ -1,5 +1,0 @@
-pub mod Lists
-pub mod Standing
-pub mod Once
-pub mod Declared
-pub mod Accepted

@@ -1,5 +1,0 @@
-use Rattle.design_laws.proofs.Accepted.{is_typed}
-use Rattle.design_laws.proofs.laws.designs_are_typed.Goals as goal
-
-pub returns : goal.returns
-returns c = λ fitted well. is_typed fitted well

@@ -1,5 +1,0 @@
-use Rattle.fit_laws.proofs.Reached.{places_have_numbers}
-use Rattle.fit_laws.proofs.laws.fitted_places_have_numbers.Goals as goal
-
-pub returns : goal.returns
-returns c = places_have_numbers

@@ -1,6 +1,0 @@
-mod Steps
-mod Components
-mod Expressions
-mod Statements
-mod Circuits
-mod Examples

@@ -1,8 +1,0 @@
-use Rattle.frame_laws.proofs.Driving.{assignment_some, register_some}
-use Rattle.frame_laws.proofs.laws.drivers_have_nodes.Goals as goal
-
-pub returns-clause-assignment : goal.returns-clause-assignment
-returns-clause-assignment c = assignment_some
-
-pub returns-clause-register : goal.returns-clause-register
-returns-clause-register c = register_some

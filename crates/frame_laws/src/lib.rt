@@ -1,4 +1,0 @@
-//! Laws of frames: how many slots the code of a part takes.
-#![tactic(auto)]
-
-pub mod laws;

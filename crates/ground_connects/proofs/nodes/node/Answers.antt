@@ -1,9 +1,0 @@
-use Rattle.std.proofs.Common.{◌∙◌, ap}
-use Rattle.ground_connects.specs.Nodes.{node_leaves}
-use Rattle.ground_connects.proofs.NodeLeaves.{node_is}
-use Rattle.ground_connects.proofs.nodes.node.Goals as goal
-
-pub returns : goal.returns
-returns c =
-    node_is c.args.component.now.typ c.args.component.now.first c.args.sources c.in_ok-made.made
-    (c.in_ok-made.ensures ∙ ap (λ ls. node_leaves c.args.component.now.first ls c.args.sources) (c.as_slice.ensures.value ∙ c.in_ok-listed.ensures))

@@ -1,4 +1,0 @@
-pub mod Connects
-pub mod Targets
-pub mod Sides
-pub mod Nodes

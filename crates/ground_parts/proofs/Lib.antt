@@ -1,5 +1,0 @@
-pub mod Members
-pub mod Selections
-pub mod Insides
-pub mod Onwards
-pub mod Narrow

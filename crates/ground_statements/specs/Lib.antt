@@ -1,0 +1,7 @@
+pub mod Connects
+pub mod Targets
+pub mod Sides
+pub mod Nodes
+pub mod Declares
+pub mod Bodies
+pub mod Arms

@@ -1,5 +1,0 @@
-pub mod Listing
-pub mod Knowing
-pub mod Zipping
-pub mod Modules
-pub mod Viewing

@@ -1,6 +1,0 @@
-use Rattle.std.proofs.Common.{◌∙◌}
-use Rattle.fir_types.proofs.Counts.{counted}
-use Rattle.ground_tables.proofs.pieces.leaf_number.Goals as goal
-
-pub returns : goal.returns
-returns c = c.in_ok-number.ensures ∙ counted c.args.typ.now

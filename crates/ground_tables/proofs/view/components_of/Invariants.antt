@@ -1,6 +1,0 @@
-use Rattle.std.proofs.Common.{take}
-use Rattle.ground_tables.specs.Views.{KnowsPieces}
-use Rattle.ground_tables.proofs.view.components_of.Given as goal
-
-abbrev pub invariant-loop-piece : goal.invariant-loop-piece
-invariant-loop-piece l = KnowsPieces (take l.piece-index l.pieces) l.known.entries

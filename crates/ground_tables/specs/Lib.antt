@@ -1,5 +1,0 @@
-pub mod Headings
-pub mod Parts
-pub mod Held
-pub mod Tables
-pub mod Views

@@ -1,5 +1,0 @@
-use Rattle.instance_laws.proofs.Standing.{has_instances}
-use Rattle.instance_laws.proofs.laws.lowered_circuits_have_instances.Goals as goal
-
-pub returns : goal.returns
-returns c = λ fitted well lowered is driven expanded. has_instances fitted well lowered is driven expanded

@@ -1,6 +1,0 @@
-use Rattle.std.proofs.Common.{◌≡◌, ◌++◌, take}
-use Rattle.leaf_names.specs.LeafNames.{way_text}
-use Rattle.leaf_names.proofs.push_way.Given as goal
-
-abbrev pub invariant-loop-step : goal.invariant-loop-step
-invariant-loop-step l = l.text.items ≡ l.fn.text.items ++ way_text l.names (take l.step-index l.way)

@@ -1,5 +1,0 @@
-pub mod FlatOrders
-pub mod Loops
-pub mod Verdicts
-pub mod Searching
-mod ExampleOfALoop

@@ -1,5 +1,0 @@
-use Rattle.loop_laws.proofs.Verdicts.{order_of}
-use Rattle.loop_laws.proofs.laws.circuits_without_loops_have_orders.Goals as goal
-
-pub returns : goal.returns
-returns c = λ texts design net serves none. order_of texts design net serves none

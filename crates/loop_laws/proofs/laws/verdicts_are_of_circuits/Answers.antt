@@ -1,5 +1,0 @@
-use Rattle.loop_laws.proofs.Verdicts.{verdict}
-use Rattle.loop_laws.proofs.laws.verdicts_are_of_circuits.Goals as goal
-
-pub returns : goal.returns
-returns c = λ texts design net serves result v. verdict texts design net serves result v

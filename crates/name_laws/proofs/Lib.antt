@@ -1,4 +1,0 @@
-mod References
-mod Meaning
-mod Agreeing
-mod Examples

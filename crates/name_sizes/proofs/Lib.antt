@@ -1,2 +1,0 @@
-pub mod Capping
-pub mod Wording

@@ -1,2 +1,0 @@
-mod Delayed
-mod Chained

@@ -1,3 +1,0 @@
-mod ToldReads
-pub mod Rowed
-pub mod Among

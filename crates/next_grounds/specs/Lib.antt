@@ -1,2 +1,0 @@
--- what the bodies give
-pub mod Nexts

@@ -1,6 +1,0 @@
-use Rattle.part_room.specs.Counts.{ReadsMore}
-use Rattle.part_room.specs.Rooms.{read_by_sinks}
-use Rattle.part_room.proofs.room.read_sinks.Given as goal
-
-abbrev pub invariant-loop-number : goal.invariant-loop-number
-invariant-loop-number l = ReadsMore (read_by_sinks l.net l.watch l.part) l.fn.live l.live

@@ -1,4 +1,0 @@
-pub mod Places
-pub mod Shaping
-pub mod Making
-mod Owning

@@ -1,3 +1,0 @@
--- what the bodies keep
-pub mod Rows
-pub mod Groups

@@ -1,0 +1,12 @@
+pub mod Owners
+pub mod Places
+pub mod Cycles
+pub mod Asked
+mod Back
+pub mod Placed
+mod Left
+mod Writes
+mod Captures
+mod Nexts
+pub mod StateCycles
+pub mod Whole

@@ -1,4 +1,0 @@
-//! Laws of codes of parts that are placed.
-#![tactic(auto)]
-
-pub mod laws;

@@ -1,0 +1,14 @@
+mod Leasts
+mod Lists
+mod Looking
+mod Conditions
+mod Forms
+mod Rows
+mod Typed
+mod Following
+mod Stepping
+mod Numbers
+mod Settings
+mod Statements
+mod Nexts
+mod Storing

@@ -1,5 +1,0 @@
-pub mod Steps
-pub mod Begins
-pub mod Reaches
-pub mod Orders
-pub mod Examples

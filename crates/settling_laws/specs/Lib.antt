@@ -1,0 +1,3 @@
+pub mod Typed
+pub mod Sweeps
+pub mod Runs

@@ -1,5 +1,0 @@
-use Rattle.state_laws.proofs.Shown.{shows_state}
-use Rattle.state_laws.proofs.laws.settled_values_show_the_state.Goals as goal
-
-pub returns : goal.returns
-returns c = λ net words given rho w settled. shows_state net words given rho w settled

@@ -1,3 +1,0 @@
-pub mod Sames
-pub mod Nexts
-pub mod Stills

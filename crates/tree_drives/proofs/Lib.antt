@@ -1,5 +1,0 @@
-mod Numbers
-mod Settings
-mod Statements
-mod Nexts
-mod Storing

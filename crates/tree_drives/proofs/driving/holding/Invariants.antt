@@ -1,8 +1,0 @@
-use Rattle.std.proofs.Common.{◌≡◌, false, take}
-use Rattle.std.specs.List.{list_any}
-use Rattle.tree_values.specs.Sites.{scene_of_view}
-use Rattle.tree_drives.specs.Choosing.{is_taken}
-use Rattle.tree_drives.proofs.driving.holding.Given as goal
-
-abbrev pub invariant-loop-number : goal.invariant-loop-number
-invariant-loop-number l = list_any (is_taken (scene_of_view l.view)) (take l.number l.arms) ≡ false

@@ -1,5 +1,0 @@
-pub mod Besides
-pub mod Steps
-pub mod OfRegisters
-pub mod OfMemories
-pub mod Nexts

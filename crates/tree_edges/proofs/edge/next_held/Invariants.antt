@@ -1,8 +1,0 @@
-use Rattle.std.proofs.Common.{take}
-use Rattle.tree_sites.specs.Layouts.{IsLayout}
-use Rattle.tree_sweep.specs.Runs.{design_in, state_at, values_at}
-use Rattle.tree_edges.proofs.Nexts.{AreHeld}
-use Rattle.tree_edges.proofs.edge.next_held.Given as goal
-
-abbrev pub invariant-loop-at : goal.invariant-loop-at
-invariant-loop-at l = (layout : IsLayout (design_in l.run) l.run.sites.now l.run.declared.now) → AreHeld (state_at l.run l.moment) (values_at l.run l.moment) (take l.at layout.all) l.registers l.contents l.captured

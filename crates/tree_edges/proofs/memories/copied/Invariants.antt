@@ -1,5 +1,0 @@
-use Rattle.std.proofs.Common.{◌≡◌, take}
-use Rattle.tree_edges.proofs.memories.copied.Given as goal
-
-abbrev pub invariant-loop-values : goal.invariant-loop-values
-invariant-loop-values l = l.copy ≡ take l.values-index l.elements

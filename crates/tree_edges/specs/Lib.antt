@@ -1,2 +1,0 @@
--- what the bodies keep
-pub mod Edges

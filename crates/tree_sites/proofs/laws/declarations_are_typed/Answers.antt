@@ -1,5 +1,0 @@
-use Rattle.leaf_reads.proofs.Typing.{declared_typed}
-use Rattle.tree_sites.proofs.laws.declarations_are_typed.Goals as goal
-
-pub returns : goal.returns
-returns c = λ fitted well x is. declared_typed fitted well x.path x.m x.c is.reached is.declared

@@ -1,7 +1,0 @@
-use Rattle.std.proofs.Common.{subst, sym}
-use Rattle.tree_values.specs.Sites.{AreNarrow}
-use Rattle.tree_sites.proofs.Seeing.{sites_narrow}
-use Rattle.tree_sites.proofs.laws.layouts_are_narrow.Goals as goal
-
-pub returns : goal.returns
-returns c = λ fitted sites declared well layout. subst AreNarrow (sym layout.lists.sites) (sites_narrow fitted well layout.all layout.are)

@@ -1,5 +1,0 @@
-use Rattle.tree_sites.proofs.Seeing.{has_leaves}
-use Rattle.tree_sites.proofs.laws.layouts_have_all_leaves.Goals as goal
-
-pub returns : goal.returns
-returns c = λ design all are some has. has_leaves design all are some has

@@ -1,5 +1,0 @@
-use Rattle.tree_sites.proofs.Valuing.{values_told}
-use Rattle.tree_sites.proofs.laws.values_are_those_of_leaves.Goals as goal
-
-pub returns : goal.returns
-returns c = λ design all are rule values is path name way. values_told design all are rule values is path name way

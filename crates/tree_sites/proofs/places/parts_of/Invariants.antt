@@ -1,7 +1,0 @@
-use Rattle.std.proofs.Common.{◌≡◌, drop}
-use Rattle.fir_meaning.specs.Components.{design_of, module_named}
-use Rattle.tree_sites.proofs.Modules.{named_among}
-use Rattle.tree_sites.proofs.places.parts_of.Given as goal
-
-abbrev pub invariant-loop-holder : goal.invariant-loop-holder
-invariant-loop-holder l = named_among l.name (drop l.holder-index l.holder-items) l.types ≡ module_named (design_of l.fitted) l.name

@@ -1,6 +1,0 @@
-use Rattle.std.proofs.Common.{◌∙◌}
-use Rattle.tree_sweep.proofs.Firsts.{ways_same}
-use Rattle.tree_sweep.proofs.finding.is_way.Goals as goal
-
-pub returns : goal.returns
-returns c = c.eq.ensures ∙ ways_same c.args.way.now c.args.other.now

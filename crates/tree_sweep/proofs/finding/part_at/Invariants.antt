@@ -1,7 +1,0 @@
-use Rattle.std.proofs.Common.{◌≡◌, drop}
-use Rattle.tree_values.specs.Sites.{is_at}
-use Rattle.tree_sweep.specs.Firsts.{first_beside}
-use Rattle.tree_sweep.proofs.finding.part_at.Given as goal
-
-abbrev pub invariant-loop-at : goal.invariant-loop-at
-invariant-loop-at l = first_beside (is_at l.path l.name) l.run.sites.now l.run.declared.now ≡ first_beside (is_at l.path l.name) (drop l.at l.run.sites.now) (drop l.at l.run.declared.now)

@@ -1,7 +1,0 @@
-use Rattle.std.proofs.Common.{◌≡◌, drop}
-use Rattle.tree_values.specs.Sites.{is_at}
-use Rattle.tree_sweep.specs.Firsts.{first_beside}
-use Rattle.tree_sweep.proofs.memories.elements_on.Given as goal
-
-abbrev pub invariant-loop-at : goal.invariant-loop-at
-invariant-loop-at l = first_beside (is_at l.path l.name) l.sites l.contents ≡ first_beside (is_at l.path l.name) (drop l.at l.sites) (drop l.at l.contents)

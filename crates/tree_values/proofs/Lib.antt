@@ -1,9 +1,0 @@
-mod Leasts
-mod Lists
-mod Looking
-mod Conditions
-mod Forms
-mod Rows
-mod Typed
-mod Following
-mod Stepping

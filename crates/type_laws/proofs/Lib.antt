@@ -1,4 +1,0 @@
-mod Sorts
-mod Apart
-mod Ports
-mod Examples

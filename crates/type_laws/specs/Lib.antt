@@ -1,3 +1,0 @@
-pub mod GroundKinds
-pub mod DoubledFields
-pub mod Paths
