@@ -9,7 +9,7 @@ ghost use Rattle.code_draft.specs.Segments.{Step};
 use crate::draft::Draft;
 use crate::steps::{add_instr, instr_of, new_location};
 use bit_words::{Kind, Value, high_word, low_word};
-use flat_code::{Instr, Op, Location};
+use flat_code::{Instr, Location, Op};
 use std::alloc::AllocError;
 
 /// A constant.

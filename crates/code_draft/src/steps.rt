@@ -6,7 +6,7 @@ ghost use Rattle.code_draft.specs.Drafts.{with_instr, with_wide, with_slots, loc
 
 use crate::draft::Draft;
 use bit_words::{Kind, List};
-use flat_code::{Instr, Op, Location, Wide};
+use flat_code::{Instr, Location, Op, Wide};
 use std::alloc::{AllocError, Global};
 
 /// No code yet, over this many shared words.

@@ -9,7 +9,7 @@ ghost use Rattle.code_draft.specs.Segments.{Step};
 use crate::draft::Draft;
 use crate::steps::{add_instr, add_wide, instr_of, new_location};
 use bit_words::{Kind, List};
-use flat_code::{Form, Op, Location, Wide};
+use flat_code::{Form, Location, Op, Wide};
 use std::alloc::AllocError;
 
 /// The value of a form on what stands at these locations, where it has this kind and this width of at most 128.

@@ -42,7 +42,11 @@ fn are_words(locations: &[Location]) -> bool
 }
 
 /// The value of a choice by choices of two values.
-fn emit_chain(alloc: Global, draft: &mut Draft, locations: &[Location]) -> Result<Location, AllocError>
+fn emit_chain(
+    alloc: Global,
+    draft: &mut Draft,
+    locations: &[Location],
+) -> Result<Location, AllocError>
     requires shape { IsSome (shape_of_choice (location_shapes locations.now)) }
     requires many { 3 < length locations.now }
     ensures shape { IfOk result (λ s. shape_of_choice (location_shapes locations.now) ≡ Some (location_shape s)) }

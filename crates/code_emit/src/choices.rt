@@ -14,7 +14,7 @@ ghost use Rattle.code_emit.specs.Ways.{IsMade, IsWay};
 use crate::ways::{Measure, Way, made};
 use bit_words::Kind;
 use code_draft::Draft;
-use flat_code::{Instr, Op, Location};
+use flat_code::{Instr, Location, Op};
 use std::alloc::AllocError;
 
 /// The second item where the first one is 1, and else the third, where they are three and words suffice for it; else none, and the

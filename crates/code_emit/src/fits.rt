@@ -12,7 +12,7 @@ ghost use Rattle.code_emit.specs.Ways.{Given, IsMade, IsWay, Refits, fit_of_one}
 use crate::ways::{Measure, Way, made, of_one};
 use bit_words::Kind;
 use code_draft::{Draft, low_mask};
-use flat_code::{Op, Location};
+use flat_code::{Location, Op};
 use std::alloc::AllocError;
 
 /// The value of one location, fitted to a kind and a width, where words suffice for it; else none, and the code stays as it is.

@@ -13,7 +13,7 @@ use crate::fits::{fit_way, sign_of};
 use crate::ways::{Way, of_one};
 use bit_words::Kind;
 use code_draft::low_mask;
-use flat_code::{Op, Location};
+use flat_code::{Location, Op};
 use prim_ops::Prim;
 
 /// The way of an operation on an operand of at most 64 bits to a result of at most 64 bits.

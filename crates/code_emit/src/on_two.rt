@@ -10,7 +10,7 @@ ghost use Rattle.code_emit.specs.Ways.{IsPlain, GivesRow};
 use crate::ways::{Way, of_one, of_two};
 use bit_words::Kind;
 use code_draft::low_mask;
-use flat_code::{Instr, Op, Location};
+use flat_code::{Instr, Location, Op};
 use prim_ops::Prim;
 
 /// The way of an operation on two operands of at most 64 bits to a result of at most 64 bits.

@@ -13,7 +13,7 @@ ghost use Rattle.code_emit.specs.Ways.{Given, IsMade, IsPair};
 
 use crate::ways::{Measure, at_slot};
 use code_draft::{Draft, computed};
-use flat_code::{Instr, Op, Location};
+use flat_code::{Instr, Location, Op};
 use std::alloc::AllocError;
 
 /// How a word is made of two others.
@@ -30,7 +30,11 @@ pub(crate) struct Pair {
 }
 
 /// The value of a kind and a width of at most 64 bits, whose word is made so.
-pub(crate) fn paired(draft: &mut Draft, pair: Pair, measure: Measure) -> Result<Location, AllocError>
+pub(crate) fn paired(
+    draft: &mut Draft,
+    pair: Pair,
+    measure: Measure,
+) -> Result<Location, AllocError>
     requires { measure.width ≤ 64 }
     ensures shape { IfOk result (λ s. location_shape s ≡ shaped measure.kind measure.width) }
     ensures makes { IfOk result (λ s. (locations : TheList TheLocation) (R : Given) → IsPair pair locations R → IsDraft draft.old → All (Stands draft.old) locations → Makes draft.old draft.new s (IsMade R locations (shaped measure.kind measure.width))) }

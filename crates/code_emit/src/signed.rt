@@ -11,7 +11,7 @@ use crate::pairs::Pair;
 use crate::ways::of_one;
 use bit_words::Kind;
 use code_draft::low_mask;
-use flat_code::{Instr, Op, Location};
+use flat_code::{Instr, Location, Op};
 use prim_ops::Prim;
 
 /// The pair of an operation on two operands of at most 64 bits, of which the first has a sign, to a result of at most 64 bits.

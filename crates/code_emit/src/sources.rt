@@ -3,7 +3,7 @@
 ghost use Rattle.std.specs.Prelude.{◌≤◌};
 
 use bit_words::{Kind, List, Value};
-use flat_code::{Region, Location};
+use flat_code::{Location, Region};
 
 /// A value that is kept outside the frame, under a number.
 ///

@@ -11,7 +11,7 @@ ghost use Rattle.code_emit.specs.Ways.{Given, IsMade, IsWay, IsLowest, KeepsLowe
 use crate::ways::{Measure, Way, made, of_two};
 use bit_words::Kind;
 use code_draft::{Draft, low_mask};
-use flat_code::{Op, Location};
+use flat_code::{Location, Op};
 use prim_ops::Prim;
 use std::alloc::AllocError;
 

@@ -45,7 +45,10 @@ pub(crate) fn emit_operation(
 }
 
 /// The value of a choice of what stands at locations, by one instruction.
-pub(crate) fn emit_one_choice(draft: &mut Draft, locations: List<Location>) -> Result<Location, AllocError>
+pub(crate) fn emit_one_choice(
+    draft: &mut Draft,
+    locations: List<Location>,
+) -> Result<Location, AllocError>
     requires { IsSome (shape_of_choice (location_shapes locations)) }
     ensures shape { IfOk result (λ s. shape_of_choice (location_shapes locations) ≡ Some (location_shape s)) }
     ensures makes { IfOk result (λ s. IsDraft draft.old → All (Stands draft.old) locations → Makes draft.old draft.new s (IsMade chosen locations (location_shape s))) }

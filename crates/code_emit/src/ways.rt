@@ -12,7 +12,7 @@ ghost use Rattle.code_emit.specs.Ways.{Given, IsMade, IsWay};
 
 use bit_words::Kind;
 use code_draft::{Draft, computed};
-use flat_code::{Instr, Op, Location};
+use flat_code::{Instr, Location, Op};
 use std::alloc::AllocError;
 
 /// A kind and a width of at most 128.

@@ -9,7 +9,7 @@ ghost use Rattle.code_publish.specs.Finishing.{IsCodeOf};
 
 use bit_words::List;
 use code_draft::Draft;
-use flat_code::{Code, Instr, Op, Span, Location};
+use flat_code::{Code, Instr, Location, Op, Span};
 use std::alloc::AllocError;
 
 /// The code of a draft, which puts out what stands at these locations, as the outputs at these positions of the watch list, and owns the

@@ -7,7 +7,7 @@ ghost use Rattle.code_draft.specs.Segments.{Segment};
 ghost use Rattle.code_publish.specs.Publishing.{Publishes};
 
 use code_draft::{Draft, add_instr, instr_of};
-use flat_code::{Instr, Op, Location};
+use flat_code::{Instr, Location, Op};
 use std::alloc::AllocError;
 
 /// Publishes the words of the value at a location from this shared word on, the low one first.

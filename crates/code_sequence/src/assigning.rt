@@ -52,6 +52,8 @@ fn assign(
         unreachable!();
     };
     let location = emit(alloc, draft, sources, driver)?;
-    sources.leaves.set(leaf as usize, Some(Source::Frame(location)));
+    sources
+        .leaves
+        .set(leaf as usize, Some(Source::Frame(location)));
     Ok(())
 }

@@ -10,6 +10,6 @@ pub mod loads;
 pub mod running;
 
 pub use code::{Code, Span};
-pub use instr::{Form, Instr, Op, Port, Region, Location, Wide};
+pub use instr::{Form, Instr, Location, Op, Port, Region, Wide};
 pub use loads::Loads;
 pub use running::{Effects, step};

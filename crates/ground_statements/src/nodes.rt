@@ -6,9 +6,9 @@ ghost use Rattle.ground_statements.specs.Nodes.{node_leaf, node_leaves};
 
 use bit_words::List;
 use fir_types::{Shape, TypeLeaf};
-use ground_exprs::{Component, Source};
 use ground_exprs::part_sources::leaves_of;
 use ground_exprs::reading::sum_of;
+use ground_exprs::{Component, Source};
 use ground_net::GroundStmt;
 use std::alloc::{AllocError, Global};
 

@@ -8,11 +8,11 @@ ghost use Rattle.ground_statements.specs.Targets.{AreFits, FitsLeaf, IsSide, set
 use crate::targets::{push_each, targets_of};
 use bit_words::{Kind, List, Number};
 use fir_types::{FirType, TypeLeaf};
-use ground_exprs::{Part, Pick, Source};
 use ground_exprs::constants::constant;
 use ground_exprs::fitting::fit_source;
 use ground_exprs::part_sources::{kind_of, leaves_of, width_of};
 use ground_exprs::reading::sum_of;
+use ground_exprs::{Part, Pick, Source};
 use ground_net::{Ground, GroundStmt};
 use std::alloc::{AllocError, Global};
 

@@ -10,14 +10,14 @@ use crate::declarations::Sort;
 use crate::pieces::Piece;
 use bit_words::{List, Number};
 use fir_types::TypeLeaf;
-use ground_exprs::{Component, Source, lower_expr};
 use ground_exprs::constants::constant;
 use ground_exprs::fitting::fit_source;
 use ground_exprs::operation::lone;
 use ground_exprs::part_sources::{kind_of, leaves_of, width_of};
 use ground_exprs::reading::sum_of;
-use ground_net::{Ground, copied};
+use ground_exprs::{Component, Source, lower_expr};
 use ground_net::net::{NetRegister, NetReset};
+use ground_net::{Ground, copied};
 use indexmap::IndexMap;
 use std::alloc::{AllocError, Global};
 

@@ -20,8 +20,8 @@ use bit_words::Value;
 use drive_check::leaf_set::{LeafKey, Step, key_of};
 use fir_tree::Expr;
 use fir_types::{Shape, TypeLeaf};
-use plain_values::{View, evaluate, left_in_leaf, value_beside};
 use plain_values::sights::value_on;
+use plain_values::{View, evaluate, left_in_leaf, value_beside};
 use std::alloc::{AllocError, Global};
 
 /// What a leaf of a component has after a sweep: a Clock 0, and else what its sort asks for.

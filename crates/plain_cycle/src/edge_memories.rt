@@ -16,8 +16,8 @@ use crate::run::{Moment, Part, Run};
 use crate::sweep_memories::elements_on;
 use bit_words::{List, Value};
 use fir_types::{MemLine, PathStep, TypeLeaf, Under};
-use plain_values::{SeenMemory, View, read_by, stored_leaves, write};
 use plain_values::tree_drives::leaves_of_elements_are_stored;
+use plain_values::{SeenMemory, View, read_by, stored_leaves, write};
 use std::alloc::{AllocError, Global};
 
 /// What is held of a memory after a cycle.

@@ -14,8 +14,8 @@ use crate::run::{Part, Run};
 use bit_words::{Kind, List, Value};
 use drive_check::leaf_set::LeafKey;
 use fir_types::{PathStep, TypeLeaf};
-use plain_values::{Site, zero};
 use plain_values::sights::stands_at;
+use plain_values::{Site, zero};
 
 /// 0 of no bits.
 pub fn nothing() -> Value

@@ -14,8 +14,8 @@ use crate::run::{Moment, Part, Run};
 use bit_words::{List, Value};
 use drive_check::leaf_set::key_of;
 use fir_types::TypeLeaf;
-use plain_values::{Register, Reset, View, next_of_register};
 use plain_values::sights::value_on;
+use plain_values::{Register, Reset, View, next_of_register};
 use std::alloc::{AllocError, Global};
 
 /// What a register holds next in each of its leaves; nothing of another component.

@@ -19,9 +19,9 @@ use crate::finding::{captured, nothing};
 use crate::run::{Moment, Part, Run};
 use bit_words::{List, Value};
 use fir_types::{MemLine, Memory, PathStep, TypeLeaf};
-use plain_values::{SeenMemory, Site, View, read_by, stored_leaves};
 use plain_values::sights::stands_at;
 use plain_values::tree_drives::nothing_held_is_zero;
+use plain_values::{SeenMemory, Site, View, read_by, stored_leaves};
 use std::alloc::{AllocError, Global};
 
 /// What a leaf of a memory that is read shows: the contents at the beginning of the cycle for a latency of 0, and else what was

@@ -13,8 +13,8 @@ use drive_check::leaf_set::{LeafKey, key_of};
 use drive_check::listing::list_leaves;
 use fir_tree::Fitted;
 use fir_types::{FirType, Shape, TypeLeaf, copy};
-use plain_cycle::{Declaration, Sort};
 use plain_cycle::places::parts_of;
+use plain_cycle::{Declaration, Sort};
 use std::alloc::{AllocError, Global};
 
 /// A leaf of a port of main: where it is found, and the leaf of the port's type, which has its kind and width.

@@ -139,12 +139,9 @@ pub fn arity(prim: PrimOp) -> (u32, u32)
         | PrimOp::Or
         | PrimOp::Xor
         | PrimOp::Cat => (2, 0),
-        PrimOp::Pad
-        | PrimOp::Shl
-        | PrimOp::Shr
-        | PrimOp::ShrFour
-        | PrimOp::Head
-        | PrimOp::Tail => (1, 1),
+        PrimOp::Pad | PrimOp::Shl | PrimOp::Shr | PrimOp::ShrFour | PrimOp::Head | PrimOp::Tail => (
+            1, 1,
+        ),
         PrimOp::Bits => (1, 2),
         PrimOp::AsUInt
         | PrimOp::AsSInt

@@ -10,8 +10,8 @@ use crate::bitwise::{and, and_over, not, or, or_over, xor, xor_over};
 use crate::operation::PrimOp;
 use crate::orders::{at_least, at_most, differ, equal, greater, less};
 use crate::places::{
-    as_async_reset, as_signed, as_unsigned, concatenate, convert, extract, head, pad, shift_left, shift_left_by,
-    shift_right, shift_right_by, shift_right_four, tail,
+    as_async_reset, as_signed, as_unsigned, concatenate, convert, extract, head, pad, shift_left,
+    shift_left_by, shift_right, shift_right_by, shift_right_four, tail,
 };
 use crate::quotients::{divide, remain};
 use crate::sums::{add, multiply, negate, subtract};

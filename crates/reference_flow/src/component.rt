@@ -11,8 +11,8 @@ ghost use Rattle.fir_tree.specs.Parts.{flow_through, turned, part_of, source_of,
 ghost use Rattle.reference_flow.specs.Flows.{suffix_step, named};
 ghost use Rattle.reference_flow.specs.Reached.{Means, lent, port_part};
 
-use fir_tree::{Flow, Suffix};
 use fir_tree::steps::through;
+use fir_tree::{Flow, Suffix};
 use fir_types::{FirType, MemLine, Memory, Port, PortMode, Shape, field_of};
 
 // The numbers that the names of a port's fields have in every circuit. Those of `addr`, `en` and `clk` are the first.

@@ -11,8 +11,8 @@ ghost use Rattle.reference_flow.specs.Declarations.{arm_declared};
 ghost use Rattle.reference_flow.specs.Reached.{Means, MayMean};
 
 use crate::component::{PartRef, Reached, port_named};
-use fir_tree::{Arm, Flow, Module, Stmt};
 use fir_tree::steps::port_flow;
+use fir_tree::{Arm, Flow, Module, Stmt};
 use fir_types::{Name, Port};
 
 /// The component of a name in a module: the first declaration of it, and what has no parts where there is none.

@@ -38,7 +38,12 @@ pub fn fit_text(alloc: Global, bytes: &[u8]) -> Result<Fitted, CircuitFault>
 }
 
 /// The circuit with what its names mean and its types. No `Reset` of it becomes an `AsyncReset`, so the later stages read the same circuit.
-fn gather(alloc: Global, circuit: Circuit, scope: Scope, types: Types) -> Result<Checked, AllocError>
+fn gather(
+    alloc: Global,
+    circuit: Circuit,
+    scope: Scope,
+    types: Types,
+) -> Result<Checked, AllocError>
     ensures { IfOk result (λ checked. (checked.circuit ≡ circuit) × (checked.resolved ≡ circuit) × (checked.scope ≡ scope) × (checked.types ≡ types)) }
 {
     let circuit = Shared::new(alloc, circuit)?;

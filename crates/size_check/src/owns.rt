@@ -15,7 +15,9 @@ use crate::sums::Sums;
 use crate::weights::{more, nodes, weigh};
 use bit_words::Shared;
 use fir_tree::{Arm, Module, Names, Stmt, Ways, names_by, names_of};
-use fir_types::{FirType, MemLine, Memory, Name, Port, PortMode, Shape, copy, depth_of, element_of, leaf_count};
+use fir_types::{
+    FirType, MemLine, Memory, Name, Port, PortMode, Shape, copy, depth_of, element_of, leaf_count,
+};
 use module_table::Modules;
 use place_text::Place;
 use std::alloc::{AllocError, Global};

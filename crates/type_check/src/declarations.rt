@@ -16,8 +16,8 @@ use crate::memory::push_memory;
 use crate::texts::{push_stored, push_twice, push_unless};
 use crate::walk::Walk;
 use crate::whole::{is_passive_at, reference_at};
-use fir_tree::{Expr, Flow};
 use fir_tree::steps::port_flow;
+use fir_tree::{Expr, Flow};
 use fir_types::{FirType, Memory, Name, Port};
 use std::alloc::{AllocError, Global};
 

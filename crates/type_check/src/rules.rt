@@ -14,9 +14,9 @@ use crate::fault::TypeFault;
 use crate::texts::{fits_literal, push_unless};
 use crate::whole::{are_equivalent_at, has_signal_at, is_passive_at};
 use bit_words::{Kind as Sign, Number};
-use fir_tree::{Expr, Part};
 use fir_tree::kinds::{ground, is_async, is_unsigned, sign_of};
 use fir_tree::steps::source;
+use fir_tree::{Expr, Part};
 use fir_types::{FirType, Shape, copy};
 use module_table::Components;
 use place_text::Place;
@@ -72,7 +72,13 @@ fn row(op: Prim, operands: &[Operand<'_>]) -> Option<Sign>
     match operands {
         [operand] => row_of_kinds(op, &[kind_for(op, &operand.part.typ)?]),
         [first, second] => {
-            row_of_kinds(op, &[kind_for(op, &first.part.typ)?, kind_for(op, &second.part.typ)?])
+            row_of_kinds(
+                op,
+                &[
+                    kind_for(op, &first.part.typ)?,
+                    kind_for(op, &second.part.typ)?,
+                ],
+            )
         }
         _ => None,
     }

@@ -9,9 +9,9 @@ ghost use Rattle.type_check.specs.Judging.{part_at, part_reached};
 
 use crate::fault::TypeFault;
 use crate::reached::Reached;
-use fir_tree::{Flow, Part};
 use fir_tree::kinds::is_unsigned;
 use fir_tree::steps::through;
+use fir_tree::{Flow, Part};
 use fir_types::{Name, Shape};
 use place_text::Place;
 use std::alloc::AllocError;

@@ -15,8 +15,8 @@ use crate::given::{Given, Instances};
 use crate::instances::fits_of_instances;
 use crate::walk::{Walk, push_component, walk_statements};
 use bit_words::List;
-use fir_tree::{Checked, Part};
 use fir_tree::steps::port_flow;
+use fir_tree::{Checked, Part};
 use fir_types::{FirType, Port, copy};
 use indexmap::IndexMap;
 use part_fits::choices::Choices;
@@ -25,10 +25,10 @@ use part_fits::widths::slot_widths;
 use std::alloc::{AllocError, Global};
 use type_filling::filled;
 use type_filling::made::Made;
-use width_rules::{Rules, Widths};
 use width_rules::gathering::{Ported, instances_of, with_ports};
 use width_rules::indexed::Indexed;
 use width_rules::slot::Slot;
+use width_rules::{Rules, Widths};
 
 /// The fitted types of all modules, with the faults of those that the main module reaches.
 pub fn tell(

@@ -12,9 +12,9 @@ use fir_tree::Flow;
 use fir_tree::steps::through;
 use fir_types::{FirType, flips_of};
 use std::alloc::{AllocError, Global};
-use width_rules::{Formula, Rule};
 use width_rules::measuring::{Formulas, formula_of};
 use width_rules::slot::Slot;
+use width_rules::{Formula, Rule};
 
 /// Adds the rules of a connect, whose left side has this type.
 pub fn push_connected(

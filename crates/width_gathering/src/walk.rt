@@ -14,7 +14,9 @@ use indexmap::IndexMap;
 use place_text::Place;
 use std::alloc::{AllocError, Global};
 use width_rules::indexed::Indexed;
-use width_rules::measuring::{Measure, Scope, formulas_of, in_text, look_up, may_have_target, measure_expr, no_component};
+use width_rules::measuring::{
+    Measure, Scope, formulas_of, in_text, look_up, may_have_target, measure_expr, no_component,
+};
 use width_rules::sizes::variables;
 use width_rules::walk::{duplex, memory_component, note, slots_of_type};
 

@@ -198,9 +198,12 @@ kept_fills [] ws [] h k = tt
 kept_fills [] ws (x ∷ xs) h k = absurd h
 kept_fills (o ∷ os) [] xs h k = absurd h
 kept_fills (o ∷ os) (w ∷ ws) [] h k = absurd h
-kept_fills (o ∷ os) (w ∷ ws) (x ∷ xs) h k = (⊎_elim
-  (λ is. subst (KeepsWidth o) (sym is) k.0)
-  (λ is. subst (λ a. KeepsWidth a x) (sym is.0) (λ small. is.1)) h.0, kept_fills os ws xs h.1 k.1)
+kept_fills (o ∷ os) (w ∷ ws) (x ∷ xs) h k = (
+  ⊎_elim
+      (λ is. subst (KeepsWidth o) (sym is) k.0)
+      (λ is. subst (λ a. KeepsWidth a x) (sym is.0) (λ small. is.1)) h.0,
+  kept_fills os ws xs h.1 k.1,
+)
 
 -- All are numbers where what is found are numbers.
 pub numbers_fill : (os : List (Option ℕ)) (ws : List Width) (xs : List (Option ℕ)) → length ws ≡ length os → AllFill os ws xs → list_all is_number (map number ws) ≡ true → list_all is_number xs ≡ true

@@ -10,8 +10,8 @@ ghost use Rattle.width_rules.specs.Pieces.{slots_in};
 
 use crate::indexed::Indexed;
 use crate::pieces::{Slots, slots_behind, without_first};
-use fir_tree::{Flow, Suffix};
 use fir_tree::steps::through;
+use fir_tree::{Flow, Suffix};
 use fir_types::Shape;
 use type_index::Known;
 

@@ -1,6 +1,6 @@
 //! The listing of a code.
 
-use flat_code::{Code, Form, Instr, Op, Port, Location, Wide};
+use flat_code::{Code, Form, Instr, Location, Op, Port, Wide};
 
 /// Writes the numbers of a code's slots, shared words, ports, wide values and instructions, and then each of these three.
 pub fn list(rt: &HostRuntime, code: &Code) -> Option<()> {

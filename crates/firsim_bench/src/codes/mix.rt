@@ -7,7 +7,7 @@ ghost use Rattle.code_place.specs.Live.{IsSingle};
 
 use bit_words::{Kind, List};
 use code_order::writes_once;
-use flat_code::{Code, Form, Instr, Op, Port, Region, Location, Wide};
+use flat_code::{Code, Form, Instr, Location, Op, Port, Region, Wide};
 use prim_ops::Prim;
 use std::alloc::{AllocError, Global};
 
