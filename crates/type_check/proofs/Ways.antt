@@ -1,11 +1,9 @@
 -- The steps of references, and the rows of operations.
-use Rattle.std.proofs.Common.{◌≡◌, ◌≤◌, false, List, [], ◌∷◌, map, length, refl, sym, ap, ◌∙◌, arith}
+use Rattle.std.proofs.Common.{◌≡◌, ◌≤◌, List, [], ◌∷◌, map, length, refl, sym, ap, ◌∙◌, arith}
 use Rattle.std.specs.Prelude.{Option, Some, None, find, ◌==◌}
 use Rattle.std.proofs.lemmas.Grind.{common_steps}
 use Rattle.bit_words.specs.declared.value.Kind.{Kind as Sign}
 use Rattle.prim_ops.specs.declared.operation.PrimOp.{PrimOp}
-use Rattle.prim_ops.specs.declared.operation.PrimOp.TheVariants.{AsUInt, AsSInt, AsAsyncReset}
-use Rattle.place_text.specs.declared.place.Place.{Place}
 use Rattle.fir_types.specs.declared.fir_type.FirType.{FirType}
 use Rattle.fir_types.specs.declared.fir_type.Shape.{Shape}
 use Rattle.fir_types.specs.declared.fir_type.Shape.TheOpen.{Shape-F}
@@ -15,8 +13,7 @@ use Rattle.fir_types.specs.declared.name.Name.{Name}
 use Rattle.fir_tree.specs.declared.part.Part.{Part}
 use Rattle.fir_tree.specs.Parts.{part_of, flow_through}
 use Rattle.type_check.specs.declared.rules.Operand.{Operand as Held}
-use Rattle.fir_tree.specs.Kinds.{ground}
-use Rattle.type_check.specs.Expressions.{field_step, field_found, stands, row_of, with_sign, signs_of, sign_for, takes_async, result_type}
+use Rattle.type_check.specs.Expressions.{field_step, field_found, stands, row_of, with_sign, signs_of, sign_for}
 use Rattle.type_check.specs.Judging.{operand_of}
 use Rattle.type_index.specs.Knowing.{fields_in}
 
@@ -52,14 +49,3 @@ no_row op [] h = grind (arith, common_steps)
 no_row op (a ∷ []) h = grind (arith, common_steps)
 no_row op (a ∷ b ∷ []) h = grind (arith, common_steps)
 no_row op (a ∷ b ∷ c ∷ more) h = sym (more_signs op (sign_for op a.part.typ) (sign_for op b.part.typ) (sign_for op c.part.typ) (signs_of op (map operand_of more)))
-
--- the operations that take no AsyncReset, and those that give none
-pub takes_none : (op : PrimOp) → (op ≡ AsUInt → ⊥) → (op ≡ AsSInt → ⊥) → (op ≡ AsAsyncReset → ⊥) → false ≡ takes_async op
-takes_none AsUInt a b c = absurd (a refl)
-takes_none AsSInt a b c = absurd (b refl)
-takes_none AsAsyncReset a b c = absurd (c refl)
-takes_none _ a b c = refl
-
-pub gives_ground : (op : PrimOp) (place : Place) (sign : Sign) → (op ≡ AsAsyncReset → ⊥) → ground place sign None ≡ result_type op place sign
-gives_ground AsAsyncReset place sign none = absurd (none refl)
-gives_ground _ place sign none = refl

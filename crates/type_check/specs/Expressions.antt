@@ -188,8 +188,8 @@ operation op place operands typed =
     let row = row_of op (signs_of op typed) in
     node place (unless (is_some row) (OperandKind place)) (result_type op place (sign_or_unsigned row)) operands
 
--- A choice takes a UInt and two passive and equivalent types without a `Clock` or an `AsyncReset`. It has the type of the second operand; its widths
--- are not told here.
+-- A choice takes a UInt and two passive and equivalent types without a `Clock` or an `AsyncReset`. It has the type of the second
+-- operand; its widths are not told here.
 abbrev pub choice_faults : Place → Operand → Operand → Operand → List TypeFault
 choice_faults place condition first second =
     unless (is_unsigned condition.typ) (ConditionKind condition.place)
