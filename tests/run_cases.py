@@ -21,17 +21,22 @@ import minute
 CYCLES = 20
 SLOW = ("aes_sbox", "bf_machine", "operations", "riscish", "sha256_round")
 LONG = 4_000
+# Seconds after which a run counts as failed: 64 workers take turns on a machine that is busy.
+PATIENCE = 300
 
 
 def run(program, words, text, folder=None):
-    return subprocess.run([program, *words], input=text, capture_output=True, timeout=60, cwd=folder)
+    return subprocess.run([program, *words], input=text, capture_output=True, timeout=PATIENCE, cwd=folder)
 
 
 def fault_of(program, case):
     with tempfile.TemporaryDirectory() as folder:
         for name, text in case.get("held", {}).items():
             (Path(folder) / name).write_bytes(text.encode("latin-1"))
-        done = run(program, case["words"], case["stdin"].encode("latin-1"), folder)
+        try:
+            done = run(program, case["words"], case["stdin"].encode("latin-1"), folder)
+        except subprocess.TimeoutExpired:
+            return f"no answer in {PATIENCE} seconds"
     if done.stderr:
         return f"standard error: {done.stderr[:200]!r}"
     if done.returncode != case["status"]:
