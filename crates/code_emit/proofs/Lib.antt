@@ -1,4 +1,4 @@
-pub mod Laws
+pub mod WordLaws
 pub mod Shifting
 pub mod There
 pub mod Making

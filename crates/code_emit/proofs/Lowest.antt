@@ -17,7 +17,7 @@ use Rattle.code_draft.specs.Drafts.{Stands}
 use Rattle.code_draft.proofs.Cuts.{masked}
 use Rattle.code_emit.specs.Working.{working}
 use Rattle.code_emit.specs.Ways.{Cut, Given, Operates, IsLowest, KeepsLowest}
-use Rattle.code_emit.proofs.Laws.{plain}
+use Rattle.code_emit.proofs.WordLaws.{plain}
 use Rattle.code_emit.proofs.Ones.{own_bits}
 use Rattle.code_emit.proofs.There.{bits_at, width_at, first_there, second_there, two_computes}
 

@@ -22,7 +22,7 @@ use Rattle.code_draft.proofs.Cuts.{masked}
 use Rattle.code_emit.specs.Working.{working}
 use Rattle.code_emit.specs.Ways.{Cut, Given, Rests, Operates, Follow, Refits, Shifts, row_value, fit_of_one}
 use Rattle.code_emit.proofs.Shifting.{shifted_signed}
-use Rattle.code_emit.proofs.Laws.{plain, plain_word, not_law, signed_word, raised, by_test, turned_test}
+use Rattle.code_emit.proofs.WordLaws.{plain, plain_word, not_law, signed_word, raised, by_test, turned_test}
 use Rattle.code_emit.proofs.There.{bits_at, width_at, few_at, result_width, written_low, first_there, one_computes}
 
 pub half_double : (w : ℕ) → 0 < w → 2 * 2 ^ (w - 1) ≡ 2 ^ w

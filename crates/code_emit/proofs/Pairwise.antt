@@ -24,7 +24,7 @@ use Rattle.code_draft.proofs.Cuts.{masked}
 use Rattle.code_emit.specs.declared.pairs.Pair.{Pair}
 use Rattle.code_emit.specs.Working.{working, from_slots}
 use Rattle.code_emit.specs.Ways.{Cut, Given, GivesWord, IsPair, IsBoth, PairsRow, turned_if, row_value}
-use Rattle.code_emit.proofs.Laws.{HasWord, plain, signed_word, add_law, sub_law, and_law, or_law, xor_law, mul_law}
+use Rattle.code_emit.proofs.WordLaws.{HasWord, plain, signed_word, add_law, sub_law, and_law, or_law, xor_law, mul_law}
 use Rattle.code_emit.proofs.Signs.{equal_signed, unequal_signed, below_signed, not_below_signed, dshl_signed, dshr_signed}
 use Rattle.code_emit.proofs.There.{ReadsTwo, bits_at, width_at, few_at, result_width, written_low, first_there, second_there, one_computes}
 

@@ -13,7 +13,7 @@ use Rattle.prim_ops.proofs.Residues.{word_low}
 use Rattle.cycle_values.specs.Values.{operation}
 use Rattle.flat_code.specs.Meaning.{with_sign}
 use Rattle.code_emit.specs.Ways.{turned_if}
-use Rattle.code_emit.proofs.Laws.{by_test, turned_test, plain_word, raised}
+use Rattle.code_emit.proofs.WordLaws.{by_test, turned_test, plain_word, raised}
 
 -- An integer with a sign of at most 64 bits is what its word means.
 

@@ -21,7 +21,7 @@ use Rattle.code_draft.proofs.Growing.{two_known}
 use Rattle.code_draft.proofs.Cuts.{masked}
 use Rattle.code_emit.specs.Working.{working}
 use Rattle.code_emit.specs.Ways.{Cut, Operates, Follow, IsPlain, row_value}
-use Rattle.code_emit.proofs.Laws.{plain_word, add_law, sub_law, and_law, or_law, xor_law, less_law, greater_law, equal_law, unequal_law, at_most_law, at_least_law, cat_law, mul_law, div_law, rem_law, raised, dshr_law}
+use Rattle.code_emit.proofs.WordLaws.{plain_word, add_law, sub_law, and_law, or_law, xor_law, less_law, greater_law, equal_law, unequal_law, at_most_law, at_least_law, cat_law, mul_law, div_law, rem_law, raised, dshr_law}
 use Rattle.code_emit.proofs.There.{ReadsTwo, bits_at, width_at, few_at, result_width, written_low, first_there, second_there, one_computes, two_computes}
 
 module _ (x y : Location) (a : IsPlain x) (b : IsPlain y) (params : List ℕ) where

@@ -36,7 +36,7 @@ use Rattle.ground_statements.proofs.Lists.{plus_none, plus_more, declares-left, 
 use Rattle.ground_statements.proofs.Lives.{lives_none}
 use Rattle.ground_statements.proofs.Meanings.{means_none, means_seq, MeantArm, IsMeantArm, AreMeantArms, when_meant, means_when}
 use Rattle.ground_statements.proofs.Texts.{labels_append, counts_append, text_seq, text_arm, text_arms, text_when}
-use Rattle.ground_statements.proofs.Nodes.{node_none, node_seq, node_arms, node_when}
+use Rattle.ground_statements.proofs.NodeStatements.{node_none, node_seq, node_arms, node_when}
 use Rattle.ground_statements.proofs.Views.{knows_view}
 
 -- One statement more

@@ -12,7 +12,7 @@ pub mod Meanings
 pub mod Labels
 pub mod Views
 pub mod Texts
-pub mod Nodes
+pub mod NodeStatements
 pub mod Blocks
 pub mod PlainStatements
 pub mod Wholes

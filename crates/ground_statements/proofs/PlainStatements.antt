@@ -46,7 +46,7 @@ use Rattle.ground_statements.proofs.Layers as layer
 use Rattle.ground_statements.proofs.Lists.{plus_none, Place, is_before, is_inside, is_behind, placed, among_before, among_inside, among_behind, leaves_more, leaf_there, other_leaf}
 use Rattle.ground_statements.proofs.Lives.{lives_none}
 use Rattle.ground_statements.proofs.Meanings.{told, means_none}
-use Rattle.ground_statements.proofs.Nodes.{node_none, node_alone, node_set}
+use Rattle.ground_statements.proofs.NodeStatements.{node_none, node_alone, node_set}
 use Rattle.ground_statements.proofs.Views.{one_to_one, number_at, knows_view, known_types}
 
 or_false : (b : Bool) → b ≡ (b || false)

@@ -33,7 +33,7 @@ use Rattle.ground_statements.specs.Declares.{body_labels}
 use Rattle.ground_statements.specs.Bodies.{IsMeant, IsViewOf, HasTable, Stands, BodyDoes, IsBody, IsWholeBody, numbering, node_meant, set_to}
 use Rattle.ground_statements.proofs.Labels.{label_of, declared_labels, whole_declares}
 use Rattle.ground_statements.proofs.Lists.{LeafPlace, leaf_place, map_at, among_inside}
-use Rattle.ground_statements.proofs.Nodes.{node_set}
+use Rattle.ground_statements.proofs.NodeStatements.{node_set}
 use Rattle.ground_statements.proofs.Views.{got}
 
 as_reads : (m : TypedModule) (table : Table) (leaves : List Leaf) (numbers : List ℕ) → SameLeaves (numbering m table) leaves numbers → SameReads m leaves numbers

@@ -31,7 +31,7 @@ use Rattle.lower_aggregates.specs.Views.{KnowsPieces, AreNamedOnce}
 use Rattle.lower_aggregates.proofs.Listing.{headings_are}
 use Rattle.lower_aggregates.proofs.Zipping.{parts_are}
 use Rattle.lower_aggregates.proofs.Viewing.{named_once, component_known, known_component}
-use Rattle.lower_aggregates.proofs.Modules.{ports_counted, flags_listed, flag_at, table_listed, table_counted, table_leaf, table_shape}
+use Rattle.lower_aggregates.proofs.ModuleRows.{ports_counted, flags_listed, flag_at, table_listed, table_counted, table_leaf, table_shape}
 use Rattle.ground_statements.specs.Bodies.{IsViewOf, HasTable, IsBody, IsWholeBody}
 use Rattle.ground_statements.proofs.Views.{narrow_view, typed_view, knows_view, number_at}
 use Rattle.ground_statements.proofs.Wholes.{whole_body}

@@ -1,7 +1,7 @@
 pub mod Listing
 pub mod Knowing
 pub mod Zipping
-pub mod Modules
+pub mod ModuleRows
 pub mod Viewing
 pub mod Porting
 pub mod Registering

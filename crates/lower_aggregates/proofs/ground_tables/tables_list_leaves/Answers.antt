@@ -1,4 +1,4 @@
-use Rattle.lower_aggregates.proofs.Modules.{ports_counted, flags_listed, flag_at, table_listed, table_counted, table_leaf, table_shape}
+use Rattle.lower_aggregates.proofs.ModuleRows.{ports_counted, flags_listed, flag_at, table_listed, table_counted, table_leaf, table_shape}
 use Rattle.lower_aggregates.proofs.ground_tables.tables_list_leaves.Goals as goal
 
 pub returns-clause-counted : goal.returns-clause-counted
