@@ -226,7 +226,7 @@ module _ (settable : List Bool) (source : Ground) (x : ℕ) where
   head_effect : is_allowed (slice_get settable x) ≡ true → (instant : Instant) (t : Target) (last : Option Value)
       → in_turn (map (effect instant x) (if is_allowed (slice_get settable t.leaf) then Connect t.leaf t.conditions source ∷ [] else [])) last
       ≡ if (t.leaf == x) && all_hold instant t.conditions then Some (value source instant) else last
-  head_effect an instant t last = by (is_allowed (slice_get settable t.leaf)) refl
+  head_effect a instant t last = by (is_allowed (slice_get settable t.leaf)) refl
     where
       by : (b : Bool) → is_allowed (slice_get settable t.leaf) ≡ b → in_turn (map (effect instant x) (if b then Connect t.leaf t.conditions source ∷ [] else [])) last
           ≡ if (t.leaf == x) && all_hold instant t.conditions then Some (value source instant) else last
@@ -235,11 +235,11 @@ module _ (settable : List Bool) (source : Ground) (x : ℕ) where
 
   pub each_effect : is_allowed (slice_get settable x) ≡ true → (instant : Instant) (ts : List Target) (last : Option Value)
       → in_turn (map (effect instant x) (set_each settable source ts)) last ≡ if hits instant x ts then Some (value source instant) else last
-  each_effect an instant [] last = refl
-  each_effect an instant (t ∷ ts) last =
+  each_effect a instant [] last = refl
+  each_effect a instant (t ∷ ts) last =
       effects-append instant x (if is_allowed (slice_get settable t.leaf) then Connect t.leaf t.conditions source ∷ [] else []) (set_each settable source ts) last
-      ∙ (each_effect an instant ts (in_turn (map (effect instant x) (if is_allowed (slice_get settable t.leaf) then Connect t.leaf t.conditions source ∷ [] else [])) last)
-      ∙ (ap (λ l. if hits instant x ts then Some (value source instant) else l) (head_effect an instant t last)
+      ∙ (each_effect a instant ts (in_turn (map (effect instant x) (if is_allowed (slice_get settable t.leaf) then Connect t.leaf t.conditions source ∷ [] else [])) last)
+      ∙ (ap (λ l. if hits instant x ts then Some (value source instant) else l) (head_effect a instant t last)
       ∙ either ((t.leaf == x) && all_hold instant t.conditions) (hits instant x ts) (Some (value source instant)) last))
 
   -- It is left alone where none of them is it, or it may not be set.

@@ -88,13 +88,13 @@ either_same true f g last h i = h
 either_same false f g last h i = i
 
 first_alone : (ts : List MeantArm) → AllAlone ts → (instant : Instant) (last : Option ℤ) → tree_drives.first_holding (effects_of instant ts) (λ l. l) last ≡ last
-first_alone [] an instant last = refl
-first_alone (t ∷ ts) an instant last =
+first_alone [] a instant last = refl
+first_alone (t ∷ ts) a instant last =
     either_same (t.holds instant) (t.body.does instant) (tree_drives.first_holding (effects_of instant ts) (λ l. l)) last (ap (λ (w : Meant). w.does instant last) a.0) (first_alone ts a.1 instant last)
 
 turn_alone : (ts : List MeantArm) → AllAlone ts → (instant : Instant) (last : Option ℤ) → tree_drives.in_turn (map (λ arm. arm.1) (effects_of instant ts)) last ≡ last
-turn_alone [] an instant last = refl
-turn_alone (t ∷ ts) an instant last = ap (tree_drives.in_turn (map (λ arm. arm.1) (effects_of instant ts))) (ap (λ (w : Meant). w.does instant last) a.0) ∙ turn_alone ts a.1 instant last
+turn_alone [] a instant last = refl
+turn_alone (t ∷ ts) a instant last = ap (tree_drives.in_turn (map (λ arm. arm.1) (effects_of instant ts))) (ap (λ (w : Meant). w.does instant last) a.0) ∙ turn_alone ts a.1 instant last
 
 through_alone : (ts : List MeantArm) → AllAlone ts → (c : List Leaf) → tree_loops.through_arms c (drivings_of ts) [] ≡ []
 through_alone [] a c = refl
