@@ -81,7 +81,11 @@ def drawings(program):
         ("lock", "step", ["--step", "2"]),
         ("gcd", "words", ["--words", "*Valid"]),
     ):
-        yield f"{' '.join(words)} draws of {name} what was drawn by hand", lambda name=name, drawn=drawn, words=words: answers(wave(trace(name), *words), drawing(drawn))
+
+        def same_drawing(name=name, drawn=drawn, words=words):
+            answers(wave(trace(name), *words), drawing(drawn))
+
+        yield f"{' '.join(words)} draws of {name} what was drawn by hand", same_drawing
 
     def piped():
         done = subprocess.run([program, "run", EXAMPLES / "gcd.fir", EXAMPLES / "gcd.stim"], stdin=subprocess.DEVNULL, capture_output=True)
@@ -91,7 +95,7 @@ def drawings(program):
 
     def shown():
         lines = drawing("gcd").decode().splitlines()
-        has((TOP / "README.md").read_text(), "".join(f"    {line}\n" for line in lines))
+        same("".join(f"    {line}\n" for line in lines) in (TOP / "README.md").read_text(), True)
 
     yield "README shows the drawing of the GCD", shown
 
