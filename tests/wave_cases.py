@@ -145,8 +145,8 @@ def widths(program):
 
     def neither():
         env = {"PATH": os.environ["PATH"]}
-        done = subprocess.run([TOP / "wave"], input=trace("gcd"), capture_output=True, env=env)
-        same(done.stdout, drawing("gcd"))
+        done = subprocess.run([TOP / "wave"], input=trace("stopwatch"), capture_output=True, env=env)
+        same(done.stdout, drawing("stopwatch"))
 
     yield "without a terminal and COLUMNS the lines have 80 columns", neither
 
@@ -171,6 +171,10 @@ def dumps(program):
         same(lines, ["time (1 ns)  7       17      27      37", "a            ⟨0     ⟩⟨1             ⟩⟨2     ⟩"])
         lines = wave(front + "#7 b0 ! #17 b1 ! #37 b10 !", "--from", "17", "--to", "27").stdout.decode().splitlines()
         same(lines, ["time (1 ns)  17      27", "a            ⟨1             ⟩"])
+        lines = wave(front + "#0 b0 ! #1 b1 ! #90 b10 !").stdout.decode().splitlines()
+        same(lines[-1], "… times 22 to 90 don't fit: --from 22, or --step")
+        lines = wave(front + "#0 b0 ! #1 b1 ! #90 b10 !", "--step", "30").stdout.decode().splitlines()
+        same(lines, ["time (1 ns)  0       30      60      90", "a            ▒▒▒▒▒▒▒▒⟨1             ⟩⟨2     ⟩"])
 
     yield "a column of a dump is the greatest step of its changes", step
 
