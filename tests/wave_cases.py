@@ -178,6 +178,12 @@ def dumps(program):
 
     yield "a column of a dump is the greatest step of its changes", step
 
+    def vhdl():
+        lines = wave(front + "#0 bU- ! #1 bHL ! #2 bUW ! #3 B1H ! #4").stdout.decode().splitlines()
+        same(lines[1:], ["a            ⟨x     ⟩⟨2     ⟩⟨x     ⟩⟨3     ⟩"])
+
+    yield "the bits of VHDL are 0, 1 or unknown", vhdl
+
     for text, part in (
         ("#0 b1 ?\n", "line 2 changes what isn't declared"),
         ("#0 b1\n", "line 2 changes what isn't declared"),
