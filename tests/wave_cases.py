@@ -184,12 +184,29 @@ def dumps(program):
 
     yield "the bits of VHDL are 0, 1 or unknown", vhdl
 
+    def first_changes():
+        lines = wave(front + "b1 ! #4 b10 ! #8").stdout.decode().splitlines()
+        same(lines, ["time (1 ns)  0       4", "a            ⟨1     ⟩⟨2     ⟩"])
+        lines = wave(front.replace("2 !", "1 !") + "#3 #4 1! #5").stdout.decode().splitlines()
+        same(lines, ["time (1 ns)  3       4", "a            ╳╳╳╳╳╳╳╳▇▇▇▇▇▇▇▇"])
+
+    yield "a change before the first time comes at 0, and before its first change a leaf is unknown", first_changes
+
+    def large_times():
+        words = ["--from", "123456789012345", "--to", "123456789012345"]
+        lines = wave(front + "#0 b0 ! #123456789012345 b1 ! #123456789012346 b10 !", *words).stdout.decode().splitlines()
+        same(lines, ["time (1 ns)  123456789012345", "a            ⟨1     ⟩"])
+
+    yield "a large time has a label", large_times
+
     for text, part in (
         ("#0 b1 ?\n", "line 2 changes what isn't declared"),
         ("#0 b1\n", "line 2 changes what isn't declared"),
         ("#5\n#4\n", "line 3 goes back in time"),
         ("#0\n$comment a\n", "the dump ends in the middle"),
         ("#0\nb12 !\n", "line 3 isn't a line of a dump"),
+        ("$var wire 1 ? b $end\n#0\nb10 ?\n", "line 4 gives more than a bit to what has one"),
+        ("$var wire 1 ? b $end\n#0\nr1.5 ?\n", "line 4 gives more than a bit to what has one"),
         ("#0\n$var wire ! b $end\n", "line 3 declares no variable"),
     ):
 
