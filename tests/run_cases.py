@@ -15,6 +15,7 @@ import xml.etree.ElementTree as Tree
 from pathlib import Path
 
 import minute
+import wave_cases
 
 # The witness runs each circuit for so many cycles, but not those with so many leaves that it would take too long; and of the cases those
 # whose circuit has a shorter text than this.
@@ -212,6 +213,7 @@ def main():
     too_long = {"words": ["check"], "stdin": " " * 5_242_881, "status": 2, "stdout": "circuit TooLong 1:1\n"}
     faults.append(("a text over 5,242,880 bytes is too long", fault_of(program, too_long)))
     faults += minute.faults(program)
+    faults += wave_cases.faults(program)
     failed = [(name, fault) for name, fault in faults if fault]
     for name, fault in failed:
         print(f"FAILED {name}: {fault}")
