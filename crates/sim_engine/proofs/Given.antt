@@ -21,6 +21,8 @@ use Rattle.fir_tree.specs.Faults.{place_of as place_of_grammar}
 use Rattle.fir_tree.specs.declared.circuit.Circuit.{Circuit}
 use Rattle.fir_tree.specs.declared.scope.Checked.{Checked}
 use Rattle.fir_tree.specs.declared.scope.Fitted.{Fitted}
+use Rattle.fir_tree.specs.declared.scope.Scope.{Scope}
+use Rattle.fir_types.specs.declared.fir_type.FirType.{FirType}
 use Rattle.fir_tree.specs.declared.fault.ParseFault.{ParseFault}
 use Rattle.fir_tree.specs.declared.fault.ParseFault.TheVariants as parse
 use Rattle.fir_names.specs.Faults.{IsFault as IsNameFault, IsFirst as IsFirstOfNames, place_of as place_of_names}
@@ -111,6 +113,15 @@ given_size text circuit given t found = by_place text (fault.Size given) (place_
 
 pub sized_by : (text : List ℕ) (circuit : Circuit) → IsTyped text circuit → HasNone (IsSizeFault circuit) → IsSized text circuit
 sized_by text circuit typed none = record { typed = typed; none = none }
+
+-- what is said of the circuit is said of the one that the later stages read
+pub scope_kept : (checked : Checked) (circuit : Circuit) (scope : Scope) → checked.resolved ≡ circuit → checked.scope ≡ scope → IsScope circuit scope
+    → IsScope checked.resolved checked.scope
+scope_kept checked circuit scope e f h = subst (λ (x : Circuit). IsScope x checked.scope) (sym e) (subst (IsScope circuit) (sym f) h)
+
+pub types_kept : (checked : Checked) (circuit : Circuit) (types : List FirType) → checked.resolved ≡ circuit → checked.types ≡ types → types ≡ types_of circuit
+    → checked.types ≡ types_of checked.resolved
+types_kept checked circuit types e f h = f ∙ h ∙ ap types_of (sym e)
 
 pub given_widths : (text : List ℕ) (checked : Checked) (given : WidthFault) → IsSized text checked.resolved → IsScope checked.resolved checked.scope → checked.types ≡ types_of checked.resolved
     → (place_of_widths given ≡ None) ⊎ IsUnfit checked given → IsGiven text (unless_wanting (place_of_widths given) (fault.Width given))

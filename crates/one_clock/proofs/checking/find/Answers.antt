@@ -25,7 +25,7 @@ returns c =
       hung = c.faults_hang.ensures fitted c.requires;
     } in
     IfOk-weaker c.faults_of.result _ _
-    (λ faults e. judged fitted c.requires laws table c.in_ok-table.ensures c.in_ok-places.places.items c.in_ok-places.ensures keys
-    (subst (λ places. Finds table places (root_in table fitted.checked.resolved.main.id) keys) c.as_slice.ensures.value c.in_ok-rooted.ensures) faults.items
+    (λ faults e. judged fitted c.requires laws table c.in_ok-table.ensures c.in_ok-places.places.items (rw c.get.ensures at c.in_ok-places.ensures) keys
+    (subst (λ places. Finds table places (root_in table fitted.checked.resolved.main.id) keys) c.as_slice.ensures.value (rw c.get.ensures at c.in_ok-rooted.ensures)) faults.items
     (e ∙ ap (flat_map (place_faults table (is_within keys))) c.as_slice-2.ensures.value))
     c.faults_of.ensures

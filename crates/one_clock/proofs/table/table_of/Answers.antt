@@ -1,5 +1,6 @@
 use Rattle.std.proofs.Common.{rules, ◌≡◌, ◌∙◌, ap, sym, subst, false, drop, get_or, arith}
 use Rattle.std.proofs.lemmas.Grind.{common_steps}
+use Rattle.fir_tree.specs.declared.circuit.Circuit.{Circuit}
 use Rattle.fir_meaning.specs.Components.{modules_of}
 use Rattle.drive_check.specs.Sites.{names_of}
 use Rattle.drive_check.specs.Typing.{typed}
@@ -29,5 +30,5 @@ loop-number-preserved c =
 pub returns : goal.returns
 returns c = λ m its.
     tabled_all c.as_slice-modules.result.now c.args.fitted.now.checked.resolved.modules (modules_of c.args.fitted.now) c.as_slice-reached.result.now c.args.fitted.now.checked.scope.reached
-    c.loop-number.table.entries c.loop-number.number c.loop-number.rest.now c.loop-number.invariant (search rules) c.as_slice-modules.ensures c.as_slice-reached.ensures
+    c.loop-number.table.entries c.loop-number.number c.loop-number.rest.now c.loop-number.invariant (search rules) (c.as_slice-modules.ensures ∙ ap (λ (x : Circuit). x.modules) c.get.ensures) c.as_slice-reached.ensures
     its.k its.holder m its.here its.number its.reached

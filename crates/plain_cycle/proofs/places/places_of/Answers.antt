@@ -6,7 +6,7 @@ pub loop-at-init : goal.loop-at-init
 loop-at-init c =
     let fitted = c.args.fitted.now in (
       first_listed fitted c.requires (c.names_are_declared_once.ensures fitted.checked.resolved c.requires.names) (c.modules_are_named.ensures.meant fitted) fitted.checked.resolved.main.id
-          c.new-places.result.items c.push.new.self.items c.new.result refl c.new-places.ensures.items c.new.ensures.items c.in_ok-push.ensures.items,
+          c.new-places.result.items c.push.new.self.items c.new.result refl c.new-places.ensures.items c.new.ensures.items (rw c.get.ensures at c.in_ok-push.ensures.items),
       omega arith,
     )
 

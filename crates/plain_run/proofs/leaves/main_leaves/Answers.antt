@@ -24,10 +24,10 @@ pub returns-clause-inputs : goal.returns-clause-inputs
 returns-clause-inputs c =
     let design = design_of c.args.fitted.now in
     inputs_all (module_named design design.main) c.as_slice-declared.result.now c.in-Some.parts.declared.items c.in-Some.parts.types.now c.loop-at.at c.as_slice-declared.ensures.value
-    (ap (option_map bares_held) (sym c.in-Some.is) ∙ c.in_ok-parts.ensures) (omega arith) (map leaf_of_key c.loop-at.main.inputs) c.loop-at.invariant.inputs
+    (ap (option_map bares_held) (sym c.in-Some.is) ∙ (rw c.get.ensures at c.in_ok-parts.ensures)) (omega arith) (map leaf_of_key c.loop-at.main.inputs) c.loop-at.invariant.inputs
 
 pub returns-clause-ports : goal.returns-clause-ports
 returns-clause-ports c =
     let design = design_of c.args.fitted.now in
     leaves_all (module_named design design.main) c.as_slice-declared.result.now c.in-Some.parts.declared.items c.in-Some.parts.types.now c.loop-at.at c.as_slice-declared.ensures.value
-    (ap (option_map bares_held) (sym c.in-Some.is) ∙ c.in_ok-parts.ensures) (omega arith) (map leaf_held c.loop-at.main.ports) c.loop-at.invariant.ports
+    (ap (option_map bares_held) (sym c.in-Some.is) ∙ (rw c.get.ensures at c.in_ok-parts.ensures)) (omega arith) (map leaf_held c.loop-at.main.ports) c.loop-at.invariant.ports

@@ -1,5 +1,7 @@
+use Rattle.std.proofs.Common.{subst, sym, ◌∙◌}
 use Rattle.std.proofs.lemmas.Result.{err_from_is_err_and}
-use Rattle.sim_engine.proofs.Given.{given_tokens, given_layout, laid_by, given_grammar, parsed_by, given_names, named_by, given_types, typed_by, given_size, sized_by, given_widths, fitted_by}
+use Rattle.sim_engine.proofs.Given.{given_tokens, given_layout, laid_by, given_grammar, parsed_by, given_names, named_by, given_types, typed_by, given_size, sized_by, given_widths, fitted_by, scope_kept, types_kept}
+use Rattle.sim_engine.specs.Stages.{IsSized}
 use Rattle.sim_engine.proofs.fitting.fit_text.Goals as goal
 
 pub returns-in_err-tokens-clause-fault : goal.returns-in_err-tokens-clause-fault
@@ -39,7 +41,7 @@ returns-in_err-flat_measure-clause-fault c =
     let named = named_by c.args.bytes.now c.in_ok-circuit.circuit parsed c.in_ok-scope.ensures.none in
     let typed = typed_by c.args.bytes.now c.in_ok-circuit.circuit named c.in_ok-types.ensures.none in
     let p = err_from_is_err_and c.from_residual-in_err-flat_measure.result c.from_residual-in_err-flat_measure.ensures.1 in
-    rw (p.1, p.2) (given_size c.args.bytes.now c.in_ok-circuit.circuit _ typed c.in_err-flat_measure.ensures.fault)
+    rw (p.1, p.2) (given_size c.args.bytes.now c.in_ok-circuit.circuit _ typed (rw c.in_ok-checked.ensures.1.0 at c.in_err-flat_measure.ensures.fault))
 
 pub returns-in_err-fitted-clause-fault : goal.returns-in_err-fitted-clause-fault
 returns-in_err-fitted-clause-fault c =
@@ -47,9 +49,12 @@ returns-in_err-fitted-clause-fault c =
     let parsed = parsed_by c.args.bytes.now c.in_ok-laid.laid.items _ c.in_ok-circuit.circuit laid c.deref-2.ensures.value c.in_ok-circuit.ensures.ok c.in_ok-circuit.ensures.shallow in
     let named = named_by c.args.bytes.now c.in_ok-circuit.circuit parsed c.in_ok-scope.ensures.none in
     let typed = typed_by c.args.bytes.now c.in_ok-circuit.circuit named c.in_ok-types.ensures.none in
-    let sized = sized_by c.args.bytes.now c.in_ok-circuit.circuit typed c.in_ok-flat_measure.ensures.none in
+    let same = c.in_ok-checked.ensures in
+    let sized = subst (IsSized c.args.bytes.now) (sym same.1.0) (sized_by c.args.bytes.now c.in_ok-circuit.circuit typed (rw same.1.0 at c.in_ok-flat_measure.ensures.none)) in
+    let scope = scope_kept c.in_ok-checked.checked c.in_ok-circuit.circuit c.in_ok-scope.scope same.1.0 same.1.1.0 c.in_ok-scope.ensures.ok in
+    let types = types_kept c.in_ok-checked.checked c.in_ok-circuit.circuit c.in_ok-types.types same.1.0 same.1.1.1 c.in_ok-types.ensures.ok in
     let p = err_from_is_err_and c.from_residual-in_err-fitted.result c.from_residual-in_err-fitted.ensures.1 in
-    rw (p.1, p.2) (given_widths c.args.bytes.now _ _ sized c.in_ok-scope.ensures.ok c.in_ok-types.ensures.ok c.in_err-fitted.ensures.fault)
+    rw (p.1, p.2) (given_widths c.args.bytes.now c.in_ok-checked.checked _ sized scope types c.in_err-fitted.ensures.fault)
 
 pub returns-clause-fits : goal.returns-clause-fits
 returns-clause-fits c =
@@ -57,5 +62,8 @@ returns-clause-fits c =
     let parsed = parsed_by c.args.bytes.now c.in_ok-laid.laid.items _ c.in_ok-circuit.circuit laid c.deref-2.ensures.value c.in_ok-circuit.ensures.ok c.in_ok-circuit.ensures.shallow in
     let named = named_by c.args.bytes.now c.in_ok-circuit.circuit parsed c.in_ok-scope.ensures.none in
     let typed = typed_by c.args.bytes.now c.in_ok-circuit.circuit named c.in_ok-types.ensures.none in
-    let sized = sized_by c.args.bytes.now c.in_ok-circuit.circuit typed c.in_ok-flat_measure.ensures.none in
-    fitted_by c.args.bytes.now _ c.in_ok-fitted.fitted sized c.in_ok-scope.ensures.ok c.in_ok-types.ensures.ok c.in_ok-fitted.ensures.ok
+    let same = c.in_ok-checked.ensures in
+    let sized = subst (IsSized c.args.bytes.now) (sym same.1.0) (sized_by c.args.bytes.now c.in_ok-circuit.circuit typed (rw same.1.0 at c.in_ok-flat_measure.ensures.none)) in
+    let scope = scope_kept c.in_ok-checked.checked c.in_ok-circuit.circuit c.in_ok-scope.scope same.1.0 same.1.1.0 c.in_ok-scope.ensures.ok in
+    let types = types_kept c.in_ok-checked.checked c.in_ok-circuit.circuit c.in_ok-types.types same.1.0 same.1.1.1 c.in_ok-types.ensures.ok in
+    fitted_by c.args.bytes.now c.in_ok-checked.checked c.in_ok-fitted.fitted (same.0 ∙ sym same.1.0) sized scope types c.in_ok-fitted.ensures.ok

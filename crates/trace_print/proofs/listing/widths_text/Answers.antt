@@ -16,7 +16,7 @@ loop-component-preserved c =
     let z = zip_turn all c.args.fitted.now.declared c.loop-component.yielded c.into_iter-component-iterator.result c.loop-component.component-iterator c.next.new.self c.next.result
     first second c.loop-component.yielded_by (c.in-Some.component, c.in-Some.typ) c.in-Some.is c.next.ensures.steps in
     lines_more (component_lines c.args.fitted.now.checked.resolved.names) all c.args.fitted.now.declared c.loop-component.yielded (c.in-Some.component, c.in-Some.typ) c.in-Some.component.now c.in-Some.typ.now
-    c.loop-component.text.items c.push_component.new.text.items z.0 z.1 z.2 z.3 c.loop-component.invariant c.in_ok-push_component.ensures
+    c.loop-component.text.items c.push_component.new.text.items z.0 z.1 z.2 z.3 c.loop-component.invariant (rw c.get.ensures at c.in_ok-push_component.ensures)
 
 pub returns : goal.returns
 returns c =
