@@ -1,6 +1,6 @@
 //! The stages up to the widths.
 
-ghost use Rattle.std.specs.Prelude.{◌≡◌, ◌⊎◌, ◌×◌, ◌≤◌, None, IfOk, IfErr, length};
+ghost use Rattle.std.specs.Prelude.{◌≡◌, ◌⊎◌, ◌≤◌, None, IfOk, IfErr, length};
 ghost use Rattle.width_fit.specs.Faults.{place_of};
 ghost use Rattle.width_fit.specs.Fitting.{IsFit};
 ghost use Rattle.sim_engine.specs.Unfit.{IsUnfit};

@@ -41,7 +41,7 @@ returns-in_err-flat_measure-clause-fault c =
     let named = named_by c.args.bytes.now c.in_ok-circuit.circuit parsed c.in_ok-scope.ensures.none in
     let typed = typed_by c.args.bytes.now c.in_ok-circuit.circuit named c.in_ok-types.ensures.none in
     let p = err_from_is_err_and c.from_residual-in_err-flat_measure.result c.from_residual-in_err-flat_measure.ensures.1 in
-    rw (p.1, p.2) (given_size c.args.bytes.now c.in_ok-circuit.circuit _ typed (rw c.in_ok-checked.ensures.1.0 at c.in_err-flat_measure.ensures.fault))
+    rw (p.1, p.2) (given_size c.args.bytes.now c.in_ok-circuit.circuit _ typed (rw c.in_ok-checked.ensures.1 at c.in_err-flat_measure.ensures.fault))
 
 pub returns-in_err-fitted-clause-fault : goal.returns-in_err-fitted-clause-fault
 returns-in_err-fitted-clause-fault c =
@@ -50,9 +50,9 @@ returns-in_err-fitted-clause-fault c =
     let named = named_by c.args.bytes.now c.in_ok-circuit.circuit parsed c.in_ok-scope.ensures.none in
     let typed = typed_by c.args.bytes.now c.in_ok-circuit.circuit named c.in_ok-types.ensures.none in
     let same = c.in_ok-checked.ensures in
-    let sized = subst (IsSized c.args.bytes.now) (sym same.1.0) (sized_by c.args.bytes.now c.in_ok-circuit.circuit typed (rw same.1.0 at c.in_ok-flat_measure.ensures.none)) in
-    let scope = scope_kept c.in_ok-checked.checked c.in_ok-circuit.circuit c.in_ok-scope.scope same.1.0 same.1.1.0 c.in_ok-scope.ensures.ok in
-    let types = types_kept c.in_ok-checked.checked c.in_ok-circuit.circuit c.in_ok-types.types same.1.0 same.1.1.1 c.in_ok-types.ensures.ok in
+    let sized = subst (IsSized c.args.bytes.now) (sym same.1) (sized_by c.args.bytes.now c.in_ok-circuit.circuit typed (rw same.1 at c.in_ok-flat_measure.ensures.none)) in
+    let scope = scope_kept c.in_ok-checked.checked c.in_ok-circuit.circuit c.in_ok-scope.scope same.1 same.2 c.in_ok-scope.ensures.ok in
+    let types = types_kept c.in_ok-checked.checked c.in_ok-circuit.circuit c.in_ok-types.types same.1 same.3 c.in_ok-types.ensures.ok in
     let p = err_from_is_err_and c.from_residual-in_err-fitted.result c.from_residual-in_err-fitted.ensures.1 in
     rw (p.1, p.2) (given_widths c.args.bytes.now c.in_ok-checked.checked _ sized scope types c.in_err-fitted.ensures.fault)
 
@@ -63,7 +63,7 @@ returns-clause-fits c =
     let named = named_by c.args.bytes.now c.in_ok-circuit.circuit parsed c.in_ok-scope.ensures.none in
     let typed = typed_by c.args.bytes.now c.in_ok-circuit.circuit named c.in_ok-types.ensures.none in
     let same = c.in_ok-checked.ensures in
-    let sized = subst (IsSized c.args.bytes.now) (sym same.1.0) (sized_by c.args.bytes.now c.in_ok-circuit.circuit typed (rw same.1.0 at c.in_ok-flat_measure.ensures.none)) in
-    let scope = scope_kept c.in_ok-checked.checked c.in_ok-circuit.circuit c.in_ok-scope.scope same.1.0 same.1.1.0 c.in_ok-scope.ensures.ok in
-    let types = types_kept c.in_ok-checked.checked c.in_ok-circuit.circuit c.in_ok-types.types same.1.0 same.1.1.1 c.in_ok-types.ensures.ok in
-    fitted_by c.args.bytes.now c.in_ok-checked.checked c.in_ok-fitted.fitted (same.0 ∙ sym same.1.0) sized scope types c.in_ok-fitted.ensures.ok
+    let sized = subst (IsSized c.args.bytes.now) (sym same.1) (sized_by c.args.bytes.now c.in_ok-circuit.circuit typed (rw same.1 at c.in_ok-flat_measure.ensures.none)) in
+    let scope = scope_kept c.in_ok-checked.checked c.in_ok-circuit.circuit c.in_ok-scope.scope same.1 same.2 c.in_ok-scope.ensures.ok in
+    let types = types_kept c.in_ok-checked.checked c.in_ok-circuit.circuit c.in_ok-types.types same.1 same.3 c.in_ok-types.ensures.ok in
+    fitted_by c.args.bytes.now c.in_ok-checked.checked c.in_ok-fitted.fitted (same.0 ∙ sym same.1) sized scope types c.in_ok-fitted.ensures.ok
