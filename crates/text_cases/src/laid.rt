@@ -38,6 +38,9 @@ fn told_part(part: Laid) -> Told {
 
 /// The tokens of a text.
 fn tokens_of(alloc: Global, text: &[u8]) -> Option<Vec<Told>> {
+    if text.len() > LONGEST {
+        return None;
+    }
     let mut told = Vec::new(alloc);
     let tokens = lex(alloc, text).ok()?;
     for token in tokens.as_slice() {
@@ -62,6 +65,9 @@ fn a_text_has_its_tokens(rt: HostRuntime) {
 
 /// The fault of a text's tokens.
 fn lex_fault(alloc: Global, text: &[u8]) -> Option<LexFault> {
+    if text.len() > LONGEST {
+        return None;
+    }
     match lex(alloc, text) {
         Ok(_) => None,
         Err(fault) => Some(fault),

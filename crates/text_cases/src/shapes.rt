@@ -3,7 +3,7 @@
 use crate::stages::{circuit_with, laid_of};
 use fir_expr::{Reader, read_type};
 use fir_tree::Stmt;
-use fir_types::{FirType, Shape, copy, equivalent, instance_type, leaves, memory_type};
+use fir_types::{FirType, Shape, copy, equivalent, instance_type, leaf_count, leaves, memory_type};
 use std::alloc::Global;
 
 /// The type that a text begins with.
@@ -16,6 +16,9 @@ pub fn type_of(alloc: Global, text: &[u8]) -> Option<FirType> {
 /// For each leaf of a type how many steps lead to it, and whether it is turned.
 fn told_leaves(alloc: Global, text: &[u8]) -> Option<Vec<(usize, bool)>> {
     let typ = type_of(alloc, text)?;
+    if leaf_count(&typ) > 10 {
+        return None;
+    }
     let mut told = Vec::new(alloc);
     let listed = leaves(alloc, &typ).ok()?;
     for leaf in listed.as_slice() {
