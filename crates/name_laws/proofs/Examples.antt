@@ -1,7 +1,7 @@
 -- Names, and texts that are none.
 use Rattle.std.proofs.Common.{◌≡◌, false, codes, refl}
 use Rattle.fir_lexer.specs.Bytes.{in_word}
-use Rattle.fir_lexer.specs.declared.token.TokenKind.TheVariants.{Word, Quoted}
+use Rattle.fir_lexer.specs.declared.token.TokenKind.TheVariants.{Quoted}
 use Rattle.fir_grammar.specs.Grammar.{name_in}
 use Rattle.name_laws.specs.Names.{in_name, no_break, IsWord}
 use Rattle.name_laws.proofs.Spelled.{word_passes}

@@ -1,10 +1,10 @@
 -- The names of a net's leaves and memories.
-use Rattle.std.proofs.Common.{◌≡◌, ◌≢◌, ℕ, zero, suc, ◌+◌, ◌*◌, ◌/◌, ◌%◌, ◌<◌, ◌≤◌, ◌==◌, ◌&&◌, not, nat_lt, Bool, true, false, List, [], ◌∷◌, ◌++◌, length, codes, Some, slice_get, refl, sym, ap, ◌∙◌, subst, arith, if◌then◌else◌}
+use Rattle.std.proofs.Common.{◌≡◌, ℕ, zero, suc, ◌+◌, ◌/◌, ◌%◌, ◌<◌, ◌==◌, nat_lt, Bool, true, false, List, [], ◌∷◌, ◌++◌, codes, Some, slice_get, refl, sym, ap, ◌∙◌, subst, arith, if◌then◌else◌}
 use Rattle.std.specs.Prelude.{decimal}
-use Rattle.std.specs.List.{All, AllPass, flat_map}
+use Rattle.std.specs.List.{All}
 use Rattle.std.specs.Fmt.{digits, digits_onto, digit_glyph}
 use Rattle.std.proofs.lemmas.Bool.Decides.{nat_tests}
-use Rattle.std.proofs.lemmas.List.Elements.{All-nil, All-cons, All-head, All-tail, All-append, All-weaker}
+use Rattle.std.proofs.lemmas.List.Elements.{All-nil, All-cons, All-head, All-tail, All-append}
 use Rattle.std.proofs.lemmas.Option.{slice_get_within}
 use Rattle.fir_types.specs.declared.leaf.PathStep.{PathStep}
 use Rattle.fir_types.specs.Leaves.{leaves}
@@ -18,7 +18,7 @@ use Rattle.ground_net.specs.declared.net.ElementLeaf.{ElementLeaf}
 use Rattle.net_meaning.proofs.Settling.{get_there}
 use Rattle.net_of_circuit.specs.FlatOrder.{all_leaves, all_memories, flat_of}
 use Rattle.net_of_circuit.specs.NetOf.{IsNetOf, path_text, flat_text}
-use Rattle.name_laws.specs.Names.{in_name, no_break, IsName, IsUnbroken}
+use Rattle.name_laws.specs.Names.{no_break, IsName, IsUnbroken}
 use Rattle.name_laws.proofs.Marks.{unbroken_name}
 
 joined : (xs ys : List ℕ) → IsUnbroken xs → IsUnbroken ys → IsUnbroken (xs ++ ys)

@@ -1,6 +1,6 @@
 -- The names that a text gives to its circuit.
-use Rattle.std.proofs.Common.{◌≡◌, ℕ, Bool, true, false, List, [], ◌∷◌, ◌++◌, codes, refl, sym, ap, ◌∙◌, subst, arith, true≢false, if◌then◌else◌, ◌⊎◌, inl, inr, ⊎_elim, ◌<◌, Contains, bytes_eq}
-use Rattle.std.specs.List.{All, AllPass}
+use Rattle.std.proofs.Common.{◌≡◌, ℕ, Bool, true, false, List, [], ◌∷◌, refl, sym, subst, arith, true≢false, if◌then◌else◌, ◌⊎◌, inl, inr, ⊎_elim, ◌<◌, Contains, bytes_eq}
+use Rattle.std.specs.List.{All}
 use Rattle.std.proofs.lemmas.List.Elements.{All-nil, All-cons, All-head, All-tail, All-push, Contains-append_cases, Contains-append_right}
 use Rattle.std.proofs.lemmas.Slice.Eq.{bytes_eq-Decides}
 use Rattle.fir_lexer.specs.declared.token.Token.{Token}
@@ -8,11 +8,11 @@ use Rattle.fir_lexer.specs.declared.token.TokenKind.{TokenKind}
 use Rattle.fir_lexer.specs.declared.token.TokenKind.TheVariants as kind
 use Rattle.fir_layout.specs.declared.laid.Laid.{Laid}
 use Rattle.fir_layout.specs.declared.laid.Laid.TheVariants as laid
-use Rattle.fir_layout.specs.Layout.{token_in, tokens_in}
-use Rattle.fir_layout.specs.Pieces.{A_token, bytes_of, piece_of}
+use Rattle.fir_layout.specs.Layout.{tokens_in}
+use Rattle.fir_layout.specs.Pieces.{A_token, bytes_of}
 use Rattle.fir_tree.specs.Numbered.{AddsName}
 use Rattle.fir_lexer.specs.Bytes.{in_word}
-use Rattle.fir_grammar.specs.Grammar.{Terminal, The_word, The_call, A_name, A_field, Takes, Kept, Its_name, Symbol, Is, A, Rule, IsCase, a_text, Values, Spells, no_symbol, a_rule, a_piece, a_place, a_name, a_magnitude, a_placed_magnitude, a_quoted, name_in, field_names}
+use Rattle.fir_grammar.specs.Grammar.{Terminal, A_name, A_field, Takes, Kept, Its_name, Symbol, Is, A, Rule, IsCase, a_text, Values, Spells, no_symbol, a_rule, a_piece, a_place, a_name, a_magnitude, a_placed_magnitude, a_quoted, name_in, field_names}
 use Rattle.name_laws.specs.Names.{names_it, IsWord}
 use Rattle.name_laws.proofs.Tokens.{IsTokenIn, token_word}
 

@@ -1,13 +1,12 @@
 -- The bytes of tokens that name something.
-use Rattle.std.proofs.Common.{◌≡◌, ◌≢◌, ℕ, zero, suc, ◌+◌, ◌-◌, ◌<◌, ◌≤◌, ◌==◌, ◌&&◌, ◌||◌, not, nat_le, Bool, true, false, List, [], ◌∷◌, ◌++◌, take, drop, length, codes, refl, sym, ap, ◌∙◌, subst, arith, true≢false, Contains, if◌then◌else◌}
+use Rattle.std.proofs.Common.{◌≡◌, ℕ, zero, suc, ◌+◌, ◌-◌, ◌==◌, ◌||◌, Bool, true, false, List, [], ◌∷◌, ◌++◌, take, drop, length, codes, refl, sym, ap, ◌∙◌, subst, arith, true≢false, if◌then◌else◌}
 use Rattle.std.specs.List.{All, AllPass, take_while, prefix_len}
-use Rattle.std.proofs.lemmas.List.Elements.{All-nil, All-cons, All-head, All-tail, All-append, All-contains, All-weaker, All-take}
-use Rattle.std.proofs.lemmas.Bool.Decides.{nat_tests}
+use Rattle.std.proofs.lemmas.List.Elements.{All-nil, All-cons, All-append, All-weaker}
 use Rattle.fir_lexer.specs.declared.token.Token.{Token}
 use Rattle.fir_lexer.specs.declared.token.TokenKind.{TokenKind}
 use Rattle.fir_lexer.specs.declared.token.TokenKind.TheVariants.{Word, Call, Quoted, Digits, Text, Arrow, Mark}
 use Rattle.fir_lexer.specs.declared.pieces.PieceKind.{PieceKind}
-use Rattle.fir_lexer.specs.declared.pieces.PieceKind.TheVariants.{Blank, Return, LineFeed, Comment, Info, Annotation, TokenOf}
+use Rattle.fir_lexer.specs.declared.pieces.PieceKind.TheVariants.{TokenOf}
 use Rattle.fir_lexer.specs.Bytes.{in_word, in_digits, begins_word, is_digit}
 use Rattle.fir_lexer.specs.Pieces.{IsOf}
 use Rattle.fir_lexer.specs.Tokens.{IsPiece, Lexes, no_piece, then_piece, token_of, tokens_of, AreTokens}
