@@ -125,6 +125,39 @@ def limits():
         yield f"a circuit past the limit of {meaning}", {"words": ["check"], "stdin": text(1), "status": 2, "stdout": "circuit TooLarge 2:9\n"}
 
 
+def lengths():
+    """Texts at the limits of their lengths, and one byte past them; long comments; and many values."""
+    front = "FIRRTL version 3.0.0\ncircuit M :\n  module M :\n"
+    for name, length, line in (
+        ("a text of 20,971,520 blanks has no version", 20_971_520, "circuit TooLong 1:1\n"),
+        ("a text over 20,971,520 bytes is too long", 20_971_521, "circuit TooLong 1:1\n"),
+        ("a circuit of 16,777,216 blanks is read", 16_777_216, "circuit BadSyntax 1:16777217\n"),
+        ("a circuit over 16,777,216 bytes is too long", 16_777_217, "circuit TooLong 1:1\n"),
+    ):
+        yield name, {"words": ["check"], "stdin": " " * length, "status": 2, "stdout": line}
+    whole = (front + "    skip\n").ljust(16_777_216 - 1, ";") + "\n"
+    stimulus = "%stimulus\n" + "cycles 0\n".ljust(4_194_304)
+    longest = {"words": ["run"], "stdin": whole + stimulus, "status": 0, "stdout": "cycle\n"}
+    yield "a circuit and a stimulus at their limits are run", longest
+    counter = """    input clock : Clock
+    input reset : UInt<1>
+    output out : UInt<4>
+    regreset r : UInt<4>, clock, reset, UInt<4>(0)
+    connect r, tail(add(r, UInt<4>(1)), 1)
+    connect out, r
+%stimulus
+cycles 4
+0 reset 1
+1 reset 0
+"""
+    comments = ("; " + "c" * 97 + "\n") * 20_000
+    yield "a counter runs behind 2,000,000 bytes of comments", {
+        "words": ["run", "-"], "stdin": comments + front + counter, "status": 0, "stdout": "cycle out\n0 0\n1 0\n2 1\n3 2\n"}
+    many = front + "    input v : UInt<1>[4095]\n    output o : UInt<1>\n    connect o, v[0]\n%stimulus\ncycles 1025\n"
+    trace = "cycle o\n" + "".join(f"{cycle} 0\n" for cycle in range(1_025))
+    yield "1,025 cycles of 4,095 inputs run", {"words": ["run"], "stdin": many, "status": 0, "stdout": trace}
+
+
 def chains():
     """Wires of which each is driven by the one before it, and the first one by 7 bits; the connects stand from the first or from the last."""
     front = "FIRRTL version 3.0.0\ncircuit M :\n  module M :\n" + "".join(f"    wire w{k} : UInt\n" for k in range(1_000))
@@ -210,8 +243,8 @@ def main():
     ):
         case = {"words": ["run"], "stdin": front + stimulus, "status": status, "stdout": line}
         faults.append((name, fault_of(program, case)))
-    too_long = {"words": ["check"], "stdin": " " * 5_242_881, "status": 2, "stdout": "circuit TooLong 1:1\n"}
-    faults.append(("a text over 5,242,880 bytes is too long", fault_of(program, too_long)))
+    for name, case in lengths():
+        faults.append((name, fault_of(program, case)))
     faults += minute.faults(program)
     faults += wave_cases.faults(program)
     failed = [(name, fault) for name, fault in faults if fault]

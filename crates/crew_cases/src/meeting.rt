@@ -2,12 +2,46 @@
 
 use crate::circuits::EXCHANGE;
 use crate::gates::Meeting;
+use crate::programs::{answer, holding};
 use crate::reading::{Force, read, traced_by};
 use std::alloc::Global;
 use std::sync::Wait;
+use std::test::Fail;
 use std::thread::Threads;
 
-/// How many of two workers see the other at the gate in a run of the exchange.
+/// Two registers of which each takes what the other one isn't.
+const INVERTED: &str = "FIRRTL version 3.0.0
+circuit M :
+  module M :
+    input clock : Clock
+    input reset : UInt<1>
+    output x : UInt<4>
+    regreset a : UInt<4>, clock, reset, UInt<4>(1)
+    regreset b : UInt<4>, clock, reset, UInt<4>(2)
+    node n = not(b)
+    node m = not(a)
+    connect a, n
+    connect b, m
+    connect x, a
+";
+
+/// In each cycle a worker looks so many times for the other one.
+const LOOKS: u64 = 100_000_000;
+
+// A program that drives both workers on one thread fails it: the worker that enters first sees no other.
+#[test]
+fn two_workers_of_the_program_see_each_other(rt: HostRuntime) -> Result<(), Fail> {
+    let meeting = Meeting::new(1, LOOKS);
+    let outside = holding(INVERTED, "cycles 1\n0 reset 1\n");
+    let words = ["run", "--workers", "2"];
+    let (status, written) = answer(&rt, rt.alloc(), &meeting, &words, outside)?;
+    assert_eq!(rt; status, 0);
+    assert_eq!(rt; written.as_slice(), b"cycle x\n0 0\n".as_slice());
+    assert_eq!(rt; meeting.seen(), 2);
+    Ok(())
+}
+
+/// How many of two workers see the other at the gate in a run of the exchange, where so many threads are started.
 fn seen<R: Threads + Wait + Sync>(rt: &R, alloc: Global, threads: usize, meeting: &Meeting) -> u64 {
     let case = EXCHANGE;
     let Some(given) = read(alloc, case.circuit.as_bytes(), case.stimulus.as_bytes()) else {
@@ -23,13 +57,6 @@ fn seen<R: Threads + Wait + Sync>(rt: &R, alloc: Global, threads: usize, meeting
     meeting.seen()
 }
 
-#[test]
-fn two_workers_see_each_other(rt: HostRuntime) {
-    let meeting = Meeting::new(3, 4_000_000);
-    assert_eq!(rt; seen(&rt, rt.alloc(), 1, &meeting), 2);
-}
-
-// the test would fail a body that drives all workers on one thread
 #[test]
 fn on_one_thread_the_first_sees_no_other(rt: HostRuntime) {
     let meeting = Meeting::new(3, 1_000);

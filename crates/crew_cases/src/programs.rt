@@ -43,46 +43,51 @@ impl Gate for Counter {
     }
 }
 
-/// A shelf that holds the circuit and the stimulus as `-`, and fails at these calls.
-fn shelf(alloc: Global, fails: &[u64]) -> Result<ShelfMemory, AllocError> {
-    let mut joined = String::from_str(alloc, CIRCUIT)?;
-    joined.push_str("%stimulus\n")?;
-    joined.push_str(STIMULUS)?;
-    let mut texts = Vec::new(alloc);
-    let name = String::from_str(alloc, "-")?;
-    texts.push((name, Vec::from_slice(alloc, joined.as_bytes())?))?;
-    Ok(ShelfMemory::new(texts, 1, Vec::from_slice(alloc, fails)?))
-}
-
-/// The calls at which the shelf and the sink fail.
+/// A circuit and a stimulus that stand on a shelf as `-`, and the calls at which the shelf and the sink fail.
 #[derive(Clone, Copy)]
-struct Fails<'a> {
+pub struct Outside<'a> {
+    circuit: &'a str,
+    stimulus: &'a str,
     read: &'a [u64],
     write: &'a [u64],
 }
 
-/// None.
-fn never<'a>() -> Fails<'a> {
-    Fails {
+/// These texts, where nothing fails.
+pub fn holding<'a>(circuit: &'a str, stimulus: &'a str) -> Outside<'a> {
+    Outside {
+        circuit,
+        stimulus,
         read: &[],
         write: &[],
     }
 }
 
+/// The shelf.
+fn shelf(alloc: Global, outside: Outside<'_>) -> Result<ShelfMemory, AllocError> {
+    let mut joined = String::from_str(alloc, outside.circuit)?;
+    joined.push_str("%stimulus\n")?;
+    joined.push_str(outside.stimulus)?;
+    let mut texts = Vec::new(alloc);
+    let name = String::from_str(alloc, "-")?;
+    texts.push((name, Vec::from_slice(alloc, joined.as_bytes())?))?;
+    let fails = Vec::from_slice(alloc, outside.read)?;
+    Ok(ShelfMemory::new(texts, 1, fails))
+}
+
 /// The status of a command line and what it wrote.
-fn answer<R: Threads + Wait + Sync, G: Gate + Sync>(
+pub fn answer<R: Threads + Wait + Sync, G: Gate + Sync>(
     rt: &R,
     alloc: Global,
     gate: &G,
     words: &[&str],
-    fails: Fails<'_>,
+    outside: Outside<'_>,
 ) -> Result<(u8, Vec<u8>), AllocError> {
     let mut all = Vec::new(alloc);
     for word in words {
         all.push(String::from_str(alloc, word)?)?;
     }
-    let mut shelf = shelf(alloc, fails.read)?;
-    let mut sink = SinkMemory::new(alloc, 100, 1, Vec::from_slice(alloc, fails.write)?)?;
+    let mut shelf = shelf(alloc, outside)?;
+    let mut sink = SinkMemory::new(alloc, 100, 1, Vec::from_slice(alloc, outside.write)?)?;
     let status = run_program(rt, alloc, &all, &mut shelf, &mut sink, gate);
     Ok((status, Vec::from_slice(alloc, sink.bytes())?))
 }
@@ -95,7 +100,10 @@ fn the_side_that_failed_is_told(rt: HostRuntime) -> Result<(), Fail> {
         ([].as_slice(), [3].as_slice(), 5, "cy"),
         ([].as_slice(), [13].as_slice(), 5, "cycle out\n0 "),
     ] {
-        let (given, written) = answer(&rt, rt.alloc(), &OpenGate, &["run"], Fails { read, write })?;
+        let mut outside = holding(CIRCUIT, STIMULUS);
+        outside.read = read;
+        outside.write = write;
+        let (given, written) = answer(&rt, rt.alloc(), &OpenGate, &["run"], outside)?;
         assert_eq!(rt; given, status);
         assert_eq!(rt; written.as_slice(), bytes.as_bytes());
     }
@@ -109,7 +117,7 @@ fn each_worker_enters_the_gate_in_each_cycle(rt: HostRuntime) -> Result<(), Fail
             entered: AtomicU64::new(0),
         };
         let words = ["run", "--workers", workers];
-        let (status, written) = answer(&rt, rt.alloc(), &gate, &words, never())?;
+        let (status, written) = answer(&rt, rt.alloc(), &gate, &words, holding(CIRCUIT, STIMULUS))?;
         assert_eq!(rt; status, 0);
         assert_eq!(rt; written.as_slice(), TRACE.as_bytes());
         assert_eq!(rt; gate.entered.load(SeqCst), times);
@@ -124,7 +132,7 @@ fn each_worker_of_a_made_circuit_enters_the_gate(rt: HostRuntime) -> Result<(), 
             entered: AtomicU64::new(0),
         };
         let words = ["make", "--workers", workers, "--cycles", "2049", "2"];
-        let (status, written) = answer(&rt, rt.alloc(), &gate, &words, never())?;
+        let (status, written) = answer(&rt, rt.alloc(), &gate, &words, holding(CIRCUIT, STIMULUS))?;
         assert_eq!(rt; status, 0);
         assert_eq!(rt; written.as_slice(), LONG_SUMMARY.as_bytes());
         assert_eq!(rt; gate.entered.load(SeqCst), times);

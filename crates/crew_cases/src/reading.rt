@@ -49,10 +49,7 @@ pub fn read(alloc: Global, circuit: &[u8], stimulus: &[u8]) -> Option<Given>
     let Ok(_) = u32::try_from(built.ports.inputs.len()) else {
         return None;
     };
-    let Ok(watched) = u32::try_from(built.ports.watched.len()) else {
-        return None;
-    };
-    match read_stimulus(alloc, stimulus, &built.ports, watched) {
+    match read_stimulus(alloc, stimulus, &built.ports) {
         Ok(stimulus) => Some(Given { built, stimulus }),
         Err(_) => None,
     }

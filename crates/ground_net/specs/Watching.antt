@@ -1,6 +1,7 @@
 -- The leaves by which a run is fed and watched.
-use Rattle.std.specs.Prelude.{ℕ, Bool, true, false, List, filter_map, slice_get, Option, Some, None, option_map, if◌then◌else◌}
-use Rattle.std.specs.List.{range_with_len}
+use Rattle.std.specs.Prelude.{◌≡◌, ℕ, Bool, true, false, List, filter_map, slice_get, Option, Some, None, option_map, if◌then◌else◌}
+use Rattle.std.specs.List.{range_with_len, AllZip}
+use Rattle.bit_words.specs.declared.value.Value.{Value}
 use Rattle.ground_net.specs.declared.net.Leaf.{Leaf}
 use Rattle.ground_net.specs.declared.net.Net.{Net}
 use Rattle.ground_net.specs.declared.net.PortLeaf.{PortLeaf}
@@ -40,3 +41,7 @@ watched = port_leaves is_shown
 -- The names of all leaves of main's ports, clocks included.
 abbrev pub port_names : Net → List (List ℕ)
 port_names net = filter_map (λ x. option_map (λ leaf. leaf.name) (slice_get net.leaves x)) (range_with_len 0 net.ports)
+
+-- a value for each leaf, of its kind and width
+abbrev pub AreValuesOf : List PortLeaf → List Value → Type 0
+AreValuesOf leaves row = AllZip (λ leaf v. (v.kind ≡ leaf.kind) × (v.width ≡ leaf.width)) leaves row

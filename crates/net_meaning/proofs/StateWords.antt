@@ -129,7 +129,7 @@ low_below : (n : ℕ) → n % 2 ^ 64 < 2 ^ 64
 low_below n = omega arith
 
 -- the words of a value fit
-kept_fits : (t : Shape) (n : ℤ) → AllZip Fits (word_widths t) (kept t n)
+pub kept_fits : (t : Shape) (n : ℤ) → AllZip Fits (word_widths t) (kept t n)
 kept_fits t n = by_test (nat_lt 64 t.width) (nat_lt 64 (min t.width 128)) refl refl (same_test t.width)
   where
     below : (fitted t.kind t.width n).bits < 2 ^ t.width

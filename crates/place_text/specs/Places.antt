@@ -3,7 +3,7 @@ use Rattle.std.specs.Prelude.{ℕ, ◌+◌, Bool, ◌==◌, not, List, ◌++◌,
 use Rattle.std.specs.List.{suffix_len}
 use Rattle.place_text.specs.declared.place.Place.{Place}
 use Rattle.place_text.specs.declared.place.TextPart.{TextPart}
-use Rattle.place_text.specs.declared.place.TextPart.TheVariants.{Circuit, Stimulus}
+use Rattle.place_text.specs.declared.place.TextPart.TheVariants.{Circuit, Stimulus, State}
 
 -- whether a byte ends a line
 abbrev pub is_feed : ℕ → Bool
@@ -24,8 +24,9 @@ first_place = record { line = 1; column = 1 }
 abbrev pub part_word : TextPart → List ℕ
 part_word Circuit = codes "circuit"
 part_word Stimulus = codes "stimulus"
+part_word State = codes "state"
 
--- `circuit KIND L:C` or `stimulus KIND L:C` and a line feed, the numbers in decimal
+-- `circuit KIND L:C`, `stimulus KIND L:C` or `state KIND L:C` and a line feed, the numbers in decimal
 unfoldable pub fault_line_bytes : TextPart → List ℕ → Place → List ℕ
 fault_line_bytes part kind place =
     part_word part ++ codes " " ++ kind ++ codes " " ++ decimal place.line ++ codes ":" ++ decimal place.column ++ codes "\n"

@@ -7,7 +7,8 @@ use crate::place::{Place, TextPart};
 use itoa::Buffer;
 use std::alloc::{AllocError, Global};
 
-/// The line `circuit KIND L:C` or `stimulus KIND L:C`, with its line feed, for a fault of this kind at this place.
+/// The line `circuit KIND L:C`, `stimulus KIND L:C` or `state KIND L:C`, with its line feed, for a fault of this kind at
+/// this place.
 #[tactic(auto, unfolding(crate::specs::Places::fault_line_bytes))]
 pub fn fault_line(
     alloc: Global,
@@ -20,6 +21,7 @@ pub fn fault_line(
     let word = match part {
         TextPart::Circuit => "circuit ",
         TextPart::Stimulus => "stimulus ",
+        TextPart::State => "state ",
     };
     let mut digits = Buffer::new();
     let mut line = Vec::from_slice(alloc, word.as_bytes())?;

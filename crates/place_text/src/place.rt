@@ -11,11 +11,13 @@ pub struct Place {
     pub column: u32,
 }
 
-/// Which of the two texts of a run a fault stands in.
+/// Which of the texts of a run a fault stands in.
 #[derive(Clone, Copy)]
 pub enum TextPart {
     Circuit,
     Stimulus,
+    /// The state that a run goes on from.
+    State,
 }
 
 /// The place of an offset in bytes from 0, which may be the text's end. A line ends in a line feed, which belongs to it.

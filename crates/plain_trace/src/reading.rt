@@ -15,7 +15,7 @@ use std::alloc::Global;
 use stimulus::{StimFault, Stimulus, read_stimulus};
 
 /// Both texts and the line between them have at most so many bytes.
-const JOINED_LIMIT: usize = 5_242_880;
+const JOINED_LIMIT: usize = 20_971_520;
 
 /// A stimulus's text has at most so many bytes.
 const STIMULUS_LIMIT: usize = 4_194_304;
@@ -53,13 +53,10 @@ pub fn read(alloc: Global, text: &[u8]) -> Result<Given, Fault>
     let Ok(_) = u32::try_from(built.ports.inputs.len()) else {
         return Err(Fault::Memory);
     };
-    let Ok(watched) = u32::try_from(built.ports.watched.len()) else {
-        return Err(Fault::Memory);
-    };
     if stimulus.len() > STIMULUS_LIMIT {
         return Err(Fault::Stimulus);
     }
-    match read_stimulus(alloc, stimulus, &built.ports, watched) {
+    match read_stimulus(alloc, stimulus, &built.ports) {
         Ok(stimulus) => Ok(Given { built, stimulus }),
         Err(StimFault::NoMemory) => Err(Fault::Memory),
         Err(_) => Err(Fault::Stimulus),

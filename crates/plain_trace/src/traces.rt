@@ -19,7 +19,7 @@ use trace_print::{header, trace_line};
 /// A write to memory takes at most so many bytes.
 const STEP: usize = 65_536;
 
-/// The trace of the run on the circuit as it is written.
+/// The trace of the run on the circuit as it is written. The rows of all cycles are held at once: it is for short runs.
 pub fn plain_trace(alloc: Global, given: &Given) -> Result<Vec<u8>, AllocError>
     requires planned { IsPlanned given.now.built.ordered given.now.built.ports given.now.stimulus }
     requires well { IsWellFormed given.now.built.fitted }

@@ -50,7 +50,7 @@ use Rattle.sim_engine.specs.declared.fault.CircuitFault.TheVariants as fault
 
 -- the greatest length of a circuit's text, in bytes
 abbrev pub circuit_limit : ℕ
-circuit_limit = 1048576
+circuit_limit = 16777216
 
 -- the text is made of these tokens
 pub record IsLexed (text : List ℕ) (tokens : List Token) : Type 0 where

@@ -22,7 +22,7 @@ use one_clock::clocks;
 use std::alloc::Global;
 
 /// The greatest length of a circuit's text in bytes.
-pub const CIRCUIT_LIMIT: usize = 1_048_576;
+pub const CIRCUIT_LIMIT: usize = 16_777_216;
 
 /// A circuit without a fault, and the net that serves it, with its assignments in an order.
 #[derive(Drop)]

@@ -4,7 +4,7 @@ ghost use Rattle.std.specs.Prelude.{◌≡◌, ◌⊎◌, ◌≤◌, None, IfOk,
 ghost use Rattle.width_fit.specs.Faults.{place_of};
 ghost use Rattle.width_fit.specs.Fitting.{IsFit};
 ghost use Rattle.sim_engine.specs.Unfit.{IsUnfit};
-ghost use Rattle.sim_engine.specs.Stages.{circuit_limit, IsFitted, IsGiven};
+ghost use Rattle.sim_engine.specs.Stages.{circuit_limit, IsParsed, IsFitted, IsGiven};
 
 use crate::fault::CircuitFault;
 use bit_words::Shared;
@@ -26,15 +26,26 @@ pub fn fit_text(alloc: Global, bytes: &[u8]) -> Result<Fitted, CircuitFault>
     ensures fits { IfOk result (IsFitted bytes.now) }
     ensures fault { IfErr result (IsGiven bytes.now) }
 {
-    let tokens = lex(alloc, bytes)?;
-    let laid = lay_out(alloc, bytes, &tokens)?;
-    let circuit = parse(alloc, bytes, &laid)?;
+    let circuit = parse_text(alloc, bytes)?;
     let scope = resolve(alloc, &circuit)?;
     let types = check(alloc, &circuit, &scope)?;
     let checked = gather(alloc, circuit, scope, types)?;
     flat_measure(alloc, &checked)?;
     let fitted = fit_widths(alloc, checked)?;
     Ok(fitted)
+}
+
+/// The circuit that a text spells, or the text's first fault up to the grammar. Tokens and laid list are dropped here: the later stages
+/// take their memory without them.
+fn parse_text(alloc: Global, bytes: &[u8]) -> Result<Circuit, CircuitFault>
+    requires { length bytes.now ≤ circuit_limit }
+    ensures parsed { IfOk result (IsParsed bytes.now) }
+    ensures fault { IfErr result (IsGiven bytes.now) }
+{
+    let tokens = lex(alloc, bytes)?;
+    let laid = lay_out(alloc, bytes, &tokens)?;
+    let circuit = parse(alloc, bytes, &laid)?;
+    Ok(circuit)
 }
 
 /// The circuit with what its names mean and its types. No `Reset` of it becomes an `AsyncReset`, so the later stages read the same circuit.

@@ -79,7 +79,7 @@ same_stimulus_fault : (f g : StimFault) (p q : Place) → f ≡ g → place_of f
 same_stimulus_fault f g p q e is at = ap₂ stimulus_bytes e (some_same p q (sym is ∙ ap place_of e ∙ at))
 
 abbrev FirstIn : List ℕ → StimFault → Ports → Type 0
-FirstIn text fault ports = IsFirst place_of rank_of (IsFault text ports (length ports.watched)) fault
+FirstIn text fault ports = IsFirst place_of rank_of (IsFault text ports) fault
 
 runs_once : (texts : Texts) (design : Design) → HasOneTrace texts design → (text : List ℕ) (s t : ℕ) (b d : List ℕ) → Runs texts design text s b → Runs texts design text t d → (s ≡ t) × (b ≡ d)
 runs_once texts design one text _ _ _ _ (stimulus_too_long l) (stimulus_too_long m) = (refl, refl)
@@ -91,9 +91,9 @@ runs_once texts design one text _ _ _ _ (stimulus_refused ports f p w are is at)
     let same = ports_once texts design others ports are' are in
     (refl, same_stimulus_fault f g p q (one_first place_of rank_of one_each f g is (subst (FirstIn text g) same is')) at at')
 runs_once texts design one text _ _ _ _ (stimulus_refused ports f p w are is at) (traced others u d v are' none i t) =
-    absurd (none f (subst (λ (x : Ports). IsFault text x (length x.watched) f) (ports_once texts design ports others are are') is.is))
+    absurd (none f (subst (λ (x : Ports). IsFault text x f) (ports_once texts design ports others are are') is.is))
 runs_once texts design one text _ _ _ _ (traced others u d v are' none i t) (stimulus_refused ports f p w are is at) =
-    absurd (none f (subst (λ (x : Ports). IsFault text x (length x.watched) f) (ports_once texts design ports others are are') is.is))
+    absurd (none f (subst (λ (x : Ports). IsFault text x f) (ports_once texts design ports others are are') is.is))
 runs_once texts design one text _ _ _ _ (traced ports u b w are n i t) (traced others v d x are' m j q) =
     let same = ports_once texts design others ports are' are in
     let one_stimulus = stimulus_once text ports v u (subst (λ (y : Ports). IsStimulus text y v) same j) i in

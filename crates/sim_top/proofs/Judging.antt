@@ -3,7 +3,6 @@ use Rattle.std.proofs.Common.{◌≡◌, ◌≢◌, ℕ, ◌<◌, ◌≤◌, Lis
 use Rattle.std.specs.Prelude.{Some, None, Result, Ok, Err, codes}
 use Rattle.place_text.specs.declared.place.Place.{Place}
 use Rattle.place_text.specs.Places.{first_place}
-use Rattle.fault_order.specs.First.{IsFirst, HasNone as HasNoFault}
 use Rattle.fault_order.specs.Verdicts.{IsVerdict}
 use Rattle.fir_meaning.specs.Components.{design_of}
 use Rattle.stimulus.specs.declared.stimulus.Stimulus.{Stimulus}
@@ -93,19 +92,17 @@ pub ran_long : (text stimulus : List ℕ) (built : Built) (status : ℕ) (bytes 
 ran_long text stimulus built status bytes b long three e = rw (three, e) (ran_of text stimulus built _ _ b (stimulus_too_long long))
 
 -- what the reading of the stimulus answered
-abbrev pub IsRead : List ℕ → Built → ℕ → Result Stimulus StimFault → Type 0
-IsRead stimulus built watched result = IsVerdict place_of rank_of (IsFault stimulus built.ports watched) (IsStimulus stimulus built.ports) result
+abbrev pub IsRead : List ℕ → Built → Result Stimulus StimFault → Type 0
+IsRead stimulus built result = IsVerdict place_of rank_of (IsFault stimulus built.ports) (IsStimulus stimulus built.ports) result
 
-pub ran_refused : (text stimulus : List ℕ) (built : Built) (watched : ℕ) (fault : StimFault) (place : Place) (status : ℕ) (bytes : List ℕ) → IsBuilt text built
-    → length stimulus ≤ stimulus_limit → watched ≡ length built.ports.watched → IsRead stimulus built watched (Err fault) → place_of fault ≡ Some place → status ≡ 3
+pub ran_refused : (text stimulus : List ℕ) (built : Built) (fault : StimFault) (place : Place) (status : ℕ) (bytes : List ℕ) → IsBuilt text built
+    → length stimulus ≤ stimulus_limit → IsRead stimulus built (Err fault) → place_of fault ≡ Some place → status ≡ 3
     → bytes ≡ stimulus_bytes fault place → JudgesTexts Run text stimulus status bytes
-ran_refused text stimulus built watched fault place status bytes b short counted v at three e = rw (three, e)
+ran_refused text stimulus built fault place status bytes b short v at three e = rw (three, e)
     (⊎_elim (λ m. absurd (let n : None ≡ Some place = sym m ∙ at in cc))
-    (λ f. ran_of text stimulus built _ _ b (stimulus_refused built.ports fault place short (ports_are text built b)
-    (subst (λ n. IsFirst place_of rank_of (IsFault stimulus built.ports n) fault) counted f) at)) v.fault)
+    (λ f. ran_of text stimulus built _ _ b (stimulus_refused built.ports fault place short (ports_are text built b) f at)) v.fault)
 
-pub ran_traced : (text stimulus : List ℕ) (built : Built) (watched : ℕ) (settings : Stimulus) → IsBuilt text built → length stimulus ≤ stimulus_limit
-    → watched ≡ length built.ports.watched → IsRead stimulus built watched (Ok settings) → Gives (JudgesTexts Run text stimulus) (decision.Run built settings)
-ran_traced text stimulus built watched settings b short counted v = λ bytes t.
-    ran_of text stimulus built 0 bytes b (traced built.ports settings bytes short (ports_are text built b)
-    (subst (λ n. HasNoFault (IsFault stimulus built.ports n)) counted v.none) v.ok t)
+pub ran_traced : (text stimulus : List ℕ) (built : Built) (settings : Stimulus) → IsBuilt text built → length stimulus ≤ stimulus_limit
+    → IsRead stimulus built (Ok settings) → Gives (JudgesTexts Run text stimulus) (decision.Run built settings)
+ran_traced text stimulus built settings b short v = λ bytes t.
+    ran_of text stimulus built 0 bytes b (traced built.ports settings bytes short (ports_are text built b) v.none v.ok t)

@@ -45,9 +45,9 @@ whole_stimulus_bytes fault there' = fault_line_bytes Stimulus_part (whole_name f
 pub data Runs (texts : Texts) (design : Design) (text : List ℕ) : ℕ → List ℕ → Type 0 where
   stimulus_too_long : stimulus_limit < length text → Runs texts design text 3 (whole_stimulus_bytes TooLong first_place)
   stimulus_refused : (ports : Ports) (fault : StimFault) (there' : Place) → length text ≤ stimulus_limit → ArePortsOf texts design ports
-      → IsFirst place_of rank_of (IsFault text ports (length ports.watched)) fault → place_of fault ≡ Some there' → Runs texts design text 3 (stimulus_bytes fault there')
+      → IsFirst place_of rank_of (IsFault text ports) fault → place_of fault ≡ Some there' → Runs texts design text 3 (stimulus_bytes fault there')
   traced : (ports : Ports) (stimulus : Stimulus) (bytes : List ℕ) → length text ≤ stimulus_limit → ArePortsOf texts design ports
-      → HasNoFault (IsFault text ports (length ports.watched)) → IsStimulus text ports stimulus → IsTraceText texts design stimulus bytes → Runs texts design text 0 bytes
+      → HasNoFault (IsFault text ports) → IsStimulus text ports stimulus → IsTraceText texts design stimulus bytes → Runs texts design text 0 bytes
 
 -- What a command answers where the circuit's text was taken: its first fault; or for `check` that there is none, for `widths` the listing, for
 -- `cut` the circuit's cut, for `run` what a run of the circuit answers.

@@ -31,6 +31,18 @@ question_of None = None
 abbrev pub asked_by : List (List ℕ) → Option Question
 asked_by words = question_of (command_of words)
 
+-- how many workers a request asks for: one where it says nothing of them
+abbrev pub workers_asked : Request → ℕ
+workers_asked (Run_asked workers circuit stimulus) = workers
+workers_asked (Check_asked circuit) = 1
+workers_asked (Widths_asked circuit) = 1
+workers_asked (Cut_asked workers circuit) = workers
+workers_asked (Make_asked workers cycles size) = workers
+
+-- the number of workers of a crew
+abbrev pub IsCrew : ℕ → Type 0
+IsCrew workers = (1 ≤ workers) × (workers ≤ 64)
+
 -- The texts that the answer to a question needs, where these texts are held, or it isn't told what is held: all that it names. The stimulus isn't
 -- needed where the circuit's text is told and too long. A circuit that is made needs none.
 pub data NeedsFor (held : Option (List ℕ → Option (List ℕ))) : Question → List ℕ → Type 0 where
@@ -48,7 +60,7 @@ pub record Needs (words : List (List ℕ)) (held : Option (List ℕ → Option (
 
 -- the numbers of a command and of a question lie in their ranges
 abbrev pub AreWorkers : Command → Type 0
-AreWorkers (Cut workers) = (1 ≤ workers) × (workers ≤ 64)
+AreWorkers (Cut workers) = IsCrew workers
 AreWorkers Run = ⊤
 AreWorkers Check = ⊤
 AreWorkers Widths = ⊤

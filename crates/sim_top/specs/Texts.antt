@@ -9,7 +9,7 @@ use Rattle.sim_top.specs.declared.texts.WholeFault.TheVariants.{TooLong, NoStimu
 
 -- the greatest length of a joined text, and of a stimulus's text, in bytes
 abbrev pub joined_limit : ℕ
-joined_limit = 5242880
+joined_limit = 20971520
 
 abbrev pub stimulus_limit : ℕ
 stimulus_limit = 4194304

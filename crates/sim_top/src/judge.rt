@@ -190,7 +190,7 @@ fn divide(alloc: Global, built: &Built, workers: u32) -> Result<Reply, AllocErro
 
 /// What `run` answers to a circuit without a fault and to a stimulus's text.
 ///
-/// More watched leaves than a `u32` numbers are a want of memory.
+/// More inputs than a `u32` numbers are a want of memory.
 fn run(alloc: Global, built: Built, stimulus: &[u8]) -> Result<Decision, AllocError>
     requires { (text : List ℕ) × IsBuilt text built }
     ensures judges { IfOk result (λ d. (text : List ℕ) → IsBuilt text built → Gives (JudgesTexts Command.Run text stimulus.now) d) }
@@ -203,10 +203,7 @@ fn run(alloc: Global, built: Built, stimulus: &[u8]) -> Result<Decision, AllocEr
     let Ok(_) = u32::try_from(built.ports.inputs.len()) else {
         return Err(AllocError);
     };
-    let Ok(watched) = u32::try_from(built.ports.watched.len()) else {
-        return Err(AllocError);
-    };
-    match read_stimulus(alloc, stimulus, &built.ports, watched) {
+    match read_stimulus(alloc, stimulus, &built.ports) {
         Ok(settings) => Ok(Decision::Run(built, settings)),
         Err(fault) => {
             let reply = refuse_stimulus(alloc, fault)?;

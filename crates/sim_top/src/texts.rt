@@ -4,7 +4,7 @@ ghost use Rattle.std.specs.Prelude.{◌≡◌, ℕ, List, ◌≤◌, length, dro
 ghost use Rattle.sim_top.specs.Texts.{IsStimulusLine, IsSplit, HasNone, EndsFirst, whole_name};
 
 /// The greatest length of a joined text in bytes.
-pub const JOINED_LIMIT: usize = 5_242_880;
+pub const JOINED_LIMIT: usize = 20_971_520;
 
 /// The greatest length of a stimulus's text in bytes.
 pub const STIMULUS_LIMIT: usize = 4_194_304;

@@ -7,14 +7,15 @@ ghost use Rattle.circuit_run.specs.Traces.{IsTraceText};
 ghost use Rattle.circuit_make.specs.Rings.{InRange, ring_text};
 ghost use Rattle.crew_run.specs.Summaries.{IsSummary};
 ghost use Rattle.sim_engine.specs.Stages.{circuit_limit};
-ghost use Rattle.sim_top.specs.Commands.{AreWorkers, Of_joined, Of_two, Of_made, asked_by, NeedsFor, Needs};
+ghost use Rattle.command_words.specs.Commands.{Request, command_of};
+ghost use Rattle.sim_top.specs.Commands.{AreWorkers, IsCrew, IsInRange, Of_joined, Of_two, Of_made, asked_by, question, workers_asked, NeedsFor, Needs};
 ghost use Rattle.sim_top.specs.Texts.{joined_limit};
 ghost use Rattle.sim_top.specs.Answers.{JudgesTexts, Judges, AnswersTo, Answers};
 ghost use Rattle.sim_top.specs.Endings.{Ends, IsSaid, IsRun, IsFaultLine, IsReply, Gives, IsFor, IsReady, IsRunnable, status_of};
 
 use crate::judge::{Decision, Reply, judge, judge_texts, judge_under_long, refuse_whole};
 use crate::texts::{JOINED_LIMIT, STIMULUS_LIMIT, WholeFault};
-use crate::words::{Asked, Command, read_question, workers_of};
+use crate::words::{Asked, Command, read_order};
 use circuit_make::{MakeFault, make_joined};
 use circuit_run::RunFault;
 use crew_run::{Plan, simulate, summarize};
@@ -32,6 +33,13 @@ use stimulus::Stimulus;
 struct Crew<'a, R, G> {
     rt: &'a R,
     gate: &'a G,
+    workers: u32,
+}
+
+/// What is to be done, and by how many workers a circuit is run, from 1 to 64.
+#[derive(Drop)]
+struct Task {
+    decision: Decision,
     workers: u32,
 }
 
@@ -78,11 +86,16 @@ pub fn run_program<R: Threads + Wait + Sync, H: Shelf, K: Sink, G: Gate + Sync>(
         → (result ≡ 4) ⊎ (result ≡ 6) }
 {
     match decide(alloc, rt, gate, words, shelf) {
-        Ok(Decision::Say(reply)) => say(sink, &reply),
-        Ok(Decision::Run(built, stimulus)) => {
-            let workers = workers_of(alloc, words);
-            let crew = Crew { rt, gate, workers };
-            run(alloc, &crew, &built, &stimulus, sink)
+        Ok(task) => {
+            let crew = Crew {
+                rt,
+                gate,
+                workers: task.workers,
+            };
+            match task.decision {
+                Decision::Say(reply) => say(sink, &reply),
+                Decision::Run(built, stimulus) => run(alloc, &crew, &built, &stimulus, sink),
+            }
         }
         Err(TakeFault::NoMemory) => 6,
         Err(_) => 4,
@@ -96,26 +109,53 @@ fn decide<R: Threads + Wait + Sync, H: Shelf, G: Gate + Sync>(
     gate: &G,
     words: &[String],
     shelf: &mut H,
-) -> Result<Decision, TakeFault>
-    ensures answers { IfOk result (λ d. (texts : List ℕ → Option (List ℕ)) → H.held shelf.old ≡ Some texts → Gives (Answers (map string_bytes words.now) texts) d) }
-    ensures ready { IfOk result IsReady }
-    ensures usage { IfOk result (λ d. status_of d ≡ 1 → asked_by (map string_bytes words.now) ≡ None) }
-    ensures no_command { asked_by (map string_bytes words.now) ≡ None → IfOk result (λ d. status_of d ≡ 1) }
+) -> Result<Task, TakeFault>
+    ensures answers { IfOk result (λ t. (texts : List ℕ → Option (List ℕ)) → H.held shelf.old ≡ Some texts → Gives (Answers (map string_bytes words.now) texts) t.decision) }
+    ensures ready { IfOk result (λ t. IsReady t.decision) }
+    ensures crew { IfOk result (λ t. IsCrew t.workers) }
+    ensures workers { IfOk result (λ t. (request : Request) → command_of (map string_bytes words.now) ≡ Some request → t.workers ≡ workers_asked request) }
+    ensures usage { IfOk result (λ t. status_of t.decision ≡ 1 → asked_by (map string_bytes words.now) ≡ None) }
+    ensures no_command { asked_by (map string_bytes words.now) ≡ None → IfOk result (λ t. status_of t.decision ≡ 1) }
     ensures no_fault { asked_by (map string_bytes words.now) ≡ None → IfErr result (λ f. f ≡ TakeFault.NoMemory) }
     ensures fault { result ≡ Err TakeFault.ReadFault → (name : List ℕ) × Needs (map string_bytes words.now) (H.held shelf.old) name × Rose (H.faults shelf.old name) (H.faults shelf.new name) }
     ensures short { result ≢ Err TakeFault.TooLong }
 {
-    let Some(asked) = read_question(alloc, words)? else {
+    let Some(order) = read_order(alloc, words)? else {
         let bytes = Vec::from_slice(alloc, b"usage\n")?;
-        return Ok(Decision::Say(Reply { status: 1, bytes }));
+        return Ok(Task {
+            decision: Decision::Say(Reply { status: 1, bytes }),
+            workers: 1,
+        });
     };
+    let workers = order.workers;
+    let crew = Crew { rt, gate, workers };
+    match decide_asked(alloc, &crew, order.asked, shelf) {
+        Ok(decision) => Ok(Task { decision, workers }),
+        Err(fault) => Err(fault),
+    }
+}
+
+/// What is to be done for what is asked.
+fn decide_asked<R: Threads + Wait + Sync, H: Shelf, G: Gate + Sync>(
+    alloc: Global,
+    crew: &Crew<'_, R, G>,
+    asked: Asked<'_>,
+    shelf: &mut H,
+) -> Result<Decision, TakeFault>
+    requires some { 1 ≤ crew.now.workers }
+    requires most { crew.now.workers ≤ 64 }
+    requires in_range { IsInRange (question asked) }
+    ensures answers { IfOk result (λ d. (texts : List ℕ → Option (List ℕ)) → H.held shelf.old ≡ Some texts → Gives (AnswersTo texts (question asked.entry)) d) }
+    ensures ready { IfOk result IsReady }
+    ensures usage { IfOk result (λ d. status_of d ≢ 1) }
+    ensures fault { result ≡ Err TakeFault.ReadFault → (name : List ℕ) × NeedsFor (H.held shelf.old) (question asked.entry) name × Rose (H.faults shelf.old name) (H.faults shelf.new name) }
+    ensures short { result ≢ Err TakeFault.TooLong }
+{
     match asked {
         Asked::Joined(command, name) => decide_joined(alloc, command, name, shelf),
         Asked::Two(circuit, stimulus) => decide_two(alloc, circuit, stimulus, shelf),
         Asked::Made { cycles, size } => {
-            let workers = workers_of(alloc, words);
-            let crew = Crew { rt, gate, workers };
-            let reply = decide_made(alloc, &crew, cycles, size)?;
+            let reply = decide_made(alloc, crew, cycles, size)?;
             Ok(Decision::Say(reply))
         }
     }

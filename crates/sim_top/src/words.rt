@@ -1,8 +1,8 @@
 //! What the words of a command line ask for.
 
 ghost use Rattle.std.specs.Prelude.{◌≡◌, ◌≤◌, map, string_bytes, option_map, IfOk, IfSome, Some};
-ghost use Rattle.command_words.specs.Commands.{InRange, request_of};
-ghost use Rattle.sim_top.specs.Commands.{IsInRange, question, run_question, question_of, asked_by};
+ghost use Rattle.command_words.specs.Commands.{InRange, request_of, command_of};
+ghost use Rattle.sim_top.specs.Commands.{IsInRange, IsCrew, question, run_question, question_of, asked_by, workers_asked};
 
 use command_words::read_words;
 use std::alloc::{AllocError, Global};
@@ -31,13 +31,18 @@ pub enum Asked<'a> {
     Made { cycles: u32, size: u32 },
 }
 
+/// What is asked for, and by how many workers a circuit is run, from 1 to 64. Their number changes no byte.
+#[derive(Clone, Copy)]
+pub struct Order<'a> {
+    pub asked: Asked<'a>,
+    pub workers: u32,
+}
+
 /// What some words ask for, where they are a command.
-pub fn read_question<'a>(
-    alloc: Global,
-    words: &'a [String],
-) -> Result<Option<Asked<'a>>, AllocError>
-    ensures asked { IfOk result (λ asked. option_map question asked ≡ asked_by (map string_bytes words.now)) }
-    ensures in_range { IfOk result (λ asked. IfSome asked (λ a. IsInRange (question a))) }
+pub fn read_order<'a>(alloc: Global, words: &'a [String]) -> Result<Option<Order<'a>>, AllocError>
+    ensures asked { IfOk result (λ order. option_map (λ o. question o.asked) order ≡ asked_by (map string_bytes words.now)) }
+    ensures workers { IfOk result (λ order. option_map (λ o. o.workers) order ≡ option_map workers_asked (command_of (map string_bytes words.now))) }
+    ensures in_range { IfOk result (λ order. IfSome order (λ o. IsInRange (question o.asked) × IsCrew o.workers)) }
 {
     let Some(command) = read_words(alloc, words)? else {
         return Ok(None);
@@ -45,41 +50,47 @@ pub fn read_question<'a>(
     Ok(Some(of_command(command)))
 }
 
-/// How many workers run the circuit that the words ask for, from 1 to 64: one where they ask for none, or where memory is wanted to
-/// read them. Their number changes no byte.
-pub fn workers_of(alloc: Global, words: &[String]) -> u32
-    ensures some { 1 ≤ result }
-    ensures most { result ≤ 64 }
-{
-    match read_words(alloc, words) {
-        Ok(Some(command_words::Command::Run { workers, .. })) => workers,
-        Ok(Some(command_words::Command::Make { workers, .. })) => workers,
-        _ => 1,
-    }
-}
-
 /// What a command asks for.
-fn of_command<'a>(command: command_words::Command<'a>) -> Asked<'a>
+fn of_command<'a>(command: command_words::Command<'a>) -> Order<'a>
     requires { InRange (request_of command) }
-    ensures asked { question_of (Some (request_of command.entry)) ≡ Some (question result) }
-    ensures in_range { IsInRange (question result) }
+    ensures asked { question_of (Some (request_of command.entry)) ≡ Some (question result.asked) }
+    ensures workers { result.workers ≡ workers_asked (request_of command.entry) }
+    ensures in_range { IsInRange (question result.asked) }
+    ensures crew { IsCrew result.workers }
 {
     match command {
         command_words::Command::Run {
-            workers: _,
+            workers,
             circuit,
             stimulus,
-        } => run_of(circuit, stimulus),
-        command_words::Command::Check { circuit } => Asked::Joined(Command::Check, circuit),
-        command_words::Command::Widths { circuit } => Asked::Joined(Command::Widths, circuit),
-        command_words::Command::Cut { workers, circuit } => {
-            Asked::Joined(Command::Cut(workers), circuit)
-        }
+        } => Order {
+            asked: run_of(circuit, stimulus),
+            workers,
+        },
+        command_words::Command::Check { circuit } => alone(Command::Check, circuit),
+        command_words::Command::Widths { circuit } => alone(Command::Widths, circuit),
+        command_words::Command::Cut { workers, circuit } => Order {
+            asked: Asked::Joined(Command::Cut(workers), circuit),
+            workers,
+        },
         command_words::Command::Make {
-            workers: _,
+            workers,
             cycles,
             size,
-        } => Asked::Made { cycles, size },
+        } => Order {
+            asked: Asked::Made { cycles, size },
+            workers,
+        },
+    }
+}
+
+/// A command on a joined text that says nothing of workers.
+fn alone<'a>(command: Command, circuit: &'a str) -> Order<'a>
+    ensures { result ≡ record { asked = Asked.Joined command circuit; workers = 1 } }
+{
+    Order {
+        asked: Asked::Joined(command, circuit),
+        workers: 1,
     }
 }
 

@@ -116,23 +116,23 @@ module _
   order_first late = record { is = is_order late; first = first }
     where
       first : (other : StimFault) → IsLineFault text ports cycles before said other → Precedes place_of rank_of (CycleOrder (place text said.cycle_word.at)) other
-      first other (cycle_order line earlier at says less) = not_later text said.cycle_word.at 3 said.cycle_word.at 3 (omega (arith, order.leaf, order.value, order.within)) (inr (refl, omega arith))
-      first other (cycle_range ge) = not_later text said.cycle_word.at 3 said.cycle_word.at 4 (omega (arith, order.leaf, order.value, order.within)) (inr (refl, omega arith))
-      first other (leaf_unknown unknown) = not_later text said.cycle_word.at 3 said.leaf.at 5 (omega (arith, order.leaf, order.value, order.within)) (inl (omega (arith, order.leaf, order.value)))
-      first other (not_input known none) = not_later text said.cycle_word.at 3 said.leaf.at 6 (omega (arith, order.leaf, order.value, order.within)) (inl (omega (arith, order.leaf, order.value)))
-      first other (leaf_twice line earlier c says cycle leaf) = not_later text said.cycle_word.at 3 said.leaf.at 7 (omega (arith, order.leaf, order.value, order.within)) (inl (omega (arith, order.leaf, order.value)))
-      first other (value_range n leaf named at not_held) = not_later text said.cycle_word.at 3 said.value_word.at 8 (omega (arith, order.leaf, order.value, order.within)) (inl (omega (arith, order.leaf, order.value)))
+      first other (cycle_order line earlier at says less) = not_later text said.cycle_word.at 2 said.cycle_word.at 2 (omega (arith, order.leaf, order.value, order.within)) (inr (refl, omega arith))
+      first other (cycle_range ge) = not_later text said.cycle_word.at 2 said.cycle_word.at 3 (omega (arith, order.leaf, order.value, order.within)) (inr (refl, omega arith))
+      first other (leaf_unknown unknown) = not_later text said.cycle_word.at 2 said.leaf.at 4 (omega (arith, order.leaf, order.value, order.within)) (inl (omega (arith, order.leaf, order.value)))
+      first other (not_input known none) = not_later text said.cycle_word.at 2 said.leaf.at 5 (omega (arith, order.leaf, order.value, order.within)) (inl (omega (arith, order.leaf, order.value)))
+      first other (leaf_twice line earlier c says cycle leaf) = not_later text said.cycle_word.at 2 said.leaf.at 6 (omega (arith, order.leaf, order.value, order.within)) (inl (omega (arith, order.leaf, order.value)))
+      first other (value_range n leaf named at not_held) = not_later text said.cycle_word.at 2 said.value_word.at 7 (omega (arith, order.leaf, order.value, order.within)) (inl (omega (arith, order.leaf, order.value)))
 
   range_first : last ≤ said.cycle → cycles ≤ said.cycle → IsFirst place_of rank_of (IsLineFault text ports cycles before said) (CycleRange (place text said.cycle_word.at))
   range_first le past = record { is = cycle_range past; first = first }
     where
       first : (other : StimFault) → IsLineFault text ports cycles before said other → Precedes place_of rank_of (CycleRange (place text said.cycle_word.at)) other
       first other (cycle_order line earlier at says less) = absurd (no_order le line earlier at says less)
-      first other (cycle_range ge) = not_later text said.cycle_word.at 4 said.cycle_word.at 4 (omega (arith, order.leaf, order.value, order.within)) (inr (refl, omega arith))
-      first other (leaf_unknown unknown) = not_later text said.cycle_word.at 4 said.leaf.at 5 (omega (arith, order.leaf, order.value, order.within)) (inl (omega (arith, order.leaf, order.value)))
-      first other (not_input known none) = not_later text said.cycle_word.at 4 said.leaf.at 6 (omega (arith, order.leaf, order.value, order.within)) (inl (omega (arith, order.leaf, order.value)))
-      first other (leaf_twice line earlier c says cycle leaf) = not_later text said.cycle_word.at 4 said.leaf.at 7 (omega (arith, order.leaf, order.value, order.within)) (inl (omega (arith, order.leaf, order.value)))
-      first other (value_range n leaf named at not_held) = not_later text said.cycle_word.at 4 said.value_word.at 8 (omega (arith, order.leaf, order.value, order.within)) (inl (omega (arith, order.leaf, order.value)))
+      first other (cycle_range ge) = not_later text said.cycle_word.at 3 said.cycle_word.at 3 (omega (arith, order.leaf, order.value, order.within)) (inr (refl, omega arith))
+      first other (leaf_unknown unknown) = not_later text said.cycle_word.at 3 said.leaf.at 4 (omega (arith, order.leaf, order.value, order.within)) (inl (omega (arith, order.leaf, order.value)))
+      first other (not_input known none) = not_later text said.cycle_word.at 3 said.leaf.at 5 (omega (arith, order.leaf, order.value, order.within)) (inl (omega (arith, order.leaf, order.value)))
+      first other (leaf_twice line earlier c says cycle leaf) = not_later text said.cycle_word.at 3 said.leaf.at 6 (omega (arith, order.leaf, order.value, order.within)) (inl (omega (arith, order.leaf, order.value)))
+      first other (value_range n leaf named at not_held) = not_later text said.cycle_word.at 3 said.value_word.at 7 (omega (arith, order.leaf, order.value, order.within)) (inl (omega (arith, order.leaf, order.value)))
 
   unknown_first : last ≤ said.cycle → said.cycle < cycles → is_leaf ports said.leaf.bytes ≡ false → IsFirst place_of rank_of (IsLineFault text ports cycles before said) (LeafUnknown (place text said.leaf.at))
   unknown_first le below missing = record { is = leaf_unknown missing; first = first }
@@ -140,10 +140,10 @@ module _
       first : (other : StimFault) → IsLineFault text ports cycles before said other → Precedes place_of rank_of (LeafUnknown (place text said.leaf.at)) other
       first other (cycle_order line earlier at says less) = absurd (no_order le line earlier at says less)
       first other (cycle_range ge) = absurd (omega (arith, below, ge))
-      first other (leaf_unknown unknown) = not_later text said.leaf.at 5 said.leaf.at 5 (omega (arith, order.leaf, order.value, order.within)) (inr (refl, omega arith))
-      first other (not_input known none) = not_later text said.leaf.at 5 said.leaf.at 6 (omega (arith, order.leaf, order.value, order.within)) (inr (refl, omega arith))
-      first other (leaf_twice line earlier c says cycle leaf) = not_later text said.leaf.at 5 said.leaf.at 7 (omega (arith, order.leaf, order.value, order.within)) (inr (refl, omega arith))
-      first other (value_range n leaf named at not_held) = not_later text said.leaf.at 5 said.value_word.at 8 (omega (arith, order.leaf, order.value, order.within)) (inl (omega (arith, order.leaf, order.value)))
+      first other (leaf_unknown unknown) = not_later text said.leaf.at 4 said.leaf.at 4 (omega (arith, order.leaf, order.value, order.within)) (inr (refl, omega arith))
+      first other (not_input known none) = not_later text said.leaf.at 4 said.leaf.at 5 (omega (arith, order.leaf, order.value, order.within)) (inr (refl, omega arith))
+      first other (leaf_twice line earlier c says cycle leaf) = not_later text said.leaf.at 4 said.leaf.at 6 (omega (arith, order.leaf, order.value, order.within)) (inr (refl, omega arith))
+      first other (value_range n leaf named at not_held) = not_later text said.leaf.at 4 said.value_word.at 7 (omega (arith, order.leaf, order.value, order.within)) (inl (omega (arith, order.leaf, order.value)))
 
   not_input_first : last ≤ said.cycle → said.cycle < cycles → is_leaf ports said.leaf.bytes ≡ true → input_of ports said.leaf.bytes ≡ None → IsFirst place_of rank_of (IsLineFault text ports cycles before said) (NotInput (place text said.leaf.at))
   not_input_first le below among sink = record { is = not_input among sink; first = first }
@@ -152,9 +152,9 @@ module _
       first other (cycle_order line earlier at says less) = absurd (no_order le line earlier at says less)
       first other (cycle_range ge) = absurd (omega (arith, below, ge))
       first other (leaf_unknown unknown) = absurd (true_false among unknown)
-      first other (not_input known none) = not_later text said.leaf.at 6 said.leaf.at 6 (omega (arith, order.leaf, order.value, order.within)) (inr (refl, omega arith))
-      first other (leaf_twice line earlier c says cycle leaf) = not_later text said.leaf.at 6 said.leaf.at 7 (omega (arith, order.leaf, order.value, order.within)) (inr (refl, omega arith))
-      first other (value_range n leaf named at not_held) = not_later text said.leaf.at 6 said.value_word.at 8 (omega (arith, order.leaf, order.value, order.within)) (inl (omega (arith, order.leaf, order.value)))
+      first other (not_input known none) = not_later text said.leaf.at 5 said.leaf.at 5 (omega (arith, order.leaf, order.value, order.within)) (inr (refl, omega arith))
+      first other (leaf_twice line earlier c says cycle leaf) = not_later text said.leaf.at 5 said.leaf.at 6 (omega (arith, order.leaf, order.value, order.within)) (inr (refl, omega arith))
+      first other (value_range n leaf named at not_held) = not_later text said.leaf.at 5 said.value_word.at 7 (omega (arith, order.leaf, order.value, order.within)) (inl (omega (arith, order.leaf, order.value)))
 
   twice_first : last ≤ said.cycle → said.cycle < cycles → is_leaf ports said.leaf.bytes ≡ true → (input cycle : ℕ) → cycle ≡ said.cycle → input_of ports said.leaf.bytes ≡ Some input → slice_get set_in input ≡ Some (Some cycle) → IsFirst place_of rank_of (IsLineFault text ports cycles before said) (LeafTwice (place text said.leaf.at))
   twice_first le below among input now same named set = record { is = is_twice input now same named set; first = first }
@@ -164,8 +164,8 @@ module _
       first other (cycle_range ge) = absurd (omega (arith, below, ge))
       first other (leaf_unknown unknown) = absurd (true_false among unknown)
       first other (not_input known none) = absurd (some_none named none)
-      first other (leaf_twice line earlier c says cycle leaf) = not_later text said.leaf.at 7 said.leaf.at 7 (omega (arith, order.leaf, order.value, order.within)) (inr (refl, omega arith))
-      first other (value_range n leaf named at not_held) = not_later text said.leaf.at 7 said.value_word.at 8 (omega (arith, order.leaf, order.value, order.within)) (inl (omega (arith, order.leaf, order.value)))
+      first other (leaf_twice line earlier c says cycle leaf) = not_later text said.leaf.at 6 said.leaf.at 6 (omega (arith, order.leaf, order.value, order.within)) (inr (refl, omega arith))
+      first other (value_range n leaf named at not_held) = not_later text said.leaf.at 6 said.value_word.at 7 (omega (arith, order.leaf, order.value, order.within)) (inl (omega (arith, order.leaf, order.value)))
 
   value_first : last ≤ said.cycle → said.cycle < cycles → is_leaf ports said.leaf.bytes ≡ true → (input : ℕ) → input_of ports said.leaf.bytes ≡ Some input → ¬ (slice_get set_in input ≡ Some (Some said.cycle)) → (holder : PortLeaf) → slice_get ports.inputs input ≡ Some holder → ¬ (InRange holder.kind holder.width (integer_of_number said.number)) → IsFirst place_of rank_of (IsLineFault text ports cycles before said) (ValueRange (place text said.value_word.at))
   value_first le below among input named fresh holder there' fails = record { is = value_range input holder named there' fails; first = first }
@@ -176,7 +176,7 @@ module _
       first other (leaf_unknown unknown) = absurd (true_false among unknown)
       first other (not_input known none) = absurd (some_none named none)
       first other (leaf_twice line earlier c says cycle leaf) = absurd (no_twice le input named fresh line earlier c says cycle leaf)
-      first other (value_range n leaf named at not_held) = not_later text said.value_word.at 8 said.value_word.at 8 (omega (arith, order.leaf, order.value, order.within)) (inr (refl, omega arith))
+      first other (value_range n leaf named at not_held) = not_later text said.value_word.at 7 said.value_word.at 7 (omega (arith, order.leaf, order.value, order.within)) (inr (refl, omega arith))
 
   -- what is answered is the first fault
   pub cycle_first : (fault : StimFault) → AnswersCycle text cycles last said (Err fault) → IsFirst place_of rank_of (IsLineFault text ports cycles before said) fault

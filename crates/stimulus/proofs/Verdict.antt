@@ -13,10 +13,10 @@ use Rattle.bit_words.specs.Numbers.{WritesDigits}
 use Rattle.bit_words.proofs.Digits.{digits_once}
 use Rattle.ground_net.specs.declared.net.Ports.{Ports}
 use Rattle.stimulus.specs.declared.fault.StimFault.{StimFault}
-use Rattle.stimulus.specs.declared.fault.StimFault.TheVariants.{BadLine, CyclesRange, TooLarge}
+use Rattle.stimulus.specs.declared.fault.StimFault.TheVariants.{BadLine, CyclesRange}
 use Rattle.stimulus.specs.Words.{Word, told_lines, is_told}
 use Rattle.stimulus.specs.Forms.{Digits, A_leaf, A_number, heading_forms, setting_forms, Breaks, Heads, Said, Says}
-use Rattle.stimulus.specs.Faults.{most_cycles, most_values, IsLineFault, cycle_order, cycle_range, leaf_unknown, not_input, leaf_twice, value_range, IsFault, no_line, bad_heading, cycles_range, too_large, bad_setting, of_line, place_of, rank_of}
+use Rattle.stimulus.specs.Faults.{most_cycles, IsLineFault, cycle_order, cycle_range, leaf_unknown, not_input, leaf_twice, value_range, IsFault, no_line, bad_heading, cycles_range, bad_setting, of_line, place_of, rank_of}
 use Rattle.stimulus.specs.Reading.{HaveNoFault, IsFirstOfLine, IsFirstOfLines}
 use Rattle.stimulus.proofs.Ordering.{not_later}
 use Rattle.stimulus.proofs.Judged.{says_once}
@@ -124,25 +124,24 @@ none_of_line text ports cycles lines j line fault none at (inr f) =
     let one = says_once line f.0 s.0 f.1 s.1 in
     s.2 fault (subst (λ (said : Said). IsLineFault text ports cycles (take j lines) said fault) one f.2)
 
-module _ (text : List ℕ) (ports : Ports) (watched : ℕ) where
+module _ (text : List ℕ) (ports : Ports) where
   -- a text without a line
-  pub no_line_first : told_lines text ≡ [] → IsFirst place_of rank_of (IsFault text ports watched) (BadLine (place text (length text)))
+  pub no_line_first : told_lines text ≡ [] → IsFirst place_of rank_of (IsFault text ports) (BadLine (place text (length text)))
   no_line_first none = record { is = no_line none; first = first }
     where
       absent : {line : List Word} {lines : List (List Word)} → told_lines text ≡ line ∷ lines → ⊥
       absent e = cc
 
-      first : (other : StimFault) → IsFault text ports watched other → Precedes place_of rank_of (BadLine (place text (length text))) other
+      first : (other : StimFault) → IsFault text ports other → Precedes place_of rank_of (BadLine (place text (length text))) other
       first other (no_line e) = not_later text (length text) 0 (length text) 0 (omega arith) (inr (refl, omega arith))
       first other (bad_heading line lines at e b) = absurd (absent e)
       first other (cycles_range number cycles lines h over) = absurd (absent h.first)
-      first other (too_large number cycles lines h over) = absurd (absent h.first)
       first other (bad_setting number cycles lines k line at h e b) = absurd (absent h.first)
       first other (of_line number cycles lines k line said fault h e s f) = absurd (absent h.first)
 
   -- a first line that breaks its form
   pub bad_heading_first : (line : List Word) (lines : List (List Word)) (at : ℕ) → told_lines text ≡ line ∷ lines → at ≤ length text → Breaks heading_forms 0 line at
-      → IsFirst place_of rank_of (IsFault text ports watched) (BadLine (place text at))
+      → IsFirst place_of rank_of (IsFault text ports) (BadLine (place text at))
   bad_heading_first line lines at e within b = record { is = bad_heading line lines at e b; first = first }
     where
       absent : told_lines text ≡ [] → ⊥
@@ -151,14 +150,13 @@ module _ (text : List ℕ) (ports : Ports) (watched : ℕ) where
       headless : (number : Word) (cycles : ℕ) (rest : List (List Word)) → Heads text number cycles rest → ⊥
       headless number cycles rest h = heads_no_break text number cycles rest lines line at h e b
 
-      first : (other : StimFault) → IsFault text ports watched other → Precedes place_of rank_of (BadLine (place text at)) other
+      first : (other : StimFault) → IsFault text ports other → Precedes place_of rank_of (BadLine (place text at)) other
       first other (no_line e) = absurd (absent e)
       first other (bad_heading line' lines' at' e' b') =
           let same = head_same _ _ _ _ (sym e' ∙ e) in
           let here : at ≡ at' = breaks_once heading_forms 0 line at at' b (subst (λ ws. Breaks heading_forms 0 ws at') same.0 b') in
           not_later text at 0 at' 0 (omega (arith, within, here)) (inr (here, omega arith))
       first other (cycles_range number cycles lines h over) = absurd (headless number cycles lines h)
-      first other (too_large number cycles lines h over) = absurd (headless number cycles lines h)
       first other (bad_setting number cycles lines k line at h e b) = absurd (headless number cycles lines h)
       first other (of_line number cycles lines k line said fault h e s f) = absurd (headless number cycles lines h)
 
@@ -222,27 +220,15 @@ module _ (text : List ℕ) (ports : Ports) (watched : ℕ) where
         precedes_apart text s.from s.to t.from t.to fault other (record { at = number.at; above = omega (arith, w.0, w.2.0); within = omega (arith, w.2.2); place' = at })
         (stands_in text ports cycles (take b.k lines) t.from t.to b.line other (told_line b.k b.line b.at) t.words b.is) (omega (arith, t.above)) t.within
 
-    pub cycles_range_first : most_cycles < cycles → IsFirst place_of rank_of (IsFault text ports watched) (CyclesRange (place text number.at))
+    pub cycles_range_first : most_cycles < cycles → IsFirst place_of rank_of (IsFault text ports) (CyclesRange (place text number.at))
     cycles_range_first over = record { is = cycles_range number cycles lines heads over; first = first }
       where
-        first : (other : StimFault) → IsFault text ports watched other → Precedes place_of rank_of (CyclesRange (place text number.at)) other
+        first : (other : StimFault) → IsFault text ports other → Precedes place_of rank_of (CyclesRange (place text number.at)) other
         first other (no_line e) = absurd (absent e)
         first other (bad_heading line rest at e b) = absurd (no_bad_heading line rest at e b)
         first other (cycles_range number' more rest h over') = let same = same_heads number' more rest h in subst (λ (w : Word). Precedes place_of rank_of (CyclesRange (place text number.at)) (CyclesRange (place text w.at))) same.0 (itself place_of rank_of (CyclesRange (place text number.at)))
-        first other (too_large number' more rest h over') = let same = same_heads number' more rest h in let at = ap (λ (w : Word). w.at) same.0 in not_later text number.at 1 number'.at 2 (omega (arith, at, number_within)) (inr (at, omega arith))
         first other (bad_setting number' more rest k line at h e b) = number_first (CyclesRange (place text number.at)) refl _ (behind_bad number' more rest k line at h e b)
         first other (of_line number' more rest k line said fault h e s f) = number_first (CyclesRange (place text number.at)) refl other (behind_line number' more rest k line said other h e s f)
-
-    pub too_large_first : cycles ≤ most_cycles → most_values < cycles * (length ports.inputs + watched) → IsFirst place_of rank_of (IsFault text ports watched) (TooLarge (place text number.at))
-    too_large_first few over = record { is = too_large number cycles lines heads over; first = first }
-      where
-        first : (other : StimFault) → IsFault text ports watched other → Precedes place_of rank_of (TooLarge (place text number.at)) other
-        first other (no_line e) = absurd (absent e)
-        first other (bad_heading line rest at e b) = absurd (no_bad_heading line rest at e b)
-        first other (cycles_range number' more rest h over') = let same = same_heads number' more rest h in absurd (omega (arith, few, over', same.1))
-        first other (too_large number' more rest h over') = let same = same_heads number' more rest h in subst (λ (w : Word). Precedes place_of rank_of (TooLarge (place text number.at)) (TooLarge (place text w.at))) same.0 (itself place_of rank_of (TooLarge (place text number.at)))
-        first other (bad_setting number' more rest k line at h e b) = number_first (TooLarge (place text number.at)) refl _ (behind_bad number' more rest k line at h e b)
-        first other (of_line number' more rest k line said fault h e s f) = number_first (TooLarge (place text number.at)) refl other (behind_line number' more rest k line said other h e s f)
 
     -- the first fault of the lines behind the first one
     lines_before : (fault other : StimFault) → IsFirstOfLines text ports cycles lines fault → IsBehind other → Precedes place_of rank_of fault other
@@ -269,23 +255,20 @@ module _ (text : List ℕ) (ports : Ports) (watched : ℕ) where
             (stands_in text ports cycles (take f.number lines) s.from s.to f.line fault (told_line f.number f.line f.there') s.words (first_is text ports cycles (take f.number lines) f.line fault f.is))
             (stands_in text ports cycles (take b.k lines) t.from t.to b.line other (told_line b.k b.line b.at) t.words b.is) (omega (arith, t.above)) t.within
 
-    no_number : cycles ≤ most_cycles → cycles * (length ports.inputs + watched) ≤ most_values → (fault : StimFault) → IsFault text ports watched fault → IsBehind fault
-    no_number few small fault (no_line e) = absurd (absent e)
-    no_number few small fault (bad_heading line rest at e b) = absurd (no_bad_heading line rest at e b)
-    no_number few small fault (cycles_range number' more rest h over) = let same = same_heads number' more rest h in absurd (omega (arith, few, over, same.1))
-    no_number few small fault (too_large number' more rest h over) =
-        let same = same_heads number' more rest h in
-        let more_over = subst (λ n. most_values < n * (length ports.inputs + watched)) (sym same.1) over in absurd (omega (arith, small, more_over))
-    no_number few small fault (bad_setting number' more rest k line at h e b) = behind_bad number' more rest k line at h e b
-    no_number few small fault (of_line number' more rest k line said fault' h e s f) = behind_line number' more rest k line said fault h e s f
+    no_number : cycles ≤ most_cycles → (fault : StimFault) → IsFault text ports fault → IsBehind fault
+    no_number few fault (no_line e) = absurd (absent e)
+    no_number few fault (bad_heading line rest at e b) = absurd (no_bad_heading line rest at e b)
+    no_number few fault (cycles_range number' more rest h over) = let same = same_heads number' more rest h in absurd (omega (arith, few, over, same.1))
+    no_number few fault (bad_setting number' more rest k line at h e b) = behind_bad number' more rest k line at h e b
+    no_number few fault (of_line number' more rest k line said fault' h e s f) = behind_line number' more rest k line said fault h e s f
 
-    pub lines_first : cycles ≤ most_cycles → cycles * (length ports.inputs + watched) ≤ most_values → (fault : StimFault) → IsFirstOfLines text ports cycles lines fault → IsFirst place_of rank_of (IsFault text ports watched) fault
-    lines_first few small fault f = record { is = is f.is; first = λ other o. lines_before fault other f (no_number few small other o) }
+    pub lines_first : cycles ≤ most_cycles → (fault : StimFault) → IsFirstOfLines text ports cycles lines fault → IsFirst place_of rank_of (IsFault text ports) fault
+    lines_first few fault f = record { is = is f.is; first = λ other o. lines_before fault other f (no_number few other o) }
       where
-        is : IsFirstOfLine text ports cycles (take f.number lines) f.line fault → IsFault text ports watched fault
-        is (inl b) = subst (IsFault text ports watched) (sym b.2) (bad_setting number cycles lines f.number f.line b.0 heads f.there' b.1)
+        is : IsFirstOfLine text ports cycles (take f.number lines) f.line fault → IsFault text ports fault
+        is (inl b) = subst (IsFault text ports) (sym b.2) (bad_setting number cycles lines f.number f.line b.0 heads f.there' b.1)
         is (inr s) = of_line number cycles lines f.number f.line s.0 fault heads f.there' s.1 s.2.is
 
-    pub lines_none : cycles ≤ most_cycles → cycles * (length ports.inputs + watched) ≤ most_values → HaveNoFault text ports cycles lines → HasNone (IsFault text ports watched)
-    lines_none few small none fault h =
-        let b = no_number few small fault h in none_of_line text ports cycles lines b.k b.line fault none b.at b.is
+    pub lines_none : cycles ≤ most_cycles → HaveNoFault text ports cycles lines → HasNone (IsFault text ports)
+    lines_none few none fault h =
+        let b = no_number few fault h in none_of_line text ports cycles lines b.k b.line fault none b.at b.is

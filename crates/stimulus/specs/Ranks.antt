@@ -4,7 +4,7 @@ use mathlib.Core.Path.{sym, ap, ap₂, ◌∙◌}
 use Prim.Native.Nat.{zero, suc}
 use Rattle.place_text.specs.declared.place.Place.{Place}
 use Rattle.stimulus.specs.declared.fault.StimFault.{StimFault}
-use Rattle.stimulus.specs.declared.fault.StimFault.TheVariants.{BadLine, CyclesRange, TooLarge, CycleOrder, CycleRange, LeafUnknown, NotInput, LeafTwice, ValueRange, NoMemory}
+use Rattle.stimulus.specs.declared.fault.StimFault.TheVariants.{BadLine, CyclesRange, CycleOrder, CycleRange, LeafUnknown, NotInput, LeafTwice, ValueRange, NoMemory}
 use Rattle.stimulus.specs.Faults.{place_of, rank_of}
 
 -- the fault of a place and a rank
@@ -12,19 +12,17 @@ fault_at : Option Place → ℕ → StimFault
 fault_at None n = NoMemory
 fault_at (Some p) zero = BadLine p
 fault_at (Some p) (suc zero) = CyclesRange p
-fault_at (Some p) (suc (suc zero)) = TooLarge p
-fault_at (Some p) (suc (suc (suc zero))) = CycleOrder p
-fault_at (Some p) (suc (suc (suc (suc zero)))) = CycleRange p
-fault_at (Some p) (suc (suc (suc (suc (suc zero))))) = LeafUnknown p
-fault_at (Some p) (suc (suc (suc (suc (suc (suc zero)))))) = NotInput p
-fault_at (Some p) (suc (suc (suc (suc (suc (suc (suc zero))))))) = LeafTwice p
-fault_at (Some p) (suc (suc (suc (suc (suc (suc (suc (suc n)))))))) = ValueRange p
+fault_at (Some p) (suc (suc zero)) = CycleOrder p
+fault_at (Some p) (suc (suc (suc zero))) = CycleRange p
+fault_at (Some p) (suc (suc (suc (suc zero)))) = LeafUnknown p
+fault_at (Some p) (suc (suc (suc (suc (suc zero))))) = NotInput p
+fault_at (Some p) (suc (suc (suc (suc (suc (suc zero)))))) = LeafTwice p
+fault_at (Some p) (suc (suc (suc (suc (suc (suc (suc n))))))) = ValueRange p
 
 back : (fault : StimFault) → fault_at (place_of fault) (rank_of fault) ≡ fault
 unfolding fault_at
 back (BadLine p) = refl
 back (CyclesRange p) = refl
-back (TooLarge p) = refl
 back (CycleOrder p) = refl
 back (CycleRange p) = refl
 back (LeafUnknown p) = refl

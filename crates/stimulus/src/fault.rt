@@ -15,9 +15,6 @@ pub enum StimFault {
     /// There are more than 1,000,000 cycles.
     #[error("too many cycles")]
     CyclesRange(Place),
-    /// Cycles times leaves, those of inputs and the watched ones, are more than 4,194,304.
-    #[error("too many values")]
-    TooLarge(Place),
     /// The cycle is less than that of the line before.
     #[error("cycles out of order")]
     CycleOrder(Place),
@@ -65,7 +62,6 @@ impl Fault for StimFault {
         match self {
             StimFault::BadLine(place)
             | StimFault::CyclesRange(place)
-            | StimFault::TooLarge(place)
             | StimFault::CycleOrder(place)
             | StimFault::CycleRange(place)
             | StimFault::LeafUnknown(place)
@@ -80,14 +76,13 @@ impl Fault for StimFault {
         match self {
             StimFault::BadLine(_) => 0,
             StimFault::CyclesRange(_) => 1,
-            StimFault::TooLarge(_) => 2,
-            StimFault::CycleOrder(_) => 3,
-            StimFault::CycleRange(_) => 4,
-            StimFault::LeafUnknown(_) => 5,
-            StimFault::NotInput(_) => 6,
-            StimFault::LeafTwice(_) => 7,
-            StimFault::ValueRange(_) => 8,
-            StimFault::NoMemory => 9,
+            StimFault::CycleOrder(_) => 2,
+            StimFault::CycleRange(_) => 3,
+            StimFault::LeafUnknown(_) => 4,
+            StimFault::NotInput(_) => 5,
+            StimFault::LeafTwice(_) => 6,
+            StimFault::ValueRange(_) => 7,
+            StimFault::NoMemory => 8,
         }
     }
 
@@ -95,7 +90,6 @@ impl Fault for StimFault {
         match self {
             StimFault::BadLine(_) => "BadLine",
             StimFault::CyclesRange(_) => "CyclesRange",
-            StimFault::TooLarge(_) => "TooLarge",
             StimFault::CycleOrder(_) => "CycleOrder",
             StimFault::CycleRange(_) => "CycleRange",
             StimFault::LeafUnknown(_) => "LeafUnknown",

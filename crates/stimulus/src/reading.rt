@@ -1,13 +1,13 @@
 //! Reading a stimulus.
 
-ghost use Rattle.std.specs.Prelude.{◌≡◌, ◌⊎◌, ℕ, ◌+◌, ◌-◌, ◌*◌, ◌<◌, ◌≤◌, ◌^◌, List as Listed, [], length, All, AllPairs, IfOk, IfErr, MatchResult};
+ghost use Rattle.std.specs.Prelude.{◌≡◌, ◌⊎◌, ℕ, ◌+◌, ◌-◌, ◌<◌, ◌≤◌, ◌^◌, List as Listed, [], length, All, AllPairs, IfOk, IfErr, MatchResult};
 ghost use Rattle.std.specs.List.{AllZip};
 ghost use Rattle.place_text.specs.Places.{place};
 ghost use Rattle.fault_order.specs.Verdicts.{IsVerdict};
 ghost use Rattle.bit_words.specs.Numbers.{Holds};
-ghost use Rattle.stimulus.specs.declared.fault.StimFault.TheVariants.{CyclesRange as Cycles_range, TooLarge as Too_large, NoMemory as No_memory};
+ghost use Rattle.stimulus.specs.declared.fault.StimFault.TheVariants.{CyclesRange as Cycles_range, NoMemory as No_memory};
 ghost use Rattle.stimulus.specs.Words.{behind};
-ghost use Rattle.stimulus.specs.Faults.{IsFault, place_of, rank_of, most_cycles, most_values};
+ghost use Rattle.stimulus.specs.Faults.{IsFault, place_of, rank_of, most_cycles};
 ghost use Rattle.stimulus.specs.Stimuli.{IsStimulus, IsFormed, Sets};
 ghost use Rattle.stimulus.specs.Reading.{line_at, lines_after, shown, IsFirstOfLines, AreRead};
 ghost use Rattle.stimulus.specs.Naming.{KnowsNames};
@@ -24,24 +24,17 @@ use ground_net::Ports;
 use place_text::place_of;
 use std::alloc::{AllocError, Global};
 
-/// The stimulus that a text writes for main's ports, of which so many leaves are watched; or its first fault by line and then by
-/// column.
+/// The stimulus that a text writes for main's ports; or its first fault by line and then by column.
 ///
 /// Words are separated by spaces and tabs, and blank lines and lines whose first word begins with `;` are skipped. The first other
 /// line is `cycles N`, each further one `CYCLE LEAF VALUE`: from this cycle on the input has this value, a number word. Cycles don't
 /// fall from line to line and are below N, which is at most 1,000,000; an input is set once in a cycle, to a value that it holds.
-/// N times the leaves, those of inputs and the watched ones, is at most 4,194,304.
 ///
 /// Takes memory in proportion to the settings and the ports, and time in proportion to the text, but for a logarithm of the ports.
-pub fn read_stimulus(
-    alloc: Global,
-    bytes: &[u8],
-    ports: &Ports,
-    watched: u32,
-) -> Result<Stimulus, StimFault>
+pub fn read_stimulus(alloc: Global, bytes: &[u8], ports: &Ports) -> Result<Stimulus, StimFault>
     requires short { length bytes.now ≤ 4194304 }
     requires few { length ports.now.inputs < 2 ^ 32 }
-    ensures verdict { IsVerdict place_of rank_of (IsFault bytes.now ports.now watched) (IsStimulus bytes.now ports.now) result }
+    ensures verdict { IsVerdict place_of rank_of (IsFault bytes.now ports.now) (IsStimulus bytes.now ports.now) result }
     ensures formed { IfOk result (IsFormed ports.now) }
 {
     let Some(first) = next_line(bytes, 0) else {
@@ -51,8 +44,7 @@ pub fn read_stimulus(
         Ok(heading) => heading,
         Err(at) => return Err(bad_line(bytes, at)),
     };
-    let leaves = ports.inputs.len() as u128 + u128::from(watched);
-    let cycles = judge_cycles(bytes, &heading, leaves)?;
+    let cycles = judge_cycles(bytes, &heading)?;
     let reading = Reading {
         bytes,
         ports,
@@ -72,24 +64,16 @@ fn bad_line(bytes: &[u8], at: usize) -> StimFault
     StimFault::BadLine(place_of(bytes, at))
 }
 
-/// The number of cycles, which is within its limits.
-fn judge_cycles(bytes: &[u8], heading: &Heading<'_>, leaves: u128) -> Result<u64, StimFault>
+/// The number of cycles, which is within its limit.
+fn judge_cycles(bytes: &[u8], heading: &Heading<'_>) -> Result<u64, StimFault>
     requires short { length bytes.now ≤ 4194304 }
     requires within { heading.now.number.at ≤ length bytes.now }
-    requires few { leaves < 2 ^ 65 }
-    ensures { (n : ℕ) → Holds heading.now.cycles n → MatchResult result (λ cycles. (cycles ≡ n) × (n ≤ most_cycles) × (n * leaves ≤ most_values))
-        (λ fault. ((fault ≡ Cycles_range (place bytes.now heading.now.number.at)) × (most_cycles < n)) ⊎ ((fault ≡ Too_large (place bytes.now heading.now.number.at)) × (n ≤ most_cycles) × (most_values < n * leaves))) }
+    ensures { (n : ℕ) → Holds heading.now.cycles n → MatchResult result (λ cycles. (cycles ≡ n) × (n ≤ most_cycles))
+        (λ fault. (fault ≡ Cycles_range (place bytes.now heading.now.number.at)) × (most_cycles < n)) }
 {
-    let at = heading.number.at;
     match heading.cycles {
-        Some(cycles) if cycles <= 1_000_000 => {
-            if cycles * leaves > 4_194_304 {
-                Err(StimFault::TooLarge(place_of(bytes, at)))
-            } else {
-                Ok(cycles as u64)
-            }
-        }
-        _ => Err(StimFault::CyclesRange(place_of(bytes, at))),
+        Some(cycles) if cycles <= 1_000_000 => Ok(cycles as u64),
+        _ => Err(StimFault::CyclesRange(place_of(bytes, heading.number.at))),
     }
 }
 

@@ -1,43 +1,25 @@
 use Rattle.std.proofs.Common.{subst, sym, ◌∙◌}
 use Rattle.std.proofs.lemmas.Result.{err_from_is_err_and}
-use Rattle.sim_engine.proofs.Given.{given_tokens, given_layout, laid_by, given_grammar, parsed_by, given_names, named_by, given_types, typed_by, given_size, sized_by, given_widths, fitted_by, scope_kept, types_kept}
+use Rattle.sim_engine.proofs.Given.{given_names, named_by, given_types, typed_by, given_size, sized_by, given_widths, fitted_by, scope_kept, types_kept}
 use Rattle.sim_engine.specs.Stages.{IsSized}
 use Rattle.sim_engine.proofs.fitting.fit_text.Goals as goal
 
-pub returns-in_err-tokens-clause-fault : goal.returns-in_err-tokens-clause-fault
-returns-in_err-tokens-clause-fault c =
-    let p = err_from_is_err_and c.from_residual.result c.from_residual.ensures.1 in rw (p.1, p.2) (given_tokens c.args.bytes.now _ c.in_err-tokens.ensures.fault)
-
-pub returns-in_err-laid-clause-fault : goal.returns-in_err-laid-clause-fault
-returns-in_err-laid-clause-fault c =
-    let p = err_from_is_err_and c.from_residual-in_err-laid.result c.from_residual-in_err-laid.ensures.1 in
-    rw (p.1, p.2) (given_layout c.args.bytes.now c.in_ok-tokens.tokens.items _ c.in_ok-tokens.ensures.ok c.in_err-laid.ensures.fault)
-
-pub returns-in_err-circuit-clause-fault : goal.returns-in_err-circuit-clause-fault
-returns-in_err-circuit-clause-fault c =
-    let laid = laid_by c.args.bytes.now _ _ c.in_ok-laid.laid.items c.in_ok-tokens.ensures.ok c.in_ok-laid.ensures.ok c.in_ok-laid.ensures.items c.deref.ensures.value in
-    let p = err_from_is_err_and c.from_residual-in_err-circuit.result c.from_residual-in_err-circuit.ensures.1 in
-    rw (p.1, p.2) (given_grammar c.args.bytes.now c.in_ok-laid.laid.items _ _ laid c.deref-2.ensures.value c.in_err-circuit.ensures.fault)
-
 pub returns-in_err-scope-clause-fault : goal.returns-in_err-scope-clause-fault
 returns-in_err-scope-clause-fault c =
-    let laid = laid_by c.args.bytes.now _ _ c.in_ok-laid.laid.items c.in_ok-tokens.ensures.ok c.in_ok-laid.ensures.ok c.in_ok-laid.ensures.items c.deref.ensures.value in
-    let parsed = parsed_by c.args.bytes.now c.in_ok-laid.laid.items _ c.in_ok-circuit.circuit laid c.deref-2.ensures.value c.in_ok-circuit.ensures.ok c.in_ok-circuit.ensures.shallow in
+    let parsed = c.in_ok-circuit.ensures.parsed in
     let p = err_from_is_err_and c.from_residual-in_err-scope.result c.from_residual-in_err-scope.ensures.1 in
     rw (p.1, p.2) (given_names c.args.bytes.now c.in_ok-circuit.circuit _ parsed c.in_err-scope.ensures.fault)
 
 pub returns-in_err-types-clause-fault : goal.returns-in_err-types-clause-fault
 returns-in_err-types-clause-fault c =
-    let laid = laid_by c.args.bytes.now _ _ c.in_ok-laid.laid.items c.in_ok-tokens.ensures.ok c.in_ok-laid.ensures.ok c.in_ok-laid.ensures.items c.deref.ensures.value in
-    let parsed = parsed_by c.args.bytes.now c.in_ok-laid.laid.items _ c.in_ok-circuit.circuit laid c.deref-2.ensures.value c.in_ok-circuit.ensures.ok c.in_ok-circuit.ensures.shallow in
+    let parsed = c.in_ok-circuit.ensures.parsed in
     let named = named_by c.args.bytes.now c.in_ok-circuit.circuit parsed c.in_ok-scope.ensures.none in
     let p = err_from_is_err_and c.from_residual-in_err-types.result c.from_residual-in_err-types.ensures.1 in
     rw (p.1, p.2) (given_types c.args.bytes.now c.in_ok-circuit.circuit _ named c.in_err-types.ensures.fault)
 
 pub returns-in_err-flat_measure-clause-fault : goal.returns-in_err-flat_measure-clause-fault
 returns-in_err-flat_measure-clause-fault c =
-    let laid = laid_by c.args.bytes.now _ _ c.in_ok-laid.laid.items c.in_ok-tokens.ensures.ok c.in_ok-laid.ensures.ok c.in_ok-laid.ensures.items c.deref.ensures.value in
-    let parsed = parsed_by c.args.bytes.now c.in_ok-laid.laid.items _ c.in_ok-circuit.circuit laid c.deref-2.ensures.value c.in_ok-circuit.ensures.ok c.in_ok-circuit.ensures.shallow in
+    let parsed = c.in_ok-circuit.ensures.parsed in
     let named = named_by c.args.bytes.now c.in_ok-circuit.circuit parsed c.in_ok-scope.ensures.none in
     let typed = typed_by c.args.bytes.now c.in_ok-circuit.circuit named c.in_ok-types.ensures.none in
     let p = err_from_is_err_and c.from_residual-in_err-flat_measure.result c.from_residual-in_err-flat_measure.ensures.1 in
@@ -45,8 +27,7 @@ returns-in_err-flat_measure-clause-fault c =
 
 pub returns-in_err-fitted-clause-fault : goal.returns-in_err-fitted-clause-fault
 returns-in_err-fitted-clause-fault c =
-    let laid = laid_by c.args.bytes.now _ _ c.in_ok-laid.laid.items c.in_ok-tokens.ensures.ok c.in_ok-laid.ensures.ok c.in_ok-laid.ensures.items c.deref.ensures.value in
-    let parsed = parsed_by c.args.bytes.now c.in_ok-laid.laid.items _ c.in_ok-circuit.circuit laid c.deref-2.ensures.value c.in_ok-circuit.ensures.ok c.in_ok-circuit.ensures.shallow in
+    let parsed = c.in_ok-circuit.ensures.parsed in
     let named = named_by c.args.bytes.now c.in_ok-circuit.circuit parsed c.in_ok-scope.ensures.none in
     let typed = typed_by c.args.bytes.now c.in_ok-circuit.circuit named c.in_ok-types.ensures.none in
     let same = c.in_ok-checked.ensures in
@@ -58,8 +39,7 @@ returns-in_err-fitted-clause-fault c =
 
 pub returns-clause-fits : goal.returns-clause-fits
 returns-clause-fits c =
-    let laid = laid_by c.args.bytes.now _ _ c.in_ok-laid.laid.items c.in_ok-tokens.ensures.ok c.in_ok-laid.ensures.ok c.in_ok-laid.ensures.items c.deref.ensures.value in
-    let parsed = parsed_by c.args.bytes.now c.in_ok-laid.laid.items _ c.in_ok-circuit.circuit laid c.deref-2.ensures.value c.in_ok-circuit.ensures.ok c.in_ok-circuit.ensures.shallow in
+    let parsed = c.in_ok-circuit.ensures.parsed in
     let named = named_by c.args.bytes.now c.in_ok-circuit.circuit parsed c.in_ok-scope.ensures.none in
     let typed = typed_by c.args.bytes.now c.in_ok-circuit.circuit named c.in_ok-types.ensures.none in
     let same = c.in_ok-checked.ensures in

@@ -1,4 +1,4 @@
-use Rattle.std.proofs.Common.{◌≡◌, length, arith}
+use Rattle.std.proofs.Common.{arith}
 use Rattle.sim_top.specs.declared.words.Command.TheVariants.{Run}
 use Rattle.sim_top.proofs.Judging.{no_trace, ran_long, ran_refused, ran_traced}
 use Rattle.sim_top.proofs.judge.run.Goals as goal
@@ -9,14 +9,12 @@ returns-then-stimulus-gt-STIMULUS_LIMIT-clause-judges c = λ text b.
 
 pub returns-in-Ok-read_stimulus-clause-judges : goal.returns-in-Ok-read_stimulus-clause-judges
 returns-in-Ok-read_stimulus-clause-judges c = λ text b.
-    let counted : c.in-Ok-try_from.watched ≡ length c.args.built.ports.watched = omega (arith, c.in-Ok-try_from.ensures, c.len-2.ensures) in
-    ran_traced text _ c.args.built _ _ b (omega (arith, c.if-stimulus-gt-STIMULUS_LIMIT.false)) counted c.in-Ok-read_stimulus.ensures.verdict
+    ran_traced text _ c.args.built _ b (omega (arith, c.if-stimulus-gt-STIMULUS_LIMIT.false)) c.in-Ok-read_stimulus.ensures.verdict
 
 pub returns-in_ok-reply-in-Err-clause-judges : goal.returns-in_ok-reply-in-Err-clause-judges
 returns-in_ok-reply-in-Err-clause-judges c = λ text b.
-    let counted : c.in-Ok-try_from.watched ≡ length c.args.built.ports.watched = omega (arith, c.in-Ok-try_from.ensures, c.len-2.ensures) in
     let told = c.in_ok-reply-in-Err.ensures in
-    ran_refused text _ c.args.built _ _ told.1.0 _ _ b (omega (arith, c.if-stimulus-gt-STIMULUS_LIMIT.false)) counted c.in-Err.ensures.verdict told.1.1 told.0 told.1.2
+    ran_refused text _ c.args.built _ told.1.0 _ _ b (omega (arith, c.if-stimulus-gt-STIMULUS_LIMIT.false)) c.in-Err.ensures.verdict told.1.1 told.0 told.1.2
 
 pub returns-then-stimulus-gt-STIMULUS_LIMIT-clause-fits : goal.returns-then-stimulus-gt-STIMULUS_LIMIT-clause-fits
 returns-then-stimulus-gt-STIMULUS_LIMIT-clause-fits c = no_trace Run _ 3 (omega arith) c.in_ok-reply.ensures.0

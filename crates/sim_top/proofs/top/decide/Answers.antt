@@ -1,46 +1,41 @@
-use Rattle.std.proofs.Common.{ap, sym, ◌∙◌, Some, option_map}
-use Rattle.std.proofs.lemmas.Result.{IfOk-weaker}
-use Rattle.sim_top.specs.Commands.{question, the_joined}
-use Rattle.sim_top.specs.Answers.{answered}
-use Rattle.sim_top.proofs.Asking.{joined_range, made_range}
-use Rattle.sim_top.proofs.Replying.{usage_answers, words_answer}
+use Rattle.std.proofs.Common.{ap, Err}
+use Rattle.sim_top.proofs.Asking.{none_asked, order_asked, order_range, order_workers, no_order}
+use Rattle.sim_top.proofs.Replying.{usage_answers, words_answer, err_same}
 use Rattle.sim_top.proofs.top.decide.Goals as goal
 
 pub returns-in_default-clause-answers : goal.returns-in_default-clause-answers
 returns-in_default-clause-answers g c = λ texts held.
-    usage_answers _ texts _ (sym c.in_ok-asked.ensures.asked ∙ ap (option_map question) c.in_default.is) c.in_ok-bytes.ensures.items
+    usage_answers _ texts _ (none_asked _ _ c.in_default.is c.in_ok-order.ensures.asked) c.in_ok-bytes.ensures.items
 
-pub returns-in-Joined-clause-answers : goal.returns-in-Joined-clause-answers
-returns-in-Joined-clause-answers g c =
-    let asked = sym c.in_ok-asked.ensures.asked ∙ ap (option_map question) (c.in-Some.is ∙ ap Some c.in-Joined.is) in
-    IfOk-weaker c.decide_joined.result _ _ (λ d h. λ texts held. words_answer _ texts _ d asked (h texts held)) c.decide_joined.ensures.answers
+pub returns-in_default-clause-usage : goal.returns-in_default-clause-usage
+returns-in_default-clause-usage g c = λ one. none_asked _ _ c.in_default.is c.in_ok-order.ensures.asked
 
-pub returns-in-Joined-clause-fault : goal.returns-in-Joined-clause-fault
-returns-in-Joined-clause-fault g c = λ e.
-    let asked = sym c.in_ok-asked.ensures.asked ∙ ap (option_map question) (c.in-Some.is ∙ ap Some c.in-Joined.is) in
-    (_, record { question = _; asked = asked; needs = the_joined _ _ }, c.decide_joined.ensures.fault e)
+pub returns-in_default-clause-workers : goal.returns-in_default-clause-workers
+returns-in_default-clause-workers g c = λ request given. absurd (no_order _ _ request c.in_default.is given c.in_ok-order.ensures.workers)
 
-pub returns-in-Two-clause-answers : goal.returns-in-Two-clause-answers
-returns-in-Two-clause-answers g c =
-    let asked = sym c.in_ok-asked.ensures.asked ∙ ap (option_map question) (c.in-Some.is ∙ ap Some c.in-Two.is) in
-    IfOk-weaker c.decide_two.result _ _ (λ d h. λ texts held. words_answer _ texts _ d asked (h texts held)) c.decide_two.ensures.answers
+pub decide_asked-requires-clause-some : goal.decide_asked-requires-clause-some
+decide_asked-requires-clause-some g c κs within = (order_range _ _ c.in-Some.is c.in_ok-order.ensures.in_range).1.0
 
-pub returns-in-Two-clause-fault : goal.returns-in-Two-clause-fault
-returns-in-Two-clause-fault g c = λ e.
-    let asked = sym c.in_ok-asked.ensures.asked ∙ ap (option_map question) (c.in-Some.is ∙ ap Some c.in-Two.is) in
-    let told = c.decide_two.ensures.fault e in
-    (told.0, record { question = _; asked = asked; needs = told.1 }, told.2)
+pub decide_asked-requires-clause-most : goal.decide_asked-requires-clause-most
+decide_asked-requires-clause-most g c κs within = (order_range _ _ c.in-Some.is c.in_ok-order.ensures.in_range).1.1
 
-pub decide_joined-requires : goal.decide_joined-requires
-decide_joined-requires g c = joined_range _ _ _ _ c.in-Some.is c.in-Joined.is c.in_ok-asked.ensures.in_range
+pub decide_asked-requires-clause-in_range : goal.decide_asked-requires-clause-in_range
+decide_asked-requires-clause-in_range g c κs within = (order_range _ _ c.in-Some.is c.in_ok-order.ensures.in_range).0
 
-pub decide_made-requires-clause-cycles : goal.decide_made-requires-clause-cycles
-decide_made-requires-clause-cycles g c κs within = (made_range _ _ _ _ c.in-Some.is c.in-Made.is c.in_ok-asked.ensures.in_range).0
+pub returns-in-Ok-clause-answers : goal.returns-in-Ok-clause-answers
+returns-in-Ok-clause-answers g c = λ texts held.
+    words_answer _ texts _ _ (order_asked _ _ _ c.in-Some.is c.in_ok-order.ensures.asked) (c.in-Ok.ensures.answers texts held)
 
-pub decide_made-requires-clause-size : goal.decide_made-requires-clause-size
-decide_made-requires-clause-size g c κs within = (made_range _ _ _ _ c.in-Some.is c.in-Made.is c.in_ok-asked.ensures.in_range).1
+pub returns-in-Ok-clause-crew : goal.returns-in-Ok-clause-crew
+returns-in-Ok-clause-crew g c = (order_range _ _ c.in-Some.is c.in_ok-order.ensures.in_range).1
 
-pub returns-in_ok-reply-in-Made-clause-answers : goal.returns-in_ok-reply-in-Made-clause-answers
-returns-in_ok-reply-in-Made-clause-answers g c = λ texts held.
-    let asked = sym c.in_ok-asked.ensures.asked ∙ ap (option_map question) (c.in-Some.is ∙ ap Some c.in-Made.is) in
-    answered _ texts _ _ _ asked (c.in_ok-reply-in-Made.ensures.answers texts)
+pub returns-in-Ok-clause-workers : goal.returns-in-Ok-clause-workers
+returns-in-Ok-clause-workers g c = λ request given. order_workers _ _ _ request c.in-Some.is given c.in_ok-order.ensures.workers
+
+pub returns-in-Ok-clause-usage : goal.returns-in-Ok-clause-usage
+returns-in-Ok-clause-usage g c = λ one. absurd (c.in-Ok.ensures.usage one)
+
+pub returns-in-Err-clause-fault : goal.returns-in-Err-clause-fault
+returns-in-Err-clause-fault g c = λ e.
+    let told = c.in-Err.ensures.fault (ap Err (err_same _ _ e)) in
+    (told.0, record { question = _; asked = order_asked _ _ _ c.in-Some.is c.in_ok-order.ensures.asked; needs = told.1 }, told.2)

@@ -1,51 +1,57 @@
 use Rattle.sim_top.proofs.Replying.{said_few, said_rose, ends_said, ends_run, ends_wanting, reply_few, run_answered, unheld_unanswered, said_untouched, said_complete}
 use Rattle.sim_top.proofs.top.run_program.Goals as goal
 
-pub returns-in-Ok-Say-clause-ends : goal.returns-in-Ok-Say-clause-ends
-returns-in-Ok-Say-clause-ends g c = λ texts before held written.
-    ends_said _ texts _ _ _ before _ _ (rw c.in-Ok-Say.field-0-is at c.in-Ok-Say.ensures.answers texts held) (reply_few _ _ (rw c.in-Ok-Say.field-0-is at c.in-Ok-Say.ensures.ready)) c.say.ensures.said written
+pub returns-in-Say-clause-ends : goal.returns-in-Say-clause-ends
+returns-in-Say-clause-ends g c = λ texts before held written.
+    ends_said _ texts _ _ _ before _ _ (rw c.in-Say.is at c.in-Ok.ensures.answers texts held) (reply_few _ _ (rw c.in-Say.is at c.in-Ok.ensures.ready)) c.say.ensures.said written
 
-pub returns-in-Ok-Run-clause-ends : goal.returns-in-Ok-Run-clause-ends
-returns-in-Ok-Run-clause-ends g c = λ texts before held written.
+pub returns-in-Run-clause-ends : goal.returns-in-Run-clause-ends
+returns-in-Run-clause-ends g c = λ texts before held written.
     let ran = c.run.ensures.ran in
-    ends_run _ texts _ _ before _ _ ((rw c.in-Ok-Run.field-0-is at c.in-Ok-Run.ensures.answers texts held) ran.0 ran.1) ran.2 written
+    ends_run _ texts _ _ before _ _ ((rw c.in-Run.is at c.in-Ok.ensures.answers texts held) ran.0 ran.1) ran.2 written
 
-pub returns-in-Ok-Run-clause-answered : goal.returns-in-Ok-Run-clause-answered
-returns-in-Ok-Run-clause-answered g c = λ texts held few.
+pub returns-in-Run-clause-answered : goal.returns-in-Run-clause-answered
+returns-in-Run-clause-answered g c = λ texts held few.
     let ran = c.run.ensures.ran in
-    run_answered _ texts _ _ _ _ ((rw c.in-Ok-Run.field-0-is at c.in-Ok-Run.ensures.answers texts held) ran.0 ran.1) ran.2 few
+    run_answered _ texts _ _ _ _ ((rw c.in-Run.is at c.in-Ok.ensures.answers texts held) ran.0 ran.1) ran.2 few
 
-pub returns-in-Ok-Run-clause-unheld : goal.returns-in-Ok-Run-clause-unheld
-returns-in-Ok-Run-clause-unheld g c = λ texts name held needs none.
+pub returns-in-Run-clause-unheld : goal.returns-in-Run-clause-unheld
+returns-in-Run-clause-unheld g c = λ texts name held needs none.
     let ran = c.run.ensures.ran in
-    let answers = (rw c.in-Ok-Run.field-0-is at c.in-Ok-Run.ensures.answers texts held) ran.0 ran.1 in
+    let answers = (rw c.in-Run.is at c.in-Ok.ensures.answers texts held) ran.0 ran.1 in
     absurd (unheld_unanswered _ texts _ name _ _ held needs none answers)
 
 pub returns-in-Err-NoMemory-clause-ends : goal.returns-in-Err-NoMemory-clause-ends
 returns-in-Err-NoMemory-clause-ends g c = λ texts before held written. ends_wanting _ texts before _ written
 
-pub returns-in-Ok-Say-clause-unheld : goal.returns-in-Ok-Say-clause-unheld
-returns-in-Ok-Say-clause-unheld g c = λ texts name held needs none.
-    let answers = rw c.in-Ok-Say.field-0-is at c.in-Ok-Say.ensures.answers texts held in
+pub returns-in-Say-clause-unheld : goal.returns-in-Say-clause-unheld
+returns-in-Say-clause-unheld g c = λ texts name held needs none.
+    let answers = rw c.in-Say.is at c.in-Ok.ensures.answers texts held in
     absurd (unheld_unanswered _ texts _ name _ _ held needs none answers)
 
-pub returns-in-Ok-Say-clause-shelf_fault : goal.returns-in-Ok-Say-clause-shelf_fault
-returns-in-Ok-Say-clause-shelf_fault g c = λ four.
-    absurd (said_untouched _ _ _ _ _ (reply_few _ _ (rw c.in-Ok-Say.field-0-is at c.in-Ok-Say.ensures.ready)) c.say.ensures.said four)
+pub returns-in-Say-clause-shelf_fault : goal.returns-in-Say-clause-shelf_fault
+returns-in-Say-clause-shelf_fault g c = λ four.
+    absurd (said_untouched _ _ _ _ _ (reply_few _ _ (rw c.in-Say.is at c.in-Ok.ensures.ready)) c.say.ensures.said four)
 
-pub returns-in-Ok-Say-clause-complete : goal.returns-in-Ok-Say-clause-complete
-returns-in-Ok-Say-clause-complete g c = λ held kept.
-    said_complete _ _ _ (reply_few _ _ (rw c.in-Ok-Say.field-0-is at c.in-Ok-Say.ensures.ready)) c.say.ensures.rose kept
+pub returns-in-Say-clause-complete : goal.returns-in-Say-clause-complete
+returns-in-Say-clause-complete g c = λ held kept.
+    said_complete _ _ _ (reply_few _ _ (rw c.in-Say.is at c.in-Ok.ensures.ready)) c.say.ensures.rose kept
 
 pub say-requires : goal.say-requires
-say-requires g c = reply_few _ _ (rw c.in-Ok-Say.field-0-is at c.in-Ok-Say.ensures.ready)
+say-requires g c = reply_few _ _ (rw c.in-Say.is at c.in-Ok.ensures.ready)
 
-pub returns-in-Ok-Say-clause-sink_fault : goal.returns-in-Ok-Say-clause-sink_fault
-returns-in-Ok-Say-clause-sink_fault g c = λ five. said_rose _ _ _ (reply_few _ _ (rw c.in-Ok-Say.field-0-is at c.in-Ok-Say.ensures.ready)) c.say.ensures.rose five
+pub returns-in-Say-clause-sink_fault : goal.returns-in-Say-clause-sink_fault
+returns-in-Say-clause-sink_fault g c = λ five. said_rose _ _ _ (reply_few _ _ (rw c.in-Say.is at c.in-Ok.ensures.ready)) c.say.ensures.rose five
 
-pub returns-in-Ok-Say-clause-few : goal.returns-in-Ok-Say-clause-few
-returns-in-Ok-Say-clause-few g c = said_few _ _ _ _ _ (reply_few _ _ (rw c.in-Ok-Say.field-0-is at c.in-Ok-Say.ensures.ready)) c.say.ensures.said
+pub returns-in-Say-clause-few : goal.returns-in-Say-clause-few
+returns-in-Say-clause-few g c = said_few _ _ _ _ _ (reply_few _ _ (rw c.in-Say.is at c.in-Ok.ensures.ready)) c.say.ensures.said
 
-pub returns-in-Ok-Say-clause-untouched : goal.returns-in-Ok-Say-clause-untouched
-returns-in-Ok-Say-clause-untouched g c = λ four.
-    absurd (said_untouched _ _ _ _ _ (reply_few _ _ (rw c.in-Ok-Say.field-0-is at c.in-Ok-Say.ensures.ready)) c.say.ensures.said four)
+pub returns-in-Say-clause-untouched : goal.returns-in-Say-clause-untouched
+returns-in-Say-clause-untouched g c = λ four.
+    absurd (said_untouched _ _ _ _ _ (reply_few _ _ (rw c.in-Say.is at c.in-Ok.ensures.ready)) c.say.ensures.said four)
+
+pub run-requires-clause-some : goal.run-requires-clause-some
+run-requires-clause-some g c κs within = c.in-Ok.ensures.crew.0
+
+pub run-requires-clause-most : goal.run-requires-clause-most
+run-requires-clause-most g c κs within = c.in-Ok.ensures.crew.1

@@ -8,14 +8,14 @@ use Rattle.stimulus.specs.Ranks.{one_each}
 use Rattle.stimulus.specs.Forms.{Heads}
 use Rattle.stimulus.specs.Reading.{shown, lines_after, HaveNoFault, IsFirstOfLines}
 use Rattle.stimulus.proofs.Heading.{told_start, heads_of}
-use Rattle.stimulus.proofs.Verdict.{no_line_first, bad_heading_first, cycles_range_first, too_large_first, lines_first, lines_none}
+use Rattle.stimulus.proofs.Verdict.{no_line_first, bad_heading_first, cycles_range_first, lines_first, lines_none}
 use Rattle.stimulus.proofs.reading.read_stimulus.Goals as goal
 
 pub returns-in_default-clause-verdict : goal.returns-in_default-clause-verdict
 returns-in_default-clause-verdict c =
     let text = c.args.bytes.now in
     let none = sym (told_start text) ∙ c.in_default.ensures.none in
-    refuses_by one_each c.bad_line.result (subst (IsFirst place_of rank_of (IsFault text c.args.ports.now c.args.watched)) (sym c.bad_line.ensures) (no_line_first text c.args.ports.now c.args.watched none))
+    refuses_by one_each c.bad_line.result (subst (IsFirst place_of rank_of (IsFault text c.args.ports.now)) (sym c.bad_line.ensures) (no_line_first text c.args.ports.now none))
 
 pub returns-in-Err-clause-verdict : goal.returns-in-Err-clause-verdict
 returns-in-Err-clause-verdict c =
@@ -23,7 +23,7 @@ returns-in-Err-clause-verdict c =
     let next = c.in-Some.ensures.some in
     let line = sym (told_start text) ∙ next.lines in
     refuses_by one_each c.bad_line-in-Err.result
-    (subst (IsFirst place_of rank_of (IsFault text c.args.ports.now c.args.watched)) (sym c.bad_line-in-Err.ensures) (bad_heading_first text c.args.ports.now c.args.watched _ _ c.in-Err.at line c.in-Err.ensures.within c.in-Err.ensures.err))
+    (subst (IsFirst place_of rank_of (IsFault text c.args.ports.now)) (sym c.bad_line-in-Err.ensures) (bad_heading_first text c.args.ports.now _ _ c.in-Err.at line c.in-Err.ensures.within c.in-Err.ensures.err))
 
 pub returns-in_err-cycles-clause-verdict : goal.returns-in_err-cycles-clause-verdict
 returns-in_err-cycles-clause-verdict c =
@@ -34,11 +34,9 @@ returns-in_err-cycles-clause-verdict c =
     let q = err_from_is_err_and c.from_residual.result c.from_residual.ensures.1 in
     let at = c.in-Ok.heading.number.at in
     let fault = c.in_err-cycles.field-0.0 in
-    let first : IsFirst place_of rank_of (IsFault text ports c.args.watched) fault =
-    ⊎_elim
-    (λ a. subst (IsFirst place_of rank_of (IsFault text ports c.args.watched)) (sym a.0) (cycles_range_first text ports c.args.watched (shown c.in-Ok.heading.number) h.cycles _ heads a.1))
-    (λ a. subst (IsFirst place_of rank_of (IsFault text ports c.args.watched)) (sym a.0) (too_large_first text ports c.args.watched (shown c.in-Ok.heading.number) h.cycles _ heads a.1 (rw (← c.len.ensures, ← c.from.ensures) a.2)))
-    (c.in_err-cycles.ensures h.cycles h.holds) in
+    let over = c.in_err-cycles.ensures h.cycles h.holds in
+    let first : IsFirst place_of rank_of (IsFault text ports) fault =
+    subst (IsFirst place_of rank_of (IsFault text ports)) (sym over.0) (cycles_range_first text ports (shown c.in-Ok.heading.number) h.cycles _ heads over.1) in
     rw (q.1, q.2) (refuses_by one_each fault first)
 
 pub returns-in_err-settings-clause-verdict : goal.returns-in_err-settings-clause-verdict
@@ -53,7 +51,7 @@ returns-in_err-settings-clause-verdict c =
     rw (q.1, q.2)
     (⊎_elim (λ e. wants_memory fault (ap place_of e))
     (λ f. refuses_by one_each fault
-    (lines_first text ports c.args.watched (shown c.in-Ok.heading.number) h.cycles _ heads cycles.1 (rw (← c.len.ensures, ← c.from.ensures) cycles.2) fault
+    (lines_first text ports (shown c.in-Ok.heading.number) h.cycles _ heads cycles.1 fault
     (subst (λ n. IsFirstOfLines text ports n (lines_after text (behind (shown c.in-Ok.heading.number))) fault) cycles.0 f)))
     c.in_err-settings.ensures.err)
 
@@ -72,5 +70,5 @@ returns-clause-verdict c =
       heads = subst (λ n. Heads text (shown c.in-Ok.heading.number) n (lines_after text (behind (shown c.in-Ok.heading.number)))) (sym cycles.0) heads;
       settings = read.sets;
     })
-    (lines_none text ports c.args.watched (shown c.in-Ok.heading.number) h.cycles _ heads cycles.1 (rw (← c.len.ensures, ← c.from.ensures) cycles.2)
+    (lines_none text ports (shown c.in-Ok.heading.number) h.cycles _ heads cycles.1
     (subst (λ n. HaveNoFault text ports n (lines_after text (behind (shown c.in-Ok.heading.number)))) cycles.0 read.no_fault))
