@@ -12,7 +12,7 @@ use Rattle.fir_tree.specs.declared.stmt.Stmt.{the_lemmas as stmt_lemmas}
 use Rattle.fir_meaning.specs.Components.{TypedModule, Component, flow_of, is_clock, module_at, component_named}
 use Rattle.fir_meaning.specs.Values.{scene_of}
 use Rattle.fir_meaning.specs.Drives.{drives}
-use Rattle.fir_meaning.specs.States.{State, Stands, Settled, next, next_of_register, row, watched, is_register, is_port, is_driven, is_source, seen, leaf_of}
+use Rattle.fir_meaning.specs.States.{State, Stands, Settled, next, next_of_register, row, row_of, main_leaf, watched, is_register, is_port, is_driven, is_source, seen, leaf_of}
 use Rattle.definition_examples.specs.Samples.{clock_type, uint, leaf, whole_leaf}
 use Rattle.definition_examples.specs.Clocks.{clock_in}
 use Rattle.definition_examples.specs.Passing.{passing, outer, inner, outer_body, inner_body, a, x, instance, input, output, register, giving, showing}
@@ -128,7 +128,7 @@ passing_watches : watched passing ≡ leaf 22 [] ∷ []
 passing_watches = grind (arith, common_steps, type_lemmas)
 
 pub passing_row : row passing (showing 5 6) ≡ pos 6 ∷ []
-passing_row = ap (map (λ l. showing 5 6 [] l.component l.way)) passing_watches
+passing_row = ap (λ ls. row_of (map main_leaf ls) (showing 5 6)) passing_watches
 
 taken_at_end : (held : ℤ) → next_of_register (scene_of inner (26 ∷ []) rho) register register.declaration.sort [] held ≡ pos 5
 taken_at_end held = grind (arith, common_steps, stmt_lemmas, expr_lemmas, type_lemmas)

@@ -20,7 +20,7 @@ use Rattle.prim_ops.specs.declared.operation.PrimOp.TheVariants.{Add, Tail}
 use Rattle.fir_meaning.specs.Components.{Design, TypedModule, Component, Sort, An_input, An_output, A_reset_register, A_node, A_memory, An_instance, Leaf, FlatLeaf, HasBundles, flat, flow_of, type_in, is_clock, target_in, module_at, module_within, module_named, component_named, with_types}
 use Rattle.fir_meaning.specs.Values.{Valuation, scene_of}
 use Rattle.fir_meaning.specs.Drives.{drives}
-use Rattle.fir_meaning.specs.States.{State, Inputs, Stands, Settled, Trace, ended, cycle, first_state, next, next_of_register, row, watched, is_register, is_port, is_driven, is_source, seen, leaf_of}
+use Rattle.fir_meaning.specs.States.{State, Inputs, Stands, Settled, Trace, ended, cycle, first_state, next, next_of_register, row, row_of, main_leaf, WatchedTrace, watched, is_register, is_port, is_driven, is_source, seen, leaf_of}
 use Rattle.fir_meaning.specs.Mentions.{joined, mentions, whole_region}
 use Rattle.fir_meaning.specs.Loops.{live, ReadsLeaf, by_connect, by_node, by_port, ReadsThrough, directly, through, HasNoLoop, HasLeaves, driven_from, TakesFrom, by_live_connect, by_reset, by_init, by_write, by_read, TakesLeaves}
 use Rattle.fir_meaning.proofs.Settling.{state_itself}
@@ -199,7 +199,7 @@ watches : watched design ≡ leaf 12 [] ∷ []
 watches = grind (arith, common_steps, type_lemmas)
 
 row_is : (n r : ℕ) → row design (holding n r) ≡ pos r ∷ []
-row_is n r = ap (map (λ leaf. holding n r [] leaf.component leaf.way)) watches
+row_is n r = ap (λ ls. row_of (map main_leaf ls) (holding n r)) watches
 
 one_cycle : (s : State) (n r : ℕ) (rest : List Inputs) (rows : List (List ℤ)) → s.registers [] 13 [] ≡ pos r → drives (scene_of counter [] (holding n r)) (leaf 12 []) body ≡ Some (pos r)
     → Trace design (next design s (holding n r)) rest rows → Trace design s (given n ∷ rest) ((pos r ∷ []) ∷ rows)
@@ -214,6 +214,10 @@ after_second = next design after_first (holding 0 0)
 
 abbrev after_third : State
 after_third = next design after_second (holding 0 1)
+
+-- any leaves may be watched, and one of them twice: the reset, and the register
+reset_and_register : WatchedTrace design (main_leaf (leaf 11 []) ∷ main_leaf (leaf 13 []) ∷ main_leaf (leaf 11 []) ∷ []) first_state (given 1 ∷ []) ((pos 1 ∷ pos 0 ∷ pos 1 ∷ []) ∷ [])
+reset_and_register = cycle (holding 1 0) (settled first_state 1 0 refl out_0) ended
 
 -- cycle out: 0 0, 1 0, 2 1, 3 2
 runs : Trace design first_state (given 1 ∷ given 0 ∷ given 0 ∷ given 0 ∷ []) ((pos 0 ∷ []) ∷ (pos 0 ∷ []) ∷ (pos 1 ∷ []) ∷ (pos 2 ∷ []) ∷ [])

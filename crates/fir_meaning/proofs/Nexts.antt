@@ -18,7 +18,7 @@ use Rattle.fir_meaning.specs.Components.{Design, TypedModule, Component, Leaf, F
 use Rattle.fir_meaning.specs.Values.{Valuation, scene_of, scene_with, value, whole, is_one}
 use Rattle.fir_meaning.specs.Drives.{drives, left_in, set_at}
 use Rattle.fir_meaning.specs.MemoryPorts.{MemoryPort, Contents, Leaves, memory_ports, port_named, field, after_port, after_writes, asks_to_write, is_within, address, mask_field, written_field}
-use Rattle.fir_meaning.specs.States.{State, SameState, Inputs, Stands, Trace, ended, cycle, next, next_of_register, next_of_memory, next_of_port, located, where_located, or_else, taken, row, watched, watched_of, watched_of_component, leaf_of, is_port, is_source, is_register, IsLeafOf}
+use Rattle.fir_meaning.specs.States.{State, SameState, Inputs, Stands, Trace, WatchedTrace, ended, cycle, next, next_of_register, next_of_memory, next_of_port, located, where_located, or_else, taken, row_of, main_leaf, watched_leaves, watched, watched_of, watched_of_component, leaf_of, is_port, is_source, is_register, IsLeafOf}
 use Rattle.fir_meaning.specs.Elements.{IsElement}
 use Rattle.fir_meaning.specs.Mentions.{joined, mentions, whole_region}
 use Rattle.fir_meaning.specs.Loops.{live, driven_from, write_goes_by, IsRead, by_live_connect, by_reset, by_init, by_read, TakesLeaves, HasNoLoop, HasLeaves}
@@ -231,12 +231,21 @@ watched_is_leaf design has (Some m) e y among =
           ∙ (flat_none [] c.declaration.name there.1.path ∙ ap (λ l. record { path = []; component = l.component; way = l.way }) there.3);
     }
 
+pub watched_rows_same : (design : Design) (all : List FlatLeaf) → HasBundles design → HasNoLoop design → HasLeaves design all → TakesLeaves design → (watch : List FlatLeaf)
+    → ((x : FlatLeaf) → Contains watch x → IsLeafOf design x) → {s t : State} {given : List Inputs} {rows other_rows : List (List ℤ)}
+    → SameState design s t → WatchedTrace design watch s given rows → WatchedTrace design watch t given other_rows → rows ≡ other_rows
+watched_rows_same design all has none leaves_of takes watch are kept ended ended = refl
+watched_rows_same design all has none leaves_of takes watch are {s} {t} kept (cycle {given = g} rho one rest) (cycle other two later) =
+    let every : (x : FlatLeaf) → IsLeafOf design x → at rho x ≡ at other x = settled_same design all has none leaves_of s t g rho other one two kept in
+    let first : row_of watch rho ≡ row_of watch other =
+    map_same (λ leaf. rho leaf.path leaf.component leaf.way) (λ leaf. other leaf.path leaf.component leaf.way) watch (λ x among. every x (are x among)) in
+    ap₂ (λ x xs. x ∷ xs) first (watched_rows_same design all has none leaves_of takes watch are (next_same design has takes s t rho other kept every) rest later)
+
+watched_are_leaves : (design : Design) → HasBundles design → (x : FlatLeaf) → Contains (watched_leaves design) x → IsLeafOf design x
+watched_are_leaves design has x among =
+    let from = from_map main_leaf (watched design) x among in
+    subst (IsLeafOf design) from.2 (watched_is_leaf design has (module_named design design.main) refl from.0 from.1)
+
 pub rows_same : (design : Design) (all : List FlatLeaf) → HasBundles design → HasNoLoop design → HasLeaves design all → TakesLeaves design → {s t : State} {given : List Inputs} {rows other_rows : List (List ℤ)}
     → SameState design s t → Trace design s given rows → Trace design t given other_rows → rows ≡ other_rows
-rows_same design all has none leaves_of takes kept ended ended = refl
-rows_same design all has none leaves_of takes {s} {t} kept (cycle {given = g} rho one rest) (cycle other two later) =
-    let every : (x : FlatLeaf) → IsLeafOf design x → at rho x ≡ at other x = settled_same design all has none leaves_of s t g rho other one two kept in
-    let first : row design rho ≡ row design other =
-    map_same (λ leaf. rho [] leaf.component leaf.way) (λ leaf. other [] leaf.component leaf.way) (watched design)
-    (λ y among. every (record { path = []; component = y.component; way = y.way }) (watched_is_leaf design has (module_named design design.main) refl y among)) in
-    ap₂ (λ x xs. x ∷ xs) first (rows_same design all has none leaves_of takes (next_same design has takes s t rho other kept every) rest later)
+rows_same design all has none leaves_of takes kept one two = watched_rows_same design all has none leaves_of takes (watched_leaves design) (watched_are_leaves design has) kept one two

@@ -195,13 +195,27 @@ watched_of None = []
 abbrev pub watched : Design → List Leaf
 watched design = watched_of (module_named design design.main)
 
--- the integers of the watched leaves
-abbrev pub row : Design → Valuation → List ℤ
-row design rho = map (λ leaf. rho [] leaf.component leaf.way) (watched design)
+-- They are leaves of main, which stands at the empty path.
+abbrev pub main_leaf : Leaf → FlatLeaf
+main_leaf leaf = record { path = []; component = leaf.component; way = leaf.way }
 
--- The rows of a run from a state under these inputs, cycle by cycle: each is that of a settled valuation, and the next cycle
--- begins with the state after it.
-pub data Trace (design : Design) : State → List Inputs → List (List ℤ) → Type 0 where
-  ended : {s : State} → Trace design s [] []
+abbrev pub watched_leaves : Design → List FlatLeaf
+watched_leaves design = map main_leaf (watched design)
+
+-- the integers of some leaves of the run, and those of the watched ones
+abbrev pub row_of : List FlatLeaf → Valuation → List ℤ
+row_of watch rho = map (λ leaf. rho leaf.path leaf.component leaf.way) watch
+
+abbrev pub row : Design → Valuation → List ℤ
+row design rho = row_of (watched_leaves design) rho
+
+-- The rows of some leaves of a run from a state under these inputs, cycle by cycle: each is that of a settled valuation, and the next
+-- cycle begins with the state after it.
+pub data WatchedTrace (design : Design) (watch : List FlatLeaf) : State → List Inputs → List (List ℤ) → Type 0 where
+  ended : {s : State} → WatchedTrace design watch s [] []
   cycle : {s : State} {given : Inputs} {later : List Inputs} {rows : List (List ℤ)} (rho : Valuation) → Settled design s given rho
-      → Trace design (next design s rho) later rows → Trace design s (given ∷ later) (row design rho ∷ rows)
+      → WatchedTrace design watch (next design s rho) later rows → WatchedTrace design watch s (given ∷ later) (row_of watch rho ∷ rows)
+
+-- The rows of the leaves that a run is watched by.
+abbrev pub Trace : Design → State → List Inputs → List (List ℤ) → Type 0
+Trace design = WatchedTrace design (watched_leaves design)

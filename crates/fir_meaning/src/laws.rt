@@ -1,6 +1,6 @@
 //! Laws of the definitions. The functions do nothing.
 
-ghost use Rattle.std.specs.Prelude.{◌≡◌, ℕ, ℤ, List, [], slice_get, Some, None, IsSome, true};
+ghost use Rattle.std.specs.Prelude.{◌≡◌, ℕ, ℤ, List, [], slice_get, Some, None, IsSome, true, Contains};
 ghost use Rattle.bit_words.specs.declared.value.Kind.{Kind as TheKind};
 ghost use Rattle.bit_words.specs.Values.{InRange};
 ghost use Rattle.bit_words.specs.LeastWidths.{IsLeastWidth};
@@ -13,7 +13,7 @@ ghost use Rattle.fir_meaning.specs.Values.{Integers, Valuation, scene_of, scene_
 ghost use Rattle.fir_meaning.specs.Mentions.{Scope, Agree, joined, mentions};
 ghost use Rattle.fir_meaning.specs.Drives.{drives};
 ghost use Rattle.fir_meaning.specs.Certain.{is_certain, must_be_driven, IsInitialized};
-ghost use Rattle.fir_meaning.specs.States.{State, SameState, Inputs, Settled, Stands, Trace, next, leaf_of, IsLeafOf};
+ghost use Rattle.fir_meaning.specs.States.{State, SameState, Inputs, Settled, Stands, WatchedTrace, Trace, next, leaf_of, IsLeafOf};
 ghost use Rattle.fir_meaning.specs.Loops.{live, HasNoLoop, HasLeaves, TakesLeaves};
 
 /// The width of a literal that gives none is the least, from 1 on, that holds its number.
@@ -64,4 +64,9 @@ pub fn next_states_agree()
 /// A circuit without a loop has at most one trace from a state under given inputs.
 pub fn traces_agree()
     ensures { (design : Design) (all : List FlatLeaf) → HasBundles design → HasNoLoop design → HasLeaves design all → TakesLeaves design → (state : State) (given : List Inputs) (rows other : List (List ℤ)) → Trace design state given rows → Trace design state given other → rows ≡ other }
+{}
+
+/// Nor has it two for any leaves of the run.
+pub fn watched_traces_agree()
+    ensures { (design : Design) (all : List FlatLeaf) → HasBundles design → HasNoLoop design → HasLeaves design all → TakesLeaves design → (watch : List FlatLeaf) → ((x : FlatLeaf) → Contains watch x → IsLeafOf design x) → (state : State) (given : List Inputs) (rows other : List (List ℤ)) → WatchedTrace design watch state given rows → WatchedTrace design watch state given other → rows ≡ other }
 {}

@@ -1,2 +1,3 @@
 mod Numbering
+mod Names
 pub mod Layers

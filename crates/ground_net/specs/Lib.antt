@@ -4,3 +4,4 @@ pub mod Renumbering
 pub mod Reads
 pub mod Cones
 pub mod Watching
+pub mod Naming

@@ -7,6 +7,7 @@ pub mod circuit;
 pub mod copying;
 pub mod ground;
 pub mod laws;
+pub mod naming;
 pub mod net;
 pub mod ports;
 pub mod reading;
@@ -21,6 +22,7 @@ pub use copying::{
     copied_memories, copied_port, copied_ports, copied_register, copied_registers, copied_text,
 };
 pub use ground::Ground;
+pub use naming::find_leaf;
 pub use net::{
     Cut, CutPart, ElementLeaf, Leaf, Net, NetMemory, NetPort, NetRead, NetRegister, NetReset,
     NetWrite, Ordered, PortLeaf, Ports, Role,

@@ -28,6 +28,10 @@ use Rattle.net_laws.specs.Typed.{HasPortsFirst}
 use Rattle.net_laws.proofs.Numbers.{some_same, none_some, below_length, valuation_at}
 use Rattle.net_laws.proofs.Seen.{part_is, port_held, port_late, get_item}
 
+pub map_map : {A B C : Type 0} (f : B → C) (g : A → B) (xs : List A) → map f (map g xs) ≡ map (λ x. f (g x)) xs
+map_map f g [] = refl
+map_map f g (x ∷ xs) = ap (λ l. f (g x) ∷ l) (map_map f g xs)
+
 append_nil : {A : Type 0} (xs : List A) → xs ++ [] ≡ xs
 append_nil [] = refl
 append_nil (x ∷ xs) = ap (λ l. x ∷ l) (append_nil xs)
@@ -277,4 +281,5 @@ module _ (texts : Texts) (design : Design) (placed : List Placed) (elements : Li
         ∙ (rows_from front 0 (λ k y e. (subst (λ n. slice_get (all_leaves placed) n ≡ Some y) (omega arith) (front_at k y e), (front_main k y e).0, (front_main k y e).1))
         ∙ (sym (watched_ports m tree_rho first.ports first.all)
         ∙ ap (map (λ leaf. tree_rho [] leaf.component leaf.way)) (sym (ap watched_of found ∙ (ap (flat_map watched_of_component) first.are
-        ∙ (flat_map-append watched_of_component first.ports first.others ∙ (ap (λ l. flat_map watched_of_component first.ports ++ l) (no_watched first.others first.none) ∙ append_nil (flat_map watched_of_component first.ports))))))))
+        ∙ (flat_map-append watched_of_component first.ports first.others ∙ (ap (λ l. flat_map watched_of_component first.ports ++ l) (no_watched first.others first.none) ∙ append_nil (flat_map watched_of_component first.ports))))))
+        ∙ sym (map_map (λ leaf. tree_rho leaf.path leaf.component leaf.way) tree.main_leaf (tree.watched design)))))

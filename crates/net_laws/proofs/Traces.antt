@@ -1,11 +1,11 @@
 -- A run of the net of a circuit is a trace of the circuit, and the circuit has one settled valuation in each cycle.
-use Rattle.std.proofs.Common.{◌≡◌, ℕ, List, [], ◌∷◌, map, Some, refl, sym, ap, ◌∙◌, subst}
-use Rattle.std.specs.List.{slice_get}
+use Rattle.std.proofs.Common.{◌≡◌, ℕ, List, [], ◌∷◌, map, Some, refl, sym, ap, ap₂, ◌∙◌, subst}
+use Rattle.std.specs.List.{slice_get, AllZip}
 use Rattle.bit_words.specs.declared.value.Value.{Value}
 use Rattle.bit_words.specs.Values.{integer_of}
 use Rattle.fir_tree.specs.LeafNames.{Texts}
 use Rattle.fir_meaning.specs.Components.{Design, FlatLeaf, HasBundles, flat}
-use Rattle.fir_meaning.specs.States.{State, Inputs, Settled, Trace, ended, cycle, IsLeafOf, Stands, leaf_of, HasOneSettled}
+use Rattle.fir_meaning.specs.States.{State, Inputs, Settled, Trace, WatchedTrace, ended, cycle, IsLeafOf, Stands, leaf_of, HasOneSettled}
 use Rattle.fir_meaning.specs.States as tree
 use Rattle.fir_meaning.specs.Loops.{ReadsLeaf, by_connect, by_node, by_port, ReadsThrough, directly, through, HasNoLoop, HasLeaves}
 use Rattle.fir_meaning.proofs.Settling.{settled_agree}
@@ -27,11 +27,8 @@ use Rattle.net_laws.specs.Runs as runs
 use Rattle.net_laws.proofs.Integers.{fitted_is}
 use Rattle.net_laws.proofs.Seen.{get-map', own_flat, found_entry, in_list, seen_settles}
 use Rattle.net_laws.proofs.Nexts.{next_matches}
-use Rattle.net_laws.proofs.Rows.{watched_row}
-
-map_map : {A B C : Type 0} (f : B → C) (g : A → B) (xs : List A) → map f (map g xs) ≡ map (λ x. f (g x)) xs
-map_map f g [] = refl
-map_map f g (x ∷ xs) = ap (λ l. f (g x) ∷ l) (map_map f g xs)
+use Rattle.net_laws.proofs.Numbers.{valuation_at}
+use Rattle.net_laws.proofs.Rows.{map_map, watched_row}
 
 -- What reads is a leaf of the run.
 reads_of_leaf : (design : Design) (x f : FlatLeaf) → ReadsLeaf design x f → IsLeafOf design x
@@ -77,17 +74,39 @@ module _ (texts : Texts) (design : Design) (net : Net) (of : IsNetOf texts desig
         ap (map integer_of) (map_map rho (λ p. p.leaf) (watched net)) ∙ (map_map integer_of (λ p. rho p.leaf) (watched net)
         ∙ watched_row texts design placed of.elements net of.is lists of.main of.found of.order (typed.main of.main of.found) t rho)
 
-  -- A run is a trace.
+  -- What is watched by numbers is watched by the leaves that stand there.
+  leaves_match : (t : NetState) (rho : net_cycle.Valuation) (watch : List ℕ) (leaves : List Standing) → AllZip (λ x y. slice_get (all_leaves placed) x ≡ Some y) watch leaves
+      → map integer_of (map rho watch) ≡ tree.row_of (map flat_of leaves) (seen_valuation placed net t rho)
+  leaves_match t rho [] [] are = refl
+  leaves_match t rho [] (y ∷ leaves) are = absurd are
+  leaves_match t rho (x ∷ watch) [] are = absurd are
+  leaves_match t rho (x ∷ watch) (y ∷ leaves) are = ap₂ (λ n row. n ∷ row) (sym (valuation_at design placed lists (instant_of net t rho) x y are.0)) (leaves_match t rho watch leaves are.1)
+
+  -- A run is a trace, where each row has what is seen of the leaves.
+  module _ (watch : List ℕ) (leaves : List FlatLeaf)
+      (match : (s : State) (t : NetState) (numbered : net_cycle.Inputs) (rho : net_cycle.Valuation) → MatchingState (all_leaves placed) (all_memories placed) of.elements net s t → IsWithin net t
+      → net_cycle.Settled net t numbered rho → map integer_of (map rho watch) ≡ tree.row_of leaves (seen_valuation placed net t rho)) where
+    traces : (s : State) (t : NetState) → MatchingState (all_leaves placed) (all_memories placed) of.elements net s t → IsWithin net t → (given : List Inputs) (numbered : List net_cycle.Inputs)
+        → AreGiven (all_leaves placed) net given numbered → {rows : List (List Value)} → Run net watch t numbered rows → WatchedTrace design leaves s given (map (map integer_of) rows)
+    traces s t matching within [] [] no_more runs.ended = ended
+    traces s t matching within [] (n ∷ numbered) given_are r = elim given_are [ ]
+    traces s t matching within (g ∷ given) [] given_are r = elim given_are [ ]
+    traces s t matching within (g ∷ given) (n ∷ numbered) (one_more inputs ranges later) (runs.cycle {rows = more} rho settled rest) =
+        subst (λ row. WatchedTrace design leaves s (g ∷ given) (row ∷ map (map integer_of) more)) (sym (match s t n rho matching within settled))
+        (cycle (seen_valuation placed net t rho) (settles s t g n rho matching within inputs ranges settled)
+        (traces (tree.next design s (seen_valuation placed net t rho)) (net_cycle.next net t (instant_of net t rho)) (nexts_match s t n rho matching within settled)
+        (nexts_within s t n rho matching within settled) given numbered later rest))
+
+  pub watched_traces : (s : State) (t : NetState) → MatchingState (all_leaves placed) (all_memories placed) of.elements net s t → IsWithin net t → (given : List Inputs) (numbered : List net_cycle.Inputs)
+      → AreGiven (all_leaves placed) net given numbered → (watch : List ℕ) (leaves : List Standing) → AllZip (λ x y. slice_get (all_leaves placed) x ≡ Some y) watch leaves → {rows : List (List Value)}
+      → Run net watch t numbered rows → WatchedTrace design (map flat_of leaves) s given (map (map integer_of) rows)
+  watched_traces s t matching within given numbered given_are watch leaves are run =
+      traces watch (map flat_of leaves) (λ s t n rho m w settled. leaves_match t rho watch leaves are) s t matching within given numbered given_are run
+
+  -- And so is one that is watched where the circuit is.
   pub run_traces : (s : State) (t : NetState) → MatchingState (all_leaves placed) (all_memories placed) of.elements net s t → IsWithin net t → (given : List Inputs) (numbered : List net_cycle.Inputs)
       → AreGiven (all_leaves placed) net given numbered → {rows : List (List Value)} → Run net (map (λ p. p.leaf) (watched net)) t numbered rows → Trace design s given (map (map integer_of) rows)
-  run_traces s t matching within [] [] no_more runs.ended = ended
-  run_traces s t matching within [] (n ∷ numbered) given_are r = elim given_are [ ]
-  run_traces s t matching within (g ∷ given) [] given_are r = elim given_are [ ]
-  run_traces s t matching within (g ∷ given) (n ∷ numbered) (one_more inputs ranges later) (runs.cycle {rows = more} rho settled rest) =
-      subst (λ row. Trace design s (g ∷ given) (row ∷ map (map integer_of) more)) (sym (rows_match s t n rho matching within settled))
-      (cycle (seen_valuation placed net t rho) (settles s t g n rho matching within inputs ranges settled)
-      (run_traces (tree.next design s (seen_valuation placed net t rho)) (net_cycle.next net t (instant_of net t rho)) (nexts_match s t n rho matching within settled)
-      (nexts_within s t n rho matching within settled) given numbered later rest))
+  run_traces s t matching within given numbered given_are run = traces (map (λ p. p.leaf) (watched net)) (tree.watched_leaves design) rows_match s t matching within given numbered given_are run
 
   -- Loops
   entry : (f : FlatLeaf) → IsLeafOf design f → (x : ℕ) × (y : Standing) × (slice_get (all_leaves placed) x ≡ Some y) × (flat_of y ≡ f)

@@ -18,7 +18,8 @@ use Rattle.ground_net.specs.declared.net.NetWrite.{NetWrite}
 use Rattle.ground_net.specs.declared.net.NetRead.{NetRead}
 use Rattle.ground_net.specs.Grounds.{Instant, value}
 use Rattle.net_meaning.specs.Cycles.{NetState, Valuation, instant_of, next}
-use Rattle.net_meaning.specs.Words.{words_of_value}
+use Rattle.net_meaning.specs.Shapes.{shaped}
+use Rattle.net_meaning.specs.Words.{words_of_value, all_word_widths, AreStateWords}
 
 abbrev pub v : ℕ → ℕ → Value
 v width n = fitted Unsigned width (pos n)
@@ -170,3 +171,14 @@ two_words = refl
 
 one_word : words_of_value (v 64 7) ≡ 7 ∷ []
 one_word = refl
+
+-- A register of 70 bits has a low word of 64 bits and a high one of 6, and one of no bits has a word of none.
+widths_of_words : all_word_widths (shaped Unsigned 70 ∷ shaped Unsigned 0 ∷ []) ≡ 64 ∷ 6 ∷ 0 ∷ []
+widths_of_words = refl
+
+-- The counter's state has one word of four bits.
+counter_words : AreStateWords counter (15 ∷ [])
+counter_words = grind (arith, common_steps, the_lemmas)
+
+counter_words_within : AreStateWords counter (16 ∷ []) → ⊥
+counter_words_within h = grind (arith, common_steps, the_lemmas)

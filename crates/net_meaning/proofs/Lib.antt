@@ -5,4 +5,5 @@ pub mod Mentioning
 pub mod Examples
 mod ExamplesOfCones
 pub mod Placing
+pub mod StateWords
 pub mod Ranges

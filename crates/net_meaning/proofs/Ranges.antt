@@ -42,18 +42,18 @@ none_some : {A : Type 0} {x : A} → None ≡ Some x → ⊥
 none_some e = cc
 
 -- a value of a shape is the one that its integer is fitted to
-refit_shape : (v : Value) (t : Shape) → shape_of_value v ≡ t → fitted t.kind t.width (integer_of v) ≡ v
+pub refit_shape : (v : Value) (t : Shape) → shape_of_value v ≡ t → fitted t.kind t.width (integer_of v) ≡ v
 refit_shape v t e = subst (λ t. fitted t.kind t.width (integer_of v) ≡ v) e (refitted v)
 
 -- and its integer is in the shape's range
-in_range : (v : Value) (t : Shape) → shape_of_value v ≡ t → IsIn t (integer_of v)
+pub in_range : (v : Value) (t : Shape) → shape_of_value v ≡ t → IsIn t (integer_of v)
 in_range v t e = subst (λ t. IsIn t (integer_of v)) e (value_in_range v)
 
 zero_is : (kind : Kind) (width : ℕ) → integer kind width 0 ≡ pos 0
 zero_is Unsigned width = refl
 zero_is Signed width = let h = pow_pos width in let e : nat_lt (2 * 0) (2 ^ width) ≡ true = grind (arith, nat_tests) in ap (λ b. if b then pos 0 else negsuc (2 ^ width - 1 - 0)) e
 
-zero_in : (t : Shape) → IsIn t (pos 0)
+pub zero_in : (t : Shape) → IsIn t (pos 0)
 zero_in t = subst (InRange t.kind t.width) (zero_is t.kind t.width) (integer_in_range t.kind t.width 0 (pow_pos t.width))
 
 element_fine : (o : Option ElementLeaf) (t : Shape) (n : ℤ) → option_map element_shape o ≡ Some t → shape_of_value (fitted_to_element o n) ≡ t

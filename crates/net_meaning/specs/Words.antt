@@ -2,8 +2,8 @@
 --
 -- A leaf of a state has one word up to 64 bits, and two above, the low one first. The words stand by register in flat order, then by
 -- memory in flat order, element by element and leaf by leaf, and then by captured read in flat order.
-use Rattle.std.specs.Prelude.{◌≡◌, ℕ, ◌+◌, ◌*◌, ◌/◌, ◌%◌, ◌^◌, nat_lt, List, [], ◌∷◌, ◌++◌, flat_map, take, slice_get, slice_index, ℤ, pos, Option, Some, None, if◌then◌else◌, sum_by}
-use Rattle.std.specs.List.{range_with_len}
+use Rattle.std.specs.Prelude.{◌≡◌, ℕ, ◌+◌, ◌-◌, ◌*◌, ◌/◌, ◌%◌, ◌^◌, ◌<◌, nat_lt, List, [], ◌∷◌, ◌++◌, flat_map, take, slice_get, slice_index, ℤ, pos, Option, Some, None, if◌then◌else◌, sum_by}
+use Rattle.std.specs.List.{range_with_len, AllZip}
 use Rattle.bit_words.specs.declared.value.Value.{Value}
 use Rattle.bit_words.specs.Values.{integer_of}
 use Rattle.cycle_values.specs.Values.{fitted}
@@ -99,3 +99,23 @@ state_of net words = record {
 -- A memory says where its words begin.
 abbrev pub SaysItsWords : Net → Type 0
 SaysItsWords net = (m : ℕ) (memory : NetMemory) → slice_get net.memories m ≡ Some memory → memory.word ≡ memory_word net m
+
+-- Which words a state may have
+
+-- how many bits the words of a leaf have, and those of several leaves
+abbrev pub word_widths : Shape → List ℕ
+word_widths s = if nat_lt 64 s.width then 64 ∷ (s.width - 64) ∷ [] else s.width ∷ []
+
+abbrev pub all_word_widths : List Shape → List ℕ
+all_word_widths shapes = flat_map word_widths shapes
+
+abbrev pub memory_word_widths : NetMemory → List ℕ
+memory_word_widths memory = flat_map (λ element. all_word_widths (element_shapes memory)) (range_with_len 0 memory.depth)
+
+-- how many bits the words of a state have, in the order in which they stand
+abbrev pub state_word_widths : Net → List ℕ
+state_word_widths net = all_word_widths (register_shapes net) ++ (flat_map memory_word_widths net.memories ++ all_word_widths (captured_shapes net))
+
+-- The words are those of a state: as many as its leaves take, and each within its bits.
+abbrev pub AreStateWords : Net → List ℕ → Type 0
+AreStateWords net words = AllZip (λ bits word. word < 2 ^ bits) (state_word_widths net) words

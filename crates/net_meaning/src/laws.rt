@@ -1,6 +1,6 @@
 //! Laws of the definitions. The functions do nothing.
 
-ghost use Rattle.std.specs.Prelude.{◌≡◌, ◌<◌, ℕ, List, Some, slice_get};
+ghost use Rattle.std.specs.Prelude.{◌≡◌, ◌<◌, ℕ, List, Some, length, slice_get};
 ghost use Rattle.bit_words.specs.Values.{integer_of};
 ghost use Rattle.cycle_values.specs.Values.{fitted};
 ghost use Rattle.ground_net.specs.declared.net.NetMemory.{NetMemory as TheMemory};
@@ -11,7 +11,7 @@ ghost use Rattle.ground_net.specs.Reads.{IsOrder, HasNoLoop, MentionsLeaves};
 ghost use Rattle.net_meaning.specs.Shapes.{Shape, Table, HasShapes, shape, shape_of_value};
 ghost use Rattle.net_meaning.specs.Cycles.{NetState, Inputs, Valuation, Settled, HasOneSettled, instant_of, next};
 ghost use Rattle.net_meaning.specs.Nets.{IsNet, IsWithin, table_of, register_shapes, element_shapes, captured_shapes};
-ghost use Rattle.net_meaning.specs.Words.{words_of, state_of};
+ghost use Rattle.net_meaning.specs.Words.{words_of, state_words, state_of, AreStateWords};
 
 /// An order of the assignments of a well formed net gives exactly one settled valuation for each state and each inputs.
 pub fn one_settled()
@@ -48,4 +48,13 @@ pub fn words_and_back()
     ensures registers { (net : TheNet) (s : NetState) (n : ℕ) (t : Shape) → slice_get (register_shapes net) n ≡ Some t → (state_of net (words_of net s)).registers n ≡ integer_of (fitted t.kind t.width (s.registers n)) }
     ensures contents { (net : TheNet) (s : NetState) (m element k : ℕ) (memory : TheMemory) (t : Shape) → slice_get net.memories m ≡ Some memory → slice_get (element_shapes memory) k ≡ Some t → element < memory.depth → (state_of net (words_of net s)).contents m element k ≡ integer_of (fitted t.kind t.width (s.contents m element k)) }
     ensures captured { (net : TheNet) (s : NetState) (n : ℕ) (t : Shape) → slice_get (captured_shapes net) n ≡ Some t → (state_of net (words_of net s)).captured n ≡ integer_of (fitted t.kind t.width (s.captured n)) }
+{}
+
+/// Words within the widths of a net's state are those of the state that they give, which is within its leaves' ranges; and the words of
+/// each state are such words.
+pub fn words_are_of_states()
+    ensures back { (net : TheNet) (words : List ℕ) → AreStateWords net words → words_of net (state_of net words) ≡ words }
+    ensures within { (net : TheNet) (words : List ℕ) → IsWithin net (state_of net words) }
+    ensures fit { (net : TheNet) (s : NetState) → AreStateWords net (words_of net s) }
+    ensures counted { (net : TheNet) (words : List ℕ) → AreStateWords net words → length words ≡ state_words net }
 {}

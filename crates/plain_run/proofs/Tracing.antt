@@ -50,6 +50,10 @@ through_none rho path i (step.Element n ∷ way) = refl
 
 -- The lists of both sides
 
+map_map : {A B C : Type 0} (f : B → C) (g : A → B) (xs : List A) → map f (map g xs) ≡ map (λ x. f (g x)) xs
+map_map f g [] = refl
+map_map f g (x ∷ xs) = ap (λ l. f (g x) ∷ l) (map_map f g xs)
+
 abbrev integer_at : Valuation → Watched → ℤ
 integer_at rho w = rho w.at.path w.at.component w.at.way
 
@@ -141,7 +145,7 @@ module _ (fitted : Fitted) (well : IsWellFormed fitted) where
         by false port (k, below, is) = absurd (omega arith)
 
     row_is : map integer_of (row_of (sinks design) rho) ≡ row design rho
-    row_is = by (module_named design design.main) refl
+    row_is = by (module_named design design.main) refl ∙ sym (map_map (λ leaf. rho leaf.path leaf.component leaf.way) trace.main_leaf (watched design))
       where
         by : (o : Option TypedModule) → module_named design design.main ≡ o → map integer_of (row_of (sinks_of o) rho) ≡ map (integer_of_leaf rho) (watched_of o)
         by (Some m) main = each_is rho (sinks_of (Some m)) (sink_fits m main) ∙ all_alike rho (Some m)
