@@ -1,5 +1,5 @@
 -- The text of a dump in pieces.
-use Rattle.std.proofs.Common.{◌≡◌, ℕ, ◌+◌, List, [], ◌∷◌, ◌++◌, length, map, Some, None, refl, sym, ap, ap₂, ◌∙◌}
+use Rattle.std.proofs.Common.{◌≡◌, ℕ, ◌+◌, List, [], ◌∷◌, ◌++◌, length, map, Option, Some, None, refl, sym, ap, ap₂, ◌∙◌, arith, false}
 use Rattle.std.specs.Prelude.{flat_map}
 use Rattle.std.specs.List.{AllZip}
 use Rattle.std.proofs.lemmas.List.{length-map, map-append, append-nil}
@@ -9,7 +9,8 @@ use Rattle.bit_words.specs.declared.value.Value.{Value}
 use Rattle.ground_net.specs.declared.net.PortLeaf.{PortLeaf}
 use Rattle.vcd_write.specs.Changes.{Entry, Time, all_bits, changes, stamped, later, entries, dump}
 use Rattle.vcd_write.specs.Texts.{entry_line, widths_of, header_lines, ended, bits_of_row, vcd_text}
-use Rattle.vcd_write.specs.Pieces.{HaveShapesOf, widths_of_row, entries_text, header_text, cycles_text, end_text}
+use Rattle.row_texts.specs.Tellings.{told_of, rows_text, text_of_told, run_text}
+use Rattle.vcd_write.specs.Pieces.{HaveShapesOf, widths_of_row, entries_text, header_text, cycle_text, cycles_text, end_text, dump_telling}
 use Rattle.vcd_write.specs.Reading.{IsOfLeaf, AreRows}
 
 entries_append : (widths : List ℕ) (xs ys : List Entry) → entries_text widths (xs ++ ys) ≡ entries_text widths xs ++ entries_text widths ys
@@ -51,3 +52,18 @@ module _ (vars : List PortLeaf) where
       flat_map-append ended (header_lines top vars) (map (entry_line (widths_of vars)) (dump (map bits_of_row rows)))
       ∙ ap (λ l. header_text top vars ++ l) (entries_append (widths_of vars) (entries (map bits_of_row rows)) (Time (length (map bits_of_row rows)) ∷ [])
       ∙ ap₂ (λ x y. x ++ y) (all_cycles rows h) (append-nil (end_text (length (map bits_of_row rows))) ∙ ap end_text (length-map rows bits_of_row)))
+
+all_told : (rows : List (List Value)) → told_of (λ row. false) rows ≡ rows
+all_told [] = refl
+all_told (row ∷ rows) = ap (λ l. row ∷ l) (all_told rows)
+
+rows_are : (top : List ℕ) (vars : List PortLeaf) (c : ℕ) (before : Option (List Value)) (rows : List (List Value)) → rows_text (dump_telling top vars) c before rows ≡ cycles_text c before rows
+rows_are top vars c before [] = refl
+rows_are top vars c before (row ∷ rows) = ap (λ l. cycle_text c before row ++ l) (rows_are top vars (c + 1) (Some row) rows)
+
+-- the text of rows is the dump's
+pub told_text : (top : List ℕ) (vars : List PortLeaf) (rows : List (List Value)) → AreRows vars rows → run_text (dump_telling top vars) 0 rows ≡ vcd_text top vars rows
+told_text top vars rows h =
+    let start : 0 + length rows ≡ length rows = omega arith in
+    ap (text_of_told (dump_telling top vars) 0) (all_told rows)
+    ∙ (ap₂ (λ l n. header_text top vars ++ (l ++ end_text n)) (rows_are top vars 0 None rows) start ∙ sym (text_parts vars top rows h))

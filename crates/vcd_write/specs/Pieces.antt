@@ -1,8 +1,9 @@
 -- The text of a dump piece by piece: a front, what each cycle adds, and an end.
-use Rattle.std.specs.Prelude.{◌≡◌, ℕ, ◌+◌, List, [], ◌∷◌, ◌++◌, map, flat_map, Option, Some, None, option_map, decimal}
+use Rattle.std.specs.Prelude.{false, ◌≡◌, ℕ, ◌+◌, List, [], ◌∷◌, ◌++◌, map, flat_map, Option, Some, None, option_map, decimal}
 use Rattle.std.specs.List.{AllZip}
 use Rattle.bit_words.specs.declared.value.Value.{Value}
 use Rattle.ground_net.specs.declared.net.PortLeaf.{PortLeaf}
+use Rattle.row_texts.specs.Tellings.{Telling}
 use Rattle.vcd_write.specs.Changes.{Entry, Time, all_bits, changes, stamped}
 use Rattle.vcd_write.specs.Texts.{entry_line, header_lines, ended, bits_of_row}
 
@@ -42,3 +43,7 @@ cycles_text c before (row ∷ rows) = cycle_text c before row ++ cycles_text (c 
 -- The end: the number of cycles.
 abbrev pub end_text : ℕ → List ℕ
 end_text cycles = ended (35 ∷ decimal cycles)
+
+-- The same as a text of rows, none of which ends the run.
+abbrev pub dump_telling : List ℕ → List PortLeaf → Telling
+dump_telling top vars = record { head = header_text top vars; row = cycle_text; ends = λ row. false; foot = λ cycle before byte. end_text cycle }

@@ -5,7 +5,8 @@ ghost use Rattle.bit_words.specs.declared.value.Value.{Value};
 ghost use Rattle.ground_net.specs.declared.net.PortLeaf.{PortLeaf as Leaf};
 ghost use Rattle.vcd_write.specs.Changes.{dump, entries, later, last_row};
 ghost use Rattle.vcd_write.specs.Texts.{vcd_text};
-ghost use Rattle.vcd_write.specs.Pieces.{header_text, cycles_text, end_text};
+ghost use Rattle.vcd_write.specs.Pieces.{header_text, cycles_text, end_text, dump_telling};
+ghost use Rattle.row_texts.specs.Tellings.{run_text};
 ghost use Rattle.vcd_write.specs.Reading.{last_bits, last_time, AreRows, VcdRead, HasPlainNames};
 
 /// What is dumped of rows tells how many there are, and the bits of each variable in each cycle.
@@ -30,4 +31,9 @@ pub fn dumps_come_in_pieces()
 /// The text of a dump is its front, what each cycle adds, and its end.
 pub fn texts_come_in_pieces()
     ensures { (top : List ℕ) (vars : List Leaf) (rows : List (List Value)) → AreRows vars rows → vcd_text top vars rows ≡ header_text top vars ++ (cycles_text 0 None rows ++ end_text (length rows)) }
+{}
+
+/// As a text of rows it is the same.
+pub fn texts_of_rows_are_dumps()
+    ensures { (top : List ℕ) (vars : List Leaf) (rows : List (List Value)) → AreRows vars rows → run_text (dump_telling top vars) 0 rows ≡ vcd_text top vars rows }
 {}

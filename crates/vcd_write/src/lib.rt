@@ -6,5 +6,7 @@ pub mod dump;
 pub mod examples;
 pub mod laws;
 mod pushing;
+pub mod text;
 
 pub use dump::{vcd_cycle, vcd_end, vcd_header};
+pub use text::DumpText;
