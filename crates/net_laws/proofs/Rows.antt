@@ -28,10 +28,6 @@ use Rattle.net_laws.specs.Typed.{HasPortsFirst}
 use Rattle.net_laws.proofs.Numbers.{some_same, none_some, below_length, valuation_at}
 use Rattle.net_laws.proofs.Seen.{part_is, port_held, port_late, get_item}
 
-pub map_map : {A B C : Type 0} (f : B → C) (g : A → B) (xs : List A) → map f (map g xs) ≡ map (λ x. f (g x)) xs
-map_map f g [] = refl
-map_map f g (x ∷ xs) = ap (λ l. f (g x) ∷ l) (map_map f g xs)
-
 append_nil : {A : Type 0} (xs : List A) → xs ++ [] ≡ xs
 append_nil [] = refl
 append_nil (x ∷ xs) = ap (λ l. x ∷ l) (append_nil xs)
@@ -177,7 +173,7 @@ filter_map_in {A} test h (x ∷ xs) = by (test (h x)) refl (filter_map_in test h
   by true e rest = grind (arith, common_steps, e, rest)
   by false e rest = grind (arith, common_steps, e, rest)
 
-map_map : {A B C : Type 0} (f : B → C) (g : A → B) (xs : List A) → map f (map g xs) ≡ map (λ x. f (g x)) xs
+pub map_map : {A B C : Type 0} (f : B → C) (g : A → B) (xs : List A) → map f (map g xs) ≡ map (λ x. f (g x)) xs
 map_map f g [] = refl
 map_map f g (x ∷ xs) = ap (λ l. f (g x) ∷ l) (map_map f g xs)
 
@@ -282,4 +278,4 @@ module _ (texts : Texts) (design : Design) (placed : List Placed) (elements : Li
         ∙ (sym (watched_ports m tree_rho first.ports first.all)
         ∙ ap (map (λ leaf. tree_rho [] leaf.component leaf.way)) (sym (ap watched_of found ∙ (ap (flat_map watched_of_component) first.are
         ∙ (flat_map-append watched_of_component first.ports first.others ∙ (ap (λ l. flat_map watched_of_component first.ports ++ l) (no_watched first.others first.none) ∙ append_nil (flat_map watched_of_component first.ports))))))
-        ∙ sym (map_map (λ leaf. tree_rho leaf.path leaf.component leaf.way) tree.main_leaf (tree.watched design)))))
+        ∙ sym (map_map (λ leaf. tree_rho leaf.path leaf.component leaf.way) tree.main_leaf (tree.watched design))))

@@ -1,0 +1,5 @@
+pub mod Tokens
+pub mod Spelled
+pub mod Marks
+pub mod Flat
+mod Examples

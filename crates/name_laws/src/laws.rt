@@ -1,0 +1,47 @@
+//! Laws of names. The functions do nothing.
+
+ghost use Rattle.std.specs.Prelude.{◌≡◌, ◌≢◌, ℕ, List, true, slice_get, Some, Contains};
+ghost use Rattle.std.specs.List.{All};
+ghost use Rattle.fir_lexer.specs.declared.token.Token.{Token as TheToken};
+ghost use Rattle.fir_lexer.specs.Tokens.{AreTokens};
+ghost use Rattle.fir_layout.specs.declared.laid.Laid.{Laid as ALaid};
+ghost use Rattle.fir_layout.specs.Layout.{tokens_in};
+ghost use Rattle.fir_layout.specs.Pieces.{bytes_of};
+ghost use Rattle.fir_tree.specs.declared.circuit.Circuit.{Circuit as TheCircuit};
+ghost use Rattle.fir_grammar.specs.Grammar.{IsCircuit, name_in};
+ghost use Rattle.fir_types.specs.declared.leaf.PathStep.{PathStep as Step};
+ghost use Rattle.fir_tree.specs.LeafNames.{Texts, text_of, leaf_text};
+ghost use Rattle.fir_meaning.specs.Components.{Design};
+ghost use Rattle.ground_net.specs.declared.net.Net.{Net as TheNet};
+ghost use Rattle.ground_net.specs.declared.net.Leaf.{Leaf as TheLeaf};
+ghost use Rattle.ground_net.specs.declared.net.NetMemory.{NetMemory as TheMemory};
+ghost use Rattle.ground_net.specs.declared.net.ElementLeaf.{ElementLeaf as TheElement};
+ghost use Rattle.net_of_circuit.specs.NetOf.{IsNetOf};
+ghost use Rattle.name_laws.specs.Names.{names_it, IsWord, IsName, IsUnbroken};
+
+/// What a token of a text names has letters, digits, `_`, `$` and `-` alone.
+pub fn tokens_name_words()
+    ensures { (text : List ℕ) (tokens : List TheToken) (token : TheToken) → AreTokens text tokens → Contains tokens token → names_it token.kind ≡ true → IsWord (name_in token.kind (bytes_of text token)) }
+{}
+
+/// So has each name that a text gives to its circuit.
+pub fn names_of_a_text_are_words()
+    ensures { (text : List ℕ) (list : List ALaid) (circuit : TheCircuit) → AreTokens text (tokens_in list) → IsCircuit text list circuit → All IsWord circuit.names }
+{}
+
+/// Such a name has no space, no line feed, and none of the marks that stand between the names of a leaf: `.`, `[` and `]`; and no `#`.
+pub fn words_have_no_marks()
+    ensures marks { (name : List ℕ) → IsWord name → (b : ℕ) → Contains name b → (b ≢ 32) × (b ≢ 10) × (b ≢ 46) × (b ≢ 91) × (b ≢ 93) × (b ≢ 35) }
+    ensures words { (name : List ℕ) → IsWord name → IsName name }
+    ensures names { (name : List ℕ) → IsName name → (b : ℕ) → Contains name b → (b ≢ 32) × (b ≢ 10) × (b ≢ 46) × (b ≢ 91) × (b ≢ 93) }
+{}
+
+/// Where the names of a circuit are such, each of them is one word without a space and a line feed, and so are the names of the leaves of a
+/// module, of the flat leaves of its net and of the net's memories, with the ways to the leaves of their elements.
+pub fn names_are_unbroken()
+    ensures names { (texts : Texts) → All IsName texts → (id : ℕ) → IsUnbroken (text_of texts id) }
+    ensures parts { (texts : Texts) → All IsName texts → (component : ℕ) (way : List Step) → IsUnbroken (leaf_text texts component way) }
+    ensures leaves { (texts : Texts) (design : Design) (net : TheNet) → All IsName texts → IsNetOf texts design net → (x : ℕ) (leaf : TheLeaf) → slice_get net.leaves x ≡ Some leaf → IsUnbroken leaf.name }
+    ensures memories { (texts : Texts) (design : Design) (net : TheNet) → All IsName texts → IsNetOf texts design net → (m : ℕ) (memory : TheMemory) → slice_get net.memories m ≡ Some memory → IsUnbroken memory.name }
+    ensures ways { (texts : Texts) (design : Design) (net : TheNet) → All IsName texts → IsNetOf texts design net → (m k : ℕ) (memory : TheMemory) (leaf : TheElement) → slice_get net.memories m ≡ Some memory → slice_get memory.elements k ≡ Some leaf → IsUnbroken leaf.path }
+{}
