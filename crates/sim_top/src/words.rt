@@ -86,7 +86,7 @@ fn of_command<'a>(command: command_words::Command<'a>) -> Order<'a>
 
 /// A command on a joined text that says nothing of workers.
 fn alone<'a>(command: Command, circuit: &'a str) -> Order<'a>
-    ensures { result ≡ record { asked = Asked.Joined command circuit; workers = 1 } }
+    ensures { result ≡ record { asked = Asked.Joined command circuit.entry; workers = 1 } }
 {
     Order {
         asked: Asked::Joined(command, circuit),

@@ -49,9 +49,3 @@ returns-in-Say-clause-few g c = said_few _ _ _ _ _ (reply_few _ _ (rw c.in-Say.i
 pub returns-in-Say-clause-untouched : goal.returns-in-Say-clause-untouched
 returns-in-Say-clause-untouched g c = λ four.
     absurd (said_untouched _ _ _ _ _ (reply_few _ _ (rw c.in-Say.is at c.in-Ok.ensures.ready)) c.say.ensures.said four)
-
-pub run-requires-clause-some : goal.run-requires-clause-some
-run-requires-clause-some g c κs within = c.in-Ok.ensures.crew.0
-
-pub run-requires-clause-most : goal.run-requires-clause-most
-run-requires-clause-most g c κs within = c.in-Ok.ensures.crew.1
