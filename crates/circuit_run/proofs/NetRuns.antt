@@ -15,19 +15,22 @@ use Rattle.net_laws.specs.Runs.{Run, ended, cycle}
 use Rattle.net_run.specs.Seeing.{value_at}
 use Rattle.stimulus.specs.declared.stimulus.Stimulus.{Stimulus}
 use Rattle.trace_print.specs.Trace.{trace_line_of}
-use Rattle.circuit_run.specs.NetRuns.{watch, given_in, given_from, lines_from, LeadsTo, AreLines}
+use Rattle.circuit_run.specs.NetRuns.{watch, given_in, inputs_from, given_from, lines_from, LeadsTo, AreLines}
 use Rattle.circuit_run.proofs.Lists.{range_split, enumerate_split}
 
 -- From each state there is a run.
-pub run_on : (net : Net) (sequence : List ℕ) → IsNet net → IsOrder net sequence → (t : NetState) (given : List Inputs) → (rows : List (List Value)) × Run net (watch net) t given rows
-run_on net sequence well order t [] = ([], ended)
-run_on net sequence well order t (g ∷ given) =
+pub run_on : (net : Net) (seen sequence : List ℕ) → IsNet net → IsOrder net sequence → (t : NetState) (given : List Inputs) → (rows : List (List Value)) × Run net seen t given rows
+run_on net seen sequence well order t [] = ([], ended)
+run_on net seen sequence well order t (g ∷ given) =
     let one = (one_of_net net sequence well order t g).one in
-    let rest = run_on net sequence well order (next net t (instant_of net t one.0)) given in
-    (map one.0 (watch net) ∷ rest.0, cycle one.0 one.1 rest.1)
+    let rest = run_on net seen sequence well order (next net t (instant_of net t one.0)) given in
+    (map one.0 seen ∷ rest.0, cycle one.0 one.1 rest.1)
 
-pub given_split : (stimulus : Stimulus) (first n m : ℕ) → given_from stimulus first (n + m) ≡ given_from stimulus first n ++ given_from stimulus (first + n) m
-given_split stimulus first n m = ap (map (given_in stimulus)) (range_split first n m) ∙ map-append (given_in stimulus) (range_with_len first n) (range_with_len (first + n) m)
+pub inputs_split : (given : ℕ → Inputs) (first n m : ℕ) → inputs_from given first (n + m) ≡ inputs_from given first n ++ inputs_from given (first + n) m
+inputs_split given first n m = ap (map given) (range_split first n m) ∙ map-append given (range_with_len first n) (range_with_len (first + n) m)
+
+given_split : (stimulus : Stimulus) (first n m : ℕ) → given_from stimulus first (n + m) ≡ given_from stimulus first n ++ given_from stimulus (first + n) m
+given_split stimulus = inputs_split (given_in stimulus)
 
 lines_split : (first : ℕ) (rows more : List (List Value)) → lines_from first (rows ++ more) ≡ lines_from first rows ++ lines_from (first + length rows) more
 lines_split first rows more =
@@ -94,7 +97,7 @@ module _ (net : Net) (stimulus : Stimulus) where
       → (more : List ℕ) × AreLines net stimulus (lines ++ more)
   extended P sequence well order n lines few a =
       let later = given_from stimulus (0 + n) (stimulus.cycles - n) in
-      let rest = run_on net sequence well order a.state later in
+      let rest = run_on net (watch net) sequence well order a.state later in
       let all : n + (stimulus.cycles - n) ≡ stimulus.cycles = omega (arith, few) in (
         lines_from (0 + length a.rows) rest.0,
         record {

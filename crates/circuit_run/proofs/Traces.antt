@@ -23,7 +23,7 @@ use Rattle.stimulus.specs.Stimuli.{IsFormed}
 use Rattle.trace_print.specs.Trace.{header_of, trace_line_of}
 use Rattle.circuit_run.specs.Ports.{part_text, watched_parts, IsPortLeaf}
 use Rattle.circuit_run.specs.Traces.{all_inputs, watched_names, line_of, IsTraceText}
-use Rattle.circuit_run.specs.NetRuns.{given_from, lines_from, AreLines}
+use Rattle.circuit_run.specs.NetRuns.{watch, given_from, lines_from, AreLines}
 use Rattle.circuit_run.proofs.Lists.{zip_map}
 use Rattle.circuit_run.proofs.Parts.{watched_zip}
 use Rattle.circuit_run.proofs.Matching.{all_given}
@@ -72,7 +72,7 @@ module _ (texts : Texts) (design : Design) (net : Net) (serves : Serves texts de
     -- There are such lines.
     pub some_lines : (lines : List ℕ) × AreLines net stimulus lines
     some_lines =
-        let run = run_on net sequence serves.of.well_formed order first_state (given_from stimulus 0 stimulus.cycles) in
+        let run = run_on net (watch net) sequence serves.of.well_formed order first_state (given_from stimulus 0 stimulus.cycles) in
         (lines_from 0 run.0, record { rows = run.0; run = run.1; are = refl })
 
     pub trace_exists : (bytes : List ℕ) × IsTraceText texts design stimulus bytes

@@ -1,7 +1,8 @@
 -- A run of a net under a stimulus, from a cycle to a later one.
-use Rattle.std.specs.Prelude.{◌≡◌, ℕ, List, ◌++◌, map, flat_map, length}
+use Rattle.std.specs.Prelude.{◌≡◌, ℕ, ℤ, List, ◌++◌, map, flat_map, length, Option, Some, None}
 use Rattle.std.specs.List.{range_with_len, enumerate_from}
 use Rattle.bit_words.specs.declared.value.Value.{Value}
+use Rattle.bit_words.specs.Values.{integer_of}
 use Rattle.ground_net.specs.declared.net.Net.{Net}
 use Rattle.ground_net.specs.declared.net.Ordered.{Ordered}
 use Rattle.ground_net.specs.declared.net.Ports.{Ports}
@@ -13,6 +14,7 @@ use Rattle.net_laws.specs.Runs.{Run}
 use Rattle.net_run.specs.declared.kept.Kept.{Kept}
 use Rattle.net_run.specs.Keeping.{IsKept}
 use Rattle.stimulus.specs.declared.stimulus.Stimulus.{Stimulus}
+use Rattle.stimulus.specs.declared.stimulus.Setting.{Setting}
 use Rattle.stimulus.specs.Stimuli.{IsFormed}
 use Rattle.stimulus.specs.Rows.{last_set}
 use Rattle.trace_print.specs.Trace.{trace_line_of}
@@ -34,9 +36,20 @@ watch net = map (λ p. p.leaf) (watched net)
 abbrev pub given_in : Stimulus → ℕ → Inputs
 given_in stimulus cycle n = integer_set (last_set stimulus.settings cycle n)
 
--- the same for so many cycles from a first one on
+-- the same where the inputs begin at these integers in place of 0
+abbrev pub integer_set_or : ℤ → Option Setting → ℤ
+integer_set_or start (Some setting) = integer_of setting.value
+integer_set_or start None = start
+
+abbrev pub given_in_from : Inputs → Stimulus → ℕ → Inputs
+given_in_from start stimulus cycle n = integer_set_or (start n) (last_set stimulus.settings cycle n)
+
+-- What inputs are given in so many cycles from a first one on.
+abbrev pub inputs_from : (ℕ → Inputs) → ℕ → ℕ → List Inputs
+inputs_from given first count = map given (range_with_len first count)
+
 abbrev pub given_from : Stimulus → ℕ → ℕ → List Inputs
-given_from stimulus first count = map (given_in stimulus) (range_with_len first count)
+given_from stimulus = inputs_from (given_in stimulus)
 
 -- Cycles with these inputs lead from a state to another one, with these rows: a run that goes on from there is one from here.
 abbrev pub Leads : Net → NetState → List Inputs → List (List Value) → NetState → Type 0

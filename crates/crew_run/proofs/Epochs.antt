@@ -1,50 +1,77 @@
 -- The scripts of the epochs.
-use Rattle.std.proofs.Common.{◌≡◌, ℕ, ◌+◌, ◌<◌, ◌≤◌, List, [], ◌∷◌, ◌++◌, length, sym, subst, ap, ◌∙◌, arith}
+use Rattle.std.proofs.Common.{◌≡◌, ℕ, ◌+◌, ◌<◌, ◌≤◌, List, [], ◌∷◌, ◌++◌, map, length, sym, subst, ap, ◌∙◌, arith}
+use Rattle.std.proofs.lemmas.List.{map-append}
 use Rattle.std.proofs.lemmas.List.FromFn.{get_or-map-range_with_len}
+use Rattle.bit_words.specs.declared.value.Value.{Value}
 use Rattle.phase_core.specs.declared.model.Script.{Script}
+use Rattle.register_table.specs.declared.table.Closed.{Closed}
+use Rattle.register_table.specs.Shown.{closed_script}
 use Rattle.ground_net.specs.declared.net.Net.{Net}
-use Rattle.ground_net.specs.declared.net.Ordered.{Ordered}
-use Rattle.ground_net.specs.declared.net.Ports.{Ports}
-use Rattle.ground_net.specs.declared.net.Cut.{Cut}
 use Rattle.ground_net.specs.declared.net.CutPart.{CutPart}
-use Rattle.net_meaning.specs.Cycles.{NetState}
+use Rattle.net_meaning.specs.Cycles.{NetState, Inputs}
 use Rattle.net_meaning.specs.Words.{state_words}
 use Rattle.flat_code.specs.declared.code.Code.{Code}
 use Rattle.sink_effects.proofs.Parts.{word_below}
-use Rattle.partition_code.specs.Codes.{owner_in}
+use Rattle.partition_code.specs.Codes.{AreOfOneCut, owner_in}
 use Rattle.partition_code.proofs.Owners.{owner_of_sink}
-use Rattle.crew_workers.specs.Scripts.{script_of}
-use Rattle.stimulus.specs.declared.stimulus.Stimulus.{Stimulus}
-use Rattle.stimulus.specs.Rows.{rows_from}
-use Rattle.circuit_run.specs.NetRuns.{IsPlanned}
-use Rattle.crew_run.specs.Epochs.{IsAfter, IsEpoch, AreEpochs}
-use Rattle.crew_run.specs.Crews.{AreCodesOfCut}
 use Rattle.partition_code.proofs.Placed.{words_counted}
-use Rattle.crew_run.proofs.Matched.{rows_long}
-use Rattle.crew_run.proofs.Crews.{one_cut}
-use Rattle.crew_run.proofs.States.{state_at}
+use Rattle.crew_workers.specs.Scripts.{script_of, Outputs}
+use Rattle.circuit_run.specs.NetRuns.{inputs_from}
+use Rattle.crew_run.specs.Epochs.{Reaches, IsScriptFrom, IsEpochFrom, AreEpochsFrom}
+use Rattle.crew_run.specs.Runs.{AreWordsOf, MatchGiven}
+use Rattle.crew_run.proofs.Going.{inputs_shift, inputs_behind, reach_join, go_reaches}
+use Rattle.crew_run.proofs.States.{stands_at}
 
--- the script of an epoch is one
-pub is_epoch : (ordered : Ordered) (ports : Ports) (stimulus : Stimulus) (planned : IsPlanned ordered ports stimulus) (workers : ℕ) (some : 1 ≤ workers) (few : workers ≤ 64) (codes : List Code) (it : Cut) (of : AreCodesOfCut ordered workers codes it)
-    → (first count : ℕ) (words : List ℕ) (t : NetState) → IsAfter ordered.net stimulus first words t → 1 ≤ count → count ≤ 1024
-    → IsEpoch ordered.net stimulus it.parts first (script_of codes words (rows_from ports stimulus.settings first count))
-is_epoch ordered ports stimulus planned workers some few codes it of first count words t begins least most =
-    let cut = one_cut ordered ports stimulus planned workers some few codes it of in
-    let long = rows_long ports stimulus first count in
-    record {
-      workers = of.codes_of.counted;
-      some = subst (λ n. 1 ≤ n) (sym long) least;
-      few = subst (λ n. n ≤ 1024) (sym long) most;
-      owners = λ p i part e has.
-          let counted : length words ≡ state_words ordered.net = ap length begins.are ∙ words_counted ordered.net t in
-          let lt : i < length words = subst (λ n. i < n) (sym counted) (word_below ordered.net has.sink i has.has) in
-          let z : 0 + i ≡ i = omega arith in
-          get_or-map-range_with_len (owner_in codes) 0 (length words) i i 0 lt z ∙ owner_of_sink codes cut i p part e has;
-      words = λ c le. state_at ordered ports stimulus planned workers some few codes it of first count words t begins c (subst (λ n. c ≤ n) long le);
-    }
+-- the script of what a run advances by
+module _ (codes : List Code) (cut : AreOfOneCut codes) (given : ℕ → Inputs) (rows : List (List Value)) (matched : MatchGiven cut.ordered.net given rows) (words : List ℕ) (t : NetState) (begins : AreWordsOf cut.ordered.net t words) where
+  pub is_script : (outputs : List (List Value)) → Outputs (script_of codes words rows) codes rows outputs (length rows) → IsScriptFrom cut.ordered.net cut.watch t given cut.parts 0 (script_of codes words rows)
+  is_script outputs out = record {
+    workers = cut.codes_of.counted;
+    owners = λ p i part e has.
+        let counted : length words ≡ state_words cut.ordered.net = ap length begins.are ∙ words_counted cut.ordered.net t in
+        let lt : i < length words = subst (λ n. i < n) (sym counted) (word_below cut.ordered.net has.sink i has.has) in
+        let z : 0 + i ≡ i = omega arith in
+        get_or-map-range_with_len (owner_in codes) 0 (length words) i i 0 lt z ∙ owner_of_sink codes cut i p part e has;
+    words = λ c le.
+        let at = stands_at codes cut given rows matched words t begins outputs out c le in
+        let z : c ≡ 0 + c = omega arith in (
+          at.state,
+          record {
+            reached = subst (λ n. Reaches cut.ordered.net t (inputs_from given 0 n) at.state) z (go_reaches cut.ordered.net cut.watch t at.state (inputs_from given 0 c) at.advances);
+            are = at.at.are;
+          },
+        );
+  }
 
--- one epoch more
-pub epochs_next : (net : Net) (stimulus : Stimulus) (parts : List CutPart) (first : ℕ) (scripts : List Script) (last : ℕ) (script : Script)
-    → AreEpochs net stimulus parts first scripts last → IsEpoch net stimulus parts last script → AreEpochs net stimulus parts first (scripts ++ script ∷ []) (last + script.cycles)
-epochs_next net stimulus parts first [] last script before it = (subst (λ n. IsEpoch net stimulus parts n script) (sym before) it, ap (λ n. n + script.cycles) before)
-epochs_next net stimulus parts first (s ∷ scripts) last script before it = (before.0, epochs_next net stimulus parts (first + s.cycles) scripts last script before.1 it)
+module _ (net : Net) (watched : List ℕ) (s : NetState) (given : ℕ → Inputs) (parts : List CutPart) where
+  -- it goes on from where the cycles before lead
+  pub script_behind : (n : ℕ) (u : NetState) (script : Script) → Reaches net s (inputs_from given 0 n) u → IsScriptFrom net watched u (λ c. given (n + c)) parts 0 script → IsScriptFrom net watched s given parts n script
+  script_behind n u script reached is = record {
+    workers = is.workers;
+    owners = is.owners;
+    words = λ c le.
+        let at = is.words c le in
+        let z : n + 0 ≡ n = omega arith in
+        let y : 0 + c ≡ c = omega arith in
+        let shifted : inputs_from (λ k. given (n + k)) 0 (0 + c) ≡ inputs_from given n c = inputs_shift given n 0 (0 + c) ∙ (ap (λ a. inputs_from given a (0 + c)) z ∙ ap (inputs_from given n) y) in (
+          at.0,
+          record {
+            reached = subst (λ i. Reaches net s i at.0) (inputs_behind given n c) (reach_join net s u at.0 (inputs_from given 0 n) (inputs_from given n c) reached (subst (λ i. Reaches net u i at.0) shifted at.1.reached));
+            are = at.1.are;
+          },
+        );
+  }
+
+  -- one epoch more
+  pub epochs_next : (first : ℕ) (scripts : List Script) (last : ℕ) (script : Script) → AreEpochsFrom net watched s given parts first scripts last → IsEpochFrom net watched s given parts last script
+      → AreEpochsFrom net watched s given parts first (scripts ++ script ∷ []) (last + script.cycles)
+  epochs_next first [] last script before it = (subst (λ n. IsEpochFrom net watched s given parts n script) (sym before) it, ap (λ n. n + script.cycles) before)
+  epochs_next first (x ∷ scripts) last script before it = (before.0, epochs_next (first + x.cycles) scripts last script before.1 it)
+
+  pub tables_next : (tables : List Closed) (n count : ℕ) (closed : Closed) → AreEpochsFrom net watched s given parts 0 (map closed_script tables) n → IsScriptFrom net watched s given parts n (closed_script closed)
+      → (closed_script closed).cycles ≡ count → 1 ≤ count → count ≤ 1024 → AreEpochsFrom net watched s given parts 0 (map closed_script (tables ++ closed ∷ [])) (n + count)
+  tables_next tables n count closed before is cycles least most =
+      let script = closed_script closed in
+      let epoch : IsEpochFrom net watched s given parts n script = record { is = is; some = subst (λ k. 1 ≤ k) (sym cycles) least; few = subst (λ k. k ≤ 1024) (sym cycles) most } in
+      subst (λ ts. AreEpochsFrom net watched s given parts 0 ts (n + count)) (sym (map-append closed_script tables (closed ∷ [])))
+      (subst (λ k. AreEpochsFrom net watched s given parts 0 (map closed_script tables ++ script ∷ []) (n + k)) cycles (epochs_next 0 (map closed_script tables) n script before epoch))

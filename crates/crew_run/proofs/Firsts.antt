@@ -1,5 +1,5 @@
 -- The words of the first state are 0.
-use Rattle.std.proofs.Common.{◌≡◌, ℕ, ◌%◌, ◌/◌, ◌^◌, ◌<◌, Bool, true, false, List, [], ◌∷◌, get_or, replicate, min, nat_lt, if◌then◌else◌, pos, refl, sym, subst, ◌∙◌, pow_pos}
+use Rattle.std.proofs.Common.{◌≡◌, ℕ, ◌%◌, ◌/◌, ◌^◌, ◌<◌, Bool, true, false, List, [], ◌∷◌, length, get_or, slice_index_or, replicate, min, nat_lt, if◌then◌else◌, pos, refl, sym, subst, ◌∙◌, pow_pos}
 use Rattle.std.specs.List.{flat_map, range_with_len}
 use Rattle.std.proofs.Math.Nat.{mod-eq_of_lt}
 use Rattle.std.proofs.lemmas.List.{ext_get_or, get_or-replicate, length-replicate}
@@ -11,7 +11,11 @@ use Rattle.net_meaning.specs.Cycles.{first_state}
 use Rattle.net_meaning.specs.Nets.{register_shapes, element_shapes, captured_shapes}
 use Rattle.net_meaning.specs.Words.{kept, kept_all, words_of_memory, words_of, state_words}
 use Rattle.sink_effects.proofs.Lists.{Each, each_none, each_cons, each_append, each_flat}
+use Rattle.flat_code.specs.declared.code.Code.{Code}
+use Rattle.ground_net.specs.declared.net.CutPart.{CutPart}
+use Rattle.partition_code.specs.Codes.{AreCodesOf}
 use Rattle.partition_code.proofs.Placed.{words_counted}
+use Rattle.circuit_run.proofs.Lists.{get_item}
 
 abbrev IsZero : ℕ → Type 0
 IsZero n = n ≡ 0
@@ -43,3 +47,9 @@ module _ (net : Net) where
       ext_get_or 0 (words_of net first_state) (replicate (state_words net) 0) (many ∙ sym (length-replicate (state_words net) 0))
       (λ i lt. zero_words i (get_or (words_of net first_state) i 0) (slice_get-get_or (words_of net first_state) i 0 lt)
       ∙ sym (get_or-replicate (state_words net) i 0 0 (subst (λ n. i < n) many lt)))
+
+-- the words that a code of a part runs over are those of the state
+pub code_words : (net : Net) (watched : List ℕ) (parts : List CutPart) (codes : List Code) → AreCodesOf net watched parts codes → (k : ℕ) (d : Code) → k < length codes → (slice_index_or codes k d).words ≡ state_words net
+code_words net watched parts codes of k d lt =
+    let part = get_item parts k (subst (λ n. k < n) of.counted lt) in
+    (of.each k part.0 (slice_index_or codes k d) part.1 (slice_get-get_or codes k d lt)).words

@@ -1,9 +1,14 @@
 pub mod Watched
 pub mod Matched
-pub mod Crews
+pub mod Counts
+pub mod Runs
 pub mod Firsts
 pub mod Rows
+pub mod Going
 pub mod States
 pub mod Epochs
+pub mod Progressing
+pub mod Wending
+pub mod Traces
 pub mod Lines
 pub mod Sums

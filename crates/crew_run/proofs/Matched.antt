@@ -1,13 +1,12 @@
 -- The rows of the stimulus match what the inputs are given.
-use Rattle.std.proofs.Common.{◌≡◌, ℕ, ◌+◌, ◌<◌, ◌≤◌, List, [], length, slice_get, Some, refl, sym, subst, ◌∙◌}
+use Rattle.std.proofs.Common.{◌≡◌, ℕ, ◌+◌, ◌<◌, ◌≤◌, [], length, refl, sym, subst, ◌∙◌}
 use Rattle.std.proofs.lemmas.List.FromFn.{length-map-range_with_len, get_or-map-range_with_len}
 use Rattle.std.proofs.lemmas.Option.{get_or_from_slice_get, slice_get_within}
-use Rattle.bit_words.specs.declared.value.Value.{Value}
 use Rattle.cycle_values.proofs.Fittings.{fitted_same}
 use Rattle.ground_net.specs.declared.net.Net.{Net}
 use Rattle.ground_net.specs.declared.net.Ports.{Ports}
 use Rattle.ground_net.specs.Watching.{inputs}
-use Rattle.net_meaning.specs.Cycles.{Inputs, fitted_to}
+use Rattle.net_meaning.specs.Cycles.{fitted_to}
 use Rattle.net_meaning.specs.Nets.{IsNet}
 use Rattle.net_meaning.proofs.Shaping.{fitted_shape}
 use Rattle.code_sequence.specs.FromNets.{MatchInputs}
@@ -16,6 +15,7 @@ use Rattle.stimulus.specs.declared.stimulus.Stimulus.{Stimulus}
 use Rattle.stimulus.specs.Stimuli.{IsFormed}
 use Rattle.stimulus.specs.Rows.{row_in, rows_from}
 use Rattle.circuit_run.specs.NetRuns.{given_in}
+use Rattle.crew_run.specs.Runs.{MatchGiven}
 use Rattle.circuit_run.proofs.Fed.{row_given, inputs_in_range}
 
 -- the rows of cycles from a first one on
@@ -36,9 +36,11 @@ module _ (net : Net) (well : IsNet net) (ports : Ports) (fed : ports.inputs ≡ 
         fitted_same leaf.kind leaf.width given narrow (inputs_in_range net well ports fed stimulus formed cycle x n leaf there is),
       )
 
-  pub rows_match : (first count c : ℕ) (row : List Value) → slice_get (rows_from ports stimulus.settings first count) c ≡ Some row → (given : Inputs) × MatchInputs net row given
-  rows_match first count c row e =
-      let long = rows_long ports stimulus first count in
-      let lt : c < count = subst (λ n. c < n) long (slice_get_within (rows_from ports stimulus.settings first count) c row e) in
-      let is : row_in ports stimulus.settings (first + c) ≡ row = sym (row_is ports stimulus first count c lt) ∙ get_or_from_slice_get (rows_from ports stimulus.settings first count) c row [] e in
-      (given_in stimulus (first + c), subst (λ r. MatchInputs net r (given_in stimulus (first + c))) is (row_matches (first + c)))
+  pub rows_match : (first count : ℕ) → MatchGiven net (λ c. given_in stimulus (first + c)) (rows_from ports stimulus.settings first count)
+  rows_match first count = record {
+    each = λ c row e.
+        let long = rows_long ports stimulus first count in
+        let lt : c < count = subst (λ n. c < n) long (slice_get_within (rows_from ports stimulus.settings first count) c row e) in
+        let is : row_in ports stimulus.settings (first + c) ≡ row = sym (row_is ports stimulus first count c lt) ∙ get_or_from_slice_get (rows_from ports stimulus.settings first count) c row [] e in
+        subst (λ r. MatchInputs net r (given_in stimulus (first + c))) is (row_matches (first + c));
+  }

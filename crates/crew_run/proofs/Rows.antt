@@ -1,5 +1,5 @@
 -- The row of a cycle has the settled values of the watched leaves.
-use Rattle.std.proofs.Common.{◌≡◌, ⊎_elim, ℕ, suc, zero, ◌+◌, ◌<◌, List, [], ◌∷◌, ◌++◌, map, length, take, get_or, slice_get, slice_index, slice_index_or, Some, sym, subst, ap, ◌∙◌, arith, append_assoc, append-nil}
+use Rattle.std.proofs.Common.{◌≡◌, ⊎_elim, ℕ, ◌<◌, List, map, length, get_or, slice_get, slice_index, slice_index_or, Some, sym, subst, ap, ◌∙◌, arith}
 use Rattle.std.proofs.lemmas.Bool.{cases_lt}
 use Rattle.std.proofs.lemmas.List.{ext_get_or, get_or-map, get_or_default, length-map}
 use Rattle.std.proofs.lemmas.Option.{get_or_from_slice_get, slice_get_within}
@@ -10,17 +10,6 @@ use Rattle.flat_code.specs.Codes.{outputs_by}
 use Rattle.partition_code.specs.Codes.{AreOfOneCut}
 use Rattle.partition_code.proofs.Places.{place, position_below}
 use Rattle.crew_workers.specs.Scripts.{RowOf}
-use Rattle.trace_print.specs.Trace.{trace_line_of}
-use Rattle.circuit_run.specs.NetRuns.{lines_from}
-
--- the lines of one row more
-pub lines_next : (first : ℕ) (rows : List (List Value)) (c : ℕ) → c < length rows → lines_from first (take c rows) ++ trace_line_of (first + c) (get_or rows c []) ≡ lines_from first (take (suc c) rows)
-lines_next first [] c lt = absurd (omega (arith, lt))
-lines_next first (row ∷ rows) zero lt = let z : first + 0 ≡ first = omega arith in ap (λ n. trace_line_of n row) z ∙ sym (append-nil (trace_line_of first row))
-lines_next first (row ∷ rows) (suc c) lt =
-    let z : first + suc c ≡ first + 1 + c = omega arith in
-    append_assoc (trace_line_of first row) (lines_from (first + 1) (take c rows)) (trace_line_of (first + suc c) (get_or rows c []))
-    ∙ ap (λ l. trace_line_of first row ++ l) (ap (λ n. lines_from (first + 1) (take c rows) ++ trace_line_of n (get_or rows c [])) z ∙ lines_next (first + 1) rows c (omega (arith, lt)))
 
 module _ (codes : List Code) (cut : AreOfOneCut codes) (ws : List ℕ) (x row : List Value) (of : RowOf codes ws x row) where
   -- a place of a row is of a code, at one of its outputs

@@ -1,35 +1,32 @@
 //! What a run goes by.
 
-use bit_words::List;
-use flat_code::Code;
-use ground_net::{Ordered, Ports};
-use register_table::Closed;
+use ground_net::{Cut, Ordered, Ports};
 use stimulus::Stimulus;
 
-/// A net in its order, the leaves by which it is fed and watched, its stimulus, how many workers run it, from 1 to 64, and how many
-/// threads are started beside the caller's at most. The caller drives the workers that have none.
+/// A net in its order, the leaves by which it is fed, its stimulus, the numbers of the leaves that are watched, and how many workers run
+/// it, from 1 to 64.
 #[derive(Clone, Copy)]
 pub struct Plan<'a> {
     pub ordered: &'a Ordered,
     pub ports: &'a Ports,
     pub stimulus: &'a Stimulus,
+    pub watch: &'a [u32],
     pub workers: u32,
-    pub threads: usize,
 }
 
-/// The codes of a plan's workers, with the machine and the gate of their threads.
+/// The same with the cut that is run, which has 1 to 64 parts, a worker for each.
+#[derive(Clone, Copy)]
+pub struct CutPlan<'a> {
+    pub ordered: &'a Ordered,
+    pub ports: &'a Ports,
+    pub stimulus: &'a Stimulus,
+    pub watch: &'a [u32],
+    pub cut: &'a Cut,
+}
+
+/// What starts the threads and waits, and the gate that each worker enters before it evaluates.
 #[derive(Drop)]
-pub struct Crew<'a, R, G> {
+pub struct Host<'a, R, G> {
     pub rt: &'a R,
     pub gate: &'a G,
-    pub plan: &'a Plan<'a>,
-    pub codes: List<Code>,
-}
-
-/// The words behind an epoch, the lines of its cycles, and the table that was closed.
-#[derive(Drop)]
-pub struct Told {
-    pub words: List<u64>,
-    pub lines: Vec<u8>,
-    pub closed: Closed,
 }

@@ -4,7 +4,7 @@ ghost use Rattle.std.specs.Prelude.{◌≡◌, ℕ, ◌<◌, ◌≤◌, List, le
 ghost use Rattle.fir_tree.specs.LeafNames.{Texts};
 ghost use Rattle.fir_meaning.specs.Components.{Design};
 ghost use Rattle.net_laws.specs.Serves.{Serves};
-ghost use Rattle.circuit_run.specs.NetRuns.{IsPlanned};
+ghost use Rattle.circuit_run.specs.NetRuns.{IsPlanned, watch};
 ghost use Rattle.circuit_run.specs.Traces.{IsTraceText};
 ghost use Rattle.crew_run.specs.Summaries.{BeginsLine, IsInOneLine, IsSummary};
 
@@ -19,8 +19,8 @@ use std::thread::Threads;
 
 /// The summary of the trace of a circuit under a stimulus: the line `bytes B` with the trace's length, and the trace's last line.
 ///
-/// The net serves a circuit, its assignments stand in an order, and the stimulus was read for its ports. From 1 to 64 workers run it, in
-/// threads that `rt` starts. Takes memory for the trace.
+/// The net serves a circuit, its assignments stand in an order, the stimulus was read for its ports, and the leaves that are watched are
+/// those of its ports. From 1 to 64 workers run it, in threads that `rt` starts. Takes memory for the trace.
 pub fn summarize<R: Threads + Wait + Sync, G: Gate + Sync>(
     alloc: Global,
     rt: &R,
@@ -28,6 +28,7 @@ pub fn summarize<R: Threads + Wait + Sync, G: Gate + Sync>(
     plan: &Plan<'_>,
 ) -> Result<Vec<u8>, AllocError>
     requires planned { IsPlanned plan.now.ordered.now plan.now.ports.now plan.now.stimulus.now }
+    requires watched { plan.now.watch.now ≡ watch plan.now.ordered.now.net }
     requires some { 1 ≤ plan.now.workers }
     requires few { plan.now.workers ≤ 64 }
     requires serves { (texts : Texts) × (design : Design) × Serves texts design plan.now.ordered.now.net }

@@ -10,6 +10,8 @@ mod crew;
 mod crowd;
 mod grid;
 mod hire;
+mod limit;
 mod run;
 
+pub use limit::ThreadLimit;
 pub use run::{Epoch, Machine, run_epoch, run_epoch_within};

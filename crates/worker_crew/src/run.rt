@@ -17,6 +17,7 @@ use crate::crew::{Orders, Shared};
 use crate::crowd::{Hired, Job, Rooms, Roster, run_in};
 use crate::grid::{fill_all, new_grid};
 use crate::hire::hire_all;
+use crate::limit::ThreadLimit;
 use bit_words::{List, Row, Rows};
 use crew_workers::{Gate, Stint, Worker, longest_frame, most_published, row_width};
 use flat_code::Code;
@@ -48,8 +49,8 @@ pub struct Machine<'m, R, G> {
     pub gate: &'m G,
     /// The number that the gate is told of the first cycle.
     pub first: u64,
-    /// The greatest number of threads beside the caller's.
-    pub threads: usize,
+    /// A bound on the threads beside the caller's.
+    pub limit: ThreadLimit,
 }
 
 fn start_words(alloc: Global, many: usize) -> Result<Vec<AtomicU64>, AllocError>
@@ -236,7 +237,7 @@ fn orders_of<'t, 'a, N: Plan, R, G>(
             gate: machine.gate,
         },
         starts,
-        most: machine.threads,
+        most: machine.limit.most(),
     }
 }
 
@@ -315,7 +316,7 @@ pub fn run_epoch<R: Threads + Wait + Sync, G: Gate + Sync>(
         rt,
         gate,
         first,
-        threads: usize::MAX,
+        limit: ThreadLimit::none(),
     };
     run_epoch_within(alloc, &machine, codes, words, rows)
 }
