@@ -219,7 +219,7 @@ fn run(alloc: Global, built: Built, stimulus: &[u8]) -> Result<Decision, AllocEr
 fn watching(alloc: Global, built: Built, stimulus: Stimulus) -> Result<Decision, AllocError>
     requires built { (text : List ℕ) × IsBuilt text built }
     requires formed { IsFormed built.ports stimulus }
-    ensures runs { IfOk result (λ d. (watch : List ℕ) × (d ≡ Decision.Run built stimulus watch) × IsRunnable built stimulus watch) }
+    ensures { IfOk result (λ d. (watch : List ℕ) × (d ≡ Decision.Run built stimulus watch) × IsRunnable built stimulus watch) }
 {
     let watch = watched_numbers(alloc, &built.ordered, &built.ports)?;
     Ok(Decision::Run(built, stimulus, watch))

@@ -4,8 +4,8 @@ use Rattle.sim_top.proofs.judge.watching.Goals as goal
 pub watched_numbers-requires : goal.watched_numbers-requires
 watched_numbers-requires c = c.requires.built.1.watched
 
-pub returns-clause-runs : goal.returns-clause-runs
-returns-clause-runs c = (
+pub returns : goal.returns
+returns c = (
   c.in_ok-watch.watch,
   refl,
   record {
