@@ -1,10 +1,11 @@
 //! A circuit's text and a stimulus's text are read, and run by workers.
 
-ghost use Rattle.std.specs.Prelude.{IfSome};
+ghost use Rattle.std.specs.Prelude.{◌<◌, length, All, IfSome};
 ghost use Rattle.net_meaning.specs.Words.{SaysItsWords};
 ghost use Rattle.circuit_run.specs.NetRuns.{IsPlanned};
 
-use crew_run::{Plan, codes_of};
+use bit_words::List;
+use crew_run::{Host, Plan, ThreadLimit, codes_of, simulate_within, watched_numbers};
 use crew_workers::Gate;
 use shelf_io::SinkMemory;
 use sim_engine::{Built, CIRCUIT_LIMIT, compile_text};
@@ -21,11 +22,12 @@ const STEP: usize = 1_000;
 /// A stimulus's text is at most so long.
 const STIMULUS_LIMIT: usize = 4_194_304;
 
-/// A circuit, and a stimulus for it.
+/// A circuit, a stimulus for it, and the numbers of the leaves that are watched.
 #[derive(Drop)]
 pub struct Given {
     built: Built,
     stimulus: Stimulus,
+    watch: List<u32>,
 }
 
 /// How many workers run, and how many threads are started beside the caller's at most.
@@ -39,6 +41,7 @@ pub struct Force {
 pub fn read(alloc: Global, circuit: &[u8], stimulus: &[u8]) -> Option<Given>
     ensures planned { IfSome result (λ given. IsPlanned given.built.ordered given.built.ports given.stimulus) }
     ensures said { IfSome result (λ given. SaysItsWords given.built.ordered.net) }
+    ensures leaves { IfSome result (λ given. All (λ x. x < length given.built.ordered.net.leaves) given.watch) }
 {
     if circuit.len() > CIRCUIT_LIMIT || stimulus.len() > STIMULUS_LIMIT {
         return None;
@@ -49,8 +52,15 @@ pub fn read(alloc: Global, circuit: &[u8], stimulus: &[u8]) -> Option<Given>
     let Ok(_) = u32::try_from(built.ports.inputs.len()) else {
         return None;
     };
+    let Ok(watch) = watched_numbers(alloc, &built.ordered, &built.ports) else {
+        return None;
+    };
     match read_stimulus(alloc, stimulus, &built.ports) {
-        Ok(stimulus) => Some(Given { built, stimulus }),
+        Ok(stimulus) => Some(Given {
+            built,
+            stimulus,
+            watch,
+        }),
         Err(_) => None,
     }
 }
@@ -65,6 +75,7 @@ pub fn traced_by<R: Threads + Wait + Sync, G: Gate + Sync>(
 ) -> Option<Vec<u8>>
     requires planned { IsPlanned given.now.built.ordered given.now.built.ports given.now.stimulus }
     requires said { SaysItsWords given.now.built.ordered.net }
+    requires leaves { All (λ x. x < length given.now.built.ordered.net.leaves) given.now.watch }
 {
     if force.workers == 0 || force.workers > 64 {
         return None;
@@ -73,11 +84,13 @@ pub fn traced_by<R: Threads + Wait + Sync, G: Gate + Sync>(
         ordered: &given.built.ordered,
         ports: &given.built.ports,
         stimulus: &given.stimulus,
+        watch: given.watch.as_slice(),
         workers: force.workers,
-        threads: force.threads,
     };
+    let host = Host { rt, gate };
+    let limit = ThreadLimit::at_most(force.threads);
     let mut sink = SinkMemory::new(alloc, ROOM, STEP, Vec::new(alloc)).ok()?;
-    crew_run::simulate(alloc, rt, gate, &plan, &mut sink).ok()?;
+    simulate_within(alloc, &host, limit, &plan, &mut sink).ok()?;
     Vec::from_slice(alloc, sink.bytes()).ok()
 }
 
@@ -85,13 +98,14 @@ pub fn traced_by<R: Threads + Wait + Sync, G: Gate + Sync>(
 pub fn frame_length(alloc: Global, given: &Given) -> Option<usize>
     requires planned { IsPlanned given.now.built.ordered given.now.built.ports given.now.stimulus }
     requires said { SaysItsWords given.now.built.ordered.net }
+    requires leaves { All (λ x. x < length given.now.built.ordered.net.leaves) given.now.watch }
 {
     let plan = Plan {
         ordered: &given.built.ordered,
         ports: &given.built.ports,
         stimulus: &given.stimulus,
+        watch: given.watch.as_slice(),
         workers: 1,
-        threads: 0,
     };
     let codes = codes_of(alloc, &plan).ok()?;
     let code = codes.get(0)?;

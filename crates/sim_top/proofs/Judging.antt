@@ -33,7 +33,7 @@ pub gives_part : (command : Command) (joined circuit stimulus : List ℕ) (d : D
     → length circuit ≤ circuit_limit → Gives (JudgesTexts command circuit stimulus) d → Gives (Judges command joined) d
 gives_part command joined circuit stimulus (decision.Say reply) within part short j =
     taken command joined circuit stimulus _ _ (record { within = within; part = part; short = short }) j
-gives_part command joined circuit stimulus (decision.Run built settings) within part short j =
+gives_part command joined circuit stimulus (decision.Run built settings watched) within part short j =
     λ bytes t. taken command joined circuit stimulus _ _ (record { within = within; part = part; short = short }) (j bytes t)
 
 pub long_part : (command : Command) (joined circuit stimulus : List ℕ) → length joined ≤ joined_limit → IsPart command joined circuit stimulus → circuit_limit < length circuit
@@ -102,7 +102,7 @@ ran_refused text stimulus built fault place status bytes b short v at three e = 
     (⊎_elim (λ m. absurd (let n : None ≡ Some place = sym m ∙ at in cc))
     (λ f. ran_of text stimulus built _ _ b (stimulus_refused built.ports fault place short (ports_are text built b) f at)) v.fault)
 
-pub ran_traced : (text stimulus : List ℕ) (built : Built) (settings : Stimulus) → IsBuilt text built → length stimulus ≤ stimulus_limit
-    → IsRead stimulus built (Ok settings) → Gives (JudgesTexts Run text stimulus) (decision.Run built settings)
-ran_traced text stimulus built settings b short v = λ bytes t.
+pub ran_traced : (text stimulus : List ℕ) (built : Built) (settings : Stimulus) (watched : List ℕ) → IsBuilt text built → length stimulus ≤ stimulus_limit
+    → IsRead stimulus built (Ok settings) → Gives (JudgesTexts Run text stimulus) (decision.Run built settings watched)
+ran_traced text stimulus built settings watched b short v = λ bytes t.
     ran_of text stimulus built 0 bytes b (traced built.ports settings bytes short (ports_are text built b) v.none v.ok t)

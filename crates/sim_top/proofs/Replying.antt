@@ -71,22 +71,22 @@ reply_few s b reply = ⊎_elim (λ zero. omega arith)
 -- what is decided for a joined text
 pub ready_decision : (command : Command) (joined : List ℕ) (d : Decision) → Gives (Judges command joined) d → IsFor command d → IsReady d
 ready_decision command joined (decision.Say reply) s run = judged_reply command joined _ _ s
-ready_decision command joined (decision.Run built settings) s run = run
+ready_decision command joined (decision.Run built settings watched) s run = run
 
 pub no_usage : (command : Command) (joined : List ℕ) (d : Decision) → Gives (Judges command joined) d → status_of d ≡ 1 → ⊥
 no_usage command joined (decision.Say reply) s one = told_usage _ _ (judged_told command joined _ _ s) one
-no_usage command joined (decision.Run built settings) s one = cc
+no_usage command joined (decision.Run built settings watched) s one = cc
 
 texts_ready : (text stimulus : List ℕ) (s : ℕ) (b : List ℕ) → JudgesTexts Run text stimulus s b → IsReply s b
 texts_ready text stimulus s b j = ⊎_elim (λ zero. inl zero) (λ line. inr (inr line)) (texts_told Run text stimulus s b j)
 
 pub ready_texts : (text stimulus : List ℕ) (d : Decision) → Gives (JudgesTexts Run text stimulus) d → IsFor Run d → IsReady d
 ready_texts text stimulus (decision.Say reply) s run = texts_ready text stimulus _ _ s
-ready_texts text stimulus (decision.Run built settings) s run = run
+ready_texts text stimulus (decision.Run built settings watched) s run = run
 
 pub no_usage_texts : (text stimulus : List ℕ) (d : Decision) → Gives (JudgesTexts Run text stimulus) d → status_of d ≡ 1 → ⊥
 no_usage_texts text stimulus (decision.Say reply) s one = told_usage _ _ (texts_told Run text stimulus _ _ s) one
-no_usage_texts text stimulus (decision.Run built settings) s one = cc
+no_usage_texts text stimulus (decision.Run built settings watched) s one = cc
 
 pub usage_ready : (b : List ℕ) → b ≡ codes "usage\n" → IsReply 1 b
 usage_ready b e = inr (inl (refl, e))
@@ -98,7 +98,7 @@ whole_ready b s fault two e = inr (inr (rw (two, e) (of_whole fault first_place)
 pub name_answers : (texts : List ℕ → Option (List ℕ)) (command : Command) (name joined : List ℕ) (d : Decision) → texts name ≡ Some joined → Gives (Judges command joined) d
     → Gives (AnswersTo texts (Of_joined command name)) d
 name_answers texts command name joined (decision.Say reply) held j = of_joined command name joined _ _ held j
-name_answers texts command name joined (decision.Run built settings) held j = λ bytes t. of_joined command name joined _ _ held (j bytes t)
+name_answers texts command name joined (decision.Run built settings watched) held j = λ bytes t. of_joined command name joined _ _ held (j bytes t)
 
 pub long_answers : (texts : List ℕ → Option (List ℕ)) (command : Command) (name joined : List ℕ) (s : ℕ) (b : List ℕ) → texts name ≡ Some joined → joined_limit < length joined
     → s ≡ 2 → b ≡ whole_bytes TooLong first_place → AnswersTo texts (Of_joined command name) s b
@@ -107,7 +107,7 @@ long_answers texts command name joined s b held long two e = rw (two, e) (of_joi
 pub texts_answer : (texts : List ℕ → Option (List ℕ)) (circuit stimulus text given : List ℕ) (d : Decision) → texts circuit ≡ Some text → length text ≤ circuit_limit
     → texts stimulus ≡ Some given → Gives (JudgesTexts Run text given) d → Gives (AnswersTo texts (Of_two circuit stimulus)) d
 texts_answer texts circuit stimulus text given (decision.Say reply) held short told j = of_two circuit stimulus text given _ _ held short told j
-texts_answer texts circuit stimulus text given (decision.Run built settings) held short told j = λ bytes t. of_two circuit stimulus text given _ _ held short told (j bytes t)
+texts_answer texts circuit stimulus text given (decision.Run built settings watched) held short told j = λ bytes t. of_two circuit stimulus text given _ _ held short told (j bytes t)
 
 pub circuit_answers : (texts : List ℕ → Option (List ℕ)) (circuit stimulus text : List ℕ) (s : ℕ) (b : List ℕ) → texts circuit ≡ Some text → circuit_limit < length text → s ≡ 2
     → b ≡ whole_bytes TooLong first_place → AnswersTo texts (Of_two circuit stimulus) s b
@@ -134,10 +134,10 @@ pub made_usage : (cycles size : ℕ) (d : Decision) (reply : Reply) → d ≡ de
 made_usage cycles size d reply e made one =
     let said = subst (IsMade cycles size) e made in told_usage _ _ (judged_told Run (ring_text size cycles) _ _ said.0) one
 
-pub made_run : (texts : List ℕ → Option (List ℕ)) (cycles size : ℕ) (d : Decision) (built : Built) (settings : Stimulus) (trace b : List ℕ) (s : ℕ) → d ≡ decision.Run built settings
+pub made_run : (texts : List ℕ → Option (List ℕ)) (cycles size : ℕ) (d : Decision) (built : Built) (settings : Stimulus) (watched trace b : List ℕ) (s : ℕ) → d ≡ decision.Run built settings watched
     → IsMade cycles size d → s ≡ 0 → IsTraceText built.fitted.checked.resolved.names (design_of built.fitted) settings trace → IsSummary trace b
     → AnswersTo texts (Of_made cycles size) s b
-made_run texts cycles size d built settings trace b s e made zero told sums =
+made_run texts cycles size d built settings watched trace b s e made zero told sums =
     let ran = subst (IsMade cycles size) e made in
     subst (λ (k : ℕ). AnswersTo texts (Of_made cycles size) k b) (sym zero) (of_made cycles size trace b (ran.0 trace told) sums)
 
@@ -148,7 +148,7 @@ usage_answers words texts b none e = rw e (no_command words texts none)
 pub words_answer : (words : List (List ℕ)) (texts : List ℕ → Option (List ℕ)) (question : Question) (d : Decision) → asked_by words ≡ Some question
     → Gives (AnswersTo texts question) d → Gives (Answers words texts) d
 words_answer words texts question (decision.Say reply) asked a = answered words texts question _ _ asked a
-words_answer words texts question (decision.Run built settings) asked a = λ bytes t. answered words texts question _ _ asked (a bytes t)
+words_answer words texts question (decision.Run built settings watched) asked a = λ bytes t. answered words texts question _ _ asked (a bytes t)
 
 -- what was appended
 appended : (old new : Option (List ℕ)) (before xs : List ℕ) → old ≡ Some before → Appends old new xs → new ≡ Some (before ++ xs)
@@ -299,8 +299,8 @@ run_cut result bytes old new status part = record {
 }
 
 -- what was built can be run
-pub planned : (built : Built) (stimulus : Stimulus) → IsRunnable built stimulus → IsPlanned built.ordered built.ports stimulus
-planned built stimulus runnable = record {
+pub planned : (built : Built) (stimulus : Stimulus) (watched : List ℕ) → IsRunnable built stimulus watched → IsPlanned built.ordered built.ports stimulus
+planned built stimulus watched runnable = record {
   net = runnable.is_built.ordered.serves.of.well_formed;
   order = runnable.is_built.ordered.sequence;
   fed = runnable.is_built.inputs;

@@ -1,11 +1,12 @@
 -- How a call of the program ends.
-use Rattle.std.specs.Prelude.{◌≡◌, ◌≢◌, ◌⊎◌, ℕ, ◌≤◌, List, [], ◌++◌, Option, Some, take, codes}
+use Rattle.std.specs.Prelude.{◌≡◌, ◌≢◌, ◌⊎◌, ℕ, ◌<◌, ◌≤◌, List, [], ◌++◌, length, All, Option, Some, take, codes}
 use Rattle.place_text.specs.declared.place.Place.{Place}
 use Rattle.shelf_io.specs.Outside.{Appends}
 use Rattle.fir_meaning.specs.Components.{design_of}
 use Rattle.stimulus.specs.declared.stimulus.Stimulus.{Stimulus}
 use Rattle.stimulus.specs.declared.fault.StimFault.{StimFault}
 use Rattle.stimulus.specs.Stimuli.{IsFormed}
+use Rattle.circuit_run.specs.NetRuns.{watch}
 use Rattle.circuit_run.specs.Traces.{IsTraceText}
 use Rattle.sim_engine.specs.Building.{IsBuilt}
 use Rattle.sim_engine.specs.declared.compile.Built.{Built}
@@ -57,25 +58,27 @@ IsReply status bytes = (status ≡ 0) ⊎ (((status ≡ 1) × (bytes ≡ codes "
 -- A decision has a property of answers: its reply has it, or the trace has it, at status 0.
 abbrev pub Gives : (ℕ → List ℕ → Type 0) → Decision → Type 0
 Gives Property (decision.Say reply) = Property reply.status reply.bytes.items
-Gives Property (decision.Run built stimulus) = (bytes : List ℕ) → IsTraceText built.fitted.checked.resolved.names (design_of built.fitted) stimulus bytes → Property 0 bytes
+Gives Property (decision.Run built stimulus watched) = (bytes : List ℕ) → IsTraceText built.fitted.checked.resolved.names (design_of built.fitted) stimulus bytes → Property 0 bytes
 
--- What was built can be run under the stimulus.
-pub record IsRunnable (built : Built) (stimulus : Stimulus) : Type 0 where
+-- What was built can be run under the stimulus, by the watched leaves of its ports.
+pub record IsRunnable (built : Built) (stimulus : Stimulus) (watched : List ℕ) : Type 0 where
   pub text : List ℕ
   pub is_built : IsBuilt text built
   pub formed : IsFormed built.ports stimulus
+  pub are_watched : watched ≡ watch built.ordered.net
+  pub are_leaves : All (λ x. x < length built.ordered.net.leaves) watched
 
 -- What a decision for a command is: a run that can be run, or a reply. Of a run no trace is said.
 abbrev pub IsFor : Command → Decision → Type 0
 IsFor command (decision.Say reply) = command ≡ Run → reply.status ≢ 0
-IsFor command (decision.Run built stimulus) = IsRunnable built stimulus
+IsFor command (decision.Run built stimulus watched) = IsRunnable built stimulus watched
 
 -- A decision can be carried out: a reply is one, and a run can be run.
 abbrev pub IsReady : Decision → Type 0
 IsReady (decision.Say reply) = IsReply reply.status reply.bytes.items
-IsReady (decision.Run built stimulus) = IsRunnable built stimulus
+IsReady (decision.Run built stimulus watched) = IsRunnable built stimulus watched
 
 -- the status, where nothing fails
 abbrev pub status_of : Decision → ℕ
 status_of (decision.Say reply) = reply.status
-status_of (decision.Run built stimulus) = 0
+status_of (decision.Run built stimulus watched) = 0

@@ -8,15 +8,18 @@ ghost use Rattle.sim_engine.specs.Stages.{circuit_limit};
 ghost use Rattle.sim_engine.specs.Building.{IsBuilt};
 ghost use Rattle.sim_engine.specs.Faults.{fault_place};
 ghost use Rattle.stimulus.specs.Faults.{place_of};
+ghost use Rattle.stimulus.specs.Stimuli.{IsFormed};
 ghost use Rattle.fir_meaning.specs.Components.{design_of};
 ghost use Rattle.cut_listing.specs.CircuitCuts.{IsCutText};
 ghost use Rattle.sim_top.specs.Commands.{AreWorkers};
 ghost use Rattle.sim_top.specs.Texts.{joined_limit, stimulus_limit, HasNone, IsPart};
 ghost use Rattle.sim_top.specs.Answers.{fault_bytes, whole_bytes, stimulus_bytes, whole_stimulus_bytes, JudgesTexts, Judges};
-ghost use Rattle.sim_top.specs.Endings.{IsFaultLine, Gives, IsFor};
+ghost use Rattle.sim_top.specs.Endings.{IsFaultLine, Gives, IsFor, IsRunnable};
 
 use crate::texts::{STIMULUS_LIMIT, WholeFault, split};
 use crate::words::Command;
+use bit_words::List;
+use crew_run::watched_numbers;
 use cut_listing::circuit_cut;
 use fault_order::Fault;
 use fir_tree::Fitted;
@@ -29,11 +32,11 @@ use trace_print::widths_text;
 /// The place of a fault of a text as a whole.
 const FRONT: Place = Place { line: 1, column: 1 };
 
-/// What is to be done: a reply is said, or a circuit is run under a stimulus.
+/// What is to be done: a reply is said, or a circuit is run under a stimulus with these leaves watched, each by its number.
 #[derive(Drop)]
 pub enum Decision {
     Say(Reply),
-    Run(Built, Stimulus),
+    Run(Built, Stimulus, List<u32>),
 }
 
 /// A status and the bytes that are written.
@@ -204,12 +207,22 @@ fn run(alloc: Global, built: Built, stimulus: &[u8]) -> Result<Decision, AllocEr
         return Err(AllocError);
     };
     match read_stimulus(alloc, stimulus, &built.ports) {
-        Ok(settings) => Ok(Decision::Run(built, settings)),
+        Ok(settings) => watching(alloc, built, settings),
         Err(fault) => {
             let reply = refuse_stimulus(alloc, fault)?;
             Ok(Decision::Say(reply))
         }
     }
+}
+
+/// The run of a circuit under a stimulus that was read for it, by the watched leaves of its ports.
+fn watching(alloc: Global, built: Built, stimulus: Stimulus) -> Result<Decision, AllocError>
+    requires built { (text : List ℕ) × IsBuilt text built }
+    requires formed { IsFormed built.ports stimulus }
+    ensures { IfOk result (λ d. (watch : List ℕ) × (d ≡ Decision.Run built stimulus watch) × IsRunnable built stimulus watch) }
+{
+    let watch = watched_numbers(alloc, &built.ordered, &built.ports)?;
+    Ok(Decision::Run(built, stimulus, watch))
 }
 
 /// The line of a fault of the circuit. Where memory was wanted there is none.

@@ -36,6 +36,14 @@ struct Crew<'a, R, G> {
     workers: u32,
 }
 
+/// A circuit that is run under a stimulus, and the numbers of the leaves that are watched.
+#[derive(Clone, Copy)]
+struct Errand<'a> {
+    built: &'a Built,
+    stimulus: &'a Stimulus,
+    watch: &'a [u32],
+}
+
 /// What is to be done, and by how many workers a circuit is run, from 1 to 64.
 #[derive(Drop)]
 struct Task {
@@ -94,7 +102,14 @@ pub fn run_program<R: Threads + Wait + Sync, H: Shelf, K: Sink, G: Gate + Sync>(
             };
             match task.decision {
                 Decision::Say(reply) => say(sink, &reply),
-                Decision::Run(built, stimulus) => run(alloc, &crew, &built, &stimulus, sink),
+                Decision::Run(built, stimulus, watch) => {
+                    let errand = Errand {
+                        built: &built,
+                        stimulus: &stimulus,
+                        watch: watch.as_slice(),
+                    };
+                    run(alloc, &crew, &errand, sink)
+                }
             }
         }
         Err(TakeFault::NoMemory) => 6,
@@ -252,7 +267,14 @@ fn decide_made<R: Threads + Wait + Sync, G: Gate + Sync>(
     let decision = judge_made(alloc, cycles, size)?;
     match decision {
         Decision::Say(reply) => Ok(reply),
-        Decision::Run(built, stimulus) => Ok(sum_up(alloc, crew, &built, &stimulus)?),
+        Decision::Run(built, stimulus, watch) => {
+            let errand = Errand {
+                built: &built,
+                stimulus: &stimulus,
+                watch: watch.as_slice(),
+            };
+            Ok(sum_up(alloc, crew, &errand)?)
+        }
     }
 }
 
@@ -271,21 +293,20 @@ fn judge_made(alloc: Global, cycles: u32, size: u32) -> Result<Decision, AllocEr
 fn sum_up<R: Threads + Wait + Sync, G: Gate + Sync>(
     alloc: Global,
     crew: &Crew<'_, R, G>,
-    built: &Built,
-    stimulus: &Stimulus,
+    errand: &Errand<'_>,
 ) -> Result<Reply, AllocError>
-    requires runnable { IsRunnable built.now stimulus.now }
+    requires runnable { IsRunnable errand.now.built.now errand.now.stimulus.now errand.now.watch.now }
     requires some { 1 ≤ crew.now.workers }
     requires most { crew.now.workers ≤ 64 }
     ensures status { IfOk result (λ r. r.status ≡ 0) }
-    ensures summary { IfOk result (λ r. (trace : List ℕ) × IsTraceText built.now.fitted.checked.resolved.names (design_of built.now.fitted) stimulus.now trace × IsSummary trace r.bytes.items) }
+    ensures summary { IfOk result (λ r. (trace : List ℕ) × IsTraceText errand.now.built.now.fitted.checked.resolved.names (design_of errand.now.built.now.fitted) errand.now.stimulus.now trace × IsSummary trace r.bytes.items) }
 {
     let plan = Plan {
-        ordered: &built.ordered,
-        ports: &built.ports,
-        stimulus,
+        ordered: &errand.built.ordered,
+        ports: &errand.built.ports,
+        stimulus: errand.stimulus,
+        watch: errand.watch,
         workers: crew.workers,
-        threads: usize::MAX,
     };
     Ok(Reply {
         status: 0,
@@ -324,24 +345,23 @@ fn say<K: Sink>(sink: &mut K, reply: &Reply) -> u8
 fn run<R: Threads + Wait + Sync, G: Gate + Sync, K: Sink>(
     alloc: Global,
     crew: &Crew<'_, R, G>,
-    built: &Built,
-    stimulus: &Stimulus,
+    errand: &Errand<'_>,
     sink: &mut K,
 ) -> u8
-    requires runnable { IsRunnable built.now stimulus.now }
+    requires runnable { IsRunnable errand.now.built.now errand.now.stimulus.now errand.now.watch.now }
     requires some { 1 ≤ crew.now.workers }
     requires most { crew.now.workers ≤ 64 }
-    ensures ran { (bytes : List ℕ) × IsTraceText built.now.fitted.checked.resolved.names (design_of built.now.fitted) stimulus.now bytes
+    ensures ran { (bytes : List ℕ) × IsTraceText errand.now.built.now.fitted.checked.resolved.names (design_of errand.now.built.now.fitted) errand.now.stimulus.now bytes
         × IsRun result bytes (K.written sink.old) (K.written sink.new) }
     ensures rose { result ≡ 5 → Rose (K.faults sink.old) (K.faults sink.new) }
     ensures spared { result ≢ 5 → K.faults sink.new ≡ K.faults sink.old }
 {
     let plan = Plan {
-        ordered: &built.ordered,
-        ports: &built.ports,
-        stimulus,
+        ordered: &errand.built.ordered,
+        ports: &errand.built.ports,
+        stimulus: errand.stimulus,
+        watch: errand.watch,
         workers: crew.workers,
-        threads: usize::MAX,
     };
     match simulate(alloc, crew.rt, crew.gate, &plan, sink) {
         Ok(_closed) => 0,

@@ -49,3 +49,6 @@ returns-in-Say-clause-few g c = said_few _ _ _ _ _ (reply_few _ _ (rw c.in-Say.i
 pub returns-in-Say-clause-untouched : goal.returns-in-Say-clause-untouched
 returns-in-Say-clause-untouched g c = λ four.
     absurd (said_untouched _ _ _ _ _ (reply_few _ _ (rw c.in-Say.is at c.in-Ok.ensures.ready)) c.say.ensures.said four)
+
+pub run-requires-clause-runnable : goal.run-requires-clause-runnable
+run-requires-clause-runnable g c κs within = rw c.as_slice.ensures (rw c.in-Run.is at c.in-Ok.ensures.ready)
