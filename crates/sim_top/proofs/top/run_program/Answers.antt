@@ -3,21 +3,21 @@ use Rattle.sim_top.proofs.top.run_program.Goals as goal
 
 pub returns-in-Say-clause-ends : goal.returns-in-Say-clause-ends
 returns-in-Say-clause-ends g c = λ texts before held written.
-    ends_said _ texts _ _ _ before _ _ (rw c.in-Say.is at c.in-Ok.ensures.answers texts held) (reply_few _ _ (rw c.in-Say.is at c.in-Ok.ensures.ready)) c.say.ensures.said written
+    ends_said _ texts _ _ _ before _ _ (rw c.in-Say.is at c.in-Ok.ensures.answers texts held) (reply_few _ _ (rw c.in-Say.is at c.in-Ok.ensures.ready)) (rw c.in-Say.is at c.say.ensures.said) written
 
 pub returns-in-Run-clause-ends : goal.returns-in-Run-clause-ends
 returns-in-Run-clause-ends g c = λ texts before held written.
-    let ran = c.run.ensures.ran in
+    let ran = rw c.in-Run.is at c.run.ensures.ran in
     ends_run _ texts _ _ before _ _ ((rw c.in-Run.is at c.in-Ok.ensures.answers texts held) ran.0 ran.1) ran.2 written
 
 pub returns-in-Run-clause-answered : goal.returns-in-Run-clause-answered
 returns-in-Run-clause-answered g c = λ texts held few.
-    let ran = c.run.ensures.ran in
+    let ran = rw c.in-Run.is at c.run.ensures.ran in
     run_answered _ texts _ _ _ _ ((rw c.in-Run.is at c.in-Ok.ensures.answers texts held) ran.0 ran.1) ran.2 few
 
 pub returns-in-Run-clause-unheld : goal.returns-in-Run-clause-unheld
 returns-in-Run-clause-unheld g c = λ texts name held needs none.
-    let ran = c.run.ensures.ran in
+    let ran = rw c.in-Run.is at c.run.ensures.ran in
     let answers = (rw c.in-Run.is at c.in-Ok.ensures.answers texts held) ran.0 ran.1 in
     absurd (unheld_unanswered _ texts _ name _ _ held needs none answers)
 
@@ -31,24 +31,24 @@ returns-in-Say-clause-unheld g c = λ texts name held needs none.
 
 pub returns-in-Say-clause-shelf_fault : goal.returns-in-Say-clause-shelf_fault
 returns-in-Say-clause-shelf_fault g c = λ four.
-    absurd (said_untouched _ _ _ _ _ (reply_few _ _ (rw c.in-Say.is at c.in-Ok.ensures.ready)) c.say.ensures.said four)
+    absurd (said_untouched _ _ _ _ _ (reply_few _ _ (rw c.in-Say.is at c.in-Ok.ensures.ready)) (rw c.in-Say.is at c.say.ensures.said) four)
 
 pub returns-in-Say-clause-complete : goal.returns-in-Say-clause-complete
 returns-in-Say-clause-complete g c = λ held kept.
-    said_complete _ _ _ (reply_few _ _ (rw c.in-Say.is at c.in-Ok.ensures.ready)) c.say.ensures.rose kept
+    said_complete _ _ _ (reply_few _ _ (rw c.in-Say.is at c.in-Ok.ensures.ready)) (rw c.in-Say.is at c.say.ensures.rose) kept
 
 pub say-requires : goal.say-requires
-say-requires g c = reply_few _ _ (rw c.in-Say.is at c.in-Ok.ensures.ready)
+say-requires g c = rw c.in-Say.is (reply_few _ _ (rw c.in-Say.is at c.in-Ok.ensures.ready))
 
 pub returns-in-Say-clause-sink_fault : goal.returns-in-Say-clause-sink_fault
-returns-in-Say-clause-sink_fault g c = λ five. said_rose _ _ _ (reply_few _ _ (rw c.in-Say.is at c.in-Ok.ensures.ready)) c.say.ensures.rose five
+returns-in-Say-clause-sink_fault g c = λ five. said_rose _ _ _ (reply_few _ _ (rw c.in-Say.is at c.in-Ok.ensures.ready)) (rw c.in-Say.is at c.say.ensures.rose) five
 
 pub returns-in-Say-clause-few : goal.returns-in-Say-clause-few
-returns-in-Say-clause-few g c = said_few _ _ _ _ _ (reply_few _ _ (rw c.in-Say.is at c.in-Ok.ensures.ready)) c.say.ensures.said
+returns-in-Say-clause-few g c = said_few _ _ _ _ _ (reply_few _ _ (rw c.in-Say.is at c.in-Ok.ensures.ready)) (rw c.in-Say.is at c.say.ensures.said)
 
 pub returns-in-Say-clause-untouched : goal.returns-in-Say-clause-untouched
 returns-in-Say-clause-untouched g c = λ four.
-    absurd (said_untouched _ _ _ _ _ (reply_few _ _ (rw c.in-Say.is at c.in-Ok.ensures.ready)) c.say.ensures.said four)
+    absurd (said_untouched _ _ _ _ _ (reply_few _ _ (rw c.in-Say.is at c.in-Ok.ensures.ready)) (rw c.in-Say.is at c.say.ensures.said) four)
 
 pub run-requires-clause-runnable : goal.run-requires-clause-runnable
-run-requires-clause-runnable g c κs within = rw c.as_slice.ensures (rw c.in-Run.is at c.in-Ok.ensures.ready)
+run-requires-clause-runnable g c κs within = rw c.as_slice.ensures (rw c.in-Run.is (rw c.in-Run.is at c.in-Ok.ensures.ready))
