@@ -1,0 +1,3 @@
+pub mod LowDigits
+pub mod Turns
+mod Examples

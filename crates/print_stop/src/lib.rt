@@ -1,0 +1,11 @@
+//! What the items of a circuit print: the text of a `printf` with the values of its arguments, and of a run the texts of all items,
+//! cycle by cycle, with the line at its end. Keeps the contract that each is, byte by byte, the text that the definitions say.
+#![tactic(auto)]
+
+pub mod digits;
+pub mod log;
+pub mod text;
+
+pub use item_lines::{head_stmts, item_stmts, read_format};
+pub use log::Log;
+pub use text::print_text;
