@@ -136,9 +136,9 @@ def lengths():
     ):
         yield name, {"words": ["check"], "stdin": " " * length, "status": 2, "stdout": line}
     whole = (front + "    skip\n").ljust(16_777_216 - 1, ";") + "\n"
-    stimulus = "%stimulus\n" + "cycles 0\n".ljust(4_194_304)
+    stimulus = "%stimulus\n" + "cycles 0\n".ljust(4_194_304 - len("%stimulus\n"))
     longest = {"words": ["run"], "stdin": whole + stimulus, "status": 0, "stdout": "cycle\n"}
-    yield "a circuit and a stimulus at their limits are run", longest
+    yield "a circuit and a joined text at their limits are run", longest
     counter = """    input clock : Clock
     input reset : UInt<1>
     output out : UInt<4>
